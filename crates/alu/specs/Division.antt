@@ -62,14 +62,14 @@ with_remainder dividend divisor r =
     if is_zero divisor then divided_by_zero r
     else with_result (modulo 32 (remainder dividend divisor)) (of_sign (remainder dividend divisor) false) r
 
--- /I
+-- /I: the low word of accumulator 2 divided by that of accumulator 1
 abbrev pub divided_i : Regs → Regs
 divided_i r = with_words (signed_value 16 r.a2) (signed_value 16 r.a1) r
 
--- /D
+-- /D: accumulator 2 divided by accumulator 1
 abbrev pub divided_d : Regs → Regs
 divided_d r = with_quotient (signed_value 32 r.a2) (signed_value 32 r.a1) r
 
--- MOD
+-- MOD: the remainder of accumulator 2 divided by accumulator 1
 abbrev pub remainder_d : Regs → Regs
 remainder_d r = with_remainder (signed_value 32 r.a2) (signed_value 32 r.a1) r

@@ -1,5 +1,6 @@
 -- Writes of values, one after the other.
-use Rattle.std.proofs.Common.{ℕ, zero, suc, ◌≡◌, ◌<◌, ◌≤◌, ◌+◌, ◌-◌, List, [], ◌∷◌, ◌++◌, Bool, true, false, ◌&&◌, nat_eq, nat_lt, nat_le, min, ⊎_elim, if◌then◌else◌, map, refl, sym, ◌∙◌, ap, arith, length, take, drop, get_or}
+use Rattle.std.proofs.Common.{ℕ, zero, suc, ◌≡◌, ◌<◌, ◌≤◌, ◌+◌, ◌-◌, List, [], ◌∷◌, ◌++◌, Bool, true, false, ◌&&◌, nat_eq, nat_lt, nat_le, min, ⊎_elim, if◌then◌else◌, map, refl, sym, ◌∙◌, ap, arith, length, take, drop, get_or, length-set, set}
+use Rattle.std.specs.Prelude.{◌/◌, ◌%◌}
 use Rattle.std.specs.List.{flat_map, fold, zip}
 use Rattle.std.proofs.Math.ListN.{drop_of_length-le}
 use Rattle.std.proofs.lemmas.Bool.{cases_Bool}
@@ -8,7 +9,7 @@ use Rattle.std.proofs.lemmas.List.{drop_more}
 use Rattle.std.proofs.lemmas.List.Sums.{fold-append}
 use Rattle.block_layout.specs.declared.cells.Cell.{Cell}
 use Rattle.block_layout.specs.declared.blocks.BlockLayout.{BlockLayout}
-use Rattle.block_layout.specs.InitialBytes.{Write, cell_writes, bytes_with_write, type_writes, writes_at, writes_from}
+use Rattle.block_layout.specs.InitialBytes.{Write, cell_writes, bytes_with_write, type_writes, writes_at, writes_from, big_endian_bytes, with_bit, with_bytes}
 use Rattle.block_layout.specs.Paths.{cells_at}
 use Rattle.block_layout.specs.Sizes.{array_bits, cell_bits, element_of, elements_of, end_behind_cell}
 use Rattle.block_layout.proofs.SizeLemmas.{elements_at}
@@ -127,3 +128,20 @@ front (x ∷ xs) zs = ap (λ (l : List ℕ). x ∷ l) (front xs zs)
 -- what a slice of a whole vector leaves in it
 pub written_back : (xs ys : List ℕ) (n : ℕ) → length xs ≡ n → take n (xs ++ drop (length xs) ys) ≡ xs
 written_back xs ys n is = ap (λ (k : ℕ). take k (xs ++ drop (length xs) ys)) (sym is) ∙ front xs (drop (length xs) ys)
+
+-- writes leave the length of the bytes
+pub length_put_bytes : (bytes : List ℕ) (at : ℕ) (new : List ℕ) → length (with_bytes bytes at new) ≡ length bytes
+length_put_bytes bytes at [] = refl
+length_put_bytes bytes at (b ∷ bs) = length_put_bytes (set bytes at b) (at + 1) bs ∙ length-set bytes at b
+
+put_length : (bytes : List ℕ) (w : Write) → length (bytes_with_write bytes w) ≡ length bytes
+put_length bytes w = by (nat_eq w.width 1)
+  where
+    by : (t : Bool) → length (if t then set bytes (w.offset / 8) (with_bit (w.offset % 8) w.value (get_or bytes (w.offset / 8) 0))
+        else with_bytes bytes (w.offset / 8) (big_endian_bytes (w.width / 8) w.value)) ≡ length bytes
+    by true = length-set bytes (w.offset / 8) (with_bit (w.offset % 8) w.value (get_or bytes (w.offset / 8) 0))
+    by false = length_put_bytes bytes (w.offset / 8) (big_endian_bytes (w.width / 8) w.value)
+
+pub written_length : (bytes : List ℕ) (ws : List Write) → length (fold bytes_with_write bytes ws) ≡ length bytes
+written_length bytes [] = refl
+written_length bytes (w ∷ ws) = written_length (bytes_with_write bytes w) ws ∙ put_length bytes w

@@ -7,16 +7,17 @@ use Rattle.std.proofs.lemmas.List.Sums.{sum_by-cons}
 use Rattle.std.specs.List.{count_by, flat_map}
 use Rattle.plc_base.specs.Kinds.{is_data_block}
 use Rattle.plc_base.specs.declared.refusals.Refusal.{Refusal}
-use Rattle.stl_ast.specs.declared.blocks.Block.{Block}
-use Rattle.stl_ast.specs.declared.blocks.Part.{Part}
 use Rattle.plc_base.specs.Gathered.{refusals_along}
 use Rattle.plc_base.specs.Least.{broken_if, least, lesser}
 use Rattle.plc_base.proofs.LeastLemmas.{least-append}
 use Rattle.plc_base.proofs.GatheredLemmas.{gathered_done, gathered_next}
+use Rattle.stl_ast.specs.declared.blocks.Block.{Block}
+use Rattle.stl_ast.specs.declared.blocks.Part.{Part}
 use Rattle.block_layout.specs.Heads.{on_heads}
 use Rattle.block_layout.specs.Rule53.{data_blocks}
 use Rattle.block_layout.specs.Rule54.{data_length, total_data_length}
 use Rattle.block_layout.specs.Types.{Types}
+use Rattle.block_layout.proofs.CommonLemmas.{none_left, none_right, not_broken}
 
 gathered_by_itself : (p : Block → Bool) (rule : ℕ) (before blocks : List Block) →
     refusals_along (λ b. false) (λ before b. broken_if (p b) b.line rule) (λ before b. b ∷ before) before blocks ≡ flat_map (λ b. broken_if (p b) b.line rule) blocks
@@ -99,3 +100,32 @@ total_more y blocks b before sum one next most is_sum is_one is_next =
 pub all_ten : (a b c d e f g h i j a' b' c' d' e' f' g' h' i' j' first whole : Bool) → first ≡ (a || b || c || d || e) → whole ≡ (first || f || g || h || i || j) →
     a ≡ a' → b ≡ b' → c ≡ c' → d ≡ d' → e ≡ e' → f ≡ f' → g ≡ g' → h ≡ h' → i ≡ i' → j ≡ j' → whole ≡ (a' || b' || c' || d' || e' || f' || g' || h' || i' || j')
 all_ten a b c d e f g h i j a' b' c' d' e' f' g' h' i' j' first whole is_first is_whole ea eb ec ed ee ef eg eh ei ej = cc
+
+-- ---- what holds of each block by its head
+
+-- what holds of each block with the blocks before it
+abbrev pub AllHeads : (List Block → Block → Type 0) → (before : List Block) → List Block → Type 0
+AllHeads P before [] = Unit {0}
+AllHeads P before (b ∷ bs) = P before b × AllHeads P (b ∷ before) bs
+
+pub heads_both : (P Q : List Block → Block → Type 0) (before bs : List Block) → AllHeads P before bs
+    → AllHeads Q before bs → AllHeads (λ k b. P k b × Q k b) before bs
+heads_both P Q before [] h g = tt
+heads_both P Q before (b ∷ bs) h g = ((h.0, g.0), heads_both P Q (b ∷ before) bs h.1 g.1)
+
+-- a rule of heads
+pub heads_none : (breaks : List Block → Block → Bool) (rule : ℕ) (before bs : List Block)
+    → refusals_along (λ b. false) (λ before b. broken_if (breaks before b) b.line rule)
+    (λ before b. b ∷ before) before bs ≡ []
+    → AllHeads (λ before b. breaks before b ≡ false) before bs
+heads_none breaks rule before [] e = tt
+heads_none breaks rule before (b ∷ bs) e = (
+  not_broken (breaks before b) b.line rule
+      (none_left (broken_if (breaks before b) b.line rule)
+      (refusals_along (λ b. false) (λ before b. broken_if (breaks before b) b.line rule)
+      (λ before b. b ∷ before) (b ∷ before) bs) e),
+  heads_none breaks rule (b ∷ before) bs
+      (none_right (broken_if (breaks before b) b.line rule)
+      (refusals_along (λ b. false) (λ before b. broken_if (breaks before b) b.line rule)
+      (λ before b. b ∷ before) (b ∷ before) bs) e),
+)

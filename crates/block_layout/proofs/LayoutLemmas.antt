@@ -1,15 +1,17 @@
 -- The layouts of the blocks, one behind the other.
-use Rattle.std.proofs.Common.{ℕ, zero, suc, ◌≡◌, ◌<◌, ◌≤◌, ◌+◌, Option, List, [], ◌∷◌, ◌++◌, append_assoc, ◌&&◌, false, refl, sym, ◌∙◌, ap, arith, length, length-append, drop, get_or, map}
+use Rattle.std.proofs.Common.{ℕ, zero, suc, ◌≡◌, ◌<◌, ◌≤◌, ◌+◌, Option, List, [], ◌∷◌, ◌++◌, append_assoc, ◌&&◌, false, refl, sym, ◌∙◌, ap, arith, length, length-append, drop, get_or, map, Some}
 use Rattle.std.proofs.Math.ListN.{drop_of_length-le}
 use Rattle.std.proofs.lemmas.List.{append-nil, drop_more}
+use Rattle.std.specs.List.{slice_get}
 use Rattle.plc_base.specs.Kinds.{is_data_type}
 use Rattle.plc_base.specs.declared.blocks.BlockId.{BlockId}
 use Rattle.stl_ast.specs.declared.blocks.Block.{Block}
+use Rattle.stl_ast.specs.declared.blocks.Tree.{Tree}
 use Rattle.stl_symbols.specs.Symbol.{Symbol}
 use Rattle.block_layout.specs.Before.{IsBefore}
 use Rattle.block_layout.specs.Blocks.{id_of, ids_of}
 use Rattle.block_layout.specs.Heads.{breach_flags}
-use Rattle.block_layout.specs.Layouts.{block_layout, layouts_by, layouts_from}
+use Rattle.block_layout.specs.Layouts.{block_layout, layouts_by, layouts_from, layouts_of}
 use Rattle.block_layout.specs.Measures.{types_of_source, with_all_bits, with_all_depths}
 use Rattle.block_layout.specs.Rule43.{contains_itself, leads_to}
 use Rattle.block_layout.specs.Types.{Types}
@@ -62,11 +64,11 @@ unfolding block_layout
 ids_laid y blocks before [] = refl
 ids_laid y blocks before (b ∷ bs) = ap (λ (l : List (Option BlockId)). id_of y.symbols b ∷ l) (ids_laid y blocks (b ∷ before) bs)
 
-measured_ids : (symbols : List Symbol) (blocks : List Block) → (types_of_source symbols blocks).ids ≡ ids_of symbols blocks
+pub measured_ids : (symbols : List Symbol) (blocks : List Block) → (types_of_source symbols blocks).ids ≡ ids_of symbols blocks
 unfolding types_of_source with_all_bits with_all_depths
 measured_ids symbols blocks = refl
 
-measured_symbols : (symbols : List Symbol) (blocks : List Block) → (types_of_source symbols blocks).symbols ≡ symbols
+pub measured_symbols : (symbols : List Symbol) (blocks : List Block) → (types_of_source symbols blocks).symbols ≡ symbols
 unfolding types_of_source with_all_bits with_all_depths
 measured_symbols symbols blocks = refl
 
@@ -74,3 +76,34 @@ pub ids_listed : (symbols : List Symbol) (blocks : List Block) → (types_of_sou
 unfolding layouts_by
 ids_listed symbols blocks =
     measured_ids symbols blocks ∙ ap (λ (s : List Symbol). ids_of s blocks) (sym (measured_symbols symbols blocks)) ∙ sym (ids_laid (types_of_source symbols blocks) blocks [] blocks)
+
+-- ---- the layouts of a source
+
+pub layouts_are : (symbols : List Symbol) (t : Tree)
+    → layouts_of t symbols ≡ layouts_from (types_of_source symbols t.blocks) t.blocks [] t.blocks
+unfolding layouts_of layouts_by
+layouts_are symbols t = refl
+
+-- a layout is that of a block
+pub laid_origin : (y : Types) (blocks before bs : List Block) (k : ℕ) (l : BlockLayout)
+    → slice_get (layouts_from y blocks before bs) k ≡ Some l
+    → (b : Block) × (slice_get bs k ≡ Some b)
+laid_origin y blocks before [] k l e = absurd cc
+laid_origin y blocks before (b ∷ bs) zero l e = (b, refl)
+laid_origin y blocks before (b ∷ bs) (suc k) l e =
+    let more = laid_origin y blocks (b ∷ before) bs k l e in (more.0, more.1)
+
+-- a block has its layout
+laid_there : (y : Types) (blocks before bs : List Block) (k : ℕ) (b : Block)
+    → slice_get bs k ≡ Some b
+    → (l : BlockLayout) × (slice_get (layouts_from y blocks before bs) k ≡ Some l)
+laid_there y blocks before [] k b e = absurd cc
+laid_there y blocks before (x ∷ bs) zero b e = (block_layout y blocks before x, refl)
+laid_there y blocks before (x ∷ bs) (suc k) b e =
+    let more = laid_there y blocks (x ∷ before) bs k b e in (more.0, more.1)
+
+pub layout_at : (symbols : List Symbol) (t : Tree) (k : ℕ) (b : Block) → slice_get t.blocks k ≡ Some b
+    → (l : BlockLayout) × (slice_get (layouts_of t symbols) k ≡ Some l)
+layout_at symbols t k b e =
+    let found = laid_there (types_of_source symbols t.blocks) t.blocks [] t.blocks k b e in
+    (found.0, ap (λ (ls : List BlockLayout). slice_get ls k) (layouts_are symbols t) ∙ found.1)

@@ -2,7 +2,7 @@ pub mod SizeLemmas
 pub mod MemberLemmas
 pub mod ScopeLemmas
 pub mod PathLemmas
-pub mod VerdictLemmas
+pub mod DeclarationFactLemmas
 pub mod CellLemmas
 pub mod SectionLemmas
 pub mod MeasureLemmas
@@ -23,3 +23,11 @@ pub mod AloneLemmas
 pub mod OperandLemmas
 pub mod ListedLemmas
 pub mod RebuiltLemmas
+pub mod CommonLemmas
+pub mod RoundLemmas
+pub mod AlignmentLemmas
+pub mod ContainmentLemmas
+pub mod BlockLemmas
+pub mod SoundnessLemmas
+pub mod DataTypeLemmas
+pub mod CountLemmas

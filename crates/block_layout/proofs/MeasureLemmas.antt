@@ -6,22 +6,22 @@ use Rattle.stl_ast.specs.declared.blocks.Block.{Block}
 use Rattle.block_layout.specs.Measures.{capped_depth, deepest_nesting, measuring_rounds, with_depths, with_bits, depths_after, bits_after, type_depth, type_bits, with_all_depths, with_all_bits}
 use Rattle.block_layout.specs.Rule56.{own_depth, depth_around}
 use Rattle.block_layout.specs.Types.{Types}
-use Rattle.block_layout.specs.declared.verdicts.Verdict.{Verdict}
-use Rattle.block_layout.specs.Verdicts.{greatest_reach, verdicts_of}
+use Rattle.block_layout.specs.declared.declaration_facts.DeclarationFacts.{DeclarationFacts}
+use Rattle.block_layout.specs.DeclarationFacts.{greatest_reach, facts_of_declarations}
 
 deep_max : (a b : ℕ) → max (capped_depth a) (capped_depth b) ≡ capped_depth (max a b)
 deep_max a b = omega arith
 
-reach_from : (y : Types) (before ds : List Declaration) → greatest_reach (verdicts_of y of_structure before ds) ≡ capped_depth (deepest_nesting y of_structure before ds)
+reach_from : (y : Types) (before ds : List Declaration) → greatest_reach (facts_of_declarations y of_structure before ds) ≡ capped_depth (deepest_nesting y of_structure before ds)
 reach_from y before [] = refl
 reach_from y before (d ∷ ds) =
     ap (λ (n : ℕ). max (capped_depth (depth_around y of_structure d.level before + own_depth y d)) n) (reach_from y (d ∷ before) ds)
     ∙ deep_max (depth_around y of_structure d.level before + own_depth y d) (deepest_nesting y of_structure (d ∷ before) ds)
 
-pub deepest_reach : (y : Types) (ds : List Declaration) → greatest_reach (verdicts_of y of_structure [] ds) ≡ capped_depth (deepest_nesting y of_structure [] ds)
+pub deepest_reach : (y : Types) (ds : List Declaration) → greatest_reach (facts_of_declarations y of_structure [] ds) ≡ capped_depth (deepest_nesting y of_structure [] ds)
 deepest_reach y ds = reach_from y [] ds
 
-pub reaches_floor : (vs : List Verdict) → max 1 (greatest_reach vs) ≡ greatest_reach vs
+pub reaches_floor : (vs : List DeclarationFacts) → max 1 (greatest_reach vs) ≡ greatest_reach vs
 reaches_floor [] = refl
 reaches_floor (v ∷ vs) = let later = reaches_floor vs in omega arith
 

@@ -90,10 +90,10 @@ grows_by true true at first bits near past_ = record { above = omega arith; near
 grows_by true false at first bits near past_ = record { above = omega arith; near = near }
 grows_by false sound at first bits near past_ = record { above = omega arith; near = near }
 
-step_grows : (level at : ℕ) (c : Cell) (bits : ℕ) → at ≤ largest_size → Grows at (end_behind_cell level at c bits)
+pub step_grows : (level at : ℕ) (c : Cell) (bits : ℕ) → at ≤ largest_size → Grows at (end_behind_cell level at c bits)
 step_grows level at c bits near = grows_by (nat_eq c.level level) c.sound at (next_multiple at (alignment c)) bits near (here_least at c).behind
 
-end_step : (level at : ℕ) (c : Cell) (cs : List Cell) → nat_lt c.level level ≡ false → components_end level at (c ∷ cs) ≡ components_end level (end_behind_cell level at c (cell_bits c cs)) cs
+pub end_step : (level at : ℕ) (c : Cell) (cs : List Cell) → nat_lt c.level level ≡ false → components_end level at (c ∷ cs) ≡ components_end level (end_behind_cell level at c (cell_bits c cs)) cs
 unfolding components_end element_of
 end_step level at c cs stays = rw stays refl
 
@@ -105,7 +105,7 @@ end_none : (level at : ℕ) → components_end level at [] ≡ at
 unfolding components_end
 end_none level at = refl
 
-end_grows : (level at : ℕ) (cells : List Cell) → at ≤ largest_size → at ≤ components_end level at cells
+pub end_grows : (level at : ℕ) (cells : List Cell) → at ≤ largest_size → at ≤ components_end level at cells
 end_grows level at [] near = let none = end_none level at in omega arith
 end_grows level at (c ∷ cs) near =
     ⊎_elim
@@ -172,7 +172,7 @@ are_from level at (c ∷ cs) near short =
     (cases_Bool (nat_lt c.level level))
 
 -- the cell at a place, and those behind it
-at_place : (all : List Cell) (p : ℕ) (c : Cell) (cs : List Cell) → drop p all ≡ c ∷ cs → slice_get all p ≡ Some c
+pub at_place : (all : List Cell) (p : ℕ) (c : Cell) (cs : List Cell) → drop p all ≡ c ∷ cs → slice_get all p ≡ Some c
 at_place [] zero c cs e = cc
 at_place [] (suc p) c cs e = cc
 at_place (x ∷ xs) zero c cs e = cc

@@ -1,15 +1,16 @@
 -- Bytes that are written again, component by component.
-use Rattle.std.proofs.Common.{arith, ℕ, zero, suc, ◌+◌, ◌-◌, ◌*◌, ◌/◌, ◌%◌, ◌^◌, ◌≡◌, ◌≤◌, ◌<◌, ◌⊎◌, Bool, true, false, List, [], ◌∷◌, length, get_or, refl, sym, ◌∙◌, ap, subst, inl, inr, replicate}
-use Rattle.std.specs.Prelude.{nat_eq, ◌==◌, bit_and, bit_or, slice_set, slice_index, if◌then◌else◌, min, max}
+use Rattle.std.proofs.Common.{arith, ℕ, zero, suc, ◌+◌, ◌-◌, ◌/◌, ◌%◌, ◌^◌, ◌≡◌, ◌≤◌, ◌<◌, ◌⊎◌, true, false, List, [], ◌∷◌, length, get_or, refl, sym, ◌∙◌, ap, inl, inr, replicate}
+use Rattle.std.specs.Prelude.{nat_eq, slice_set, slice_index}
 use Rattle.std.specs.List.{fold, AllByRecursion}
 use Rattle.std.specs.Int.{bit_at, w8}
-use Rattle.std.proofs.lemmas.Bool.{cases_Bool, cases_lt, eqb-true, eq-eqb, false≢true, false_from_ne_true}
+use Rattle.std.proofs.lemmas.Bool.{cases_Bool, cases_lt, eqb-true, eq-eqb, false≢true}
 use Rattle.std.proofs.lemmas.Bool.Decides.{nat_tests}
-use Rattle.std.proofs.lemmas.List.{get_or-set_same, get_or-set_other, ext_get_or, length-set, length-replicate, get_or-replicate}
+use Rattle.std.proofs.lemmas.List.{get_or-set_same, get_or-set_other, ext_get_or, length-set, length-replicate}
 use Rattle.std.proofs.lemmas.Nat.{or_of_8, and_le_l, pow_below}
 use Rattle.std.proofs.lemmas.Nat.Bits.{bit_at-lt, bit_at_or, bit_at_and, bit_at-pow_same, bit_at-pow_other, bit_at-zero, bit_at_not}
 use Rattle.block_layout.specs.InitialBytes.{Write, big_endian_bytes, bytes_with_write, with_bit, with_bytes}
 use Rattle.block_layout.specs.Rebuilt.{AreRebuilt, InBit, InBytes, IsTrueOf, OfBit, OfBytes, OneReaches, Reaches, bit_in}
+use Rattle.block_layout.proofs.FillLemmas.{length_put_bytes}
 
 -- ---- one bit of a byte
 
@@ -50,10 +51,6 @@ small : (n v k : ℕ) → get_or (big_endian_bytes n v) k 0 < 256
 small zero v k = omega arith
 small (suc n) v zero = omega arith
 small (suc n) v (suc k) = small n v k
-
-long : (s : List ℕ) (at : ℕ) (bs : List ℕ) → length (with_bytes s at bs) ≡ length s
-long s at [] = refl
-long s at (b ∷ bs) = long (slice_set s at b) (at + 1) bs ∙ length-set s at b
 
 outside : (s : List ℕ) (at : ℕ) (bs : List ℕ) (j : ℕ) → (j < at) ⊎ (at + length bs ≤ j) → get_or (with_bytes s at bs) j 0 ≡ get_or s j 0
 outside s at [] j h = refl
@@ -166,7 +163,7 @@ part_kept all s w part (OfBit wide there value) = rw (bit_put s w wide) (record 
   small = λ k. set_small s (w.offset / 8) (with_bit (w.offset % 8) w.value (slice_index s (w.offset / 8))) k (below_8 (w.offset % 8) w.value (slice_index s (w.offset / 8)) (omega arith) (part.small (w.offset / 8))) part.small;
 })
 part_kept all s w part (OfBytes wide there value) = rw (bytes_put s w wide) (record {
-  long = long s (w.offset / 8) (big_endian_bytes (w.width / 8) w.value) ∙ part.long;
+  long = length_put_bytes s (w.offset / 8) (big_endian_bytes (w.width / 8) w.value) ∙ part.long;
   small = λ k. bytes_small s (w.offset / 8) (big_endian_bytes (w.width / 8) w.value) k (small (w.width / 8) w.value) part.small;
 })
 

@@ -11,15 +11,15 @@ use Rattle.plc_base.specs.Least.{least, lesser}
 use Rattle.plc_base.proofs.LeastLemmas.{least-append, lesser_assoc, lesser_first, lesser_nothing}
 use Rattle.block_layout.specs.declared.cells.Cell.{Cell}
 use Rattle.block_layout.specs.declared.sections.Declared.{Declared}
-use Rattle.block_layout.specs.declared.verdicts.Frame.{Frame}
+use Rattle.block_layout.specs.declared.declaration_facts.OpenList.{OpenList}
 use Rattle.block_layout.specs.Around.{Outside, refusals_in_list, refusals_in_rest, declarations_before_next, of_sections, of_structure, returned_names, section_declarations}
 use Rattle.block_layout.specs.Cells.{cells_of, is_temp, with_first_cell_opening, section_cells, returned_cells, temps_of}
 use Rattle.block_layout.specs.Rule21.{broken_21}
 use Rattle.block_layout.specs.Rule56.{broken_56}
 use Rattle.block_layout.specs.Types.{Types}
-use Rattle.block_layout.specs.Verdicts.{IsDeclaredByBlock, AreOpen, IsDeclaredBySections, SectionAdded, by_verdicts, cells_by, deep_by, frame_of, twice_by, verdicts_of}
+use Rattle.block_layout.specs.DeclarationFacts.{IsDeclaredByBlock, AreOpen, IsDeclaredBySections, SectionAdded, refusals_by_facts, cells_by, deep_by, open_list_of, twice_by, facts_of_declarations}
 use Rattle.block_layout.specs.Measures.{capped_depth}
-use Rattle.block_layout.specs.declared.verdicts.Verdict.{Verdict}
+use Rattle.block_layout.specs.declared.declaration_facts.DeclarationFacts.{DeclarationFacts}
 use Rattle.stl_ast.specs.declared.blocks.PartKind.TheVariants as part
 use Rattle.block_layout.proofs.CellLemmas.{cells_begun, twice_same, deep_same}
 
@@ -30,7 +30,7 @@ rest_append broken before (x ∷ xs) ys =
     ∙ sym (append_assoc (broken before x) (refusals_in_rest broken (x ∷ before) xs) (refusals_in_rest broken (declarations_before_next (x ∷ before) xs) ys))
 
 -- what is left of the sections of a block
-pub record Left (y : Types) (b : Block) (ps : List Part) (made : Declared) (open_ : List Frame) : Type 0 where
+pub record Left (y : Types) (b : Block) (ps : List Part) (made : Declared) (open_ : List OpenList) : Type 0 where
   pub now : List Declaration
   pub lists : AreOpen y (of_sections b) now open_
   pub components : made.components.items ++ section_cells y (of_sections b) (λ k. not (is_temp k)) now ps
@@ -48,7 +48,7 @@ rest_next broken now items more found next whole is_next so_far =
     ∙ ap (λ (o : Option Refusal). lesser found o) (sym (least-append (refusals_in_rest broken now items) (refusals_in_rest broken (declarations_before_next now items) more)) ∙ ap (λ (l : List Refusal). least l) (sym (rest_append broken now items more)))
     ∙ so_far
 
-pub left_next : (y : Types) (b : Block) (p : Part) (ps : List Part) (made new : Declared) (open_ now_open : List Frame) → Left y b (p ∷ ps) made open_ →
+pub left_next : (y : Types) (b : Block) (p : Part) (ps : List Part) (made new : Declared) (open_ now_open : List OpenList) → Left y b (p ∷ ps) made open_ →
     ((o : Outside) (before : List Declaration) → AreOpen y o before open_ → SectionAdded y o before p made new now_open) → Left y b ps new now_open
 left_next y b p ps made new open_ now_open left added =
     let one = added (of_sections b) left.now left.lists in
@@ -70,7 +70,7 @@ left_next y b p ps made new open_ now_open left added =
     turned true l = refl
     turned false l = refl
 
-pub left_done : (y : Types) (b : Block) (made : Declared) (open_ : List Frame) → Left y b [] made open_ → IsDeclaredBySections y b made
+pub left_done : (y : Types) (b : Block) (made : Declared) (open_ : List OpenList) → Left y b [] made open_ → IsDeclaredBySections y b made
 left_done y b made open_ left = record {
   components = sym (append-nil made.components.items) ∙ left.components;
   temps = sym (append-nil made.temps.items) ∙ left.temps;
@@ -84,48 +84,48 @@ parts_split ps i p within is_p = drop_more ps i p within ∙ ap (λ (x : Part). 
 pub parts_none : (ps : List Part) (i : ℕ) → length ps ≤ i → drop i ps ≡ []
 parts_none ps i over = drop_of_length-le ps over
 
-pub first_open : (y : Types) (o : Outside) (f : Frame) → f.names ≡ o.names → f.depth ≡ capped_depth o.depth → f.sound ≡ true → AreOpen y o [] (f ∷ [])
-first_open y o f names depth sound = record { frames = λ level g below. at level g below }
+pub first_open : (y : Types) (o : Outside) (f : OpenList) → f.names ≡ o.names → f.depth ≡ capped_depth o.depth → f.sound ≡ true → AreOpen y o [] (f ∷ [])
+first_open y o f names depth sound = record { lists = λ level g below. at level g below }
   where
     plus_0 : (n : ℕ) → capped_depth n ≡ capped_depth (n + 0)
     plus_0 n = omega arith
 
-    at : (level : ℕ) (g : Frame) → level < length (f ∷ []) → get_or (f ∷ []) level g ≡ frame_of y o [] level
+    at : (level : ℕ) (g : OpenList) → level < length (f ∷ []) → get_or (f ∷ []) level g ≡ open_list_of y o [] level
     at zero g below = same f names depth sound
       where
-        same : (h : Frame) → h.names ≡ o.names → h.depth ≡ capped_depth o.depth → h.sound ≡ true → h ≡ frame_of y o [] 0
+        same : (h : OpenList) → h.names ≡ o.names → h.depth ≡ capped_depth o.depth → h.sound ≡ true → h ≡ open_list_of y o [] 0
         same h ns d s = ap (λ (l : List (List ℕ)). record h { names = l }) ns ∙ ap (λ (n : ℕ). record { names = o.names; depth = n; sound = h.sound }) (d ∙ plus_0 o.depth)
             ∙ ap (λ (b : Bool). record { names = o.names; depth = capped_depth (o.depth + 0); sound = b }) s
     at (suc level) g below = absurd (let never : ⊥ = omega arith in never)
 
-pub first_left : (y : Types) (b : Block) (made : Declared) (f : Frame) (open_ : List Frame) → open_ ≡ f ∷ [] → f.names ≡ returned_names b.result → f.depth ≡ 0 → f.sound ≡ true →
+pub first_left : (y : Types) (b : Block) (made : Declared) (f : OpenList) (open_ : List OpenList) → open_ ≡ f ∷ [] → f.names ≡ returned_names b.result → f.depth ≡ 0 → f.sound ≡ true →
     made.components.items ≡ returned_cells b.result → made.temps.items ≡ [] → made.twice ≡ None → made.deep ≡ None → Left y b b.parts made open_
 first_left y b made f open_ is_open names depth sound components temps twice deep_ = record {
   now = [];
-  lists = subst (λ (l : List Frame). AreOpen y (of_sections b) [] l) (sym is_open) (first_open y (of_sections b) f names depth sound);
+  lists = subst (λ (l : List OpenList). AreOpen y (of_sections b) [] l) (sym is_open) (first_open y (of_sections b) f names depth sound);
   components = ap (λ (l : List Cell). l ++ section_cells y (of_sections b) (λ k. not (is_temp k)) [] b.parts) components;
   temps = ap (λ (l : List Cell). l ++ section_cells y (of_sections b) is_temp [] b.parts) temps;
   twice = ap (λ (o : Option Refusal). lesser o (least (refusals_in_list (broken_21 (of_sections b)) (section_declarations b)))) twice ∙ lesser_first _;
   deep = ap (λ (o : Option Refusal). lesser o (least (refusals_in_list (broken_56 y (of_sections b)) (section_declarations b)))) deep_ ∙ lesser_first _;
 }
 
-pub declared_all : (y : Types) (b : Block) (made new : Declared) (vs : List Verdict) → IsDeclaredBySections y b made → vs ≡ verdicts_of y of_structure [] b.components →
+pub declared_all : (y : Types) (b : Block) (made new : Declared) (vs : List DeclarationFacts) → IsDeclaredBySections y b made → vs ≡ facts_of_declarations y of_structure [] b.components →
     new.components.items ≡ made.components.items ++ cells_by y part.Static true vs b.components → new.temps ≡ made.temps →
-    new.twice ≡ lesser made.twice (least (by_verdicts twice_by vs b.components)) → new.deep ≡ lesser made.deep (least (by_verdicts deep_by vs b.components)) → IsDeclaredByBlock y b new
+    new.twice ≡ lesser made.twice (least (refusals_by_facts twice_by vs b.components)) → new.deep ≡ lesser made.deep (least (refusals_by_facts deep_by vs b.components)) → IsDeclaredByBlock y b new
 declared_all y b made new vs sections are components temps twice deep_ = record {
   components = components ∙ ap (λ (l : List Cell). l ++ cells_by y part.Static true vs b.components) sections.components
       ∙ ap (λ (l : List Cell). (returned_cells b.result ++ section_cells y (of_sections b) (λ k. not (is_temp k)) [] b.parts) ++ l)
-      (ap (λ (l : List Verdict). cells_by y part.Static true l b.components) are ∙ cells_begun y of_structure part.Static [] b.components);
+      (ap (λ (l : List DeclarationFacts). cells_by y part.Static true l b.components) are ∙ cells_begun y of_structure part.Static [] b.components);
   temps = ap (λ v. v.items) temps ∙ sections.temps;
-  twice = twice ∙ ap (λ (o : Option Refusal). lesser o (least (by_verdicts twice_by vs b.components))) sections.twice
+  twice = twice ∙ ap (λ (o : Option Refusal). lesser o (least (refusals_by_facts twice_by vs b.components))) sections.twice
       ∙ ap (λ (l : List Refusal). lesser (least (refusals_in_list (broken_21 (of_sections b)) (section_declarations b))) (least l))
-      (ap (λ (l : List Verdict). by_verdicts twice_by l b.components) are ∙ twice_same y of_structure [] b.components)
+      (ap (λ (l : List DeclarationFacts). refusals_by_facts twice_by l b.components) are ∙ twice_same y of_structure [] b.components)
       ∙ sym (least-append (refusals_in_list (broken_21 (of_sections b)) (section_declarations b)) (refusals_in_list (broken_21 of_structure) b.components));
-  deep = deep_ ∙ ap (λ (o : Option Refusal). lesser o (least (by_verdicts deep_by vs b.components))) sections.deep
+  deep = deep_ ∙ ap (λ (o : Option Refusal). lesser o (least (refusals_by_facts deep_by vs b.components))) sections.deep
       ∙ ap (λ (l : List Refusal). lesser (least (refusals_in_list (broken_56 y (of_sections b)) (section_declarations b))) (least l))
-      (ap (λ (l : List Verdict). by_verdicts deep_by l b.components) are ∙ deep_same y of_structure [] b.components)
+      (ap (λ (l : List DeclarationFacts). refusals_by_facts deep_by l b.components) are ∙ deep_same y of_structure [] b.components)
       ∙ sym (least-append (refusals_in_list (broken_56 y (of_sections b)) (section_declarations b)) (refusals_in_list (broken_56 y of_structure) b.components));
 }
 
-pub left_at : (y : Types) (b : Block) (made : Declared) (open_ : List Frame) (ps qs : List Part) → ps ≡ qs → Left y b ps made open_ → Left y b qs made open_
+pub left_at : (y : Types) (b : Block) (made : Declared) (open_ : List OpenList) (ps qs : List Part) → ps ≡ qs → Left y b ps made open_ → Left y b qs made open_
 left_at y b made open_ ps qs same left = subst (λ (l : List Part). Left y b l made open_) same left

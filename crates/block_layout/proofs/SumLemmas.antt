@@ -28,7 +28,7 @@ use Rattle.block_layout.specs.declared.walks.PathEnd.TheVariants as walk
 use Rattle.block_layout.specs.Blocks.{known_block}
 use Rattle.block_layout.specs.Members.{component_of_name}
 use Rattle.block_layout.specs.Offsets.{component_place as data_component, place_in_section, place_of_path, place_at, elementary_place, place_at_path_end, variable_place, width_of}
-use Rattle.block_layout.specs.Paths.{cells_at, elementary_at, path_end_at_cell, path_end_at_member, holds_where_reached, path_end_and_then, if_whole, path_end_by_index, indexed_behind, is_beyond, is_beyond_in, is_beyond_left, is_judged, leaves_array, leaves_from, leaves_judged, path_end_by_name, named_behind, named_in, outermost_path_end, step_is_beyond, path_end_by_step, structure_of, path_end_behind, path_end_in_data_block, path_end_in_block, path_end_or_rests, path_end_in_bounds}
+use Rattle.block_layout.specs.Paths.{cells_at, elementary_at, path_end_at_cell, path_end_at_member, holds_where_reached, path_end_and_then, if_whole, path_end_by_index, indexed_behind, is_beyond, is_beyond_in, is_beyond_left, is_checkable, leaves_array, leaves_from, leaves_structure, path_end_by_name, named_behind, named_in, outermost_path_end, step_is_beyond, path_end_by_step, structure_of, path_end_behind, path_end_in_data_block, path_end_in_block, path_end_or_rests, path_end_in_bounds}
 use Rattle.block_layout.specs.Places.{IsLeastPlace}
 use Rattle.block_layout.specs.Sizes.{alignment, array_bits, capped_size, cell_bits, element_of, largest_size, end_behind_cell, next_multiple}
 use Rattle.block_layout.specs.Sums.{EndsAt, NamesComponent, NamesComponentOf, IndexesElement, IsInside, StepLeadsTo, LeadsFrom, LeadsTo, LeadsToOne, LeadsToPlace, LiesAt, OffsetsAreSums, declaring_block, is_temporary}
@@ -361,23 +361,23 @@ module _ (l : List BlockLayout) where
         let r = if_let (leaves_from l block (is_temporary s) path) (place_at_path_end l a 0 (path_end_in_block l block (is_temporary s) path)) e in
         led s block declared r.0 (spot_at a 0 (path_end_in_block l block (is_temporary s) path) place width r.1)
 
-    judged_stays : (w : PathEnd) (to : ComponentAt) (b : Bool) → w ≡ walk.Reaches to → (is_judged w && b) ≡ false → b ≡ false
-    judged_stays (walk.Reaches s) to b is e = e
-    judged_stays walk.Unknown to b is e = e
-    judged_stays walk.Rests to b is e = absurd cc
+    checkable_stays : (w : PathEnd) (to : ComponentAt) (b : Bool) → w ≡ walk.Reaches to → (is_checkable w && b) ≡ false → b ≡ false
+    checkable_stays (walk.Reaches s) to b is e = e
+    checkable_stays walk.Unknown to b is e = e
+    checkable_stays walk.Rests to b is e = absurd cc
 
     led_component : data_component l id.number block path ≡ Some (place, width) → LeadsToPlace l id section.Global path place width
     unfolding path_end_in_data_block
     led_component e =
-        let r = if_let (leaves_judged l (structure_of l block) path) (place_at_path_end l area.Db id.number (path_end_in_data_block l block path)) e in
+        let r = if_let (leaves_structure l (structure_of l block) path) (place_at_path_end l area.Db id.number (path_end_in_data_block l block path)) e in
         by (structure_of l block) refl r.0 r.1
       where
-        by : (o : Option ℕ) → structure_of l block ≡ o → leaves_judged l o path ≡ false → place_at_path_end l area.Db id.number (path_end_or_rests l o path) ≡ Some (place, width) →
+        by : (o : Option ℕ) → structure_of l block ≡ o → leaves_structure l o path ≡ false → place_at_path_end l area.Db id.number (path_end_or_rests l o path) ≡ Some (place, width) →
             LeadsToPlace l id section.Global path place width
         by None is stays k = absurd cc
         by (Some inside) is stays k =
             let at = spot_at area.Db id.number (path_end_in_block l inside false path) place width k in
-            led section.Global inside is (judged_stays (path_end_in_block l inside false path) at.to (leaves_from l inside false path) at.there stays) at
+            led section.Global inside is (checkable_stays (path_end_in_block l inside false path) at.to (leaves_from l inside false path) at.there stays) at
 
     led_in : (s : Section) → place_in_section l id s path block ≡ Some (place, width) → LeadsToPlace l id s path place width
     led_in section.Global e = led_component (if_kept (is_data_block id.kind) (data_component l id.number block path) e)

@@ -9,6 +9,9 @@ use Rattle.block_layout.specs.declared.broken.Before.{Before}
 -- of the blocks before one, how many there are, how many of them are data blocks, and the bytes of
 -- these together, or the greatest number of 64 bits
 pub record IsBefore (y : Types) (blocks before : List Block) (b : Before) : Type 0 where
+  -- how many blocks stand before one
   pub count : b.blocks ≡ length before
+  -- how many data blocks are among the blocks before one
   pub data_count : b.data_blocks ≡ data_blocks before
+  -- the bytes of the data blocks before one together, at most 2^64 - 1
   pub bytes : b.bytes ≡ min (total_data_length y blocks before) (2 ^ 64 - 1)

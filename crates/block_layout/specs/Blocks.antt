@@ -32,7 +32,8 @@ is_ob_number n =
     || lies_within 40 47 n
     || nat_eq n 80 || nat_eq n 85 || nat_eq n 100 || nat_eq n 121 || nat_eq n 122
 
--- the numbers of blocks: 0 to 2047 of functions and function blocks, 1 to 2047 of data blocks and data types
+-- the numbers of blocks: 0 to 2047 of functions and function blocks, 1 to 2047 of data blocks and
+-- data types
 abbrev pub is_block_number : BlockKind → ℕ → Bool
 is_block_number kind.Ob n = is_ob_number n
 is_block_number kind.Fc n = lies_within 0 2047 n
@@ -49,7 +50,8 @@ block_of _ = None
 -- the block that a name means: its number, or that of the symbol
 abbrev pub named_block : List Symbol → BlockName → Option BlockId
 named_block symbols (Number id) = Some id
-named_block symbols (Quoted name) = block_of (option_map (λ s. s.target) (symbol_named name symbols))
+named_block symbols (Quoted name) =
+    block_of (option_map (λ s. s.target) (symbol_named name symbols))
 
 -- a block, where it is of one of these kinds; none where it isn't
 abbrev pub of_kind : (BlockKind → Bool) → Option BlockId → Option BlockId
@@ -72,9 +74,11 @@ is_id id (Some other) = is_same_block id other
 -- the first place of a block among these, counted from 0
 abbrev pub place_of_block : BlockId → List (Option BlockId) → Option ℕ
 place_of_block id [] = None
-place_of_block id (i ∷ is) = if is_id id i then Some 0 else option_map (λ k. suc k) (place_of_block id is)
+place_of_block id (i ∷ is) =
+    if is_id id i then Some 0 else option_map (λ k. suc k) (place_of_block id is)
 
--- the block of the source that is meant: of several with one number the first; none that has a number beyond the limits
+-- the block of the source that is meant: of several with one number the first; none that has a
+-- number beyond the limits
 abbrev pub known_block : BlockId → List (Option BlockId) → Option ℕ
 known_block id ids = if is_block_number id.kind id.number then place_of_block id ids else None
 

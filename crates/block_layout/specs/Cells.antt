@@ -48,7 +48,8 @@ uses_oversized y _ = false
 abbrev pub is_sound : Types → Outside → List Declaration → Declaration → Bool
 is_sound y o before d =
     not (breaks_rule y o before d) && not (uses_oversized y d.of.of)
-    && list_all (λ h. not (breaks_rule y o h.before h.declaration)) (structures_around d.level before)
+    && list_all (λ h. not (breaks_rule y o h.before h.declaration))
+    (structures_around d.level before)
 
 -- what a data type comes to: its place in the source with its bits, or unknown without a place
 abbrev pub udt_element : List ℕ → Option ℕ → Element
@@ -90,7 +91,8 @@ cells_of y o section before (d ∷ ds) =
 -- the cells of a section, of which the first sound one is marked, as it begins at an even byte
 abbrev pub with_first_cell_opening : List Cell → List Cell
 with_first_cell_opening [] = []
-with_first_cell_opening (c ∷ cs) = if c.sound then record c { opens = true } ∷ cs else c ∷ with_first_cell_opening cs
+with_first_cell_opening (c ∷ cs) =
+    if c.sound then record c { opens = true } ∷ cs else c ∷ with_first_cell_opening cs
 
 -- VAR_TEMP: its variables lie in the local data; those of all other sections are components
 abbrev pub is_temp : PartKind → Bool

@@ -1,5 +1,5 @@
--- How a cycle of data types is found: from a block on, step by step, what is used by the blocks that the step before
--- has found. Each block is marked once.
+-- How a cycle of data types is found: from a block on, step by step, what is used by the blocks
+-- that the step before has found. Each block is marked once.
 use Rattle.std.specs.Prelude.{ℕ, nat_lt, Bool, true, false, ◌&&◌, not, if◌then◌else◌, List, [], ◌∷◌, ◌++◌, length, map, get_or, slice_set, Some}
 use Rattle.stl_ast.specs.declared.blocks.Block.{Block}
 use Rattle.block_layout.specs.Rule43.{uses_of}

@@ -1,4 +1,5 @@
--- Of a declaration by itself: a data type that is unknown, bounds that are upside down, initial values that don't fit.
+-- Of a declaration by itself: a data type that is unknown, bounds that are upside down, initial
+-- values that don't fit.
 use Rattle.std.specs.Prelude.{ℕ, ◌+◌, ◌-ℤ◌, unsigned_abs, nat_le, nat_eq, int_lt, Bool, true, false, ◌&&◌, List, [], ◌∷◌, length, sum_by, Option, Some, None, if◌then◌else◌}
 use Rattle.std.specs.List.{list_any, list_all}
 use Rattle.std.specs.Option.{is_none}
@@ -48,10 +49,12 @@ abbrev pub are_within : ℕ → Option ℕ → Bool
 are_within n None = false
 are_within n (Some most) = nat_le n most
 
--- rule 41: each value fits the type, and there are no more values than elements; another type takes none
+-- rule 41: each value fits the type, and there are no more values than elements; another type takes
+-- none
 abbrev pub fit_type : List Bounds → ElementType → List Init → Bool
 fit_type arrays (element.Plain kind) init =
-    list_all (λ i. fits_elementary_type i.value kind) init && are_within (elements_set_by init) (settable_count arrays)
+    list_all (λ i. fits_elementary_type i.value kind) init
+    && are_within (elements_set_by init) (settable_count arrays)
 fit_type arrays _ init = nat_eq (length init) 0
 
 -- without initial values there is nothing to fit, whatever the type

@@ -7,7 +7,8 @@ use Rattle.stl_ast.specs.declared.declarations.Simple.TheVariants as simple
 use Rattle.stl_ast.specs.declared.literals.Literal.{Literal}
 use Rattle.stl_ast.specs.declared.literals.Literal.TheVariants as literal
 
--- a decimal number: INT from -32768 to 32767, WORD up to 65535, BYTE up to 255; a negative number fits INT alone
+-- a decimal number: INT from -32768 to 32767, WORD up to 65535, BYTE up to 255; a negative number
+-- fits INT alone
 abbrev pub fits_decimal : ℤ → Simple → Bool
 fits_decimal (pos n) simple.Int = nat_le n 32767
 fits_decimal (pos n) simple.Word = nat_le n 65535
@@ -55,7 +56,7 @@ abbrev pub is_dint_type : Simple → Bool
 is_dint_type simple.Dint = true
 is_dint_type _ = false
 
--- DWORD, which DW#16# fits, as it does DINT
+-- DWORD, which DW#16# fits; it fits DINT too
 abbrev pub is_dword_type : Simple → Bool
 is_dword_type simple.Dword = true
 is_dword_type _ = false
@@ -65,13 +66,13 @@ abbrev pub is_time_type : Simple → Bool
 is_time_type simple.Time = true
 is_time_type _ = false
 
--- S5TIME, which S5T# fits, as it does WORD
+-- S5TIME, which S5T# fits; it fits WORD too
 abbrev pub is_s5time_type : Simple → Bool
 is_s5time_type simple.S5time = true
 is_s5time_type _ = false
 
--- a constant fits a type. TRUE, FALSE: BOOL. B#16#: BYTE. DW#16#: DWORD, DINT. L#: DINT. T#: TIME. S5T#: S5TIME, WORD.
--- C#: WORD. B#(..) fits none
+-- a constant fits a type. TRUE, FALSE: BOOL. B#16#: BYTE. DW#16#: DWORD, DINT. L#: DINT. T#: TIME.
+-- S5T#: S5TIME, WORD. C#: WORD. B#(..) fits none
 unfoldable pub fits_elementary_type : Literal → Simple → Bool
 fits_elementary_type (literal.Truth value) k = is_bool_type k
 fits_elementary_type (literal.Number value) k = fits_decimal value k
@@ -96,7 +97,8 @@ abbrev pub number_from : ℕ → List ℕ → ℕ
 number_from n [] = n
 number_from n (b ∷ bs) = number_from (256 * n + b) bs
 
--- a number, or 0 where there is none: an S5TIME above 9,990,000 ms has no word (no token is, by rule 4)
+-- a number, or 0 where there is none: an S5TIME above 9,990,000 ms has no word (no token is, by
+-- rule 4)
 abbrev pub or_0 : Option ℕ → ℕ
 or_0 None = 0
 or_0 (Some n) = n

@@ -1,5 +1,5 @@
--- Rules that a block breaks as a whole: the line is that of its head. The blocks before it are listed with the nearest
--- first.
+-- Rules that a block breaks as a whole: the line is that of its head. The blocks before it are
+-- listed with the nearest first.
 use Rattle.std.specs.Prelude.{ℕ, Bool, false, List, [], ◌∷◌}
 use Rattle.plc_base.specs.declared.refusals.Refusal.{Refusal}
 use Rattle.stl_ast.specs.declared.blocks.Block.{Block}

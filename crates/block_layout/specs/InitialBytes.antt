@@ -1,5 +1,5 @@
--- The initial bytes of a data block: zeros, over which the initial values of its structure are written in the order of the
--- text, and then its settings, so that a later setting wins.
+-- The initial bytes of a data block: zeros, over which the initial values of its structure are
+-- written in the order of the text, and then its settings, so that a later setting wins.
 use Rattle.std.specs.Prelude.{ℕ, zero, suc, ◌+◌, ◌-◌, ◌*◌, ◌/◌, ◌%◌, ◌^◌, nat_lt, nat_eq, bit_and, bit_or, false, ◌&&◌, List, [], ◌∷◌, ◌++◌, slice_index, slice_set, map, replicate, Option, Some, None, if◌then◌else◌}
 use Rattle.std.specs.List.{flat_map, slice_get, fold, zip, range_with_len}
 use Rattle.stl_ast.specs.declared.blocks.Block.{Block}
@@ -22,16 +22,20 @@ use Rattle.block_layout.specs.Sizes.{plain_bits, capped_size, next_multiple, ali
 
 -- a value of `width` bits that is written `offset` bits from the start of a data block
 pub record Write : Type 0 where
+  -- where the write begins, in bits from the start of the data block
   pub offset : ℕ
+  -- how many bits are written
   pub width : ℕ
+  -- the value that is written, as a number
   pub value : ℕ
 
 -- so many offsets in bits from `start` on, each a step behind the one before it, up to the cap
 abbrev pub in_steps : (step count start : ℕ) → List ℕ
-in_steps step count start = map (λ k. capped_size (start + capped_size (k * step))) (range_with_len 0 count)
+in_steps step count start =
+    map (λ k. capped_size (start + capped_size (k * step))) (range_with_len 0 count)
 
--- where the elements of arrays begin that themselves begin at these places, in their order; of no array the places
--- themselves
+-- where the elements of arrays begin that themselves begin at these places, in their order; of no
+-- array the places themselves
 abbrev pub element_starts : List Bounds → (element : ℕ) → (starts : List ℕ) → List ℕ
 element_starts [] element starts = starts
 element_starts (b ∷ bs) element starts =
@@ -65,7 +69,8 @@ component_writes inside of_type c element starts (Udt block bits) =
     of_type block (filled_starts c.bounds element starts)
 component_writes inside of_type c element starts _ = []
 
--- where a component begins in structures that begin at these places; the first component may begin at `at` in them
+-- where a component begins in structures that begin at these places; the first component may begin
+-- at `at` in them
 abbrev pub component_starts : (at : ℕ) → Cell → (starts : List ℕ) → List ℕ
 component_starts at c starts = map (λ s. capped_size (s + next_multiple at (alignment c))) starts
 
@@ -85,7 +90,8 @@ writes_from of_type level starts at [] = []
 writes_from of_type level starts at (c ∷ cs) =
     if nat_lt c.level level then []
     else cell_writes (λ inner. writes_from of_type (c.level + 1) inner 0 cs) of_type level at
-    starts c (element_of c cs) ++ writes_from of_type level starts (end_behind_cell level at c (cell_bits c cs)) cs
+    starts c (element_of c cs)
+    ++ writes_from of_type level starts (end_behind_cell level at c (cell_bits c cs)) cs
 
 -- the writes of structures of a block that begin at these places; data types in it are nested at
 -- most eight deep
@@ -116,7 +122,8 @@ setting_write l value _ = []
 -- the writes of the settings of the data block at this place, in the order of the text
 abbrev pub setting_writes : List BlockLayout → (block : ℕ) → List Setting → List Write
 setting_writes l block settings =
-    flat_map (λ s. setting_write l s.value (path_end_in_data_block l block (folded_path s.path))) settings
+    flat_map
+    (λ s. setting_write l s.value (path_end_in_data_block l block (folded_path s.path))) settings
 
 -- a byte with its bit at a place set to the lowest bit of a value
 abbrev pub with_bit : (bit value byte : ℕ) → ℕ

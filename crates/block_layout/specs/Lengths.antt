@@ -73,7 +73,8 @@ is_structured k = is_data_block k || is_function_block k || is_data_type k
 
 -- the length of a data block, of a data type, and of the instance of a function block
 unfoldable pub length_of_block : Types → List Block → Block → ℕ
-length_of_block y blocks b = if is_structured b.kind then shape_bits y blocks b (shape_of y b) / 8 else 0
+length_of_block y blocks b =
+    if is_structured b.kind then shape_bits y blocks b (shape_of y b) / 8 else 0
 
 -- an address with the letter L lies in the local data, one with another letter doesn't
 abbrev pub is_local_data_letter : Letters → Bool
@@ -96,7 +97,8 @@ farthest_actual_end (a ∷ behind) = max (local_end a.value) (farthest_actual_en
 -- included
 abbrev pub farthest_operand_end : List Statement → ℕ
 farthest_operand_end [] = 0
-farthest_operand_end (s ∷ ss) = max (max (local_end s.operand) (farthest_actual_end s.actuals)) (farthest_operand_end ss)
+farthest_operand_end (s ∷ ss) =
+    max (max (local_end s.operand) (farthest_actual_end s.actuals)) (farthest_operand_end ss)
 
 -- the least local data of a block in bytes: the start information of an organization block takes 20
 abbrev pub least_local : BlockKind → ℕ

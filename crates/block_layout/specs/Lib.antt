@@ -10,7 +10,7 @@ pub mod Declarations
 pub mod Cells
 pub mod Sizes
 pub mod Members
-pub mod Verdicts
+pub mod DeclarationFacts
 pub mod Scopes
 pub mod Measures
 pub mod Lengths

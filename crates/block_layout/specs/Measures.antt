@@ -1,6 +1,7 @@
--- How deep and how large the user-defined data types of a source are. A type may use another one, so both are found by
--- rounds: a round takes what the one before it gave for the types that are used. Types that are sound are nested at most
--- eight deep, so nine rounds settle them; one that contains itself, or leads to one that does, is deeper than 8 in the ninth.
+-- How deep and how large the user-defined data types of a source are. A type may use another one,
+-- so both are found by rounds: a round takes what the one before it gave for the types that are
+-- used. Types that are sound are nested at most eight deep, so nine rounds settle them; one that
+-- contains itself, or leads to one that does, is deeper than 8 in the ninth.
 use Rattle.std.specs.Prelude.{ℕ, zero, suc, ◌+◌, min, max, List, [], ◌∷◌, map, if◌then◌else◌}
 use Rattle.plc_base.specs.Kinds.{is_data_type}
 use Rattle.stl_ast.specs.declared.blocks.Block.{Block}
@@ -34,7 +35,8 @@ capped_depth n = min n 9
 
 -- the depth of a user-defined data type; that of another block is 0
 unfoldable pub type_depth : Types → Block → ℕ
-type_depth y b = if is_data_type b.kind then capped_depth (deepest_nesting y of_structure [] b.components) else 0
+type_depth y b =
+    if is_data_type b.kind then capped_depth (deepest_nesting y of_structure [] b.components) else 0
 
 -- the size in bits of a user-defined data type; that of another block is 0
 unfoldable pub type_bits : Types → Block → ℕ
@@ -42,7 +44,7 @@ type_bits y b =
     if is_data_type b.kind then structure_bits
     (cells_of y of_structure part.Static [] b.components) else 0
 
--- the rounds that settle sound types
+-- how many rounds settle the depths and sizes of all sound data types
 abbrev pub measuring_rounds : ℕ
 measuring_rounds = 9
 
@@ -75,4 +77,5 @@ with_all_bits y blocks = with_bits y (bits_after measuring_rounds y blocks)
 
 -- what is known of the types of a source, depths and sizes in bits measured
 unfoldable pub types_of_source : List Symbol → List Block → Types
-types_of_source symbols blocks = with_all_bits (with_all_depths (unmeasured_types symbols blocks) blocks) blocks
+types_of_source symbols blocks =
+    with_all_bits (with_all_depths (unmeasured_types symbols blocks) blocks) blocks

@@ -1,4 +1,5 @@
--- The components of a structure, each with its place among the cells and its offset in the structure.
+-- The components of a structure, each with its place among the cells and its offset in the
+-- structure.
 use Rattle.std.specs.Prelude.{ℕ, ◌+◌, ◌&&◌, ◌++◌, nat_eq, nat_lt, List, [], ◌∷◌, Option, Some, None, if◌then◌else◌}
 use Rattle.std.specs.Str.{bytes_eq}
 use Rattle.block_layout.specs.declared.cells.Cell.{Cell}
@@ -19,7 +20,8 @@ component_of_name level at place name (c ∷ cs) =
 -- of a cell at another level none
 abbrev pub member_here : (level at place : ℕ) → Cell → List Member
 member_here level at place c =
-    if nat_eq c.level level then record { place = place; offset = next_multiple at (alignment c) } ∷ [] else []
+    if nat_eq c.level level
+    then record { place = place; offset = next_multiple at (alignment c) } ∷ [] else []
 
 -- the name of a cell at this level; of one at another level none
 abbrev pub name_here : (level : ℕ) → Cell → List (List ℕ)

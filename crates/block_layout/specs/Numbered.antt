@@ -13,13 +13,14 @@ block_has_number n (Some m) = nat_eq n m
 -- the first place of a number, counted from 0
 abbrev pub numbered_place : ℕ → List (Option ℕ) → Option ℕ
 numbered_place n [] = None
-numbered_place n (m ∷ ms) = if block_has_number n m then Some 0 else option_map (λ k. suc k) (numbered_place n ms)
+numbered_place n (m ∷ ms) =
+    if block_has_number n m then Some 0 else option_map (λ k. suc k) (numbered_place n ms)
 
 -- the number of a block, if it is of this kind
 abbrev pub number_of_kind : BlockKind → Option BlockId → Option ℕ
 number_of_kind kind None = None
 number_of_kind kind (Some id) = if is_same_kind kind id.kind then Some id.number else None
 
--- of each block its number, or none where it isn't of this kind
+-- the number of each block; none where the block isn't of this kind
 abbrev pub numbers_of_kind : BlockKind → List (Option BlockId) → List (Option ℕ)
 numbers_of_kind kind ids = map (number_of_kind kind) ids

@@ -17,7 +17,7 @@ use Rattle.block_layout.specs.declared.blocks.Section.TheVariants as section
 use Rattle.block_layout.specs.declared.walks.PathEnd.{PathEnd}
 use Rattle.block_layout.specs.declared.walks.PathEnd.TheVariants as walk
 use Rattle.block_layout.specs.Blocks.{known_block}
-use Rattle.block_layout.specs.Paths.{path_end_in_data_block, path_end_in_block, leaves_from, leaves_judged, structure_of, elementary_at, if_whole}
+use Rattle.block_layout.specs.Paths.{path_end_in_data_block, path_end_in_block, leaves_from, leaves_structure, structure_of, elementary_at, if_whole}
 
 -- the width of an elementary data type
 abbrev pub width_of : Simple → Width
@@ -36,15 +36,18 @@ abbrev pub place_at : Area → (number bits : ℕ) → Place
 place_at a number bits = record { area = a; number = number; byte = bits / 8; bit = bits % 8 }
 
 -- place and width of an elementary component so many bits from the start; none past byte 65,535
-abbrev pub elementary_place : Area → (number : ℕ) → (bits : ℕ) → Option Simple → Option (Place × Width)
+abbrev pub elementary_place : Area → (number : ℕ) → (bits : ℕ) → Option Simple
+    → Option (Place × Width)
 elementary_place a number bits None = None
 elementary_place a number bits (Some kind) =
     if nat_le (bits / 8) 65535 then Some (place_at a number bits, width_of kind) else None
 
 -- place and width of the elementary component that a path leads to; none where it leads to no
 -- component, or to one of another type
-abbrev pub place_at_path_end : List BlockLayout → Area → (number : ℕ) → PathEnd → Option (Place × Width)
-place_at_path_end l a number (walk.Reaches spot) = elementary_place a number spot.offset (elementary_at l spot)
+abbrev pub place_at_path_end : List BlockLayout → Area → (number : ℕ) → PathEnd
+    → Option (Place × Width)
+place_at_path_end l a number (walk.Reaches spot) =
+    elementary_place a number spot.offset (elementary_at l spot)
 place_at_path_end l a number _ = None
 
 -- place and width of an elementary component of a data block, in that block; none where an index is
@@ -52,13 +55,13 @@ place_at_path_end l a number _ = None
 abbrev pub component_place : List BlockLayout → (number block : ℕ) → List PathStep
     → Option (Place × Width)
 component_place l number block path =
-    if leaves_judged l (structure_of l block) path then None
+    if leaves_structure l (structure_of l block) path then None
     else place_at_path_end l area.Db number (path_end_in_data_block l block path)
 
 -- place and width of an elementary variable of a code block, in an area; none where an index is
 -- outside its array
-abbrev pub variable_place : List BlockLayout → Area → (block : ℕ) → (temporary : Bool) → List PathStep
-    → Option (Place × Width)
+abbrev pub variable_place : List BlockLayout → Area → (block : ℕ) → (temporary : Bool)
+    → List PathStep → Option (Place × Width)
 variable_place l a block temporary path =
     if leaves_from l block temporary path then None
     else place_at_path_end l a 0 (path_end_in_block l block temporary path)

@@ -7,7 +7,9 @@ use Rattle.stl_ast.specs.declared.statements.Statement.{Statement}
 
 -- an operand, or the value of an actual parameter, with its line
 pub record OperandAtLine : Type 0 where
+  -- the line of the statement or of the actual parameter
   pub line : ℕ
+  -- the operand, or the value of the actual parameter
   pub operand : Operand
 
 -- of a statement its operand, and the values of its actual parameters, each in its own line

@@ -42,7 +42,8 @@ cells_at l block temporary = cells_in temporary (slice_get l block)
 
 -- where a path to a cell leads, which stands at this place and offset; one that breaks a rule
 -- itself isn't gone through
-abbrev pub path_end_at_cell : (block : ℕ) → (temporary : Bool) → (place offset : ℕ) → Option Cell → PathEnd
+abbrev pub path_end_at_cell : (block : ℕ) → (temporary : Bool) → (place offset : ℕ) → Option Cell
+    → PathEnd
 path_end_at_cell block temporary place offset None = walk.Unknown
 path_end_at_cell block temporary place offset (Some c) =
     if c.sound
@@ -64,8 +65,8 @@ path_end_at_member cells block temporary first offset (Some m) =
     (slice_get cells (first + m.place))
 
 -- where a name in the outermost declarations of a block leads
-unfoldable pub outermost_path_end : List BlockLayout → (block : ℕ) → (temporary : Bool) → (offset : ℕ)
-    → List ℕ → PathEnd
+unfoldable pub outermost_path_end : List BlockLayout → (block : ℕ) → (temporary : Bool)
+    → (offset : ℕ) → List ℕ → PathEnd
 outermost_path_end l block temporary offset name =
     path_end_at_member (cells_at l block temporary) block temporary 0 offset
     (component_of_name 0 0 0 name (cells_at l block temporary))
@@ -93,13 +94,14 @@ unfoldable pub path_end_by_name : List BlockLayout → ComponentAt → List ℕ 
 path_end_by_name l spot name =
     named_behind l spot name (slice_get (cells_at l spot.block spot.temporary) spot.place)
 
--- an index outside these bounds
+-- an index is outside these bounds
 abbrev pub is_beyond : Bounds → ℤ → Bool
 is_beyond b at = int_lt at b.low || int_lt b.high at
 
 -- where an index behind a component with these bounds left leads. One outside them leads on as the
 -- first element does, so that a declaration further on that breaks a rule is seen
-abbrev pub path_end_in_bounds : ComponentAt → Cell → (behind : List Cell) → ℤ → Option Bounds → PathEnd
+abbrev pub path_end_in_bounds : ComponentAt → Cell → (behind : List Cell) → ℤ → Option Bounds
+    → PathEnd
 path_end_in_bounds spot c behind at None = walk.Unknown
 path_end_in_bounds spot c behind at (Some b) =
     if is_beyond b at then walk.Reaches (record spot { depth = spot.depth + 1 })
@@ -138,12 +140,15 @@ path_end_and_then walk.Rests next = walk.Rests
 -- where the steps behind a component lead
 abbrev pub path_end_behind : List BlockLayout → ComponentAt → List PathStep → PathEnd
 path_end_behind l spot [] = walk.Reaches spot
-path_end_behind l spot (s ∷ ss) = path_end_and_then (path_end_by_step l spot s) (λ next. path_end_behind l next ss)
+path_end_behind l spot (s ∷ ss) =
+    path_end_and_then (path_end_by_step l spot s) (λ next. path_end_behind l next ss)
 
 -- where a whole path in the outermost declarations of a block leads, which begins with a name
-abbrev pub path_end_in_block : List BlockLayout → (block : ℕ) → (temporary : Bool) → List PathStep → PathEnd
+abbrev pub path_end_in_block : List BlockLayout → (block : ℕ) → (temporary : Bool) → List PathStep
+    → PathEnd
 path_end_in_block l block temporary (step.Named name ∷ ss) =
-    path_end_and_then (outermost_path_end l block temporary 0 name) (λ spot. path_end_behind l spot ss)
+    path_end_and_then (outermost_path_end l block temporary 0 name)
+    (λ spot. path_end_behind l spot ss)
 path_end_in_block l block temporary _ = walk.Unknown
 
 -- an index is outside the bounds that are left; where none are left it isn't
@@ -172,19 +177,21 @@ holds_where_reached _ next = false
 abbrev pub leaves_array : List BlockLayout → ComponentAt → List PathStep → Bool
 leaves_array l spot [] = false
 leaves_array l spot (s ∷ ss) =
-    step_is_beyond l spot s || holds_where_reached (path_end_by_step l spot s) (λ next. leaves_array l next ss)
+    step_is_beyond l spot s
+    || holds_where_reached (path_end_by_step l spot s) (λ next. leaves_array l next ss)
 
 -- whether a whole path in the outermost declarations of a block, which begins with a name, has an
 -- index outside its array
 abbrev pub leaves_from : List BlockLayout → (block : ℕ) → (temporary : Bool) → List PathStep → Bool
 leaves_from l block temporary (step.Named name ∷ ss) =
-    holds_where_reached (outermost_path_end l block temporary 0 name) (λ spot. leaves_array l spot ss)
+    holds_where_reached (outermost_path_end l block temporary 0 name)
+    (λ spot. leaves_array l spot ss)
 leaves_from l block temporary _ = false
 
--- a path that goes through what breaks a rule itself isn't checked
-abbrev pub is_judged : PathEnd → Bool
-is_judged walk.Rests = false
-is_judged _ = true
+-- a path can be checked by where it leads: it does not go through what breaks a rule itself
+abbrev pub is_checkable : PathEnd → Bool
+is_checkable walk.Rests = false
+is_checkable _ = true
 
 -- a block that isn't broken
 abbrev pub whole_block : Option BlockLayout → Option BlockLayout
@@ -224,11 +231,12 @@ setting_structure l block =
 unfoldable pub path_end_of_setting : List BlockLayout → (block : ℕ) → List PathStep → PathEnd
 path_end_of_setting l block path = path_end_or_rests l (setting_structure l block) path
 
--- whether a path leaves an array, where it is checked
-abbrev pub leaves_judged : List BlockLayout → Option ℕ → List PathStep → Bool
-leaves_judged l None path = false
-leaves_judged l (Some block) path =
-    is_judged (path_end_in_block l block false path) && leaves_from l block false path
+-- whether a path leaves an array of the structure that this block declares, unless it rests on what
+-- breaks a rule itself
+abbrev pub leaves_structure : List BlockLayout → Option ℕ → List PathStep → Bool
+leaves_structure l None path = false
+leaves_structure l (Some block) path =
+    is_checkable (path_end_in_block l block false path) && leaves_from l block false path
 
 -- where a path into a data block leads; it rests where that block, or the one that declares its
 -- components, is broken
@@ -247,7 +255,8 @@ in_sections l block name =
 unfoldable pub walked_local : List BlockLayout → (block : ℕ) → List ℕ → List PathStep → PathEnd
 walked_local l block name path =
     if is_some (whole_at l block)
-    then path_end_and_then (in_sections l block name) (λ spot. path_end_behind l spot path) else walk.Rests
+    then path_end_and_then (in_sections l block name) (λ spot. path_end_behind l spot path)
+    else walk.Rests
 
 -- whether a path in the body of a block leaves an array, in the sections in which its name is
 abbrev pub leaves_sections : List BlockLayout → (block : ℕ) → List ℕ → List PathStep → Bool
@@ -258,7 +267,7 @@ leaves_sections l block name path =
 -- itself
 abbrev pub leaves_local : List BlockLayout → (block : ℕ) → List ℕ → List PathStep → Bool
 leaves_local l block name path =
-    is_judged (walked_local l block name path) && leaves_sections l block name path
+    is_checkable (walked_local l block name path) && leaves_sections l block name path
 
 -- the elementary type of a component that a path reaches
 abbrev pub plain_kind : Element → Option Simple

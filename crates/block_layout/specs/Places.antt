@@ -1,5 +1,5 @@
--- Where components lie, as a relation: the offset of each is the least place at or past the end of its preceding sibling
--- that meets its alignment.
+-- Where components lie, as a relation: the offset of each is the least place at or past the end of
+-- its preceding sibling that meets its alignment.
 use Rattle.std.specs.Prelude.{◌≡◌, ℕ, ◌+◌, ◌%◌, ◌≤◌, nat_lt, nat_eq, Bool, true, false, ◌&&◌, List, [], ◌∷◌, ◌++◌, map, Option, Some, None, if◌then◌else◌, ◌⊎◌}
 use Rattle.std.specs.List.{filter, slice_get}
 use Rattle.block_layout.specs.declared.cells.Cell.{Cell}
@@ -9,16 +9,22 @@ use Rattle.block_layout.specs.Sizes.{alignment, cell_bits}
 
 -- the least place at or past `end` that meets the alignment
 pub record IsLeastPlace (end align place : ℕ) : Type 0 where
+  -- the place is at or past `end`
   pub behind : end ≤ place
+  -- the place is a multiple of the alignment
   pub meets : place % align ≡ 0
+  -- each other such place is no less
   pub least : (other : ℕ) → end ≤ other → other % align ≡ 0 → place ≤ other
 
 -- a component with its alignment and its size in bits
 pub record Sibling : Type 0 where
+  -- the alignment in bits
   pub align : ℕ
+  -- the size in bits
   pub bits : ℕ
 
--- the sound components at a level, in their order: they stand before the first cell at a lower level
+-- the sound components at a level, in their order: they stand before the first cell at a lower
+-- level
 abbrev pub siblings : ℕ → List Cell → List Sibling
 siblings level [] = []
 siblings level (c ∷ cs) =
@@ -27,7 +33,8 @@ siblings level (c ∷ cs) =
     then record { align = alignment c; bits = cell_bits c cs } ∷ [] else [])
     ++ siblings level cs
 
--- these places are the offsets of these components, the first of which begins at or past `end`
+-- the places are the offsets of the components, one for each, of which the first begins at or past
+-- `end`
 abbrev pub AreOffsets : (end : ℕ) → List Sibling → List ℕ → Type 0
 AreOffsets end [] [] = Unit {0}
 AreOffsets end (s ∷ ss) (place ∷ places) = IsLeastPlace end s.align place
@@ -58,5 +65,5 @@ IsOneOf m (n ∷ ns) = (m ≡ n) ⊎ IsOneOf m ns
 abbrev pub FindsSound : Type 0
 FindsSound =
     (level : ℕ) (name : List ℕ) (cells : List Cell) (m : Member)
-    → component_of_name level 0 0 name cells ≡ Some m → is_sound_cell (slice_get cells m.place) ≡ true
-    → IsOneOf m (sound_members level cells)
+    → component_of_name level 0 0 name cells ≡ Some m
+    → is_sound_cell (slice_get cells m.place) ≡ true → IsOneOf m (sound_members level cells)

@@ -10,16 +10,24 @@ bit_in bytes byte bit = bit_at (get_or bytes byte 0) bit
 
 -- a write of a single bit, or of whole bytes, that writes what these bytes have there
 pub data IsTrueOf (bytes : List ℕ) (w : Write) : Type 0 where
-  OfBit : (w.width ≡ 1) → (w.offset / 8 < length bytes) → (w.value % 2 ≡ bit_in bytes (w.offset / 8) (w.offset % 8)) → IsTrueOf bytes w
+  -- a write of one bit, whose byte is there and has that bit
+  OfBit : (w.width ≡ 1) → (w.offset / 8 < length bytes)
+      → (w.value % 2 ≡ bit_in bytes (w.offset / 8) (w.offset % 8)) → IsTrueOf bytes w
+  -- a write of whole bytes, the high one first, which are all there and equal
   OfBytes : (nat_eq w.width 1 ≡ false) → (w.offset / 8 + w.width / 8 ≤ length bytes)
-      → ((k : ℕ) → k < w.width / 8 → get_or (big_endian_bytes (w.width / 8) w.value) k 0 ≡ get_or bytes (w.offset / 8 + k) 0) → IsTrueOf bytes w
+      → ((k : ℕ) → k < w.width / 8
+      → get_or (big_endian_bytes (w.width / 8) w.value) k 0 ≡ get_or bytes (w.offset / 8 + k) 0)
+      → IsTrueOf bytes w
 
 -- a write reaches a bit
 pub data Reaches (w : Write) (byte bit : ℕ) : Type 0 where
+  -- the single bit that is written
   InBit : (w.width ≡ 1) → (byte ≡ w.offset / 8) → (bit ≡ w.offset % 8) → Reaches w byte bit
-  InBytes : (nat_eq w.width 1 ≡ false) → (w.offset / 8 ≤ byte) → (byte < w.offset / 8 + w.width / 8) → Reaches w byte bit
+  -- a bit of one of the whole bytes that are written
+  InBytes : (nat_eq w.width 1 ≡ false) → (w.offset / 8 ≤ byte) → (byte < w.offset / 8 + w.width / 8)
+      → Reaches w byte bit
 
--- one of some writes reaches a bit
+-- one of these writes reaches a bit
 abbrev pub OneReaches : List Write → (byte bit : ℕ) → Type 0
 OneReaches [] byte bit = ⊥
 OneReaches (w ∷ ws) byte bit = Reaches w byte bit ⊎ OneReaches ws byte bit
@@ -27,6 +35,7 @@ OneReaches (w ∷ ws) byte bit = Reaches w byte bit ⊎ OneReaches ws byte bit
 -- bytes are there again where each write writes what they have, and each bit that is set is reached
 abbrev pub AreRebuilt : Type 0
 AreRebuilt =
-    (bytes : List ℕ) (ws : List Write) → ((k : ℕ) → get_or bytes k 0 < 256) → AllByRecursion (IsTrueOf bytes) ws
+    (bytes : List ℕ) (ws : List Write) → ((k : ℕ) → get_or bytes k 0 < 256)
+    → AllByRecursion (IsTrueOf bytes) ws
     → ((byte bit : ℕ) → bit < 8 → bit_in bytes byte bit ≡ 1 → OneReaches ws byte bit)
     → fold bytes_with_write (replicate (length bytes) 0) ws ≡ bytes

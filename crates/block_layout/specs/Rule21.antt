@@ -1,5 +1,5 @@
--- Rule 21: a name declared twice in one list. The sections of a block are one list, each structure is one; the line is
--- that of the later declaration.
+-- Rule 21: a name declared twice in one list. The sections of a block are one list, each structure
+-- is one; the line is that of the later declaration.
 use Rattle.std.specs.Prelude.{ℕ, nat_lt, nat_eq, Bool, is_some, List, [], ◌∷◌, ◌++◌, if◌then◌else◌}
 use Rattle.plc_base.specs.declared.refusals.Refusal.{Refusal}
 use Rattle.stl_ast.specs.declared.blocks.Block.{Block}
@@ -13,16 +13,18 @@ use Rattle.block_layout.specs.Around.{Outside, refusals_in_blocks}
 abbrev pub declaration_name_here : ℕ → Declaration → List (List ℕ)
 declaration_name_here level d = if nat_eq d.level level then upper_case_name d.name ∷ [] else []
 
--- the names of the list that a declaration at this level goes on: of those before it the ones at this level, back to the
--- structure that holds it
+-- the names of the list that a declaration at this level goes on: of those before it the ones at
+-- this level, back to the structure that holds it
 abbrev pub names_before : (outer : List (List ℕ)) → ℕ → List Declaration → List (List ℕ)
 names_before outer level [] = outer
 names_before outer level (d ∷ ds) =
-    if nat_lt d.level level then [] else names_before outer level ds ++ declaration_name_here level d
+    if nat_lt d.level level then []
+    else names_before outer level ds ++ declaration_name_here level d
 
 -- the name of a declaration stands before it in its list
 abbrev pub is_twice : Outside → List Declaration → Declaration → Bool
-is_twice o before d = is_some (name_place (upper_case_name d.name) (names_before o.names d.level before))
+is_twice o before d =
+    is_some (name_place (upper_case_name d.name) (names_before o.names d.level before))
 
 -- the refusal of a declaration, at its line
 abbrev pub broken_21 : Outside → List Declaration → Declaration → List Refusal

@@ -1,4 +1,5 @@
--- Rule 22: a block twice: one with its kind and number stands before it. The line is that of its head.
+-- Rule 22: a block twice: one with its kind and number stands before it. The line is that of its
+-- head.
 use Rattle.std.specs.Prelude.{ℕ, nat_lt, length, Bool, false, List, Option, Some, None}
 use Rattle.std.specs.Option.{option_and_then}
 use Rattle.plc_base.specs.declared.refusals.Refusal.{Refusal}
@@ -7,7 +8,7 @@ use Rattle.block_layout.specs.Blocks.{id_of, place_of_block}
 use Rattle.block_layout.specs.Heads.{on_heads}
 use Rattle.block_layout.specs.Types.{Types}
 
--- a place that is found lies before this one
+-- a first place, where there is one, lies before `place`
 abbrev pub is_earlier : Option ℕ → ℕ → Bool
 is_earlier None place = false
 is_earlier (Some first) place = nat_lt first place

@@ -1,5 +1,5 @@
--- Rule 23: an unknown block or user-defined data type, but for system functions. A quoted name is unknown too where its
--- symbol stands for no block, or for one of another kind.
+-- Rule 23: an unknown block or user-defined data type, but for system functions. A quoted name is
+-- unknown too where its symbol stands for no block, or for one of another kind.
 use Rattle.std.specs.Prelude.{Bool, true, false, ◌||◌, List, ◌++◌, Option, Some, None, if◌then◌else◌}
 use Rattle.std.specs.List.{flat_map}
 use Rattle.std.specs.Option.{is_none}
@@ -58,7 +58,7 @@ is_unknown_id y (Some id) =
 abbrev pub is_unknown_called : Types → BlockName → Bool
 is_unknown_called y name = is_unknown_id y (named_block y.symbols name)
 
--- the data block before a component is unknown; without one before it nothing is
+-- the data block at the front of a path is unknown; a path without one has nothing unknown
 abbrev pub is_unknown_path : Types → PathHead → Bool
 is_unknown_path y (head.InBlock name) = is_unknown_data y name
 is_unknown_path y _ = false

@@ -1,5 +1,6 @@
--- Rule 41: an initial value that doesn't fit, of a declaration or set in a data block. A structure, an array or a data type
--- that is set fits no value. The line is that of the declaration or of the setting.
+-- Rule 41: an initial value that doesn't fit, of a declaration or set in a data block. A structure,
+-- an array or a data type that is set fits no value. The line is that of the declaration or of the
+-- setting.
 use Rattle.std.specs.Prelude.{ℕ, Bool, false, not, List, ◌++◌, Option, Some, None}
 use Rattle.plc_base.specs.declared.refusals.Refusal.{Refusal}
 use Rattle.stl_ast.specs.declared.blocks.Block.{Block}
@@ -33,8 +34,10 @@ misfits_component l value _ = false
 
 -- the value of a setting doesn't fit the component that its path leads to
 abbrev pub setting_misfits : List BlockLayout → ℕ → Setting → Bool
-setting_misfits l block s = misfits_component l s.value (path_end_of_setting l block (folded_path s.path))
+setting_misfits l block s =
+    misfits_component l s.value (path_end_of_setting l block (folded_path s.path))
 
 -- rule 41: an initial value that doesn't fit
 unfoldable pub rule_41 : List BlockLayout → List Block → List Refusal
-rule_41 l blocks = refusals_in_blocks broken_41 blocks ++ on_settings (setting_misfits l) 41 0 blocks
+rule_41 l blocks =
+    refusals_in_blocks broken_41 blocks ++ on_settings (setting_misfits l) 41 0 blocks

@@ -1,5 +1,6 @@
--- Rule 42: an array with the upper below the lower bound, or an index outside its array, in a setting or an operand. The
--- line is that of the declaration, of the setting, of the statement, or of the actual parameter.
+-- Rule 42: an array with the upper below the lower bound, or an index outside its array, in a
+-- setting or an operand. The line is that of the declaration, of the setting, of the statement, or
+-- of the actual parameter.
 use Rattle.std.specs.Prelude.{ℕ, Bool, false, List, ◌++◌, Option, Some, None}
 use Rattle.plc_base.specs.Kinds.{is_data_block}
 use Rattle.plc_base.specs.declared.refusals.Refusal.{Refusal}
@@ -18,7 +19,7 @@ use Rattle.block_layout.specs.Blocks.{found_block}
 use Rattle.block_layout.specs.ByPlace.{by_place}
 use Rattle.block_layout.specs.Declarations.{has_upside_down}
 use Rattle.block_layout.specs.Operands.{OperandAtLine, in_body}
-use Rattle.block_layout.specs.Paths.{folded_path, leaves_judged, leaves_local, setting_structure, structure_of}
+use Rattle.block_layout.specs.Paths.{folded_path, leaves_structure, leaves_local, setting_structure, structure_of}
 use Rattle.block_layout.specs.Settings.{on_settings}
 use Rattle.block_layout.specs.Types.{Types}
 use Rattle.block_layout.specs.declared.blocks.BlockLayout.{BlockLayout}
@@ -30,12 +31,12 @@ broken_42 o before d = broken_if (has_upside_down d) d.line 42
 -- the path of a setting has an index outside its array, also in a block that breaks a rule itself
 abbrev pub setting_is_outside : List BlockLayout → ℕ → Setting → Bool
 setting_is_outside l block s =
-    leaves_judged l (setting_structure l block) (folded_path s.path)
+    leaves_structure l (setting_structure l block) (folded_path s.path)
 
 -- a path in a data block has an index outside its array; not where the source has no such block
 abbrev pub leaves_found : List BlockLayout → Option ℕ → List PathStep → Bool
 leaves_found l None steps = false
-leaves_found l (Some block) steps = leaves_judged l (structure_of l block) steps
+leaves_found l (Some block) steps = leaves_structure l (structure_of l block) steps
 
 -- the path of an operand in the body of a block has an index outside its array; a symbol leads to
 -- no component

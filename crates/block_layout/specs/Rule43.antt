@@ -1,5 +1,5 @@
--- Rule 43: a user-defined data type contains itself: it uses itself, or one that leads to it. The line is that of its
--- head; a type that only uses one that contains itself doesn't break it.
+-- Rule 43: a user-defined data type contains itself: it uses itself, or one that leads to it. The
+-- line is that of its head; a type that only uses one that contains itself doesn't break it.
 use Rattle.std.specs.Prelude.{ℕ, zero, suc, nat_eq, Bool, false, ◌&&◌, ◌||◌, List, [], ◌∷◌, length, Option, Some, None}
 use Rattle.std.specs.List.{flat_map, list_any, slice_get}
 use Rattle.plc_base.specs.Kinds.{is_data_type}

@@ -1,5 +1,5 @@
--- Rule 44: a block number beyond the limits, or an organization block that the profile hasn't. It is checked at the head
--- alone, and its line is that of the head.
+-- Rule 44: a block number beyond the limits, or an organization block that the profile hasn't. It
+-- is checked at the head alone, and its line is that of the head.
 use Rattle.std.specs.Prelude.{Bool, false, not, List, Option, Some, None}
 use Rattle.plc_base.specs.declared.blocks.BlockId.{BlockId}
 use Rattle.plc_base.specs.declared.refusals.Refusal.{Refusal}

@@ -15,7 +15,8 @@ return_value_count (Some kind) = 1
 
 -- the parameters that a section declares: those of VAR_INPUT, VAR_OUTPUT and VAR_IN_OUT
 abbrev pub parameters_in_section : Part → ℕ
-parameters_in_section p = if is_parameter p.kind then count_by (λ d. nat_eq d.level 0) p.items else 0
+parameters_in_section p =
+    if is_parameter p.kind then count_by (λ d. nat_eq d.level 0) p.items else 0
 
 -- the parameters of a block, the return value counted
 abbrev pub parameter_count : Block → ℕ

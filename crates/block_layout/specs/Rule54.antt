@@ -1,5 +1,5 @@
--- Rule 54: data blocks above 2,097,152 bytes together. The line is that of the head of the data block with which they are
--- more, and of each later one.
+-- Rule 54: data blocks above 2,097,152 bytes together. The line is that of the head of the data
+-- block with which they are more, and of each later one.
 use Rattle.std.specs.Prelude.{ℕ, ◌+◌, Bool, nat_lt, ◌&&◌, List, sum_by, if◌then◌else◌}
 use Rattle.plc_base.specs.Kinds.{is_data_block}
 use Rattle.plc_base.specs.declared.refusals.Refusal.{Refusal}
@@ -20,7 +20,8 @@ total_data_length y blocks some = sum_by (data_length y blocks) some
 -- blocks before it
 abbrev pub exceeds_total : Types → List Block → List Block → Block → Bool
 exceeds_total y blocks before b =
-    is_data_block b.kind && nat_lt 2097152 (total_data_length y blocks before + data_length y blocks b)
+    is_data_block b.kind
+    && nat_lt 2097152 (total_data_length y blocks before + data_length y blocks b)
 
 -- rule 54: data blocks above 2,097,152 bytes together
 unfoldable pub rule_54 : Types → List Block → List Refusal

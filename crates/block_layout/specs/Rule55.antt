@@ -1,4 +1,5 @@
--- Rule 55: more than 65,534 statements, empty ones and the one that returns not counted. The line is that of the head.
+-- Rule 55: more than 65,534 statements, empty ones and the one that returns not counted. The line
+-- is that of the head.
 use Rattle.std.specs.Prelude.{Bool, nat_lt, not, List}
 use Rattle.std.specs.List.{count_by}
 use Rattle.plc_base.specs.declared.refusals.Refusal.{Refusal}

@@ -1,5 +1,6 @@
--- Rule 56: types nested deeper than 8. Each open STRUCT and ARRAY counts, that of a data block or of a TYPE block too,
--- and a user-defined data type as deep as its structure; the line is that of the declaration that opens the ninth.
+-- Rule 56: types nested deeper than 8. Each open STRUCT and ARRAY counts, that of a data block or
+-- of a TYPE block too, and a user-defined data type as deep as its structure; the line is that of
+-- the declaration that opens the ninth.
 use Rattle.std.specs.Prelude.{ℕ, ◌+◌, nat_le, nat_lt, Bool, ◌&&◌, List, [], ◌∷◌, length, get_or, Option, Some, None}
 use Rattle.plc_base.specs.declared.refusals.Refusal.{Refusal}
 use Rattle.stl_ast.specs.declared.blocks.Block.{Block}

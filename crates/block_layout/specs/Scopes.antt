@@ -10,10 +10,12 @@ use Rattle.block_layout.specs.Sizes.{elements_of, structure_bits}
 
 -- the components at a level, of which these cells are the first
 pub record HasComponents (level : ℕ) (cells : List Cell) (s : NameList) : Type 0 where
+  -- the names of the components
   pub names : s.names ≡ component_names level cells
+  -- of each component its place among the cells, and its offset in bits
   pub members : s.members.items ≡ members_of level 0 0 cells
 
--- the components of the cell c, of which those behind it are
+-- the names and places of the components of the cell `c`, which are among the cells behind it
 abbrev pub IsScope : Cell → List Cell → NameList → Type 0
 IsScope c behind s = HasComponents (c.level + 1) behind s
 
@@ -29,22 +31,35 @@ AreOthers cells = AllByRecursion (λ c. is_parameter c.section ≡ false) cells
 
 -- the cells up to this place have all parameters among them
 pub record EndParameters (cells : List Cell) (parameters : ℕ) : Type 0 where
+  -- the place isn't past the last cell
   pub within : parameters ≤ length cells
+  -- no cell from the place on is a parameter
   pub others : AreOthers (drop parameters cells)
 
 -- the first cells, which have all parameters among them
 pub record HaveParameters (cells first : List Cell) : Type 0 where
+  -- the cells behind the first ones
   pub rest : List Cell
+  -- the cells are the first ones, then the rest
   pub whole : cells ≡ first ++ rest
+  -- no cell of the rest is a parameter
   pub others : AreOthers rest
 
 -- sizes and components of cells, and how many of them have all parameters
-pub record AreCellTables (cells : List Cell) (elements : List ℕ) (outer : NameList) (scopes : List NameList)
+pub record AreCellTables (cells : List Cell) (elements : List ℕ) (outer : NameList)
+    (scopes : List NameList)
     (bits parameters : ℕ) : Type 0 where
+  -- the size of an element of each cell in bits
   pub sized : elements ≡ elements_of cells
+  -- the components at level 0
   pub outermost : HasComponents 0 cells outer
+  -- there is one list of components for each cell
   pub counted : length scopes ≡ length cells
+  -- the components of each sound cell
   pub inner : AreScopes cells scopes
+  -- the size of a structure of all cells in bits
   pub whole : bits ≡ structure_bits cells
+  -- the size of the structure is no more than the cap of sizes
   pub near : bits ≤ largest_size
+  -- the first `parameters` cells have all parameters among them
   pub ended : EndParameters cells parameters

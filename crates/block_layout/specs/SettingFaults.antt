@@ -1,4 +1,5 @@
--- What a setting can break by itself, with the rule: its value doesn't fit, or an index is outside its array.
+-- What a setting can break by itself, with the rule: its value doesn't fit, or an index is outside
+-- its array.
 use Rattle.std.specs.Prelude.{ℕ, Bool, List}
 use Rattle.stl_ast.specs.declared.blocks.Setting.{Setting}
 use Rattle.block_layout.specs.Rule41.{setting_misfits}

@@ -44,11 +44,12 @@ abbrev pub alignment : Cell → ℕ
 alignment c =
     if c.opens then 16 else if nat_eq (length c.bounds) 0 then element_alignment c.of else 16
 
--- arrays, the outermost first, of elements of so many bits: the elements stand without gap, and each array ends at an
--- even byte
+-- arrays, the outermost first, of elements of so many bits: the elements stand without gap, and
+-- each array ends at an even byte
 abbrev pub array_bits : List Bounds → ℕ → ℕ
 array_bits [] element = element
-array_bits (b ∷ bs) element = capped_size (next_multiple (capped_size (element_count b * array_bits bs element)) 16)
+array_bits (b ∷ bs) element =
+    capped_size (next_multiple (capped_size (element_count b * array_bits bs element)) 16)
 
 -- the bits of an element; of a structure, those up to the end of its components
 abbrev pub element_bits : Element → (components : ℕ) → ℕ
@@ -58,29 +59,32 @@ element_bits DateAndTime components = 64
 element_bits (Udt block bits) components = capped_size bits
 element_bits Unknown components = 0
 
--- the end of a component that begins at the least place at or past `at` that meets its alignment; an unsound one takes
--- no place
+-- the end of a component that begins at the least place at or past `at` that meets its alignment;
+-- an unsound one takes no place
 abbrev pub component_end : (at : ℕ) → Cell → (bits : ℕ) → ℕ
-component_end at c bits = if c.sound then capped_size (next_multiple at (alignment c) + bits) else at
+component_end at c bits =
+    if c.sound then capped_size (next_multiple at (alignment c) + bits) else at
 
 -- where the components at this level end behind a cell, if they end at `at` before it; a cell at a
 -- higher level is a component of a component and moves nothing
 abbrev pub end_behind_cell : (level at : ℕ) → Cell → (bits : ℕ) → ℕ
 end_behind_cell level at c bits = if nat_eq c.level level then component_end at c bits else at
 
--- where the components at this level end, of which the first may begin at `at`: they stand before the first cell at a
--- lower level
+-- where the components at this level end, of which the first may begin at `at`: they stand before
+-- the first cell at a lower level
 unfoldable pub components_end : (level at : ℕ) → List Cell → ℕ
 components_end level at [] = at
 components_end level at (c ∷ cs) =
     if nat_lt c.level level then at
     else components_end level (end_behind_cell level at c (array_bits c.bounds (element_bits c.of
-    (if c.sound then capped_size (next_multiple (components_end (c.level + 1) 0 cs) 16) else 0)))) cs
+    (if c.sound then capped_size (next_multiple (components_end (c.level + 1) 0 cs) 16) else 0))))
+    cs
 
 -- the bits of an element of a cell, with the cells behind it
 unfoldable pub element_of : Cell → List Cell → ℕ
 element_of c cs =
-    element_bits c.of (if c.sound then capped_size (next_multiple (components_end (c.level + 1) 0 cs) 16) else 0)
+    element_bits c.of
+    (if c.sound then capped_size (next_multiple (components_end (c.level + 1) 0 cs) 16) else 0)
 
 -- the bits that a cell takes, with the cells behind it
 abbrev pub cell_bits : Cell → List Cell → ℕ

@@ -43,4 +43,5 @@ refusals_of_blocks y l blocks =
 
 -- all refusals of a source by these rules, with its symbols
 unfoldable pub layout_refusals : Tree → List Symbol → List Refusal
-layout_refusals t symbols = refusals_of_blocks (types_of_source symbols t.blocks) (layouts_of t symbols) t.blocks
+layout_refusals t symbols =
+    refusals_of_blocks (types_of_source symbols t.blocks) (layouts_of t symbols) t.blocks

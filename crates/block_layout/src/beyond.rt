@@ -9,10 +9,10 @@ ghost use Rattle.block_layout.specs.Paths.{
   holds_where_reached,
   is_beyond,
   is_beyond_in,
-  is_judged,
+  is_checkable,
   leaves_array,
   leaves_from,
-  leaves_judged,
+  leaves_structure,
   leaves_local,
   leaves_sections,
   step_is_beyond,
@@ -113,24 +113,27 @@ pub(crate) fn leaves_from(
     }
 }
 
-fn is_judged(walk: PathEnd) -> bool
-    ensures { result ≡ is_judged walk }
+/// Whether a path can be checked by where it leads: it does not go through what breaks a rule
+/// itself.
+fn is_checkable(walk: PathEnd) -> bool
+    ensures { result ≡ is_checkable walk }
 {
     !matches!(walk, PathEnd::Rests)
 }
 
-/// Whether a path leaves an array of the structure of a data block, where it is checked.
-pub(crate) fn leaves_judged(
+/// Whether a path leaves an array of the structure that this block declares, unless it rests on
+/// what breaks a rule itself.
+pub(crate) fn leaves_structure(
     layouts: &[BlockLayout],
     structure: Option<usize>,
     path: &[PathStep],
 ) -> bool
-    ensures { result ≡ leaves_judged layouts.now structure path.now }
+    ensures { result ≡ leaves_structure layouts.now structure path.now }
 {
     match structure {
         None => false,
         Some(block) => {
-            is_judged(walk_from(layouts, block, false, path))
+            is_checkable(walk_from(layouts, block, false, path))
                 && leaves_from(layouts, block, false, path)
         }
     }
@@ -152,5 +155,6 @@ pub(crate) fn leaves_local(
 ) -> bool
     ensures { result ≡ leaves_local layouts.now block name.now path.now }
 {
-    is_judged(walk_local(layouts, block, name, path)) && leaves_sections(layouts, block, name, path)
+    is_checkable(walk_local(layouts, block, name, path))
+        && leaves_sections(layouts, block, name, path)
 }

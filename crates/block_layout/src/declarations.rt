@@ -16,7 +16,7 @@ ghost use Rattle.block_layout.specs.Declarations.{
 };
 ghost use Rattle.block_layout.specs.Measures.{capped_depth};
 ghost use Rattle.block_layout.specs.Rule56.{element_depth, own_depth, udt_depth};
-ghost use Rattle.block_layout.specs.Verdicts.{breaks_alone};
+ghost use Rattle.block_layout.specs.DeclarationFacts.{breaks_alone};
 
 use crate::constants::fits;
 use crate::sizes::count;
@@ -146,7 +146,7 @@ fn element_depth(types: &Types, of: &ElementType) -> u64
     }
 }
 
-/// At most 9.
+/// A depth of nesting, capped at 9: what is deeper breaks rule 56 alike.
 pub(crate) fn deep(n: u64) -> u64
     ensures { result ≡ capped_depth n }
 {

@@ -9,12 +9,12 @@ use std::marker::Model;
 
 /// The numbers of the blocks of one kind, at the places of these blocks. Contracts see the list.
 #[derive(Drop)]
-struct Numbered {
+struct NumberedBlocks {
     list: Vec<Option<u16>>,
     places: BTreeMap<u16, usize>,
 }
 
-impl Model for Numbered {
+impl Model for NumberedBlocks {
     ghost use Rattle.std.specs.Prelude.{◌≡◌, ℕ, List, Option};
     ghost use Rattle.std.specs.BTreeMap.{get};
     ghost use Rattle.std.specs.Ordering.{nat_cmp};
@@ -27,11 +27,11 @@ impl Model for Numbered {
     ghost invariant = { λ n. (q : ℕ) → get nat_cmp n.places q ≡ numbered_place q n.list.items };
 }
 
-impl Numbered {
+impl NumberedBlocks {
     fn new(alloc: Global) -> Self
         ensures { result ≡ [] }
     {
-        Numbered {
+        NumberedBlocks {
             list: Vec::new(alloc),
             places: BTreeMap::new(alloc),
         }
@@ -83,10 +83,10 @@ fn numbers_of(
     alloc: Global,
     kind: BlockKind,
     ids: &[Option<BlockId>],
-) -> Result<Numbered, AllocError>
+) -> Result<NumberedBlocks, AllocError>
     ensures { IfOk result (λ n. n ≡ numbers_of_kind kind ids.now) }
 {
-    let mut numbers = Numbered::new(alloc);
+    let mut numbers = NumberedBlocks::new(alloc);
     for id in ids {
         match number_of(kind, *id) {
             Some(number) => numbers.add(number)?,
@@ -100,12 +100,12 @@ fn numbers_of(
 #[derive(Drop)]
 pub(crate) struct Directory {
     ids: Vec<Option<BlockId>>,
-    organization_blocks: Numbered,
-    functions: Numbered,
-    function_blocks: Numbered,
-    data_blocks: Numbered,
-    data_types: Numbered,
-    system_functions: Numbered,
+    organization_blocks: NumberedBlocks,
+    functions: NumberedBlocks,
+    function_blocks: NumberedBlocks,
+    data_blocks: NumberedBlocks,
+    data_types: NumberedBlocks,
+    system_functions: NumberedBlocks,
 }
 
 impl Model for Directory {
@@ -155,7 +155,7 @@ impl Directory {
         self.ids.as_slice()
     }
 
-    fn numbers(&self, kind: BlockKind) -> &Numbered
+    fn numbers(&self, kind: BlockKind) -> &NumberedBlocks
         ensures { result.now ≡ numbers_of_kind kind self.now }
     {
         match kind {

@@ -7,8 +7,8 @@ use crate::declarations::number_at;
 use plc_base::{Refusal, broken_if, lesser};
 use stl_ast::Block;
 
-/// The least refusal of the heads of blocks that are longer than so many bytes; the lengths stand in
-/// the order of the blocks.
+/// The least refusal of the heads of blocks that are longer than so many bytes; the lengths stand
+/// in the order of the blocks.
 pub(crate) fn least_longer(lens: &[u64], most: u64, rule: u16, blocks: &[Block]) -> Option<Refusal>
     ensures { (f : Block → ℕ) → lens.now ≡ map f blocks.now
         → result ≡ least (on_heads (λ before b. nat_lt most (f b)) rule blocks.now) }

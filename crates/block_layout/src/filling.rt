@@ -62,9 +62,9 @@ fn put_plain(
     Ok(())
 }
 
-/// Writes the initial values of a cell, if it is a sound component at this level, of structures that
-/// begin at these places. `behind` has the cells behind it, and `elements` the bits of an element of
-/// each of those.
+/// Writes the initial values of a cell, if it is a sound component at this level, of structures
+/// that begin at these places. `behind` has the cells behind it, and `elements` the bits of an
+/// element of each of those.
 #[cycle(filling)]
 fn put_cell(
     alloc: Global,
@@ -197,7 +197,8 @@ fn put_structure(
     bytes: &mut [u8],
 ) -> Result<(), AllocError>
     ensures { IfOk result (λ _. bytes.new
-        ≡ fold bytes_with_write bytes.old (structure_writes layouts.now (structure_of layouts.now block))) }
+        ≡ fold bytes_with_write bytes.old
+        (structure_writes layouts.now (structure_of layouts.now block))) }
 {
     match structure_of(layouts, block) {
         None => Ok(()),
@@ -212,8 +213,10 @@ fn put_setting(
     setting: &Setting,
     bytes: &mut [u8],
 ) -> Result<(), AllocError>
-    ensures { IfOk result (λ _. bytes.new ≡ fold bytes_with_write bytes.old (setting_write layouts.now
-        setting.now.value (path_end_in_data_block layouts.now block (folded_path setting.now.path)))) }
+    ensures { IfOk result (λ _. bytes.new
+        ≡ fold bytes_with_write bytes.old (setting_write layouts.now
+        setting.now.value
+        (path_end_in_data_block layouts.now block (folded_path setting.now.path)))) }
 {
     let path = Path::new(alloc, setting.path.as_slice())?;
     match walk_data(layouts, block, path.steps()) {

@@ -11,8 +11,8 @@ ghost use Rattle.block_layout.specs.declared.cells.Cell.{Cell};
 /// The offsets of a structure's sound components are the least places, each at or past the end of
 /// the component before it, that meet their alignments, and no other offsets are. The components
 /// stand at this level, and the first of the cells is the first of them; they end below the number
-/// beyond which no place counts. A sound component that is found by its name, at whatever depth of a
-/// path, is one of these with its offset.
+/// beyond which no place counts. A sound component that is found by its name, at whatever depth of
+/// a path, is one of these with its offset.
 pub fn law_of_offsets()
     ensures are { (level : ℕ) (cells : List Cell) → components_end level 0 cells < largest_size
         → AreOffsets 0 (siblings level cells) (sound_offsets level cells) }
@@ -22,10 +22,10 @@ pub fn law_of_offsets()
     ensures found { FindsSound }
 {}
 
-/// The place that `Layouts::offset` gives is the sum of the least places along its path: at each name
-/// that of the component among its siblings, in structures and data types at whatever depth, and at
-/// each index that of the element, the elements of lower indices before it. No path leads to two
-/// places.
+/// The place that `Layouts::offset` gives is the sum of the least places along its path: at each
+/// name that of the component among its siblings, in structures and data types at whatever depth,
+/// and at each index that of the element, the elements of lower indices before it. No path leads to
+/// two places.
 pub fn law_of_paths()
     ensures sums { OffsetsAreSums }
     ensures alone { LeadsToOne }
@@ -39,8 +39,8 @@ pub fn law_of_listed()
     ensures length { LengthStays }
 {}
 
-/// Bytes are there again where each write writes what they have, and each bit that is set is reached
-/// by one.
+/// Bytes are there again where each write writes what they have, and each bit that is set is
+/// reached by one.
 pub fn law_of_rebuilt()
     ensures { AreRebuilt }
 {}

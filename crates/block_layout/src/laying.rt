@@ -95,8 +95,8 @@ impl Layouts {
         )
     }
 
-    /// The initial bytes of the data block at this place of the list: its initial values, over which
-    /// its settings are written. A block that breaks a rule has zeros.
+    /// The initial bytes of the data block at this place of the list: its initial values, over
+    /// which its settings are written. A block that breaks a rule has zeros.
     pub fn initial_bytes(
         &self,
         alloc: Global,

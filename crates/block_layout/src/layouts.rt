@@ -46,7 +46,8 @@ impl Model for Layout {
 
     ghost view = { λ l. l.cells.items };
 
-    ghost invariant = { λ l. AreCellTables l.cells.items l.elements.items l.outer l.scopes.items l.bits
+    ghost invariant = { λ l. AreCellTables l.cells.items l.elements.items l.outer l.scopes.items
+        l.bits
         l.parameters };
 }
 
@@ -114,7 +115,7 @@ fn parameters_end(cells: &[Cell]) -> usize
 }
 
 impl Layout {
-    /// These cells, laid out.
+    /// Lays out cells.
     pub(crate) fn new(alloc: Global, cells: Vec<Cell>) -> Result<Self, AllocError>
         ensures { IfOk result (λ l. l ≡ cells.items) }
     {
@@ -133,7 +134,7 @@ impl Layout {
         })
     }
 
-    /// The cells.
+    /// The cells in their order.
     pub fn cells(&self) -> &[Cell]
         ensures { result.now ≡ self.now }
     {

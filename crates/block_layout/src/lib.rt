@@ -1,4 +1,5 @@
-//! Where the declarations of a source lie: sizes, offsets, paths, local data, and the rules on them.
+//! Where the declarations of a source lie: sizes, offsets, paths, local data, and the rules on
+//! them.
 #![tactic(auto)]
 
 mod alone;
@@ -10,6 +11,7 @@ mod bytes;
 mod cells;
 mod constants;
 mod cycles;
+mod declaration_facts;
 mod declarations;
 mod directory;
 mod excess;
@@ -33,7 +35,6 @@ mod settings;
 mod sizes;
 mod starts;
 mod types;
-mod verdicts;
 mod walks;
 
 pub use blocks::{BlockLayout, Section, Shape};

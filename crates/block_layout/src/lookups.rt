@@ -33,7 +33,7 @@ impl Layouts {
         whole_at(self.list(), block)
     }
 
-    /// This place, where its block breaks no rule as a whole.
+    /// The place of a block in the source, where the block is there and breaks no rule as a whole.
     pub fn if_whole(&self, block: usize) -> Option<usize>
         ensures { result ≡ if_whole self.now block }
     {
@@ -74,7 +74,7 @@ impl Layouts {
         }
     }
 
-    /// The declaration at a spot.
+    /// The declaration of a component.
     pub fn cell_at(&self, spot: ComponentAt) -> Option<&Cell>
         ensures { option_copied result
             ≡ slice_get (cells_at self.now spot.block spot.temporary) spot.place }
@@ -92,7 +92,8 @@ impl Layouts {
 
     /// Whether a block has a variable of this name, in upper case, outside VAR_TEMP.
     pub fn has_component(&self, block: usize, name: &[u8]) -> bool
-        ensures { result ≡ is_some (component_of_name 0 0 0 name.now (cells_at self.now block false)) }
+        ensures { result
+            ≡ is_some (component_of_name 0 0 0 name.now (cells_at self.now block false)) }
     {
         has_component(self.list(), block, name)
     }

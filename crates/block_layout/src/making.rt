@@ -1,12 +1,12 @@
 ghost use Rattle.std.specs.Prelude.{◌≡◌, length, IfOk, map, ◌++◌};
 ghost use Rattle.block_layout.specs.Cells.{layout_element, preset_of, udt_element};
-ghost use Rattle.block_layout.specs.Verdicts.{cell_with, cells_by};
+ghost use Rattle.block_layout.specs.DeclarationFacts.{cell_with, cells_by};
 
 use crate::cells::{Cell, Element, Preset};
 use crate::constants::bits_of;
+use crate::declaration_facts::DeclarationFacts;
 use crate::declarations::number_at;
 use crate::types::Types;
-use crate::verdicts::Verdict;
 use std::alloc::{AllocError, Global};
 use stl_ast::{Declaration, ElementType, Init, Name, PartKind, Sequence};
 
@@ -43,7 +43,7 @@ fn presets(alloc: Global, init: &[Init]) -> Result<Vec<Preset>, AllocError>
 }
 
 /// The cell of a declaration.
-#[tactic(auto, unfolding(crate::specs::Verdicts::cell_with))]
+#[tactic(auto, unfolding(crate::specs::DeclarationFacts::cell_with))]
 pub(crate) fn cell_with(
     alloc: Global,
     types: &Types,
@@ -78,16 +78,16 @@ pub(crate) fn add_cells(
     section: PartKind,
     begun: bool,
     declarations: &[Declaration],
-    verdicts: &[Verdict],
+    all_facts: &[DeclarationFacts],
     cells: &mut Vec<Cell>,
 ) -> Result<(), AllocError>
-    requires { length verdicts.now ≡ length declarations.now }
+    requires { length all_facts.now ≡ length declarations.now }
     ensures { IfOk result (λ _. cells.new.items ≡ cells.old.items
-        ++ cells_by types.now section begun verdicts.now declarations.now) }
+        ++ cells_by types.now section begun all_facts.now declarations.now) }
 {
     let mut begun = begun;
     for i in 0..declarations.len() {
-        let sound = verdicts[i].sound;
+        let sound = all_facts[i].sound;
         let one = cell_with(
             alloc,
             types,

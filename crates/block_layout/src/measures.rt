@@ -19,14 +19,14 @@ ghost use Rattle.block_layout.specs.Measures.{
   with_depths,
 };
 ghost use Rattle.block_layout.specs.Sizes.{structure_bits};
-ghost use Rattle.block_layout.specs.Verdicts.{greatest_reach};
+ghost use Rattle.block_layout.specs.DeclarationFacts.{greatest_reach};
 
+use crate::declaration_facts::DeclarationFacts;
 use crate::directory::Directory;
 use crate::making::add_cells;
-use crate::sections::structure_verdicts;
+use crate::sections::structure_facts;
 use crate::sizes::{elements, structure_bits};
 use crate::types::{Types, ids_of};
-use crate::verdicts::Verdict;
 use plc_base::BlockKind;
 use std::alloc::{AllocError, Global};
 use stl_ast::{Block, PartKind};
@@ -37,12 +37,12 @@ pub(crate) const ROUNDS: u32 = 9;
 
 /// The deepest place of a structure with these components.
 #[tactic(auto, using(crate::proofs::MeasureLemmas::reaches_floor))]
-fn deepest(verdicts: &[Verdict]) -> u64
-    ensures { result ≡ greatest_reach verdicts.now }
+fn deepest(all_facts: &[DeclarationFacts]) -> u64
+    ensures { result ≡ greatest_reach all_facts.now }
 {
     let mut deepest = 1;
-    for verdict in verdicts {
-        let reach = verdict.reach as u64;
+    for facts in all_facts {
+        let reach = facts.reach as u64;
         if reach > deepest {
             deepest = reach;
         }
@@ -57,8 +57,8 @@ fn type_depth(alloc: Global, types: &Types, block: &Block) -> Result<u64, AllocE
 {
     match block.kind {
         BlockKind::Udt => {
-            let verdicts = structure_verdicts(alloc, types, block)?;
-            Ok(deepest(&verdicts))
+            let all_facts = structure_facts(alloc, types, block)?;
+            Ok(deepest(&all_facts))
         }
         _ => Ok(0),
     }
@@ -71,7 +71,7 @@ fn own_bits(alloc: Global, types: &Types, block: &Block) -> Result<u64, AllocErr
         ≡ structure_bits (cells_of types.now of_structure part.Static [] block.now.components)) }
 {
     let declarations = block.components.as_slice();
-    let verdicts = structure_verdicts(alloc, types, block)?;
+    let all_facts = structure_facts(alloc, types, block)?;
     let mut cells = Vec::with_capacity(alloc, declarations.len())?;
     add_cells(
         alloc,
@@ -79,7 +79,7 @@ fn own_bits(alloc: Global, types: &Types, block: &Block) -> Result<u64, AllocErr
         PartKind::Static,
         true,
         declarations,
-        &verdicts,
+        &all_facts,
         &mut cells,
     )?;
     let elements = elements(alloc, &cells)?;

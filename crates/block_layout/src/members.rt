@@ -17,7 +17,7 @@ ghost use Rattle.block_layout.specs.Members.{component_of_name, members_of, name
 use crate::cells::Cell;
 use crate::sizes::{alignment, array_bits, stepped, up};
 use std::alloc::{AllocError, Global};
-use stl_symbols::Names;
+use stl_symbols::NameIndex;
 
 /// A component of a structure: its place among the cells, and its offset in the structure in bits.
 #[derive(Clone, Copy, Debug, PartialEq, Eq)]
@@ -29,7 +29,7 @@ pub struct Member {
 /// The components of a structure, and their names in the same order.
 #[derive(Drop)]
 pub struct NameList {
-    pub names: Names,
+    pub names: NameIndex,
     pub members: Vec<Member>,
 }
 
@@ -40,7 +40,7 @@ impl NameList {
         ensures members { result.members.items ≡ [] }
     {
         NameList {
-            names: Names::new(alloc),
+            names: NameIndex::new(alloc),
             members: Vec::new(alloc),
         }
     }

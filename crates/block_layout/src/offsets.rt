@@ -4,7 +4,7 @@ ghost use Rattle.plc_base.specs.Kinds.{is_code, is_function_block};
 ghost use Rattle.block_layout.specs.Offsets.{component_place, place_in_section, elementary_place, place_at_path_end, variable_place, width_of};
 ghost use Rattle.block_layout.specs.Paths.{if_whole};
 
-use crate::beyond::{leaves_from, leaves_judged};
+use crate::beyond::{leaves_from, leaves_structure};
 use crate::blocks::{BlockLayout, Section};
 use crate::routes::{elementary_at, if_whole, structure_of, walk_data};
 use crate::walks::{PathEnd, walk_from};
@@ -68,7 +68,7 @@ fn component(
 ) -> Option<(Place, Width)>
     ensures { result ≡ component_place layouts.now number block path.now }
 {
-    if leaves_judged(layouts, structure_of(layouts, block), path) {
+    if leaves_structure(layouts, structure_of(layouts, block), path) {
         None
     } else {
         let walk = walk_data(layouts, block, path);

@@ -18,8 +18,8 @@ pub(crate) struct Outline {
     pub(crate) temps: Layout,
 }
 
-/// The declarations of all blocks, laid out, and the least refusals by names that stand twice and by
-/// types nested too deep.
+/// The declarations of all blocks, laid out, and the least refusals by names that stand twice and
+/// by types nested too deep.
 #[derive(Drop)]
 pub(crate) struct Outlines {
     pub(crate) list: Vec<Outline>,

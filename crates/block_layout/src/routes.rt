@@ -63,7 +63,8 @@ pub(crate) fn structure_of(layouts: &[BlockLayout], block: usize) -> Option<usiz
     shape_block(layouts, block, found.shape)
 }
 
-/// The same of a block that may itself be broken, as its settings are checked.
+/// The block that declares the components of a data block, which may itself be broken, as its
+/// settings are checked all the same.
 pub(crate) fn setting_structure(layouts: &[BlockLayout], block: usize) -> Option<usize>
     ensures { result ≡ setting_structure layouts.now block }
 {
@@ -101,7 +102,8 @@ pub(crate) fn walk_data(layouts: &[BlockLayout], block: usize, path: &[PathStep]
 
 #[tactic(auto, unfolding(crate::specs::Members::component_of_name))]
 pub(crate) fn has_component(layouts: &[BlockLayout], block: usize, name: &[u8]) -> bool
-    ensures { result ≡ is_some (component_of_name 0 0 0 name.now (cells_at layouts.now block false)) }
+    ensures { result
+        ≡ is_some (component_of_name 0 0 0 name.now (cells_at layouts.now block false)) }
 {
     match layout_at(layouts, block, false) {
         None => false,

@@ -9,26 +9,26 @@ ghost use Rattle.block_layout.specs.Around.{
   returned_names,
 };
 ghost use Rattle.block_layout.specs.Cells.{is_temp, returned_cells};
-ghost use Rattle.block_layout.specs.Verdicts.{
+ghost use Rattle.block_layout.specs.DeclarationFacts.{
   IsDeclaredByBlock,
   AreOpen,
   IsDeclaredBySections,
   SectionAdded,
   cells_by,
-  frame_of,
-  verdicts_of,
+  open_list_of,
+  facts_of_declarations,
 };
 
 use crate::cells::{Cell, Element};
+use crate::declaration_facts::{DeclarationFacts, OpenList, check_all};
 use crate::making::add_cells;
 use crate::rules::rule_21::least_twice;
 use crate::rules::rule_56::least_deep;
 use crate::types::Types;
-use crate::verdicts::{Frame, Verdict, check_all};
 use plc_base::{Refusal, lesser};
 use std::alloc::{AllocError, Global};
 use stl_ast::{Block, Name, Part, PartKind, Sequence, Simple};
-use stl_symbols::Names;
+use stl_symbols::NameIndex;
 
 /// What the declarations of a block come to: the cells of its components and of its temporary
 /// variables, and the least refusals by names that stand twice and by types nested too deep.
@@ -51,16 +51,16 @@ fn add_section(
     alloc: Global,
     types: &Types,
     part: &Part,
-    verdicts: &[Verdict],
+    all_facts: &[DeclarationFacts],
     into: &mut Declared,
 ) -> Result<(), AllocError>
-    requires { length verdicts.now ≡ length part.now.items }
+    requires { length all_facts.now ≡ length part.now.items }
     ensures components { IfOk result (λ _. into.new.components.items ≡ into.old.components.items
         ++ (if is_temp part.now.kind then []
-        else cells_by types.now part.now.kind false verdicts.now part.now.items)) }
+        else cells_by types.now part.now.kind false all_facts.now part.now.items)) }
     ensures temps { IfOk result (λ _. into.new.temps.items ≡ into.old.temps.items
         ++ (if is_temp part.now.kind
-        then cells_by types.now part.now.kind false verdicts.now part.now.items else [])) }
+        then cells_by types.now part.now.kind false all_facts.now part.now.items else [])) }
     ensures twice { IfOk result (λ _. into.new.twice ≡ into.old.twice) }
     ensures deep { IfOk result (λ _. into.new.deep ≡ into.old.deep) }
 {
@@ -72,7 +72,7 @@ fn add_section(
             part.kind,
             false,
             declarations,
-            verdicts,
+            all_facts,
             &mut into.temps,
         )
     } else {
@@ -82,7 +82,7 @@ fn add_section(
             part.kind,
             false,
             declarations,
-            verdicts,
+            all_facts,
             &mut into.components,
         )
     }
@@ -93,7 +93,7 @@ fn section(
     alloc: Global,
     types: &Types,
     part: &Part,
-    open_: &mut Vec<Frame>,
+    open_: &mut Vec<OpenList>,
     into: &mut Declared,
 ) -> Result<(), AllocError>
     requires { 0 < length open_.old.items }
@@ -103,24 +103,24 @@ fn section(
         → SectionAdded types.now o before part.now into.old into.new open_.new.items) }
 {
     let declarations = part.items.as_slice();
-    let verdicts = check_all(alloc, types, open_, declarations)?;
-    add_section(alloc, types, part, &verdicts, into)?;
-    into.twice = lesser(into.twice, least_twice(declarations, &verdicts));
-    into.deep = lesser(into.deep, least_deep(declarations, &verdicts));
+    let all_facts = check_all(alloc, types, open_, declarations)?;
+    add_section(alloc, types, part, &all_facts, into)?;
+    into.twice = lesser(into.twice, least_twice(declarations, &all_facts));
+    into.deep = lesser(into.deep, least_deep(declarations, &all_facts));
     Ok(())
 }
 
 /// The list that a block's sections begin in.
-fn first_frame(alloc: Global, returned: Option<Simple>) -> Result<Frame, AllocError>
+fn first_list(alloc: Global, returned: Option<Simple>) -> Result<OpenList, AllocError>
     ensures names { IfOk result (λ f. f.names ≡ returned_names returned) }
     ensures depth { IfOk result (λ f. f.depth ≡ 0) }
     ensures sound { IfOk result (λ f. f.sound ≡ true) }
 {
-    let mut names = Names::new(alloc);
+    let mut names = NameIndex::new(alloc);
     if returned.is_some() {
         names.add(alloc, b"RET_VAL")?;
     }
-    Ok(Frame {
+    Ok(OpenList {
         names,
         depth: 0,
         sound: true,
@@ -132,7 +132,7 @@ fn sections(alloc: Global, types: &Types, block: &Block) -> Result<Declared, All
     ensures { IfOk result (λ made. IsDeclaredBySections types.now block.now made) }
 {
     let mut open_ = Vec::new(alloc);
-    open_.push(first_frame(alloc, block.result)?)?;
+    open_.push(first_list(alloc, block.result)?)?;
     let mut made = Declared {
         components: returned_cells(alloc, block.result)?,
         temps: Vec::new(alloc),
@@ -166,30 +166,30 @@ fn returned_cells(alloc: Global, returned: Option<Simple>) -> Result<Vec<Cell>, 
 }
 
 /// The list that the structure of a block opens.
-fn structure_frame(alloc: Global) -> Frame
+fn structure_list(alloc: Global) -> OpenList
     ensures names { result.names ≡ [] }
     ensures depth { result.depth ≡ 1 }
     ensures sound { result.sound ≡ true }
 {
-    Frame {
-        names: Names::new(alloc),
+    OpenList {
+        names: NameIndex::new(alloc),
         depth: 1,
         sound: true,
     }
 }
 
-/// The verdicts on the components of the structure of a block.
-pub(crate) fn structure_verdicts(
+/// What the rules find of the components of the structure of a block.
+pub(crate) fn structure_facts(
     alloc: Global,
     types: &Types,
     block: &Block,
-) -> Result<Vec<Verdict>, AllocError>
+) -> Result<Vec<DeclarationFacts>, AllocError>
     ensures count { IfOk result (λ v. length v.items ≡ length block.now.components) }
-    ensures verdicts { IfOk result (λ v. v.items
-        ≡ verdicts_of types.now of_structure [] block.now.components) }
+    ensures facts { IfOk result (λ v. v.items
+        ≡ facts_of_declarations types.now of_structure [] block.now.components) }
 {
     let mut open_ = Vec::new(alloc);
-    open_.push(structure_frame(alloc))?;
+    open_.push(structure_list(alloc))?;
     check_all(alloc, types, &mut open_, block.components.as_slice())
 }
 
@@ -203,17 +203,17 @@ pub(crate) fn declarations_of(
 {
     let mut made = sections(alloc, types, block)?;
     let declarations = block.components.as_slice();
-    let verdicts = structure_verdicts(alloc, types, block)?;
+    let all_facts = structure_facts(alloc, types, block)?;
     add_cells(
         alloc,
         types,
         PartKind::Static,
         true,
         declarations,
-        &verdicts,
+        &all_facts,
         &mut made.components,
     )?;
-    made.twice = lesser(made.twice, least_twice(declarations, &verdicts));
-    made.deep = lesser(made.deep, least_deep(declarations, &verdicts));
+    made.twice = lesser(made.twice, least_twice(declarations, &all_facts));
+    made.deep = lesser(made.deep, least_deep(declarations, &all_facts));
     Ok(made)
 }

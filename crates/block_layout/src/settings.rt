@@ -4,7 +4,7 @@ ghost use Rattle.block_layout.specs.SettingFaults.{rule_of_setting_fault, settin
 ghost use Rattle.block_layout.specs.Paths.{folded_path};
 ghost use Rattle.block_layout.specs.Settings.{in_settings, on_settings};
 
-use crate::beyond::leaves_judged;
+use crate::beyond::leaves_structure;
 use crate::blocks::BlockLayout;
 use crate::paths::Path;
 use crate::routes::{setting_structure, walk_setting};
@@ -36,7 +36,7 @@ fn breaks(
             misfits(layouts, &setting.value, target)
         }
         SettingFault::OutsideIndex => {
-            leaves_judged(layouts, setting_structure(layouts, block), path.steps())
+            leaves_structure(layouts, setting_structure(layouts, block), path.steps())
         }
     }
 }
@@ -90,7 +90,9 @@ pub(crate) fn least_of_settings(
     blocks: &[Block],
 ) -> Result<Option<Refusal>, AllocError>
     ensures { IfOk result (λ r. r
-        ≡ least (on_settings (setting_breaks layouts.now which) (rule_of_setting_fault which) 0 blocks.now)) }
+        ≡ least
+        (on_settings (setting_breaks layouts.now which)
+        (rule_of_setting_fault which) 0 blocks.now)) }
 {
     let mut found = None;
     for i in 0..blocks.len() {

@@ -165,7 +165,8 @@ fn end_of(cells: &[Cell], elements: &[u64], level: u64) -> u64
 fn components(cell: &Cell, behind: &[Cell], elements: &[u64]) -> u64
     requires { elements.now ≡ elements_of behind.now }
     ensures value { result ≡ (if cell.now.sound
-        then capped_size (next_multiple (components_end (cell.now.level + 1) 0 behind.now) 16) else 0) }
+        then capped_size (next_multiple (components_end (cell.now.level + 1) 0 behind.now) 16)
+        else 0) }
     ensures near { result ≤ largest_size }
 {
     if cell.sound {

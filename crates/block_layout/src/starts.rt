@@ -55,7 +55,8 @@ pub(crate) fn element_starts(
     Ok(places)
 }
 
-/// The same, but for elements of no bits, which hold no values.
+/// Where the elements of arrays begin that themselves begin at these places; none for elements of
+/// no bits, which hold no values.
 pub(crate) fn filled_starts(
     alloc: Global,
     bounds: &[Bounds],

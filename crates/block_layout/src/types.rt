@@ -50,8 +50,8 @@ pub(crate) fn ids_of(
     Ok(ids)
 }
 
-/// What the declarations of a source are checked by: the symbols, the blocks by kind and number, and
-/// for each block, as a user-defined data type, its depth, at most 9, and its bits.
+/// What the declarations of a source are checked by: the symbols, the blocks by kind and number,
+/// and for each block, as a user-defined data type, its depth, at most 9, and its bits.
 #[derive(Drop)]
 pub(crate) struct Types<'a> {
     pub(crate) symbols: &'a Symbols,

@@ -59,8 +59,8 @@ pub struct ComponentAt {
 }
 
 /// Where a path leads. `Unknown` names a component that isn't there, `Rests` goes through a
-/// declaration or a block that breaks a rule itself. An index outside its array leads on as the first
-/// element does.
+/// declaration or a block that breaks a rule itself. An index outside its array leads on as the
+/// first element does.
 #[derive(Clone, Copy, Debug, PartialEq, Eq)]
 pub enum PathEnd {
     Reaches { spot: ComponentAt },
@@ -84,7 +84,8 @@ pub(crate) fn layout_at(layouts: &[BlockLayout], block: usize, temporary: bool) 
 /// The component at a place of a block.
 fn entered(layout: &Layout, block: usize, temporary: bool, place: usize, offset: u64) -> PathEnd
     requires { offset ≤ largest_size }
-    ensures value { result ≡ path_end_at_cell block temporary place offset (slice_get layout.now place) }
+    ensures value { result
+        ≡ path_end_at_cell block temporary place offset (slice_get layout.now place) }
     ensures near { OffsetIsNear result }
 {
     match layout.cell_at(place) {
@@ -132,7 +133,7 @@ fn found_at(
     }
 }
 
-/// A name in the outermost declarations of a block.
+/// Where a name in the outermost declarations of a block leads.
 #[tactic(auto, unfolding(crate::specs::Paths::outermost_path_end, crate::specs::Members::component_of_name))]
 pub(crate) fn outermost(
     layouts: &[BlockLayout],
@@ -160,7 +161,7 @@ pub(crate) fn is_used_up(cell: &Cell, depth: usize) -> bool
     depth == cell.bounds.len()
 }
 
-/// A name behind a component.
+/// Where a name behind a component leads, by its declaration.
 fn named_in(
     layouts: &[BlockLayout],
     layout: &Layout,
@@ -193,7 +194,7 @@ fn named_in(
     }
 }
 
-/// A step by name.
+/// Where a name leads from a component.
 #[tactic(auto, unfolding(crate::specs::Paths::path_end_by_name))]
 fn named(layouts: &[BlockLayout], spot: ComponentAt, name: &[u8]) -> PathEnd
     requires offset { spot.offset ≤ largest_size }
@@ -266,7 +267,7 @@ fn indexed_in(layout: &Layout, spot: ComponentAt, at: i32) -> PathEnd
     }
 }
 
-/// A step by index.
+/// Where an index leads from a component.
 #[tactic(auto, unfolding(crate::specs::Paths::path_end_by_index))]
 fn indexed(layouts: &[BlockLayout], spot: ComponentAt, at: i32) -> PathEnd
     requires { spot.offset ≤ largest_size }
@@ -279,7 +280,7 @@ fn indexed(layouts: &[BlockLayout], spot: ComponentAt, at: i32) -> PathEnd
     }
 }
 
-/// A step.
+/// Where a step of a path leads from a component.
 #[tactic(auto, unfolding(crate::specs::Paths::path_end_by_step))]
 pub(crate) fn step(layouts: &[BlockLayout], spot: ComponentAt, step: &PathStep) -> PathEnd
     requires offset { spot.offset ≤ largest_size }
@@ -316,7 +317,8 @@ fn walk_behind(layouts: &[BlockLayout], start: ComponentAt, path: &[PathStep]) -
 pub(crate) fn walk_on(layouts: &[BlockLayout], found: PathEnd, path: &[PathStep]) -> PathEnd
     requires near { OffsetIsNear found }
     requires sound { ReachesSound layouts.now found }
-    ensures value { result ≡ path_end_and_then found (λ spot. path_end_behind layouts.now spot path.now) }
+    ensures value { result
+        ≡ path_end_and_then found (λ spot. path_end_behind layouts.now spot path.now) }
     ensures near { OffsetIsNear result }
 {
     match found {

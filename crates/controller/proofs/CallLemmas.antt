@@ -144,63 +144,63 @@ call_stands mode number inputs to (a ∷ below) new m m' s s' serves standing =
 -- what a call comes to
 goes_to : (at : Option Spot) (sv : ServiceResult) (to : Option Binding) (below new : List Activation)
     (s : State) (m' : Areas) (sched : Scheduler)
-    → ServesTo sv to below new s.world.memory m' s.sched sched None
+    → ServesTo sv to below new s.store.memory m' s.sched sched None
     → after_service at sv to below s
-    ≡ record s { world = with_memory m' s.world; activations = new; sched = sched }
+    ≡ record s { store = with_memory m' s.store; activations = new; sched = sched }
 goes_to at (Returns r) to below new s m' sched serves = rw (serves.0, serves.1, serves.2) refl
 goes_to at (Passes next a) to below new s m' sched serves = rw (serves.0, serves.1, serves.2) refl
 goes_to at (Stops cause a) to below new s m' sched serves = absurd serves
 
-goes_from : (code : Code) (number : ℕ) (inputs : List ℕ) (to : Option Binding) (stand : At)
+goes_from : (code : Code) (number : ℕ) (inputs : List ℕ) (to : Option Binding) (position : At)
     (old new : List Activation) (s : State) (m' : Areas) (sched : Scheduler)
     → s.activations ≡ old
-    → ServesRunning number inputs to old new s.world.memory m' s.sched sched None
-    → call_left code number inputs to stand old s
-    ≡ record s { world = with_memory m' s.world; activations = new; sched = sched }
-goes_from code number inputs to stand [] new s m' sched were serves =
+    → ServesRunning number inputs to old new s.store.memory m' s.sched sched None
+    → call_left code number inputs to position old s
+    ≡ record s { store = with_memory m' s.store; activations = new; sched = sched }
+goes_from code number inputs to position [] new s m' sched were serves =
     ap (λ (acts : List Activation). record s { activations = acts }) were
     ∙ rw (serves.0, serves.1, serves.2) refl
-goes_from code number inputs to stand (a ∷ below) new s m' sched were serves =
-    goes_to (statement_spot code stand.block stand.at) (system_function_served number inputs s.sched a) to below new s m'
+goes_from code number inputs to position (a ∷ below) new s m' sched were serves =
+    goes_to (statement_spot code position.block position.at) (system_function_served number inputs s.sched a) to below new s m'
     sched serves
 
 pub call_goes : (code : Code) (number : ℕ) (inputs : List ℕ) (to : Option Binding)
-    (stand : At) (new : List Activation) (s : State) (m' : Areas) (sched : Scheduler)
-    → ServesRunning number inputs to s.activations new s.world.memory m' s.sched sched None
-    → call_left code number inputs to stand s.activations s
-    ≡ record s { world = with_memory m' s.world; activations = new; sched = sched }
-call_goes code number inputs to stand new s m' sched serves =
-    goes_from code number inputs to stand s.activations new s m' sched refl serves
+    (position : At) (new : List Activation) (s : State) (m' : Areas) (sched : Scheduler)
+    → ServesRunning number inputs to s.activations new s.store.memory m' s.sched sched None
+    → call_left code number inputs to position s.activations s
+    ≡ record s { store = with_memory m' s.store; activations = new; sched = sched }
+call_goes code number inputs to position new s m' sched serves =
+    goes_from code number inputs to position s.activations new s m' sched refl serves
 
 halts_to : (at : Option Spot) (sv : ServiceResult) (to : Option Binding) (below new : List Activation)
     (s : State) (m' : Areas) (sched : Scheduler) (cause : ℕ)
-    → ServesTo sv to below new s.world.memory m' s.sched sched (Some cause)
+    → ServesTo sv to below new s.store.memory m' s.sched sched (Some cause)
     → after_service at sv to below s
-    ≡ stop_entered_at at cause (record s { world = with_memory m' s.world; activations = new; sched = sched })
+    ≡ stop_entered_at at cause (record s { store = with_memory m' s.store; activations = new; sched = sched })
 halts_to at (Returns r) to below new s m' sched cause serves = absurd serves
 halts_to at (Passes next a) to below new s m' sched cause serves = absurd serves
 halts_to at (Stops why a) to below new s m' sched cause serves =
     rw (serves.0, serves.1, serves.2) refl
 
-halts_from : (code : Code) (number : ℕ) (inputs : List ℕ) (to : Option Binding) (stand : At)
+halts_from : (code : Code) (number : ℕ) (inputs : List ℕ) (to : Option Binding) (position : At)
     (old new : List Activation) (s : State) (m' : Areas) (sched : Scheduler) (cause : ℕ)
-    → ServesRunning number inputs to old new s.world.memory m' s.sched sched (Some cause)
-    → call_left code number inputs to stand old s
-    ≡ stop_entered_at (statement_spot code stand.block stand.at) cause
-    (record s { world = with_memory m' s.world; activations = new; sched = sched })
-halts_from code number inputs to stand [] new s m' sched cause serves = absurd serves
-halts_from code number inputs to stand (a ∷ below) new s m' sched cause serves =
-    halts_to (statement_spot code stand.block stand.at) (system_function_served number inputs s.sched a) to below new s m'
+    → ServesRunning number inputs to old new s.store.memory m' s.sched sched (Some cause)
+    → call_left code number inputs to position old s
+    ≡ stop_entered_at (statement_spot code position.block position.at) cause
+    (record s { store = with_memory m' s.store; activations = new; sched = sched })
+halts_from code number inputs to position [] new s m' sched cause serves = absurd serves
+halts_from code number inputs to position (a ∷ below) new s m' sched cause serves =
+    halts_to (statement_spot code position.block position.at) (system_function_served number inputs s.sched a) to below new s m'
     sched cause serves
 
 pub call_halts : (code : Code) (number : ℕ) (inputs : List ℕ) (to : Option Binding)
-    (stand : At) (new : List Activation) (s : State) (m' : Areas) (sched : Scheduler) (cause : ℕ)
-    → ServesRunning number inputs to s.activations new s.world.memory m' s.sched sched (Some cause)
-    → call_left code number inputs to stand s.activations s
-    ≡ stop_entered_at (statement_spot code stand.block stand.at) cause
-    (record s { world = with_memory m' s.world; activations = new; sched = sched })
-call_halts code number inputs to stand new s m' sched cause serves =
-    halts_from code number inputs to stand s.activations new s m' sched cause serves
+    (position : At) (new : List Activation) (s : State) (m' : Areas) (sched : Scheduler) (cause : ℕ)
+    → ServesRunning number inputs to s.activations new s.store.memory m' s.sched sched (Some cause)
+    → call_left code number inputs to position s.activations s
+    ≡ stop_entered_at (statement_spot code position.block position.at) cause
+    (record s { store = with_memory m' s.store; activations = new; sched = sched })
+call_halts code number inputs to position new s m' sched cause serves =
+    halts_from code number inputs to position s.activations new s m' sched cause serves
 
 -- the registers that a call comes to are those of the running activation
 abbrev regs_of : List Activation → Regs → Regs
@@ -224,7 +224,7 @@ put_regs false locals (Some m) error c = refl
 
 bound_regs : (to : Binding) (value : ℕ) (c : LocalMemory) → (with_ret_val to value c).local.regs ≡ c.local.regs
 unfolding number_written_at
-bound_regs (binding.Bound place width frame) value c =
+bound_regs (binding.AtPlace place width frame) value c =
     put_regs (is_area_l place.area)
     (local_written c.local.locals frame place.byte place.bit width (value % 2 ^ bit_count width))
     (number_written c.memory place width (value % 2 ^ bit_count width)) _ c

@@ -11,7 +11,7 @@ use Rattle.machine.specs.Statement.{StatementStep, Went, Ended, SyncError, SysCa
 use Rattle.ob_sched.specs.TickState.{TickState, ob_requested}
 use Rattle.ob_sched.specs.Millisecond.{tick_begun, after_tick}
 use Rattle.ob_sched.specs.OrganizationBlock.{priority_class_in}
-use Rattle.ob_sched.specs.Request.{best_of}
+use Rattle.ob_sched.specs.StartRequest.{best_of}
 use Rattle.ob_sched.specs.StartInformation.{start_info}
 use Rattle.ob_sched.specs.declared.requests.Pending.{Pending}
 use Rattle.ob_sched.specs.declared.start_infos.StartEvent.TheVariants.{Arrival}
@@ -108,7 +108,7 @@ stepped_on_counts : (code : Code) (activations : List Activation) (s : State)
     → (step_of_first code activations s).entries ≡ s.entries
 stepped_on_counts code [] s = cycle_counts code s
 stepped_on_counts code (a ∷ below) s =
-    statement_counts code (statement_step code a s.world) a.ob (spot_of_frame code a.running.frame) below s
+    statement_counts code (statement_step code a s.store) a.ob (spot_of_frame code a.running.frame) below s
 
 stepped_counts : (code : Code) (s : State) → (after_step code s).entries ≡ s.entries
 unfolding after_step
@@ -139,7 +139,7 @@ arrived_counts code ob value s =
 
 tick_counts : (code : Code) (c : TickState) (s : State) → (tick_taken code c s).entries ≡ s.entries
 tick_counts code c s =
-    course_counts code c (record s { world = timers_moved c.passed.ms s.world })
+    course_counts code c (record s { store = timers_moved c.passed.ms s.store })
 
 passed_counts : (code : Code) (ms : ℕ) (s : State) → (time_passed code ms s).entries ≡ s.entries
 unfolding time_passed

@@ -31,7 +31,7 @@ use Rattle.machine.proofs.Sizes.{same_sizes, sizes_then, same_parts}
 use Rattle.ob_sched.specs.TickState.{TickState, ob_requested}
 use Rattle.ob_sched.specs.Millisecond.{tick_begun as course_begun, after_tick}
 use Rattle.ob_sched.specs.OrganizationBlock.{priority_class_in, is_delay}
-use Rattle.ob_sched.specs.Request.{best_of}
+use Rattle.ob_sched.specs.StartRequest.{best_of}
 use Rattle.ob_sched.specs.Scheduler.{Scheduler, best_removed, delay_of, delay_started, delay_cancelled, cycle_retriggered}
 use Rattle.ob_sched.specs.StartInformation.{ob_of_error, start_info}
 use Rattle.ob_sched.specs.declared.requests.Pending.{Pending}
@@ -87,11 +87,11 @@ all_stay l p m n (a ∷ below) same fit =
 
 -- another memory of the same sizes, with the same activations
 moved_memory : (l : MachineLaws) (p : Program) (s : State) (w : GlobalStore)
-    → SameSizes s.world.memory w.memory → IsFit p s → IsFit p (record s { world = w })
+    → SameSizes s.store.memory w.memory → IsFit p s → IsFit p (record s { store = w })
 moved_memory l p s w same fit = record {
-  memory = memory_stays p s.world.memory w.memory same fit.memory;
-  activations = all_stay l p s.world.memory w.memory s.activations same fit.activations;
-  standing = fit.standing;
+  memory = memory_stays p s.store.memory w.memory same fit.memory;
+  activations = all_stay l p s.store.memory w.memory s.activations same fit.activations;
+  activation_stack = fit.activation_stack;
   sched = fit.sched;
 }
 
@@ -100,7 +100,7 @@ other_sched : (p : Program) (s : State) (sched : Scheduler) → HasWholeSchedule
 other_sched p s sched is fit = record {
   memory = fit.memory;
   activations = fit.activations;
-  standing = fit.standing;
+  activation_stack = fit.activation_stack;
   sched = is;
 }
 
@@ -111,8 +111,8 @@ FitsIf p m None = Unit {0}
 FitsIf p m (Some a) = FitsProgram p m a
 
 told_one : (l : MachineLaws) (p : Program) (m : Areas) (byte value : ℕ) (a : Activation)
-    (told : Option Activation) → with_local_byte 0 byte value a ≡ told → FitsProgram p m a
-    → FitsProgram p m (unwrap_or told a)
+    (written : Option Activation) → with_local_byte 0 byte value a ≡ written → FitsProgram p m a
+    → FitsProgram p m (unwrap_or written a)
 told_one l p m byte value a None is fit = fit
 told_one l p m byte value a (Some b) is fit = l.local_byte p m a b 0 byte value is fit
 
@@ -151,14 +151,14 @@ ob_fits profile l p m class ob info verifies memory =
     ob_fits_by profile l p m class ob info ((code_of p).head (ob_block_id ob)) verifies memory refl
 
 begins_above : (p : Program) (class ob : ℕ) (one : Option Activation) (s : State)
-    → FitsIf p s.world.memory one → IsOf class ob one → MayBegin s.mode class ob s.activations
+    → FitsIf p s.store.memory one → IsOf class ob one → MayBegin s.mode class ob s.activations
     → IsFit p s → IsFit p (with_ob_begun one s)
 unfolding FitsIf IsOf
 begins_above p class ob None s one is may fit = fit
 begins_above p class ob (Some a) s one is may fit = record {
   memory = fit.memory;
   activations = (one, fit.activations);
-  standing = begun_stands s.mode class ob a s.activations is.0 is.1 fit.standing may;
+  activation_stack = begun_stands s.mode class ob a s.activations is.0 is.1 fit.activation_stack may;
   sched = fit.sched;
 }
 
@@ -169,7 +169,7 @@ diagnosed_fit : (p : Program) (code info : ℕ) (s : State) → IsFit p s
 diagnosed_fit p code info s fit = record {
   memory = fit.memory;
   activations = fit.activations;
-  standing = fit.standing;
+  activation_stack = fit.activation_stack;
   sched = fit.sched;
 }
 
@@ -183,10 +183,10 @@ halts : (l : MachineLaws) (p : Program) (at : Option Spot) (cause : ℕ) (s : St
     → IsFit p (stop_entered_at at cause s)
 halts l p at cause s fit = record {
   memory =
-      memory_stays p s.world.memory (outputs_cleared s.world.memory)
-      (l.clears p s.world.memory fit.memory) fit.memory;
+      memory_stays p s.store.memory (outputs_cleared s.store.memory)
+      (l.clears p s.store.memory fit.memory) fit.memory;
   activations = tt;
-  standing = record { stack = tt; startup = tt };
+  activation_stack = record { stack = tt; startup = tt };
   sched = stopped_schedule s.sched fit.sched;
 }
 
@@ -214,8 +214,8 @@ copied_is class ob a (Some fresh) is = is
 -- the activation in which the error came has gone on to `a`
 answers : (l : MachineLaws) (p : Program) (one : Option Activation) (error : ℕ) (at : Option Spot)
     (a : Activation) (below : List Activation) (s : State) → is_synchronous a.ob ≡ false
-    → FitsIf p s.world.memory one → IsOf a.class (ob_of_error error) one
-    → AllFit p s.world.memory (a ∷ below) → IsActivationStack s.mode (a ∷ below) → IsFit p s
+    → FitsIf p s.store.memory one → IsOf a.class (ob_of_error error) one
+    → AllFit p s.store.memory (a ∷ below) → IsActivationStack s.mode (a ∷ below) → IsFit p s
     → IsFit p (error_ob_started one error at a below s)
 unfolding FitsIf IsOf
 answers l p None error at a below s single one is all standing fit =
@@ -223,12 +223,12 @@ answers l p None error at a below s single one is all standing fit =
 answers l p (Some fresh) error at a below s single one is all standing fit = record {
   memory = fit.memory;
   activations = (one, all);
-  standing = error_stands s.mode error fresh a below is.0 is.1 single standing;
+  activation_stack = error_stands s.mode error fresh a below is.0 is.1 single standing;
   sched = fit.sched;
 }
 
 failed_fits : (l : MachineLaws) (p : Program) (error : ℕ) (at : Option Spot) (a : Activation)
-    (below : List Activation) (s : State) → Verifies p → AllFit p s.world.memory (a ∷ below)
+    (below : List Activation) (s : State) → Verifies p → AllFit p s.store.memory (a ∷ below)
     → IsActivationStack s.mode (a ∷ below) → IsFit p s → IsFit p (error_raised (code_of p) error at a below s)
 unfolding error_raised
 failed_fits l p error at a below s verifies all standing fit = by (is_synchronous a.ob) refl
@@ -242,8 +242,8 @@ failed_fits l p error at a below s verifies all standing fit = by (is_synchronou
     by true is = halts l p at causes.in_error_ob (diagnosis_recorded 4 error s) recorded
     by false is =
         answers l p (error_in (code_of p) error at a) error at a below (diagnosis_recorded 4 error s) is
-        (copied_fits l p s.world.memory a _
-        (ob_fits a.profile l p s.world.memory a.class (ob_of_error error)
+        (copied_fits l p s.store.memory a _
+        (ob_fits a.profile l p s.store.memory a.class (ob_of_error error)
         (start_info (error_event error at) a.class) verifies fit.memory))
         (copied_is a.class (ob_of_error error) a _
         (ob_is a.profile (code_of p) a.class (ob_of_error error) (start_info (error_event error at) a.class)))
@@ -365,23 +365,23 @@ given_fits l p m (Some to) value a verifies fit =
 
 service_fits : (l : MachineLaws) (p : Program) (call : Option Spot) (sv : ServiceResult) (to : Option Binding)
     (a : Activation) (below : List Activation) (s : State) → Verifies p
-    → KeepsServed p s.world.memory sv → SameServed a sv → AllFit p s.world.memory below
+    → KeepsServed p s.store.memory sv → SameServed a sv → AllFit p s.store.memory below
     → IsActivationStack s.mode (a ∷ below) → IsFit p s → IsFit p (after_service call sv to below s)
 unfolding KeepsServed KeepsReturned SameServed
 service_fits l p call (Returns r) to a below s verifies kept same rest standing fit =
-    let goes = given_fits l p s.world.memory to r.value r.activation verifies kept.fits in
+    let goes = given_fits l p s.store.memory to r.value r.activation verifies kept.fits in
     record {
-      memory = memory_stays p s.world.memory _ goes.sizes fit.memory;
-      activations = (goes.fits, all_stay l p s.world.memory _ below goes.sizes rest);
-      standing =
-          same_stack s.mode a (result_given to r.value r.activation s.world.memory).activation below
-          (given_same to r.value a r.activation s.world.memory same) standing;
+      memory = memory_stays p s.store.memory _ goes.sizes fit.memory;
+      activations = (goes.fits, all_stay l p s.store.memory _ below goes.sizes rest);
+      activation_stack =
+          same_stack s.mode a (result_given to r.value r.activation s.store.memory).activation below
+          (given_same to r.value a r.activation s.store.memory same) standing;
       sched = kept.sched;
     }
 service_fits l p call (Passes sched b) to a below s verifies kept same rest standing fit = record {
   memory = fit.memory;
   activations = (kept.fits, rest);
-  standing = same_stack s.mode a b below same standing;
+  activation_stack = same_stack s.mode a b below same standing;
   sched = kept.sched;
 }
 service_fits l p call (Halts cause b) to a below s verifies kept same rest standing fit =
@@ -394,21 +394,21 @@ run_starts_fits : (p : Program) (s : State) → IsActivationStack Run s.activati
 run_starts_fits p s standing fit = record {
   memory = fit.memory;
   activations = fit.activations;
-  standing = standing;
+  activation_stack = standing;
   sched = run_schedule s.sched fit.sched;
 }
 
 ended_fits : (l : MachineLaws) (p : Program) (w : GlobalStore) (a : Activation) (below : List Activation)
-    (s : State) → SameSizes s.world.memory w.memory → AllFit p s.world.memory below
+    (s : State) → SameSizes s.store.memory w.memory → AllFit p s.store.memory below
     → IsActivationStack s.mode (a ∷ below) → IsFit p s
     → IsFit p (ob_ended a.ob (with_activations w below s))
 ended_fits l p w a below s same rest standing fit = by (a.ob == 100) refl
   where
     memory : IsMemoryOf (code_of p) w.memory
-    memory = memory_stays p s.world.memory w.memory same fit.memory
+    memory = memory_stays p s.store.memory w.memory same fit.memory
 
     all : AllFit p w.memory below
-    all = all_stay l p s.world.memory w.memory below same rest
+    all = all_stay l p s.store.memory w.memory below same rest
 
     by : (test : Bool) → (a.ob == 100) ≡ test
         → IsFit p (if test then run_starts (with_activations w below s)
@@ -416,24 +416,24 @@ ended_fits l p w a below s same rest standing fit = by (a.ob == 100) refl
     by true is = record {
       memory = memory;
       activations = all;
-      standing = ended_by true s.mode a below is standing;
+      activation_stack = ended_by true s.mode a below is standing;
       sched = run_schedule s.sched fit.sched;
     }
     by false is = record {
       memory = memory;
       activations = all;
-      standing = ended_by false s.mode a below is standing;
+      activation_stack = ended_by false s.mode a below is standing;
       sched = fit.sched;
     }
 
 statement_fits : (l : MachineLaws) (p : Program) (step : StatementStep) (a : Activation) (at : Option Spot)
-    (below : List Activation) (s : State) → Verifies p → StepFitsAgain p s.world step → SameStep a step
-    → AllFit p s.world.memory below → IsActivationStack s.mode (a ∷ below) → IsFit p s
+    (below : List Activation) (s : State) → Verifies p → StepFitsAgain p s.store step → SameStep a step
+    → AllFit p s.store.memory below → IsActivationStack s.mode (a ∷ below) → IsFit p s
     → IsFit p (after_statement (code_of p) step a.ob at below s)
 statement_fits l p (Went b w) a at below s verifies lasts same rest standing fit = record {
-  memory = memory_stays p s.world.memory w.memory lasts.sizes fit.memory;
-  activations = (lasts.fits, all_stay l p s.world.memory w.memory below lasts.sizes rest);
-  standing = same_stack s.mode a b below same standing;
+  memory = memory_stays p s.store.memory w.memory lasts.sizes fit.memory;
+  activations = (lasts.fits, all_stay l p s.store.memory w.memory below lasts.sizes rest);
+  activation_stack = same_stack s.mode a b below same standing;
   sched = fit.sched;
 }
 statement_fits l p (Ended regs w) a at below s verifies lasts same rest standing fit =
@@ -443,7 +443,7 @@ statement_fits l p (SyncError error b) a at below s verifies lasts same rest sta
     (same_stack s.mode a b below same standing) fit
 statement_fits l p (SysCall number given b) a at below s verifies lasts same rest standing fit =
     service_fits l p at (system_function_served number given.inputs s.sched b) given.result b below s verifies
-    (served_fits l p s.world.memory number given.inputs s.sched b lasts.2 fit.sched)
+    (served_fits l p s.store.memory number given.inputs s.sched b lasts.2 fit.sched)
     (served_same number given.inputs s.sched b) rest
     (same_stack s.mode a b below same standing) fit
 statement_fits l p (Stops cause) a at below s verifies lasts same rest standing fit =
@@ -454,13 +454,13 @@ statement_fits l p Stuck a at below s verifies lasts same rest standing fit = ab
 
 passed_fits : (l : MachineLaws) (p : Program) (s : State) → IsFit p s → IsFit p (cycle_finished s)
 passed_fits l p s fit =
-    let same : SameSizes s.world.memory (memory_refreshed s.world.memory) =
-    l.refreshes p s.world.memory fit.memory in
+    let same : SameSizes s.store.memory (memory_refreshed s.store.memory) =
+    l.refreshes p s.store.memory fit.memory in
     record {
-      memory = memory_stays p s.world.memory (memory_refreshed s.world.memory) same fit.memory;
+      memory = memory_stays p s.store.memory (memory_refreshed s.store.memory) same fit.memory;
       activations =
-          all_stay l p s.world.memory (memory_refreshed s.world.memory) s.activations same fit.activations;
-      standing = fit.standing;
+          all_stay l p s.store.memory (memory_refreshed s.store.memory) s.activations same fit.activations;
+      activation_stack = fit.activation_stack;
       sched = cycle_schedule s.sched fit.sched;
     }
 
@@ -471,20 +471,20 @@ cycle_fits l p s verifies idle running fit =
     let next : IsFit p (cycle_finished s) = passed_fits l p s fit in
     begins_above p (priority_class_in s.mode 1) 1
     (ob_activation s.profile (code_of p) (priority_class_in s.mode 1) 1 (cycle_info s)) (cycle_finished s)
-    (ob_fits s.profile l p (memory_refreshed s.world.memory) (priority_class_in s.mode 1) 1 (cycle_info s) verifies next.memory)
+    (ob_fits s.profile l p (memory_refreshed s.store.memory) (priority_class_in s.mode 1) 1 (cycle_info s) verifies next.memory)
     (ob_is s.profile (code_of p) (priority_class_in s.mode 1) 1 (cycle_info s))
-    (cycle_may_begin s.mode s.activations idle running fit.standing) next
+    (cycle_may_begin s.mode s.activations idle running fit.activation_stack) next
 
 stepped_on_fits : (l : MachineLaws) (p : Program) (activations : List Activation) (s : State)
     → Verifies p → s.activations ≡ activations → is_stop s.mode ≡ false → IsFit p s
     → IsFit p (step_of_first (code_of p) activations s)
 stepped_on_fits l p [] s verifies is running fit = cycle_fits l p s verifies is running fit
 stepped_on_fits l p (a ∷ below) s verifies is running fit =
-    let all : AllFit p s.world.memory (a ∷ below) =
-    subst (λ (acts : List Activation). AllFit p s.world.memory acts) is fit.activations in
-    statement_fits l p (statement_step (code_of p) a s.world) a (spot_of_frame (code_of p) a.running.frame)
-    below s verifies (l.lasts p a s.world verifies all.0) (statement_same (code_of p) a s.world) all.1
-    (subst (λ (acts : List Activation). IsActivationStack s.mode acts) is fit.standing) fit
+    let all : AllFit p s.store.memory (a ∷ below) =
+    subst (λ (acts : List Activation). AllFit p s.store.memory acts) is fit.activations in
+    statement_fits l p (statement_step (code_of p) a s.store) a (spot_of_frame (code_of p) a.running.frame)
+    below s verifies (l.lasts p a s.store verifies all.0) (statement_same (code_of p) a s.store) all.1
+    (subst (λ (acts : List Activation). IsActivationStack s.mode acts) is fit.activation_stack) fit
 
 step_fits : (l : MachineLaws) (p : Program) (s : State) → Verifies p → is_stop s.mode ≡ false
     → IsFit p s → IsFit p (after_step (code_of p) s)
@@ -530,8 +530,8 @@ arrived_fits l p ob value s known fit =
 tick_fits : (l : MachineLaws) (p : Program) (c : TickState) (s : State) → HasWholeSchedule c.sched → IsFit p s
     → IsFit p (tick_taken (code_of p) c s)
 tick_fits l p c s is fit =
-    course_fits l p c (record s { world = timers_moved c.passed.ms s.world }) is
-    (moved_memory l p s (timers_moved c.passed.ms s.world) (same_sizes s.world.memory) fit)
+    course_fits l p c (record s { store = timers_moved c.passed.ms s.store }) is
+    (moved_memory l p s (timers_moved c.passed.ms s.store) (same_sizes s.store.memory) fit)
 
 time_fits : (l : MachineLaws) (p : Program) (ms : ℕ) (s : State) → IsFit p s
     → IsFit p (time_passed (code_of p) ms s)
@@ -550,7 +550,7 @@ input_fits l m byte value (Some n) is = l.inputs m n byte value is
 -- ---- a start
 
 started_up_fits : (p : Program) (one : Option Activation) (s : State)
-    → FitsIf p s.world.memory one → IsOf 27 100 one → s.activations ≡ [] → IsFit p s
+    → FitsIf p s.store.memory one → IsOf 27 100 one → s.activations ≡ [] → IsFit p s
     → IsFit p (state_in_startup one s)
 unfolding FitsIf IsOf
 started_up_fits p None s one is idle fit =
@@ -560,7 +560,7 @@ started_up_fits p None s one is idle fit =
 started_up_fits p (Some a) s one is idle fit = record {
   memory = fit.memory;
   activations = (one, fit.activations);
-  standing =
+  activation_stack =
       subst (λ (acts : List Activation). IsActivationStack Startup (a ∷ acts)) (sym idle)
       (first_stands a is.0 is.1);
   sched = fit.sched;
@@ -596,14 +596,14 @@ cleared_sizes p m is = record {
 
 cleared_fits : (l : MachineLaws) (p : Program) (s : State) → IsFit p s → IsFit p (restart_cleared s)
 cleared_fits l p s fit =
-    let same : SameSizes s.world.memory (memory_after_restart s.world.memory) =
-    cleared_sizes p s.world.memory fit.memory in
+    let same : SameSizes s.store.memory (memory_after_restart s.store.memory) =
+    cleared_sizes p s.store.memory fit.memory in
     record {
-      memory = memory_stays p s.world.memory (memory_after_restart s.world.memory) same fit.memory;
+      memory = memory_stays p s.store.memory (memory_after_restart s.store.memory) same fit.memory;
       activations =
-          all_stay l p s.world.memory (memory_after_restart s.world.memory) s.activations same
+          all_stay l p s.store.memory (memory_after_restart s.store.memory) s.activations same
           fit.activations;
-      standing = fit.standing;
+      activation_stack = fit.activation_stack;
       sched = restarted_schedule s.sched fit.sched;
     }
 
@@ -621,16 +621,16 @@ restart_fits l p s verifies stop fit =
     let next : IsFit p (restart_cleared (diagnosis_recorded 6 0 s)) =
     cleared_fits l p (diagnosis_recorded 6 0 s) (diagnosed_fit p 6 0 s fit) in
     started_up_fits p (startup_ob s.profile (code_of p)) (restart_cleared (diagnosis_recorded 6 0 s))
-    (ob_fits s.profile l p (memory_after_restart s.world.memory) 27 100 startup_info verifies next.memory)
+    (ob_fits s.profile l p (memory_after_restart s.store.memory) 27 100 startup_info verifies next.memory)
     (ob_is s.profile (code_of p) 27 100 startup_info)
-    (stop_idle s.mode s.activations stop fit.standing.stack) next
+    (stop_idle s.mode s.activations stop fit.activation_stack.stack) next
 
 monitored_fits : (p : Program) (s : State) (monitored : Option BlockId) → IsFit p s
     → IsFit p (record s { monitored = monitored })
 monitored_fits p s monitored fit = record {
   memory = fit.memory;
   activations = fit.activations;
-  standing = fit.standing;
+  activation_stack = fit.activation_stack;
   sched = fit.sched;
 }
 
@@ -640,8 +640,8 @@ unfolding request_effect
 asked_fits l p (ask.ReadVars vars) s verifies fit = fit
 asked_fits l p (ask.WriteVar var value) s verifies fit =
     moved_memory l p s _
-    (written_fits l s.world.memory var value
-    (number_written s.world.memory var.place var.width value) refl) fit
+    (written_fits l s.store.memory var value
+    (number_written s.store.memory var.place var.width value) refl) fit
 asked_fits l p ask.Stop s verifies fit =
     unless_stop p s _ fit (λ running. halted_fits l p causes.by_operator s fit)
 asked_fits l p ask.Restart s verifies fit = by (is_stop s.mode) refl
@@ -662,7 +662,7 @@ counted_fits : (p : Program) (s : State) → IsFit p s → IsFit p (entry_counte
 counted_fits p s fit = record {
   memory = fit.memory;
   activations = fit.activations;
-  standing = fit.standing;
+  activation_stack = fit.activation_stack;
   sched = fit.sched;
 }
 
@@ -672,7 +672,7 @@ effect_fits l p what.Step s verifies range fit =
     unless_stop p s (after_step (code_of p) s) fit (λ running. step_fits l p s verifies running fit)
 effect_fits l p (what.Input byte value) s verifies range fit =
     moved_memory l p s _
-    (input_fits l s.world.memory byte value (with_input s.world.memory byte value) refl) fit
+    (input_fits l s.store.memory byte value (with_input s.store.memory byte value) refl) fit
 effect_fits l p (what.Arrive ob value) s verifies range fit = arrived_fits l p ob value s range fit
 effect_fits l p (what.Tick ms) s verifies range fit = time_fits l p ms s fit
 effect_fits l p (what.Ask request) s verifies range fit = asked_fits l p request s verifies fit
@@ -685,7 +685,7 @@ request_fits : (l : MachineLaws) (p : Program) (best : Pending) (s : State) → 
 request_fits l p best s verifies may fit =
     begins_above p best.class best.ob (ob_activation s.profile (code_of p) best.class best.ob best.info)
     (request_taken s)
-    (ob_fits s.profile l p s.world.memory best.class best.ob best.info verifies fit.memory)
+    (ob_fits s.profile l p s.store.memory best.class best.ob best.info verifies fit.memory)
     (ob_is s.profile (code_of p) best.class best.ob best.info) may
     (other_sched p s (best_removed s.sched) (started_schedule s.sched fit.sched) fit)
 
@@ -702,7 +702,7 @@ best_fits l p (Some best) s verifies running is fit =
         request_fits l p best s verifies
         (best_may_begin s.mode best.class best.ob s.activations running
         (best_waits s.mode s.sched.pending best is fit.sched.pending)
-        (best_class s.mode s.sched.pending best is) may fit.standing) fit
+        (best_class s.mode s.sched.pending best is) may fit.activation_stack) fit
     by false may = fit
 
 settled_fits : (l : MachineLaws) (p : Program) (s : State) → Verifies p → IsFit p s
@@ -725,7 +725,7 @@ before_fits : (profile : Profile) (l : MachineLaws) (p : Program) → IsFit p (b
 before_fits profile l p = record {
   memory = l.first profile p;
   activations = tt;
-  standing = record { stack = tt; startup = tt };
+  activation_stack = record { stack = tt; startup = tt };
   sched = rest_schedule (loaded_obs (code_of p));
 }
 
@@ -734,11 +734,11 @@ before_fits profile l p = record {
 pub ready : MachineLaws → FitIsReady
 ready l p s verifies fit = by s.activations fit.activations
   where
-    by : (activations : List Activation) → AllFit p s.world.memory activations
+    by : (activations : List Activation) → AllFit p s.store.memory activations
         → IsReady (code_of p) activations
     by [] all = tt
     by (a ∷ below) all =
-        let r : IsReadyIn p a = l.goes p s.world.memory a verifies all.0 in
+        let r : IsReadyIn p a = l.goes p s.store.memory a verifies all.0 in
         record { stands = r.stands; depth = r.depth; there = r.there }
 
 pub start_fits : MachineLaws → StartIsFit
@@ -746,7 +746,7 @@ unfolding initial_state
 start_fits l profile p verifies =
     let fit : IsFit p (before_start profile (code_of p)) = before_fits profile l p in
     started_up_fits p (startup_ob profile (code_of p)) (before_start profile (code_of p))
-    (ob_fits profile l p (before_start profile (code_of p)).world.memory 27 100 startup_info verifies fit.memory)
+    (ob_fits profile l p (before_start profile (code_of p)).store.memory 27 100 startup_info verifies fit.memory)
     (ob_is profile (code_of p) 27 100 startup_info) refl fit
 
 pub entries_keep : MachineLaws → EntriesKeepFit

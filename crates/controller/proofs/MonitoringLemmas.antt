@@ -25,31 +25,31 @@ regs_done s (Stop cause) a below new w w' (outcome.Stop why) steps = refl
 regs_done s step a below new w w' done steps = absurd steps
 
 recorded_on : (code : Code) (s : State) (old new : List Activation) (w' : GlobalStore)
-    (done : At × Outcome) → LeavesStatementStep code old new s.world w' (Some done)
+    (done : At × Outcome) → LeavesStatementStep code old new s.store w' (Some done)
     → record_of_statement code s.monitored done.0 (regs_finished done.1 s.sched new done.0.regs)
     ≡ step_record code s old
 recorded_on code s [] new w' done steps = absurd steps
 recorded_on code s (a ∷ below) new w' done steps =
     ap
-    (λ (stand : At). record_of_statement code s.monitored stand (regs_finished done.1 s.sched new stand.regs))
+    (λ (position : At). record_of_statement code s.monitored position (regs_finished done.1 s.sched new position.regs))
     steps.0
     ∙ ap
     (λ (r : Regs). record_of_statement code s.monitored
-    (position_of_running_statement a (regs_before_service (statement_step code a s.world) a)) r)
-    (regs_done s.sched (statement_step code a s.world) a below new s.world w' done.1 steps.1)
+    (position_of_running_statement a (regs_before_service (statement_step code a s.store) a)) r)
+    (regs_done s.sched (statement_step code a s.store) a below new s.store w' done.1 steps.1)
 
 pub step_recorded : (code : Code) (s : State) (new : List Activation) (w' : GlobalStore)
-    (done : At × Outcome) → LeavesStatementStep code s.activations new s.world w' (Some done)
+    (done : At × Outcome) → LeavesStatementStep code s.activations new s.store w' (Some done)
     → record_of_statement code s.monitored done.0 (regs_finished done.1 s.sched new done.0.regs)
     ≡ step_record code s s.activations
 step_recorded code s new w' done steps = recorded_on code s s.activations new w' done steps
 
 -- a cycle point has none
 idle_on : (code : Code) (s : State) (old new : List Activation) (w' : GlobalStore)
-    → LeavesStatementStep code old new s.world w' None → step_record code s old ≡ None
+    → LeavesStatementStep code old new s.store w' None → step_record code s old ≡ None
 idle_on code s [] new w' steps = refl
 idle_on code s (a ∷ below) new w' steps = absurd steps
 
 pub idle_recorded : (code : Code) (s : State) (new : List Activation) (w' : GlobalStore)
-    → LeavesStatementStep code s.activations new s.world w' None → step_record code s s.activations ≡ None
+    → LeavesStatementStep code s.activations new s.store w' None → step_record code s s.activations ≡ None
 idle_recorded code s new w' steps = idle_on code s s.activations new w' steps

@@ -21,7 +21,7 @@ use Rattle.ob_sched.specs.Scheduler.{Scheduler, cycle_retriggered, delay_of, del
 use Rattle.ob_sched.specs.StartInformation.{ob_of_error, start_info}
 use Rattle.ob_sched.specs.Millisecond.{after_tick, tick_begun as course_begun}
 use Rattle.ob_sched.specs.OrganizationBlock.{priority_class_in, is_delay}
-use Rattle.ob_sched.specs.Request.{best_of}
+use Rattle.ob_sched.specs.StartRequest.{best_of}
 use Rattle.ob_sched.specs.declared.requests.Pending.{Pending}
 use Rattle.ob_sched.specs.declared.start_infos.StartEvent.TheVariants.{Arrival}
 use Rattle.ob_sched.specs.declared.start_infos.StartInfo.{StartInfo}
@@ -309,7 +309,7 @@ after_moves :
     (f : Positions) (c d : Code) (step : StatementStep) (ob : ℕ) (at : Option Spot) (below : List Activation) (s : State) → FollowsCode f c d
     → after_statement d (moved_step f step) ob at (map (moved_activation f) below) (moved_state f s) ≡ moved_state f (after_statement c step ob at below s)
 after_moves f c d (Went a w) ob at below s follows = refl
-after_moves f c d (Ended regs w) ob at below s follows = ended_moves f ob (record s { world = w; activations = below })
+after_moves f c d (Ended regs w) ob at below s follows = ended_moves f ob (record s { store = w; activations = below })
 after_moves f c d (SyncError error a) ob at below s follows = failed_moves f c d error at a below s follows
 after_moves f c d (SysCall number given a) ob at below s follows = system_moves f at number given a below s
 after_moves f c d (Stop cause) ob at below s follows = refl
@@ -328,10 +328,10 @@ stepped_on_moves :
 stepped_on_moves f c d [] s statements follows = cycle_moves f c d s follows
 stepped_on_moves f c d (a ∷ below) s statements follows =
     ap (λ (step : StatementStep). after_statement d step a.ob (spot_of_frame d (moved_frame f a.running.frame)) (map (moved_activation f) below) (moved_state f s))
-    (statements f c d a s.world follows)
-    ∙ ap (λ (at : Option Spot). after_statement d (moved_step f (statement_step c a s.world)) a.ob at (map (moved_activation f) below) (moved_state f s))
+    (statements f c d a s.store follows)
+    ∙ ap (λ (at : Option Spot). after_statement d (moved_step f (statement_step c a s.store)) a.ob at (map (moved_activation f) below) (moved_state f s))
     (spot_moves f c d a.running.frame follows)
-    ∙ after_moves f c d (statement_step c a s.world) a.ob (spot_of_frame c a.running.frame) below s follows
+    ∙ after_moves f c d (statement_step c a s.store) a.ob (spot_of_frame c a.running.frame) below s follows
 
 stepped_moves :
     (f : Positions) (c d : Code) (s : State) → StatementsMove → FollowsCode f c d → after_step d (moved_state f s) ≡ moved_state f (after_step c s)
@@ -372,7 +372,7 @@ unfolding time_passed
 time_passes_moves f c d ms s follows =
     ap (λ (obs : List ℕ). tick_taken d (after_tick s.mode obs ms s.sched) (moved_state f s)) (active_same f s.activations)
     ∙ course_moves f c d (after_tick s.mode (active_obs s.activations) ms s.sched)
-    (record s { world = timers_moved (after_tick s.mode (active_obs s.activations) ms s.sched).passed.ms s.world }) follows
+    (record s { store = timers_moved (after_tick s.mode (active_obs s.activations) ms s.sched).passed.ms s.store }) follows
 
 may_start_same : (f : Positions) (class : ℕ) (activations : List Activation) → may_start class (map (moved_activation f) activations) ≡ may_start class activations
 may_start_same f class [] = refl
@@ -466,9 +466,9 @@ step_record_same :
 step_record_same f c d [] s statements follows = refl
 step_record_same f c d (a ∷ below) s statements follows =
     ap (λ (step : StatementStep). recorded (regs_after s.sched step (moved_activation f a)) (spot_of_frame d (moved_frame f a.running.frame)))
-    (statements f c d a s.world follows)
-    ∙ ap (λ (r : Regs). recorded r (spot_of_frame d (moved_frame f a.running.frame))) (regs_same f s.sched (statement_step c a s.world) a)
-    ∙ ap (λ (at : Option Spot). recorded (regs_after s.sched (statement_step c a s.world) a) at) (spot_moves f c d a.running.frame follows)
+    (statements f c d a s.store follows)
+    ∙ ap (λ (r : Regs). recorded r (spot_of_frame d (moved_frame f a.running.frame))) (regs_same f s.sched (statement_step c a s.store) a)
+    ∙ ap (λ (at : Option Spot). recorded (regs_after s.sched (statement_step c a s.store) a) at) (spot_moves f c d a.running.frame follows)
   where
     recorded : Regs → Option Spot → Option MonRecord
     recorded regs at = if is_monitored s.monitored a.running.frame.block then option_map (mon_record_at regs) at else None
@@ -507,7 +507,7 @@ abbrev happened_with : (before after : State) → Reply → Option MonRecord →
 happened_with before after reply mon = record {
   state = after;
   reply = reply;
-  seen = observed_changes mon before.world.memory.peripheral_outputs before.mode after;
+  seen = observed_changes mon before.store.memory.peripheral_outputs before.mode after;
 }
 
 pub entries_move : StatementsMove → EntriesMove

@@ -11,7 +11,7 @@ use Rattle.machine.specs.Statement.{StatementStep, Went, Ended, SyncError, SysCa
 use Rattle.ob_sched.specs.TickState.{TickState, ob_requested}
 use Rattle.ob_sched.specs.Millisecond.{tick_begun, after_tick}
 use Rattle.ob_sched.specs.OrganizationBlock.{priority_class_in}
-use Rattle.ob_sched.specs.Request.{best_of}
+use Rattle.ob_sched.specs.StartRequest.{best_of}
 use Rattle.ob_sched.specs.StartInformation.{start_info}
 use Rattle.ob_sched.specs.declared.requests.Pending.{Pending}
 use Rattle.ob_sched.specs.declared.start_infos.StartEvent.TheVariants.{Arrival}
@@ -108,7 +108,7 @@ stepped_on_stays : (code : Code) (activations : List Activation) (s : State)
     → (step_of_first code activations s).profile ≡ s.profile
 stepped_on_stays code [] s = cycle_stays code s
 stepped_on_stays code (a ∷ below) s =
-    statement_stays code (statement_step code a s.world) a.ob (spot_of_frame code a.running.frame) below s
+    statement_stays code (statement_step code a s.store) a.ob (spot_of_frame code a.running.frame) below s
 
 stepped_stays : (code : Code) (s : State) → (after_step code s).profile ≡ s.profile
 unfolding after_step
@@ -139,7 +139,7 @@ arrived_stays code ob value s =
 
 tick_stays : (code : Code) (c : TickState) (s : State) → (tick_taken code c s).profile ≡ s.profile
 tick_stays code c s =
-    course_stays code c (record s { world = timers_moved c.passed.ms s.world })
+    course_stays code c (record s { store = timers_moved c.passed.ms s.store })
 
 passed_stays : (code : Code) (ms : ℕ) (s : State) → (time_passed code ms s).profile ≡ s.profile
 unfolding time_passed

@@ -11,7 +11,7 @@ use Rattle.plc_base.specs.declared.Mode.TheVariants.{Run, Startup, Stop}
 use Rattle.ob_sched.specs.TickState.{TickState, after_error, time_error, ob_not_loaded, after_request, ob_requested, record_made, stopped_by, lost_event}
 use Rattle.ob_sched.specs.Millisecond.{unless_stopped, each_ob, delay_ended, delay_counted, ending_from, period_ended, is_waiting_or_active, period_queued, periods_counted_from, due_from, with_cycle, cycle_counted, time_counted, delays_passed, periods_passed, run_passed, after_ms, tick_begun, after_tick}
 use Rattle.ob_sched.specs.OrganizationBlock.{priority_class, priority_class_in, can_wait, is_delay, is_cyclic, is_time_of_day, is_hardware}
-use Rattle.ob_sched.specs.Request.{Request, request_queued, best_of}
+use Rattle.ob_sched.specs.StartRequest.{StartRequest, request_queued, best_of}
 use Rattle.ob_sched.specs.Scheduler.{Scheduler, arrival, request_arrived, after_arrival, is_ob_disabled, is_ob_loaded, best_removed, delay_started, delay_cancelled, disabled_as, run_begun, sched_stopped, cycle_begun, sched_restarted, cycle_retriggered, sched_at_rest}
 use Rattle.ob_sched.specs.StartInformation.{start_info}
 use Rattle.ob_sched.specs.declared.requests.Arrived.{Arrived}
@@ -30,33 +30,33 @@ pub of_either : {A : Type 0} (P : A → Type 0) (test : Bool) (x y : A) → P x 
 of_either P true x y one other = one
 of_either P false x y one other = other
 
-abbrev waits : Request → Bool
+abbrev waits : StartRequest → Bool
 waits request = can_wait request.0
 
 -- ---- pending requests
 
-queued_wait : (r : Request) (pending : List Request) → can_wait r.0 ≡ true
+queued_wait : (r : StartRequest) (pending : List StartRequest) → can_wait r.0 ≡ true
     → list_all waits pending ≡ true → list_all waits (request_queued r pending) ≡ true
 queued_wait r [] known all = and_from (can_wait r.0) true known refl
 queued_wait r (first ∷ rest) known all =
     let parts = and_parts (can_wait first.0) (list_all waits rest) all in
-    of_either (λ (xs : List Request). list_all waits xs ≡ true)
+    of_either (λ (xs : List StartRequest). list_all waits xs ≡ true)
     (nat_lt (priority_class first.0) (priority_class r.0)) (r ∷ first ∷ rest) (first ∷ request_queued r rest)
     (and_from (can_wait r.0) (list_all waits (first ∷ rest)) known all)
     (and_from (can_wait first.0) (list_all waits (request_queued r rest)) parts.0
     (queued_wait r rest known parts.1))
 
-pub drop_waits : (pending : List Request) → list_all waits pending ≡ true
+pub drop_waits : (pending : List StartRequest) → list_all waits pending ≡ true
     → list_all waits (drop 1 pending) ≡ true
 drop_waits [] all = refl
 drop_waits (first ∷ rest) all =
-    subst (λ (xs : List Request). list_all waits xs ≡ true) (sym (dropped rest))
+    subst (λ (xs : List StartRequest). list_all waits xs ≡ true) (sym (dropped rest))
     (and_parts (can_wait first.0) (list_all waits rest) all).1
   where
-    dropped : (rest : List Request) → drop 1 (first ∷ rest) ≡ rest
+    dropped : (rest : List StartRequest) → drop 1 (first ∷ rest) ≡ rest
     dropped rest = refl
 
-pub best_waits : (mode : Mode) (pending : List Request) (best : Pending)
+pub best_waits : (mode : Mode) (pending : List StartRequest) (best : Pending)
     → best_of mode pending ≡ Some best → list_all waits pending ≡ true
     → IsTrue (can_wait best.ob)
 best_waits mode [] best is all = absurd cc

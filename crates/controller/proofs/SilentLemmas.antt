@@ -12,7 +12,7 @@ use Rattle.machine.specs.Flat.{code_of}
 use Rattle.machine.specs.Lasting.{FitsProgram, IsStatementReady, StepFitsAgain}
 use Rattle.machine.specs.Silent.{GoesSilently, RunsSilently, StaysReady}
 use Rattle.machine.specs.Statement.{GlobalStore, StatementStep, Went, statement_step}
-use Rattle.ob_sched.specs.Request.{best_of}
+use Rattle.ob_sched.specs.StartRequest.{best_of}
 use Rattle.var_access.specs.declared.What.TheVariants as what
 use Rattle.controller.specs.Event.{state_after}
 use Rattle.controller.specs.Fitting.{AllFit, IsFit}
@@ -61,9 +61,9 @@ all_ready goes lasts p verifies [] w fit = tt
 all_ready goes lasts p verifies (a ∷ below) w fit = stays_ready goes lasts p verifies a w fit.0
 
 pub fit_goes_on : GoesLaw → LastsLaw → (p : Program) (s : State) → Verifies p → IsFit p s
-    → GoesOnReady p s.activations s.world
+    → GoesOnReady p s.activations s.store
 fit_goes_on goes lasts p s verifies fit =
-    all_ready goes lasts p verifies s.activations s.world fit.activations
+    all_ready goes lasts p verifies s.activations s.store fit.activations
 
 -- ---- one silent statement
 
@@ -78,10 +78,10 @@ mode_kept m = rw (same_mode m) refl
 outputs_kept : (p : PeripheralBytes) → changed_outputs p p ≡ []
 outputs_kept p = none_changed p p (λ n h. refl)
 
--- the state with another world and another running activation, so many entries later
+-- a state with another global store and another running activation, so many entries later
 abbrev gone_on : State → GlobalStore → List Activation → (count : ℕ) → State
 gone_on s w activations count =
-    record s { world = w; activations = activations; entries = s.entries + count }
+    record s { store = w; activations = activations; entries = s.entries + count }
 
 -- outside STOP, where no block is monitored and no request waits
 pub record IsSilent (s : State) : Type 0 where
@@ -94,7 +94,7 @@ none_there None h = refl
 none_there (Some x) h = absurd cc
 
 step_after : (code : Code) (s : State) (a next : Activation) (below : List Activation) (then : GlobalStore)
-    → IsSilent s → s.activations ≡ a ∷ below → statement_step code a s.world ≡ Went next then
+    → IsSilent s → s.activations ≡ a ∷ below → statement_step code a s.store ≡ Went next then
     → state_after code what.Step s ≡ gone_on s then (next ∷ below) 1
 unfolding state_after after_step after_settling
 step_after code s a next below then silent were goes =
@@ -108,22 +108,22 @@ no_record code s a below silent were = rw (silent.running, were, silent.unwatche
 
 shown_nothing : (code : Code) (s after : State)
     → monitoring_record code s what.Step ≡ None
-    → after.world.memory.peripheral_outputs ≡ s.world.memory.peripheral_outputs
+    → after.store.memory.peripheral_outputs ≡ s.store.memory.peripheral_outputs
     → after.mode ≡ s.mode → entry_shown code s what.Step after ≡ nothing_shown
 unfolding entry_shown
 shown_nothing code s after unwatched outputs mode =
-    rw (unwatched, outputs, mode, outputs_kept s.world.memory.peripheral_outputs, mode_kept s.mode) refl
+    rw (unwatched, outputs, mode, outputs_kept s.store.memory.peripheral_outputs, mode_kept s.mode) refl
 
 -- the entry of a step
 step_state : (code : Code) (s : State) (a next : Activation) (below : List Activation) (then : GlobalStore)
-    → IsSilent s → s.activations ≡ a ∷ below → GoesSilently (statement_step code a s.world) s.world next then
+    → IsSilent s → s.activations ≡ a ∷ below → GoesSilently (statement_step code a s.store) s.store next then
     → (entry_result code s what.Step).state ≡ gone_on s then (next ∷ below) 1
 unfolding entry_result
 step_state code s a next below then silent were goes =
     step_after code s a next below then silent were goes.goes
 
 step_seen : (code : Code) (s : State) (a next : Activation) (below : List Activation) (then : GlobalStore)
-    → IsSilent s → s.activations ≡ a ∷ below → GoesSilently (statement_step code a s.world) s.world next then
+    → IsSilent s → s.activations ≡ a ∷ below → GoesSilently (statement_step code a s.store) s.store next then
     → (entry_result code s what.Step).seen ≡ nothing_shown
 unfolding entry_result
 step_seen code s a next below then silent were goes =
@@ -138,11 +138,11 @@ pub record StepSilently (code : Code) (s : State) (w : GlobalStore) (activations
     (count : ℕ) : Type 0 where
   pub nothing : ShowNothing code s (replicate count what.Step)
   pub state : state_after_entries code s (replicate count what.Step)
-      ≡ record s { world = w; activations = activations; entries = s.entries + count }
-  pub outputs : w.memory.peripheral_outputs ≡ s.world.memory.peripheral_outputs
+      ≡ record s { store = w; activations = activations; entries = s.entries + count }
+  pub outputs : w.memory.peripheral_outputs ≡ s.store.memory.peripheral_outputs
 
 nothing_done : (code : Code) (s : State) (w : GlobalStore) (activations : List Activation)
-    → activations ≡ s.activations → w ≡ s.world → StepSilently code s w activations zero
+    → activations ≡ s.activations → w ≡ s.store → StepSilently code s w activations zero
 nothing_done code s w activations are is =
     let same : s.entries ≡ s.entries + 0 = omega arith in
     record {
@@ -156,7 +156,7 @@ nothing_done code s w activations are is =
 
 one_more_step : (code : Code) (s : State) (a next : Activation) (below activations : List Activation)
     (then w : GlobalStore) (count : ℕ) → IsSilent s → s.activations ≡ a ∷ below
-    → GoesSilently (statement_step code a s.world) s.world next then
+    → GoesSilently (statement_step code a s.store) s.store next then
     → StepSilently code (gone_on s then (next ∷ below) 1) w activations count
     → StepSilently code s w activations (suc count)
 one_more_step code s a next below activations then w count silent were goes rest =
@@ -171,14 +171,14 @@ one_more_step code s a next below activations then w count silent were goes rest
       state =
           ap (λ (t : State). state_after_entries code t (replicate count what.Step)) on ∙ rest.state
           ∙ ap
-          (λ (n : ℕ). let t : State = record s { world = w; activations = activations; entries = n } in t)
+          (λ (n : ℕ). let t : State = record s { store = w; activations = activations; entries = n } in t)
           all;
       outputs = rest.outputs ∙ goes.outputs;
     }
 
 runs_on : (code : Code) (count : ℕ) (s : State) (a b : Activation) (below activations : List Activation)
     (w : GlobalStore) → IsSilent s → s.activations ≡ a ∷ below → activations ≡ b ∷ below
-    → RunsSilently code count a b s.world w → StepSilently code s w activations count
+    → RunsSilently code count a b s.store w → StepSilently code s w activations count
 runs_on code zero s a b below activations w silent were are runs =
     nothing_done code s w activations
     (are ∙ ap (λ (c : Activation). c ∷ below) runs.0 ∙ sym were) runs.1
@@ -188,7 +188,7 @@ runs_on code (suc count) s a b below activations w silent were are (next, then, 
     (record { running = silent.running; unwatched = silent.unwatched; none = silent.none }) refl are rest)
 
 goes_on : (code : Code) (count : ℕ) (s : State) (old new : List Activation) (w : GlobalStore) → IsSilent s
-    → s.activations ≡ old → GoesOnSilently code count old new s.world w
+    → s.activations ≡ old → GoesOnSilently code count old new s.store w
     → StepSilently code s w new count
 goes_on code count s [] new w silent were runs =
     subst (λ (n : ℕ). StepSilently code s w new n) (sym runs.0)
@@ -197,7 +197,7 @@ goes_on code count s (a ∷ below) new w silent were (b, are, runs) =
     runs_on code count s a b below new w silent were are runs
 
 pub steps_silently : (code : Code) (count : ℕ) (s : State) (new : List Activation) (w : GlobalStore)
-    → IsSilent s → GoesOnSilently code count s.activations new s.world w
+    → IsSilent s → GoesOnSilently code count s.activations new s.store w
     → StepSilently code s w new count
 steps_silently code count s new w silent runs =
     goes_on code count s s.activations new w silent refl runs

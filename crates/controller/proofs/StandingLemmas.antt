@@ -11,7 +11,7 @@ use Rattle.frames.specs.Activations.{activation_begun}
 use Rattle.frames.specs.declared.Activation.{Activation}
 use Rattle.machine.specs.Code.{Code, BlockHead}
 use Rattle.ob_sched.specs.OrganizationBlock.{can_wait, priority_class_in, is_error}
-use Rattle.ob_sched.specs.Request.{Request, best_of}
+use Rattle.ob_sched.specs.StartRequest.{StartRequest, best_of}
 use Rattle.ob_sched.specs.StartInformation.{ob_of_error}
 use Rattle.ob_sched.specs.declared.requests.Pending.{Pending}
 use Rattle.ob_sched.specs.declared.start_infos.StartInfo.{StartInfo}
@@ -65,7 +65,7 @@ begun_stands mode class ob a below class_is ob_is standing may = record {
 }
 
 -- the best request
-pub best_class : (mode : Mode) (pending : List Request) (best : Pending)
+pub best_class : (mode : Mode) (pending : List StartRequest) (best : Pending)
     → best_of mode pending ≡ Some best → best.class ≡ priority_class_in mode best.ob
 best_class mode [] best h = absurd cc
 best_class mode (first ∷ rest) best h =

@@ -36,22 +36,22 @@ idle code [] new w w' steps = steps.0
 idle code (a ∷ below) new w w' steps = absurd steps
 
 idle_on : (code : Code) (s : State) (old new : List Activation) (w' : GlobalStore)
-    → s.activations ≡ old → LeavesStatementStep code old new s.world w' None
-    → step_of_first code old s ≡ cycle_point code (record s { world = w'; activations = new })
+    → s.activations ≡ old → LeavesStatementStep code old new s.store w' None
+    → step_of_first code old s ≡ cycle_point code (record s { store = w'; activations = new })
 idle_on code s [] new w' were steps =
     ap (λ (acts : List Activation). cycle_point code (record s { activations = acts })) were
     ∙ rw (steps.0, steps.1) refl
 idle_on code s (a ∷ below) new w' were steps = absurd steps
 
 pub stepped_idle : (code : Code) (s : State) (new : List Activation) (w' : GlobalStore)
-    → LeavesStatementStep code s.activations new s.world w' None
-    → after_step code s ≡ cycle_point code (record s { world = w'; activations = new })
+    → LeavesStatementStep code s.activations new s.store w' None
+    → after_step code s ≡ cycle_point code (record s { store = w'; activations = new })
 unfolding after_step
 stepped_idle code s new w' steps = idle_on code s s.activations new w' refl steps
 
 -- ---- where one runs
 
--- an error looks at no activation but those that it is told of
+-- an error looks at no activation but the given ones
 answered_from : (fresh : Option Activation) (error : ℕ) (at : Option Spot) (a : Activation)
     (below acts : List Activation) (s : State)
     → error_ob_started fresh error at a below s
@@ -90,9 +90,9 @@ service_from at (Halts cause a) to below acts s = refl
 
 step_done : (code : Code) (s : State) (step : StatementStep) (a : Activation) (regs : Regs)
     (below new : List Activation) (w' : GlobalStore) (done : Outcome) → s.activations ≡ a ∷ below
-    → LeavesStepOf step a below new s.world w' done
+    → LeavesStepOf step a below new s.store w' done
     → after code step a below s
-    ≡ statement_finished code (position_of_running_statement a regs) done (record s { world = w'; activations = new })
+    ≡ statement_finished code (position_of_running_statement a regs) done (record s { store = w'; activations = new })
 unfolding statement_finished
 step_done code s (Went a' w) a regs below new w' outcome.Went were steps = rw (steps.0, steps.1) refl
 step_done code s (Ended r w) a regs below new w' outcome.Ended were steps = rw (steps.0, steps.1) refl
@@ -109,18 +109,18 @@ step_done code s (Stops cause) a regs below new w' (outcome.Stop why) were steps
 step_done code s step a regs below new w' done were steps = absurd steps
 
 running_on : (code : Code) (s : State) (old new : List Activation) (w' : GlobalStore)
-    (done : At × Outcome) → s.activations ≡ old → LeavesStatementStep code old new s.world w' (Some done)
-    → step_of_first code old s ≡ statement_finished code done.0 done.1 (record s { world = w'; activations = new })
+    (done : At × Outcome) → s.activations ≡ old → LeavesStatementStep code old new s.store w' (Some done)
+    → step_of_first code old s ≡ statement_finished code done.0 done.1 (record s { store = w'; activations = new })
 running_on code s [] new w' done were steps = absurd steps
 running_on code s (a ∷ below) new w' done were steps =
-    step_done code s (statement_step code a s.world) a (regs_before_service (statement_step code a s.world) a) below new
+    step_done code s (statement_step code a s.store) a (regs_before_service (statement_step code a s.store) a) below new
     w' done.1 were steps.1
-    ∙ ap (λ (stand : At). statement_finished code stand done.1 (record s { world = w'; activations = new }))
+    ∙ ap (λ (position : At). statement_finished code position done.1 (record s { store = w'; activations = new }))
     (sym steps.0)
 
 pub stepped_from : (code : Code) (s : State) (new : List Activation) (w' : GlobalStore)
-    (done : At × Outcome) → LeavesStatementStep code s.activations new s.world w' (Some done)
-    → after_step code s ≡ statement_finished code done.0 done.1 (record s { world = w'; activations = new })
+    (done : At × Outcome) → LeavesStatementStep code s.activations new s.store w' (Some done)
+    → after_step code s ≡ statement_finished code done.0 done.1 (record s { store = w'; activations = new })
 unfolding after_step
 stepped_from code s new w' done steps =
     running_on code s s.activations new w' done refl steps
@@ -130,7 +130,7 @@ pub step_there : (code : Code) (old new : List Activation) (w w' : GlobalStore)
     → HasStatement code done.0.block done.0.at
 step_there code [] new w w' done ready steps = absurd steps
 step_there code (a ∷ below) new w w' done ready steps =
-    subst (λ (stand : At). HasStatement code stand.block stand.at) (sym steps.0)
+    subst (λ (position : At). HasStatement code position.block position.at) (sym steps.0)
     (statement_there code a w (ready.there w))
 
 -- ---- those that stand afterwards
@@ -230,6 +230,6 @@ pub step_stands : (mode : Mode) (code : Code) (old new : List Activation) (w w' 
     → IsActivationStack (mode_after mode done.0.ob done.1) new
 step_stands mode code [] new w w' done steps standing = absurd steps
 step_stands mode code (a ∷ below) new w w' done steps standing =
-    subst (λ (stand : At). IsActivationStack (mode_after mode stand.ob done.1) new) (sym steps.0)
+    subst (λ (position : At). IsActivationStack (mode_after mode position.ob done.1) new) (sym steps.0)
     (step_left mode code (statement_step code a w) a below new w w' done.1 (statement_same code a w)
     steps.1 standing)

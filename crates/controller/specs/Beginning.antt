@@ -11,7 +11,7 @@ use Rattle.machine.specs.Code.{Code, BlockHead}
 use Rattle.ob_sched.specs.declared.start_infos.StartInfo.{StartInfo}
 use Rattle.controller.specs.State.{State}
 
--- the organization block of a number
+-- the block that is the organization block of a number
 abbrev pub ob_block_id : ℕ → BlockId
 ob_block_id ob = record { kind = Ob; number = ob }
 
@@ -20,7 +20,8 @@ ob_block_id ob = record { kind = Ob; number = ob }
 abbrev pub ob_frame : (ob : ℕ) → BlockHead → Frame
 ob_frame ob head = frame_begun (ob_block_id ob) (min head.local_len 1024)
 
--- bytes from a local byte of the outermost frame on, as far as there are such local bytes
+-- an activation with some bytes written from a local byte of its outermost frame on, as far as
+-- there are such local bytes
 abbrev pub with_start_bytes : (byte : ℕ) → List ℕ → Activation → Activation
 with_start_bytes byte [] a = a
 with_start_bytes byte (value ∷ rest) a =
@@ -29,13 +30,16 @@ with_start_bytes byte (value ∷ rest) a =
 -- an organization block as it begins, with its start information in its first 20 local bytes: all
 -- registers and the status word 0, nothing delayed
 unfoldable pub ob_begun : Profile → (class ob : ℕ) → StartInfo → BlockHead → Activation
-ob_begun profile class ob info head = with_start_bytes 0 info.bytes (activation_begun profile class ob (ob_frame ob head))
+ob_begun profile class ob info head =
+    with_start_bytes 0 info.bytes (activation_begun profile class ob (ob_frame ob head))
 
 -- an organization block of a program as it begins; none where it isn't loaded
 abbrev pub ob_activation : Profile → Code → (class ob : ℕ) → StartInfo → Option Activation
-ob_activation profile code class ob info = option_map (ob_begun profile class ob info) (code.head (ob_block_id ob))
+ob_activation profile code class ob info =
+    option_map (ob_begun profile class ob info) (code.head (ob_block_id ob))
 
--- an organization block begins above the activations that stand; without it (None) all stays
+-- the state in which an organization block begins above the activations that run or are
+-- interrupted; without it (None) all stays
 abbrev pub with_ob_begun : Option Activation → State → State
 with_ob_begun None s = s
 with_ob_begun (Some a) s = record s { activations = a ∷ s.activations }

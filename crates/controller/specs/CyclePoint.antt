@@ -11,17 +11,17 @@ use Rattle.ob_sched.specs.declared.start_infos.StartEvent.TheVariants.{Cycle}
 use Rattle.controller.specs.Beginning.{ob_activation, with_ob_begun}
 use Rattle.controller.specs.State.{State}
 
--- the process image of the outputs is written to the peripheral outputs, and the peripheral inputs are
--- read to the process image of the inputs
+-- the global store with updated process images: the process image of the outputs is written to the
+-- peripheral outputs, and the peripheral inputs are read to the process image of the inputs
 abbrev pub images_updated : GlobalStore → GlobalStore
 images_updated w = record w { memory = memory_refreshed w.memory }
 
--- a cycle is finished: the process images are updated, the cycle counter and the mark of an
--- exceeded cycle time are cleared, and the next cycle isn't the first one any more
+-- the state at the end of a cycle: the process images are updated, the cycle counter and the mark
+-- of an exceeded cycle time are cleared, and the next cycle isn't the first one any more
 abbrev pub cycle_finished : State → State
 cycle_finished s =
     record s {
-      world = images_updated s.world;
+      store = images_updated s.store;
       sched = cycle_begun s.sched;
       first_cycle = false;
     }
@@ -30,7 +30,8 @@ cycle_finished s =
 abbrev pub cycle_info : State → StartInfo
 cycle_info s = start_info (Cycle s.first_cycle) (priority_class_in s.mode 1)
 
--- the cycle point: the cycle is finished, then OB 1 begins, if it is loaded
+-- the state after a cycle point: the cycle is finished, then OB 1 begins, if it is loaded
 unfoldable pub cycle_point : Code → State → State
 cycle_point code s =
-    with_ob_begun (ob_activation s.profile code (priority_class_in s.mode 1) 1 (cycle_info s)) (cycle_finished s)
+    with_ob_begun (ob_activation s.profile code (priority_class_in s.mode 1) 1 (cycle_info s))
+    (cycle_finished s)

@@ -11,7 +11,7 @@ use Rattle.machine.specs.Fitting.{IsMemoryOf}
 use Rattle.machine.specs.Flat.{code_of}
 use Rattle.machine.specs.Lasting.{FitsProgram}
 use Rattle.ob_sched.specs.OrganizationBlock.{can_wait}
-use Rattle.ob_sched.specs.Request.{Request}
+use Rattle.ob_sched.specs.StartRequest.{StartRequest}
 use Rattle.ob_sched.specs.Scheduler.{Scheduler}
 use Rattle.var_access.specs.declared.What.{What}
 use Rattle.var_access.specs.Entry.{IsInRange}
@@ -21,54 +21,57 @@ use Rattle.controller.specs.Stack.{IsActivationStack}
 use Rattle.controller.specs.Start.{initial_state}
 use Rattle.controller.specs.State.{State}
 
--- the activations that stand fit the program and its memory: the running one, and those that wait
+-- each of some activations, the running one and the interrupted ones, fits the program and its
+-- memory
 abbrev pub AllFit : Program → Areas → List Activation → Type 0
 AllFit p m [] = Unit {0}
 AllFit p m (a ∷ below) = FitsProgram p m a × AllFit p m below
 
--- each pending request is of an OB that can wait; there are the four delays of OB 20 to 23, and the
--- nine periods of OB 30 to 38
+-- the scheduler is whole: each pending request is of an OB that can wait, and each delay and
+-- period has its entry
 pub record HasWholeSchedule (s : Scheduler) : Type 0 where
   -- each pending request is of an OB that can wait
-  pub pending : list_all (λ (request : Request). can_wait request.0) s.pending ≡ true
-  -- the delays of OB 20 to 23
+  pub pending : list_all (λ (request : StartRequest). can_wait request.0) s.pending ≡ true
+  -- there is an entry for each delay of the time-delay interrupts OB 20 to 23
   pub delays : length s.countdowns.delays ≡ 4
-  -- the periods of OB 30 to 38
+  -- there is an entry for each period of the cyclic interrupts OB 30 to 38
   pub periods : length s.countdowns.periods ≡ 9
 
--- a state fits a program: its memory and its activations do, these stand on each other as in the
--- mode, and what is pending can wait
+-- a state fits a program: its memory and its activations do, the activations interrupt each other
+-- as the mode allows it, and the scheduler is whole
 pub record IsFit (p : Program) (s : State) : Type 0 where
   -- memory has the data blocks and areas of the program
-  pub memory : IsMemoryOf (code_of p) s.world.memory
+  pub memory : IsMemoryOf (code_of p) s.store.memory
   -- each activation fits the program and its memory
-  pub activations : AllFit p s.world.memory s.activations
-  -- the activations stand on each other as the mode has it
-  pub standing : IsActivationStack s.mode s.activations
-  -- what is pending can wait, and each delay and period is there
+  pub activations : AllFit p s.store.memory s.activations
+  -- the activations interrupt each other as the operating mode allows it
+  pub activation_stack : IsActivationStack s.mode s.activations
+  -- each pending request is of an OB that can wait, and each delay and period has its entry
   pub sched : HasWholeSchedule s.sched
 
--- what each entry of a history does is in the ranges; its worker isn't asked for
+-- the numbers in each of some events are in their ranges; which worker makes an entry isn't looked
+-- at
 abbrev pub AreInRange : List What → Type 0
 AreInRange [] = Unit {0}
 AreInRange (what ∷ rest) = IsInRange what × AreInRange rest
 
--- the next statement of a state that fits can be executed
+-- law: in a state that fits a program that verifies the next statement can be executed
 abbrev pub FitIsReady : Type 0
 FitIsReady =
     (p : Program) (s : State) → Verifies p → IsFit p s → IsReady (code_of p) s.activations
 
--- the first start is fit
+-- law: the state after the first start fits a program that verifies
 abbrev pub StartIsFit : Type 0
-StartIsFit = (profile : Profile) (p : Program) → Verifies p → IsFit p (initial_state profile (code_of p))
+StartIsFit =
+    (profile : Profile) (p : Program) → Verifies p → IsFit p (initial_state profile (code_of p))
 
--- for a program that verifies, each valid entry keeps a state fit
+-- law: an entry in range leads from a state that fits a program that verifies to one that fits it
 abbrev pub EntriesKeepFit : Type 0
 EntriesKeepFit =
     (p : Program) (s : State) (what : What)
     → Verifies p → IsInRange what → IsFit p s → IsFit p (entry_result (code_of p) s what).state
 
--- for a program that verifies, the state after each valid history is fit
+-- law: the state after a history in range fits a program that verifies
 abbrev pub HistoriesAreFit : Type 0
 HistoriesAreFit =
     (profile : Profile) (p : Program) (history : List What)

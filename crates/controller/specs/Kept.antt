@@ -17,7 +17,9 @@ pub record IsReplay (a : Inside) : Type 0 where
   -- the program verifies
   pub verifies : Verifies a.program.program
   -- the state is the replay of the history at its profile
-  pub state : cpu_state a.cpu ≡ replay a.program.profile (code_of a.program.program) (entry_events a.history.entries)
+  pub state :
+      cpu_state a.cpu
+      ≡ replay a.program.profile (code_of a.program.program) (entry_events a.history.entries)
   -- the state fits the program
   pub fit : IsFit a.program.program (cpu_state a.cpu)
   -- what the last entry showed, with what the next one is compared with

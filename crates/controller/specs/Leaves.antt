@@ -25,13 +25,13 @@ use Rattle.controller.specs.declared.serving.Answer.{Answer}
 use Rattle.controller.specs.declared.serving.Answer.TheVariants as answers
 use Rattle.controller.specs.declared.activations.At.{At}
 
--- the running activation is the first of those that stand; none where nothing runs
+-- the running activation, the first of some activations; none where nothing runs
 abbrev pub running_of : List Activation → Option Activation
 running_of [] = None
 running_of (a ∷ below) = Some a
 
--- where its statement stood: its OB, and the innermost block with the position in that block; and the
--- registers after it
+-- where a statement of an activation stands: the OB, the innermost block and the position in that
+-- block; with the registers after the statement
 abbrev pub position_of_running_statement : Activation → Regs → At
 position_of_running_statement a regs = record {
   ob = a.ob;
@@ -54,8 +54,8 @@ HandsRegsOn delay regs [] new = new ≡ []
 HandsRegsOn delay regs (a ∷ below) new =
     new ≡ record a { delay = delay; running = record a.running { regs = regs } } ∷ below
 
--- the organization block of an error of the running activation begins above it (true), or there is
--- none, or nothing runs (false)
+-- what the start of the OB of a synchronous error leaves of the activations: the OB begins above
+-- the running one (true), or the OB isn't loaded or nothing runs (false)
 abbrev pub ErrorBegins :
     Code → (error : ℕ) → (at : Option Spot) → (old new : List Activation) → Bool → Type 0
 ErrorBegins code error at [] new answer = (new ≡ []) × (answer ≡ false)
@@ -65,7 +65,8 @@ ErrorBegins code error at (a ∷ below) new answer =
 -- the activations, memory with timers and counters, and the answer after a statement of `a`, above
 -- `below`. By a stop `a` is as it was; for a statement that is stuck there is no answer
 abbrev pub LeavesStepOf :
-    StatementStep → (a : Activation) (below new : List Activation) (w w' : GlobalStore) → Outcome → Type 0
+    StatementStep → (a : Activation) (below new : List Activation) (w w' : GlobalStore) → Outcome
+    → Type 0
 LeavesStepOf (Went a' after) a below new w w' outcome.Went = (new ≡ a' ∷ below) × (w' ≡ after)
 LeavesStepOf (Ended regs after) a below new w w' outcome.Ended = (new ≡ below) × (w' ≡ after)
 LeavesStepOf (SyncError code a') a below new w w' (outcome.SyncError error) =
@@ -93,36 +94,39 @@ abbrev pub mode_after : Mode → (ob : ℕ) → Outcome → Mode
 mode_after mode ob outcome.Ended = if ob == 100 then Run else mode
 mode_after mode ob _ = mode
 
--- what is left to do after a statement with a synchronous error, which stood at `stand`: its OB
+-- what is left to do after a statement with a synchronous error, which stood at `position`: its OB
 -- begins, or it is a stop; nothing where nothing runs
 abbrev pub error_left : Code → (error : ℕ) → At → List Activation → State → State
-error_left code error stand [] s = s
-error_left code error stand (a ∷ below) s =
-    error_raised code error (statement_spot code stand.block stand.at) a below s
+error_left code error position [] s = s
+error_left code error position (a ∷ below) s =
+    error_raised code error (statement_spot code position.block position.at) a below s
 
 -- what is left to do after a call of a system function: it does its work, RET_VAL goes where it is
 -- bound, and a stop has the spot of the call; nothing where nothing runs
 abbrev pub call_left :
     Code → (number : ℕ) → List ℕ → Option Binding → At → List Activation → State → State
-call_left code number inputs to stand [] s = s
-call_left code number inputs to stand (a ∷ below) s =
-    after_service (statement_spot code stand.block stand.at) (system_function_served number inputs s.sched a) to below s
+call_left code number inputs to position [] s = s
+call_left code number inputs to position (a ∷ below) s =
+    after_service (statement_spot code position.block position.at)
+    (system_function_served number inputs s.sched a) to below s
 
 -- what is left to do after a statement, by what came of it: the end of OB 100 begins RUN, an error
 -- begins its OB, a system function does its work, a stop is STOP with the spot of the statement
 unfoldable pub statement_finished : Code → At → Outcome → State → State
-statement_finished code stand outcome.Went s = s
-statement_finished code stand outcome.Ended s = ob_ended stand.ob s
-statement_finished code stand (outcome.SyncError error) s = error_left code error stand s.activations s
-statement_finished code stand (outcome.SysCall number inputs to) s =
-    call_left code number inputs to stand s.activations s
-statement_finished code stand (outcome.Stop cause) s =
-    stop_entered_at (statement_spot code stand.block stand.at) cause s
+statement_finished code position outcome.Went s = s
+statement_finished code position outcome.Ended s = ob_ended position.ob s
+statement_finished code position (outcome.SyncError error) s =
+    error_left code error position s.activations s
+statement_finished code position (outcome.SysCall number inputs to) s =
+    call_left code number inputs to position s.activations s
+statement_finished code position (outcome.Stop cause) s =
+    stop_entered_at (statement_spot code position.block position.at) cause s
 
 -- the registers after a call of a system function, which had left these; they stay where nothing runs
 abbrev pub regs_called : (number : ℕ) → List ℕ → Scheduler → List Activation → Regs → Regs
 regs_called number inputs s [] regs = regs
-regs_called number inputs s (a ∷ below) regs = regs_served (system_function_served number inputs s a)
+regs_called number inputs s (a ∷ below) regs =
+    regs_served (system_function_served number inputs s a)
 
 -- the registers after a whole statement, by what came of it: a system function is still to do its work
 abbrev pub regs_finished : Outcome → Scheduler → List Activation → Regs → Regs
@@ -130,14 +134,18 @@ regs_finished (outcome.SysCall number inputs to) s activations regs =
     regs_called number inputs s activations regs
 regs_finished _ s activations regs = regs
 
--- what is recorded of a statement that stood at `stand`, with the registers after it
+-- the monitoring record of a statement by its position and the registers after it; None where its
+-- block isn't monitored
 abbrev pub record_of_statement : Code → (monitored : Option BlockId) → At → Regs → Option MonRecord
-record_of_statement code monitored stand regs = statement_record code monitored stand.block stand.at regs
+record_of_statement code monitored position regs =
+    statement_record code monitored position.block position.at regs
 
 -- what a system function leaves of the scheduler and its activation, and what it answers: RET_VAL,
 -- nothing, or its stop cause, which changes nothing of the scheduler
-abbrev pub LeavesServiceResult : ServiceResult → (s s' : Scheduler) (a' : Activation) → Answer → Type 0
-LeavesServiceResult (Returns r) s s' a' (answers.Value value) = LeavesSystemFunctionResult r s' a' value
+abbrev pub LeavesServiceResult :
+    ServiceResult → (s s' : Scheduler) (a' : Activation) → Answer → Type 0
+LeavesServiceResult (Returns r) s s' a' (answers.Value value) =
+    LeavesSystemFunctionResult r s' a' value
 LeavesServiceResult (Passes sched a) s s' a' answers.Nothing = (s' ≡ sched) × (a' ≡ a)
 LeavesServiceResult (Stops cause a) s s' a' (answers.Halt why) = (why ≡ cause) × (s' ≡ s) × (a' ≡ a)
 LeavesServiceResult served s s' a' answer = ⊥

@@ -17,14 +17,14 @@ use Rattle.controller.specs.Serving.{ServiceResult, Returns, Passes, Stops, syst
 use Rattle.controller.specs.State.{State, is_stop}
 use Rattle.controller.specs.Stopping.{statement_spot}
 
--- the registers as a system function leaves them; RET_VAL isn't one of them
+-- the registers of the activation as a system function leaves them; RET_VAL isn't one of them
 abbrev pub regs_served : ServiceResult → Regs
 regs_served (Returns r) = r.activation.running.regs
 regs_served (Passes sched a) = a.running.regs
 regs_served (Stops cause a) = a.running.regs
 
--- the registers of activation `a` after its statement, and before a system function that it calls does
--- its work. One that fails, or stops by block depth or local data, changes none
+-- the registers of activation `a` after its statement, and before a system function that it calls
+-- does its work. A statement that fails, or stops by block depth or local data, changes none
 abbrev pub regs_before_service : StatementStep → (a : Activation) → Regs
 regs_before_service (Went b w) a = b.running.regs
 regs_before_service (Ended regs w) a = regs
@@ -35,7 +35,8 @@ regs_before_service Stuck a = a.running.regs
 
 -- the registers of activation `a` after its whole statement, the work of the system function included
 abbrev pub regs_after : Scheduler → StatementStep → (a : Activation) → Regs
-regs_after s (SysCall number given b) a = regs_served (system_function_served number given.inputs s b)
+regs_after s (SysCall number given b) a =
+    regs_served (system_function_served number given.inputs s b)
 regs_after s step a = regs_before_service step a
 
 -- a block is the monitored one
@@ -58,15 +59,17 @@ mon_record_at regs at = record {
 abbrev pub statement_record :
     Code → (monitored : Option BlockId) → BlockId → (at : ℕ) → Regs → Option MonRecord
 statement_record code monitored block at regs =
-    if is_monitored monitored block then option_map (mon_record_at regs) (statement_spot code block at)
+    if is_monitored monitored block then
+    option_map (mon_record_at regs) (statement_spot code block at)
     else None
 
--- the record of the next statement of the first of these activations; a cycle point has none
+-- the record of the next statement of the first of some activations; a cycle point, where there is
+-- none, has no record
 abbrev pub step_record : Code → State → List Activation → Option MonRecord
 step_record code s [] = None
 step_record code s (a ∷ below) =
     statement_record code s.monitored a.running.frame.block a.running.frame.at
-    (regs_after s.sched (statement_step code a s.world) a)
+    (regs_after s.sched (statement_step code a s.store) a)
 
 -- what is recorded of an entry, by the state before it: a step outside STOP shows its statement, with
 -- the registers before settling, whatever comes of it

@@ -17,14 +17,14 @@ moved_state f s = record s { activations = map (moved_activation f) s.activation
 abbrev pub moved_result : (BlockId → ℕ → ℕ) → EntryResult → EntryResult
 moved_result f h = record h { state = moved_state f h.state }
 
--- an entry does the same in a code that follows
+-- law: an entry does the same in a code that follows another at other positions
 abbrev pub EntriesMove : Type 0
 EntriesMove =
     (f : BlockId → ℕ → ℕ) (c d : Code) (s : State) (what : What) → FollowsCode f c d
     → entry_result d (moved_state f s) what ≡ moved_result f (entry_result c s what)
 
--- a history does the same in a code that follows: the state after it is the same with its positions
--- moved, so mode, memory, scheduler and diagnostics are equal
+-- law: a history does the same in a code that follows another at other positions: the state after
+-- it is the same with its positions moved, so mode, memory, scheduler and diagnostics are equal
 abbrev pub HistoriesMove : Type 0
 HistoriesMove =
     (profile : Profile) (f : BlockId → ℕ → ℕ) (c d : Code) (history : List What) → FollowsCode f c d

@@ -13,22 +13,22 @@ use Rattle.controller.specs.Start.{initial_state}
 use Rattle.controller.specs.State.{State}
 use Rattle.controller.specs.declared.observing.Observed.{Observed}
 
--- the state after an entry, the answer, and what was shown
+-- what an entry does: the state after it, its answer, and what it showed
 pub record EntryResult : Type 0 where
   -- the state after the entry
   pub state : State
   -- what the entry was answered
   pub reply : Reply
-  -- what it showed
+  -- what the entry showed
   pub seen : Observed
 
--- what an entry is answered, by the state before it: a request its answer, each other entry that it
--- is done
+-- the answer to an entry, by the state before it: to a request its own, to each other entry that
+-- it is done
 abbrev pub reply_to : Code → (before : State) → What → Reply
 reply_to code before (Ask request) = request_reply code request before
 reply_to code before what = Done
 
--- an entry, by the states before and after it
+-- the result of an entry, by the states before and after it
 abbrev pub entry_result_between : Code → (before : State) → What → (after : State) → EntryResult
 entry_result_between code before what after = record {
   state = after;
@@ -36,16 +36,17 @@ entry_result_between code before what after = record {
   seen = entry_shown code before what after;
 }
 
--- what an entry does in a state
+-- the result of an entry in a state
 unfoldable pub entry_result : Code → State → What → EntryResult
 entry_result code s what = entry_result_between code s what (state_after code what s)
 
--- entries one after another, from a state on
+-- the state after entries one after another, from a state on
 abbrev pub state_after_entries : Code → State → List What → State
 state_after_entries code s [] = s
-state_after_entries code s (what ∷ rest) = state_after_entries code (entry_result code s what).state rest
+state_after_entries code s (what ∷ rest) =
+    state_after_entries code (entry_result code s what).state rest
 
--- replay: a whole history, from the start on
+-- the state after a whole history, from the first start on
 unfoldable pub replay : Profile → Code → List What → State
 replay profile code history = state_after_entries code (initial_state profile code) history
 
@@ -57,52 +58,61 @@ last_observed_from code s seen (what ∷ rest) =
 
 -- what the last entry of a history showed; before the first entry nothing is shown
 unfoldable pub last_observed : Profile → Code → List What → Observed
-last_observed profile code history = last_observed_from code (initial_state profile code) nothing_shown history
+last_observed profile code history =
+    last_observed_from code (initial_state profile code) nothing_shown history
 
--- a history with one entry more: that entry happens in the state after the others
+-- law: the replay of a history with one entry more is the state after that entry in the replay of
+-- the others
 abbrev pub ContinuesReplay : Type 0
 ContinuesReplay =
     (profile : Profile) (code : Code) (history : List What) (what : What)
-    → replay profile code (history ++ what ∷ []) ≡ (entry_result code (replay profile code history) what).state
+    → replay profile code (history ++ what ∷ [])
+    ≡ (entry_result code (replay profile code history) what).state
 
--- what was seen last of a history with one entry more is what that entry shows in the state after
--- the others
+-- law: what was seen last of a history with one entry more is what that entry shows in the replay
+-- of the others
 abbrev pub ContinuesSeen : Type 0
 ContinuesSeen =
     (profile : Profile) (code : Code) (history : List What) (what : What)
-    → last_observed profile code (history ++ what ∷ []) ≡ (entry_result code (replay profile code history) what).seen
+    → last_observed profile code (history ++ what ∷ [])
+    ≡ (entry_result code (replay profile code history) what).seen
 
--- a history with further entries: they are made from the state after the others on
+-- law: the replay of a history with further entries is the state after these, from the replay of
+-- the others on
 abbrev pub ContinuesByMore : Type 0
 ContinuesByMore =
     (profile : Profile) (code : Code) (history more : List What)
-    → replay profile code (history ++ more) ≡ state_after_entries code (replay profile code history) more
+    → replay profile code (history ++ more)
+    ≡ state_after_entries code (replay profile code history) more
 
--- what was seen last of a history with further entries is what the last of these shows, from the
--- state after the others on; without further ones it is what was seen before
+-- law: what was seen last of a history with further entries is what the last of these shows;
+-- without further ones it is what was seen before
 abbrev pub SeenByMore : Type 0
 SeenByMore =
     (profile : Profile) (code : Code) (history more : List What)
     → last_observed profile code (history ++ more)
-    ≡ last_observed_from code (replay profile code history) (last_observed profile code history) more
+    ≡ last_observed_from code (replay profile code history)
+    (last_observed profile code history) more
 
--- each entry adds 1 to the count of entries of the state
+-- law: each entry adds 1 to the count of entries of the state
 abbrev pub CountsEntries : Type 0
 CountsEntries =
     (code : Code) (s : State) (what : What)
     → (entry_result code s what).state.entries ≡ s.entries + 1
 
--- the count of entries of the state after a history is the length of the history
+-- law: the count of entries of the state after a history is the length of the history
 abbrev pub CountsHistory : Type 0
 CountsHistory =
-    (profile : Profile) (code : Code) (history : List What) → (replay profile code history).entries ≡ length history
+    (profile : Profile) (code : Code) (history : List What)
+    → (replay profile code history).entries ≡ length history
 
--- no entry changes the profile
+-- law: no entry changes the profile
 abbrev pub EntriesKeepProfile : Type 0
 EntriesKeepProfile =
     (code : Code) (s : State) (what : What) → (entry_result code s what).state.profile ≡ s.profile
 
--- the profile after each history is that of the start
+-- law: the profile after each history is that of the start
 abbrev pub HistoriesKeepProfile : Type 0
 HistoriesKeepProfile =
-    (profile : Profile) (code : Code) (history : List What) → (replay profile code history).profile ≡ profile
+    (profile : Profile) (code : Code) (history : List What)
+    → (replay profile code history).profile ≡ profile

@@ -13,21 +13,21 @@ use Rattle.controller.specs.Recording.{Recording}
 abbrev pub entry_events : List Entry → List What
 entry_events history = map (λ (e : Entry). e.what) history
 
--- the state of the CPU after all entries
+-- the state of the CPU after all entries of a recording
 abbrev pub final_state : Recording → State
 final_state r = replay r.profile (code_of r.program) (entry_events r.history)
 
--- the result of one more entry behind the history
+-- the result of one more entry behind the history of a recording
 abbrev pub next_result : Recording → Entry → EntryResult
 next_result r e = entry_result (code_of r.program) (final_state r) e.what
 
--- what the last entry showed; nothing before the first one
+-- what the last entry of a recording showed; nothing before the first entry
 abbrev pub last_shown : Recording → Observed
 last_shown r = last_observed r.profile (code_of r.program) (entry_events r.history)
 
--- the loaded data blocks by rising number, with their bytes after all entries
+-- the data blocks of a recording by rising number, with their bytes after all entries
 abbrev pub final_data_blocks : Recording → List (ℕ × List ℕ)
-final_data_blocks r = finmap.entries (final_state r).world.memory.data_blocks
+final_data_blocks r = finmap.entries (final_state r).store.memory.data_blocks
 
 -- the number of a data block, with its bytes
 abbrev pub number_with_bytes : (number : ℕ) → (bytes : List ℕ) → ℕ × List ℕ

@@ -1,4 +1,4 @@
--- Requests from outside: arrivals, and what they lead to.
+-- Arrivals: requests of organization blocks from outside, and what they lead to.
 use Rattle.std.specs.Prelude.{ℕ, Option, Some, None, if◌then◌else◌}
 use Rattle.machine.specs.Code.{Code}
 use Rattle.ob_sched.specs.TickState.{TickState, ob_requested}
@@ -9,7 +9,7 @@ use Rattle.ob_sched.specs.declared.start_infos.StartEvent.TheVariants.{Arrival}
 use Rattle.controller.specs.State.{State, is_stop, each_diagnosed}
 use Rattle.controller.specs.Stopping.{stop_entered}
 
--- STOP with a cause, if there is one
+-- the state with STOP by a cause, if there is one
 abbrev pub stopped_if : Code → (cause : Option ℕ) → State → State
 stopped_if code None s = s
 stopped_if code (Some cause) s = stop_entered code cause s
@@ -20,10 +20,12 @@ tick_state_taken code c s =
     stopped_if code c.passed.stop
     (each_diagnosed c.passed.records.items (record s { sched = c.sched }))
 
--- an arrival requests its organization block; in STOP it is dropped. A disabled block's is dropped; a
--- block that isn't loaded requests OB 85, and a full queue is a time error
+-- the state after an arrival, which requests its organization block: in STOP it is dropped, and so
+-- is one of a disabled block; one of a block that isn't loaded requests OB 85, and one that finds
+-- a full queue is a time error
 unfoldable pub arrival_served : Code → (ob value : ℕ) → State → State
 arrival_served code ob value s =
     if is_stop s.mode then s
     else tick_state_taken code
-    (ob_requested s.mode ob (start_info (Arrival ob value) (priority_class_in s.mode ob)) (tick_begun s.sched)) s
+    (ob_requested s.mode ob (start_info (Arrival ob value) (priority_class_in s.mode ob))
+    (tick_begun s.sched)) s

@@ -16,14 +16,13 @@ use Rattle.sys_funcs.specs.Returned.{SystemFunctionResult, with_br_set}
 use Rattle.controller.specs.State.{State}
 use Rattle.controller.specs.Stopping.{stop_entered_at}
 
--- what a system function leaves of the scheduler and the running activation: with a return value, with
--- none, or before STOP, where the scheduler stays
+-- what a system function leaves of the scheduler and the running activation
 pub data ServiceResult : Type 0 where
-  -- with a return value
+  -- the system function has a return value
   Returns : (r : SystemFunctionResult) → ServiceResult
-  -- without one
+  -- the system function has no return value: SFC 43, RE_TRIGR
   Passes : (sched : Scheduler) (a : Activation) → ServiceResult
-  -- before STOP, by its cause
+  -- the system function stops the controller by a cause: SFC 46, STP. The scheduler stays
   Stops : (cause : ℕ) (a : Activation) → ServiceResult
 
 -- the number of an IN parameter by its place, counted from 0; 0 where there is none
@@ -32,7 +31,8 @@ in_parameter place inputs = slice_index_or inputs place 0
 
 -- what a system function does, by its number: 32 SRT_DINT, 33 CAN_DINT, 39 DIS_IRT, 40 EN_IRT, 41
 -- DIS_AIRT, 42 EN_AIRT, 43 RE_TRIGR, 46 STP (stop cause 1); any other is 64 TIME_TCK
-unfoldable pub system_function_served : (number : ℕ) → (inputs : List ℕ) → Scheduler → Activation → ServiceResult
+unfoldable pub system_function_served :
+    (number : ℕ) → (inputs : List ℕ) → Scheduler → Activation → ServiceResult
 system_function_served number inputs s a =
     if number == 32 then
     Returns (srt_dint s a (in_parameter 0 inputs) (in_parameter 1 inputs) (in_parameter 2 inputs))
@@ -48,13 +48,14 @@ system_function_served number inputs s a =
 -- RET_VAL goes where it is bound; where it isn't, nothing changes
 abbrev pub result_given : Option Binding → (value : ℕ) → Activation → Areas → ReturnState
 result_given None value a m = record { activation = a; memory = m }
-result_given (Some to) value a m = return_state_of a (with_ret_val to value (local_memory_of a.running m))
+result_given (Some to) value a m =
+    return_state_of a (with_ret_val to value (local_memory_of a.running m))
 
 -- the running activation goes on behind a system function, with another scheduler and another memory
 abbrev pub resume_with : ReturnState → Scheduler → (below : List Activation) → State → State
 resume_with stage sched below s =
     record s {
-      world = with_memory stage.memory s.world;
+      store = with_memory stage.memory s.store;
       sched = sched;
       activations = stage.activation ∷ below;
     }
@@ -62,17 +63,18 @@ resume_with stage sched below s =
 -- after the system function: RET_VAL is given, if there is one, and the activation goes on; a stop
 -- has the spot of the call
 abbrev pub after_service :
-    (call : Option Spot) → ServiceResult → Option Binding → (below : List Activation) → State → State
+    (call : Option Spot) → ServiceResult → Option Binding → (below : List Activation)
+    → State → State
 after_service call (Returns r) to below s =
-    resume_with (result_given to r.value r.activation s.world.memory) r.sched below s
+    resume_with (result_given to r.value r.activation s.store.memory) r.sched below s
 after_service call (Passes sched a) to below s =
-    resume_with (record { activation = a; memory = s.world.memory }) sched below s
+    resume_with (record { activation = a; memory = s.store.memory }) sched below s
 after_service call (Stops cause a) to below s = stop_entered_at call cause s
 
 -- a call of a system function: it does its work in the same step, and the running activation, which
 -- has gone on behind the call as `a`, goes on with its result
 abbrev pub system_call_served :
-    (call : Option Spot) → (number : ℕ) → SystemCallArguments → (a : Activation) (below : List Activation)
-    → State → State
+    (call : Option Spot) → (number : ℕ) → SystemCallArguments → (a : Activation)
+    (below : List Activation) → State → State
 system_call_served call number given a below s =
     after_service call (system_function_served number given.inputs s.sched a) given.result below s

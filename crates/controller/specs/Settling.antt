@@ -2,7 +2,7 @@
 use Rattle.std.specs.Prelude.{ℕ, ◌==◌, ◌&&◌, nat_lt, Bool, true, List, [], ◌∷◌, Option, Some, None, if◌then◌else◌}
 use Rattle.frames.specs.declared.Activation.{Activation}
 use Rattle.machine.specs.Code.{Code}
-use Rattle.ob_sched.specs.Request.{best_of}
+use Rattle.ob_sched.specs.StartRequest.{best_of}
 use Rattle.ob_sched.specs.Scheduler.{best_removed}
 use Rattle.ob_sched.specs.declared.requests.Pending.{Pending}
 use Rattle.controller.specs.Beginning.{ob_activation, with_ob_begun}
@@ -14,7 +14,7 @@ abbrev pub may_start : (class : ℕ) → List Activation → Bool
 may_start class [] = true
 may_start class (a ∷ below) = nat_lt a.class class && a.delay == 0
 
--- the best request isn't pending any more
+-- the state in which the first pending request isn't pending any more
 abbrev pub request_taken : State → State
 request_taken s = record s { sched = best_removed s.sched }
 
@@ -24,14 +24,15 @@ abbrev pub request_started : Code → Pending → State → State
 request_started code best s =
     with_ob_begun (ob_activation s.profile code best.class best.ob best.info) (request_taken s)
 
--- the best request, if one is pending, is started where it may; else it stays pending
+-- the state in which the first pending request, if there is one, is started where it may; else it
+-- stays pending
 abbrev pub best_started : Code → Option Pending → State → State
 best_started code None s = s
 best_started code (Some best) s =
     if may_start best.class s.activations then request_started code best s else s
 
--- settling: the best request, with its class in the operating mode, is started where it may; none
--- is in STOP
+-- the state after settling: the first pending request, with its class in the operating mode, is
+-- started where it may; none is in STOP
 unfoldable pub after_settling : Code → State → State
 after_settling code s =
     if is_stop s.mode then s else best_started code (best_of s.mode s.sched.pending) s

@@ -51,29 +51,29 @@ abbrev pub observed_changes :
     Option MonRecord → (outputs : PeripheralBytes) → Mode → (after : State) → Observed
 observed_changes mon outputs mode after = record {
   mon = mon;
-  outputs = changed_outputs outputs after.world.memory.peripheral_outputs;
+  outputs = changed_outputs outputs after.store.memory.peripheral_outputs;
   mode = changed_mode mode after.mode;
 }
 
 -- what an entry shows: its monitoring record, and what changed between the states before and after it
 unfoldable pub entry_shown : Code → (before : State) → What → (after : State) → Observed
 entry_shown code before what after =
-    observed_changes (monitoring_record code before what) before.world.memory.peripheral_outputs before.mode
-    after
+    observed_changes (monitoring_record code before what)
+    before.store.memory.peripheral_outputs before.mode after
 
--- what is kept from one entry to the next: the peripheral outputs and the mode, and what was shown
+-- what is kept from one entry to the next to find what an entry shows
 pub record WatchedState : Type 0 where
-  -- the peripheral outputs
+  -- the peripheral outputs after the last entry
   pub outputs : PeripheralBytes
-  -- the operating mode
+  -- the operating mode after the last entry
   pub mode : Mode
-  -- what was shown last
+  -- what the last entry showed
   pub seen : Observed
 
 -- what is kept of a state, with what was shown last
 abbrev pub watched_state : State → (seen : Observed) → WatchedState
 watched_state s seen = record {
-  outputs = s.world.memory.peripheral_outputs;
+  outputs = s.store.memory.peripheral_outputs;
   mode = s.mode;
   seen = seen;
 }

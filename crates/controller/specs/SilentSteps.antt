@@ -5,7 +5,7 @@ use Rattle.flat_code.specs.Programs.{Program}
 use Rattle.machine.specs.Code.{Code}
 use Rattle.machine.specs.Silent.{RunsSilently, StaysReady, goes_on_by_kind, is_silent}
 use Rattle.machine.specs.Statement.{GlobalStore}
-use Rattle.ob_sched.specs.Request.{best_of}
+use Rattle.ob_sched.specs.StartRequest.{best_of}
 use Rattle.var_access.specs.declared.What.{What}
 use Rattle.controller.specs.Replay.{entry_result}
 use Rattle.controller.specs.Shown.{nothing_shown}
@@ -44,4 +44,4 @@ abbrev pub steps_silently : Code → State → Bool
 steps_silently code s =
     not (is_some s.monitored) && not (is_stop s.mode)
     && not (is_some (best_of s.mode s.sched.pending))
-    && goes_on_silently code s.activations s.world
+    && goes_on_silently code s.activations s.store

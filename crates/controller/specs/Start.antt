@@ -19,18 +19,19 @@ use Rattle.controller.specs.Beginning.{ob_block_id, ob_activation, with_ob_begun
 use Rattle.controller.specs.State.{State, diagnosis_recorded}
 use Rattle.controller.specs.Stepping.{run_starts}
 
--- the organization blocks that there are
+-- the numbers of all organization blocks of the profile
 abbrev pub all_obs : List ℕ
 all_obs =
     1 ∷ 10 ∷ 11 ∷ 12 ∷ 13 ∷ 14 ∷ 15 ∷ 16 ∷ 17 ∷ 20 ∷ 21 ∷ 22 ∷ 23
     ∷ 30 ∷ 31 ∷ 32 ∷ 33 ∷ 34 ∷ 35 ∷ 36 ∷ 37 ∷ 38 ∷ 40 ∷ 41 ∷ 42 ∷ 43 ∷ 44 ∷ 45 ∷ 46 ∷ 47
     ∷ 80 ∷ 85 ∷ 100 ∷ 121 ∷ 122 ∷ []
 
--- the organization blocks that a program has, by rising number
+-- the numbers of the organization blocks that a program has, by rising number
 abbrev pub loaded_obs : Code → List ℕ
 loaded_obs code = filter (λ ob. is_some (code.head (ob_block_id ob))) all_obs
 
--- data blocks have their first bytes, all other memory is 0, timers and counters are at rest
+-- the global store before the first start: data blocks have their first bytes, all other memory is
+-- 0, timers and counters are at rest
 abbrev pub global_store_at_rest : Profile → Code → GlobalStore
 global_store_at_rest profile code = record {
   memory = initial_memory profile code.blocks;
@@ -38,12 +39,12 @@ global_store_at_rest profile code = record {
   counters = replicate (counter_count profile) counter_at_rest;
 }
 
--- before the first start: RUN, nothing runs, nothing is pending, nothing is monitored, and no entry or
--- record was made
+-- the state before the first start: RUN, nothing runs, nothing is pending, nothing is monitored,
+-- and no entry or record was made
 abbrev pub before_start : Profile → Code → State
 before_start profile code = record {
   profile = profile;
-  world = global_store_at_rest profile code;
+  store = global_store_at_rest profile code;
   mode = Run;
   activations = [];
   sched = sched_at_rest (loaded_obs code);
@@ -57,7 +58,7 @@ before_start profile code = record {
 abbrev pub startup_info : StartInfo
 startup_info = start_info OfStartup 27
 
--- OB 100 as it begins; none where it isn't loaded
+-- the activation with which OB 100 begins; none where OB 100 isn't loaded
 abbrev pub startup_ob : Profile → Code → Option Activation
 startup_ob profile code = ob_activation profile code 27 100 startup_info
 
@@ -67,12 +68,12 @@ abbrev pub state_in_startup : Option Activation → State → State
 state_in_startup None s = run_starts s
 state_in_startup (Some a) s = with_ob_begun (Some a) (record s { mode = Startup })
 
--- the first start
+-- the state after the first start of a program at a profile
 unfoldable pub initial_state : Profile → Code → State
 initial_state profile code = state_in_startup (startup_ob profile code) (before_start profile code)
 
--- the memory, timers and counters after a restart: of memory and counters what is retained stays,
--- and all timers of the profile are at rest again
+-- the global store after a warm restart: of memory and counters what is retained stays, and all
+-- timers of the profile are at rest again
 abbrev pub global_store_after_restart : Profile → GlobalStore → GlobalStore
 global_store_after_restart profile w = record w {
   memory = memory_after_restart w.memory;
@@ -80,18 +81,19 @@ global_store_after_restart profile w = record w {
   counters = counters_retained w.counters;
 }
 
--- what a warm restart clears: memory, timers and counters but those that are retained, disabling of interrupts,
--- the clock, the cycle counter and its mark; the first cycle is to come again, and the monitored block and the
--- records of diagnostics stay
+-- the state with what a warm restart clears cleared: memory, timers and counters but those that
+-- are retained, disabling of interrupts, the clock, the cycle counter and its mark; the first
+-- cycle is to come again, and the monitored block and the records of diagnostics stay
 abbrev pub restart_cleared : State → State
 restart_cleared s =
     record s {
-      world = global_store_after_restart s.profile s.world;
+      store = global_store_after_restart s.profile s.store;
       sched = sched_restarted s.sched;
       first_cycle = true;
     }
 
--- a warm restart out of STOP, recorded by code 6: what isn't retained is cleared, and OB 100 or RUN
--- begins
+-- the state after a warm restart out of STOP, recorded by code 6: what isn't retained is cleared,
+-- and OB 100 or RUN begins
 unfoldable pub warm_restarted : Code → State → State
-warm_restarted code s = state_in_startup (startup_ob s.profile code) (restart_cleared (diagnosis_recorded 6 0 s))
+warm_restarted code s =
+    state_in_startup (startup_ob s.profile code) (restart_cleared (diagnosis_recorded 6 0 s))

@@ -10,18 +10,16 @@ use Rattle.monitor.specs.Diagnostics.{last_records}
 use Rattle.monitor.specs.declared.DiagRecord.{DiagRecord}
 use Rattle.ob_sched.specs.Scheduler.{Scheduler}
 
--- the profile; memory, timers and counters; the operating mode; the activations, the running one first,
--- each of the others interrupted by the one before it; the scheduler; whether the first cycle after a
--- start is still to come; the monitored block, if there is one; the last 100 records of diagnostics; and
--- how many entries there were
+-- the state of the CPU between two entries of its history
 pub record State : Type 0 where
   -- the profile (docs/SEMANTICS.md, "Memory")
   pub profile : Profile
-  -- memory, timers and counters
-  pub world : GlobalStore
+  -- the global store: memory, timers and counters
+  pub store : GlobalStore
   -- the operating mode: STARTUP, RUN or STOP
   pub mode : Mode
-  -- the organization blocks that run or are interrupted, the running one first
+  -- the activations of organization blocks, the running one first, each of the others interrupted
+  -- by the one before it
   pub activations : List Activation
   -- the scheduler: requests, delays, periods, cycle time
   pub sched : Scheduler
@@ -31,20 +29,22 @@ pub record State : Type 0 where
   pub monitored : Option BlockId
   -- the diagnostic buffer: the last 100 records
   pub diagnostics : List DiagRecord
-  -- how many entries there were
+  -- how many entries the history has
   pub entries : ℕ
 
--- STOP, whatever its cause and its spot are
+-- the mode is STOP, whatever its cause and its spot are
 abbrev pub is_stop : Mode → Bool
 is_stop Run = false
 is_stop Startup = false
 is_stop (Stop cause at) = true
 
--- a record of a code and its detail is made by the entry that is the last so far
+-- the state with a record of diagnostics more, a code and its detail, under the number of the last
+-- entry
 abbrev pub diagnosis_recorded : (code info : ℕ) → State → State
 diagnosis_recorded code info s =
     record s {
-      diagnostics = last_records s.diagnostics (record { entry = s.entries; code = code; info = info });
+      diagnostics =
+          last_records s.diagnostics (record { entry = s.entries; code = code; info = info });
     }
 
 -- the state with records of diagnostics made, each a code and its detail, one after another

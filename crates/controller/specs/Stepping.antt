@@ -12,17 +12,18 @@ use Rattle.controller.specs.Serving.{system_call_served}
 use Rattle.controller.specs.State.{State}
 use Rattle.controller.specs.Stopping.{stop_entered_at, spot_of_frame}
 
--- RUN begins, with the periods of the cyclic interrupts and with the cycle counter at 0
+-- the state in which RUN begins, with the periods of the cyclic interrupts and with the cycle
+-- counter at 0
 abbrev pub run_starts : State → State
 run_starts s = record s { mode = Run; sched = run_begun s.sched }
 
--- an organization block has ended; the end of OB 100 is that of STARTUP
+-- the state after the end of an organization block: the end of OB 100 is that of STARTUP
 abbrev pub ob_ended : (ob : ℕ) → State → State
 ob_ended ob s = if ob == 100 then run_starts s else s
 
--- memory, timers and counters, and the activations are these; all else stays
+-- the state with another global store and other activations; all else stays
 abbrev pub with_activations : GlobalStore → List Activation → State → State
-with_activations w activations s = record s { world = w; activations = activations }
+with_activations w activations s = record s { store = w; activations = activations }
 
 -- the state by what comes of a statement of an organization block, which stands at `at`. One that
 -- is stuck changes nothing; a program that verifies has none
@@ -36,12 +37,15 @@ after_statement code (SysCall number given a) ob at below s =
 after_statement code (Stop cause) ob at below s = stop_entered_at at cause s
 after_statement code Stuck ob at below s = s
 
--- the next statement of the first of these activations, or a cycle point where none stands
+-- the state after the next statement of the first of some activations, or after a cycle point
+-- where there is none
 abbrev pub step_of_first : Code → List Activation → State → State
 step_of_first code [] s = cycle_point code s
 step_of_first code (a ∷ below) s =
-    after_statement code (statement_step code a s.world) a.ob (spot_of_frame code a.running.frame) below s
+    after_statement code (statement_step code a s.store) a.ob
+    (spot_of_frame code a.running.frame) below s
 
--- a step: of the activations that stand
+-- the state after a step outside STOP: the next statement of the running activation, or a cycle
+-- point where none runs
 unfoldable pub after_step : Code → State → State
 after_step code s = step_of_first code s.activations s

@@ -51,7 +51,7 @@ pub(crate) struct At {
 #[derive(Drop)]
 pub(crate) struct Activations {
     all: Vec<Activation>,
-    standing: usize,
+    count: usize,
     spare: Bindings,
 }
 
@@ -63,9 +63,9 @@ impl Model for Activations {
 
     ghost use Rattle.controller.specs.Views.{activations_of};
 
-    ghost view = { λ a. activations_of a.standing a.all.items };
+    ghost view = { λ a. activations_of a.count a.all.items };
 
-    ghost invariant = { λ a. (a.standing ≤ length a.all.items)
+    ghost invariant = { λ a. (a.count ≤ length a.all.items)
         × (length a.all.items ≤ 48)
         × (48 ≤ vec_capacity a.all) };
 }
@@ -149,7 +149,7 @@ impl Activations {
         let all = Vec::with_capacity(alloc, ACTIVATIONS)?;
         Ok(Activations {
             all,
-            standing: 0,
+            count: 0,
             spare: Bindings::new(),
         })
     }
@@ -158,14 +158,14 @@ impl Activations {
     pub(crate) fn clear(&mut self)
         ensures { self.new ≡ [] }
     {
-        self.standing = 0;
+        self.count = 0;
     }
 
     /// The running activation.
     pub(crate) fn running(&self) -> Option<&Activation>
         ensures { option_map (λ a. a.now) result ≡ running_of self.now }
     {
-        let place = self.standing.checked_sub(1)?;
+        let place = self.count.checked_sub(1)?;
         self.all.as_slice().get(place)
     }
 
@@ -196,7 +196,7 @@ impl Activations {
         ensures { result.items ≡ active_obs self.now }
     {
         let mut obs = ArrayVec::new();
-        add_obs(&mut obs, &self.all.as_slice()[..self.standing]);
+        add_obs(&mut obs, &self.all.as_slice()[..self.count]);
         obs
     }
 
@@ -206,19 +206,20 @@ impl Activations {
         requires room { length self.old < 48 }
         requires local { local_len ≤ 1024 }
         ensures { self.new ≡ with_start_bytes 0 info.now.bytes
-            (activation_begun profile class ob (frame_begun (block_of_ob ob) local_len)) ∷ self.old }
+            (activation_begun profile class ob (frame_begun (block_of_ob ob) local_len))
+            ∷ self.old }
     {
-        make_place(&mut self.all, self.standing);
+        make_place(&mut self.all, self.count);
         begin_in(
             self.all.as_mut_slice(),
-            self.standing,
+            self.count,
             profile,
             class,
             ob,
             local_len,
             info,
         );
-        self.standing += 1;
+        self.count += 1;
     }
 
     /// An organization block begins above those that stand, with its start information; false where it
@@ -233,7 +234,8 @@ impl Activations {
         info: &StartInfo,
     ) -> bool
         requires { length self.old < 48 }
-        ensures begins { ObBegins (ob_activation profile (code_of program.now.program) class ob info.now)
+        ensures begins { ObBegins
+            (ob_activation profile (code_of program.now.program) class ob info.now)
             self.old self.new result }
         ensures is { IfSome (ob_activation profile (code_of program.now.program) class ob info.now)
             (λ a. (a.class ≡ class) × (a.ob ≡ ob)) }
@@ -251,7 +253,7 @@ impl Activations {
     fn hand_on(&mut self, delay: u16, regs: Regs)
         ensures { HandsRegsOn delay regs self.old self.new }
     {
-        let Some(place) = self.standing.checked_sub(1) else {
+        let Some(place) = self.count.checked_sub(1) else {
             return;
         };
         let running = &mut self.all.as_mut_slice()[place];
@@ -310,14 +312,14 @@ impl Activations {
         ensures { LeavesStatementStep (code_of program.now.program) self.old self.new
             (global_store m.old t.old n.old) (global_store m.new t.new n.new) result }
     {
-        let place = self.standing.checked_sub(1)?;
+        let place = self.count.checked_sub(1)?;
         let running = &mut self.all.as_mut_slice()[place];
         let ob = running.ob;
         let (block, at) = (running.running.frame.block, running.running.frame.at);
         let outcome = statement(program, m, t, n, running, &mut self.spare);
         let regs = running.running.regs;
         if let Outcome::Ended = outcome {
-            self.standing = place;
+            self.count = place;
         }
         Some((
             At {
@@ -347,7 +349,7 @@ impl Activations {
         ensures stops { result < most → goes_on_silently (code_of program.now.program) self.new
             (global_store m.new t.new n.new) ≡ false }
     {
-        let Some(place) = self.standing.checked_sub(1) else {
+        let Some(place) = self.count.checked_sub(1) else {
             return 0;
         };
         let running = &mut self.all.as_mut_slice()[place];
@@ -367,7 +369,7 @@ impl Activations {
         ensures { ServesRunning number inputs.now to self.old self.new m.old m.new
             (scheduler_of s.old) (scheduler_of s.new) result }
     {
-        let place = self.standing.checked_sub(1)?;
+        let place = self.count.checked_sub(1)?;
         let running = &mut self.all.as_mut_slice()[place];
         match serve(number, inputs.as_slice(), s, running) {
             Answer::Value(value) => {

@@ -57,7 +57,7 @@ impl Cpu {
     fn write_var(&mut self, var: &Var, value: u32)
         requires { value < 2 ^ bit_count var.now.width }
         ensures state { cpu_state self.new ≡ record (cpu_state self.old) {
-          world = var_written var.now value (cpu_state self.old).world;
+          store = var_written var.now value (cpu_state self.old).store;
         } }
         ensures activations { self.new.activations ≡ self.old.activations }
         ensures mode { self.new.mode ≡ self.old.mode }
@@ -130,7 +130,8 @@ impl Cpu {
     #[tactic(auto, unfolding(crate::specs::Asking::request_reply))]
     pub fn answer(&self, program: &Loaded, request: &Request) -> Reply
         requires { IsRequest request.now }
-        ensures { result ≡ request_reply (code_of program.now.program) request.now (cpu_state self.now) }
+        ensures { result
+            ≡ request_reply (code_of program.now.program) request.now (cpu_state self.now) }
     {
         match request {
             Request::ReadVars { vars } => match read_vars(&self.memory, vars.as_slice()) {

@@ -224,7 +224,7 @@ impl Controller {
     /// Nothing is done. The contract says that the memory after the whole history has its areas, each
     /// of its size and made of bytes.
     pub fn law_of_memory(&self)
-        ensures { IsMemory (final_state self.now).world.memory }
+        ensures { IsMemory (final_state self.now).store.memory }
     {
         self.cpu.memory.law_of_areas();
     }
@@ -240,8 +240,9 @@ impl Controller {
     /// block.
     pub fn db_bytes(&self, number: u16) -> Option<&[u8]>
         ensures value { option_copied result
-            ≡ finmap.get (final_state self.now).world.memory.data_blocks number }
-        ensures loaded { is_some result ≡ is_some (data_bytes_of number self.now.program.data_blocks) }
+            ≡ finmap.get (final_state self.now).store.memory.data_blocks number }
+        ensures loaded { is_some result
+            ≡ is_some (data_bytes_of number self.now.program.data_blocks) }
     {
         self.cpu.db_bytes(number)
     }
@@ -261,7 +262,7 @@ impl Controller {
     // A data block's number with its bytes.
     fn numbered(&self, number: u16) -> Option<(u16, &[u8])>
         ensures { option_map (λ b. (b.0, b.1.now)) result ≡ option_map (with_number number)
-            (finmap.get (final_state self.now).world.memory.data_blocks number) }
+            (finmap.get (final_state self.now).store.memory.data_blocks number) }
     {
         match self.cpu.db_bytes(number) {
             None => None,

@@ -39,7 +39,7 @@ impl Cpu {
     /// The bytes of a data block, if it is loaded.
     pub fn db_bytes(&self, number: u16) -> Option<&[u8]>
         ensures { option_copied result
-            ≡ finmap.get (cpu_state self.now).world.memory.data_blocks number }
+            ≡ finmap.get (cpu_state self.now).store.memory.data_blocks number }
     {
         self.memory.data_block(number)
     }

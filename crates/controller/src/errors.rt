@@ -57,14 +57,14 @@ pub(crate) fn failure(code: u8, at: Option<Spot>) -> StartEvent
 }
 
 impl Cpu {
-    /// A synchronous error of the statement that stood at `stand`: its organization block begins, or
+    /// A synchronous error of the statement that stood at `position`: its organization block begins, or
     /// the controller stops.
     #[tactic(auto, unfolding(crate::specs::Errors::error_raised), using(crate::proofs::StandingLemmas::room_for_error, crate::proofs::StandingLemmas::error_stands))]
-    pub(crate) fn fail(&mut self, program: &Loaded, stand: &At, code: u8)
-        requires there { HasStatement (code_of program.now.program) stand.now.block stand.now.at }
+    pub(crate) fn fail(&mut self, program: &Loaded, position: &At, code: u8)
+        requires there { HasStatement (code_of program.now.program) position.now.block position.now.at }
         requires stack { IsActivationStack self.old.mode self.old.activations }
         ensures state { cpu_state self.new
-            ≡ error_left (code_of program.now.program) code stand.now self.old.activations
+            ≡ error_left (code_of program.now.program) code position.now self.old.activations
             (cpu_state self.old) }
         ensures stack { IsActivationStack self.new.mode self.new.activations }
     {
@@ -72,7 +72,7 @@ impl Cpu {
             return;
         };
         let is_inside = is_synchronous(running.ob);
-        let at = spot_at(program, stand.block, stand.at);
+        let at = spot_at(program, position.block, position.at);
         self.diagnose(SYNCHRONOUS_ERROR, u16::from(code));
         if is_inside {
             self.halt_at(at, stop_causes::IN_ERROR_OB);

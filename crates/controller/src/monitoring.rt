@@ -21,21 +21,22 @@ fn is_monitored(monitored: Option<BlockId>, block: BlockId) -> bool
     }
 }
 
-/// The record of a statement that stood at `stand`, with the registers after it; none where its block
+/// The record of a statement that stood at `position`, with the registers after it; none where its block
 /// isn't the monitored one.
 pub(crate) fn statement_record(
     program: &Loaded,
     monitored: Option<BlockId>,
-    stand: &At,
+    position: &At,
     regs: &Regs,
 ) -> Option<MonRecord>
-    requires { HasStatement (code_of program.now.program) stand.now.block stand.now.at }
-    ensures { result ≡ record_of_statement (code_of program.now.program) monitored stand.now regs.now }
+    requires { HasStatement (code_of program.now.program) position.now.block position.now.at }
+    ensures { result
+        ≡ record_of_statement (code_of program.now.program) monitored position.now regs.now }
 {
-    if !is_monitored(monitored, stand.block) {
+    if !is_monitored(monitored, position.block) {
         return None;
     }
-    let at = spot_at(program, stand.block, stand.at)?;
+    let at = spot_at(program, position.block, position.at)?;
     Some(MonRecord {
         block: at.block,
         line: at.line,

@@ -21,7 +21,7 @@ impl Cpu {
     // Another byte of the peripheral inputs.
     fn set_input(&mut self, byte: u16, value: u8)
         ensures state { cpu_state self.new ≡ record (cpu_state self.old) {
-          world = input_set byte value (cpu_state self.old).world;
+          store = input_set byte value (cpu_state self.old).store;
         } }
         ensures activations { self.new.activations ≡ self.old.activations }
         ensures mode { self.new.mode ≡ self.old.mode }

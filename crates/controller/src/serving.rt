@@ -29,7 +29,8 @@ fn input(inputs: &[u32], place: usize) -> u32
 /// The system function of a number does its work.
 #[tactic(auto, unfolding(crate::specs::Serving::system_function_served))]
 pub(crate) fn serve(number: u16, inputs: &[u32], s: &mut Sched, a: &mut Activation) -> Answer
-    ensures { LeavesServiceResult (system_function_served number inputs.now (scheduler_of s.old) a.old)
+    ensures { LeavesServiceResult
+        (system_function_served number inputs.now (scheduler_of s.old) a.old)
         (scheduler_of s.old) (scheduler_of s.new) a.new result }
 {
     let (first, second, third) = (input(inputs, 0), input(inputs, 1), input(inputs, 2));

@@ -1,7 +1,7 @@
 //! Organization blocks that begin: by a request, at a cycle point.
 ghost use Rattle.std.specs.Prelude.{◌≡◌, [], false};
 ghost use Rattle.machine.specs.Flat.{code_of};
-ghost use Rattle.ob_sched.specs.Request.{IsBest};
+ghost use Rattle.ob_sched.specs.StartRequest.{IsBest};
 ghost use Rattle.ob_sched.specs.Views.{scheduler_of};
 ghost use Rattle.controller.specs.Beginning.{ob_activation, with_ob_begun};
 ghost use Rattle.controller.specs.CyclePoint.{cycle_point};
@@ -25,7 +25,8 @@ impl Cpu {
         requires stack { IsActivationStack self.old.mode self.old.activations }
         requires above { MayBegin self.old.mode class ob self.old.activations }
         ensures state { cpu_state self.new
-            ≡ with_ob_begun (ob_activation self.old.profile (code_of program.now.program) class ob info)
+            ≡ with_ob_begun
+            (ob_activation self.old.profile (code_of program.now.program) class ob info)
             (cpu_state self.old) }
         ensures stack { IsActivationStack self.new.mode self.new.activations }
     {

@@ -23,9 +23,10 @@ impl Cpu {
         ensures nothing { ShowNothing (code_of program.now.program) (cpu_state self.old)
             (replicate result Step) }
         ensures state { cpu_state self.new
-            ≡ state_after_entries (code_of program.now.program) (cpu_state self.old) (replicate result Step) }
-        ensures outputs { (cpu_state self.new).world.memory.peripheral_outputs
-            ≡ (cpu_state self.old).world.memory.peripheral_outputs }
+            ≡ state_after_entries (code_of program.now.program) (cpu_state self.old)
+            (replicate result Step) }
+        ensures outputs { (cpu_state self.new).store.memory.peripheral_outputs
+            ≡ (cpu_state self.old).store.memory.peripheral_outputs }
         ensures mode { self.new.mode ≡ self.old.mode }
         ensures stops { result < most
             → steps_silently (code_of program.now.program) (cpu_state self.new) ≡ false }

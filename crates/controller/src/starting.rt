@@ -136,7 +136,8 @@ impl Cpu {
     /// `NoMemory` for want of memory.
     #[tactic(auto, unfolding(crate::specs::Start::initial_state))]
     pub fn start(alloc: Global, program: &Loaded, profile: Profile) -> Result<Cpu, NoMemory>
-        ensures { IfOk result (λ p. cpu_state p ≡ initial_state profile (code_of program.now.program)) }
+        ensures { IfOk result
+            (λ p. cpu_state p ≡ initial_state profile (code_of program.now.program)) }
     {
         let obs = loaded_obs(alloc, program)?;
         let mut cpu = Cpu {

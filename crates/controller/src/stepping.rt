@@ -42,60 +42,64 @@ impl Cpu {
         }
     }
 
-    // A call of a system function, which stood at `stand`; the answer is the registers after it.
+    // A call of a system function, which stood at `position`; the answer is the registers after it.
     #[tactic(auto, using(crate::proofs::CallLemmas::call_goes, crate::proofs::CallLemmas::call_halts, crate::proofs::CallLemmas::call_stands, crate::proofs::CallLemmas::call_regs))]
     fn call_system(
         &mut self,
         program: &Loaded,
-        stand: &At,
+        position: &At,
         number: u16,
         inputs: &Inputs,
         to: Option<Binding>,
     ) -> Regs
-        requires there { HasStatement (code_of program.now.program) stand.now.block stand.now.at }
+        requires there { HasStatement (code_of program.now.program) position.now.block position.now.at }
         requires stack { IsActivationStack self.old.mode self.old.activations }
         ensures state { cpu_state self.new
-            ≡ call_left (code_of program.now.program) number inputs.now to stand.now
+            ≡ call_left (code_of program.now.program) number inputs.now to position.now
             self.old.activations (cpu_state self.old) }
         ensures regs { result ≡ regs_called number inputs.now (scheduler_of self.old.sched)
-            self.old.activations stand.now.regs }
+            self.old.activations position.now.regs }
         ensures stack { IsActivationStack self.new.mode self.new.activations }
     {
         let stop = self
             .activations
             .serve(number, inputs, to, &mut self.memory, &mut self.sched);
-        let regs = self.activations.regs().unwrap_or(stand.regs);
+        let regs = self.activations.regs().unwrap_or(position.regs);
         if let Some(cause) = stop {
-            self.halt_at(spot_at(program, stand.block, stand.at), cause);
+            self.halt_at(spot_at(program, position.block, position.at), cause);
         }
         regs
     }
 
-    // What is left to do after a statement, which stood at `stand`; the answer is the registers after
+    // What is left to do after a statement, which stood at `position`; the answer is the registers after
     // all of it.
     #[tactic(auto, unfolding(crate::specs::Leaves::statement_finished))]
-    fn finish(&mut self, program: &Loaded, stand: &At, outcome: Outcome) -> Regs
-        requires there { HasStatement (code_of program.now.program) stand.now.block stand.now.at }
-        requires stack { IsActivationStack (mode_after self.old.mode stand.now.ob outcome)
+    fn finish(&mut self, program: &Loaded, position: &At, outcome: Outcome) -> Regs
+        requires there { HasStatement (code_of program.now.program) position.now.block position.now.at }
+        requires stack { IsActivationStack (mode_after self.old.mode position.now.ob outcome)
             self.old.activations }
         ensures state { cpu_state self.new
-            ≡ statement_finished (code_of program.now.program) stand.now outcome (cpu_state self.old) }
+            ≡ statement_finished (code_of program.now.program) position.now outcome
+            (cpu_state self.old) }
         ensures regs { result ≡ regs_finished outcome (scheduler_of self.old.sched)
-            self.old.activations stand.now.regs }
+            self.old.activations position.now.regs }
         ensures stack { IsActivationStack self.new.mode self.new.activations }
     {
         match outcome {
             Outcome::Went => {}
-            Outcome::Ended => self.end_ob(stand.ob),
-            Outcome::SyncError { code } => self.fail(program, stand, code),
+            Outcome::Ended => self.end_ob(position.ob),
+            Outcome::SyncError { code } => self.fail(program, position, code),
             Outcome::SysCall {
                 number,
                 inputs,
                 result,
-            } => return self.call_system(program, stand, number, &inputs, result),
-            Outcome::Stop { cause } => self.halt_at(spot_at(program, stand.block, stand.at), cause),
+            } => return self.call_system(program, position, number, &inputs, result),
+            Outcome::Stop { cause } => self.halt_at(
+                spot_at(program, position.block, position.at),
+                cause,
+            ),
         }
-        stand.regs
+        position.regs
     }
 
     /// A step outside STOP; the answer is the record of its statement, if its block is monitored.
@@ -122,9 +126,9 @@ impl Cpu {
                 None
             }
             Some(done) => {
-                let (monitored, stand) = (self.monitored, done.0);
-                let regs = self.finish(program, &stand, done.1);
-                statement_record(program, monitored, &stand, &regs)
+                let (monitored, position) = (self.monitored, done.0);
+                let regs = self.finish(program, &position, done.1);
+                statement_record(program, monitored, &position, &regs)
             }
         }
     }

@@ -9,9 +9,11 @@ use Rattle.de_mnemonics.specs.Words.{opposite_language, translated_word}
 -- `word` but for the case of its letters
 abbrev pub ComesBack : Language → Role → List ℕ → List ℕ → Type 0
 ComesBack language role word there =
-    (again : List ℕ) × (translated_word (opposite_language language) role there ≡ Some again) × (str_eq_ignore_ascii_case word again ≡ true)
+    (again : List ℕ) × (translated_word (opposite_language language) role there ≡ Some again)
+    × (str_eq_ignore_ascii_case word again ≡ true)
 
 -- each word that has a translation in this role comes back from it, but for the case of its letters
 abbrev pub WordsComeBack : Role → Type 0
 WordsComeBack role =
-    (language : Language) (word there : List ℕ) → translated_word language role word ≡ Some there → ComesBack language role word there
+    (language : Language) (word there : List ℕ) → translated_word language role word ≡ Some there
+    → ComesBack language role word there

@@ -11,8 +11,8 @@ use Rattle.stl_lexer.specs.Marks.{mark_text}
 use Rattle.stl_symbols.specs.declared.languages.Language.TheVariants.{English, German}
 use Rattle.de_mnemonics.specs.declared.classes.TokenClass.{TokenClass}
 use Rattle.de_mnemonics.specs.declared.classes.TokenClass.TheVariants as class
-use Rattle.de_mnemonics.specs.declared.places.Place.{Place}
-use Rattle.de_mnemonics.specs.declared.places.Place.TheVariants as place
+use Rattle.de_mnemonics.specs.declared.places.TokenPlace.{TokenPlace}
+use Rattle.de_mnemonics.specs.declared.places.TokenPlace.TheVariants as place
 use Rattle.de_mnemonics.specs.declared.roles.Role.{Role}
 use Rattle.de_mnemonics.specs.declared.roles.Role.TheVariants as role
 use Rattle.de_mnemonics.specs.Tables.{WordPairs, jump_pairs, operand_pairs, result_pairs, common_jumps, code_openings, data_openings, begin_words, block_end_words, network_words, zone_words}
@@ -50,7 +50,8 @@ is_word_in_list table word = list_any (λ entry. str_eq_ignore_ascii_case word e
 
 -- a word is in one of the two columns of a table, without case
 unfoldable pub is_word_in_pairs : WordPairs → List ℕ → Bool
-is_word_in_pairs table word = is_some (partner_in_table German table word) || is_some (partner_in_table English table word)
+is_word_in_pairs table word =
+    is_some (partner_in_table German table word) || is_some (partner_in_table English table word)
 
 -- an instruction word is that of a jump
 unfoldable pub is_jump_word : List ℕ → Bool
@@ -63,38 +64,42 @@ may_be_keyword class.Dot = false
 may_be_keyword _ = true
 
 -- the place behind a word outside of blocks, or in a block of data
-unfoldable pub place_behind_outside : TokenClass → List ℕ → Place
-place_behind_outside before word = if may_be_keyword before && is_word_in_list code_openings word then place.Head else place.Outside
+unfoldable pub place_behind_outside : TokenClass → List ℕ → TokenPlace
+place_behind_outside before word =
+    if may_be_keyword before && is_word_in_list code_openings word then place.Head
+    else place.Outside
 
 -- the place behind a word before the body of a block of statements
-unfoldable pub place_behind_head : TokenClass → List ℕ → Place
+unfoldable pub place_behind_head : TokenClass → List ℕ → TokenPlace
 place_behind_head before word =
     if may_be_keyword before
-    then (if is_word_in_list begin_words word then place.Start else (if is_word_in_list data_openings word then place.Outside else place.Head))
+    then (if is_word_in_list begin_words word then place.Start
+    else (if is_word_in_list data_openings word then place.Outside else place.Head))
     else place.Head
 
 -- the place behind an instruction word
-unfoldable pub place_behind_instruction : List ℕ → Place
+unfoldable pub place_behind_instruction : List ℕ → TokenPlace
 place_behind_instruction word = if is_jump_word word then place.Jump else place.Instruction
 
 -- the place behind the first word of a statement, which is a label before a `:`, and else an
 -- instruction word; `next` is the class of the token behind it
-abbrev pub place_behind_first : TokenClass → List ℕ → Place
+abbrev pub place_behind_first : TokenClass → List ℕ → TokenPlace
 place_behind_first class.Colon word = place.Label
 place_behind_first next word = place_behind_instruction word
 
--- the place behind a word at the start of a statement: the end of the block, a further network, a label or an instruction word
-unfoldable pub place_behind_start : List ℕ → TokenClass → Place
+-- the place behind a word at the start of a statement: the end of the block, a further network, a
+-- label or an instruction word
+unfoldable pub place_behind_start : List ℕ → TokenClass → TokenPlace
 place_behind_start word next =
     if is_word_in_list block_end_words word then place.Outside
     else (if is_word_in_list network_words word then place.Start else place_behind_first next word)
 
 -- the place behind a word that follows a `)` at the front of an instruction
-unfoldable pub place_behind_closing : List ℕ → Place
+unfoldable pub place_behind_closing : List ℕ → TokenPlace
 place_behind_closing word = if is_word_in_list zone_words word then place.Path else place.Inside
 
 -- the place behind a word
-unfoldable pub place_behind_word : Place → TokenClass → List ℕ → TokenClass → Place
+unfoldable pub place_behind_word : TokenPlace → TokenClass → List ℕ → TokenClass → TokenPlace
 place_behind_word place.Outside before word next = place_behind_outside before word
 place_behind_word place.Head before word next = place_behind_head before word
 place_behind_word place.Start before word next = place_behind_start word next
@@ -105,7 +110,7 @@ place_behind_word _ before word next = place.Inside
 
 -- the place behind a token that is no word at the front of an instruction; no path begins behind a
 -- number
-abbrev pub place_behind_front : TokenClass → Place
+abbrev pub place_behind_front : TokenClass → TokenPlace
 place_behind_front class.Semicolon = place.Start
 place_behind_front class.CloseParen = place.Closing
 place_behind_front class.Number = place.Inside
@@ -113,23 +118,23 @@ place_behind_front _ = place.Path
 
 -- the place behind a token that is no word at the start of a statement; titles and attributes
 -- belong to no statement
-abbrev pub place_behind_open : TokenClass → Place
+abbrev pub place_behind_open : TokenClass → TokenPlace
 place_behind_open class.Note = place.Start
 place_behind_open c = place_behind_front c
 
 -- the place behind a token that is no word, within a statement: `;` ends it
-abbrev pub place_behind_part : Place → TokenClass → Place
+abbrev pub place_behind_part : TokenPlace → TokenClass → TokenPlace
 place_behind_part p class.Semicolon = place.Start
 place_behind_part p _ = p
 
 -- the place behind a token that follows an instruction word: a `(` may belong to the instruction
-abbrev pub place_behind_opening : TokenClass → Place
+abbrev pub place_behind_opening : TokenClass → TokenPlace
 place_behind_opening class.Semicolon = place.Start
 place_behind_opening class.OpenParen = place.Path
 place_behind_opening _ = place.Inside
 
 -- the place behind a token that is no word
-unfoldable pub place_behind_sign : Place → TokenClass → Place
+unfoldable pub place_behind_sign : TokenPlace → TokenClass → TokenPlace
 place_behind_sign place.Outside c = place.Outside
 place_behind_sign place.Head c = place.Head
 place_behind_sign place.Start c = place_behind_open c
@@ -140,7 +145,8 @@ place_behind_sign place.Instruction c = place_behind_opening c
 place_behind_sign _ c = place_behind_part place.Inside c
 
 -- the place behind a token of this class, with the classes of the tokens before and behind it
-unfoldable pub place_behind : Place → TokenClass → TokenClass → List ℕ → TokenClass → Place
+unfoldable pub place_behind : TokenPlace → TokenClass → TokenClass → List ℕ → TokenClass
+    → TokenPlace
 place_behind p before class.Word text next = place_behind_word p before text next
 place_behind p before c text next = place_behind_sign p c
 
@@ -155,14 +161,18 @@ abbrev pub is_pointer : TokenClass → Bool
 is_pointer class.Pointer = true
 is_pointer _ = false
 
--- an operand word with its number, in the same word or behind it
+-- a word is an operand word whose number stands in the same word or behind it
 unfoldable pub is_numbered_operand : List ℕ → TokenClass → Bool
 is_numbered_operand word next =
-    is_word_in_pairs operand_pairs (letters_of_word word) && list_all is_ascii_digit (digits_of_word word) && (nat_lt 0 (length (digits_of_word word)) || opens_number next)
+    is_word_in_pairs operand_pairs (letters_of_word word)
+    && list_all is_ascii_digit (digits_of_word word)
+    && (nat_lt 0 (length (digits_of_word word)) || opens_number next)
 
--- a word stands in an operand place: behind `P#`, as an operand word with its number, or as one that stands alone
+-- a word stands in an operand place: behind `P#`, as an operand word with its number, or as one
+-- that stands alone
 unfoldable pub is_operand_place : TokenClass → List ℕ → TokenClass → Bool
-is_operand_place before word next = is_pointer before || is_numbered_operand word next || is_word_in_pairs result_pairs word
+is_operand_place before word next =
+    is_pointer before || is_numbered_operand word next || is_word_in_pairs result_pairs word
 
 -- a token of this class is a `.`
 abbrev pub is_dot : TokenClass → Bool
@@ -179,18 +189,18 @@ abbrev pub is_component : TokenClass → TokenClass → Bool
 is_component before next = is_dot before || is_assign next
 
 -- the place is behind an instruction
-abbrev pub is_behind_instruction : Place → Bool
+abbrev pub is_behind_instruction : TokenPlace → Bool
 is_behind_instruction place.Instruction = true
 is_behind_instruction place.Closing = true
 is_behind_instruction place.Path = true
 is_behind_instruction _ = false
 
 -- a path may begin behind an instruction, and behind `:=`
-abbrev pub opens_path : Place → TokenClass → Bool
+abbrev pub opens_path : TokenPlace → TokenClass → Bool
 opens_path p before = is_behind_instruction p || is_assign before
 
 -- the role of a word behind the instruction of a statement
-unfoldable pub role_in : Place → TokenClass → List ℕ → TokenClass → Role
+unfoldable pub role_in : TokenPlace → TokenClass → List ℕ → TokenClass → Role
 role_in p before word next =
     if is_component before next then role.Stays
     else (if is_operand_place before word next then role.Operand
@@ -206,10 +216,11 @@ role_first next = role.Instruction
 -- stays, and so does a label
 unfoldable pub role_at_start : List ℕ → TokenClass → Role
 role_at_start word next =
-    if is_word_in_list block_end_words word || is_word_in_list network_words word then role.Stays else role_first next
+    if is_word_in_list block_end_words word || is_word_in_list network_words word then role.Stays
+    else role_first next
 
 -- the role of a word
-unfoldable pub role_of_word : Place → TokenClass → List ℕ → TokenClass → Role
+unfoldable pub role_of_word : TokenPlace → TokenClass → List ℕ → TokenClass → Role
 role_of_word place.Outside before word next = role.Stays
 role_of_word place.Head before word next = role.Stays
 role_of_word place.Start before word next = role_at_start word next
@@ -219,6 +230,6 @@ role_of_word place.Jump before word next = role.Stays
 role_of_word p before word next = role_in p before word next
 
 -- the role of a token: what is no word stays
-unfoldable pub role_of : Place → TokenClass → TokenClass → List ℕ → TokenClass → Role
+unfoldable pub role_of : TokenPlace → TokenClass → TokenClass → List ℕ → TokenClass → Role
 role_of p before class.Word text next = role_of_word p before text next
 role_of p before c text next = role.Stays

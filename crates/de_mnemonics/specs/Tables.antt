@@ -1,8 +1,9 @@
--- The words that differ between the English and the German mnemonics of the Statement List, in pairs: the English word, the German
--- word. All other words are the same in both (docs/LANGUAGE.md, "German mnemonics").
+-- The words that differ between the English and the German mnemonics of the Statement List, in
+-- pairs: the English word, the German word. All other words are the same in both (docs/LANGUAGE.md,
+-- "German mnemonics").
 use Rattle.std.specs.Prelude.{ℕ, List, [], ◌∷◌, codes}
 
--- a table of pairs
+-- a table of words in pairs: English, German
 abbrev pub WordPairs : Type 0
 WordPairs = List (List ℕ × List ℕ)
 
@@ -92,7 +93,8 @@ begin_words = codes "BEGIN" ∷ []
 
 -- the words that end a block of statements
 unfoldable pub block_end_words : List (List ℕ)
-block_end_words = codes "END_ORGANIZATION_BLOCK" ∷ codes "END_FUNCTION" ∷ codes "END_FUNCTION_BLOCK" ∷ []
+block_end_words =
+    codes "END_ORGANIZATION_BLOCK" ∷ codes "END_FUNCTION" ∷ codes "END_FUNCTION_BLOCK" ∷ []
 
 -- the word that opens a network
 unfoldable pub network_words : List (List ℕ)

@@ -11,20 +11,25 @@ use Rattle.de_mnemonics.specs.declared.roles.Role.{Role}
 use Rattle.de_mnemonics.specs.declared.roles.Role.TheVariants as role
 use Rattle.de_mnemonics.specs.Tables.{WordPairs, instruction_pairs, jump_pairs, operand_pairs, result_pairs}
 
--- the other language
+-- of German and English the language that is not this one
 abbrev pub opposite_language : Language → Language
 opposite_language English = German
 opposite_language German = English
 
--- what a table has beside a word of the language that is translated from; words are compared without case
+-- what a table has beside a word of the language that is translated from; words are compared
+-- without case
 unfoldable pub partner_in_table : Language → WordPairs → List ℕ → Option (List ℕ)
-partner_in_table German table word = option_map (λ pair. pair.1) (find (λ pair. str_eq_ignore_ascii_case word pair.0) table)
-partner_in_table English table word = option_map (λ pair. pair.0) (find (λ pair. str_eq_ignore_ascii_case word pair.1) table)
+partner_in_table German table word =
+    option_map (λ pair. pair.1) (find (λ pair. str_eq_ignore_ascii_case word pair.0) table)
+partner_in_table English table word =
+    option_map (λ pair. pair.0) (find (λ pair. str_eq_ignore_ascii_case word pair.1) table)
 
 -- what the tables of instruction words have beside a whole word of the language that is translated
 -- from
 unfoldable pub instruction_partner : Language → List ℕ → Option (List ℕ)
-instruction_partner language word = option_or (partner_in_table language instruction_pairs word) (partner_in_table language jump_pairs word)
+instruction_partner language word =
+    option_or (partner_in_table language instruction_pairs word)
+    (partner_in_table language jump_pairs word)
 
 -- how many bytes of a word stand before its first digit
 abbrev pub letter_count_of_word : List ℕ → ℕ
@@ -43,14 +48,17 @@ digits_of_word word = drop (letter_count_of_word word) word
 unfoldable pub numbered_partner : Language → List ℕ → Option (List ℕ)
 numbered_partner language word =
     if list_all is_ascii_digit (digits_of_word word)
-    then option_map (λ found. found ++ digits_of_word word) (partner_in_table language operand_pairs (letters_of_word word))
+    then option_map (λ found. found ++ digits_of_word word)
+    (partner_in_table language operand_pairs (letters_of_word word))
     else None
 
 -- what stands beside an operand word: one that takes a number, or one that stands alone
 unfoldable pub operand_partner : Language → List ℕ → Option (List ℕ)
-operand_partner language word = option_or (numbered_partner language word) (partner_in_table language result_pairs word)
+operand_partner language word =
+    option_or (numbered_partner language word) (partner_in_table language result_pairs word)
 
--- a word is exchanged for its partner; a word of the other language alone has no translation; any other word stays
+-- a word is exchanged for its partner; a word of the other language alone has no translation; any
+-- other word stays
 abbrev pub exchanged_word : Option (List ℕ) → Bool → List ℕ → Option (List ℕ)
 exchanged_word (Some found) foreign word = Some found
 exchanged_word None true word = None
@@ -61,13 +69,17 @@ abbrev pub marked_name : Bool → List ℕ → List ℕ
 marked_name true word = hash ∷ word
 marked_name false word = word
 
--- how a word in this role is written in the translation, or None where it is a word of the other language alone
+-- how a word in this role is written in the translation, or None where it is a word of the other
+-- language alone
 unfoldable pub translated_word : Language → Role → List ℕ → Option (List ℕ)
 translated_word language role.Instruction word =
-    exchanged_word (instruction_partner language word) (is_some (instruction_partner (opposite_language language) word)) word
+    exchanged_word (instruction_partner language word)
+    (is_some (instruction_partner (opposite_language language) word)) word
 translated_word language role.Operand word =
-    exchanged_word (operand_partner language word) (is_some (operand_partner (opposite_language language) word)) word
-translated_word language role.Path word = Some (marked_name (is_some (operand_partner (opposite_language language) word)) word)
+    exchanged_word (operand_partner language word)
+    (is_some (operand_partner (opposite_language language) word)) word
+translated_word language role.Path word =
+    Some (marked_name (is_some (operand_partner (opposite_language language) word)) word)
 translated_word language role.Stays word = Some word
 
 -- what was found is what is wanted: nothing, or something with these bytes

@@ -1,5 +1,5 @@
-//! German and English mnemonics of the Statement List: `to_english` and `to_german` translate a source from
-//! one to the other.
+//! German and English mnemonics of the Statement List: `to_english` and `to_german` translate a
+//! source from one to the other.
 #![tactic(auto)]
 
 mod classes;

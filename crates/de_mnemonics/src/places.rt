@@ -39,7 +39,7 @@ use crate::words::{
 
 /// Where a token stands in a source.
 #[derive(Clone, Copy, Debug, PartialEq, Eq)]
-pub enum Place {
+pub enum TokenPlace {
     /// Outside of blocks, or in a block of data.
     Outside,
     /// In a block of statements, before its body.
@@ -71,166 +71,166 @@ fn may_be_keyword(before: TokenClass) -> bool
 
 /// The place behind a word outside of blocks, or in a block of data.
 #[tactic(auto, unfolding(crate::specs::Places::place_behind_outside))]
-fn behind_outside(before: TokenClass, word: &[u8]) -> Place
+fn behind_outside(before: TokenClass, word: &[u8]) -> TokenPlace
     ensures { result ≡ place_behind_outside before word.now }
 {
     if may_be_keyword(before) && opens_code(word) {
-        Place::Head
+        TokenPlace::Head
     } else {
-        Place::Outside
+        TokenPlace::Outside
     }
 }
 
 /// The place behind a word before the body of a block of statements.
 #[tactic(auto, unfolding(crate::specs::Places::place_behind_head))]
-fn behind_head(before: TokenClass, word: &[u8]) -> Place
+fn behind_head(before: TokenClass, word: &[u8]) -> TokenPlace
     ensures { result ≡ place_behind_head before word.now }
 {
     if !may_be_keyword(before) {
-        return Place::Head;
+        return TokenPlace::Head;
     }
     if begins_body(word) {
-        return Place::Start;
+        return TokenPlace::Start;
     }
     if opens_data(word) {
-        return Place::Outside;
+        return TokenPlace::Outside;
     }
-    Place::Head
+    TokenPlace::Head
 }
 
 /// The place behind an instruction word.
 #[tactic(auto, unfolding(crate::specs::Places::place_behind_instruction))]
-fn behind_instruction(word: &[u8]) -> Place
+fn behind_instruction(word: &[u8]) -> TokenPlace
     ensures { result ≡ place_behind_instruction word.now }
 {
     if is_jump(word) {
-        Place::Jump
+        TokenPlace::Jump
     } else {
-        Place::Instruction
+        TokenPlace::Instruction
     }
 }
 
-/// The same, where the word may be a label.
-fn behind_first(next: TokenClass, word: &[u8]) -> Place
+/// The place behind the first word of a statement: a label, or else an instruction word.
+fn behind_first(next: TokenClass, word: &[u8]) -> TokenPlace
     ensures { result ≡ place_behind_first next word.now }
 {
     match next {
-        TokenClass::Colon => Place::Label,
+        TokenClass::Colon => TokenPlace::Label,
         _ => behind_instruction(word),
     }
 }
 
 /// The place behind a word at the start of a statement.
 #[tactic(auto, unfolding(crate::specs::Places::place_behind_start))]
-fn behind_start(word: &[u8], next: TokenClass) -> Place
+fn behind_start(word: &[u8], next: TokenClass) -> TokenPlace
     ensures { result ≡ place_behind_start word.now next }
 {
     if ends_code(word) {
-        return Place::Outside;
+        return TokenPlace::Outside;
     }
     if opens_network(word) {
-        return Place::Start;
+        return TokenPlace::Start;
     }
     behind_first(next, word)
 }
 
 /// The place behind a word that follows a `)` at the front of an instruction.
 #[tactic(auto, unfolding(crate::specs::Places::place_behind_closing))]
-fn behind_closing(word: &[u8]) -> Place
+fn behind_closing(word: &[u8]) -> TokenPlace
     ensures { result ≡ place_behind_closing word.now }
 {
     if ends_zone(word) {
-        Place::Path
+        TokenPlace::Path
     } else {
-        Place::Inside
+        TokenPlace::Inside
     }
 }
 
 /// The place behind a word.
 #[tactic(auto, unfolding(crate::specs::Places::place_behind_word))]
-fn behind_word(place: Place, before: TokenClass, word: &[u8], next: TokenClass) -> Place
+fn behind_word(place: TokenPlace, before: TokenClass, word: &[u8], next: TokenClass) -> TokenPlace
     ensures { result ≡ place_behind_word place before word.now next }
 {
     match place {
-        Place::Outside => behind_outside(before, word),
-        Place::Head => behind_head(before, word),
-        Place::Start => behind_start(word, next),
-        Place::Label => behind_instruction(word),
-        Place::Labelled => behind_instruction(word),
-        Place::Closing => behind_closing(word),
-        _ => Place::Inside,
+        TokenPlace::Outside => behind_outside(before, word),
+        TokenPlace::Head => behind_head(before, word),
+        TokenPlace::Start => behind_start(word, next),
+        TokenPlace::Label => behind_instruction(word),
+        TokenPlace::Labelled => behind_instruction(word),
+        TokenPlace::Closing => behind_closing(word),
+        _ => TokenPlace::Inside,
     }
 }
 
 /// The place behind another token at the front of an instruction.
-fn behind_front(class: TokenClass) -> Place
+fn behind_front(class: TokenClass) -> TokenPlace
     ensures { result ≡ place_behind_front class }
 {
     match class {
-        TokenClass::Semicolon => Place::Start,
-        TokenClass::CloseParen => Place::Closing,
-        TokenClass::Number => Place::Inside,
-        _ => Place::Path,
+        TokenClass::Semicolon => TokenPlace::Start,
+        TokenClass::CloseParen => TokenPlace::Closing,
+        TokenClass::Number => TokenPlace::Inside,
+        _ => TokenPlace::Path,
     }
 }
 
-/// The same at the start of a statement.
-fn behind_open(class: TokenClass) -> Place
+/// The place behind a token that is no word, at the start of a statement.
+fn behind_open(class: TokenClass) -> TokenPlace
     ensures { result ≡ place_behind_open class }
 {
     match class {
-        TokenClass::Note => Place::Start,
+        TokenClass::Note => TokenPlace::Start,
         _ => behind_front(class),
     }
 }
 
 /// The place behind a token that is no word, within a statement.
-fn behind_part(place: Place, class: TokenClass) -> Place
+fn behind_part(place: TokenPlace, class: TokenClass) -> TokenPlace
     ensures { result ≡ place_behind_part place class }
 {
     match class {
-        TokenClass::Semicolon => Place::Start,
+        TokenClass::Semicolon => TokenPlace::Start,
         _ => place,
     }
 }
 
 /// The place behind a token that follows an instruction word.
-fn behind_opening(class: TokenClass) -> Place
+fn behind_opening(class: TokenClass) -> TokenPlace
     ensures { result ≡ place_behind_opening class }
 {
     match class {
-        TokenClass::Semicolon => Place::Start,
-        TokenClass::OpenParen => Place::Path,
-        _ => Place::Inside,
+        TokenClass::Semicolon => TokenPlace::Start,
+        TokenClass::OpenParen => TokenPlace::Path,
+        _ => TokenPlace::Inside,
     }
 }
 
 /// The place behind a token that is no word.
 #[tactic(auto, unfolding(crate::specs::Places::place_behind_sign))]
-fn behind_sign(place: Place, class: TokenClass) -> Place
+fn behind_sign(place: TokenPlace, class: TokenClass) -> TokenPlace
     ensures { result ≡ place_behind_sign place class }
 {
     match place {
-        Place::Outside => Place::Outside,
-        Place::Head => Place::Head,
-        Place::Start => behind_open(class),
-        Place::Label => Place::Labelled,
-        Place::Labelled => behind_front(class),
-        Place::Jump => behind_part(Place::Jump, class),
-        Place::Instruction => behind_opening(class),
-        _ => behind_part(Place::Inside, class),
+        TokenPlace::Outside => TokenPlace::Outside,
+        TokenPlace::Head => TokenPlace::Head,
+        TokenPlace::Start => behind_open(class),
+        TokenPlace::Label => TokenPlace::Labelled,
+        TokenPlace::Labelled => behind_front(class),
+        TokenPlace::Jump => behind_part(TokenPlace::Jump, class),
+        TokenPlace::Instruction => behind_opening(class),
+        _ => behind_part(TokenPlace::Inside, class),
     }
 }
 
 /// The place behind a token of this class, with the classes of the tokens before and behind it.
 #[tactic(auto, unfolding(crate::specs::Places::place_behind))]
 pub(crate) fn behind(
-    place: Place,
+    place: TokenPlace,
     before: TokenClass,
     class: TokenClass,
     text: &[u8],
     next: TokenClass,
-) -> Place
+) -> TokenPlace
     ensures { result ≡ place_behind place before class text.now next }
 {
     match class {
@@ -291,14 +291,17 @@ fn is_component(before: TokenClass, next: TokenClass) -> bool
 }
 
 /// Whether this place is behind an instruction.
-fn is_behind_instruction(place: Place) -> bool
+fn is_behind_instruction(place: TokenPlace) -> bool
     ensures { result ≡ is_behind_instruction place }
 {
-    matches!(place, Place::Instruction | Place::Closing | Place::Path)
+    matches!(
+        place,
+        TokenPlace::Instruction | TokenPlace::Closing | TokenPlace::Path
+    )
 }
 
 /// Whether a path may begin at this place.
-fn opens_path(place: Place, before: TokenClass) -> bool
+fn opens_path(place: TokenPlace, before: TokenClass) -> bool
     ensures { result ≡ opens_path place before }
 {
     is_behind_instruction(place) || is_assign(before)
@@ -306,7 +309,7 @@ fn opens_path(place: Place, before: TokenClass) -> bool
 
 /// The role of a word behind the instruction of a statement.
 #[tactic(auto, unfolding(crate::specs::Places::role_in))]
-fn role_in(place: Place, before: TokenClass, word: &[u8], next: TokenClass) -> Role
+fn role_in(place: TokenPlace, before: TokenClass, word: &[u8], next: TokenClass) -> Role
     ensures { result ≡ role_in place before word.now next }
 {
     if is_component(before, next) {
@@ -345,16 +348,16 @@ fn role_at_start(word: &[u8], next: TokenClass) -> Role
 
 /// The role of a word.
 #[tactic(auto, unfolding(crate::specs::Places::role_of_word))]
-fn role_of_word(place: Place, before: TokenClass, word: &[u8], next: TokenClass) -> Role
+fn role_of_word(place: TokenPlace, before: TokenClass, word: &[u8], next: TokenClass) -> Role
     ensures { result ≡ role_of_word place before word.now next }
 {
     match place {
-        Place::Outside => Role::Stays,
-        Place::Head => Role::Stays,
-        Place::Start => role_at_start(word, next),
-        Place::Label => Role::Instruction,
-        Place::Labelled => Role::Instruction,
-        Place::Jump => Role::Stays,
+        TokenPlace::Outside => Role::Stays,
+        TokenPlace::Head => Role::Stays,
+        TokenPlace::Start => role_at_start(word, next),
+        TokenPlace::Label => Role::Instruction,
+        TokenPlace::Labelled => Role::Instruction,
+        TokenPlace::Jump => Role::Stays,
         _ => role_in(place, before, word, next),
     }
 }
@@ -362,7 +365,7 @@ fn role_of_word(place: Place, before: TokenClass, word: &[u8], next: TokenClass)
 /// The role of a token.
 #[tactic(auto, unfolding(crate::specs::Places::role_of))]
 pub(crate) fn role_of(
-    place: Place,
+    place: TokenPlace,
     before: TokenClass,
     class: TokenClass,
     text: &[u8],

@@ -14,13 +14,13 @@ ghost use Rattle.de_mnemonics.specs.Translation.{
   IsTranslationViolationUnique,
   next_class,
   role_at,
-  spot_behind,
+  position_behind,
   translation_of,
   translation_from,
 };
 
 use crate::classes::{TokenClass, class_of};
-use crate::places::{Place, behind, role_of};
+use crate::places::{TokenPlace, behind, role_of};
 use crate::roles::Role;
 use crate::words::{Spelling, written};
 use plc_base::{Refusal, SourceFault};
@@ -31,11 +31,12 @@ use stl_symbols::Language;
 /// The rule of a word of the other language.
 const FOREIGN_WORD: u16 = 17;
 
-/// Where a translation stands: the byte, the place in the program, and the class of the token before.
+/// Where a translation stands: the byte, the place in the program, and the class of the token
+/// before.
 #[derive(Clone, Copy, Debug)]
-pub struct Spot {
+pub struct TranslationPosition {
     pub from: usize,
-    pub place: Place,
+    pub place: TokenPlace,
     pub before: TokenClass,
 }
 
@@ -64,50 +65,55 @@ fn next_class(source: &[u8], tokens: &[Token]) -> TokenClass
     }
 }
 
-/// The role of a token at a spot, with the tokens behind it.
-fn role_at(source: &[u8], spot: &Spot, token: &Token, rest: &[Token]) -> Role
-    ensures { result ≡ role_at source.now spot.now token.now rest.now }
+/// The role of a token at a position, with the tokens behind it.
+fn role_at(source: &[u8], position: &TranslationPosition, token: &Token, rest: &[Token]) -> Role
+    ensures { result ≡ role_at source.now position.now token.now rest.now }
 {
     let word = token.text(source);
     let class = class_of(token.kind, word);
     role_of(
-        spot.place,
-        spot.before,
+        position.place,
+        position.before,
         class,
         word,
         next_class(source, rest),
     )
 }
 
-/// The spot behind it.
-fn spot_behind(source: &[u8], spot: &Spot, token: &Token, rest: &[Token]) -> Spot
-    ensures { result ≡ spot_behind source.now spot.now token.now rest.now }
+/// The position behind a token, with the tokens behind it.
+fn position_behind(
+    source: &[u8],
+    position: &TranslationPosition,
+    token: &Token,
+    rest: &[Token],
+) -> TranslationPosition
+    ensures { result ≡ position_behind source.now position.now token.now rest.now }
 {
     let word = token.text(source);
     let class = class_of(token.kind, word);
     let next = next_class(source, rest);
-    Spot {
+    TranslationPosition {
         from: token.end as usize,
-        place: behind(spot.place, spot.before, class, word, next),
+        place: behind(position.place, position.before, class, word, next),
         before: class,
     }
 }
 
-/// How a token at a spot is written.
+/// How a token at a position is written.
 fn spelling_at<'a>(
     language: Language,
     source: &'a [u8],
-    spot: &Spot,
+    position: &TranslationPosition,
     token: &Token,
     rest: &[Token],
 ) -> Option<Spelling<'a>>
     ensures { IsFoundAsWanted (λ s. s.front.now ++ s.rest.now)
-        (translated_word language (role_at source.now spot.now token.now rest.now)
+        (translated_word language (role_at source.now position.now token.now rest.now)
         (text_of source.now token.now)) result }
 {
     written(
         language,
-        role_at(source, spot, token, rest),
+        role_at(source, position, token, rest),
         token.text(source),
     )
 }
@@ -127,22 +133,24 @@ fn append_spelling(
     Ok(())
 }
 
-/// Writes what stands between a spot and a token, and the token.
+/// Writes what stands between a position and a token, and the token.
 #[tactic(auto, using(crate::proofs::TranslationLemmas::goes_on, crate::proofs::TranslationLemmas::stops))]
 fn put_token(
     text: &mut Vec<u8>,
     language: Language,
     source: &[u8],
-    spot: &Spot,
+    position: &TranslationPosition,
     token: &Token,
     rest: &[Token],
-) -> Result<Spot, SourceFault>
-    ensures ok { IfOk result (λ next. ContinuesTranslation language source.now text.old.items spot.now
+) -> Result<TranslationPosition, SourceFault>
+    ensures ok { IfOk result
+        (λ next. ContinuesTranslation language source.now text.old.items position.now
         (token.now ∷ rest.now) text.new.items next rest.now) }
-    ensures stopped { IfErr result (IsStoppedByForeignWord (translation_from language source.now spot.now
+    ensures stopped { IfErr result
+        (IsStoppedByForeignWord (translation_from language source.now position.now
         (token.now ∷ rest.now))) }
 {
-    let Some(spelling) = spelling_at(language, source, spot, token, rest) else {
+    let Some(spelling) = spelling_at(language, source, position, token, rest) else {
         return Err(SourceFault::Refused {
             refusal: Refusal {
                 line: token.line,
@@ -150,9 +158,9 @@ fn put_token(
             },
         });
     };
-    let gap = between(source, spot.from, token.start as usize);
+    let gap = between(source, position.from, token.start as usize);
     append_spelling(text, gap, &spelling)?;
-    Ok(spot_behind(source, spot, token, rest))
+    Ok(position_behind(source, position, token, rest))
 }
 
 /// The translation of a source with these tokens.
@@ -163,21 +171,23 @@ fn translate_tokens(
     source: &[u8],
     tokens: &[Token],
 ) -> Result<Vec<u8>, SourceFault>
-    ensures ok { IfOk result (λ text. translation_of language source.now tokens.now ≡ Ok text.items) }
-    ensures stopped { IfErr result (IsStoppedByForeignWord (translation_of language source.now tokens.now)) }
+    ensures ok { IfOk result (λ text. translation_of language source.now tokens.now
+        ≡ Ok text.items) }
+    ensures stopped { IfErr result
+        (IsStoppedByForeignWord (translation_of language source.now tokens.now)) }
 {
     let mut text = Vec::new(alloc);
-    let mut spot = Spot {
+    let mut position = TranslationPosition {
         from: 0,
-        place: Place::Outside,
+        place: TokenPlace::Outside,
         before: TokenClass::Other,
     };
     let mut left = tokens;
     while let [token, rest @ ..] = left {
-        spot = put_token(&mut text, language, source, &spot, token, rest)?;
+        position = put_token(&mut text, language, source, &position, token, rest)?;
         left = rest;
     }
-    text.extend_from_slice(behind_byte(source, spot.from))?;
+    text.extend_from_slice(behind_byte(source, position.from))?;
     Ok(text)
 }
 
@@ -221,8 +231,8 @@ pub fn to_german(alloc: Global, bytes: &[u8]) -> Result<Vec<u8>, SourceFault>
     translate(alloc, Language::German, bytes)
 }
 
-/// A source has one translation, or none and one violation: so each call refuses exactly the sources
-/// with a violation, with exactly that line and rule.
+/// A source has one translation, or none and one violation: so each call refuses exactly the
+/// sources with a violation, with exactly that line and rule.
 pub fn law_of_translations()
     ensures one_text { IsTranslationUnique }
     ensures text_or_violation { TranslationExcludesViolation }

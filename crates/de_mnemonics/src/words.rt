@@ -81,7 +81,8 @@ fn partner(language: Language, table: &'static [Pair], word: &[u8]) -> Option<&'
 /// What stands beside an instruction word that is no jump.
 #[tactic(auto, unfolding(crate::specs::Tables::instruction_pairs))]
 fn common_partner(language: Language, word: &[u8]) -> Option<&'static [u8]>
-    ensures { IsFoundAsWanted (λ found. found.now) (partner_in_table language instruction_pairs word.now) result }
+    ensures { IsFoundAsWanted (λ found. found.now)
+        (partner_in_table language instruction_pairs word.now) result }
 {
     partner(language, &INSTRUCTIONS, word)
 }
@@ -89,7 +90,8 @@ fn common_partner(language: Language, word: &[u8]) -> Option<&'static [u8]>
 /// What stands beside the instruction word of a jump.
 #[tactic(auto, unfolding(crate::specs::Tables::jump_pairs))]
 fn jump_partner(language: Language, word: &[u8]) -> Option<&'static [u8]>
-    ensures { IsFoundAsWanted (λ found. found.now) (partner_in_table language jump_pairs word.now) result }
+    ensures { IsFoundAsWanted (λ found. found.now)
+        (partner_in_table language jump_pairs word.now) result }
 {
     partner(language, &JUMPS, word)
 }
@@ -120,21 +122,21 @@ fn letters(word: &[u8]) -> &[u8]
     &word[..letter_count(word)]
 }
 
-/// What stands behind them.
+/// What stands behind the letters of a word.
 fn digits(word: &[u8]) -> &[u8]
     ensures { result.now ≡ digits_of_word word.now }
 {
     &word[letter_count(word)..]
 }
 
-/// Whether nothing but digits stands behind them.
+/// Whether nothing but digits stands behind the letters of a word.
 pub(crate) fn ends_in_digits(word: &[u8]) -> bool
     ensures { result ≡ list_all is_ascii_digit (digits_of_word word.now) }
 {
     digits(word).iter().all(|b| b.is_ascii_digit())
 }
 
-/// Whether anything stands behind them.
+/// Whether anything stands behind the letters of a word.
 pub(crate) fn has_digits(word: &[u8]) -> bool
     ensures { result ≡ nat_lt 0 (length (digits_of_word word.now)) }
 {
@@ -144,7 +146,8 @@ pub(crate) fn has_digits(word: &[u8]) -> bool
 /// What stands beside the letters of an operand word that takes a number.
 #[tactic(auto, unfolding(crate::specs::Tables::operand_pairs))]
 fn letters_partner(language: Language, letters: &[u8]) -> Option<&'static [u8]>
-    ensures { IsFoundAsWanted (λ found. found.now) (partner_in_table language operand_pairs letters.now) result }
+    ensures { IsFoundAsWanted (λ found. found.now)
+        (partner_in_table language operand_pairs letters.now) result }
 {
     partner(language, &OPERANDS, letters)
 }
@@ -152,7 +155,8 @@ fn letters_partner(language: Language, letters: &[u8]) -> Option<&'static [u8]>
 /// What stands beside the letters of an operand word, with the digits of the same word.
 #[tactic(auto, unfolding(crate::specs::Words::numbered_partner))]
 fn numbered_partner<'a>(language: Language, word: &'a [u8]) -> Option<Spelling<'a>>
-    ensures { IsFoundAsWanted (λ s. s.front.now ++ s.rest.now) (numbered_partner language word.now) result }
+    ensures { IsFoundAsWanted (λ s. s.front.now ++ s.rest.now)
+        (numbered_partner language word.now) result }
 {
     if !ends_in_digits(word) {
         return None;
@@ -169,7 +173,8 @@ fn numbered_partner<'a>(language: Language, word: &'a [u8]) -> Option<Spelling<'
 /// What stands beside an operand word that stands alone.
 #[tactic(auto, unfolding(crate::specs::Tables::result_pairs))]
 fn result_partner(language: Language, word: &[u8]) -> Option<&'static [u8]>
-    ensures { IsFoundAsWanted (λ found. found.now) (partner_in_table language result_pairs word.now) result }
+    ensures { IsFoundAsWanted (λ found. found.now)
+        (partner_in_table language result_pairs word.now) result }
 {
     partner(language, &RESULTS, word)
 }
@@ -177,7 +182,8 @@ fn result_partner(language: Language, word: &[u8]) -> Option<&'static [u8]>
 /// What stands beside an operand word.
 #[tactic(auto, unfolding(crate::specs::Words::operand_partner))]
 fn operand_partner<'a>(language: Language, word: &'a [u8]) -> Option<Spelling<'a>>
-    ensures { IsFoundAsWanted (λ s. s.front.now ++ s.rest.now) (operand_partner language word.now) result }
+    ensures { IsFoundAsWanted (λ s. s.front.now ++ s.rest.now)
+        (operand_partner language word.now) result }
 {
     if let Some(found) = numbered_partner(language, word) {
         return Some(found);
@@ -195,7 +201,7 @@ fn has_instruction(language: Language, word: &[u8]) -> bool
     instruction_partner(language, word).is_some()
 }
 
-/// The same for an operand word.
+/// Whether the language that is translated from has this operand word, in the table.
 fn has_operand(language: Language, word: &[u8]) -> bool
     ensures { result ≡ is_some (operand_partner language word.now) }
 {
@@ -205,7 +211,8 @@ fn has_operand(language: Language, word: &[u8]) -> bool
 /// How an instruction word is written in the translation.
 #[tactic(auto, unfolding(crate::specs::Words::translated_word))]
 fn written_instruction<'a>(language: Language, word: &'a [u8]) -> Option<Spelling<'a>>
-    ensures { IsFoundAsWanted (λ s. s.front.now ++ s.rest.now) (translated_word language Instruction word.now) result }
+    ensures { IsFoundAsWanted (λ s. s.front.now ++ s.rest.now)
+        (translated_word language Instruction word.now) result }
 {
     if let Some(rest) = instruction_partner(language, word) {
         return Some(Spelling { front: &[], rest });
@@ -222,7 +229,8 @@ fn written_instruction<'a>(language: Language, word: &'a [u8]) -> Option<Spellin
 /// How an operand word is written in the translation.
 #[tactic(auto, unfolding(crate::specs::Words::translated_word))]
 fn written_operand<'a>(language: Language, word: &'a [u8]) -> Option<Spelling<'a>>
-    ensures { IsFoundAsWanted (λ s. s.front.now ++ s.rest.now) (translated_word language Operand word.now) result }
+    ensures { IsFoundAsWanted (λ s. s.front.now ++ s.rest.now)
+        (translated_word language Operand word.now) result }
 {
     if let Some(found) = operand_partner(language, word) {
         return Some(found);
@@ -257,7 +265,8 @@ fn written_path<'a>(language: Language, word: &'a [u8]) -> Spelling<'a>
 /// language alone.
 #[tactic(auto, unfolding(crate::specs::Words::translated_word))]
 pub(crate) fn written<'a>(language: Language, role: Role, word: &'a [u8]) -> Option<Spelling<'a>>
-    ensures { IsFoundAsWanted (λ s. s.front.now ++ s.rest.now) (translated_word language role word.now) result }
+    ensures { IsFoundAsWanted (λ s. s.front.now ++ s.rest.now)
+        (translated_word language role word.now) result }
 {
     match role {
         Role::Instruction => written_instruction(language, word),
@@ -277,7 +286,7 @@ fn is_listed(table: &'static [&'static [u8]], word: &[u8]) -> bool
     table.iter().any(|entry| word.eq_ignore_ascii_case(entry))
 }
 
-/// The same, where the list is seen as bytes.
+/// Whether a word is in a list, whose words a contract sees as bytes.
 fn is_among(table: &'static [&'static [u8]], word: &[u8]) -> bool
     ensures { result ≡ is_word_in_list (map (λ entry. entry.now) table.now) word.now }
 {
@@ -295,12 +304,13 @@ fn has_partner(language: Language, table: &'static [Pair], word: &[u8]) -> bool
 /// Whether a word is in one of the two columns of a table.
 #[tactic(auto, unfolding(crate::specs::Places::is_word_in_pairs))]
 fn is_in(table: &'static [Pair], word: &[u8]) -> bool
-    ensures { result ≡ is_word_in_pairs (map (λ pair. (pair.0.now, pair.1.now)) table.now) word.now }
+    ensures { result
+        ≡ is_word_in_pairs (map (λ pair. (pair.0.now, pair.1.now)) table.now) word.now }
 {
     has_partner(Language::German, table, word) || has_partner(Language::English, table, word)
 }
 
-/// Whether a word is an operand word that takes a number, without it.
+/// Whether these are the letters of an operand word that takes a number.
 #[tactic(auto, unfolding(crate::specs::Tables::operand_pairs))]
 fn is_operand(letters: &[u8]) -> bool
     ensures { result ≡ is_word_in_pairs operand_pairs letters.now }
@@ -331,7 +341,7 @@ fn is_own_jump(word: &[u8]) -> bool
     is_in(&JUMPS, word)
 }
 
-/// Whether this is the word of a jump in both of them.
+/// Whether this is the word of a jump in both languages.
 #[tactic(auto, unfolding(crate::specs::Tables::common_jumps))]
 fn is_common_jump(word: &[u8]) -> bool
     ensures { result ≡ is_word_in_list common_jumps word.now }

@@ -46,11 +46,13 @@ abbrev pub bit_text : Width → ℕ → List ℕ
 bit_text Bit bit = codes "." ++ decimal bit
 bit_text width bit = []
 
--- a place: that of a data block with the block's number
+-- the text of an operand by its area, byte, bit and width; in a data block with the block's number
 abbrev pub place_text : Area → (number byte bit : ℕ) → Width → List ℕ
 place_text Db number byte bit width =
-    codes "DB" ++ (decimal number ++ (codes "." ++ (block_width_text width ++ (decimal byte ++ bit_text width bit))))
-place_text area number byte bit width = area_text area ++ (width_text width ++ (decimal byte ++ bit_text width bit))
+    codes "DB" ++ (decimal number ++ (codes "."
+    ++ (block_width_text width ++ (decimal byte ++ bit_text width bit))))
+place_text area number byte bit width =
+    area_text area ++ (width_text width ++ (decimal byte ++ bit_text width bit))
 
 -- a variable by its address, with no blank inside
 unfoldable pub var_text : Var → List ℕ
@@ -61,22 +63,24 @@ abbrev pub more_vars_text : List Var → List ℕ
 more_vars_text [] = []
 more_vars_text (v ∷ vs) = codes ", " ++ (var_text v ++ more_vars_text vs)
 
--- the variables of a read
+-- the text of the variables that a request reads
 abbrev pub vars_text : List Var → List ℕ
 vars_text [] = []
 vars_text (v ∷ vs) = var_text v ++ more_vars_text vs
 
--- a request
+-- the text of an operator's request
 unfoldable pub request_text : Request → List ℕ
 request_text (ReadVars vars) = codes "read " ++ vars_text vars
-request_text (WriteVar var value) = codes "write " ++ (var_text var ++ (codes " " ++ value_text var.width value))
+request_text (WriteVar var value) =
+    codes "write " ++ (var_text var ++ (codes " " ++ value_text var.width value))
 request_text Stop = codes "stop"
 request_text Restart = codes "restart"
-request_text (MonitorOn block) = codes "monitor on " ++ (kind_text block.kind ++ (codes " " ++ decimal block.number))
+request_text (MonitorOn block) =
+    codes "monitor on " ++ (kind_text block.kind ++ (codes " " ++ decimal block.number))
 request_text MonitorOff = codes "monitor off"
 request_text Diag = codes "diag"
 
--- an arrival's value, where it isn't 0
+-- the text of an arrival's value behind the OB number; none where the value is 0
 abbrev pub arrival_text : ℕ → List ℕ
 arrival_text value = if value == 0 then [] else codes " " ++ hex_text 8 value
 
@@ -86,7 +90,8 @@ what_text who Step = codes "step 1"
 what_text who (Input byte value) = codes "in " ++ (decimal byte ++ (codes " " ++ hex_text 2 value))
 what_text who (Arrive ob value) = codes "arrive " ++ (decimal ob ++ arrival_text value)
 what_text who (Tick ms) = codes "tick " ++ decimal ms
-what_text who (Ask request) = codes "op " ++ (decimal (operator_of who) ++ (codes " " ++ request_text request))
+what_text who (Ask request) =
+    codes "op " ++ (decimal (operator_of who) ++ (codes " " ++ request_text request))
 
 -- the line of an entry that is no step
 abbrev pub entry_line : Entry → List ℕ
@@ -97,13 +102,13 @@ abbrev pub steps_text : ℕ → List ℕ
 steps_text zero = []
 steps_text (suc n) = codes "step " ++ (decimal (suc n) ++ codes "\n")
 
--- entries, with so many steps in front of them
+-- the text of entries, with so many steps in front of them
 unfoldable pub history_text_behind : (steps : ℕ) → List Entry → List ℕ
 history_text_behind steps [] = steps_text steps
 history_text_behind steps (e ∷ es) =
     if is_step e then history_text_behind (steps + 1) es
     else steps_text steps ++ (entry_line e ++ history_text_behind 0 es)
 
--- a whole history
+-- the text of a whole history
 unfoldable pub history_text : List Entry → List ℕ
 history_text entries = history_text_behind 0 entries

@@ -10,7 +10,7 @@ use Rattle.event_text.specs.declared.lines.LineEntries.{LineEntries}
 use Rattle.event_text.specs.declared.lines.LineEntries.TheVariants.{Nothing, Steps, One}
 use Rattle.event_text.specs.Lines.{is_history, most_steps, one_entry, step_entries}
 
--- the entries that it stands for
+-- the entries that a line of a text stands for
 abbrev pub entries_of_line : LineEntries → List Entry
 entries_of_line Nothing = []
 entries_of_line (Steps count) = step_entries count
@@ -22,10 +22,12 @@ entries_read reading = reading_map entries_of_line reading
 
 -- a valid entry that is no step
 pub record IsOtherEntry (entry : Entry) : Type 0 where
+  -- the entry is no step
   pub other : is_step entry ≡ false
+  -- the worker of the entry is numbered from 1, and its numbers are in their ranges
   pub valid : IsValid entry
 
--- an entry of such kind on a line of its own
+-- a line stands for one valid entry that is no step
 abbrev pub IsOtherLine : LineEntries → Type 0
 IsOtherLine (One entry) = IsOtherEntry entry
 IsOtherLine _ = ⊥
@@ -43,5 +45,6 @@ IsScriptLine kind _ = ⊥
 -- steps come in histories alone, no more than there may be; any other entry is valid
 abbrev pub IsLineAllowed : TextKind → (before : ℕ) → LineEntries → Type 0
 IsLineAllowed kind before Nothing = Unit {0}
-IsLineAllowed kind before (Steps count) = (is_history kind ≡ true) × (1 ≤ count) × (before + count ≤ most_steps)
+IsLineAllowed kind before (Steps count) =
+    (is_history kind ≡ true) × (1 ≤ count) × (before + count ≤ most_steps)
 IsLineAllowed kind before (One entry) = (is_step entry ≡ false) × (HasWorker kind → IsValid entry)

@@ -41,14 +41,18 @@ number_among test (Ok n) = if test n then Ok n else Err 2
 -- `in b hh`: an existing peripheral byte takes a value
 unfoldable pub input_line : List (List ℕ) → Reading Entry
 input_line (byte ∷ value ∷ []) =
-    reading_map (λ p. feeder_entry (Input p.0 p.1)) (both_readings (number_among is_peripheral_byte (address_number byte)) (hex_of 2 value))
+    reading_map (λ p. feeder_entry (Input p.0 p.1))
+    (both_readings (number_among is_peripheral_byte (address_number byte)) (hex_of 2 value))
 input_line words = no_line
 
 -- `arrive ob`, `arrive ob hhhhhhhh`: an interrupt arrives, with the value 0 or another one
 unfoldable pub arrival_line : List (List ℕ) → Reading Entry
-arrival_line (ob ∷ []) = reading_map (λ n. feeder_entry (Arrive n 0)) (number_among is_arrivable (address_number ob))
+arrival_line (ob ∷ []) =
+    reading_map (λ n. feeder_entry (Arrive n 0))
+    (number_among is_arrivable (address_number ob))
 arrival_line (ob ∷ value ∷ []) =
-    reading_map (λ p. feeder_entry (Arrive p.0 p.1)) (both_readings (number_among is_arrivable (address_number ob)) (hex_of 8 value))
+    reading_map (λ p. feeder_entry (Arrive p.0 p.1))
+    (both_readings (number_among is_arrivable (address_number ob)) (hex_of 8 value))
 arrival_line words = no_line
 
 -- `tick n`: 1 to 60,000 milliseconds pass
@@ -60,7 +64,8 @@ tick_line words = no_line
 abbrev pub operator_with : Names → Option (List ℕ × List ℕ) → Reading Entry
 operator_with names None = no_line
 operator_with names (Some w) =
-    reading_map (λ p. request_entry (worker_of p.0) p.1) (both_readings (number_in 1 4 5 w.0) (request_line names w.1))
+    reading_map (λ p. request_entry (worker_of p.0) p.1)
+    (both_readings (number_in 1 4 5 w.0) (request_line names w.1))
 
 -- `op k REQUEST`: operator k, 1 to 4, asks
 unfoldable pub operator_line : Names → (rest : List ℕ) → Reading Entry
@@ -70,18 +75,18 @@ operator_line names rest = operator_with names (first_word rest)
 unfoldable pub script_line : Names → (who : ℕ) → (word rest : List ℕ) → Reading Entry
 script_line names who word rest = reading_map (request_entry who) (request_of names word rest)
 
--- `step` and `op` stand in histories
+-- `step` and `op` lines may stand in a text of this kind: it is a history
 abbrev pub is_history : TextKind → Bool
 is_history History = true
 is_history _ = false
 
--- `in`, `arrive` and `tick` stand in histories and stimuli
+-- `in`, `arrive` and `tick` lines may stand in a text of this kind: a history or stimuli
 abbrev pub has_feeder_lines : TextKind → Bool
 has_feeder_lines History = true
 has_feeder_lines Stimuli = true
 has_feeder_lines _ = false
 
--- requests stand alone in scripts
+-- lines that are requests alone may stand in a text of this kind: it is a script
 abbrev pub is_script : TextKind → Bool
 is_script (Script who) = true
 is_script _ = false
@@ -110,14 +115,20 @@ abbrev pub one_where_allowed : Bool → Reading Entry → Reading (List Entry)
 one_where_allowed allowed reading = reading_map one_entry (where_allowed allowed reading)
 
 -- a line by its first word
-abbrev pub line_with : TextKind → Names → (before : ℕ) → Option (List ℕ × List ℕ) → Reading (List Entry)
+abbrev pub line_with :
+    TextKind → Names → (before : ℕ) → Option (List ℕ × List ℕ) → Reading (List Entry)
 line_with kind names before None = no_line
 line_with kind names before (Some w) =
-    if bytes_eq w.0 (codes "step") then reading_map step_entries (where_allowed (is_history kind) (step_line before (words_of w.1)))
-    else if bytes_eq w.0 (codes "in") then one_where_allowed (has_feeder_lines kind) (input_line (words_of w.1))
-    else if bytes_eq w.0 (codes "arrive") then one_where_allowed (has_feeder_lines kind) (arrival_line (words_of w.1))
-    else if bytes_eq w.0 (codes "tick") then one_where_allowed (has_feeder_lines kind) (tick_line (words_of w.1))
-    else if bytes_eq w.0 (codes "op") then one_where_allowed (is_history kind) (operator_line names w.1)
+    if bytes_eq w.0 (codes "step") then
+    reading_map step_entries (where_allowed (is_history kind) (step_line before (words_of w.1)))
+    else if bytes_eq w.0 (codes "in") then
+    one_where_allowed (has_feeder_lines kind) (input_line (words_of w.1))
+    else if bytes_eq w.0 (codes "arrive") then
+    one_where_allowed (has_feeder_lines kind) (arrival_line (words_of w.1))
+    else if bytes_eq w.0 (codes "tick") then
+    one_where_allowed (has_feeder_lines kind) (tick_line (words_of w.1))
+    else if bytes_eq w.0 (codes "op") then
+    one_where_allowed (is_history kind) (operator_line names w.1)
     else one_where_allowed (is_script kind) (script_line names (script_worker kind) w.0 w.1)
 
 -- empty lines and lines that begin with `//` are skipped

@@ -37,8 +37,12 @@ WhatFits _ = Unit {0}
 
 -- a valid entry of the worker that makes such entries; each entry of a program fits its fields
 pub record IsRegular (e : Entry) : Type 0 where
+  -- the worker makes such entries: 1 steps, 2 inputs, arrivals and ticks, 3 to 6 requests
   pub worker : IsWorkerOf e.what e.who
+  -- what happens is in the ranges of a valid entry
   pub range : IsInRange e.what
+  -- the numbers of the entry fit their fields: 16 bits for a block or a byte, 8 for an input, 32 for
+  -- an arrival
   pub fields : WhatFits e.what
 
 -- a regular entry of this worker

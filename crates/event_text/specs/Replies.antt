@@ -19,7 +19,8 @@ reply_head n who = codes "@" ++ (decimal n ++ (codes " OP " ++ decimal (operator
 abbrev pub values_text : List Var → List ℕ → List ℕ
 values_text [] values = []
 values_text (v ∷ vs) [] = []
-values_text (v ∷ vs) (value ∷ values) = codes " " ++ (value_text v.width value ++ values_text vs values)
+values_text (v ∷ vs) (value ∷ values) =
+    codes " " ++ (value_text v.width value ++ values_text vs values)
 
 -- the variables that a request reads
 abbrev pub read_vars : Request → List Var
@@ -32,11 +33,13 @@ records_text n records = flat_map (diag_text n) records
 
 -- what the reply says; behind the number of diagnostics a line for each of them
 unfoldable pub outcome_text : (n : ℕ) → Request → Reply → List ℕ
-outcome_text n request (Values values) = codes " VALUES" ++ (values_text (read_vars request) values ++ codes "\n")
+outcome_text n request (Values values) =
+    codes " VALUES" ++ (values_text (read_vars request) values ++ codes "\n")
 outcome_text n request Done = codes " DONE\n"
 outcome_text n request (NoSuch index) = codes " NOSUCH " ++ (decimal index ++ codes "\n")
 outcome_text n request NotStopped = codes " NOTSTOPPED\n"
-outcome_text n request (Diagnostics list) = codes " DIAG " ++ (decimal (length list) ++ (codes "\n" ++ records_text n list))
+outcome_text n request (Diagnostics list) =
+    codes " DIAG " ++ (decimal (length list) ++ (codes "\n" ++ records_text n list))
 
 -- the lines of a reply to entry n
 unfoldable pub reply_text : (n who : ℕ) → Request → Reply → List ℕ

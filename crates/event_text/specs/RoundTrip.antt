@@ -12,4 +12,5 @@ use Rattle.event_text.specs.HistoryText.{history_text}
 abbrev pub WrittenIsRead : Type 0
 WrittenIsRead =
     (names : List NameEntry) (entries : List Entry)
-    → All IsRegular entries → steps_in entries ≤ most_steps → history_of_text names (history_text entries) ≡ Ok entries
+    → All IsRegular entries → steps_in entries ≤ most_steps
+    → history_of_text names (history_text entries) ≡ Ok entries

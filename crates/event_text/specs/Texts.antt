@@ -23,12 +23,14 @@ entries_in_front entries (Ok more) = Ok (entries ++ more)
 entries_in_front entries (Err refusal) = Err refusal
 
 -- a line's entries in front of those that follow, or the line's refusal
-abbrev pub entries_of_line_first : (line : ℕ) → Reading (List Entry) → (List Entry → Result (List Entry) Refusal) → Result (List Entry) Refusal
+abbrev pub entries_of_line_first :
+    (line : ℕ) → Reading (List Entry) → (List Entry → Result (List Entry) Refusal) → Result (List Entry) Refusal
 entries_of_line_first line (Err rule) more = Err (record { line = line; rule = rule })
 entries_of_line_first line (Ok entries) more = entries_in_front entries (more entries)
 
 -- lines from one with this number on, behind so many steps
-unfoldable pub entries_of_read_lines : TextKind → Names → (line before : ℕ) → List (List ℕ) → Result (List Entry) Refusal
+unfoldable pub entries_of_read_lines :
+    TextKind → Names → (line before : ℕ) → List (List ℕ) → Result (List Entry) Refusal
 entries_of_read_lines kind names line before [] = Ok []
 entries_of_read_lines kind names line before (text ∷ more) =
     entries_of_line_first line (line_read kind names before text)

@@ -24,7 +24,9 @@ vars_of_read_request line (Ask (ReadVars vars)) = Ok (Some vars)
 vars_of_read_request line what = line_refused line 7
 
 -- the variables behind a line, with those that were found before it; rule 7 where it is a second one
-abbrev pub vars_behind : (line : ℕ) (found : Option (List Var)) → Reading (List Entry) → Result (Option (List Var)) Refusal
+abbrev pub vars_behind :
+    (line : ℕ) (found : Option (List Var)) → Reading (List Entry)
+    → Result (Option (List Var)) Refusal
 vars_behind line found (Err rule) = line_refused line rule
 vars_behind line found (Ok []) = Ok found
 vars_behind line None (Ok (e ∷ [])) = vars_of_read_request line e.what
@@ -36,15 +38,19 @@ vars_or_no_request (Some vars) = Ok vars
 vars_or_no_request None = line_refused 1 7
 
 -- what lines come to of which the first one was read so
-abbrev pub vars_and_then : Result (Option (List Var)) Refusal → (Option (List Var) → Result (List Var) Refusal) → Result (List Var) Refusal
+abbrev pub vars_and_then :
+    Result (Option (List Var)) Refusal
+    → (Option (List Var) → Result (List Var) Refusal) → Result (List Var) Refusal
 vars_and_then (Err refusal) more = Err refusal
 vars_and_then (Ok found) more = more found
 
 -- lines from one with this number on, behind these variables
-unfoldable pub vars_from : Names → (line : ℕ) (found : Option (List Var)) → List (List ℕ) → Result (List Var) Refusal
+unfoldable pub vars_from :
+    Names → (line : ℕ) (found : Option (List Var)) → List (List ℕ) → Result (List Var) Refusal
 vars_from names line found [] = vars_or_no_request found
 vars_from names line found (text ∷ more) =
-    vars_and_then (vars_behind line found (line_read (Script 6) names 0 text)) (λ next. vars_from names (line + 1) next more)
+    vars_and_then (vars_behind line found (line_read (Script 6) names 0 text))
+    (λ next. vars_from names (line + 1) next more)
 
 -- a whole text, with the names of a program
 unfoldable pub watched_vars_of : List NameEntry → List ℕ → Result (List Var) Refusal

@@ -148,7 +148,8 @@ fn take_line(
     ensures steps { OnOk result (steps_in entries.new.items ≡ steps_in entries.old.items) }
     ensures valid { (HasWorker kind → All IsValid entries.old.items)
         → OnOk result (HasWorker kind → All IsValid entries.new.items) }
-    ensures bad { IfErr result (IsEntryLineFault number (line_read kind (find names.now) 0 line.now)) }
+    ensures bad { IfErr result
+        (IsEntryLineFault number (line_read kind (find names.now) 0 line.now)) }
 {
     match read_line(kind, names, 0, line) {
         Ok(found) => {

@@ -228,7 +228,8 @@ fn append_run(run: &Run, steps: u64, out: &mut Vec<u8>) -> Result<u64, NoMemory>
 fn append_runs(runs: &[Run], out: &mut Vec<u8>) -> Result<(), NoMemory>
     requires are { AreRuns runs.now }
     requires bounded { length (entries_of_runs runs.now) < 2 ^ 64 }
-    ensures { OnOk result (out.new.items ≡ out.old.items ++ history_text (entries_of_runs runs.now)) }
+    ensures { OnOk result
+        (out.new.items ≡ out.old.items ++ history_text (entries_of_runs runs.now)) }
 {
     let mut steps: u64 = 0;
     for run in runs {

@@ -16,14 +16,15 @@ abbrev pub good_params : (kind instance : ℕ) → List Param → Bool
 good_params kind instance ps =
     all_good (λ s. parameter_layout kind instance) same_state 0 (map record_of_param ps)
 
--- whether each line fits 32 bits; that none is 0 or falls (fault 9) isn't tested here
+-- whether each source line of a block fits 32 bits; that none is 0 or falls (fault 9) isn't tested
 abbrev pub good_lines : List ℕ → Bool
 good_lines lines = all_good (line_field false) line_after 0 lines
 
 -- whether code blocks behind one of kind and number `before` (0 and 0 for none) are without fault;
 -- faults 5 to 9 aside
 abbrev pub good_blocks : ℕ × ℕ → List CodeBlock → Bool
-good_blocks before bs = all_good (code_block_layout false) after_block before (map record_of_block bs)
+good_blocks before bs =
+    all_good (code_block_layout false) after_block before (map record_of_block bs)
 
 -- whether data blocks are without fault, behind one of the number `before.0` (0 for none), with
 -- `before.1` bytes in all data blocks before
@@ -35,7 +36,7 @@ good_datas before ds = all_good data_block_layout after_data before ds
 abbrev pub good_names : List ℕ → List NameEntry → Bool
 good_names before es = all_good name_record after_name before (map name_of_entry es)
 
--- whether there may be so many code blocks, data blocks and names
+-- whether an image may have so many code blocks, data blocks (at most 256) and names
 abbrev pub good_counts : (codes datas names : ℕ) → Bool
 good_counts codes datas names = nat_lt codes 65536 && nat_le datas 256 && nat_lt names 65536
 

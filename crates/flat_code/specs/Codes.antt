@@ -11,7 +11,8 @@ abbrev pub cons_op : OpData → List OpData × List ℕ → List OpData × List 
 cons_op op r = (op ∷ r.0, r.1)
 
 -- where bytes begin no op (None) all of them are left; else `more` reads on behind the op
-abbrev pub ops_next : Option (OpData × List ℕ) → List ℕ → (List ℕ → List OpData × List ℕ) → List OpData × List ℕ
+abbrev pub ops_next :
+    Option (OpData × List ℕ) → List ℕ → (List ℕ → List OpData × List ℕ) → List OpData × List ℕ
 ops_next None bytes more = ([], bytes)
 ops_next (Some r) bytes more = cons_op r.0 (more r.1)
 
@@ -56,24 +57,32 @@ most_ops = 64
 -- statement stand before the first of these, `at`: the offset of this
 abbrev pub overlong_statement : ℕ → ℕ → List OpData → Option ℕ
 overlong_statement count at [] = None
-overlong_statement count at (op ∷ ops) = if count == most_ops then Some at else overlong_statement (if op.last then 0 else suc count) (at + size_of_op op) ops
+overlong_statement count at (op ∷ ops) =
+    if count == most_ops then Some at
+    else overlong_statement (if op.last then 0 else suc count) (at + size_of_op op) ops
 
--- the left one of two offsets, if there is one, else the right one
+-- the first of two offsets that were searched one after the other, if it was found, else the second
 abbrev pub first_found : Option ℕ → Option ℕ → Option ℕ
 first_found None other = other
 first_found (Some at) other = Some at
 
--- an offset or a fault that was found; none where it isn't checked (false)
+-- an offset or the code of a fault that was found; None where it isn't checked (false)
 abbrev pub if_checked : Bool → Option ℕ → Option ℕ
 if_checked true found = found
 if_checked false found = None
 
--- the offset at which reading code ends by fault 5: the 65th op of a statement; bytes that begin no
--- op; ops of which the last isn't BE with the end mark (0 where there is none); with false only the
--- second
+-- the offset at which reading code ends by fault 5, by the ops that were read and the bytes left
+-- over: the 65th op of a statement; bytes that begin no op; a last op that isn't BE with the end
+-- mark (0 where there are no ops). With false only bytes that begin no op are a fault
 abbrev pub stop_at : Bool → List OpData → List ℕ → Option ℕ
-stop_at with_code_faults ops [] = first_found (if_checked with_code_faults (overlong_statement 0 0 ops)) (if_checked with_code_faults (if ends_by_be ops then None else Some (last_place 0 ops)))
-stop_at with_code_faults ops (byte ∷ left) = first_found (if_checked with_code_faults (overlong_statement 0 0 ops)) (Some (length (code_bytes ops)))
+stop_at with_code_faults ops [] =
+    first_found
+    (if_checked with_code_faults (overlong_statement 0 0 ops))
+    (if_checked with_code_faults (if ends_by_be ops then None else Some (last_place 0 ops)))
+stop_at with_code_faults ops (byte ∷ left) =
+    first_found
+    (if_checked with_code_faults (overlong_statement 0 0 ops))
+    (Some (length (code_bytes ops)))
 
 -- the offset in its code of the fault 5 of a block's ops; None where they have none
 abbrev pub code_fault : List OpData → Option ℕ
@@ -93,7 +102,9 @@ ops_read with_code_faults at r end = read_ops (stop_at with_code_faults r.0 r.1)
 abbrev pub read_code : Bool → ℕ → Cursor → ReadResult (List OpData)
 read_code with_code_faults n cur =
     if nat_lt (length cur.rest) n then reading_ended cur.at 3
-    else ops_read with_code_faults cur.at (ops_from n (take n cur.rest)) (record { at = cur.at + n; rest = drop n cur.rest })
+    else ops_read with_code_faults cur.at
+    (ops_from n (take n cur.rest))
+    (record { at = cur.at + n; rest = drop n cur.rest })
 
 -- whether no offset was found (None), so that there is no fault 5
 abbrev pub is_nowhere : Option ℕ → Bool
@@ -104,6 +115,7 @@ is_nowhere (Some at) = false
 unfoldable pub code_layout : Bool → ℕ → Layout (List OpData)
 code_layout with_code_faults n = record {
   spell = code_bytes;
-  good = λ ops. are_ops ops && is_nowhere (stop_at with_code_faults ops []) && length (code_bytes ops) == n;
+  good = λ ops.
+      are_ops ops && is_nowhere (stop_at with_code_faults ops []) && length (code_bytes ops) == n;
   read = read_code with_code_faults n;
 }

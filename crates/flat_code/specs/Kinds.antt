@@ -1,4 +1,5 @@
--- The numbers of jumps and of conditions of the status word.
+-- The numbers that stand for things in operands: jumps, conditions of the status word, timers and
+-- counters, registers.
 use Rattle.std.specs.Prelude.{ℕ, ◌-◌, slice_index_or}
 use Rattle.plc_base.specs.declared.flags.Flag.{Flag}
 use Rattle.plc_base.specs.declared.flags.Flag.TheVariants as flag
@@ -48,3 +49,27 @@ condition_number flag.LtZero = 7
 condition_number flag.GeZero = 8
 condition_number flag.LeZero = 9
 condition_number flag.Uo = 10
+
+-- the number that stands for timers in the operand of a timer or counter (forms 06 and 07)
+abbrev pub timer_kind : ℕ
+timer_kind = 1
+
+-- the number that stands for counters in the operand of a timer or counter (forms 06 and 07)
+abbrev pub counter_kind : ℕ
+counter_kind = 2
+
+-- the number of address register 1 in a register-indirect operand (form 04)
+abbrev pub ar1_number : ℕ
+ar1_number = 1
+
+-- the number of address register 2 in a register-indirect operand (form 04)
+abbrev pub ar2_number : ℕ
+ar2_number = 2
+
+-- the number of the data block register DB in the operand of OPN (forms 0E and 0F)
+abbrev pub db_register_number : ℕ
+db_register_number = 1
+
+-- the number of the data block register DI in the operand of OPN (forms 0E and 0F)
+abbrev pub di_register_number : ℕ
+di_register_number = 2

@@ -17,7 +17,8 @@ names_rise before (entry ∷ entries) =
 abbrev pub IsNames : List NameEntry → Type 0
 IsNames entries = names_rise [] entries ≡ true
 
--- the variable of a name
+-- the place and width of the variable that a name names, whatever the case of its letters; None
+-- where no variable has that name
 unfoldable pub find : List NameEntry → List ℕ → Option (Place × Width)
 find [] name = None
 find (entry ∷ entries) name =

@@ -7,10 +7,13 @@ use Rattle.flat_code.specs.declared.operations.Operation.{Operation}
 use Rattle.flat_code.specs.Table.{takes_of, takes_of_operation, admits}
 use Rattle.flat_code.specs.Forms.{form_of_operand, payload_fits, payload, payload_in}
 
--- an op: the code of its instruction, whether it ends its statement, its operand
+-- an op, of which a statement has one or more
 pub record OpData : Type 0 where
+  -- the op code of the instruction, below 16#80
   pub code : ℕ
+  -- the end mark: whether the op is the last one of its statement
   pub last : Bool
+  -- the operand, or that there is none
   pub operand : Operand
 
 -- an op by its parts: the code without the end mark, the end mark, the operand
@@ -23,7 +26,8 @@ is_op code operand = nat_lt code 128 && admits (takes_of code) operand && payloa
 
 -- whether an operation takes the operand, so that the two make an op
 unfoldable pub is_instruction : Operation → Operand → Bool
-is_instruction operation operand = admits (takes_of_operation operation) operand && payload_fits operand
+is_instruction operation operand =
+    admits (takes_of_operation operation) operand && payload_fits operand
 
 -- an op that the tables have: a code below 16#80, a form that it takes, values that fit the payload
 abbrev pub IsOp : OpData → Type 0
@@ -33,7 +37,7 @@ IsOp op = is_op op.code op.operand ≡ true
 abbrev pub code_byte : ℕ → Bool → ℕ
 code_byte code last = if last then code + 128 else code
 
--- the bytes of an op
+-- the bytes of an op: op code with the end mark, form of the operand, payload of the operand
 unfoldable pub op_bytes : OpData → List ℕ
 op_bytes op = code_byte op.code op.last ∷ form_of_operand op.operand ∷ payload op.operand
 

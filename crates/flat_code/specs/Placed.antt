@@ -8,33 +8,43 @@ use Rattle.flat_code.specs.declared.operations.Operation.TheVariants as operatio
 use Rattle.flat_code.specs.declared.operations.RelayOperation.TheVariants as relay
 use Rattle.plc_base.specs.declared.instructions.Check.TheVariants as check
 
--- the op at an offset and the offset after it, of ops that begin at an offset; none where no op begins there
+-- the op at the offset `at` and the offset behind it, among ops of which the first begins at the
+-- offset `from`; None where no op begins at `at`
 abbrev pub op_placed : ℕ → List OpData → ℕ → Option (OpData × ℕ)
 op_placed from [] at = None
-op_placed from (op ∷ ops) at = if from == at then Some (op, from + size_of_op op) else op_placed (from + size_of_op op) ops at
+op_placed from (op ∷ ops) at =
+    if from == at then Some (op, from + size_of_op op) else op_placed (from + size_of_op op) ops at
 
--- the line of the statement that begins at an offset, of ops that begin at an offset; `begins_its_statement`: whether
--- a statement begins with the first of them. None where no statement begins there
+-- the source line of the statement that begins at the offset `at`, among ops of which the first
+-- begins at the offset `from`; `begins`: whether a statement begins with that op, `lines`: the
+-- lines of the statements from there on. None where no statement begins at `at`
 abbrev pub line_placed : ℕ → Bool → List OpData → List ℕ → ℕ → Option ℕ
 line_placed from begins [] lines at = None
 line_placed from begins (op ∷ ops) lines at =
     if from == at then (if begins then slice_get lines 0 else None)
     else line_placed (from + size_of_op op) op.last ops (if op.last then drop 1 lines else lines) at
 
--- an op in its code: its offset, the brackets that stand open before it in the text and the zones of the
--- master control relay, by the offsets of their `MCR(` (the outermost first), the ops of its statement
--- before it, the op, and the ops behind it
+-- an op at its place in the code of a block
 pub record PlacedOp : Type 0 where
+  -- the offset in bytes at which the op begins in the code
   pub at : ℕ
+  -- the brackets, A( to XN(, that stand open before the op in the text, the outermost first
   pub brackets : List OpenBracket
+  -- the zones of the master control relay that stand open before the op in the text, by the offsets
+  -- of their `MCR(`, the outermost first
   pub zones : List ℕ
+  -- the ops of the same statement before the op
   pub before : List OpData
+  -- the op itself
   pub op : OpData
+  -- the ops behind it, to the end of the code
   pub rest : List OpData
 
 -- whether an op code is one of A( to XN(, which open a bracket and whose codes stand together
 abbrev pub is_opening : ℕ → Bool
-is_opening code = nat_le (op_code_of (operation.Nest check.A)) code && nat_le code (op_code_of (operation.Nest check.Xn))
+is_opening code =
+    nat_le (op_code_of (operation.Nest check.A)) code
+    && nat_le code (op_code_of (operation.Nest check.Xn))
 
 -- open brackets without the innermost, which is the last of the list; none where none is open
 abbrev pub outer_brackets : List OpenBracket → List OpenBracket
@@ -67,7 +77,12 @@ abbrev pub ops_placed : ℕ → List OpenBracket → List ℕ → List OpData �
 ops_placed at brackets zones before [] = []
 ops_placed at brackets zones before (op ∷ ops) =
     record { at = at; brackets = brackets; zones = zones; before = before; op = op; rest = ops }
-    ∷ ops_placed (at + size_of_op op) (brackets_after at op.code brackets) (zones_behind_op at op.code zones) (before_next op before) ops
+    ∷ ops_placed
+    (at + size_of_op op)
+    (brackets_after at op.code brackets)
+    (zones_behind_op at op.code zones)
+    (before_next op before)
+    ops
 
 -- the ops of a block's code, each at its place
 abbrev pub code_places : List OpData → List PlacedOp
@@ -78,7 +93,7 @@ abbrev pub is_empty_list : {A : Type 0} → List A → Bool
 is_empty_list [] = true
 is_empty_list (x ∷ xs) = false
 
--- whether a statement begins with the op
+-- whether an op is the first one of its statement
 abbrev pub begins_its_statement : PlacedOp → Bool
 begins_its_statement p = is_empty_list p.before
 
@@ -97,23 +112,38 @@ most_zones = 8
 
 -- the op codes of open brackets, the outermost first; None where more than seven are open
 abbrev pub codes_of_few_brackets : List OpenBracket → Option (List ℕ)
-codes_of_few_brackets brackets = if nat_le (length brackets) most_brackets then Some (bracket_codes brackets) else None
+codes_of_few_brackets brackets =
+    if nat_le (length brackets) most_brackets then Some (bracket_codes brackets) else None
 
--- a statement of a block: the offset at which it begins, the brackets that stand open there, and how
--- many zones
+-- a statement of a block, as a jump to it sees it
 pub record StatementSpot : Type 0 where
+  -- the offset in bytes at which the statement begins in the block's code
   pub at : ℕ
-  -- the op codes of the brackets, the outermost first; None for more than seven
+  -- the op codes of the brackets that stand open there, the outermost first; None for more than
+  -- seven
   pub codes : Option (List ℕ)
+  -- how many zones of the master control relay stand open there
   pub zones : ℕ
 
--- the statements of ops that begin at an offset, behind these open brackets and zones; `begin`: whether
--- the first op begins a statement or goes on with one
+-- the statements of ops of which the first begins at the offset `at`, behind these open brackets
+-- and zones; `begin`: whether that op begins a statement or goes on with one
 abbrev pub spots_from : ℕ → Bool → List OpenBracket → List ℕ → List OpData → List StatementSpot
 spots_from at begin brackets zones [] = []
 spots_from at begin brackets zones (op ∷ ops) =
-    if begin then record { at = at; codes = codes_of_few_brackets brackets; zones = length zones } ∷ spots_from (at + size_of_op op) op.last (brackets_after at op.code brackets) (zones_behind_op at op.code zones) ops
-    else spots_from (at + size_of_op op) op.last (brackets_after at op.code brackets) (zones_behind_op at op.code zones) ops
+    if begin
+    then record { at = at; codes = codes_of_few_brackets brackets; zones = length zones }
+    ∷ spots_from
+    (at + size_of_op op)
+    op.last
+    (brackets_after at op.code brackets)
+    (zones_behind_op at op.code zones)
+    ops
+    else spots_from
+    (at + size_of_op op)
+    op.last
+    (brackets_after at op.code brackets)
+    (zones_behind_op at op.code zones)
+    ops
 
 -- the statements of a block's code
 abbrev pub statement_spots : List OpData → List StatementSpot
@@ -124,22 +154,27 @@ abbrev pub spot_at : List StatementSpot → ℕ → Option StatementSpot
 spot_at [] at = None
 spot_at (s ∷ ss) at = if s.at == at then Some s else spot_at ss at
 
--- the op that ends the statement of an op, with the ops behind that one; with no end mark the last
--- op
+-- the op that ends the statement of the op `op`, by the ops behind it: the first with an end mark,
+-- with none the last op of all
 abbrev pub ending_op : OpData → List OpData → OpData
 ending_op op [] = op
 ending_op op (next ∷ ops) = if op.last then op else ending_op next ops
 
--- the op that ends the statement of a placed op, from itself on; with no end mark the last one
+-- the op that ends the statement of a placed op: the first with an end mark from it on, with none
+-- the last op of the code
 abbrev pub last_op : PlacedOp → OpData
 last_op p = ending_op p.op p.rest
 
--- the brackets that stand open behind all ops, of which the first begins at an offset, behind these
+-- the brackets that stand open behind the last of ops, by those that stand open before the first,
+-- which begins at the offset `at`
 abbrev pub open_behind : ℕ → List OpenBracket → List OpData → List OpenBracket
 open_behind at brackets [] = brackets
-open_behind at brackets (op ∷ ops) = open_behind (at + size_of_op op) (brackets_after at op.code brackets) ops
+open_behind at brackets (op ∷ ops) =
+    open_behind (at + size_of_op op) (brackets_after at op.code brackets) ops
 
--- the zones that stand open behind all ops, of which the first begins at an offset, behind these
+-- the zones that stand open behind the last of ops, by those that stand open before the first,
+-- which begins at the offset `at`
 abbrev pub zones_left : ℕ → List ℕ → List OpData → List ℕ
 zones_left at zones [] = zones
-zones_left at zones (op ∷ ops) = zones_left (at + size_of_op op) (zones_behind_op at op.code zones) ops
+zones_left at zones (op ∷ ops) =
+    zones_left (at + size_of_op op) (zones_behind_op at op.code zones) ops

@@ -15,16 +15,18 @@ abbrev pub version_number : Stamp → ℕ
 version_number stamp.One = 1
 version_number (stamp.Two profile) = 2
 
--- the field of an image behind the version: 0 in version 1, else the number of the profile
+-- the profile field of an image, two bytes: 0 in version 1, else the number of the profile
 abbrev pub profile_field_of : Stamp → ℕ
 profile_field_of stamp.One = 0
 profile_field_of (stamp.Two profile) = profile_number profile
 
--- the version and profile of an image, by the numbers of these two fields; an unknown profile of
--- version 2 stands for Small, an unknown version for 1
+-- the version and profile of an image, by the numbers of its version field and its profile field;
+-- an unknown profile of version 2 stands for Small, an unknown version for 1
 abbrev pub stamp_of : (version number : ℕ) → Stamp
 stamp_of version number =
-    if version == 2 then (if number == profile_number profiles.Large then stamp.Two profiles.Large else stamp.Two profiles.Small)
+    if version == 2
+    then (if number == profile_number profiles.Large then stamp.Two profiles.Large
+    else stamp.Two profiles.Small)
     else stamp.One
 
 -- the profile with which an image is run: an image of version 1 is one for Small

@@ -3,6 +3,7 @@ ghost use Rattle.std.specs.Prelude.{◌≡◌, ◌&&◌};
 ghost use Rattle.flat_code.specs.Coding.{u8, u16, u32, range_coding};
 ghost use Rattle.flat_code.specs.Forms.{actual_fits, callable_coding, crossing_area_coding, memory_area_coding, payload_fits, pointer_area_coding};
 
+use crate::kinds::{FUNCTION, FUNCTION_BLOCK, SYSTEM_FUNCTION};
 use crate::operands::{Operand, Passed};
 use plc_base::Area;
 
@@ -64,7 +65,7 @@ fn crosses(area: Option<Area>) -> bool
 fn is_callable(kind: u8) -> bool
     ensures { result ≡ callable_coding.fits kind }
 {
-    kind == 2 || kind == 3 || kind == 5
+    kind == FUNCTION || kind == FUNCTION_BLOCK || kind == SYSTEM_FUNCTION
 }
 
 impl Passed {

@@ -1,8 +1,27 @@
-//! The numbers that operands have for jumps and for conditions of the status word.
+//! The numbers that operands have for jumps, conditions of the status word, timers, registers and
+//! called blocks.
 ghost use Rattle.std.specs.Prelude.{◌≡◌, ◌<◌, ◌≤◌};
 ghost use Rattle.flat_code.specs.Kinds.{jump_of_number as jump_of_kind, jump_number, flag_of as flag_of_condition, condition_number as condition_of_flag};
 
 use plc_base::Flag;
+
+/// The kind of timers in the operand of a timer or counter.
+pub const TIMER_KIND: u8 = 1;
+
+/// The number of address register 1 in a register-indirect operand.
+pub const AR1_NUMBER: u8 = 1;
+
+/// The number of the data block register DB in the operand of OPN.
+pub const DB_REGISTER_NUMBER: u8 = 1;
+
+/// The kind of functions (FC) in the operand of a call.
+pub(crate) const FUNCTION: u8 = 2;
+
+/// The kind of function blocks (FB) in the operand of a call.
+pub(crate) const FUNCTION_BLOCK: u8 = 3;
+
+/// The kind of system functions (SFC) in the operand of a call.
+pub(crate) const SYSTEM_FUNCTION: u8 = 5;
 
 /// The jump instructions (manual: logic control instructions).
 #[derive(Clone, Copy, Debug, PartialEq, Eq)]

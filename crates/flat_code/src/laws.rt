@@ -8,8 +8,8 @@ pub fn one_coding()
 {}
 
 /// Each operation stands in the table of op codes at its own, each jump at its kind and each
-/// condition at its number: no two share one. The table has nothing else: each of its cells is empty
-/// or stands at its own code.
+/// condition at its number: no two share one. The table has nothing else: each of its cells is
+/// empty or stands at its own code.
 pub fn one_number_each()
     ensures operations { OperationsHaveTheirCodes }
     ensures codes { CodesHaveTheirOperations }

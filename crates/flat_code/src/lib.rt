@@ -28,7 +28,10 @@ pub use encoding::encode_op;
 pub use image_fields::{
     Field, OpenBracket, ParameterRecord, SECTION_IN, SECTION_IN_OUT, SECTION_OUT,
 };
-pub use kinds::{CONDITIONS, JUMPS, JumpOperation, condition_of, flag_of, jump_of};
+pub use kinds::{
+    AR1_NUMBER, CONDITIONS, DB_REGISTER_NUMBER, JUMPS, JumpOperation, TIMER_KIND, condition_of,
+    flag_of, jump_of,
+};
 pub use names::{NameEntry, Names, ends_blank, is_name_before, is_upper_case, order_of};
 pub use operands::{Operand, Passed};
 pub use operations::{

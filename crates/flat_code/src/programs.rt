@@ -85,9 +85,9 @@ impl Model for DataBlock {
     } };
 }
 
-/// A program: its code blocks, its data blocks, and the names of its variables. Every number fits its
-/// field of an image, no record has a fault 4, and the image has at most 8,388,608 bytes: so every
-/// program has an image. That it verifies isn't kept.
+/// A program: its code blocks, its data blocks, and the names of its variables. Every number fits
+/// its field of an image, no record has a fault 4, and the image has at most 8,388,608 bytes: so
+/// every program has an image. That it verifies isn't kept.
 #[derive(Drop)]
 pub struct Program {
     pub code_blocks: Vec<CodeBlock>,

@@ -129,8 +129,8 @@ fn operand_of_any_form(form: u8, bytes: &[u8]) -> (Operand, u32)
     (operand, operand.op_size())
 }
 
-/// The operand of a form, and how many bytes its op takes. Statements of several ops come first: calls,
-/// and places in a data block that is opened.
+/// The operand of a form, and how many bytes its op takes. Statements of several ops come first:
+/// calls, and places in a data block that is opened.
 #[inline(always)]
 #[tactic(auto, unfolding(crate::specs::Forms::payload_in, crate::specs::Forms::direct_coding, crate::specs::Forms::passed_coding))]
 fn known_operand_of_part(form: u8, bytes: &[u8]) -> (Operand, u32)

@@ -13,24 +13,27 @@ use Rattle.frames.specs.declared.activation.FrameFault.{FrameFault}
 use Rattle.frames.specs.declared.activation.FrameFault.TheVariants.{Depth, LocalFull}
 use Rattle.frames.specs.declared.frame.Frame.{Frame}
 
--- the frames of an activation, the innermost one first; where the last one was left none stands
+-- the frames of an activation, the innermost one first; no frame stands after the last block was
+-- left
 abbrev pub frames_of : Activation → List Frame
 frames_of a = if a.left then [] else a.running.frame ∷ a.below
 
--- the frame at a place of the list, counted from 0 at the outermost one
+-- the frame of an activation with this place, counted from 0 at the outermost frame
 abbrev pub frame_at : Activation → ℕ → Option Frame
 frame_at a place = slice_get (reverse (frames_of a)) place
 
--- a result is the frame at a place of a list of frames; places count from 0 at the outermost frame
+-- a result is the frame with this place in a list of frames, the innermost one first; places count
+-- from 0 at the outermost frame
 abbrev pub IsFrameIn : List Frame → ℕ → Option (Bor Frame) → Type 0
 IsFrameIn frames place result = option_map (λ f. f.now) result ≡ slice_get (reverse frames) place
 
--- a result is the frame of an activation at a place, counted from 0 at the outermost frame; None where no
--- frame has the place, so always where none stands
+-- a result is the frame of an activation with this place, counted from 0 at the outermost frame;
+-- None where no frame has the place, so always where no frame stands
 abbrev pub IsFrame : Activation → ℕ → Option (Bor Frame) → Type 0
 IsFrame a place result = IsFrameIn (frames_of a) place result
 
--- the frame of a block at its first statement: no data block in its registers, nothing open, no parameter
+-- the frame of a block at its first statement: no opened data block, no bracket, the master control
+-- relay off, and no parameter
 abbrev pub frame_begun : BlockId → (local_len : ℕ) → Frame
 frame_begun block local_len = record {
   block = block;
@@ -44,7 +47,8 @@ frame_begun block local_len = record {
   bindings = [];
 }
 
--- an activation as its organization block begins: registers and status word 0, nothing delayed, one frame, its local bytes 0
+-- an activation as its organization block begins: the registers and the status word are 0,
+-- interrupts are not delayed, and the one frame has local bytes of 0
 abbrev pub activation_begun : Profile → (class ob : ℕ) → Frame → Activation
 activation_begun profile class ob f = record {
   profile = profile;
@@ -56,16 +60,20 @@ activation_begun profile class ob f = record {
   left = false;
 }
 
--- a local byte of the frame at a place
+-- the local byte with a number of the frame with a place (counted from 0 at the outermost frame),
+-- if there is one
 abbrev pub local_byte : Activation → (frame byte : ℕ) → Option ℕ
 local_byte a frame byte = local_byte_at a.running.locals frame byte
 
--- another one there
+-- an activation with a value in a local byte of the frame with a place, if the frame has a byte
+-- with the number
 abbrev pub with_local_byte : (frame byte value : ℕ) → Activation → Option Activation
 with_local_byte frame byte value a =
-    option_map (λ locals. record a { running = record a.running { locals = locals } }) (local_byte_set a.running.locals frame byte value)
+    option_map (λ locals. record a { running = record a.running { locals = locals } })
+    (local_byte_set a.running.locals frame byte value)
 
--- a block is entered: its frame is the innermost one, and its local bytes are 0
+-- an activation in which a block is entered: its frame is the innermost one, and its local bytes
+-- are 0
 abbrev pub block_entered : Frame → Activation → Activation
 block_entered f a = record a {
   running = record a.running { frame = f; locals = open_locals f.local_len a.running.locals };
@@ -73,46 +81,56 @@ block_entered f a = record a {
   left = false;
 }
 
--- why a block can't be entered: as many frames stand as the profile has, or its local bytes have no room in 1,024
+-- why a block can't be entered: as many frames stand as the profile has, or 1,024 bytes of local
+-- data don't hold its local bytes as well; None where it can
 abbrev pub entry_fault : (local_len : ℕ) → Activation → Option FrameFault
 entry_fault local_len a =
     if nat_le (most_frames a.profile) (length (frames_of a)) then Some Depth
     else if nat_le (length a.running.locals.bytes + local_len) 1024 then None
     else Some LocalFull
 
--- without a reason it is entered; else the answer is the reason, and nothing has changed
-abbrev pub EntersBy : Option FrameFault → (old new : Activation) → Frame → Result (Unit {0}) FrameFault → Type 0
+-- what entering a block does and answers, given the reason against it: without one, the block is
+-- entered; else the answer is the reason, and nothing changes
+abbrev pub EntersBy :
+    Option FrameFault → (old new : Activation) → Frame → Result (Unit {0}) FrameFault → Type 0
 EntersBy None old new f (Ok answer) = new ≡ block_entered f old
 EntersBy (Some why) old new f (Err fault) = (fault ≡ why) × (new ≡ old)
 EntersBy why old new f answer = ⊥
 
--- a block is entered, or it can't be
+-- what entering a block with this frame does and answers: the block is entered, or the answer says
+-- why it can't be
 abbrev pub EntersBlock : (old new : Activation) → Frame → Result (Unit {0}) FrameFault → Type 0
 EntersBlock old new f answer = EntersBy (entry_fault f.local_len old) old new f answer
 
--- a block is left: its local bytes end, and the frame below is the innermost one
+-- what leaving the innermost of the standing frames does and answers: the answer is this frame, its
+-- local bytes end, and the frames below it stand; without a frame the answer is None, and nothing
+-- changes
 abbrev pub LeavesFrameTo : (standing : List Frame) → (old new : Activation) → Option Frame → Type 0
 LeavesFrameTo [] old new None = new ≡ old
 LeavesFrameTo (f ∷ rest) old new (Some frame) =
     (frame ≡ f) × (frames_of new ≡ rest) × (new.running.locals ≡ close_locals old.running.locals)
-    × (new.running.regs ≡ old.running.regs) × (new.class ≡ old.class) × (new.ob ≡ old.ob) × (new.delay ≡ old.delay)
+    × (new.running.regs ≡ old.running.regs) × (new.class ≡ old.class) × (new.ob ≡ old.ob)
+    × (new.delay ≡ old.delay)
     × (new.profile ≡ old.profile)
 LeavesFrameTo standing old new answer = ⊥
 
--- what leaving the innermost frame of an activation does and answers; where no frame stands, the answer is
--- None, and nothing changes
+-- what leaving the innermost frame of an activation does and answers: the answer is this frame, or
+-- None, with nothing changed, where no frame stands
 abbrev pub LeavesFrame : (old new : Activation) → Option Frame → Type 0
 LeavesFrame old new answer = LeavesFrameTo (frames_of old) old new answer
 
--- a frame in the place of the innermost one, whose local bytes stay
+-- an activation with another frame in the place of the innermost one, whose local bytes stay
 abbrev pub with_frame : Frame → Activation → Activation
 with_frame f a = record a { running = record a.running { frame = f } }
 
--- the frame of the caller is the innermost one again; where there is none, no frame stands
+-- what leaving the innermost block does and answers, given the frames below it: its local bytes
+-- end, and the answer is true where the frame of its caller is the innermost one again, false where
+-- there is no caller and no frame stands any more
 abbrev pub LeavesBlock : (below : List Frame) → (old new : Activation) → Bool → Type 0
 LeavesBlock [] old new false =
     (frames_of new ≡ []) × (new.running.locals ≡ close_locals old.running.locals)
-    × (new.running.regs ≡ old.running.regs) × (new.class ≡ old.class) × (new.ob ≡ old.ob) × (new.delay ≡ old.delay)
+    × (new.running.regs ≡ old.running.regs) × (new.class ≡ old.class) × (new.ob ≡ old.ob)
+    × (new.delay ≡ old.delay)
     × (new.profile ≡ old.profile)
 LeavesBlock (caller ∷ rest) old new true = new ≡ record old {
   running = record old.running { frame = caller; locals = close_locals old.running.locals };
@@ -120,7 +138,8 @@ LeavesBlock (caller ∷ rest) old new true = new ≡ record old {
 }
 LeavesBlock below old new answer = ⊥
 
--- one of the frames below is taken off
+-- what taking the innermost of the frames below does and answers: true where there is one, which
+-- becomes the innermost frame; false, with nothing changed, where there is none
 abbrev pub PopsTo : (old new : List Frame) → (frame_old frame_new : Frame) → Bool → Type 0
 PopsTo [] new frame_old frame_new false = (new ≡ []) × (frame_new ≡ frame_old)
 PopsTo (f ∷ rest) new frame_old frame_new true = (frame_new ≡ f) × (new ≡ rest)

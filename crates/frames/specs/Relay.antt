@@ -2,28 +2,29 @@
 use Rattle.std.specs.Prelude.{Bool, true, false, ◌&&◌, not, List, [], ◌∷◌}
 use Rattle.frames.specs.declared.relay.Relay.{Relay}
 
--- inactive, and no zone is open
+-- the master control relay (MCR) as a block begins: inactive, with no open zone
 abbrev pub relay_off : Relay
 relay_off = record { active = false; zones = [] }
 
--- the value of the last zone, which is the innermost one; 1 where none is open
+-- the value of the innermost open zone, the first in the list; 1 where no zone is open
 abbrev pub zone_value : List Bool → Bool
 zone_value [] = true
 zone_value (value ∷ around) = value
 
--- a zone opens: its value is RLO and the value of the zone around it
+-- a relay after MCR(: a zone has opened, whose value is the RLO AND the value of the zone around it
 abbrev pub zone_opened : (rlo : Bool) → Relay → Relay
 zone_opened rlo r = record r { zones = (rlo && zone_value r.zones) ∷ r.zones }
 
--- zones without the last one
+-- the open zones, the innermost one first, without the innermost one; none where none is open
 abbrev pub outer_zones : List Bool → List Bool
 outer_zones [] = []
 outer_zones (value ∷ around) = around
 
--- the last zone ends
+-- a relay after )MCR: the innermost open zone has ended; where none is open, nothing has changed
 abbrev pub zone_ended : Relay → Relay
 zone_ended r = record r { zones = outer_zones r.zones }
 
--- active, and the last zone has the value 0
+-- whether the relay is active and the innermost zone has the value 0, so that writing instructions
+-- write 0 or nothing
 abbrev pub is_zone_closed : Relay → Bool
 is_zone_closed r = r.active && not (zone_value r.zones)

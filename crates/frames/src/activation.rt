@@ -36,24 +36,26 @@ use plc_mem::Missing;
 use status_word::Regs;
 use std::marker::Model;
 
-/// How many frames lie below the innermost one at most.
+/// How many frames an activation has below the innermost one at most.
 const BELOW: usize = 23;
 
 /// Why a block can't be entered.
 #[derive(Clone, Copy, Debug, PartialEq, Eq)]
 pub enum FrameFault {
-    /// As many frames stand as the profile has.
+    /// As many frames stand as the profile allows (block nesting depth).
     Depth,
-    /// Its local bytes have no room in the 1,024 of the activation.
+    /// 1,024 bytes of local data don't hold the block's local bytes as well.
     LocalFull,
 }
 
-/// The frames below the innermost one, 23 at most. A contract sees the list of them, the innermost one
-/// first. They stay where they are: a frame is copied in when a block is entered, and out when it is
-/// left, and of its bindings only those that there are.
+/// The frames below the innermost one, 23 at most. A contract sees the list of them, the innermost
+/// one first. They stay where they are: a frame is copied in when a block is entered, and out when
+/// it is left, and of its bindings only those that there are.
 #[derive(Drop)]
 pub struct Below {
+    /// Room for the frames; those from `count` on mean nothing.
     frames: [Frame; BELOW],
+    /// How many frames there are.
     count: usize,
 }
 
@@ -126,19 +128,24 @@ impl Below {
     }
 }
 
-/// An organization block that runs or is suspended: its priority class and number, how often interrupts
-/// are delayed in it, what its statements work on, and the frames below the innermost one. It is made
-/// for a profile, which only `restart` sets anew.
+/// An organization block that runs or is suspended: its priority class and number, how often
+/// interrupts are delayed in it, what its statements work on, and the frames below the innermost
+/// one. It is made for a profile, which only `restart` sets anew.
 #[derive(Drop)]
 pub struct Activation {
+    /// The profile of the controller, which limits the block nesting depth.
     pub profile: Profile,
+    /// The priority class of the organization block.
     pub class: u8,
+    /// The number of the organization block.
     pub ob: u16,
-    /// How often interrupts are delayed (SFC 41), 0 to 32,767.
+    /// How often SFC 41 has delayed interrupts and SFC 42 not yet enabled them again, 0 to 32,767.
     pub delay: u16,
+    /// What its statements work on: registers, innermost frame and local bytes.
     pub running: Running,
+    /// The frames below the innermost one.
     pub below: Below,
-    /// The last frame was left: no frame stands.
+    /// Whether the last block was left, so that no frame stands.
     pub left: bool,
 }
 
@@ -166,8 +173,9 @@ impl Activation {
         }
     }
 
-    /// Begins an organization block in the place of an activation, as `new` with the frame of a block at its
-    /// first statement: the activation stays where it is. There are at most 1,024 local bytes.
+    /// Begins an organization block in the place of an activation, as `new` with the frame of a
+    /// block at its first statement: the activation stays where it is. There are at most 1,024
+    /// local bytes.
     pub fn restart(&mut self, class: u8, ob: u16, block: BlockId, local_len: u16, profile: Profile)
         requires { local_len ≤ 1024 }
         ensures { self.new ≡ activation_begun profile class ob (frame_begun block local_len) }
@@ -206,8 +214,9 @@ impl Activation {
         }
     }
 
-    /// Enters the block of the innermost frame once more, with so many local bytes, all 0: its frame is
-    /// there twice, and its block's caller makes the upper one that of another block. There is room.
+    /// Enters the block of the innermost frame once more, with so many local bytes, all 0: its
+    /// frame is there twice, and its block's caller makes the upper one that of another block.
+    /// There is room.
     pub fn enter_again(&mut self, local_len: u16)
         requires depth { length self.old.running.locals.starts ≡ length (frames_of self.old) }
         requires few { length (frames_of self.old) < 24 }
@@ -229,8 +238,8 @@ impl Activation {
     ///
     /// # Errors
     ///
-    /// `Depth` exactly where as many frames stand as the profile has, else `LocalFull` exactly where the
-    /// local bytes would exceed 1,024. Nothing has changed then.
+    /// `Depth` exactly where as many frames stand as the profile has, else `LocalFull` exactly
+    /// where the local bytes would exceed 1,024. Nothing has changed then.
     pub fn enter(&mut self, f: Frame) -> Result<(), FrameFault>
         requires { length self.old.running.locals.starts ≡ length (frames_of self.old) }
         ensures { EntersBlock self.old self.new f result }
@@ -312,8 +321,8 @@ impl Activation {
         self.delay = n;
     }
 
-    /// The frame at a place of the list, counted from 0 at the outermost one; `None` exactly where no
-    /// frame has this place.
+    /// The frame at a place of the list, counted from 0 at the outermost one; `None` exactly where
+    /// no frame has this place.
     pub fn frame(&self, i: u8) -> Option<&Frame>
         ensures { IsFrame self.now i result }
     {
@@ -337,7 +346,8 @@ impl Activation {
         self.running.frame = f;
     }
 
-    /// A local byte of a frame, by its place in the list; `None` exactly where there is no such byte.
+    /// A local byte of a frame, by its place in the list; `None` exactly where there is no such
+    /// byte.
     pub fn local(&self, frame: u8, byte: u16) -> Option<u8>
         ensures { result ≡ local_byte self.now frame byte }
     {

@@ -1,4 +1,4 @@
-ghost use Rattle.frames.specs.Bound.{binding_set};
+ghost use Rattle.frames.specs.ParameterBindings.{binding_set};
 ghost use Rattle.std.specs.Prelude.{◌≡◌, ◌+◌, ◌<◌, ◌≤◌, ◌++◌, [], ◌∷◌, length, slice_get};
 
 use arrayvec::ArrayVec;
@@ -11,9 +11,9 @@ const PARAMETERS: usize = 60;
 /// What a parameter of a block stands for, fixed at the call.
 #[derive(Clone, Copy, Debug, PartialEq, Eq)]
 pub enum Binding {
-    /// A place with its width. For local data `frame` says whose local bytes are meant, by the place
-    /// in the list of frames, counted from 0 at the outermost one.
-    Bound {
+    /// An operand in memory. For local data (L) `frame` says whose local bytes are meant, by the
+    /// place in the list of frames, counted from 0 at the outermost one.
+    AtPlace {
         place: Place,
         width: Width,
         frame: u8,
@@ -27,15 +27,17 @@ pub enum Binding {
 }
 
 impl Default for Binding {
-    /// Nothing is supplied.
+    /// A parameter that its call does not supply.
     fn default() -> Binding {
         Binding::Unsupplied
     }
 }
 
-/// The bindings of a frame by the index of the parameter, 60 at most. A contract sees the list.
+/// The bindings of a frame: what each parameter of its block stands for, by the index of the
+/// parameter, 60 at most. A contract sees the list of them.
 #[derive(Drop)]
 pub struct Bindings {
+    /// The bindings by the index of the parameter.
     all: ArrayVec<Binding, PARAMETERS>,
 }
 
@@ -60,7 +62,7 @@ fn append(all: &mut ArrayVec<Binding, PARAMETERS>, more: &[Binding])
 }
 
 impl Bindings {
-    /// No binding.
+    /// No bindings, as of a block without parameters.
     pub fn new() -> Bindings
         ensures { result ≡ [] }
     {
@@ -69,28 +71,29 @@ impl Bindings {
         }
     }
 
-    /// Binds nothing any more.
+    /// Takes all bindings away.
     pub fn clear(&mut self)
         ensures { self.new ≡ [] }
     {
         self.all.clear();
     }
 
-    /// How many parameters are bound.
+    /// How many parameters have a binding.
     pub fn len(&self) -> usize
         ensures { result ≡ length self.now }
     {
         self.all.len()
     }
 
-    /// What the parameter of this index stands for; `None` exactly where there is none.
+    /// What the parameter with an index stands for; `None` exactly where there is no such
+    /// parameter.
     pub fn get(&self, index: u8) -> Option<Binding>
         ensures { result ≡ slice_get self.now index }
     {
         self.all.as_slice().get(usize::from(index)).copied()
     }
 
-    /// Binds the next parameter.
+    /// Adds the binding of the next parameter.
     pub fn push(&mut self, binding: Binding)
         requires { length self.old < 60 }
         ensures { self.new ≡ self.old ++ binding ∷ [] }
@@ -98,7 +101,7 @@ impl Bindings {
         self.all.push(binding);
     }
 
-    /// Sets what a parameter stands for, if there is such a parameter.
+    /// Sets what the parameter with an index stands for, if there is such a parameter.
     pub fn set(&mut self, index: u8, binding: Binding)
         ensures { self.new ≡ binding_set self.old index binding }
     {
@@ -108,7 +111,7 @@ impl Bindings {
         }
     }
 
-    /// Becomes the same as others: as many are copied as there are.
+    /// Makes the bindings a copy of others; only those that there are are copied.
     pub fn copy_from(&mut self, other: &Bindings)
         ensures { self.new ≡ other.now }
     {
@@ -116,7 +119,7 @@ impl Bindings {
         append(&mut self.all, other.all.as_slice());
     }
 
-    /// The same bindings again.
+    /// A copy of the bindings.
     pub fn copied(&self) -> Bindings
         ensures { result ≡ self.now }
     {

@@ -6,29 +6,32 @@ use crate::relay::Relay;
 use plc_base::{BlockId, BlockKind};
 use status_word::Brackets;
 
-/// A block that was entered.
+/// The frame of a block that was entered: the block, the position in its code, and what its
+/// statements work on besides registers and memory.
 #[derive(Drop)]
 pub struct Frame {
+    /// The kind and number of the block.
     pub block: BlockId,
-    /// The byte offset of its next statement in its code.
+    /// The byte offset in the block's code of the next statement.
     pub at: u32,
-    /// The data blocks in the DB and in the DI register.
+    /// The number of the data block in the DB register, if one is open.
     pub db: Option<u16>,
+    /// The number of the data block in the DI register, if one is open.
     pub di: Option<u16>,
-    /// The instance data block, if a CALL of a function block made the frame.
+    /// The number of the instance data block, if a CALL of a function block made the frame.
     pub instance: Option<u16>,
     /// The open brackets (manual: nesting stack).
     pub brackets: Brackets,
-    /// The master control relay.
+    /// The master control relay (MCR) of the block.
     pub relay: Relay,
-    /// How many local bytes it has.
+    /// How many local bytes the block has.
     pub local_len: u16,
-    /// What its parameters stand for.
+    /// What each parameter of the block stands for.
     pub bindings: Bindings,
 }
 
 impl Default for Frame {
-    /// The frame of no block, where none stands.
+    /// The frame of no block, for room in which no frame stands.
     fn default() -> Frame {
         Frame {
             block: BlockId {
@@ -60,7 +63,7 @@ fn copy_brackets(into: &mut Brackets, from: &Brackets)
 }
 
 impl Frame {
-    /// Becomes the frame of a block at its first statement, with so many local bytes.
+    /// Makes this the frame of a block at its first statement, with so many local bytes.
     pub fn begin(&mut self, block: BlockId, local_len: u16)
         ensures { self.new ≡ frame_begun block local_len }
     {
@@ -75,7 +78,7 @@ impl Frame {
         self.bindings.clear();
     }
 
-    /// Becomes the same as another one: of its bindings as many are copied as there are.
+    /// Makes this frame a copy of another one; only the bindings that there are are copied.
     pub fn copy_from(&mut self, other: &Frame)
         ensures { self.new ≡ other.now }
     {

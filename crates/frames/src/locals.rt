@@ -9,17 +9,20 @@ use plc_base::Width;
 use plc_mem::{Missing, operands};
 use std::marker::Model;
 
-/// How many local bytes all frames of an activation have at most.
+/// How many bytes of local data all frames of an activation have at most.
 const LOCAL_BYTES: usize = 1024;
 /// How many frames an activation has at most.
 const FRAMES: usize = 24;
 
 const ZEROS: [u8; LOCAL_BYTES] = [0; LOCAL_BYTES];
 
-/// The local bytes of the frames of an activation, one frame behind the other.
+/// The local data (L) of all frames of an activation: the bytes of each frame behind those of the
+/// frame that called it.
 #[derive(Drop)]
 pub struct Locals {
+    /// The index at which the local bytes of each frame begin, the outermost frame first.
     starts: ArrayVec<u16, FRAMES>,
+    /// The local bytes of all frames, those of the outermost frame first.
     bytes: ArrayVec<u8, LOCAL_BYTES>,
 }
 
@@ -52,7 +55,7 @@ fn append(bytes: &mut ArrayVec<u8, LOCAL_BYTES>, more: &[u8])
 }
 
 impl Locals {
-    /// No local bytes of no frame.
+    /// The local data of no frame.
     pub fn new() -> Locals
         ensures { result ≡ record { starts = []; bytes = [] } }
     {
@@ -62,7 +65,7 @@ impl Locals {
         }
     }
 
-    /// Takes all local bytes of all frames away.
+    /// Takes the local bytes of all frames away.
     pub fn clear(&mut self)
         ensures { self.new ≡ record { starts = []; bytes = [] } }
     {
@@ -70,7 +73,7 @@ impl Locals {
         self.bytes.clear();
     }
 
-    /// How many frames there are.
+    /// How many frames have local data here.
     pub fn depth(&self) -> usize
         ensures value { result ≡ length self.now.starts }
         ensures bound { result ≤ 24 }
@@ -106,7 +109,8 @@ impl Locals {
         }
     }
 
-    /// The number in an operand of a frame's local bytes.
+    /// The unsigned number in the operand from local byte `at` of a frame, if the operand lies
+    /// within the frame's bytes.
     #[tactic(auto, unfolding(crate::specs::Locals::local_number))]
     #[inline(always)]
     pub fn number(&self, frame: u8, at: u16, bit: u8, width: Width) -> Option<u32>
@@ -138,7 +142,7 @@ impl Locals {
         operands::put(self.bytes.as_mut_slice(), place, bit, width, value)
     }
 
-    /// A local byte of a frame.
+    /// The local byte with a number of a frame, if the frame has it.
     pub fn byte(&self, frame: u8, at: u16) -> Option<u8>
         ensures { result ≡ local_byte_at self.now frame at }
     {
@@ -157,14 +161,14 @@ impl Locals {
         self.put(frame, at, 0, Width::Byte, u32::from(value))
     }
 
-    /// Whether a further frame with so many local bytes has room.
+    /// Whether a further frame with so many local bytes has room in the 1,024 of an activation.
     pub fn has_room(&self, len: u16) -> bool
         ensures { result ≡ nat_le (length self.now.bytes + len) 1024 }
     {
         self.bytes.len() + usize::from(len) <= LOCAL_BYTES
     }
 
-    /// Gives a further frame its local bytes, all 0.
+    /// Opens a further frame, the innermost one, with so many local bytes, all 0.
     pub fn open(&mut self, len: u16)
         requires depth { length self.old.starts < 24 }
         requires room { length self.old.bytes + len ≤ 1024 }
@@ -174,7 +178,7 @@ impl Locals {
         append(&mut self.bytes, zeros(usize::from(len)));
     }
 
-    /// Takes the innermost frame's local bytes away.
+    /// Closes the innermost frame: its local bytes are taken away.
     pub fn close(&mut self)
         ensures { self.new ≡ close_locals self.old }
     {

@@ -5,12 +5,14 @@ ghost use Rattle.frames.specs.Relay.{is_zone_closed, relay_off, zone_ended, zone
 use arrayvec::ArrayVec;
 use std::marker::Model;
 
-/// How many zones may be open at once.
+/// How many zones of a master control relay (MCR) may be open at once.
 const ZONES: usize = 8;
 
-/// The values of the open zones of a relay. A contract sees the list of them, the innermost one first.
+/// The values of the open zones of a master control relay (MCR). A contract sees the list of them,
+/// the innermost one first.
 #[derive(Drop)]
 pub struct Zones {
+    /// The values of the open zones, the outermost one first.
     values: ArrayVec<bool, ZONES>,
 }
 
@@ -23,7 +25,7 @@ impl Model for Zones {
 }
 
 impl Zones {
-    /// No open zone.
+    /// No open zones.
     pub fn new() -> Zones
         ensures { result ≡ [] }
     {
@@ -39,7 +41,7 @@ impl Zones {
         self.values.len()
     }
 
-    /// The same zones again, with no memory taken.
+    /// A copy of the open zones, with no memory taken.
     pub fn copied(&self) -> Zones
         ensures { result ≡ self.now }
     {
@@ -79,12 +81,14 @@ impl Zones {
 /// The master control relay of a frame: whether it is active, and its open zones.
 #[derive(Drop)]
 pub struct Relay {
+    /// Whether the relay is active, as after `MCRA`.
     pub active: bool,
+    /// The values of the open zones.
     pub zones: Zones,
 }
 
 impl Relay {
-    /// Inactive, with no zone.
+    /// The master control relay (MCR) as a block begins: inactive, with no open zone.
     pub fn off() -> Relay
         ensures { result ≡ relay_off }
     {
@@ -94,7 +98,7 @@ impl Relay {
         }
     }
 
-    /// The same again.
+    /// A copy of the relay.
     pub fn copied(&self) -> Relay
         ensures { result ≡ self.now }
     {
@@ -104,7 +108,7 @@ impl Relay {
         }
     }
 
-    /// Becomes the same as another one.
+    /// Makes this relay a copy of another one.
     #[inline(always)]
     pub(crate) fn copy_from(&mut self, other: &Relay)
         ensures { self.new ≡ other.now }
@@ -113,8 +117,8 @@ impl Relay {
         self.zones.copy_from(&other.zones);
     }
 
-    /// `MCR(`: a zone opens, whose value is RLO and the value of the zone around it. False, with nothing
-    /// changed, where eight are open.
+    /// `MCR(`: a zone opens, whose value is RLO and the value of the zone around it. False, with
+    /// nothing changed, where eight are open.
     pub fn open(&mut self, rlo: bool) -> bool
         ensures full { IsFalse result ↔ (length self.old.zones ≡ 8) }
         ensures open { OnTrue result (self.new ≡ zone_opened rlo self.old) }
@@ -136,7 +140,8 @@ impl Relay {
         self.zones.values.pop().is_some()
     }
 
-    /// Whether it is active, and the last open zone has the value 0.
+    /// Whether the relay is active and the innermost zone has the value 0, so that writing
+    /// instructions write 0 or nothing.
     #[inline(always)]
     pub fn is_closed(&self) -> bool
         ensures { result ≡ is_zone_closed self.now }

@@ -15,7 +15,8 @@ step_entry_of_worker_1 = record { who = 1; what = Step }
 
 -- a word of bit memory, by its first byte
 abbrev pub memory_word : ℕ → Var
-memory_word byte = record { place = record { number = 0; byte = byte; area = M; bit = 0 }; width = Word }
+memory_word byte =
+    record { place = record { number = 0; byte = byte; area = M; bit = 0 }; width = Word }
 
 -- what happens in a round behind its steps: worker 2 lets a millisecond pass or feeds an input byte,
 -- or operator 1, worker 3, reads a word of bit memory

@@ -18,7 +18,8 @@ statement_line d =
     else if d % 8 == 4 then codes "L " ++ decimal d ++ codes ";\n"
     else if d % 8 == 5 then codes "*I;\n"
     else if d % 8 == 6 then codes "XOW;\n"
-    else codes "A M " ++ decimal (drawn_memory_word d) ++ codes ".1; = M " ++ decimal (drawn_memory_word d) ++ codes ".2;\n"
+    else codes "A M " ++ decimal (drawn_memory_word d) ++ codes ".1; = M "
+    ++ decimal (drawn_memory_word d) ++ codes ".2;\n"
 
 -- how the source begins
 unfoldable pub source_head : List ℕ

@@ -88,24 +88,24 @@ zone_at n (suc i) d (x ∷ zones) lt h = zone_at n i d zones (omega (arith, lt))
 
 -- ---- one op more
 
-pub faults_next : (around : Environment) (ss : List StatementSpot) (start at i : ℕ) (brackets after : List OpenBracket) (zones zones' : List ℕ) (before next : List OpData) (ops : List OpData) (op : OpData) (least mid : Option LoadFault) (end : ℕ)
-    → i < length ops → op ≡ get_or ops i op → mid ≡ with_faults least (op_faults around ss start (record { at = at; brackets = brackets; zones = zones; before = before; op = op; rest = drop (i + 1) ops }))
+pub faults_next : (environment : Environment) (ss : List StatementSpot) (start at i : ℕ) (brackets after : List OpenBracket) (zones zones' : List ℕ) (before next : List OpData) (ops : List OpData) (op : OpData) (least mid : Option LoadFault) (end : ℕ)
+    → i < length ops → op ≡ get_or ops i op → mid ≡ with_faults least (op_faults environment ss start (record { at = at; brackets = brackets; zones = zones; before = before; op = op; rest = drop (i + 1) ops }))
     → end ≡ at + size_of_op op → after ≡ brackets_after at op.code brackets → zones' ≡ zones_behind_op at op.code zones → next ≡ before_next op before
-    → with_faults mid (faults_over around ss start (ops_placed end after zones' next (drop (i + 1) ops))) ≡ with_faults least (faults_over around ss start (ops_placed at brackets zones before (drop i ops)))
-faults_next around ss start at i brackets after zones zones' before next ops op least mid end lt is m e a o b =
+    → with_faults mid (faults_over environment ss start (ops_placed end after zones' next (drop (i + 1) ops))) ≡ with_faults least (faults_over environment ss start (ops_placed at brackets zones before (drop i ops)))
+faults_next environment ss start at i brackets after zones zones' before next ops op least mid end lt is m e a o b =
     let p : PlacedOp = record { at = at; brackets = brackets; zones = zones; before = before; op = op; rest = drop (i + 1) ops } in
     let behind = ops_placed (at + size_of_op op) (brackets_after at op.code brackets) (zones_behind_op at op.code zones) (before_next op before) (drop (i + 1) ops) in
-    sym (ap (λ (z : List OpData). with_faults least (faults_over around ss start (ops_placed at brackets zones before z))) (drop_next ops i op lt is)
-    ∙ with_more least (op_faults around ss start p) (faults_over around ss start behind)
-    ∙ ap (λ (z : Option LoadFault). with_faults z (faults_over around ss start behind)) (sym m)
-    ∙ ap (λ (n : ℕ). with_faults mid (faults_over around ss start (ops_placed n (brackets_after at op.code brackets) (zones_behind_op at op.code zones) (before_next op before) (drop (i + 1) ops)))) (sym e)
-    ∙ ap (λ (z : List OpenBracket). with_faults mid (faults_over around ss start (ops_placed end z (zones_behind_op at op.code zones) (before_next op before) (drop (i + 1) ops)))) (sym a)
-    ∙ ap (λ (z : List ℕ). with_faults mid (faults_over around ss start (ops_placed end after z (before_next op before) (drop (i + 1) ops)))) (sym o)
-    ∙ ap (λ (z : List OpData). with_faults mid (faults_over around ss start (ops_placed end after zones' z (drop (i + 1) ops)))) (sym b))
+    sym (ap (λ (z : List OpData). with_faults least (faults_over environment ss start (ops_placed at brackets zones before z))) (drop_next ops i op lt is)
+    ∙ with_more least (op_faults environment ss start p) (faults_over environment ss start behind)
+    ∙ ap (λ (z : Option LoadFault). with_faults z (faults_over environment ss start behind)) (sym m)
+    ∙ ap (λ (n : ℕ). with_faults mid (faults_over environment ss start (ops_placed n (brackets_after at op.code brackets) (zones_behind_op at op.code zones) (before_next op before) (drop (i + 1) ops)))) (sym e)
+    ∙ ap (λ (z : List OpenBracket). with_faults mid (faults_over environment ss start (ops_placed end z (zones_behind_op at op.code zones) (before_next op before) (drop (i + 1) ops)))) (sym a)
+    ∙ ap (λ (z : List ℕ). with_faults mid (faults_over environment ss start (ops_placed end after z (before_next op before) (drop (i + 1) ops)))) (sym o)
+    ∙ ap (λ (z : List OpData). with_faults mid (faults_over environment ss start (ops_placed end after zones' z (drop (i + 1) ops)))) (sym b))
 
-pub faults_done : (around : Environment) (ss : List StatementSpot) (start at i : ℕ) (brackets : List OpenBracket) (zones : List ℕ) (before ops : List OpData) (least : Option LoadFault) → length ops ≤ i → with_faults least (faults_over around ss start (ops_placed at brackets zones before (drop i ops))) ≡ least
+pub faults_done : (environment : Environment) (ss : List StatementSpot) (start at i : ℕ) (brackets : List OpenBracket) (zones : List ℕ) (before ops : List OpData) (least : Option LoadFault) → length ops ≤ i → with_faults least (faults_over environment ss start (ops_placed at brackets zones before (drop i ops))) ≡ least
 unfolding with_faults
-faults_done around ss start at i brackets zones before ops least le = rw (drop_of_length-le ops {i = i} le) refl
+faults_done environment ss start at i brackets zones before ops least le = rw (drop_of_length-le ops {i = i} le) refl
 
 pub open_next : (at i end : ℕ) (brackets after : List OpenBracket) (ops : List OpData) (op : OpData) → i < length ops → op ≡ get_or ops i op → end ≡ at + size_of_op op → after ≡ brackets_after at op.code brackets → open_behind end after (drop (i + 1) ops) ≡ open_behind at brackets (drop i ops)
 open_next at i end brackets after ops op lt is e a =
@@ -182,19 +182,19 @@ zone_faults_done start i zones least le = rw (drop_of_length-le zones {i = i} le
 pub room_here : (at i total : ℕ) (ops : List OpData) (op : OpData) → i < length ops → op ≡ get_or ops i op → at + length (code_bytes (drop i ops)) ≡ total → at + size_of_op op + length (code_bytes (drop (i + 1) ops)) ≡ total
 room_here at i total ops op lt is h = omega (arith, h, ap (λ (z : List OpData). length (code_bytes z)) (drop_next ops i op lt is), code_len op (drop (i + 1) ops))
 
-pub same_place : (around : Environment) (ss ss' : List StatementSpot) (start at : ℕ) (brackets brackets' : List OpenBracket) (zones zones' : List ℕ) (before before' : List OpData) (op : OpData) (rest rest' : List OpData) (least : Option LoadFault)
+pub same_place : (environment : Environment) (ss ss' : List StatementSpot) (start at : ℕ) (brackets brackets' : List OpenBracket) (zones zones' : List ℕ) (before before' : List OpData) (op : OpData) (rest rest' : List OpData) (least : Option LoadFault)
     → ss ≡ ss' → brackets ≡ brackets' → zones ≡ zones' → before ≡ before' → rest ≡ rest'
-    → with_faults least (op_faults around ss start (record { at = at; brackets = brackets; zones = zones; before = before; op = op; rest = rest })) ≡ with_faults least (op_faults around ss' start (record { at = at; brackets = brackets'; zones = zones'; before = before'; op = op; rest = rest' }))
-same_place around ss ss' start at brackets brackets' zones zones' before before' op rest rest' least p q o r s = rw (p, q, o, r, s) refl
+    → with_faults least (op_faults environment ss start (record { at = at; brackets = brackets; zones = zones; before = before; op = op; rest = rest })) ≡ with_faults least (op_faults environment ss' start (record { at = at; brackets = brackets'; zones = zones'; before = before'; op = op; rest = rest' }))
+same_place environment ss ss' start at brackets brackets' zones zones' before before' op rest rest' least p q o r s = rw (p, q, o, r, s) refl
 
-pub check_done : (around : Environment) (ss : List StatementSpot) (start at i : ℕ) (brackets : List OpenBracket) (zones : List ℕ) (before ops : List OpData) (least first result : Option LoadFault) → length ops ≤ i → ss ≡ statement_spots ops
-    → with_faults least (faults_over around ss start (ops_placed at brackets zones before (drop i ops))) ≡ with_faults first (faults_over around ss start (code_places ops))
+pub check_done : (environment : Environment) (ss : List StatementSpot) (start at i : ℕ) (brackets : List OpenBracket) (zones : List ℕ) (before ops : List OpData) (least first result : Option LoadFault) → length ops ≤ i → ss ≡ statement_spots ops
+    → with_faults least (faults_over environment ss start (ops_placed at brackets zones before (drop i ops))) ≡ with_faults first (faults_over environment ss start (code_places ops))
     → open_behind at brackets (drop i ops) ≡ open_behind 0 [] ops → zones_left at zones (drop i ops) ≡ zones_left 0 [] ops
-    → result ≡ with_faults (with_faults least (open_faults start brackets)) (open_zone_faults start zones) → result ≡ with_faults first (block_faults around start ops)
+    → result ≡ with_faults (with_faults least (open_faults start brackets)) (open_zone_faults start zones) → result ≡ with_faults first (block_faults environment start ops)
 unfolding block_faults
-check_done around ss start at i brackets zones before ops least first result le s f o l r =
-    let over = faults_over around (statement_spots ops) start (code_places ops) in
-    let done : least ≡ with_faults first over = sym (faults_done around ss start at i brackets zones before ops least le) ∙ f ∙ ap (λ (z : List StatementSpot). with_faults first (faults_over around z start (code_places ops))) s in
+check_done environment ss start at i brackets zones before ops least first result le s f o l r =
+    let over = faults_over environment (statement_spots ops) start (code_places ops) in
+    let done : least ≡ with_faults first over = sym (faults_done environment ss start at i brackets zones before ops least le) ∙ f ∙ ap (λ (z : List StatementSpot). with_faults first (faults_over environment z start (code_places ops))) s in
     let open_ones : brackets ≡ open_behind 0 [] ops = sym (open_done at i brackets ops le) ∙ o in
     let left : zones ≡ zones_left 0 [] ops = sym (left_open_done at i zones ops le) ∙ l in
     r ∙ ap (λ (z : Option LoadFault). with_faults (with_faults z (open_faults start brackets)) (open_zone_faults start zones)) done

@@ -13,7 +13,7 @@ use Rattle.flat_code.specs.Kinds.{jump_number}
 use Rattle.flat_code.specs.declared.kinds.JumpOperation.TheVariants as jump
 use Rattle.flat_code.specs.Blocks.{are_same_codes, are_other_brackets, target_fault, is_bad_list, operand_fault, leads_to_target}
 use Rattle.image_file.specs.Verified.{placed_at, IsVerifiedOp, Lands}
-use Rattle.image_file.proofs.VerifiedLemmas.{chosen, none_if, empty_next, op_long, place_offset, op_none, around_in, brackets_right}
+use Rattle.image_file.proofs.VerifiedLemmas.{chosen, none_if, empty_next, op_long, place_offset, op_none, environment_in, brackets_right}
 
 spot_none : (from : ℕ) (begin : Bool) (brackets : List OpenBracket) (zones : List ℕ) (ops : List OpData) (at : ℕ) → at < from → spot_at (spots_from from begin brackets zones ops) at ≡ None
 spot_none from begin brackets zones [] at lt = refl
@@ -122,7 +122,7 @@ record IsRightJump (p : Program) (b : CodeBlock) (q : PlacedOp) (kind target : �
 
 right_jump : (p : Program) (b : CodeBlock) (q : PlacedOp) (kind target : ℕ) → IsVerifiedOp p b q → q.op.operand ≡ operand.Jump kind target → IsRightJump p b q kind target
 right_jump p b q kind target h is =
-    let none = subst (λ (z : Operand). operand_fault (around_in p b) (statement_spots b.code) q z ≡ None) is (op_none p b q h).operand in
+    let none = subst (λ (z : Operand). operand_fault (environment_in p b) (statement_spots b.code) q z ≡ None) is (op_none p b q h).operand in
     let parts = none_if (is_bad_list q kind target) 6 (target_fault (codes_of_few_brackets q.brackets) (length q.zones) (spot_at (statement_spots b.code) target)) none in
     record { list = parts.0; target_is = parts.1 }
 

@@ -32,13 +32,13 @@ use Rattle.image_file.proofs.WholeLemmas.{image_noted, gives_image}
 abbrev Lens : Type 0
 Lens = Option (List (ℕ × ℕ))
 
-abbrev pub around_by : Lens → List BlockSignature → BlockRecord → Environment
-around_by lens signatures b = record { kind = b.kind; local_len = b.local_len; params = b.params; blocks = signatures; data_lens = lens }
+abbrev pub environment_by : Lens → List BlockSignature → BlockRecord → Environment
+environment_by lens signatures b = record { kind = b.kind; local_len = b.local_len; params = b.params; blocks = signatures; data_lens = lens }
 
 pub checked_next : (lens : Lens) (signatures : List BlockSignature) (all : List BlockRecord) (bs : List Started) (i : ℕ) (s : Started) (least mid : Option LoadFault) → i < length bs → s ≡ get_or bs i s → signatures ≡ map signature_of all
-    → mid ≡ with_faults least (block_faults (around_by lens signatures s.block) s.start s.block.code) → with_faults mid (op_faults_of_blocks lens all (map started_block (drop (i + 1) bs))) ≡ with_faults least (op_faults_of_blocks lens all (map started_block (drop i bs)))
+    → mid ≡ with_faults least (block_faults (environment_by lens signatures s.block) s.start s.block.code) → with_faults mid (op_faults_of_blocks lens all (map started_block (drop (i + 1) bs))) ≡ with_faults least (op_faults_of_blocks lens all (map started_block (drop i bs)))
 checked_next lens signatures all bs i s least mid lt is known m =
-    let here : mid ≡ with_faults least (block_faults (environment_of_block lens all s.block) s.start s.block.code) = m ∙ ap (λ (z : List BlockSignature). with_faults least (block_faults (around_by lens z s.block) s.start s.block.code)) known in
+    let here : mid ≡ with_faults least (block_faults (environment_of_block lens all s.block) s.start s.block.code) = m ∙ ap (λ (z : List BlockSignature). with_faults least (block_faults (environment_by lens z s.block) s.start s.block.code)) known in
     ap (λ (z : Option LoadFault). with_faults z (op_faults_of_blocks lens all (map started_block (drop (i + 1) bs)))) here
     ∙ sym (with_more least (block_faults (environment_of_block lens all s.block) s.start s.block.code) (op_faults_of_blocks lens all (map started_block (drop (i + 1) bs))))
     ∙ sym (ap (λ (z : List Started). with_faults least (op_faults_of_blocks lens all (map started_block z))) (drop_next bs i s lt is))
@@ -72,7 +72,7 @@ later_none (Some l) = refl
 abbrev empty_log : Log
 empty_log = record { least = None; blocks = []; datas = None }
 
--- reading told all that it kept
+-- what one pass keeps is what reading the bytes notes
 record Kept (text : List ℕ) (log : Log) : Type 0 where
   least : log.least ≡ with_faults None (faults_in (read_image text).notes)
   blocks : log.blocks ≡ whole_blocks (read_image text).notes

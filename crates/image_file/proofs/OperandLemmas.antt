@@ -26,7 +26,7 @@ use Rattle.flat_code.specs.Blocks.{signature_of, CalleeSeen, block_with, callee_
 use Rattle.image_file.specs.Readers.{is_same_id, block_by_id}
 use Rattle.image_file.specs.Verified.{IsVerifiedOp, LiesWithin, HasParam, FitsOperand, FitsPassed, FitsPrepared, block_signatures, FitsCall, FitsParameter, IsCalledBlock}
 use Rattle.image_file.proofs.ImageLemmas.{width_there}
-use Rattle.image_file.proofs.VerifiedLemmas.{op_none, around_in}
+use Rattle.image_file.proofs.VerifiedLemmas.{op_none, environment_in}
 
 seven_none : (b : Bool) → seven_if b ≡ None → b ≡ false
 seven_none true e = absurd cc
@@ -34,7 +34,7 @@ seven_none false e = refl
 
 -- ---- places and parameters
 
-within : (p : Program) (b : CodeBlock) (a : Area) (w : Width) (byte : ℕ) → is_past_locals (around_in p b) a w byte ≡ false → LiesWithin b a w byte
+within : (p : Program) (b : CodeBlock) (a : Area) (w : Width) (byte : ℕ) → is_past_locals (environment_in p b) a w byte ≡ false → LiesWithin b a w byte
 within p b area.P w byte e = tt
 within p b area.I w byte e = tt
 within p b area.Q w byte e = tt
@@ -43,8 +43,8 @@ within p b area.Db w byte e = tt
 within p b area.Di w byte e = tt
 within p b area.L w byte e = ltb-false b.local_len (byte + byte_count w) e
 
-fits_place : (p : Program) (b : CodeBlock) (a : Area) (w : Width) (byte bit : ℕ) → is_bad_place (around_in p b) a w byte bit ≡ false → (is_odd_bit w bit ≡ false) × LiesWithin b a w byte
-fits_place p b a w byte bit e = let o = or_parts (is_odd_bit w bit) (is_past_locals (around_in p b) a w byte) e in (o.0, within p b a w byte o.1)
+fits_place : (p : Program) (b : CodeBlock) (a : Area) (w : Width) (byte bit : ℕ) → is_bad_place (environment_in p b) a w byte bit ≡ false → (is_odd_bit w bit ≡ false) × LiesWithin b a w byte
+fits_place p b a w byte bit e = let o = or_parts (is_odd_bit w bit) (is_past_locals (environment_in p b) a w byte) e in (o.0, within p b a w byte o.1)
 
 is_function : (k : BlockKind) → eqb (kind_number k) 2 ≡ true → k ≡ kinds.Fc
 is_function kinds.Ob e = absurd cc
@@ -60,7 +60,7 @@ record Has (b : CodeBlock) (index : ℕ) (w : Width) (own : Option ParameterReco
   has : HasParam b index w param
   own_is : own ≡ Some (record_of_param param)
 
-has_param : (p : Program) (b : CodeBlock) (index : ℕ) (w : Width) → lacks_own_parameter (parameter_meant (around_in p b) index) w ≡ false → Has b index w (parameter_meant (around_in p b) index)
+has_param : (p : Program) (b : CodeBlock) (index : ℕ) (w : Width) → lacks_own_parameter (parameter_meant (environment_in p b) index) w ≡ false → Has b index w (parameter_meant (environment_in p b) index)
 has_param p b index w e = by_kind (eqb (kind_number b.id.kind) 2) refl e
   where
     by_param : (o : Option Param) → slice_get b.params index ≡ o → eqb (kind_number b.id.kind) 2 ≡ true → lacks_own_parameter (option_map record_of_param o) w ≡ false → Has b index w (option_map record_of_param o)
@@ -82,15 +82,15 @@ has_param p b index w e = by_kind (eqb (kind_number b.id.kind) 2) refl e
 not_written : (code section : ℕ) → (writes_operand code && eqb section 1) ≡ false → writes_operand code ≡ true → section ≡ 1 → ⊥
 not_written code section e w is = let f : true ≡ false = sym (rw (w, eq-eqb section 1 is) refl) ∙ e in absurd cc
 
-fits_operand : (p : Program) (b : CodeBlock) (q : PlacedOp) (o : Operand) → operand_fault (around_in p b) (statement_spots b.code) q o ≡ None → FitsOperand b q.op o
+fits_operand : (p : Program) (b : CodeBlock) (q : PlacedOp) (o : Operand) → operand_fault (environment_in p b) (statement_spots b.code) q o ≡ None → FitsOperand b q.op o
 fits_operand p b q (operand.Direct a w byte bit) e =
-    let s = or_parts (lacks_width q.op w) (is_bad_place (around_in p b) a w byte bit) (seven_none _ e) in
+    let s = or_parts (lacks_width q.op w) (is_bad_place (environment_in p b) a w byte bit) (seven_none _ e) in
     let f = fits_place p b a w byte bit s.1 in
     (not-false (has_memory_width (takes_of q.op.code) w) s.0, f.0, f.1)
 fits_operand p b q (operand.ByMemory a w from byte) e = not-false (has_memory_width (takes_of q.op.code) w) (seven_none _ e)
 fits_operand p b q (operand.ByRegister a w register bits) e = not-false (has_memory_width (takes_of q.op.code) w) (seven_none _ e)
 fits_operand p b q (operand.Parameter index w) e =
-    let own = parameter_meant (around_in p b) index in
+    let own = parameter_meant (environment_in p b) index in
     let s = or_parts (lacks_width q.op w || lacks_own_parameter own w) (writes_operand q.op.code && is_in_parameter own) (seven_none _ e) in
     let t = or_parts (lacks_width q.op w) (lacks_own_parameter own w) s.0 in
     let h = has_param p b index w t.1 in
@@ -112,7 +112,7 @@ operand_fits p b q h = fits_operand p b q q.op.operand (op_none p b q h).operand
 
 -- ---- USEDB and PASS
 
-fits_passed : (p : Program) (b : CodeBlock) (actual : Passed) → is_bad_actual (around_in p b) actual ≡ false → FitsPassed b actual
+fits_passed : (p : Program) (b : CodeBlock) (actual : Passed) → is_bad_actual (environment_in p b) actual ≡ false → FitsPassed b actual
 fits_passed p b (passed.Literal value) e = tt
 fits_passed p b (passed.Direct a w byte bit) e = fits_place p b a w byte bit e
 fits_passed p b (passed.Parameter index w) e = let h = has_param p b index w e in (h.param, h.has)
@@ -124,12 +124,12 @@ fits_passed p b (passed.InBlock number area.M w byte bit) e = absurd cc
 fits_passed p b (passed.InBlock number area.Di w byte bit) e = absurd cc
 fits_passed p b (passed.InBlock number area.L w byte bit) e = absurd cc
 
-fits_prepared : (p : Program) (b : CodeBlock) (q : PlacedOp) (o : Operand) → operand_fault (around_in p b) (statement_spots b.code) q o ≡ None → FitsPrepared b q o
+fits_prepared : (p : Program) (b : CodeBlock) (q : PlacedOp) (o : Operand) → operand_fault (environment_in p b) (statement_spots b.code) q o ≡ None → FitsPrepared b q o
 fits_prepared p b q (operand.UseDb number) e =
     let s = or_parts (not (begins_its_statement q)) (not (is_in_db (last_op q).operand)) (seven_none _ e) in
     (not-false (begins_its_statement q) s.0, not-false (is_in_db (last_op q).operand) s.1)
 fits_prepared p b q (operand.Pass index actual) e =
-    let s = or_parts (is_stray_pass q index) (is_bad_actual (around_in p b) actual) (seven_none _ e) in
+    let s = or_parts (is_stray_pass q index) (is_bad_actual (environment_in p b) actual) (seven_none _ e) in
     let t = or_parts (not (eqb (last_op q).code 0x78)) (not (is_above index (pass_before None q.before))) s.0 in
     (eqb-true (last_op q).code 0x78 (not-false (eqb (last_op q).code 0x78) t.0), not-false (is_above index (pass_before None q.before)) t.1, fits_passed p b actual s.1)
 fits_prepared p b q (operand.Direct a w byte bit) e = tt
@@ -151,8 +151,8 @@ prepared_fits p b q h = fits_prepared p b q q.op.operand (op_none p b q h).opera
 
 -- ---- calls
 
-among : (p : Program) (b : CodeBlock) (q : PlacedOp) (o : Operand) → IsVerifiedOp p b q → q.op.operand ≡ o → call_fault_among (around_in p b) (lens_of p.data_blocks) q o ≡ None
-among p b q o h is = subst (λ (z : Operand). call_fault_among (around_in p b) (lens_of p.data_blocks) q z ≡ None) is (op_none p b q h).call
+among : (p : Program) (b : CodeBlock) (q : PlacedOp) (o : Operand) → IsVerifiedOp p b q → q.op.operand ≡ o → call_fault_among (environment_in p b) (lens_of p.data_blocks) q o ≡ None
+among p b q o h is = subst (λ (z : Operand). call_fault_among (environment_in p b) (lens_of p.data_blocks) q z ≡ None) is (op_none p b q h).call
 
 fits_call : (p : Program) (q : PlacedOp) (kind number instance : ℕ) (found : Option CalleeSeen) → callee_among (block_signatures p) kind number ≡ found → is_bad_call (lens_of p.data_blocks) found instance q.before ≡ false → FitsCall p q kind number instance
 fits_call p q kind number instance None is e = absurd cc
@@ -171,17 +171,17 @@ fits_call p q kind number instance (Some s) is e =
 pub call_fits : (p : Program) (b : CodeBlock) (q : PlacedOp) (kind number instance : ℕ) → IsVerifiedOp p b q → q.op.operand ≡ operand.Called kind number instance → FitsCall p q kind number instance
 call_fits p b q kind number instance h is = fits_call p q kind number instance (callee_among (block_signatures p) kind number) refl (seven_none _ (among p b q (operand.Called kind number instance) h is))
 
-fits_index : (p : Program) (b : CodeBlock) (called : CalleeSeen) (index : ℕ) (actual : Passed) (o : Option ParameterRecord) → slice_get called.2 index ≡ o → misfits_index (around_in p b) o actual ≡ false → FitsParameter p b called index actual
+fits_index : (p : Program) (b : CodeBlock) (called : CalleeSeen) (index : ℕ) (actual : Passed) (o : Option ParameterRecord) → slice_get called.2 index ≡ o → misfits_index (environment_in p b) o actual ≡ false → FitsParameter p b called index actual
 fits_index p b called index actual None is e = absurd cc
 fits_index p b called index actual (Some parameter) is e = record { parameter = parameter; there = is; fits = e }
 
 pub passed_fits : (p : Program) (b : CodeBlock) (q : PlacedOp) (index : ℕ) (actual : Passed) (kind number instance : ℕ) (called : CalleeSeen) → IsVerifiedOp p b q → q.op.operand ≡ operand.Pass index actual → (last_op q).operand ≡ operand.Called kind number instance → callee_among (block_signatures p) kind number ≡ Some called → FitsParameter p b called index actual
 passed_fits p b q index actual kind number instance called h is last there =
-    let code = (fits_prepared p b q (operand.Pass index actual) (subst (λ (z : Operand). operand_fault (around_in p b) (statement_spots b.code) q z ≡ None) is (op_none p b q h).operand)).0 in
+    let code = (fits_prepared p b q (operand.Pass index actual) (subst (λ (z : Operand). operand_fault (environment_in p b) (statement_spots b.code) q z ≡ None) is (op_none p b q h).operand)).0 in
     let bad = seven_none _ (among p b q (operand.Pass index actual) h is) in
-    let here : misfits_call (around_in p b) (last_op q).operand index actual ≡ false = rw (eq-eqb (last_op q).code 0x78 code) at bad in
-    let whom : misfits_callee (around_in p b) (callee_among (block_signatures p) kind number) index actual ≡ false = subst (λ (z : Operand). misfits_call (around_in p b) z index actual ≡ false) last here in
-    fits_index p b called index actual (slice_get called.2 index) refl (subst (λ (z : Option CalleeSeen). misfits_callee (around_in p b) z index actual ≡ false) there whom)
+    let here : misfits_call (environment_in p b) (last_op q).operand index actual ≡ false = rw (eq-eqb (last_op q).code 0x78 code) at bad in
+    let whom : misfits_callee (environment_in p b) (callee_among (block_signatures p) kind number) index actual ≡ false = subst (λ (z : Operand). misfits_call (environment_in p b) z index actual ≡ false) last here in
+    fits_index p b called index actual (slice_get called.2 index) refl (subst (λ (z : Option CalleeSeen). misfits_callee (environment_in p b) z index actual ≡ false) there whom)
 
 -- what is called among blocks
 record FoundIn (bs : List CodeBlock) (id : BlockId) (kind : ℕ) (called : CalleeSeen) : Type 0 where

@@ -82,17 +82,17 @@ lines_done least before i lines le = rw (drop_of_length-le lines {i = i} le) ref
 
 -- ---- the least fault of a block
 
-pub coded : (at : ℕ) (around : Environment) (b : BlockRecord) → code_fault b.code ≡ Some at → Some (record { at = at; code = 5 }) ≡ with_faults None (faults_of_block around b)
+pub coded : (at : ℕ) (environment : Environment) (b : BlockRecord) → code_fault b.code ≡ Some at → Some (record { at = at; code = 5 }) ≡ with_faults None (faults_of_block environment b)
 unfolding with_faults
-coded at around b e = rw e refl
+coded at environment b e = rw e refl
 
-pub uncoded : (first second last : Option LoadFault) (around : Environment) (b : BlockRecord) → code_fault b.code ≡ None → first ≡ with_faults None (count_faults b) → second ≡ with_faults first (line_faults 0 b.lines) → last ≡ with_faults second (block_faults around 0 b.code) → last ≡ with_faults None (faults_of_block around b)
-uncoded first second last around b none one two three =
+pub uncoded : (first second last : Option LoadFault) (environment : Environment) (b : BlockRecord) → code_fault b.code ≡ None → first ≡ with_faults None (count_faults b) → second ≡ with_faults first (line_faults 0 b.lines) → last ≡ with_faults second (block_faults environment 0 b.code) → last ≡ with_faults None (faults_of_block environment b)
+uncoded first second last environment b none one two three =
     let lines = line_faults 0 b.lines in
-    let ops = block_faults around 0 b.code in
+    let ops = block_faults environment 0 b.code in
     three ∙ ap (λ (z : Option LoadFault). with_faults z ops) (two ∙ ap (λ (z : Option LoadFault). with_faults z lines) one ∙ sym (with_more None (count_faults b) lines))
     ∙ sym (with_more None (count_faults b ++ lines) ops)
-    ∙ ap (λ (z : Option ℕ). with_faults None (faults_unless z around b)) (sym none)
+    ∙ ap (λ (z : Option ℕ). with_faults None (faults_unless z environment b)) (sym none)
 
 -- ---- the first block with a fault
 
@@ -138,27 +138,27 @@ in_its_place lens signatures bs b found wanted all e is =
 
 -- ---- a program without faults verifies
 
-no_fives : (o : Option ℕ) (around : Environment) (b : BlockRecord) → faults_unless o around b ≡ [] → o ≡ None
-no_fives None around b e = refl
-no_fives (Some at) around b e = absurd cc
+no_fives : (o : Option ℕ) (environment : Environment) (b : BlockRecord) → faults_unless o environment b ≡ [] → o ≡ None
+no_fives None environment b e = refl
+no_fives (Some at) environment b e = absurd cc
 
 -- what a block without faults says
-pub record Clean (around : Environment) (b : BlockRecord) : Type 0 where
+pub record Clean (environment : Environment) (b : BlockRecord) : Type 0 where
   pub code : code_fault b.code ≡ None
   pub count : count_faults b ≡ []
   pub lines : line_faults 0 b.lines ≡ []
-  pub ops : block_faults around 0 b.code ≡ []
+  pub ops : block_faults environment 0 b.code ≡ []
 
-clean_parts : (around : Environment) (b : BlockRecord) → faults_of_block around b ≡ [] → Clean around b
-clean_parts around b e =
-    let none = no_fives (code_fault b.code) around b e in
-    let all : count_faults b ++ line_faults 0 b.lines ++ block_faults around 0 b.code ≡ [] = ap (λ (z : Option ℕ). faults_unless z around b) (sym none) ∙ e in
-    let a = nil_parts (count_faults b ++ line_faults 0 b.lines) (block_faults around 0 b.code) all in
+clean_parts : (environment : Environment) (b : BlockRecord) → faults_of_block environment b ≡ [] → Clean environment b
+clean_parts environment b e =
+    let none = no_fives (code_fault b.code) environment b e in
+    let all : count_faults b ++ line_faults 0 b.lines ++ block_faults environment 0 b.code ≡ [] = ap (λ (z : Option ℕ). faults_unless z environment b) (sym none) ∙ e in
+    let a = nil_parts (count_faults b ++ line_faults 0 b.lines) (block_faults environment 0 b.code) all in
     let c = nil_parts (count_faults b) (line_faults 0 b.lines) a.0 in
     record { code = none; count = c.0; lines = c.1; ops = a.1 }
 
-pub clean_from : (around : Environment) (b : BlockRecord) → Clean around b → faults_of_block around b ≡ []
-clean_from around b h = rw (h.code, h.count, h.lines, h.ops) refl
+pub clean_from : (environment : Environment) (b : BlockRecord) → Clean environment b → faults_of_block environment b ≡ []
+clean_from environment b h = rw (h.code, h.count, h.lines, h.ops) refl
 
 pub is_whole : (o : Option ℕ) → o ≡ None → is_nowhere o ≡ true
 is_whole None e = refl
@@ -198,9 +198,9 @@ lines_of_right b h count lines =
     let g = and_parts true (good_many (line_field false) line_after 0 (length b.lines) b.lines) h in
     and_from (is_fine f) (good_many (line_field true) line_after 0 (length b.lines) b.lines) (fine f count) (lines_right (length b.lines) 0 b.lines g.1 lines)
 
-parts_right : (before : ℕ × ℕ) (around : Environment) (b : BlockRecord) → GoodBlock false before 0 (parts_of_block b) → Clean around b → (code_block_layout true before).good b ≡ true
+parts_right : (before : ℕ × ℕ) (environment : Environment) (b : BlockRecord) → GoodBlock false before 0 (parts_of_block b) → Clean environment b → (code_block_layout true before).good b ≡ true
 unfolding code_block_layout plain_block block_rows code_and_lines
-parts_right before around b p h =
+parts_right before environment b p h =
     let x = head_of_block b in
     and_from ((head_layout before).good x) _ p.head_good
     (and_from ((parameters_layout x).good b.params) _ p.params_good

@@ -155,8 +155,8 @@ same_tests true false f g = sym (f refl)
 same_tests false true f g = g refl
 same_tests false false f g = refl
 
-function_told : (number : ℕ) → number < 65536 → (b : BlockSignature) → eqb (call_key b) (2 * number) ≡ (eqb b.kind 2 && eqb b.number number)
-function_told number small b = by (eqb b.kind 2) (eqb b.kind 3)
+key_of_function : (number : ℕ) → number < 65536 → (b : BlockSignature) → eqb (call_key b) (2 * number) ≡ (eqb b.kind 2 && eqb b.number number)
+key_of_function number small b = by (eqb b.kind 2) (eqb b.kind 3)
   where
     by : (f g : Bool) → eqb (cond f (2 * b.number) (cond g (2 * b.number + 1) 131072)) (2 * number) ≡ (f && eqb b.number number)
     by true g = same_tests (eqb (2 * b.number) (2 * number)) (eqb b.number number)
@@ -165,8 +165,8 @@ function_told number small b = by (eqb b.kind 2) (eqb b.kind 3)
     by false true = ne_eqb (2 * b.number + 1) (2 * number) (λ e. omega (arith, e))
     by false false = ne_eqb 131072 (2 * number) (λ e. omega (arith, e, small))
 
-function_block_told : (number : ℕ) → number < 65536 → (b : BlockSignature) → eqb (call_key b) (2 * number + 1) ≡ (eqb b.kind 3 && eqb b.number number)
-function_block_told number small b = by_kind (eqb b.kind 2) refl
+key_of_function_block : (number : ℕ) → number < 65536 → (b : BlockSignature) → eqb (call_key b) (2 * number + 1) ≡ (eqb b.kind 3 && eqb b.number number)
+key_of_function_block number small b = by_kind (eqb b.kind 2) refl
   where
     by_block : (g : Bool) → eqb (cond g (2 * b.number + 1) 131072) (2 * number + 1) ≡ (g && eqb b.number number)
     by_block true = same_tests (eqb (2 * b.number + 1) (2 * number + 1)) (eqb b.number number)
@@ -183,8 +183,8 @@ function_block_told number small b = by_kind (eqb b.kind 2) refl
 
 pub finds_callees : (bs : List BlockSignature) (keys table : List ℕ) → keys ≡ map call_key bs → IsTableOf keys 131072 table → FindsCallees bs table
 finds_callees bs keys table keys_is t = record {
-  functions = λ number small. found 2 number (2 * number) (omega (arith, small)) (function_told number small);
-  function_blocks = λ number small. found 3 number (2 * number + 1) (omega (arith, small)) (function_block_told number small);
+  functions = λ number small. found 2 number (2 * number) (omega (arith, small)) (key_of_function number small);
+  function_blocks = λ number small. found 3 number (2 * number + 1) (omega (arith, small)) (key_of_function_block number small);
 }
   where
     found : (kind number key : ℕ) → key < 131072 → ((b : BlockSignature) → eqb (call_key b) key ≡ (eqb b.kind kind && eqb b.number number)) → found_callee bs table key ≡ block_with kind number bs

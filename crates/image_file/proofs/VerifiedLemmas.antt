@@ -67,8 +67,8 @@ each a ss start (p ∷ rest) at q none found =
     (λ f e. each a ss start rest at q n.1 e)
 
 -- what surrounds a block of a program
-abbrev pub around_in : Program → CodeBlock → Environment
-around_in p b = environment_of_block (Some (lens_of p.data_blocks)) (map record_of_block p.code_blocks) (record_of_block b)
+abbrev pub environment_in : Program → CodeBlock → Environment
+environment_in p b = environment_of_block (Some (lens_of p.data_blocks)) (map record_of_block p.code_blocks) (record_of_block b)
 
 verified_at : (lens : List (ℕ × ℕ)) (all : List BlockRecord) (bs : List CodeBlock) (b : CodeBlock) (id : _) → AreVerified lens all (map record_of_block bs) → block_by_id id bs ≡ Some b → block_faults (environment_of_block (Some lens) all (record_of_block b)) 0 b.code ≡ []
 verified_at lens all [] b id h found = absurd cc
@@ -98,11 +98,11 @@ none_in a ops e =
     let n = nil_parts (faults_over a (statement_spots ops) 0 (code_places ops)) (open_faults 0 (open_behind 0 [] ops)) m.0 in
     record { over = n.0; ends = none_open 0 (open_behind 0 [] ops) n.1; zones_end = no_zone_open 0 (zones_left 0 [] ops) m.1 }
 
-none_of : (p : Program) (b : CodeBlock) (q : PlacedOp) → IsVerifiedOp p b q → NoneIn (around_in p b) b.code
-none_of p b q h = none_in (around_in p b) b.code (verified_at (lens_of p.data_blocks) (map record_of_block p.code_blocks) p.code_blocks b h.id h.verifies.blocks h.block)
+none_of : (p : Program) (b : CodeBlock) (q : PlacedOp) → IsVerifiedOp p b q → NoneIn (environment_in p b) b.code
+none_of p b q h = none_in (environment_in p b) b.code (verified_at (lens_of p.data_blocks) (map record_of_block p.code_blocks) p.code_blocks b h.id h.verifies.blocks h.block)
 
-pub op_none : (p : Program) (b : CodeBlock) (q : PlacedOp) → IsVerifiedOp p b q → NoFault (around_in p b) (statement_spots b.code) q
-op_none p b q h = no_fault (around_in p b) (statement_spots b.code) 0 q (each (around_in p b) (statement_spots b.code) 0 (code_places b.code) q.at q (none_of p b q h).over h.place)
+pub op_none : (p : Program) (b : CodeBlock) (q : PlacedOp) → IsVerifiedOp p b q → NoFault (environment_in p b) (statement_spots b.code) q
+op_none p b q h = no_fault (environment_in p b) (statement_spots b.code) 0 q (each (environment_in p b) (statement_spots b.code) 0 (code_places b.code) q.at q (none_of p b q h).over h.place)
 
 -- ---- the readers' op is the one in its place
 
@@ -273,7 +273,7 @@ pub brackets_right : (p : Program) (b : CodeBlock) (q : PlacedOp) → IsVerified
 brackets_right p b q h =
     let none = op_none p b q h in
     record {
-      few = few_at (around_in p b) (statement_spots b.code) 0 [] [] [] b.code q.at q (none_of p b q h).over (omega arith) h.place;
+      few = few_at (environment_in p b) (statement_spots b.code) 0 [] [] [] b.code q.at q (none_of p b q h).over (omega arith) h.place;
       room = λ e. room_for q.op.code q.brackets none.bracket e;
       there = λ e. there_by q.op.code q.brackets none.bracket e;
     }
@@ -309,7 +309,7 @@ pub zones_right : (p : Program) (b : CodeBlock) (q : PlacedOp) → IsVerifiedOp 
 zones_right p b q h =
     let none = op_none p b q h in
     record {
-      few = few_zones_at (around_in p b) (statement_spots b.code) 0 [] [] [] b.code q.at q (none_of p b q h).over (omega arith) h.place;
+      few = few_zones_at (environment_in p b) (statement_spots b.code) 0 [] [] [] b.code q.at q (none_of p b q h).over (omega arith) h.place;
       room = λ e. zone_room q.op.code q.zones none.zone e;
       there = λ e. zone_there q.op.code q.zones none.zone e;
     }

@@ -21,24 +21,27 @@ use Rattle.flat_code.proofs.CodingLemmas.{IsBytes}
 use Rattle.image_file.proofs.LayoutLemmas.{at_place, no_faults}
 use Rattle.image_file.proofs.ImageLemmas.{image_again, image_takes, records_back, records_laid, front_laid, bytes_taken, Stamped}
 
--- the code blocks that notes tell of, and the data blocks, once all were read
-abbrev Lens : Type 0
-Lens = Option (List DataBlock)
+-- the blocks of an image that notes name
+record NotedBlocks : Type 0 where
+  -- the code blocks that were read whole
+  codes : List BlockRecord
+  -- the data blocks, once all blocks of the image were read
+  datas : Option (List DataBlock)
 
-abbrev Told : Type 0
-Told = List BlockRecord × Lens
+-- the blocks of two lists of notes, one behind the other
+join : NotedBlocks → NotedBlocks → NotedBlocks
+join a b = record { codes = a.codes ++ b.codes; datas = later_data_blocks a.datas b.datas }
 
-join : Told → Told → Told
-join a b = (a.0 ++ b.0, later_data_blocks a.1 b.1)
+-- no block
+nothing : NotedBlocks
+nothing = record { codes = []; datas = None }
 
-nothing : Told
-nothing = ([], None)
+-- the blocks that notes name
+blocks_in : List Note → NotedBlocks
+blocks_in notes = record { codes = blocks_of (whole_blocks notes); datas = all_blocks notes }
 
-told_in : List Note → Told
-told_in notes = (blocks_of (whole_blocks notes), all_blocks notes)
-
-pairs : {a b : List BlockRecord} {x y : Lens} → a ≡ b → x ≡ y → ◌≡◌ {A = Told} (a, x) (b, y)
-pairs p q = rw (p, q) refl
+same_blocks : {a b : List BlockRecord} {x y : Option (List DataBlock)} → a ≡ b → x ≡ y → ◌≡◌ {A = NotedBlocks} (record { codes = a; datas = x }) (record { codes = b; datas = y })
+same_blocks p q = rw (p, q) refl
 
 wholes-append : (a b : List Note) → blocks_of (whole_blocks (a ++ b)) ≡ blocks_of (whole_blocks a) ++ blocks_of (whole_blocks b)
 wholes-append [] b = refl
@@ -46,11 +49,11 @@ wholes-append (Faulty at code ∷ a) b = wholes-append a b
 wholes-append (Whole start block ∷ a) b = ap (λ (z : List BlockRecord). block ∷ z) (wholes-append a b)
 wholes-append (AllBlocks blocks ∷ a) b = wholes-append a b
 
-later-assoc : (a b c : Lens) → later_data_blocks a (later_data_blocks b c) ≡ later_data_blocks (later_data_blocks a b) c
+later-assoc : (a b c : Option (List DataBlock)) → later_data_blocks a (later_data_blocks b c) ≡ later_data_blocks (later_data_blocks a b) c
 later-assoc a b None = refl
 later-assoc a b (Some lens) = refl
 
-later-none : (a : Lens) → later_data_blocks None a ≡ a
+later-none : (a : Option (List DataBlock)) → later_data_blocks None a ≡ a
 later-none None = refl
 later-none (Some lens) = refl
 
@@ -60,44 +63,44 @@ all-append (Faulty at code ∷ a) b = all-append a b
 all-append (Whole start block ∷ a) b = all-append a b
 all-append (AllBlocks blocks ∷ a) b = ap (later_data_blocks (Some blocks)) (all-append a b) ∙ later-assoc (Some blocks) (all_blocks a) (all_blocks b)
 
-told-append : (a b : List Note) → told_in (a ++ b) ≡ join (told_in a) (told_in b)
-unfolding told_in join
-told-append a b = pairs (wholes-append a b) (all-append a b)
+blocks_in-append : (a b : List Note) → blocks_in (a ++ b) ≡ join (blocks_in a) (blocks_in b)
+unfolding blocks_in join
+blocks_in-append a b = same_blocks (wholes-append a b) (all-append a b)
 
-join-nothing : (a : Told) → join a nothing ≡ a
+join-nothing : (a : NotedBlocks) → join a nothing ≡ a
 unfolding join nothing
-join-nothing a = pairs (append-nil a.0) refl
+join-nothing a = same_blocks (append-nil a.codes) refl
 
-nothing-join : (a : Told) → join nothing a ≡ a
+nothing-join : (a : NotedBlocks) → join nothing a ≡ a
 unfolding join nothing
-nothing-join a = pairs refl (later-none a.1)
+nothing-join a = same_blocks refl (later-none a.datas)
 
-none_noted : (at : ℕ) (o : Option ℕ) → told_in (fault_note at o) ≡ nothing
-unfolding told_in nothing
+none_noted : (at : ℕ) (o : Option ℕ) → blocks_in (fault_note at o) ≡ nothing
+unfolding blocks_in nothing
 none_noted at None = refl
 none_noted at (Some code) = refl
 
-none_at_all : told_in [] ≡ nothing
-unfolding told_in nothing
+none_at_all : blocks_in [] ≡ nothing
+unfolding blocks_in nothing
 none_at_all = refl
 
-one : BlockRecord → Told
-one b = (b ∷ [], None)
+one : BlockRecord → NotedBlocks
+one b = record { codes = b ∷ []; datas = None }
 
-one_block : (start : ℕ) (b : BlockRecord) → told_in (whole_note start b ∷ []) ≡ one b
-unfolding told_in one
+one_block : (start : ℕ) (b : BlockRecord) → blocks_in (whole_note start b ∷ []) ≡ one b
+unfolding blocks_in one
 one_block start b = refl
 
-all_told : List DataBlock → Told
-all_told ds = ([], Some ds)
+data_blocks_of : List DataBlock → NotedBlocks
+data_blocks_of ds = record { codes = []; datas = Some ds }
 
-all_are_told : (ds : List DataBlock) → told_in (AllBlocks ds ∷ []) ≡ all_told ds
-unfolding told_in all_told
-all_are_told ds = refl
+all_are_noted : (ds : List DataBlock) → blocks_in (AllBlocks ds ∷ []) ≡ data_blocks_of ds
+unfolding blocks_in data_blocks_of
+all_are_noted ds = refl
 
 -- what a layout notes of what it finds
-record Notes (A : Type 0) (l : Layout A) (view : A → Told) : Type 0 where
-  says : (cur : Cursor) (x : A) (end : Cursor) → (l.read cur).found ≡ Some (x, end) → told_in (l.read cur).notes ≡ view x
+record Notes (A : Type 0) (l : Layout A) (view : A → NotedBlocks) : Type 0 where
+  says : (cur : Cursor) (x : A) (end : Cursor) → (l.read cur).found ≡ Some (x, end) → blocks_in (l.read cur).notes ≡ view x
 
 record Steps (A B : Type 0) (r : ReadResult A) (f : A → Cursor → ReadResult B) (y : B) (end : Cursor) : Type 0 where
   first : A
@@ -105,76 +108,76 @@ record Steps (A B : Type 0) (r : ReadResult A) (f : A → Cursor → ReadResult 
   one : r.found ≡ Some (first, next)
   two : (f first next).found ≡ Some (y, end)
   are : (bind_reading r f).notes ≡ r.notes ++ (f first next).notes
-  notes : told_in (bind_reading r f).notes ≡ join (told_in r.notes) (told_in (f first next).notes)
+  notes : blocks_in (bind_reading r f).notes ≡ join (blocks_in r.notes) (blocks_in (f first next).notes)
 
 go_steps : {A B : Type 0} (notes : List Note) (o : Option (A × Cursor)) (f : A → Cursor → ReadResult B) (y : B) (end : Cursor) → (go_on notes o f).found ≡ Some (y, end) → Steps A B (record { notes = notes; found = o }) f y end
 go_steps {A = A} {B = B} notes None f y end e = absurd cc
-go_steps {A = A} {B = B} notes (Some x) f y end e = record { first = x.0; next = x.1; one = refl; two = e; are = refl; notes = told-append notes (f x.0 x.1).notes }
+go_steps {A = A} {B = B} notes (Some x) f y end e = record { first = x.0; next = x.1; one = refl; two = e; are = refl; notes = blocks_in-append notes (f x.0 x.1).notes }
 
 steps : {A B : Type 0} (r : ReadResult A) (f : A → Cursor → ReadResult B) (y : B) (end : Cursor) → (bind_reading r f).found ≡ Some (y, end) → Steps A B r f y end
 steps r f y end e = go_steps r.notes r.found f y end e
 
-field_of_notes : {A : Type 0} (fault_in : A → Option ℕ) (cur : Cursor) (o : Option (A × List ℕ)) (x : A) (end : Cursor) → (field_of fault_in cur o).found ≡ Some (x, end) → told_in (field_of fault_in cur o).notes ≡ nothing
+field_of_notes : {A : Type 0} (fault_in : A → Option ℕ) (cur : Cursor) (o : Option (A × List ℕ)) (x : A) (end : Cursor) → (field_of fault_in cur o).found ≡ Some (x, end) → blocks_in (field_of fault_in cur o).notes ≡ nothing
 field_of_notes {A = A} fault_in cur None x end h = absurd cc
 field_of_notes {A = A} fault_in cur (Some r) x end h = none_noted cur.at (fault_in r.0)
 
 field_notes : {A : Type 0} (c : Coding A) (fault_in : A → Option ℕ) → Notes A (field_layout c fault_in) (λ x. nothing)
 field_notes {A = A} c fault_in = record { says = λ cur x end e. field_of_notes fault_in cur (c.read cur.rest) x end e }
 
-chain_notes : {A B : Type 0} (l : Layout A) (m : A → Layout B) (v : A → Told) (w : A → B → Told) → Notes A l v → ((x : A) → Notes B (m x) (w x)) → Notes (A × B) (chain_layout l m) (λ x. join (v x.0) (w x.0 x.1))
+chain_notes : {A B : Type 0} (l : Layout A) (m : A → Layout B) (v : A → NotedBlocks) (w : A → B → NotedBlocks) → Notes A l v → ((x : A) → Notes B (m x) (w x)) → Notes (A × B) (chain_layout l m) (λ x. join (v x.0) (w x.0 x.1))
 chain_notes {A = A} {B = B} l m v w p q = record {
   says = λ cur x end e.
       let a = steps (l.read cur) (λ x next. bind_reading ((m x).read next) (λ y end. reading_given (x, y) end)) x end e in
       let b = steps ((m a.first).read a.next) (λ y end. reading_given (a.first, y) end) x end a.two in
       let made = same_Some ((a.first, b.first), b.next) (x, end) b.two in
       let x_is = ap (λ (z : (A × B) × Cursor). z.0) made in
-      let inner = b.notes ∙ ap (λ (z : Told). join (told_in ((m a.first).read a.next).notes) z) none_at_all ∙ join-nothing (told_in ((m a.first).read a.next).notes) ∙ (q a.first).says a.next b.first b.next b.one in
-      a.notes ∙ ap (λ (z : Told). join z (told_in (bind_reading {B = A × B} ((m a.first).read a.next) (λ y end. reading_given (a.first, y) end)).notes)) (p.says cur a.first a.next a.one)
-      ∙ ap (λ (z : Told). join (v a.first) z) inner ∙ ap (λ (z : A × B). join (v z.0) (w z.0 z.1)) x_is;
+      let inner = b.notes ∙ ap (λ (z : NotedBlocks). join (blocks_in ((m a.first).read a.next).notes) z) none_at_all ∙ join-nothing (blocks_in ((m a.first).read a.next).notes) ∙ (q a.first).says a.next b.first b.next b.one in
+      a.notes ∙ ap (λ (z : NotedBlocks). join z (blocks_in (bind_reading {B = A × B} ((m a.first).read a.next) (λ y end. reading_given (a.first, y) end)).notes)) (p.says cur a.first a.next a.one)
+      ∙ ap (λ (z : NotedBlocks). join (v a.first) z) inner ∙ ap (λ (z : A × B). join (v z.0) (w z.0 z.1)) x_is;
 }
 
-checked_notes : {A : Type 0} (at : ℕ) (fault : Option ℕ) (l : Layout A) (v : A → Told) → Notes A l v → Notes A (checked_layout at fault l) v
-checked_notes {A = A} at fault l v p = record { says = λ cur x end e. told-append (fault_note at fault) (l.read cur).notes ∙ ap (λ (z : Told). join z (told_in (l.read cur).notes)) (none_noted at fault) ∙ nothing-join (told_in (l.read cur).notes) ∙ p.says cur x end e }
+checked_notes : {A : Type 0} (at : ℕ) (fault : Option ℕ) (l : Layout A) (v : A → NotedBlocks) → Notes A l v → Notes A (checked_layout at fault l) v
+checked_notes {A = A} at fault l v p = record { says = λ cur x end e. blocks_in-append (fault_note at fault) (l.read cur).notes ∙ ap (λ (z : NotedBlocks). join z (blocks_in (l.read cur).notes)) (none_noted at fault) ∙ nothing-join (blocks_in (l.read cur).notes) ∙ p.says cur x end e }
 
-seen_notes : {A B : Type 0} (to : A → B) (from : B → A) (l : Layout A) (v : A → Told) (w : B → Told) → ((x : A) → v x ≡ w (to x)) → Notes A l v → Notes B (seen_as to from l) w
+seen_notes : {A B : Type 0} (to : A → B) (from : B → A) (l : Layout A) (v : A → NotedBlocks) (w : B → NotedBlocks) → ((x : A) → v x ≡ w (to x)) → Notes A l v → Notes B (seen_as to from l) w
 seen_notes {A = A} {B = B} to from l v w same p = record {
   says = λ cur y end e.
       let a = steps (l.read cur) (λ x end. reading_given (to x) end) y end e in
       let made = same_Some (to a.first, a.next) (y, end) a.two in
-      a.notes ∙ ap (λ (z : Told). join (told_in (l.read cur).notes) z) none_at_all ∙ join-nothing (told_in (l.read cur).notes) ∙ p.says cur a.first a.next a.one ∙ same a.first ∙ ap w (ap (λ (z : B × Cursor). z.0) made);
+      a.notes ∙ ap (λ (z : NotedBlocks). join (blocks_in (l.read cur).notes) z) none_at_all ∙ join-nothing (blocks_in (l.read cur).notes) ∙ p.says cur a.first a.next a.one ∙ same a.first ∙ ap w (ap (λ (z : B × Cursor). z.0) made);
 }
 
-remembered_notes : {A : Type 0} (note : A → Note) (l : Layout A) (w : A → Told) → ((x : A) → told_in (note x ∷ []) ≡ w x) → Notes A l (λ x. nothing) → Notes A (noted_layout note l) w
+remembered_notes : {A : Type 0} (note : A → Note) (l : Layout A) (w : A → NotedBlocks) → ((x : A) → blocks_in (note x ∷ []) ≡ w x) → Notes A l (λ x. nothing) → Notes A (noted_layout note l) w
 remembered_notes {A = A} note l w tells p = record {
   says = λ cur b end e.
       let a = steps (l.read cur) (λ x end. record { notes = note x ∷ []; found = Some (x, end) }) b end e in
       let made = same_Some (a.first, a.next) (b, end) a.two in
-      a.notes ∙ ap (λ (z : Told). join z (told_in (note a.first ∷ []))) (p.says cur a.first a.next a.one) ∙ nothing-join (told_in (note a.first ∷ [])) ∙ tells a.first ∙ ap (λ (z : A × Cursor). w z.0) made;
+      a.notes ∙ ap (λ (z : NotedBlocks). join z (blocks_in (note a.first ∷ []))) (p.says cur a.first a.next a.one) ∙ nothing-join (blocks_in (note a.first ∷ [])) ∙ tells a.first ∙ ap (λ (z : A × Cursor). w z.0) made;
 }
 
-located_notes : {A : Type 0} (l : ℕ → Layout A) (v : A → Told) → ((at : ℕ) → Notes A (l at) v) → Notes A (located_layout l) v
+located_notes : {A : Type 0} (l : ℕ → Layout A) (v : A → NotedBlocks) → ((at : ℕ) → Notes A (l at) v) → Notes A (located_layout l) v
 located_notes {A = A} l v p = record { says = λ cur x end e. (p cur.at).says cur x end e }
 
-all_of : {A : Type 0} → (A → Told) → List A → Told
+all_of : {A : Type 0} → (A → NotedBlocks) → List A → NotedBlocks
 all_of v [] = nothing
 all_of v (x ∷ xs) = join (v x) (all_of v xs)
 
-many_says : {S A : Type 0} (l : S → Layout A) (next : S → A → S) (v : A → Told) → ((s : S) → Notes A (l s) v) → (s : S) (n : ℕ) (cur : Cursor) (xs : List A) (end : Cursor) → (read_many l next s n cur).found ≡ Some (xs, end) → told_in (read_many l next s n cur).notes ≡ all_of v xs
+many_says : {S A : Type 0} (l : S → Layout A) (next : S → A → S) (v : A → NotedBlocks) → ((s : S) → Notes A (l s) v) → (s : S) (n : ℕ) (cur : Cursor) (xs : List A) (end : Cursor) → (read_many l next s n cur).found ≡ Some (xs, end) → blocks_in (read_many l next s n cur).notes ≡ all_of v xs
 unfolding all_of
 many_says {S = S} {A = A} l next v p s zero cur xs end e = let made = same_Some ([], cur) (xs, end) e in none_at_all ∙ ap (λ (z : List A × Cursor). all_of v z.0) made
 many_says {S = S} {A = A} l next v p s (suc n) cur xs end e =
     let a = steps ((l s).read cur) (λ x after. bind_reading (read_many l next (next s x) n after) (λ xs end. reading_given (x ∷ xs) end)) xs end e in
     let b = steps (read_many l next (next s a.first) n a.next) (λ xs end. reading_given (a.first ∷ xs) end) xs end a.two in
     let made = same_Some (a.first ∷ b.first, b.next) (xs, end) b.two in
-    let inner = b.notes ∙ ap (λ (z : Told). join (told_in (read_many l next (next s a.first) n a.next).notes) z) none_at_all ∙ join-nothing (told_in (read_many l next (next s a.first) n a.next).notes) ∙ many_says l next v p (next s a.first) n a.next b.first b.next b.one in
-    a.notes ∙ ap (λ (z : Told). join z (told_in (bind_reading (read_many l next (next s a.first) n a.next) (λ xs end. reading_given (a.first ∷ xs) end)).notes)) ((p s).says cur a.first a.next a.one)
-    ∙ ap (λ (z : Told). join (v a.first) z) inner ∙ ap (λ (z : List A × Cursor). all_of v z.0) made
+    let inner = b.notes ∙ ap (λ (z : NotedBlocks). join (blocks_in (read_many l next (next s a.first) n a.next).notes) z) none_at_all ∙ join-nothing (blocks_in (read_many l next (next s a.first) n a.next).notes) ∙ many_says l next v p (next s a.first) n a.next b.first b.next b.one in
+    a.notes ∙ ap (λ (z : NotedBlocks). join z (blocks_in (bind_reading (read_many l next (next s a.first) n a.next) (λ xs end. reading_given (a.first ∷ xs) end)).notes)) ((p s).says cur a.first a.next a.one)
+    ∙ ap (λ (z : NotedBlocks). join (v a.first) z) inner ∙ ap (λ (z : List A × Cursor). all_of v z.0) made
 
-many_notes : {S A : Type 0} (l : S → Layout A) (next : S → A → S) (v : A → Told) → ((s : S) → Notes A (l s) v) → (s : S) (n : ℕ) → Notes (List A) (list_layout l next s n) (all_of v)
+many_notes : {S A : Type 0} (l : S → Layout A) (next : S → A → S) (v : A → NotedBlocks) → ((s : S) → Notes A (l s) v) → (s : S) (n : ℕ) → Notes (List A) (list_layout l next s n) (all_of v)
 many_notes l next v p s n = record { says = many_says l next v p s n }
 
 -- layouts that note no block
-weaker : {A : Type 0} (l : Layout A) (v w : A → Told) → ((x : A) → v x ≡ w x) → Notes A l v → Notes A l w
+weaker : {A : Type 0} (l : Layout A) (v w : A → NotedBlocks) → ((x : A) → v x ≡ w x) → Notes A l v → Notes A l w
 weaker {A = A} l v w same p = record { says = λ cur x end e. p.says cur x end e ∙ same x }
 
 chain_none : {A B : Type 0} (l : Layout A) (m : A → Layout B) → Notes A l (λ x. nothing) → ((x : A) → Notes B (m x) (λ y. nothing)) → Notes (A × B) (chain_layout l m) (λ x. nothing)
@@ -188,15 +191,15 @@ all_none (x ∷ xs) = nothing-join (all_of (λ x. nothing) xs) ∙ all_none xs
 many_none : {S A : Type 0} (l : S → Layout A) (next : S → A → S) → ((s : S) → Notes A (l s) (λ x. nothing)) → (s : S) (n : ℕ) → Notes (List A) (list_layout l next s n) (λ xs. nothing)
 many_none l next p s n = weaker (list_layout l next s n) (all_of (λ x. nothing)) (λ xs. nothing) (λ xs. all_none xs) (many_notes l next (λ x. nothing) p s n)
 
-cond_found : {A : Type 0} (b : Bool) (x y : ReadResult A) (v : A) (end : Cursor) (t : Told) → (cond b x y).found ≡ Some (v, end) → (x.found ≡ Some (v, end) → told_in x.notes ≡ t) → (y.found ≡ Some (v, end) → told_in y.notes ≡ t) → told_in (cond b x y).notes ≡ t
+cond_found : {A : Type 0} (b : Bool) (x y : ReadResult A) (v : A) (end : Cursor) (t : NotedBlocks) → (cond b x y).found ≡ Some (v, end) → (x.found ≡ Some (v, end) → blocks_in x.notes ≡ t) → (y.found ≡ Some (v, end) → blocks_in y.notes ≡ t) → blocks_in (cond b x y).notes ≡ t
 cond_found true x y v end t e f g = f e
 cond_found false x y v end t e f g = g e
 
-read_ops_says : (o : Option ℕ) (at : ℕ) (ops : List OpData) (next : Cursor) (x : List OpData) (end : Cursor) → (read_ops o at ops next).found ≡ Some (x, end) → told_in (read_ops o at ops next).notes ≡ nothing
+read_ops_says : (o : Option ℕ) (at : ℕ) (ops : List OpData) (next : Cursor) (x : List OpData) (end : Cursor) → (read_ops o at ops next).found ≡ Some (x, end) → blocks_in (read_ops o at ops next).notes ≡ nothing
 read_ops_says None at ops next x end e = none_at_all
 read_ops_says (Some offset) at ops next x end e = absurd cc
 
-code_says : (n : ℕ) (cur : Cursor) (ops : List OpData) (end : Cursor) → (read_code true n cur).found ≡ Some (ops, end) → told_in (read_code true n cur).notes ≡ nothing
+code_says : (n : ℕ) (cur : Cursor) (ops : List OpData) (end : Cursor) → (read_code true n cur).found ≡ Some (ops, end) → blocks_in (read_code true n cur).notes ≡ nothing
 code_says n cur ops end e =
     let r = ops_from n (take n cur.rest) in
     cond_found (ltb (length cur.rest) n) _ _ ops end nothing e (λ h. absurd cc) (λ e. read_ops_says (stop_at true r.0 r.1) cur.at r.0 _ ops end e)
@@ -244,17 +247,17 @@ code_block_notes : (before : ℕ × ℕ) → Notes BlockRecord (code_block_layou
 unfolding code_block_layout plain_block
 code_block_notes before = located_notes (code_block_at true before) one (λ at. remembered_notes (whole_note at) (plain_block true before at) one (one_block at) (seen_notes (λ r. block_of_parts (parts_of_block_row r)) (λ b. row_of_block_parts (parts_of_block b)) (block_rows true before at) (λ x. nothing) (λ b. nothing) (λ x. refl) (block_rows_notes before at)))
 
-singles : (bs : List BlockRecord) → all_of one bs ≡ (bs, None)
+singles : (bs : List BlockRecord) → all_of one bs ≡ record { codes = bs; datas = None }
 unfolding all_of one join nothing
 singles [] = refl
-singles (b ∷ bs) = ap (λ (z : Told). let y : Told = (b ∷ z.0, later_data_blocks None z.1) in y) (singles bs)
+singles (b ∷ bs) = ap (λ (z : NotedBlocks). let y : NotedBlocks = record { codes = b ∷ z.codes; datas = later_data_blocks None z.datas } in y) (singles bs)
 
-abbrev codes_told : List BlockRecord → Told
-codes_told bs = (bs, None)
+abbrev code_blocks_of : List BlockRecord → NotedBlocks
+code_blocks_of bs = record { codes = bs; datas = None }
 
-code_blocks_notes : (n : ℕ) → Notes (List BlockRecord) (code_blocks_layout true n) codes_told
+code_blocks_notes : (n : ℕ) → Notes (List BlockRecord) (code_blocks_layout true n) code_blocks_of
 unfolding code_blocks_layout
-code_blocks_notes n = weaker (list_layout (code_block_layout true) after_block (0, 0) n) (all_of one) codes_told singles (many_notes (code_block_layout true) after_block one code_block_notes (0, 0) n)
+code_blocks_notes n = weaker (list_layout (code_block_layout true) after_block (0, 0) n) (all_of one) code_blocks_of singles (many_notes (code_block_layout true) after_block one code_block_notes (0, 0) n)
 
 data_notes : (before : ℕ × ℕ) → Notes DataBlock (data_block_layout before) (λ d. nothing)
 unfolding data_block_layout data_rows data_number_layout instance_field data_length_layout zero_u16 contents_layout
@@ -264,9 +267,9 @@ data_notes before = seen_notes (λ r. data_of_fields (data_fields r)) (λ d. dat
     chain_none (data_length_layout before.1) _ (field_notes u16 _) (λ n.
     chain_none zero_u16 (λ zero. contents_layout n) (field_notes u16 _) (λ zero. field_notes (bytes_coding n) (λ bs. None))))))
 
-data_blocks_notes : (n : ℕ) → Notes (List DataBlock) (data_blocks_layout n) all_told
+data_blocks_notes : (n : ℕ) → Notes (List DataBlock) (data_blocks_layout n) data_blocks_of
 unfolding data_blocks_layout
-data_blocks_notes n = remembered_notes AllBlocks (plain_data_blocks n) all_told all_are_told (many_none data_block_layout after_data data_notes (0, 0) n)
+data_blocks_notes n = remembered_notes AllBlocks (plain_data_blocks n) data_blocks_of all_are_noted (many_none data_block_layout after_data data_notes (0, 0) n)
 
 name_notes : (before : List ℕ) → Notes NameRecord (name_record before) (λ n. nothing)
 unfolding name_record name_rows name_len name_bytes name_area width_field plain_u16 name_bit
@@ -288,30 +291,30 @@ counts_notes = seen_notes counts_of_row row_of_counts count_rows (λ r. nothing)
     chain_none data_count _ (field_notes u16 _) (λ datas.
     chain_none plain_u16 (λ names. zero_u16) (field_notes u16 no_fault) (λ names. field_notes u16 _))))
 
-abbrev datas_and_names : List DataBlock × List NameRecord → Told
-datas_and_names x = join (all_told x.0) nothing
+abbrev datas_and_names : List DataBlock × List NameRecord → NotedBlocks
+datas_and_names x = join (data_blocks_of x.0) nothing
 
-abbrev blocks_and_names : List BlockRecord × (List DataBlock × List NameRecord) → Told
-blocks_and_names x = join (codes_told x.0) (datas_and_names x.1)
+abbrev blocks_and_names : List BlockRecord × (List DataBlock × List NameRecord) → NotedBlocks
+blocks_and_names x = join (code_blocks_of x.0) (datas_and_names x.1)
 
 body_rows_notes : Notes BodyRow (body_rows true) (λ r. join nothing (blocks_and_names r.1))
 unfolding body_rows
 body_rows_notes =
     chain_notes counts_layout (λ c. chain_layout (code_blocks_layout true c.code_blocks) (λ blocks. chain_layout (data_blocks_layout c.data_blocks) (λ datas. names_layout c.names))) (λ c. nothing) (λ c. blocks_and_names) counts_notes (λ c.
-    chain_notes (code_blocks_layout true c.code_blocks) (λ blocks. chain_layout (data_blocks_layout c.data_blocks) (λ datas. names_layout c.names)) codes_told (λ bs. datas_and_names) (code_blocks_notes c.code_blocks) (λ blocks.
-    chain_notes (data_blocks_layout c.data_blocks) (λ datas. names_layout c.names) all_told (λ ds ns. nothing) (data_blocks_notes c.data_blocks) (λ datas. names_notes c.names)))
+    chain_notes (code_blocks_layout true c.code_blocks) (λ blocks. chain_layout (data_blocks_layout c.data_blocks) (λ datas. names_layout c.names)) code_blocks_of (λ bs. datas_and_names) (code_blocks_notes c.code_blocks) (λ blocks.
+    chain_notes (data_blocks_layout c.data_blocks) (λ datas. names_layout c.names) data_blocks_of (λ ds ns. nothing) (data_blocks_notes c.data_blocks) (λ datas. names_notes c.names)))
 
 -- all blocks of records
-told_of : Records → Told
-told_of r = (r.code_blocks, Some r.data_blocks)
+blocks_of_records : Records → NotedBlocks
+blocks_of_records r = record { codes = r.code_blocks; datas = Some r.data_blocks }
 
-records_told : (x : BodyRow) → join nothing (blocks_and_names x.1) ≡ told_of (records_of_parts (parts_of_body_row x))
-unfolding join nothing all_told told_of
-records_told x = pairs (append-nil x.1.0) refl
+records_joined : (x : BodyRow) → join nothing (blocks_and_names x.1) ≡ blocks_of_records (records_of_parts (parts_of_body_row x))
+unfolding join nothing data_blocks_of blocks_of_records
+records_joined x = same_blocks (append-nil x.1.0) refl
 
-records_notes : Notes Records (records_layout true) told_of
+records_notes : Notes Records (records_layout true) blocks_of_records
 unfolding records_layout
-records_notes = seen_notes (λ r. records_of_parts (parts_of_body_row r)) (λ r. row_of_body_parts (parts_of_records r)) (body_rows true) (λ r. join nothing (blocks_and_names r.1)) told_of records_told body_rows_notes
+records_notes = seen_notes (λ r. records_of_parts (parts_of_body_row r)) (λ r. row_of_body_parts (parts_of_records r)) (body_rows true) (λ r. join nothing (blocks_and_names r.1)) blocks_of_records records_joined body_rows_notes
 
 front_notes : Notes Front front_layout (λ f. nothing)
 unfolding front_layout front_rows magic_field version_field profile_field plain_u32
@@ -320,8 +323,8 @@ front_notes = seen_notes front_of_row row_of_front front_rows (λ r. nothing) (�
     chain_none version_field _ (field_notes u16 _) (λ version.
     chain_none (profile_field version) (λ profile. plain_u32) (field_notes u16 _) (λ profile. field_notes u32 no_fault))))
 
-cond_note : (b : Bool) (at code : ℕ) → told_in (cond b [] (Faulty at code ∷ [])) ≡ nothing
-unfolding told_in nothing
+cond_note : (b : Bool) (at code : ℕ) → blocks_in (cond b [] (Faulty at code ∷ [])) ≡ nothing
+unfolding blocks_in nothing
 cond_note true at code = refl
 cond_note false at code = refl
 
@@ -333,7 +336,7 @@ record FromRecords (p : Program) (notes : List Note) : Type 0 where
   records : Records
   program : program_of_records records ≡ p
   good : are_good records
-  told : told_in notes ≡ told_of records
+  noted : blocks_in notes ≡ blocks_of_records records
 
 body_from : (cur : Cursor) (p : Program) (end : Cursor) → IsBytes cur.rest → ((body_layout true).read cur).found ≡ Some (p, end) → faults_in ((body_layout true).read cur).notes ≡ [] → FromRecords p ((body_layout true).read cur).notes
 unfolding body_layout
@@ -346,7 +349,7 @@ body_from cur p end are e clean =
       records = a.first;
       program = ap (λ (z : Program × Cursor). z.0) made;
       good = t.good;
-      told = a.notes ∙ ap (λ (z : Told). join (told_in ((records_layout true).read cur).notes) z) none_at_all ∙ join-nothing (told_in ((records_layout true).read cur).notes) ∙ records_notes.says cur a.first a.next a.one;
+      noted = a.notes ∙ ap (λ (z : NotedBlocks). join (blocks_in ((records_layout true).read cur).notes) z) none_at_all ∙ join-nothing (blocks_in ((records_layout true).read cur).notes) ∙ records_notes.says cur a.first a.next a.one;
     }
 
 abbrev cut_cursor : ℕ → Cursor → Cursor
@@ -370,11 +373,11 @@ inner_from stamp text total cur p end are e clean =
       records = f.records;
       program = f.program ∙ ap (λ (z : Stamped × Cursor). z.0.1) made;
       good = f.good;
-      told = told-append (cond (eqb (length text) total) [] (Faulty total 10 ∷ [])) (bind_reading inner (end_layout stamp)).notes
-          ∙ ap (λ (z : Told). join z (told_in (bind_reading inner (end_layout stamp)).notes)) (cond_note (eqb (length text) total) total 10)
-          ∙ nothing-join (told_in (bind_reading inner (end_layout stamp)).notes)
-          ∙ a.notes ∙ ap (λ (z : Told). join (told_in inner.notes) z) (cond_note (eqb (length a.next.rest) 0) a.next.at 10) ∙ join-nothing (told_in inner.notes)
-          ∙ f.told;
+      noted = blocks_in-append (cond (eqb (length text) total) [] (Faulty total 10 ∷ [])) (bind_reading inner (end_layout stamp)).notes
+          ∙ ap (λ (z : NotedBlocks). join z (blocks_in (bind_reading inner (end_layout stamp)).notes)) (cond_note (eqb (length text) total) total 10)
+          ∙ nothing-join (blocks_in (bind_reading inner (end_layout stamp)).notes)
+          ∙ a.notes ∙ ap (λ (z : NotedBlocks). join (blocks_in inner.notes) z) (cond_note (eqb (length a.next.rest) 0) a.next.at 10) ∙ join-nothing (blocks_in inner.notes)
+          ∙ f.noted;
     }
 
 cut_from : (stamp : Stamp) (text : List ℕ) (total : ℕ) (cur : Cursor) (p : Stamped) (end : Cursor) (b d : Bool) → IsBytes cur.rest → (cond b (reading_ended 8 3) (cond d (reading_ended 8 4) (cut_inner stamp text total cur))).found ≡ Some (p, end) → faults_in (cond b (reading_ended 8 3) (cond d (reading_ended 8 4) (cut_inner stamp text total cur))).notes ≡ [] → FromRecords p.1 (cond b (reading_ended 8 3) (cond d (reading_ended 8 4) (cut_inner stamp text total cur))).notes
@@ -395,7 +398,7 @@ image_from text p end are e clean =
       records = f.records;
       program = f.program;
       good = f.good;
-      told = a.notes ∙ ap (λ (z : Told). join z (told_in (read_cut_off true stamp (length text) total a.next).notes)) (front_notes.says (at_place 0 text) a.first a.next a.one) ∙ nothing-join (told_in (read_cut_off true stamp (length text) total a.next).notes) ∙ f.told;
+      noted = a.notes ∙ ap (λ (z : NotedBlocks). join z (blocks_in (read_cut_off true stamp (length text) total a.next).notes)) (front_notes.says (at_place 0 text) a.first a.next a.one) ∙ nothing-join (blocks_in (read_cut_off true stamp (length text) total a.next).notes) ∙ f.noted;
     }
 
 -- what reading without fault noted, by the program
@@ -404,13 +407,13 @@ pub record Noted (p : Program) (notes : List Note) : Type 0 where
   pub datas : all_blocks notes ≡ Some p.data_blocks
 
 pub image_noted : (text : List ℕ) (stamp : Stamp) (p : Program) (end : Cursor) → IsBytes text → (read_image text).found ≡ Some ((stamp, p), end) → faults_in (read_image text).notes ≡ [] → Noted p (read_image text).notes
-unfolding told_in told_of
+unfolding blocks_in blocks_of_records
 image_noted text stamp p end are e clean =
     let f = image_from text (stamp, p) end are e clean in
     let back : records_of p ≡ f.records = ap records_of (sym f.program) ∙ records_back true f.records f.good in
     record {
-      codes = ap (λ (z : Told). z.0) f.told ∙ sym (ap (λ (z : Records). z.code_blocks) back);
-      datas = ap (λ (z : Told). z.1) f.told ∙ sym (ap (λ (z : Records). Some z.data_blocks) back);
+      codes = ap (λ (z : NotedBlocks). z.codes) f.noted ∙ sym (ap (λ (z : Records). z.code_blocks) back);
+      datas = ap (λ (z : NotedBlocks). z.datas) f.noted ∙ sym (ap (λ (z : Records). Some z.data_blocks) back);
     }
 
 -- ---- verifying
@@ -422,13 +425,13 @@ elsewhere : (at other : ℕ) (o : Option ℕ) → at_offset at o ≡ [] → at_o
 elsewhere at other None e = refl
 elsewhere at other (Some code) e = absurd cc
 
-op_moved : (around : Environment) (ps : List StatementSpot) (start other : ℕ) (p : PlacedOp) → op_faults around ps start p ≡ [] → op_faults around ps other p ≡ []
+op_moved : (environment : Environment) (ps : List StatementSpot) (start other : ℕ) (p : PlacedOp) → op_faults environment ps start p ≡ [] → op_faults environment ps other p ≡ []
 unfolding op_faults
-op_moved around ps start other p e =
+op_moved environment ps start other p e =
     let at = start + p.at in
     let to = other + p.at in
-    let a = at_offset at (operand_fault around ps p p.op.operand) in
-    let b = at_offset at (call_fault around around.data_lens p) in
+    let a = at_offset at (operand_fault environment ps p p.op.operand) in
+    let b = at_offset at (call_fault environment environment.data_lens p) in
     let c = at_offset at (mark_fault p.op) in
     let d = at_offset at (bracket_fault p.op.code p.brackets) in
     let f = at_offset at (zone_fault p.op.code p.zones) in
@@ -436,13 +439,13 @@ op_moved around ps start other p e =
     let n = nil_parts ((a ++ b) ++ c) d o.0 in
     let m = nil_parts (a ++ b) c n.0 in
     let l = nil_parts a b m.0 in
-    nil_join (nil_join (nil_join (nil_join (elsewhere at to (operand_fault around ps p p.op.operand) l.0) (elsewhere at to (call_fault around around.data_lens p) l.1)) (elsewhere at to (mark_fault p.op) m.1)) (elsewhere at to (bracket_fault p.op.code p.brackets) n.1)) (elsewhere at to (zone_fault p.op.code p.zones) o.1)
+    nil_join (nil_join (nil_join (nil_join (elsewhere at to (operand_fault environment ps p p.op.operand) l.0) (elsewhere at to (call_fault environment environment.data_lens p) l.1)) (elsewhere at to (mark_fault p.op) m.1)) (elsewhere at to (bracket_fault p.op.code p.brackets) n.1)) (elsewhere at to (zone_fault p.op.code p.zones) o.1)
 
-over_moved : (around : Environment) (ps : List StatementSpot) (start other : ℕ) (rest : List PlacedOp) → faults_over around ps start rest ≡ [] → faults_over around ps other rest ≡ []
-over_moved around ps start other [] e = refl
-over_moved around ps start other (p ∷ rest) e =
-    let n = nil_parts (op_faults around ps start p) (faults_over around ps start rest) e in
-    nil_join (op_moved around ps start other p n.0) (over_moved around ps start other rest n.1)
+over_moved : (environment : Environment) (ps : List StatementSpot) (start other : ℕ) (rest : List PlacedOp) → faults_over environment ps start rest ≡ [] → faults_over environment ps other rest ≡ []
+over_moved environment ps start other [] e = refl
+over_moved environment ps start other (p ∷ rest) e =
+    let n = nil_parts (op_faults environment ps start p) (faults_over environment ps start rest) e in
+    nil_join (op_moved environment ps start other p n.0) (over_moved environment ps start other rest n.1)
 
 open_moved : (start other : ℕ) (bs : List OpenBracket) → open_faults start bs ≡ [] → open_faults other bs ≡ []
 open_moved start other [] e = refl
@@ -453,12 +456,12 @@ open_zones_moved start other [] e = refl
 open_zones_moved start other (at ∷ zones) e = absurd cc
 
 -- where a block begins doesn't matter for whether it has a fault
-pub moved : (around : Environment) (start other : ℕ) (ops : List OpData) → block_faults around start ops ≡ [] → block_faults around other ops ≡ []
+pub moved : (environment : Environment) (start other : ℕ) (ops : List OpData) → block_faults environment start ops ≡ [] → block_faults environment other ops ≡ []
 unfolding block_faults
-moved around start other ops e =
-    let m = nil_parts (faults_over around (statement_spots ops) start (code_places ops) ++ open_faults start (open_behind 0 [] ops)) (open_zone_faults start (zones_left 0 [] ops)) e in
-    let n = nil_parts (faults_over around (statement_spots ops) start (code_places ops)) (open_faults start (open_behind 0 [] ops)) m.0 in
-    nil_join (nil_join (over_moved around (statement_spots ops) start other (code_places ops) n.0) (open_moved start other (open_behind 0 [] ops) n.1)) (open_zones_moved start other (zones_left 0 [] ops) m.1)
+moved environment start other ops e =
+    let m = nil_parts (faults_over environment (statement_spots ops) start (code_places ops) ++ open_faults start (open_behind 0 [] ops)) (open_zone_faults start (zones_left 0 [] ops)) e in
+    let n = nil_parts (faults_over environment (statement_spots ops) start (code_places ops)) (open_faults start (open_behind 0 [] ops)) m.0 in
+    nil_join (nil_join (over_moved environment (statement_spots ops) start other (code_places ops) n.0) (open_moved start other (open_behind 0 [] ops) n.1)) (open_zones_moved start other (zones_left 0 [] ops) m.1)
 
 verified : (lens : List (ℕ × ℕ)) (all : List BlockRecord) (bs : List (ℕ × BlockRecord)) → op_faults_of_blocks (Some lens) all bs ≡ [] → AreVerified lens all (blocks_of bs)
 verified lens all [] e = tt

@@ -10,13 +10,14 @@ use Rattle.image_file.specs.declared.refusing.LoadError.TheVariants as error
 use Rattle.image_file.specs.Least.{IsLeastFault}
 use Rattle.image_file.specs.Loaded.{LoadedProgram}
 
--- bytes are without fault and give a program; it has the profile that their version has or names
+-- bytes are without fault, and a loaded program is the one that they hold, with the profile of
+-- their version or the one that they name
 pub record IsImageOf (bytes : List ℕ) (l : LoadedProgram) : Type 0 where
-  -- the version and profile of the image
+  -- the version of the image, and the profile that version 2 names
   pub stamp : Stamp
-  -- the bytes give the program
+  -- reading the bytes finds no fault and gives the loaded program
   pub given : GivesProgram bytes stamp l.program
-  -- the profile is that of the version, or the one that it names
+  -- the loaded program has the profile of version 1 (Small), or the one that version 2 names
   pub profile : l.profile ≡ profile_of stamp
 
 -- what loading a program's image gives: the program again, with the profile of the image; or the
@@ -24,5 +25,6 @@ pub record IsImageOf (bytes : List ℕ) (l : LoadedProgram) : Type 0 where
 -- memory is wanting
 abbrev pub GivesBack : Program → Stamp → Result LoadedProgram LoadError → Type 0
 GivesBack p stamp (Ok l) = (l.program ≡ p) × (l.profile ≡ profile_of stamp)
-GivesBack p stamp (Err (error.Fault f)) = (Verifies p → ⊥) × IsLeastFault f (faults_of (image stamp p))
+GivesBack p stamp (Err (error.Fault f)) =
+    (Verifies p → ⊥) × IsLeastFault f (faults_of (image stamp p))
 GivesBack p stamp (Err error.NoMemory) = Unit {0}

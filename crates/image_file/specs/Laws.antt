@@ -1,4 +1,4 @@
--- The image both ways.
+-- Laws of images: writing a program as an image and reading it give each other.
 use Rattle.std.specs.Prelude.{◌≡◌, ◌<◌, ◌⊎◌, ℕ, List, [], get_or, Some, None}
 use Rattle.flat_code.specs.Layout.{Cursor, faults_in}
 use Rattle.flat_code.specs.Programs.{Program}
@@ -10,7 +10,8 @@ use Rattle.image_file.specs.Least.{with_faults, IsLeastFault}
 use Rattle.flat_code.specs.Image.{image, IsProgram, IsRight, read_image}
 use Rattle.image_file.specs.Verifying.{IsFaultOf}
 
--- every byte string is the image of at most one program, version and profile, whether it verifies or not
+-- every byte string is the image of at most one program, version and profile, whether the program
+-- verifies or not
 abbrev pub ImagesAreOfOne : Type 0
 ImagesAreOfOne =
     (s t : Stamp) (p q : Program) → IsProgram p → IsProgram q
@@ -20,7 +21,8 @@ ImagesAreOfOne =
 abbrev pub ImagesAreRead : Type 0
 ImagesAreRead =
     (s : Stamp) (p : Program) → IsProgram p → IsRight p
-    → (end : Cursor) × ((read_image (image s p)).found ≡ Some ((s, p), end)) × (faults_in (read_image (image s p)).notes ≡ [])
+    → (end : Cursor) × ((read_image (image s p)).found ≡ Some ((s, p), end))
+    × (faults_in (read_image (image s p)).notes ≡ [])
 
 -- bytes that are read with no fault are the image of what was found
 abbrev pub ReadingsAreImages : Type 0
@@ -34,9 +36,10 @@ ReadingsAreImages =
 abbrev pub GivesExactlyImages : Type 0
 GivesExactlyImages =
     (bytes : List ℕ) (s : Stamp) (p : Program) → ((i : ℕ) → get_or bytes i 0 < 256)
-    → (GivesProgram bytes s p → IsLoadable bytes s p) × (IsLoadable bytes s p → GivesProgram bytes s p)
+    → (GivesProgram bytes s p → IsLoadable bytes s p)
+    × (IsLoadable bytes s p → GivesProgram bytes s p)
 
--- the fault that one pass keeps is the least of all
+-- the fault that one pass over faults keeps is the least of them by offset, then code
 abbrev pub KeptIsLeast : Type 0
 KeptIsLeast = (fs : List (ℕ × ℕ)) (f : LoadFault) → with_faults None fs ≡ Some f → IsLeastFault f fs
 
@@ -46,6 +49,6 @@ VerifiesOrHasFault =
     (p : Program) → IsProgram p → (Verifies p ⊎ ((f : VerifyFault) × IsFaultOf p f))
     × (Verifies p → (f : VerifyFault) → IsFaultOf p f → ⊥)
 
--- a program has one fault at most
+-- a program has at most one fault as `verify` answers it: block, offset and code
 abbrev pub FaultsAreOne : Type 0
 FaultsAreOne = (p : Program) (f g : VerifyFault) → IsFaultOf p f → IsFaultOf p g → f ≡ g

@@ -12,18 +12,18 @@ abbrev pub IsFaultAmong : ℕ × ℕ → List (ℕ × ℕ) → Type 0
 IsFaultAmong f [] = ⊥
 IsFaultAmong f (g ∷ gs) = (g ≡ f) ⊎ IsFaultAmong f gs
 
--- a fault of the list, and no other is less
+-- a fault is one of a list, and none of the list is less, by offset, then code
 pub record IsLeastFault (f : LoadFault) (fs : List (ℕ × ℕ)) : Type 0 where
-  -- it is one of them
+  -- the fault is one of the list
   pub one : IsFaultAmong (f.at, f.code) fs
-  -- none of them is less
+  -- no fault of the list is less
   pub least : (g : ℕ × ℕ) → IsFaultAmong g fs → IsUpTo f g
 
--- a fault is less than the least one so far: by its offset, then by its code
+-- whether a fault, an offset and a code, is less than the least one so far: by offset, then code
 abbrev pub is_fault_less : ℕ × ℕ → LoadFault → Bool
 is_fault_less f g = nat_lt f.0 g.at || f.0 == g.at && nat_lt f.1 g.code
 
--- a fault by its offset and its code
+-- the fault of a pair of offset and code
 abbrev pub fault_of_pair : ℕ × ℕ → LoadFault
 fault_of_pair f = record { at = f.0; code = f.1 }
 

@@ -8,22 +8,23 @@ use Rattle.flat_code.specs.Programs.{Program}
 use Rattle.image_file.specs.Readers.{block_ids}
 use Rattle.image_file.specs.Tables.{HaveSlots, FindsBlocks}
 
--- a loaded program stands for the program that its image holds, and the profile with which it is run
+-- what a loaded program stands for: the program that its image holds, and a profile
 pub record LoadedProgram : Type 0 where
   -- the program that the image holds
   pub program : Program
-  -- the profile with which it is run
+  -- the profile, Small or Large, with which a controller runs it
   pub profile : Profile
 
--- what the fields of a loaded program keep: it is one and verifies, and its tables are right
+-- what the fields of a loaded program keep: the program verifies, `ids` lists its blocks, and
+-- `table` finds its code blocks by slot
 pub record IsLoaded (program : Program) (ids : List BlockId) (table : List ℕ) : Type 0 where
-  -- it is a program
+  -- each number of the program fits its field in an image, without fault 4
   pub is_program : IsProgram program
-  -- it verifies
+  -- no field and no op of the program has a fault
   pub verifies : Verifies program
-  -- the list of its blocks is right
+  -- the list has each block by kind and number, in the image's order
   pub blocks : ids ≡ block_ids program
   -- each code block has a slot in the table
   pub slots : HaveSlots program.code_blocks
-  -- the table finds each block
+  -- the table has at each slot where in the list the code block stands
   pub finds : FindsBlocks program.code_blocks table

@@ -8,26 +8,39 @@ use Rattle.flat_code.specs.Blocks.{Environment, CalleeSeen}
 use Rattle.flat_code.specs.Ops.{OpData}
 use Rattle.flat_code.specs.Placed.{PlacedOp}
 use Rattle.image_file.specs.declared.environments.BlockEnvironment.{BlockEnvironment}
-use Rattle.image_file.specs.declared.verifying.Place.{Place}
+use Rattle.image_file.specs.declared.verifying.OpPlace.{OpPlace}
 
--- what the faults of a block depend on besides its ops, by the record of the code
-abbrev pub around_of : BlockEnvironment → Environment
-around_of s = record { kind = s.kind; local_len = s.local_len; params = s.params.now; blocks = s.blocks.now; data_lens = option_map (λ d. d.now) s.data_lens }
+-- what the faults of a block depend on besides its ops, by what the checker has of it
+abbrev pub environment_of : BlockEnvironment → Environment
+environment_of s = record {
+  kind = s.kind;
+  local_len = s.local_len;
+  params = s.params.now;
+  blocks = s.blocks.now;
+  data_lens = option_map (λ d. d.now) s.data_lens;
+}
 
--- what is called, by its kind, its instance bytes and its parameters as the code finds them
+-- a called block as a CALL sees it, by the kind, instance bytes and parameters that a search found
 abbrev pub callee_values : ℕ × ℕ × Bor (List ParameterRecord) → CalleeSeen
 callee_values r = (r.0, r.1, r.2.now)
 
--- all brackets are opened at most at an offset
+-- each of open brackets was opened at the offset `n` of the code or before
 abbrev pub AllUpTo : ℕ → List OpenBracket → Type 0
 AllUpTo n [] = Unit {0}
 AllUpTo n (b ∷ bs) = (b.at ≤ n) × AllUpTo n bs
 
--- all zones are opened at most at an offset
+-- each of open zones of the master control relay was opened at the offset `n` of the code or before
 abbrev pub ZonesUpTo : ℕ → List ℕ → Type 0
 ZonesUpTo n [] = Unit {0}
 ZonesUpTo n (at ∷ zones) = (at ≤ n) × ZonesUpTo n zones
 
--- an op in its place, by what the checker has at the place
-abbrev pub placed_of : OpData → Place → PlacedOp
-placed_of op p = record { at = p.at; brackets = p.brackets.now; zones = p.zones.now; before = p.before.now; op = op; rest = p.rest.now }
+-- an op with its place in the code, by what the checker has at that place
+abbrev pub placed_of : OpData → OpPlace → PlacedOp
+placed_of op p = record {
+  at = p.at;
+  brackets = p.brackets.now;
+  zones = p.zones.now;
+  before = p.before.now;
+  op = op;
+  rest = p.rest.now;
+}

@@ -10,29 +10,32 @@ use Rattle.flat_code.specs.Ops.{OpData}
 use Rattle.flat_code.specs.Placed.{op_placed, line_placed}
 use Rattle.flat_code.specs.Programs.{CodeBlock, DataBlock, Program}
 
--- two blocks of the same kind and number are the same
+-- whether two blocks have the same kind and number
 abbrev pub is_same_id : BlockId → BlockId → Bool
 is_same_id a b = kind_order a.kind == kind_order b.kind && a.number == b.number
 
--- the code block of a kind and number
+-- the first code block of a kind and number; None where the list has none
 abbrev pub block_by_id : BlockId → List CodeBlock → Option CodeBlock
 block_by_id id [] = None
 block_by_id id (b ∷ bs) = if is_same_id b.id id then Some b else block_by_id id bs
 
--- the op of a block at an offset, and the offset after it
+-- the op of a code block that begins at an offset of its code, and the offset behind the op; None
+-- where there is no such block or no op begins there
 abbrev pub op_at_offset : BlockId → ℕ → List CodeBlock → Option (OpData × ℕ)
 op_at_offset id at blocks = option_and_then (λ b. op_placed 0 b.code at) (block_by_id id blocks)
 
--- the source line of the statement of a block at an offset
+-- the source line of the statement of a code block that begins at an offset of its code; None where
+-- there is no such block or no statement begins there
 abbrev pub line_at_offset : BlockId → ℕ → List CodeBlock → Option ℕ
-line_at_offset id at blocks = option_and_then (λ b. line_placed 0 true b.code b.lines at) (block_by_id id blocks)
+line_at_offset id at blocks =
+    option_and_then (λ b. line_placed 0 true b.code b.lines at) (block_by_id id blocks)
 
--- the bytes of the data block of a number
+-- the initial contents of the data block of a number; None where there is none
 abbrev pub data_bytes_of : ℕ → List DataBlock → Option (List ℕ)
 data_bytes_of number [] = None
 data_bytes_of number (d ∷ ds) = if d.number == number then Some d.bytes else data_bytes_of number ds
 
--- the kind DB and the number of a data block
+-- a data block by kind, DB, and number
 abbrev pub data_block_id : DataBlock → BlockId
 data_block_id d = record { kind = kinds.Db; number = d.number }
 
@@ -40,18 +43,17 @@ data_block_id d = record { kind = kinds.Db; number = d.number }
 abbrev pub block_ids : Program → List BlockId
 block_ids p = map (λ b. b.id) p.code_blocks ++ map data_block_id p.data_blocks
 
--- what the head of a code block says: the bytes of its local data and of an instance, how many
--- statements it has, how many bytes its code takes, its parameters
+-- what the head of a code block says, besides its kind and number
 pub record HeadData : Type 0 where
-  -- the bytes of its local data
+  -- how many bytes of local data (area L) the block has
   pub local_len : ℕ
-  -- the bytes of its instance
+  -- how many bytes an instance data block of an FB has at least; 0 for another block
   pub instance_len : ℕ
-  -- how many statements it has
+  -- how many statements the block has
   pub statements : ℕ
-  -- how many bytes its code takes
+  -- how many bytes the code of the block takes
   pub code_len : ℕ
-  -- its parameters
+  -- the parameters in the order of their declaration
   pub params : List Param
 
 -- the head of a code block: a statement for each line, and as many bytes of code as its ops take

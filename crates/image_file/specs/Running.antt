@@ -1,4 +1,4 @@
--- Reading in one pass with the least fault so far.
+-- Reading an image in one pass, which keeps the least fault so far and the blocks that it read.
 use Rattle.std.specs.Prelude.{◌≡◌, ℕ, List, [], ◌∷◌, ◌++◌, map, Option, Some, None, Result, Ok, Err}
 use Rattle.std.specs.Option.{option_map}
 use Rattle.std.specs.Borrow.{Bor}
@@ -26,54 +26,61 @@ use Rattle.image_file.specs.declared.stops.Stop.TheVariants as stop
 use Rattle.image_file.specs.Least.{with_faults}
 use Rattle.image_file.specs.Typing.{program_from}
 
--- the faults of a field that begins at an offset: one, or none
+-- the fault of a field that begins at an offset of the image, as a list of one, or of none
 abbrev pub field_faults : ℕ → Field → List (ℕ × ℕ)
 field_faults at field = faults_in (fault_note at (field_fault field))
 
--- what one pass keeps: the least fault, the code blocks that were read whole, and the data blocks once all were read
+-- what one pass over an image keeps of what it read so far
 pub record Log : Type 0 where
-  -- the least fault so far
+  -- the least fault so far, by offset, then code; None where there was none
   pub least : Option LoadFault
-  -- the code blocks that were read whole, each with the offset of its code
+  -- the code blocks that were read whole, each with the offset in the image of its code
   pub blocks : List (ℕ × BlockRecord)
-  -- the data blocks, once all were read
+  -- the data blocks, once all blocks were read; None before
   pub datas : Option (List DataBlock)
 
--- the code blocks so far, and those that notes say were read whole, in their order
+-- code blocks, and behind them those that notes say were read whole, each with the offset of its
+-- code
 abbrev pub with_wholes : List (ℕ × BlockRecord) → List Note → List (ℕ × BlockRecord)
 with_wholes blocks [] = blocks
 with_wholes blocks (Faulty at code ∷ notes) = with_wholes blocks notes
 with_wholes blocks (Whole start block ∷ notes) = with_wholes (blocks ++ (start, block) ∷ []) notes
 with_wholes blocks (AllBlocks datas ∷ notes) = with_wholes blocks notes
 
--- the data blocks of the last note that all blocks were read; those so far where no note says so
+-- the data blocks of the last note that all blocks were read; `datas` where no note says so
 abbrev pub with_all : Option (List DataBlock) → List Note → Option (List DataBlock)
 with_all datas [] = datas
 with_all datas (Faulty at code ∷ notes) = with_all datas notes
 with_all datas (Whole start block ∷ notes) = with_all datas notes
 with_all datas (AllBlocks found ∷ notes) = with_all (Some found) notes
 
--- what is kept once notes have come: the lesser fault, more code blocks, the data blocks
+-- what one pass keeps behind notes, by what it kept before them: the lesser fault, more code
+-- blocks, the data blocks once all blocks were read
 unfoldable pub log_after : Log → List Note → Log
-log_after log notes = record { least = with_faults log.least (faults_in notes); blocks = with_wholes log.blocks notes; datas = with_all log.datas notes }
+log_after log notes = record {
+  least = with_faults log.least (faults_in notes);
+  blocks = with_wholes log.blocks notes;
+  datas = with_all log.datas notes;
+}
 
--- what one pass has in the end: a value and what follows, or that it ended, with what it kept
+-- what reading a value in one pass comes to
 pub data Ran (A : Type 0) : Type 0 where
-  -- a value, what follows, and what was kept
+  -- the value `x` was read; `cur` is the place behind it, `log` what was kept so far
   Goes : (x : A) (cur : Cursor) (log : Log) → Ran A
-  -- reading ended at a fault, with what was kept
+  -- reading ended at a fault; `log` is what was kept so far
   Stops : (log : Log) → Ran A
 
--- what one pass has, by what was found: nothing found means that reading ended at a fault
+-- what reading comes to, by the value and the place behind it that were found, and what is kept;
+-- None means that reading ended at a fault
 abbrev pub run_result : {A : Type 0} → Option (A × Cursor) → Log → Ran A
 run_result None log = Stops log
 run_result (Some x) log = Goes x.0 x.1 log
 
--- reading by a layout from a place on, behind a log
+-- reading a value by its layout from a place on, where `log` was kept before
 unfoldable pub run_layout : {A : Type 0} → Layout A → Cursor → Log → Ran A
 run_layout l cur log = run_result (l.read cur).found (log_after log (l.read cur).notes)
 
--- one reading behind another; where the first one ended, nothing more is read
+-- a reading, and then `f` with what it read; where it ended at a fault, nothing more is read
 abbrev pub then_run : {A B : Type 0} → Ran A → (A → Cursor → Log → Ran B) → Ran B
 then_run (Goes x cur log) f = f x cur log
 then_run (Stops log) f = Stops log
@@ -82,20 +89,25 @@ then_run (Stops log) f = Stops log
 abbrev pub started_block : Started → ℕ × BlockRecord
 started_block s = (s.start, s.block)
 
--- what the reader has kept so far
+-- what the `Reader` of the code has kept so far: least fault and blocks
 abbrev pub log_of : Reader → Log
-log_of r = record { least = r.least; blocks = map started_block r.blocks.items; datas = option_map (λ v. v.items) r.datas }
+log_of r = record {
+  least = r.least;
+  blocks = map started_block r.blocks.items;
+  datas = option_map (λ v. v.items) r.datas;
+}
 
--- where the reader stands: the offset, and the bytes that are left
+-- where the `Reader` of the code stands in the image: the offset, and the bytes that are left
 abbrev pub reader_cursor : Reader → Cursor
 reader_cursor r = record { at = r.at; rest = r.rest.now }
 
--- what a call of the reader says: a value and where it stands then, or that reading ended
+-- what a call of a method of `Reader` comes to: a value, seen by `view`, with the reader's place
+-- and what it kept, or that reading ended at a fault
 abbrev pub reader_run : {X A : Type 0} → (X → A) → Result X Ended → Reader → Ran A
 reader_run view (Ok x) r = Goes (view x) (reader_cursor r) (log_of r)
 reader_run view (Err e) r = Stops (log_of r)
 
--- the head of a code block, by what the reader answers
+-- the head of a code block, by the fields that `Reader` answers
 abbrev pub head_values : HeadRead → Head
 head_values h = record {
   kind = h.kind;
@@ -108,14 +120,14 @@ head_values h = record {
   code_length = h.code_length;
 }
 
--- what a call of the reader says, as `Ran` has it: a value and where it stands then, or that
--- reading ended at a fault; nothing is said where memory is wanting
+-- a call of a method of `Reader` comes to `all`: a value, seen by `view`, with the reader's place
+-- and what it kept, or that reading ended at a fault; nothing is said where memory is wanting
 abbrev pub Sees : {X A : Type 0} → (X → A) → Result X Stop → Reader → Ran A → Type 0
 Sees view (Ok x) r all = Goes (view x) (reader_cursor r) (log_of r) ≡ all
 Sees view (Err stop.AtFault) r all = Stops (log_of r) ≡ all
 Sees view (Err stop.NoMemory) r all = Unit {0}
 
--- a list that was read, with the values `xs` that were read before in front of it
+-- what reading a list comes to, with the values `xs`, which were read before, in front of it
 abbrev pub with_front : {A : Type 0} → List A → Ran (List A) → Ran (List A)
 with_front xs (Goes ys cur log) = Goes (xs ++ ys) cur log
 with_front xs (Stops log) = Stops log
@@ -123,7 +135,9 @@ with_front xs (Stops log) = Stops log
 -- a code block was read and kept, and its kind and number are answered, or reading ended at a
 -- fault; nothing is said where memory is wanting
 abbrev pub SeesBlock : Result (ℕ × ℕ) Stop → Reader → Ran BlockRecord → Type 0
-SeesBlock (Ok key) r all = (b : BlockRecord) × (Goes b (reader_cursor r) (log_of r) ≡ all) × (key.0 ≡ b.kind) × (key.1 ≡ b.number)
+SeesBlock (Ok key) r all =
+    (b : BlockRecord) × (Goes b (reader_cursor r) (log_of r) ≡ all) × (key.0 ≡ b.kind)
+    × (key.1 ≡ b.number)
 SeesBlock (Err stop.AtFault) r all = Stops (log_of r) ≡ all
 SeesBlock (Err stop.NoMemory) r all = Unit {0}
 
@@ -134,7 +148,7 @@ SeesBlocks (Ok u) r all = (bs : List BlockRecord) × (Goes bs (reader_cursor r) 
 SeesBlocks (Err stop.AtFault) r all = Stops (log_of r) ≡ all
 SeesBlocks (Err stop.NoMemory) r all = Unit {0}
 
--- the record of a name, by what the reader answers: bytes, area, width, byte, bit
+-- the record of a name, by the fields that `Reader` answers: bytes, area, width, byte, bit
 abbrev pub name_values : Bor (List ℕ) × ℕ × ℕ × ℕ × ℕ → NameRecord
 name_values r = record { name = r.0.now; area = r.1; width = r.2; byte = r.3; bit = r.4 }
 
@@ -145,65 +159,94 @@ SeesDatas (Ok u) r all = (ds : List DataBlock) × (Goes ds (reader_cursor r) (lo
 SeesDatas (Err stop.AtFault) r all = Stops (log_of r) ≡ all
 SeesDatas (Err stop.NoMemory) r all = Unit {0}
 
--- the counts of code blocks, data blocks and names, and the reserved field behind them, by what the
--- reader answers
+-- the counts of an image's code blocks, data blocks and names, and the reserved field behind them,
+-- by the fields that `Reader` answers
 abbrev pub counts_values : CountsRead → RecordCounts
-counts_values c = record { code_blocks = c.code_blocks; data_blocks = c.data_blocks; names = c.names; reserved = c.reserved }
+counts_values c = record {
+  code_blocks = c.code_blocks;
+  data_blocks = c.data_blocks;
+  names = c.names;
+  reserved = c.reserved;
+}
 
 -- all records were read, the names are answered and the blocks kept, or reading ended at a fault;
 -- nothing is said where memory is wanting
-abbrev pub SeesRecords : {X : Type 0} → (X → List NameRecord) → Result X Stop → Reader → Ran Records → Type 0
-SeesRecords view (Ok names) r all = (x : Records) × (Goes x (reader_cursor r) (log_of r) ≡ all) × (x.names ≡ view names)
+abbrev pub SeesRecords :
+    {X : Type 0} → (X → List NameRecord) → Result X Stop → Reader → Ran Records → Type 0
+SeesRecords view (Ok names) r all =
+    (x : Records) × (Goes x (reader_cursor r) (log_of r) ≡ all) × (x.names ≡ view names)
 SeesRecords view (Err stop.AtFault) r all = Stops (log_of r) ≡ all
 SeesRecords view (Err stop.NoMemory) r all = Unit {0}
 
--- the front of an image, its header up to the total length, by what the reader answers
+-- the front of an image, its header up to the total length, by the fields that `Reader` answers
 abbrev pub front_values : FrontRead → Front
-front_values f = record { magic = f.magic; version = f.version; profile = f.profile; total_length = f.total_length }
+front_values f = record {
+  magic = f.magic;
+  version = f.version;
+  profile = f.profile;
+  total_length = f.total_length;
+}
 
--- the version and profile of an image, and its names
+-- what `Reader` answers of an image that was read whole: version and profile, and the names
 abbrev pub found_values : FoundRead → Stamp × List NameRecord
 found_values f = (f.stamp, f.names.items)
 
--- what reading as a whole comes to, behind a log
+-- what one pass comes to, by what reading by layouts notes and finds, where `log` was kept before
 unfoldable pub run_of_read : {A : Type 0} → ReadResult A → Log → Ran A
 run_of_read r log = run_result r.found (log_after log r.notes)
 
--- an image was read whole, or reading ended at a fault
+-- reading an image comes to `all`: it was read whole, with the version, profile and names that are
+-- answered, or reading ended at a fault (None)
 abbrev pub SeesFound : Option (Stamp × List NameRecord) → Reader → Ran (Stamp × Program) → Type 0
-SeesFound (Some found) r all = (x : Records) × (end : Cursor) × (Goes (found.0, program_of_records x) end (log_of r) ≡ all) × (x.names ≡ found.1)
+SeesFound (Some found) r all =
+    (x : Records) × (end : Cursor) × (Goes (found.0, program_of_records x) end (log_of r) ≡ all)
+    × (x.names ≡ found.1)
 SeesFound None r all = Stops (log_of r) ≡ all
 
--- an image was read whole, and its version and profile and its names are answered, or reading ended at a
--- fault; nothing is said where memory is wanting
+-- an image was read whole, and its version and profile and its names are answered, or reading ended
+-- at a fault; nothing is said where memory is wanting
 abbrev pub SeesImage : Result FoundRead Stop → Reader → Ran (Stamp × Program) → Type 0
 SeesImage (Ok found) r all = SeesFound (Some (found_values found)) r all
 SeesImage (Err stop.AtFault) r all = SeesFound None r all
 SeesImage (Err stop.NoMemory) r all = Unit {0}
 
--- what was kept is what bytes hold, as far as they could be read
-abbrev pub HasFound : List ℕ → List (ℕ × BlockRecord) → Option (List DataBlock) → Option (Stamp × List NameRecord) → Type 0
+-- what was kept and answered is what reading the bytes `text` as an image finds: its code blocks,
+-- data blocks, version, profile and names; or (None) reading ends at a fault
+abbrev pub HasFound :
+    List ℕ → List (ℕ × BlockRecord) → Option (List DataBlock) → Option (Stamp × List NameRecord)
+    → Type 0
 HasFound text blocks datas None = (read_image text).found ≡ None
-HasFound text blocks datas (Some found) = (x : Records) × (end : Cursor) × ((read_image text).found ≡ Some ((found.0, program_of_records x), end)) × (x.names ≡ found.1) × (blocks ≡ whole_blocks (read_image text).notes) × (datas ≡ all_blocks (read_image text).notes)
+HasFound text blocks datas (Some found) =
+    (x : Records) × (end : Cursor)
+    × ((read_image text).found ≡ Some ((found.0, program_of_records x), end)) × (x.names ≡ found.1)
+    × (blocks ≡ whole_blocks (read_image text).notes) × (datas ≡ all_blocks (read_image text).notes)
 
--- the faults of the ops of the blocks that were read, by what one pass keeps
+-- the faults 6 to 8 of the code blocks that one pass kept
 abbrev pub checked_faults : Log → List (ℕ × ℕ)
-checked_faults log = op_faults_of_blocks (option_map lens_of log.datas) (blocks_of log.blocks) log.blocks
+checked_faults log =
+    op_faults_of_blocks (option_map lens_of log.datas) (blocks_of log.blocks) log.blocks
 
 -- the program of an image that was read whole
 abbrev pub program_read : ImageRead → Program
-program_read image = program_from (map started_block image.blocks.items) image.data_blocks.items image.names.items
+program_read image =
+    program_from (map started_block image.blocks.items) image.data_blocks.items image.names.items
 
--- the least fault, or all that was read where there is none
-abbrev pub HoldsAll : Option LoadFault → List Started → Option (List DataBlock) → Option FoundRead → CheckResult → Type 0
+-- the result of checking is the least fault, or where there is none all that was read
+abbrev pub HoldsAll :
+    Option LoadFault → List Started → Option (List DataBlock) → Option FoundRead → CheckResult
+    → Type 0
 HoldsAll least blocks datas found (outcome.Faulty f) = least ≡ Some f
 HoldsAll least blocks datas found (outcome.Clean image) =
     (least ≡ None) × (image.blocks.items ≡ blocks) × (datas ≡ Some image.data_blocks.items)
     × (option_map found_values found ≡ Some (image.stamp, image.names.items))
 
--- what bytes come to that were read and checked: the least of their faults, or all that they hold
+-- the result of checking is that of the bytes `text`: the least of their faults, or where they have
+-- none all that they hold as an image
 abbrev pub IsCheckResult : List ℕ → CheckResult → Type 0
 IsCheckResult text (outcome.Faulty f) = with_faults None (faults_of text) ≡ Some f
 IsCheckResult text (outcome.Clean image) =
     (with_faults None (faults_of text) ≡ None)
-    × HasFound text (map started_block image.blocks.items) (Some image.data_blocks.items) (Some (image.stamp, image.names.items))
+    × HasFound text
+    (map started_block image.blocks.items)
+    (Some image.data_blocks.items)
+    (Some (image.stamp, image.names.items))

@@ -10,6 +10,10 @@ abbrev pub AreFew : List BlockRecord → Type 0
 AreFew [] = Unit {0}
 AreFew (b ∷ bs) = (length b.params ≤ 60) × AreFew bs
 
--- the program of what was read
+-- the program of the code blocks, data blocks and names that one pass over an image kept
 abbrev pub program_from : List (ℕ × BlockRecord) → List DataBlock → List NameRecord → Program
-program_from blocks datas names = record { code_blocks = map block_of_record (blocks_of blocks); data_blocks = datas; names = map entry_of_name names }
+program_from blocks datas names = record {
+  code_blocks = map block_of_record (blocks_of blocks);
+  data_blocks = datas;
+  names = map entry_of_name names;
+}

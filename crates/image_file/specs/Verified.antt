@@ -1,4 +1,5 @@
--- WHAT A PROGRAM THAT VERIFIES GIVES: laws of each op of each of its blocks, in its place in the code.
+-- WHAT A PROGRAM THAT VERIFIES GIVES: laws of each op of each of its blocks, in its place in the
+-- code.
 use Rattle.std.specs.Prelude.{◌≡◌, ◌⊎◌, ℕ, ◌+◌, ◌<◌, ◌≤◌, true, false, not, List, [], ◌∷◌, length, map, slice_get, ◌==◌, if◌then◌else◌, Option, Some, None}
 use Rattle.plc_base.specs.declared.blocks.BlockId.{BlockId}
 use Rattle.plc_base.specs.declared.blocks.BlockKind.TheVariants as kinds
@@ -36,40 +37,45 @@ abbrev pub placed_at : ℕ → List PlacedOp → Option PlacedOp
 placed_at at [] = None
 placed_at at (q ∷ qs) = if q.at == at then Some q else placed_at at qs
 
--- an op, in its place, of a block of a program that verifies
+-- `q` is an op, in its place, of the code block `b` of a program that verifies
 pub record IsVerifiedOp (p : Program) (b : CodeBlock) (q : PlacedOp) : Type 0 where
   -- the program verifies
   pub verifies : Verifies p
-  -- the block, by kind and number
+  -- the kind and number of the block
   pub id : BlockId
-  -- it is a block of the program
+  -- the block is the one of that kind and number in the program
   pub block : block_by_id id p.code_blocks ≡ Some b
-  -- the op stands there in its code
+  -- the op stands at its offset in the code of the block
   pub place : placed_at q.at (code_places b.code) ≡ Some q
 
 -- ---- places
 
--- the readers' op is the one in its place
+-- the op that the readers give at an offset, with the offset behind it, is the one that stands
+-- there
 pub record IsReaderOp (ops : List OpData) (at : ℕ) (op : OpData) (next : ℕ) : Type 0 where
   -- the op in its place
   pub here : PlacedOp
-  -- it is one of the code's
+  -- the code has an op at the offset
   pub place : placed_at at (code_places ops) ≡ Some here
-  -- it begins at the offset
+  -- the op in its place begins at the offset
   pub offset : here.at ≡ at
-  -- it is the op that was read
+  -- the op in its place is the one that was read
   pub op_is : here.op ≡ op
-  -- the next one begins behind it
+  -- the offset that was answered is the one behind the op
   pub next_is : next ≡ at + size_of_op op
 
 -- of any ops the one that the readers give at an offset is the one in its place
 abbrev pub OpsArePlaced : Type 0
-OpsArePlaced = (ops : List OpData) (at : ℕ) (op : OpData) (next : ℕ) → op_placed 0 ops at ≡ Some (op, next) → IsReaderOp ops at op next
+OpsArePlaced =
+    (ops : List OpData) (at : ℕ) (op : OpData) (next : ℕ) → op_placed 0 ops at ≡ Some (op, next)
+    → IsReaderOp ops at op next
 
 -- `ops` stand behind an op of a block: the first of them is the next op in its place; where there
 -- are none the op is BE, ends its statement, and no bracket and no zone stands open there
 abbrev pub HasNext : CodeBlock → PlacedOp → List OpData → Type 0
-HasNext b q [] = (q.op.code ≡ op_code_of (operation.End ends.Be)) × (q.op.last ≡ true) × (q.brackets ≡ []) × (q.zones ≡ [])
+HasNext b q [] =
+    (q.op.code ≡ op_code_of (operation.End ends.Be)) × (q.op.last ≡ true) × (q.brackets ≡ [])
+    × (q.zones ≡ [])
 HasNext b q (op ∷ ops) = placed_at (q.at + size_of_op q.op) (code_places b.code) ≡ Some (record {
   at = q.at + size_of_op q.op;
   brackets = brackets_after q.at q.op.code q.brackets;
@@ -83,29 +89,32 @@ HasNext b q (op ∷ ops) = placed_at (q.at + size_of_op q.op) (code_places b.cod
 abbrev pub CodeGoesOn : Type 0
 CodeGoesOn = (p : Program) (b : CodeBlock) (q : PlacedOp) → IsVerifiedOp p b q → HasNext b q q.rest
 
--- a statement has at most 64 ops; only USEDB and PASS stand before its last one
+-- the statement of an op has at most 64 ops, of which all but the last are USEDB or PASS
 pub record StatementIsRight (q : PlacedOp) : Type 0 where
-  -- at most 64 ops with the last one
+  -- fewer than 64 ops of the statement stand before the op
   pub few : length q.before < 64
-  -- only USEDB and PASS don't end it
+  -- the op ends its statement exactly where it is neither USEDB nor PASS
   pub ended : q.op.last ≡ not (prepares_statement q.op.code)
 
 -- in a program that verifies a statement has at most 64 ops, all but the last USEDB or PASS
 abbrev pub StatementsAreRight : Type 0
-StatementsAreRight = (p : Program) (b : CodeBlock) (q : PlacedOp) → IsVerifiedOp p b q → StatementIsRight q
+StatementsAreRight =
+    (p : Program) (b : CodeBlock) (q : PlacedOp) → IsVerifiedOp p b q → StatementIsRight q
 
--- each statement has a line
+-- the statement that begins at an offset of a block has a source line
 pub record HasLine (b : CodeBlock) (at : ℕ) : Type 0 where
   -- the source line
   pub line : ℕ
-  -- it is the line of the statement at the offset
+  -- the block has this line for the statement at the offset
   pub is : line_placed 0 true b.code b.lines at ≡ Some line
 
 -- in a program that verifies each statement has a source line, found where its first op begins
 abbrev pub StatementsHaveLines : Type 0
-StatementsHaveLines = (p : Program) (b : CodeBlock) (q : PlacedOp) → IsVerifiedOp p b q → begins_its_statement q ≡ true → HasLine b q.at
+StatementsHaveLines =
+    (p : Program) (b : CodeBlock) (q : PlacedOp) → IsVerifiedOp p b q
+    → begins_its_statement q ≡ true → HasLine b q.at
 
--- in a program that verifies each op is one of the table
+-- in a program that verifies each op has an op code of the table and an operand that it takes
 abbrev pub OpsAreOfTable : Type 0
 OpsAreOfTable =
     (p : Program) (b : CodeBlock) (q : PlacedOp) → IsVerifiedOp p b q
@@ -113,28 +122,29 @@ OpsAreOfTable =
 
 -- ---- blocks
 
--- a block begins with a statement, before which no bracket and no zone stands open
+-- a block begins with a statement, before which no bracket and no zone of the master control relay
+-- stands open
 pub record BlockBegins (b : CodeBlock) : Type 0 where
   -- the first op, in its place
   pub first : PlacedOp
-  -- it is one of the code's
+  -- the code has the op at offset 0
   pub place : placed_at 0 (code_places b.code) ≡ Some first
-  -- it begins at offset 0
+  -- the op begins at offset 0
   pub offset : first.at ≡ 0
-  -- a statement begins with it
+  -- the op is the first of its statement
   pub statement : begins_its_statement first ≡ true
-  -- no bracket stands open
+  -- no bracket stands open before the op
   pub closed : first.brackets ≡ []
-  -- no zone stands open
+  -- no zone of the master control relay stands open before the op
   pub no_zones : first.zones ≡ []
 
 -- a block has at most 1,024 local bytes; an organization block has no parameters, and at least 20
 pub record BlockIsRight (b : CodeBlock) : Type 0 where
-  -- it begins with a statement
+  -- the block begins with a statement
   pub begins : BlockBegins b
-  -- at most 1,024 local bytes
+  -- the block has at most 1,024 local bytes
   pub room : b.local_len ≤ 1024
-  -- an organization block has its start information, and no parameter
+  -- an organization block has no parameter, and 20 local bytes or more for its start information
   pub organization : b.id.kind ≡ kinds.Ob → (b.params ≡ []) × (20 ≤ b.local_len)
 
 -- in a program that verifies each code block begins with a statement and has local bytes and
@@ -150,46 +160,52 @@ BlocksAreRight =
 pub record Lands (b : CodeBlock) (q : PlacedOp) (target : ℕ) : Type 0 where
   -- the op at the target, in its place
   pub there : PlacedOp
-  -- it is one of the code's
+  -- the code has an op at the target
   pub place : placed_at target (code_places b.code) ≡ Some there
-  -- it begins at the target
+  -- the op in its place begins at the target
   pub offset : there.at ≡ target
-  -- a statement begins with it
+  -- the op at the target is the first of its statement
   pub statement : begins_its_statement there ≡ true
-  -- the same brackets stand open
+  -- the same brackets stand open at the target as at the jump
   pub same : bracket_codes q.brackets ≡ bracket_codes there.brackets
-  -- as many zones stand open
+  -- as many zones of the master control relay stand open at the target as at the jump
   pub same_zones : length q.zones ≡ length there.zones
 
 -- in a program that verifies each jump, JL and LOOP too, has as its target a statement of its
 -- block, where the same brackets and as many zones stand open
 abbrev pub JumpsLand : Type 0
-JumpsLand = (p : Program) (b : CodeBlock) (q : PlacedOp) (kind target : ℕ) → IsVerifiedOp p b q → q.op.operand ≡ operand.Jump kind target → Lands b q target
+JumpsLand =
+    (p : Program) (b : CodeBlock) (q : PlacedOp) (kind target : ℕ) → IsVerifiedOp p b q
+    → q.op.operand ≡ operand.Jump kind target → Lands b q target
 
 -- in a program that verifies at most 255 JU and nothing else stand between a JL and its target
 abbrev pub ListsLead : Type 0
-ListsLead = (p : Program) (b : CodeBlock) (q : PlacedOp) (target : ℕ) → IsVerifiedOp p b q → q.op.operand ≡ operand.Jump (jump_number jump.Jl) target → leads_to_target 255 target (q.at + size_of_op q.op) q.rest ≡ true
+ListsLead =
+    (p : Program) (b : CodeBlock) (q : PlacedOp) (target : ℕ) → IsVerifiedOp p b q
+    → q.op.operand ≡ operand.Jump (jump_number jump.Jl) target
+    → leads_to_target 255 target (q.at + size_of_op q.op) q.rest ≡ true
 
 -- at most seven brackets stand open, one of A( to XN( finds room, `)` finds an open one
 pub record BracketsAreRight (q : PlacedOp) : Type 0 where
-  -- at most seven stand open
+  -- at most seven brackets stand open before the op
   pub few : length q.brackets ≤ most_brackets
-  -- one that opens finds room
+  -- where the op is one of A( to XN(, fewer than seven brackets stand open before it
   pub room : is_opening q.op.code ≡ true → length q.brackets < most_brackets
-  -- `)` finds an open one
+  -- where the op is `)`, a bracket stands open before it
   pub there : q.op.code ≡ op_code_of operation.Unnest → 0 < length q.brackets
 
 -- in a program that verifies no bracket is an eighth open one, and no `)` lacks an open one
 abbrev pub BracketsFit : Type 0
 BracketsFit = (p : Program) (b : CodeBlock) (q : PlacedOp) → IsVerifiedOp p b q → BracketsAreRight q
 
--- at most eight zones stand open, `MCR(` finds room, `)MCR` finds an open one
+-- at most eight zones of the master control relay stand open, `MCR(` finds room, `)MCR` finds an
+-- open zone
 pub record ZonesAreRight (q : PlacedOp) : Type 0 where
-  -- at most eight stand open
+  -- at most eight zones stand open before the op
   pub few : length q.zones ≤ most_zones
-  -- `MCR(` finds room
+  -- where the op is `MCR(`, fewer than eight zones stand open before it
   pub room : q.op.code ≡ op_code_of (operation.Relay relay.Open) → length q.zones < most_zones
-  -- `)MCR` finds an open one
+  -- where the op is `)MCR`, a zone stands open before it
   pub there : q.op.code ≡ op_code_of (operation.Relay relay.Close) → 0 < length q.zones
 
 -- in a program that verifies no zone is a ninth open one, and no `)MCR` lacks an open one
@@ -198,16 +214,17 @@ ZonesFit = (p : Program) (b : CodeBlock) (q : PlacedOp) → IsVerifiedOp p b q �
 
 -- ---- operands
 
--- a place of a width lies within the block's local bytes, if it is one in L
+-- a place of a width that begins at a byte of an area lies within the local bytes of the block,
+-- where the area is L
 abbrev pub LiesWithin : CodeBlock → Area → Width → ℕ → Type 0
 LiesWithin b area.L w byte = byte + byte_count w ≤ b.local_len
 LiesWithin b _ w byte = Unit {0}
 
--- a parameter of the function, of a width
+-- a block is a function and has at an index a parameter of a width
 pub record HasParam (b : CodeBlock) (index : ℕ) (w : Width) (param : Param) : Type 0 where
-  -- the block is a function
+  -- the block is a function (FC)
   pub kind : b.id.kind ≡ kinds.Fc
-  -- it has the parameter
+  -- the parameter stands at the index
   pub there : slice_get b.params index ≡ Some param
   -- the parameter has the width
   pub width : param.width ≡ w
@@ -216,15 +233,22 @@ pub record HasParam (b : CodeBlock) (index : ℕ) (w : Width) (param : Param) : 
 -- only where a bit is meant; local places lie within the local bytes; a parameter of the function
 -- is there, and an input of it isn't written
 abbrev pub FitsOperand : CodeBlock → OpData → Operand → Type 0
-FitsOperand b op (operand.Direct a w byte bit) = (has_memory_width (takes_of op.code) w ≡ true) × (is_odd_bit w bit ≡ false) × LiesWithin b a w byte
+FitsOperand b op (operand.Direct a w byte bit) =
+    (has_memory_width (takes_of op.code) w ≡ true) × (is_odd_bit w bit ≡ false)
+    × LiesWithin b a w byte
 FitsOperand b op (operand.ByMemory a w from byte) = has_memory_width (takes_of op.code) w ≡ true
-FitsOperand b op (operand.ByRegister a w register bits) = has_memory_width (takes_of op.code) w ≡ true
-FitsOperand b op (operand.Parameter index w) = (has_memory_width (takes_of op.code) w ≡ true) × (param : Param) × HasParam b index w param × (writes_operand op.code ≡ true → param.section ≡ section_in → ⊥)
+FitsOperand b op (operand.ByRegister a w register bits) =
+    has_memory_width (takes_of op.code) w ≡ true
+FitsOperand b op (operand.Parameter index w) =
+    (has_memory_width (takes_of op.code) w ≡ true) × (param : Param) × HasParam b index w param
+    × (writes_operand op.code ≡ true → param.section ≡ section_in → ⊥)
 FitsOperand b op _ = Unit {0}
 
 -- in a program that verifies each operand fits its instruction and its block
 abbrev pub OperandsFit : Type 0
-OperandsFit = (p : Program) (b : CodeBlock) (q : PlacedOp) → IsVerifiedOp p b q → FitsOperand b q.op q.op.operand
+OperandsFit =
+    (p : Program) (b : CodeBlock) (q : PlacedOp) → IsVerifiedOp p b q
+    → FitsOperand b q.op q.op.operand
 
 -- ---- USEDB and PASS
 
@@ -237,16 +261,21 @@ FitsPassed b (passed.Direct a w byte bit) = (is_odd_bit w bit ≡ false) × Lies
 FitsPassed b (passed.Parameter index w) = (param : Param) × HasParam b index w param
 FitsPassed b (passed.InBlock number a w byte bit) = (a ≡ area.Db) × (is_odd_bit w bit ≡ false)
 
--- USEDB stands first, in a statement whose last op has a place in DB; PASS stands in a statement that ends
--- by CALL, with an index above that of the PASS before it
+-- USEDB stands first, in a statement whose last op has a place in DB; PASS stands in a statement
+-- that ends by CALL, with an index above that of the PASS before it
 abbrev pub FitsPrepared : CodeBlock → PlacedOp → Operand → Type 0
-FitsPrepared b q (operand.UseDb number) = (begins_its_statement q ≡ true) × (is_in_db (last_op q).operand ≡ true)
-FitsPrepared b q (operand.Pass index actual) = ((last_op q).code ≡ op_code_of (operation.Call calls.Call)) × (is_above index (pass_before None q.before) ≡ true) × FitsPassed b actual
+FitsPrepared b q (operand.UseDb number) =
+    (begins_its_statement q ≡ true) × (is_in_db (last_op q).operand ≡ true)
+FitsPrepared b q (operand.Pass index actual) =
+    ((last_op q).code ≡ op_code_of (operation.Call calls.Call))
+    × (is_above index (pass_before None q.before) ≡ true) × FitsPassed b actual
 FitsPrepared b q _ = Unit {0}
 
 -- in a program that verifies USEDB stands first before a place in DB, and PASS before a CALL
 abbrev pub PreparedFit : Type 0
-PreparedFit = (p : Program) (b : CodeBlock) (q : PlacedOp) → IsVerifiedOp p b q → FitsPrepared b q q.op.operand
+PreparedFit =
+    (p : Program) (b : CodeBlock) (q : PlacedOp) → IsVerifiedOp p b q
+    → FitsPrepared b q q.op.operand
 
 -- ---- calls
 
@@ -254,45 +283,74 @@ PreparedFit = (p : Program) (b : CodeBlock) (q : PlacedOp) → IsVerifiedOp p b 
 abbrev pub block_signatures : Program → List BlockSignature
 block_signatures p = map signature_of (map record_of_block p.code_blocks)
 
--- what is called is there; a function or system function is passed each parameter; an instance is given
--- to a function block alone, is there and long enough, and is left out only where there are no parameters
+-- what is called is there; a function or system function is passed each parameter; an instance is
+-- given to a function block alone, is there and long enough, and is left out only where there are
+-- no parameters
 pub record FitsCall (p : Program) (q : PlacedOp) (kind number instance : ℕ) : Type 0 where
-  -- what is called
+  -- the called block or system function, as the CALL sees it
   pub called : CalleeSeen
-  -- it is a block of the program, or a system function
+  -- a block of the program, or a system function, has the kind and number of the call
   pub there : callee_among (block_signatures p) kind number ≡ Some called
-  -- all but a function block is passed each parameter
+  -- each parameter is passed, but where a function block is called
   pub all : (called.0 ≡ kind_number kinds.Fb → ⊥) → are_all_passed 0 called.2 q.before ≡ true
-  -- the instance is one of the callee, or none is needed
+  -- the instance data block is one of the called function block, or none is needed
   pub instance_fits : is_bad_instance (lens_of p.data_blocks) called instance ≡ false
 
 -- in a program that verifies each CALL, UC and CC has its block, what it passes, and its instance
 abbrev pub CallsFit : Type 0
-CallsFit = (p : Program) (b : CodeBlock) (q : PlacedOp) (kind number instance : ℕ) → IsVerifiedOp p b q → q.op.operand ≡ operand.Called kind number instance → FitsCall p q kind number instance
+CallsFit =
+    (p : Program) (b : CodeBlock) (q : PlacedOp) (kind number instance : ℕ) → IsVerifiedOp p b q
+    → q.op.operand ≡ operand.Called kind number instance → FitsCall p q kind number instance
 
--- what is passed fits a parameter of what the statement calls
-pub record FitsParameter (p : Program) (b : CodeBlock) (called : CalleeSeen) (index : ℕ) (actual : Passed) : Type 0 where
-  -- the parameter to which it is passed
+-- an actual parameter, which a PASS of the block `b` passes for an index, fits that parameter of
+-- the called block
+pub record FitsParameter
+    (p : Program)
+    (b : CodeBlock)
+    (called : CalleeSeen)
+    (index : ℕ)
+    (actual : Passed) : Type 0 where
+  -- the parameter to which the actual parameter is passed
   pub parameter : ParameterRecord
-  -- the callee has it
+  -- the called block has the parameter at the index
   pub there : slice_get called.2 index ≡ Some parameter
-  -- what is passed fits it
-  pub fits : misfits_parameter (environment_of_block (Some (lens_of p.data_blocks)) (map record_of_block p.code_blocks) (record_of_block b)) parameter actual ≡ false
+  -- the actual parameter fits the parameter
+  pub fits :
+      misfits_parameter
+      (environment_of_block
+      (Some (lens_of p.data_blocks))
+      (map record_of_block p.code_blocks)
+      (record_of_block b))
+      parameter
+      actual
+      ≡ false
 
 -- in a program that verifies each PASS passes what fits that parameter of the called block
 abbrev pub PassedFit : Type 0
-PassedFit = (p : Program) (b : CodeBlock) (q : PlacedOp) (index : ℕ) (actual : Passed) (kind number instance : ℕ) (called : CalleeSeen) → IsVerifiedOp p b q → q.op.operand ≡ operand.Pass index actual → (last_op q).operand ≡ operand.Called kind number instance → callee_among (block_signatures p) kind number ≡ Some called → FitsParameter p b called index actual
+PassedFit =
+    (p : Program) (b : CodeBlock) (q : PlacedOp) (index : ℕ) (actual : Passed)
+    (kind number instance : ℕ) (called : CalleeSeen)
+    → IsVerifiedOp p b q → q.op.operand ≡ operand.Pass index actual
+    → (last_op q).operand ≡ operand.Called kind number instance
+    → callee_among (block_signatures p) kind number ≡ Some called
+    → FitsParameter p b called index actual
 
 -- a function or function block that is called is a block of the program
 pub record IsCalledBlock (p : Program) (kind number : ℕ) (called : CalleeSeen) : Type 0 where
-  -- the block
+  -- the code block that is called
   pub block : CodeBlock
-  -- it is a block of the program
-  pub there : block_by_id (record { kind = kind_of_number kind; number = number }) p.code_blocks ≡ Some block
-  -- its head is what the call sees
+  -- the program has the called block, by the kind and number of the call
+  pub there :
+      block_by_id (record { kind = kind_of_number kind; number = number }) p.code_blocks
+      ≡ Some block
+  -- the call sees the kind, instance bytes and parameters of the block
   pub same : called ≡ (kind, block.instance_len, map record_of_param block.params)
 
 -- what a call of a function or function block finds is a block of the program, with the head that
 -- the call sees, whether the program verifies or not
 abbrev pub CalledAreThere : Type 0
-CalledAreThere = (p : Program) (kind number : ℕ) (called : CalleeSeen) → (kind ≡ kind_number kinds.Fc) ⊎ (kind ≡ kind_number kinds.Fb) → callee_among (block_signatures p) kind number ≡ Some called → IsCalledBlock p kind number called
+CalledAreThere =
+    (p : Program) (kind number : ℕ) (called : CalleeSeen)
+    → (kind ≡ kind_number kinds.Fc) ⊎ (kind ≡ kind_number kinds.Fb)
+    → callee_among (block_signatures p) kind number ≡ Some called
+    → IsCalledBlock p kind number called

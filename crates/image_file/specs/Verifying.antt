@@ -29,21 +29,21 @@ count_faults b =
 -- the faults of a block by the offset of its fault 5: that alone, or where there is none (None) 9,
 -- and those of the ops
 abbrev pub faults_unless : Option ℕ → Environment → BlockRecord → List (ℕ × ℕ)
-faults_unless (Some at) around b = (at, 5) ∷ []
-faults_unless None around b =
-    count_faults b ++ line_faults 0 b.lines ++ block_faults around 0 b.code
+faults_unless (Some at) environment b = (at, 5) ∷ []
+faults_unless None environment b =
+    count_faults b ++ line_faults 0 b.lines ++ block_faults environment 0 b.code
 
 -- the faults of a block: its fault 5 alone, or where its code has none all others
 abbrev pub faults_of_block : Environment → BlockRecord → List (ℕ × ℕ)
-faults_of_block around b = faults_unless (code_fault b.code) around b
+faults_of_block environment b = faults_unless (code_fault b.code) environment b
 
--- whether no code has a fault 5: only then are calls checked
+-- whether no code block has a fault 5 in its code: only then are calls checked
 abbrev pub are_whole : List BlockRecord → Bool
 are_whole [] = true
 are_whole (b ∷ bs) = is_nowhere (code_fault b.code) && are_whole bs
 
--- the numbers and lengths in bytes of data blocks, where calls are checked (true); None where they
--- aren't
+-- the numbers and lengths in bytes of data blocks where calls are checked (true); None where calls
+-- aren't checked
 abbrev pub lens_where : Bool → List DataBlock → Option (List (ℕ × ℕ))
 lens_where true datas = Some (lens_of datas)
 lens_where false datas = None
@@ -59,23 +59,26 @@ abbrev pub faults_among :
 faults_among lens all b =
     faults_of_block (environment_of_block lens all (record_of_block b)) (record_of_block b)
 
--- a fault is the least of those of the block `id`; where this has none, `Later` holds
+-- the fault `f` is of the block `id` and the least of the faults of that block; where the block has
+-- none, `Later` holds
 abbrev pub DecidesFor : BlockId → VerifyFault → List (ℕ × ℕ) → Type 0 → Type 0
 DecidesFor id f [] Later = Later
 DecidesFor id f (g ∷ gs) Later =
     (f.block ≡ id) × IsLeastFault (record { at = f.at; code = f.code }) (g ∷ gs)
 
--- a fault is that of the first of these blocks that has one; where none has one, no fault is
+-- the fault `f` is the least one of the first of code blocks that has a fault; where none has one,
+-- no fault is
 abbrev pub IsFirstOf :
     Option (List (ℕ × ℕ)) → List BlockRecord → List CodeBlock → VerifyFault → Type 0
 IsFirstOf lens all [] f = ⊥
-IsFirstOf lens all (b ∷ bs) f = DecidesFor b.id f (faults_among lens all b) (IsFirstOf lens all bs f)
+IsFirstOf lens all (b ∷ bs) f =
+    DecidesFor b.id f (faults_among lens all b) (IsFirstOf lens all bs f)
 
--- the fault of a program: that of the first block that has one
+-- a fault is the one that `verify` answers of a program: the least of the first block that has one
 unfoldable pub IsFaultOf : Program → VerifyFault → Type 0
 IsFaultOf p f = IsFirstOf (lens_checked p) (map record_of_block p.code_blocks) p.code_blocks f
 
--- no block of a program has a fault
+-- none of code blocks has a fault, where their calls find the blocks of `all`
 abbrev pub AreClean : Option (List (ℕ × ℕ)) → List BlockRecord → List CodeBlock → Type 0
 AreClean lens all [] = Unit {0}
 AreClean lens all (b ∷ bs) = (faults_among lens all b ≡ []) × AreClean lens all bs
@@ -84,7 +87,8 @@ AreClean lens all (b ∷ bs) = (faults_among lens all b ≡ []) × AreClean lens
 abbrev pub IsClean : Program → Type 0
 IsClean p = AreClean (lens_checked p) (map record_of_block p.code_blocks) p.code_blocks
 
--- why a program is refused; nothing is said where memory is wanting
+-- the error with which `verify` refuses a program is its fault; nothing is said where memory is
+-- wanting
 abbrev pub IsUnverified : VerifyError → Program → Type 0
 IsUnverified (error.Fault f) p = IsFaultOf p f
 IsUnverified error.NoMemory p = Unit {0}

@@ -2,7 +2,7 @@
 ghost use Rattle.std.specs.Prelude.{◌≡◌, None};
 ghost use Rattle.flat_code.specs.Placed.{is_empty_list, PlacedOp, last_op};
 ghost use Rattle.flat_code.specs.Blocks.{CalleeSeen, is_short_instance, is_bad_instance, is_bad_call, are_all_passed, misfits_index, misfits_callee, misfits_call, callee_among};
-ghost use Rattle.image_file.specs.OpChecking.{around_of};
+ghost use Rattle.image_file.specs.OpChecking.{environment_of};
 
 use crate::environments::{BlockEnvironment, DataLens, callee};
 use crate::numbers::FUNCTION_BLOCK;
@@ -54,7 +54,7 @@ fn are_passed(params: &[ParameterRecord], before: &[Op]) -> bool
 /// Whether a block is called that is absent or has other parameters, or with an instance that
 /// doesn't fit.
 pub(crate) fn is_bad_call(
-    around: &BlockEnvironment,
+    environment: &BlockEnvironment,
     lens: &DataLens,
     kind: u8,
     number: u16,
@@ -62,9 +62,9 @@ pub(crate) fn is_bad_call(
     before: &[Op],
 ) -> bool
     ensures { result ≡ is_bad_call lens.now (callee_among
-        (around_of around.now).blocks kind number) instance before.now }
+        (environment_of environment.now).blocks kind number) instance before.now }
 {
-    match callee(around.blocks, kind, number) {
+    match callee(environment.blocks, kind, number) {
         None => true,
         Some((kind, instance_len, params)) => {
             kind != FUNCTION_BLOCK && !are_passed(params, before)
@@ -74,27 +74,33 @@ pub(crate) fn is_bad_call(
 }
 
 fn misfits_index(
-    around: &BlockEnvironment,
+    environment: &BlockEnvironment,
     parameter: Option<ParameterRecord>,
     actual: Passed,
 ) -> bool
-    ensures { result ≡ misfits_index (around_of around.now) parameter actual }
+    ensures { result ≡ misfits_index (environment_of environment.now) parameter actual }
 {
     match parameter {
         None => true,
-        Some(parameter) => misfits_parameter(around, parameter, actual),
+        Some(parameter) => misfits_parameter(environment, parameter, actual),
     }
 }
 
-/// Whether what is passed doesn't fit the parameter of the block that the statement's last op calls.
-pub(crate) fn misfits_call(around: &BlockEnvironment, last: &Op, index: u8, actual: Passed) -> bool
-    ensures { result ≡ misfits_call (around_of around.now) last.now.operand index actual }
+/// Whether what is passed doesn't fit the parameter of the block that the statement's last op
+/// calls.
+pub(crate) fn misfits_call(
+    environment: &BlockEnvironment,
+    last: &Op,
+    index: u8,
+    actual: Passed,
+) -> bool
+    ensures { result ≡ misfits_call (environment_of environment.now) last.now.operand index actual }
 {
     match last.operand {
-        Operand::Called { kind, number, .. } => match callee(around.blocks, kind, number) {
+        Operand::Called { kind, number, .. } => match callee(environment.blocks, kind, number) {
             None => false,
             Some((_, _, params)) => {
-                misfits_index(around, params.get(usize::from(index)).copied(), actual)
+                misfits_index(environment, params.get(usize::from(index)).copied(), actual)
             }
         },
         _ => false,

@@ -4,7 +4,7 @@ ghost use Rattle.std.specs.Option.{option_map};
 ghost use Rattle.flat_code.specs.Codes.{size_of_op, code_bytes};
 ghost use Rattle.flat_code.specs.Placed.{PlacedOp, is_empty_list, brackets_after, zones_behind_op, before_next, codes_of_few_brackets, spot_at, statement_spots, open_behind, code_places};
 ghost use Rattle.flat_code.specs.Blocks.{seven_if, are_same_codes, target_fault, jump_fault, operand_fault, call_fault, mark_fault, bracket_fault, zone_fault, at_offset, op_faults, faults_over, open_faults, block_faults};
-ghost use Rattle.image_file.specs.OpChecking.{AllUpTo, around_of};
+ghost use Rattle.image_file.specs.OpChecking.{AllUpTo, environment_of};
 ghost use Rattle.image_file.specs.Least.{with_faults};
 
 use crate::faults::LoadFault;
@@ -19,13 +19,13 @@ use std::marker::Model;
 /// A statement of a block: the offset at which it begins, the op codes of the brackets that stand
 /// open there, if they are at most seven, and the number of the open zones.
 #[derive(Drop)]
-pub(crate) struct Statement {
+pub(crate) struct StatementStart {
     pub at: u32,
     pub codes: Option<ArrayVec<u8, 7>>,
     pub zones: usize,
 }
 
-impl Model for Statement {
+impl Model for StatementStart {
     ghost use Rattle.std.specs.Option.{option_map};
     ghost use Rattle.flat_code.specs.Placed.{StatementSpot};
 
@@ -41,18 +41,18 @@ impl Model for Statement {
 /// What stands open at a place of a block's code, the outermost first: brackets, and zones of the
 /// master control relay by the offsets of their `MCR(`.
 #[derive(Drop)]
-pub(crate) struct Nesting {
+pub(crate) struct OpenInCode {
     pub brackets: Vec<OpenBracket>,
     pub zones: Vec<u32>,
 }
 
-impl Nesting {
+impl OpenInCode {
     /// Nothing stands open.
     pub(crate) fn new(alloc: Global) -> Self
         ensures brackets { result.brackets.items ≡ [] }
         ensures zones { result.zones.items ≡ [] }
     {
-        Nesting {
+        OpenInCode {
             brackets: Vec::new(alloc),
             zones: Vec::new(alloc),
         }

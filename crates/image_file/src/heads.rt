@@ -5,7 +5,7 @@ use std::marker::Model;
 /// What the head of a code block says: how many bytes its local data and an instance have, how many
 /// statements it has, how many bytes its code takes, and its parameters.
 #[derive(Drop)]
-pub struct Head {
+pub struct CodeBlockHead {
     pub local_len: u16,
     pub instance_len: u16,
     pub statements: u16,
@@ -13,7 +13,7 @@ pub struct Head {
     pub params: ArrayVec<Param, 60>,
 }
 
-impl Model for Head {
+impl Model for CodeBlockHead {
     ghost use Rattle.image_file.specs.Readers.{HeadData};
 
     ghost Value = { HeadData };

@@ -2,8 +2,8 @@
 ghost use Rattle.image_file.specs.Laws.{ImagesAreOfOne, ImagesAreRead, ReadingsAreImages, GivesExactlyImages, KeptIsLeast, VerifiesOrHasFault, FaultsAreOne};
 ghost use Rattle.image_file.specs.Verified.{OpsAreOfTable, BlocksAreRight, OpsArePlaced, CodeGoesOn, StatementsAreRight, StatementsHaveLines, JumpsLand, ListsLead, BracketsFit, ZonesFit, OperandsFit, PreparedFit, CallsFit, PassedFit, CalledAreThere};
 
-/// Every program has one image of each version and profile, and every byte string is the image of at
-/// most one program, version and profile.
+/// Every program has one image of each version and profile, and every byte string is the image of
+/// at most one program, version and profile.
 pub fn one_program()
     ensures one { ImagesAreOfOne }
     ensures read { ImagesAreRead }
@@ -36,8 +36,8 @@ pub fn ops_are_of_the_table()
     ensures { OpsAreOfTable }
 {}
 
-/// Of a program that verifies each block begins with a statement and no open bracket or zone, and has at
-/// most 1,024 local bytes; an organization block has no parameters, and at least 20.
+/// Of a program that verifies each block begins with a statement and no open bracket or zone, and
+/// has at most 1,024 local bytes; an organization block has no parameters, and at least 20.
 pub fn blocks_are_right()
     ensures { BlocksAreRight }
 {}
@@ -63,14 +63,14 @@ pub fn brackets_fit()
     ensures { BracketsFit }
 {}
 
-/// Of a program that verifies at most eight zones stand open, `MCR(` finds room, and `)MCR` finds an
-/// open one.
+/// Of a program that verifies at most eight zones stand open, `MCR(` finds room, and `)MCR` finds
+/// an open one.
 pub fn zones_fit()
     ensures { ZonesFit }
 {}
 
-/// Of a program that verifies a jump leads to a statement of its block, where the same brackets and as
-/// many zones stand open; behind a JL stand at most 255 JU up to its target.
+/// Of a program that verifies a jump leads to a statement of its block, where the same brackets and
+/// as many zones stand open; behind a JL stand at most 255 JU up to its target.
 pub fn jumps_land()
     ensures targets { JumpsLand }
     ensures lists { ListsLead }

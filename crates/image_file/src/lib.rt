@@ -33,7 +33,7 @@ mod whole;
 mod writing;
 
 pub use faults::{LoadFault, VerifyFault};
-pub use heads::Head;
+pub use heads::CodeBlockHead;
 pub use loaded::Loaded;
 pub use loaded_code::LoadedCode;
 pub use loading::{load, load_written, load_written2};

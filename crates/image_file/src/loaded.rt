@@ -5,7 +5,7 @@ ghost use Rattle.image_file.specs.Tables.{AreSmall, FindsBlocks, HaveSlots};
 
 use crate::block_table::{block_table, id_of, place_in};
 use crate::copies::program_again;
-use crate::heads::Head;
+use crate::heads::CodeBlockHead;
 use crate::loaded_blocks::LoadedBlock;
 use crate::loaded_code::LoadedCode;
 use flat_code::{CodeBlock, DataBlock, Names, Op, Program};
@@ -14,8 +14,9 @@ use std::alloc::Global;
 use std::marker::Model;
 
 /// A program that verifies, and the sizes of the controller that runs it: no field and no op of the
-/// program has a fault, so no jump leaves the code, and no operand, bracket, zone, parameter or called
-/// block is missing. The code of its blocks is kept as bytes. Blocks and ops are read without a search.
+/// program has a fault, so no jump leaves the code, and no operand, bracket, zone, parameter or
+/// called block is missing. The code of its blocks is kept as bytes. Blocks and ops are read
+/// without a search.
 #[derive(Drop)]
 pub struct Loaded {
     blocks: Vec<LoadedBlock>,
@@ -191,8 +192,8 @@ impl Loaded {
         Some(LoadedCode::new(block))
     }
 
-    /// The bytes of a block's code, as an image has them. `None` exactly where it isn't a loaded code
-    /// block.
+    /// The bytes of a block's code, as an image has them. `None` exactly where it isn't a loaded
+    /// code block.
     pub fn code(&self, block: BlockId) -> Option<&[u8]>
         ensures { option_map (λ s. s.now) result
             ≡ option_map (λ b. code_bytes b.code) (block_by_id block self.now.program.code_blocks) }
@@ -202,7 +203,7 @@ impl Loaded {
     }
 
     /// The head of a block. `None` exactly where it isn't a loaded code block.
-    pub fn head(&self, block: BlockId) -> Option<Head>
+    pub fn head(&self, block: BlockId) -> Option<CodeBlockHead>
         ensures { result ≡ option_map code_block_head (block_by_id block self.now.program.code_blocks) }
     {
         Some(self.block(block)?.head())
@@ -216,8 +217,8 @@ impl Loaded {
         self.block(block)?.op(at)
     }
 
-    /// The source line of the statement of a block that begins at an offset in bytes. `None` exactly
-    /// where no statement of the block begins there.
+    /// The source line of the statement of a block that begins at an offset in bytes. `None`
+    /// exactly where no statement of the block begins there.
     pub fn line(&self, block: BlockId, at: u32) -> Option<u32>
         ensures { result ≡ line_at_offset block at self.now.program.code_blocks }
     {

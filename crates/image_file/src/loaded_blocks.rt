@@ -10,8 +10,8 @@ use plc_base::{BlockId, NoMemory};
 use std::alloc::Global;
 use std::marker::Model;
 
-/// A code block as a loaded program has it: the bytes of its code, with a mark for each of them, and
-/// the source lines of its statements.
+/// A code block as a loaded program has it: the bytes of its code, with a mark for each of them,
+/// and the source lines of its statements.
 #[derive(Drop)]
 pub(crate) struct LoadedBlock {
     pub(crate) id: BlockId,

@@ -1,7 +1,7 @@
 ghost use Rattle.std.specs.Prelude.{◌≡◌, slice_get};
 
 use crate::copies::params_again;
-use crate::heads::Head;
+use crate::heads::CodeBlockHead;
 use crate::loaded_blocks::LoadedBlock;
 use crate::tables::NOWHERE;
 use flat_code::{Op, Param, decode_op_unchecked, decode_part_unchecked};
@@ -60,11 +60,11 @@ impl<'a> LoadedCode<'a> {
     }
 
     /// What the block's head says.
-    pub fn head(&self) -> Head
+    pub fn head(&self) -> CodeBlockHead
         ensures { result ≡ code_block_head self.now }
     {
         let block = self.block;
-        Head {
+        CodeBlockHead {
             local_len: block.local_len,
             instance_len: block.instance_len,
             statements: self.lines.len() as u16,
@@ -73,8 +73,8 @@ impl<'a> LoadedCode<'a> {
         }
     }
 
-    /// The op that begins at an offset in bytes, and the offset after it. `None` exactly where no op
-    /// begins there.
+    /// The op that begins at an offset in bytes, and the offset after it. `None` exactly where no
+    /// op begins there.
     #[inline(always)]
     pub fn op(&self, at: u32) -> Option<(Op, u32)>
         ensures { result ≡ op_placed 0 self.now.code at }

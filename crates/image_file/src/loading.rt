@@ -7,7 +7,7 @@ ghost use Rattle.flat_code.specs.Loading.{lens_of, blocks_of, op_faults_of_block
 ghost use Rattle.flat_code.specs.Stamps.{profile_of};
 ghost use Rattle.flat_code.specs.declared.stamps.Stamp.TheVariants as stamps;
 ghost use Rattle.image_file.specs.Images.{GivesBack, IsImageOf};
-ghost use Rattle.image_file.specs.OpChecking.{around_of};
+ghost use Rattle.image_file.specs.OpChecking.{environment_of};
 ghost use Rattle.image_file.specs.Least.{with_faults};
 ghost use Rattle.image_file.specs.Refusing.{IsLoadError};
 ghost use Rattle.image_file.specs.Running.{started_block, found_values, checked_faults, run_of_read, log_of, program_read, HoldsAll, IsCheckResult, SeesFound};
@@ -130,14 +130,20 @@ fn check_started(
     }) started.now.start started.now.block.code)) }
 {
     let block = &started.block;
-    let around = BlockEnvironment {
+    let environment = BlockEnvironment {
         kind: block.kind,
         local_len: block.local_len,
         params: block.params.as_slice(),
         blocks: signatures,
         data_lens: ref_of(lens),
     };
-    check_block(alloc, &around, started.start, block.code.as_slice(), least)
+    check_block(
+        alloc,
+        &environment,
+        started.start,
+        block.code.as_slice(),
+        least,
+    )
 }
 
 /// The records of an image that was read whole, with its version and profile.
@@ -239,8 +245,8 @@ fn loaded(alloc: Global, image: ImageRead) -> Result<Loaded, NoMemory>
     Loaded::new(alloc, program, profile)
 }
 
-/// Reads bytes as the image of a program that verifies, of version 1 or 2. An image of version 1 has
-/// the profile Small.
+/// Reads bytes as the image of a program that verifies, of version 1 or 2. An image of version 1
+/// has the profile Small.
 ///
 /// # Errors
 ///

@@ -7,7 +7,7 @@ ghost use Rattle.flat_code.specs.declared.operations.CallOperation.TheVariants a
 ghost use Rattle.flat_code.specs.declared.operations.Operation.TheVariants as operation;
 ghost use Rattle.flat_code.specs.Placed.{is_empty_list, ending_op};
 ghost use Rattle.flat_code.specs.Blocks.{is_odd_bit, is_past_locals, is_bad_place, lacks_width, writes_operand, parameter_meant, lacks_own_parameter, is_in_parameter, is_in_db, pass_index, pass_before, is_above, is_bad_actual, literal_fits, misfits_parameter, is_index, is_passed, is_ju_operand, leads_to_target};
-ghost use Rattle.image_file.specs.OpChecking.{around_of};
+ghost use Rattle.image_file.specs.OpChecking.{environment_of};
 
 use crate::environments::BlockEnvironment;
 use crate::numbers::{CALL, EDGE_NEGATIVE, FUNCTION, JUMP, TRANSFER};
@@ -25,25 +25,25 @@ fn is_odd_bit(width: Width, bit: u8) -> bool
 }
 
 /// Whether a place is a local byte past those of the block.
-fn is_past_locals(around: &BlockEnvironment, area: Area, width: Width, byte: u16) -> bool
-    ensures { result ≡ is_past_locals (around_of around.now) area width byte }
+fn is_past_locals(environment: &BlockEnvironment, area: Area, width: Width, byte: u16) -> bool
+    ensures { result ≡ is_past_locals (environment_of environment.now) area width byte }
 {
     match area {
-        Area::L => usize::from(around.local_len) < usize::from(byte) + width.byte_count(),
+        Area::L => usize::from(environment.local_len) < usize::from(byte) + width.byte_count(),
         _ => false,
     }
 }
 
 pub(crate) fn is_bad_place(
-    around: &BlockEnvironment,
+    environment: &BlockEnvironment,
     area: Area,
     width: Width,
     byte: u16,
     bit: u8,
 ) -> bool
-    ensures { result ≡ is_bad_place (around_of around.now) area width byte bit }
+    ensures { result ≡ is_bad_place (environment_of environment.now) area width byte bit }
 {
-    is_odd_bit(width, bit) || is_past_locals(around, area, width, byte)
+    is_odd_bit(width, bit) || is_past_locals(environment, area, width, byte)
 }
 
 /// Whether the instruction lacks a width.
@@ -62,11 +62,11 @@ pub(crate) fn writes(code: u8) -> bool
 }
 
 /// The parameter of the function that runs.
-pub(crate) fn own_parameter(around: &BlockEnvironment, index: u8) -> Option<ParameterRecord>
-    ensures { result ≡ parameter_meant (around_of around.now) index }
+pub(crate) fn own_parameter(environment: &BlockEnvironment, index: u8) -> Option<ParameterRecord>
+    ensures { result ≡ parameter_meant (environment_of environment.now) index }
 {
-    if around.kind == FUNCTION {
-        around.params.get(usize::from(index)).copied()
+    if environment.kind == FUNCTION {
+        environment.params.get(usize::from(index)).copied()
     } else {
         None
     }
@@ -170,8 +170,8 @@ pub(crate) fn is_stray_pass(before: &[Op], last: &Op, index: u8) -> bool
     last.code != CALL || !is_above(index, pass_before(before))
 }
 
-pub(crate) fn is_bad_actual(around: &BlockEnvironment, actual: Passed) -> bool
-    ensures { result ≡ is_bad_actual (around_of around.now) actual }
+pub(crate) fn is_bad_actual(environment: &BlockEnvironment, actual: Passed) -> bool
+    ensures { result ≡ is_bad_actual (environment_of environment.now) actual }
 {
     match actual {
         Passed::Literal { .. } => false,
@@ -180,8 +180,8 @@ pub(crate) fn is_bad_actual(around: &BlockEnvironment, actual: Passed) -> bool
             width,
             byte,
             bit,
-        } => is_bad_place(around, area, width, byte, bit),
-        Passed::Parameter { index, width } => lacks_own(own_parameter(around, index), width),
+        } => is_bad_place(environment, area, width, byte, bit),
+        Passed::Parameter { index, width } => lacks_own(own_parameter(environment, index), width),
         Passed::InBlock {
             area: Area::Db,
             width,
@@ -205,11 +205,11 @@ fn literal_fits(width: u8, value: u32) -> bool
 
 /// Whether what is passed doesn't fit its parameter.
 pub(crate) fn misfits_parameter(
-    around: &BlockEnvironment,
+    environment: &BlockEnvironment,
     parameter: ParameterRecord,
     actual: Passed,
 ) -> bool
-    ensures { result ≡ misfits_parameter (around_of around.now) parameter actual }
+    ensures { result ≡ misfits_parameter (environment_of environment.now) parameter actual }
 {
     match actual {
         Passed::Literal { value } => {
@@ -218,7 +218,7 @@ pub(crate) fn misfits_parameter(
         Passed::Direct { width, .. } => parameter.width != width.number(),
         Passed::Parameter { index, width } => {
             parameter.width != width.number()
-                || parameter.section != SECTION_IN && is_input(own_parameter(around, index))
+                || parameter.section != SECTION_IN && is_input(own_parameter(environment, index))
         }
         Passed::InBlock { width, .. } => parameter.width != width.number(),
     }

@@ -6,7 +6,7 @@ ghost use Rattle.flat_code.specs.Blocks.{signature_of};
 ghost use Rattle.flat_code.specs.Codes.{code_bytes, code_fault, ends_by_be, last_place, overlong_statement};
 ghost use Rattle.flat_code.specs.Image.{record_of_block, record_of_param};
 ghost use Rattle.flat_code.specs.Loading.{environment_of_block, Verifies};
-ghost use Rattle.image_file.specs.OpChecking.{around_of};
+ghost use Rattle.image_file.specs.OpChecking.{environment_of};
 ghost use Rattle.image_file.specs.Least.{with_faults};
 ghost use Rattle.image_file.specs.Verifying.{are_whole, count_faults, faults_of_block, lens_checked, lens_where, line_faults, AreClean, IsFaultOf, IsFirstOf, IsUnverified};
 ghost use Rattle.image_file.specs.Writing.{BlockFitsFields};
@@ -161,12 +161,12 @@ fn check_count(block: &CodeBlock) -> Option<LoadFault>
 #[tactic(auto, using(crate::proofs::ProgramFaultLemmas::coded, crate::proofs::ProgramFaultLemmas::uncoded))]
 fn check_code_block(
     alloc: Global,
-    around: &BlockEnvironment,
+    environment: &BlockEnvironment,
     block: &CodeBlock,
 ) -> Result<Option<LoadFault>, NoMemory>
     requires { BlockFitsFields block.now }
-    ensures { IfOk result (λ l. l
-        ≡ with_faults None (faults_of_block (around_of around.now) (record_of_block block.now))) }
+    ensures { IfOk result (λ l. l ≡ with_faults None
+        (faults_of_block (environment_of environment.now) (record_of_block block.now))) }
 {
     let code = block.code.as_slice();
     if let Some(at) = code_fault(code) {
@@ -174,7 +174,7 @@ fn check_code_block(
     }
     let least = check_count(block);
     let least = check_lines(block.lines.as_slice(), least);
-    check_block(alloc, around, 0, code, least)
+    check_block(alloc, environment, 0, code, least)
 }
 
 /// The fault of a block among others, if it has one.
@@ -194,14 +194,14 @@ fn block_fault(
     }) (record_of_block block.now))) }
 {
     let params = records_of_params(alloc, block.params.as_slice())?;
-    let around = BlockEnvironment {
+    let environment = BlockEnvironment {
         kind: block.id.kind.number(),
         local_len: block.local_len,
         params: params.as_slice(),
         blocks: signatures,
         data_lens: lens,
     };
-    check_code_block(alloc, &around, block)
+    check_code_block(alloc, &environment, block)
 }
 
 /// A fault of a block as one of its program.
@@ -274,8 +274,8 @@ fn program_fault(alloc: Global, program: &Program) -> Result<Option<VerifyFault>
 /// # Errors
 ///
 /// `Fault` exactly where it doesn't, with the least fault by offset, then code, of its first block
-/// that has one: 5 a statement of more than 64 ops, or code that doesn't end with BE; 6 jump targets,
-/// 7 operands and calls, 8 brackets and zones, 9 statement count and lines. `NoMemory`.
+/// that has one: 5 a statement of more than 64 ops, or code that doesn't end with BE; 6 jump
+/// targets, 7 operands and calls, 8 brackets and zones, 9 statement count and lines. `NoMemory`.
 pub fn verify(alloc: Global, program: Program) -> Result<Loaded, VerifyError>
     ensures gives { IfOk result (λ l. l.program ≡ program) }
     ensures small { IfOk result (λ l. l.profile ≡ profiles.Small) }

@@ -4,7 +4,8 @@ use std::alloc::AllocError;
 /// Why bytes aren't loaded.
 #[derive(Clone, Copy, Debug, PartialEq, Eq)]
 pub enum LoadError {
-    /// They aren't the image of a program that verifies; the fault is the least by offset, then code.
+    /// They aren't the image of a program that verifies; the fault is the least by offset, then
+    /// code.
     Fault { fault: LoadFault },
     /// Memory was wanting.
     NoMemory,

@@ -4,7 +4,7 @@ ghost use Rattle.std.specs.Option.{option_map};
 ghost use Rattle.flat_code.specs.Codes.{code_bytes};
 ghost use Rattle.flat_code.specs.Placed.{codes_of_few_brackets, statement_spots, spot_at};
 
-use crate::checking::{Nesting, Statement, few, is_last};
+use crate::checking::{OpenInCode, StatementStart, few, is_last};
 use crate::tables::{place_at, table_of};
 use flat_code::Op;
 use plc_base::NoMemory;
@@ -14,7 +14,7 @@ use std::marker::Model;
 /// The statements of a block, in the order of their offsets.
 #[derive(Drop)]
 pub(crate) struct Statements {
-    list: Vec<Statement>,
+    list: Vec<StatementStart>,
     table: Vec<u32>,
 }
 
@@ -31,13 +31,13 @@ impl Model for Statements {
 }
 
 /// The statements of ops, and the offset after the last op.
-fn statement_list(alloc: Global, ops: &[Op]) -> Result<(Vec<Statement>, u32), NoMemory>
+fn statement_list(alloc: Global, ops: &[Op]) -> Result<(Vec<StatementStart>, u32), NoMemory>
     requires { length (code_bytes ops.now) < 2 ^ 32 }
     ensures statements { IfOk result (λ r. r.0.items ≡ statement_spots ops.now) }
     ensures end { IfOk result (λ r. r.1 ≡ length (code_bytes ops.now)) }
 {
     let mut statements = Vec::new(alloc);
-    let mut nesting = Nesting::new(alloc);
+    let mut nesting = OpenInCode::new(alloc);
     let mut at = 0;
     let mut begin = true;
     for op in ops {
@@ -51,10 +51,10 @@ fn statement_list(alloc: Global, ops: &[Op]) -> Result<(Vec<Statement>, u32), No
 
 /// Adds a statement where one begins.
 fn add_statement(
-    statements: &mut Vec<Statement>,
+    statements: &mut Vec<StatementStart>,
     begin: bool,
     at: u32,
-    nesting: &Nesting,
+    nesting: &OpenInCode,
 ) -> Result<(), NoMemory>
     ensures { OnOk result (statements.new.items ≡ (if begin then statements.old.items ++ record {
       at = at;
@@ -68,17 +68,17 @@ fn add_statement(
     }
     let codes = few(nesting.brackets.as_slice());
     let zones = nesting.zones.len();
-    statements.push(Statement { at, codes, zones })?;
+    statements.push(StatementStart { at, codes, zones })?;
     Ok(())
 }
 
-fn offset_of(statement: &Statement) -> u32
+fn offset_of(statement: &StatementStart) -> u32
     ensures { result ≡ statement.now.at }
 {
     statement.at
 }
 
-fn offsets_of(alloc: Global, statements: &[Statement]) -> Result<Vec<u32>, NoMemory>
+fn offsets_of(alloc: Global, statements: &[StatementStart]) -> Result<Vec<u32>, NoMemory>
     ensures { IfOk result (λ v. v.items ≡ map (λ s. s.at) statements.now) }
 {
     let mut offsets = Vec::new(alloc);
@@ -89,7 +89,7 @@ fn offsets_of(alloc: Global, statements: &[Statement]) -> Result<Vec<u32>, NoMem
 }
 
 /// The statement at a place of a list.
-fn statement_at(statements: &[Statement], place: usize) -> Option<&Statement>
+fn statement_at(statements: &[StatementStart], place: usize) -> Option<&StatementStart>
     ensures { option_map (λ s. s.now) result ≡ slice_get statements.now place }
 {
     statements.get(place)
@@ -108,7 +108,7 @@ impl Statements {
     }
 
     /// The statement that begins at an offset.
-    pub(crate) fn at(&self, at: u32) -> Option<&Statement>
+    pub(crate) fn at(&self, at: u32) -> Option<&StatementStart>
         ensures { option_map (λ s. s.now) result ≡ spot_at self.now at }
     {
         let place = place_at(self.table.as_slice(), at)?;

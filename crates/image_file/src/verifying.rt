@@ -4,13 +4,13 @@ ghost use Rattle.std.specs.Option.{option_map};
 ghost use Rattle.flat_code.specs.Codes.{size_of_op, code_bytes};
 ghost use Rattle.flat_code.specs.Placed.{codes_of_few_brackets, statement_spots, spot_at};
 ghost use Rattle.flat_code.specs.Blocks.{are_other_brackets, call_fault_among, nesting_fault, target_fault, jump_fault, operand_fault, call_fault, op_faults, open_faults, open_zone_faults, block_faults};
-ghost use Rattle.image_file.specs.OpChecking.{AllUpTo, ZonesUpTo, around_of, placed_of};
+ghost use Rattle.image_file.specs.OpChecking.{AllUpTo, ZonesUpTo, environment_of, placed_of};
 ghost use Rattle.image_file.specs.Least.{with_faults};
 
 use crate::calls::{is_bad_call, misfits_call};
 use crate::checking::{
-    Nesting, Statement, bracket_fault, few, lesser_if, mark_fault, prepare, same_codes, seven_if,
-    zone_fault,
+    OpenInCode, StatementStart, bracket_fault, few, lesser_if, mark_fault, prepare, same_codes,
+    seven_if, zone_fault,
 };
 use crate::environments::{BlockEnvironment, DataLens};
 use crate::faults::LoadFault;
@@ -37,7 +37,7 @@ fn ops_from(ops: &[Op], at: usize) -> &[Op]
 /// An op in its place: its offset, what stands open before it, the ops of its statement before it,
 /// and those behind it.
 #[derive(Clone, Copy)]
-pub(crate) struct Place<'a> {
+pub(crate) struct OpPlace<'a> {
     pub at: u32,
     pub brackets: &'a [OpenBracket],
     pub zones: &'a [u32],
@@ -60,13 +60,13 @@ fn are_other(here: &Option<ArrayVec<u8, 7>>, there: &Option<ArrayVec<u8, 7>>) ->
 }
 
 /// Whether other brackets stand open at a statement.
-fn codes_differ(here: &Option<ArrayVec<u8, 7>>, there: &Statement) -> bool
+fn codes_differ(here: &Option<ArrayVec<u8, 7>>, there: &StatementStart) -> bool
     ensures { result ≡ are_other_brackets (option_map (λ v. v.items) here.now) there.now.codes }
 {
     are_other(here, &there.codes)
 }
 
-fn differing(here: &Option<ArrayVec<u8, 7>>, zones: usize, there: &Statement) -> Option<u16>
+fn differing(here: &Option<ArrayVec<u8, 7>>, zones: usize, there: &StatementStart) -> Option<u16>
     ensures { result ≡ nesting_fault (option_map (λ v. v.items) here.now) zones there.now }
 {
     if codes_differ(here, there) || zones != there.zones {
@@ -92,7 +92,13 @@ fn target_fault(
 }
 
 /// The fault of a jump.
-fn jump_fault(statements: &Statements, op: &Op, place: &Place, kind: u8, target: u32) -> Option<u16>
+fn jump_fault(
+    statements: &Statements,
+    op: &Op,
+    place: &OpPlace,
+    kind: u8,
+    target: u32,
+) -> Option<u16>
     requires { place.now.at + size_of_op op.now + length (code_bytes place.now.rest.now) < 2 ^ 32 }
     ensures { result ≡ jump_fault statements.now (placed_of op.now place.now) kind target }
 {
@@ -105,13 +111,13 @@ fn jump_fault(statements: &Statements, op: &Op, place: &Place, kind: u8, target:
 
 /// The fault of an op's operand by itself.
 fn operand_fault(
-    around: &BlockEnvironment,
+    environment: &BlockEnvironment,
     statements: &Statements,
     op: &Op,
-    place: &Place,
+    place: &OpPlace,
 ) -> Option<u16>
     requires { place.now.at + size_of_op op.now + length (code_bytes place.now.rest.now) < 2 ^ 32 }
-    ensures { result ≡ operand_fault (around_of around.now) statements.now
+    ensures { result ≡ operand_fault (environment_of environment.now) statements.now
         (placed_of op.now place.now) op.now.operand }
 {
     match op.operand {
@@ -120,12 +126,14 @@ fn operand_fault(
             width,
             byte,
             bit,
-        } => { seven_if(lacks_width(op, width) || is_bad_place(around, area, width, byte, bit)) }
+        } => {
+            seven_if(lacks_width(op, width) || is_bad_place(environment, area, width, byte, bit))
+        }
         Operand::ByMemory { width, .. } | Operand::ByRegister { width, .. } => {
             seven_if(lacks_width(op, width))
         }
         Operand::Parameter { index, width } => {
-            let own = own_parameter(around, index);
+            let own = own_parameter(environment, index);
             let written = writes(op.code) && is_input(own);
             seven_if(lacks_width(op, width) || lacks_own(own, width) || written)
         }
@@ -135,19 +143,21 @@ fn operand_fault(
         }
         Operand::Pass { index, actual } => {
             let last = ending(op, place.rest);
-            seven_if(is_stray_pass(place.before, &last, index) || is_bad_actual(around, actual))
+            seven_if(
+                is_stray_pass(place.before, &last, index) || is_bad_actual(environment, actual),
+            )
         }
         _ => None,
     }
 }
 
 fn call_fault_among(
-    around: &BlockEnvironment,
+    environment: &BlockEnvironment,
     lens: &DataLens,
     op: &Op,
-    place: &Place,
+    place: &OpPlace,
 ) -> Option<u16>
-    ensures { result ≡ call_fault_among (around_of around.now) lens.now
+    ensures { result ≡ call_fault_among (environment_of environment.now) lens.now
         (placed_of op.now place.now) op.now.operand }
 {
     match op.operand {
@@ -155,44 +165,44 @@ fn call_fault_among(
             kind,
             number,
             instance,
-        } => { seven_if(is_bad_call(around, lens, kind, number, instance, place.before)) }
+        } => { seven_if(is_bad_call(environment, lens, kind, number, instance, place.before)) }
         Operand::Pass { index, actual } => {
             let last = ending(op, place.rest);
-            seven_if(last.code == CALL && misfits_call(around, &last, index, actual))
+            seven_if(last.code == CALL && misfits_call(environment, &last, index, actual))
         }
         _ => None,
     }
 }
 
 /// The fault of a call, where calls are checked.
-fn call_fault(around: &BlockEnvironment, op: &Op, place: &Place) -> Option<u16>
-    ensures { result ≡ call_fault (around_of around.now) (around_of around.now).data_lens
-        (placed_of op.now place.now) }
+fn call_fault(environment: &BlockEnvironment, op: &Op, place: &OpPlace) -> Option<u16>
+    ensures { result ≡ call_fault (environment_of environment.now)
+        (environment_of environment.now).data_lens (placed_of op.now place.now) }
 {
-    match around.data_lens {
+    match environment.data_lens {
         None => None,
-        Some(lens) => call_fault_among(around, lens, op, place),
+        Some(lens) => call_fault_among(environment, lens, op, place),
     }
 }
 
 /// The lesser of the fault so far and those of an op.
 #[tactic(auto, unfolding(flat_code::specs::Blocks::op_faults), using(crate::proofs::CheckLemmas::five))]
 fn check_op(
-    around: &BlockEnvironment,
+    environment: &BlockEnvironment,
     statements: &Statements,
     start: u32,
     op: &Op,
-    place: &Place,
+    place: &OpPlace,
     least: Option<LoadFault>,
 ) -> Option<LoadFault>
     requires room { place.now.at + size_of_op op.now + length (code_bytes place.now.rest.now) < 2 ^ 32 }
     requires start { start + place.now.at < 2 ^ 32 }
-    ensures { result ≡ with_faults least (op_faults (around_of around.now) statements.now start
-        (placed_of op.now place.now)) }
+    ensures { result ≡ with_faults least (op_faults (environment_of environment.now) statements.now
+        start (placed_of op.now place.now)) }
 {
     let at = start + place.at;
-    let least = lesser_if(least, at, operand_fault(around, statements, op, place));
-    let least = lesser_if(least, at, call_fault(around, op, place));
+    let least = lesser_if(least, at, operand_fault(environment, statements, op, place));
+    let least = lesser_if(least, at, call_fault(environment, op, place));
     let least = lesser_if(least, at, mark_fault(op));
     let least = lesser_if(least, at, bracket_fault(op.code, place.brackets));
     lesser_if(least, at, zone_fault(op.code, place.zones))
@@ -237,7 +247,7 @@ fn check_open_zones(
 /// The same of all that stands open at the end.
 fn check_nesting(
     start: u32,
-    nesting: &Nesting,
+    nesting: &OpenInCode,
     limit: u32,
     least: Option<LoadFault>,
 ) -> Option<LoadFault>
@@ -255,7 +265,7 @@ fn check_nesting(
 /// The lesser of the fault so far and those of the ops of a block with these statements.
 fn check_ops(
     alloc: Global,
-    around: &BlockEnvironment,
+    environment: &BlockEnvironment,
     statements: &Statements,
     start: u32,
     ops: &[Op],
@@ -264,21 +274,21 @@ fn check_ops(
     requires room { start + length (code_bytes ops.now) < 2 ^ 32 }
     requires all { statements.now ≡ statement_spots ops.now }
     ensures { IfOk result (λ l. l
-        ≡ with_faults least (block_faults (around_of around.now) start ops.now)) }
+        ≡ with_faults least (block_faults (environment_of environment.now) start ops.now)) }
 {
     let mut least = least;
-    let mut nesting = Nesting::new(alloc);
+    let mut nesting = OpenInCode::new(alloc);
     let mut before = Vec::new(alloc);
     let mut at = 0;
     for (i, op) in ops.iter().enumerate() {
-        let place = Place {
+        let place = OpPlace {
             at,
             brackets: nesting.brackets.as_slice(),
             zones: nesting.zones.as_slice(),
             before: before.as_slice(),
             rest: ops_from(ops, i + 1),
         };
-        least = check_op(around, statements, start, op, &place, least);
+        least = check_op(environment, statements, start, op, &place, least);
         nesting.pass(at, op)?;
         prepare(&mut before, op)?;
         at += op.size();
@@ -289,15 +299,15 @@ fn check_ops(
 /// The lesser of the fault so far and those of the ops of a block whose code begins at an offset.
 pub(crate) fn check_block(
     alloc: Global,
-    around: &BlockEnvironment,
+    environment: &BlockEnvironment,
     start: u32,
     ops: &[Op],
     least: Option<LoadFault>,
 ) -> Result<Option<LoadFault>, NoMemory>
     requires { start + length (code_bytes ops.now) < 2 ^ 32 }
     ensures { IfOk result (λ l. l
-        ≡ with_faults least (block_faults (around_of around.now) start ops.now)) }
+        ≡ with_faults least (block_faults (environment_of environment.now) start ops.now)) }
 {
     let statements = Statements::of(alloc, ops)?;
-    check_ops(alloc, around, &statements, start, ops, least)
+    check_ops(alloc, environment, &statements, start, ops, least)
 }

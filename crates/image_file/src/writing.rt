@@ -268,8 +268,8 @@ pub fn write_image(alloc: Global, program: &Program) -> Result<Vec<u8>, NoMemory
     write_stamped(alloc, program, Stamp::One)
 }
 
-/// The image of version 2 of a program, whether it verifies or not, with the profile with which it is
-/// to be run.
+/// The image of version 2 of a program, whether it verifies or not, with the profile with which it
+/// is to be run.
 ///
 /// # Errors
 ///

@@ -46,7 +46,7 @@ use Rattle.stl_list.specs.Labels.{label_of_number}
 use Rattle.stl_list.specs.Lines.{line_of_statement}
 use Rattle.stl_list.specs.Runs.{Run, number_at, runs}
 use Rattle.stl_list.specs.Signatures.{Signature, called_formals, formals_of_block}
-use Rattle.stl_list.specs.Statements.{Surroundings, body_of, label_at, label_of_end, listed_statement, statement_at, statements_from, surroundings}
+use Rattle.stl_list.specs.Statements.{ListingContext, body_of, label_at, label_of_end, listed_statement, statement_at, statements_from, listing_context}
 use Rattle.stl_list.specs.Operands.{name_of_data_block, direct_operand, implied_operand, instance_name, letters_for_area, name_at, operand_by, plain_operand, timer_or_counter, operation_writes_operand, block_opened_by_ops, own_parameter, read_letters, block_of_use_db}
 use Rattle.print_laws.specs.Reading.{FitsSyntax, IsArea, IsAreaOf, IsBlockOf, IsCallOperand, IsPrintedLabelOf, IsOpenOperand, IsPassedOperand, IsPrintedActual, IsPrintedOperand, IsPrintedStatement, IsRegister, IsJumpOperand, PrintedSyntax, block_call, bracket, call, empty, jump, opens, plain, syntax_of}
 use Rattle.print_laws.specs.Standing.{IsNonTitleName as IsCutName}
@@ -486,7 +486,7 @@ fits ss line formals starts before code (flat.OpenBy register from byte) known n
     opens_fits line (syntax_of (word_of code)) _ (open_word code h a) (pointer_is from parts.0, number_is byte parts.1)
 
 -- a statement whose op is of the table
-run_fits : (s : Surroundings) (n : ℕ) (r : Run) → AreBlocksWords s.signatures → AreWords s.formals → IsSourceRun r
+run_fits : (s : ListingContext) (n : ℕ) (r : Run) → AreBlocksWords s.signatures → AreWords s.formals → IsSourceRun r
     → FitsSyntax (line_of_statement s.lines n) (syntax_of (mnemonic_of r.op)) (operand_by s.formals s.starts (block_opened_by_ops r.before) (operation_of r.op.code) r.op.operand) (actuals_by s.signatures (line_of_statement s.lines n) s.formals r.before r.op.operand)
 unfolding is_op
 run_fits s n r known named is =
@@ -497,13 +497,13 @@ run_fits s n r known named is =
 label_printed : (targets : List Bool) (n : ℕ) → IsPrintedLabelOf (label_at targets n)
 label_printed targets n = either_way IsPrintedLabelOf (unwrap_or (slice_get targets n) false) (Some (label_of_number n)) None (labels_printed n) tt
 
-statement_printed : (s : Surroundings) (n : ℕ) (r : Run) → AreBlocksWords s.signatures → AreWords s.formals → IsSourceRun r → IsPrintedStatement (listed_statement s n r)
+statement_printed : (s : ListingContext) (n : ℕ) (r : Run) → AreBlocksWords s.signatures → AreWords s.formals → IsSourceRun r → IsPrintedStatement (listed_statement s n r)
 statement_printed s n r known named is = record { label = label_printed s.targets n; fits = run_fits s n r known named is }
 
 no_label : (line : ℕ) (targets : List Bool) (n : ℕ) → unwrap_or (slice_get targets n) false ≡ false → label_of_end line (label_at targets n) ≡ []
 no_label line targets n e = ap (λ (b : Bool). label_of_end line (if b then Some (label_of_number n) else None)) e
 
-at_printed : (s : Surroundings) (n : ℕ) (r : Run) → AreBlocksWords s.signatures → AreWords s.formals → IsSourceRun r → (suc n ≡ length s.lines → unwrap_or (slice_get s.targets n) false ≡ false)
+at_printed : (s : ListingContext) (n : ℕ) (r : Run) → AreBlocksWords s.signatures → AreWords s.formals → IsSourceRun r → (suc n ≡ length s.lines → unwrap_or (slice_get s.targets n) false ≡ false)
     → AllByRecursion IsPrintedStatement (statement_at s n r)
 unfolding statement_at
 at_printed s n r known named is free =
@@ -511,7 +511,7 @@ at_printed s n r known named is free =
     (λ e. subst (λ (l : List Statement). AllByRecursion IsPrintedStatement l) (sym (no_label (line_of_statement s.lines n) s.targets n (free (eqb-true (suc n) (length s.lines) e)))) tt)
     (λ e. (statement_printed s n r known named is, tt))
 
-from_printed : (s : Surroundings) (n : ℕ) (rs : List Run) → AreBlocksWords s.signatures → AreWords s.formals → AllByRecursion IsSourceRun rs → ((k : ℕ) → suc k ≡ length s.lines → unwrap_or (slice_get s.targets k) false ≡ false)
+from_printed : (s : ListingContext) (n : ℕ) (rs : List Run) → AreBlocksWords s.signatures → AreWords s.formals → AllByRecursion IsSourceRun rs → ((k : ℕ) → suc k ≡ length s.lines → unwrap_or (slice_get s.targets k) false ≡ false)
     → AllByRecursion IsPrintedStatement (statements_from s n rs)
 from_printed s n [] known named h free = tt
 from_printed s n (r ∷ rs) known named (one, more) free =
@@ -519,4 +519,4 @@ from_printed s n (r ∷ rs) known named (one, more) free =
 
 pub bodies_printed : AreBodiesPrinted
 unfolding body_of
-bodies_printed ss lines b known h free = from_printed (surroundings ss lines b) 0 (runs b.code) known (block_words ss b.id known) h free
+bodies_printed ss lines b known h free = from_printed (listing_context ss lines b) 0 (runs b.code) known (block_words ss b.id known) h free

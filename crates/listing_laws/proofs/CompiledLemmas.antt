@@ -47,8 +47,8 @@ use Rattle.block_layout.specs.declared.walks.PathEnd.TheVariants as walk
 use Rattle.stl_types.specs.Addresses.{address_in_block}
 use Rattle.stl_types.specs.Bodies.{first_context}
 use Rattle.stl_types.specs.Context.{Context, data_number, data_place, in_function}
-use Rattle.stl_types.specs.Resolution.{called_seen, direct_seen, instance_number, opened_seen, path_seen, resolution_of, symbol_seen, target_view, whole_called_block}
-use Rattle.stl_types.specs.Resolved.{resolved_operand, seen_view}
+use Rattle.stl_types.specs.Resolution.{resolution_of_call, resolution_of_address, instance_number, resolution_of_opened_block, resolution_of_path, resolution_of, resolution_of_symbol, target_view, whole_called_block}
+use Rattle.stl_types.specs.Resolved.{resolved_operand, resolved_view}
 use Rattle.stl_types.specs.Variables.{composite_operand, data_at, data_path, data_variable, data_walked, date_or_composite, variable_in_area, is_temporary_variable, own_at, own_elementary, own_variable, own_walked, parameter_resolution, parameter_at, parameter_index}
 use Rattle.stl_types.specs.declared.views.Register.TheVariants as register
 use Rattle.stl_types.specs.declared.views.Resolution.{Resolution}
@@ -133,26 +133,26 @@ target_short (target.Timer n) = tt
 target_short (target.Counter n) = tt
 target_short (target.Block id) = tt
 
-path_short : (c : Context) (p : PathHead) (steps : List PathStep) → SeenShort (path_seen c p steps)
+path_short : (c : Context) (p : PathHead) (steps : List PathStep) → SeenShort (resolution_of_path c p steps)
 path_short c (head.Local name) steps = own_short c (upper_case_name name) (folded_path steps)
 path_short c (head.InBlock name) steps = data_short c name (folded_path steps)
 path_short c (head.Symbol name) steps = by (symbol_named name c.symbols) where
-  by : (found : Option Symbol) → SeenShort (symbol_seen found)
+  by : (found : Option Symbol) → SeenShort (resolution_of_symbol found)
   by None = tt
   by (Some s) = target_short s.target
 
-direct_short : (c : Context) (name : Option BlockName) (a : Letters) (w : Width) (byte bit : ℕ) → SeenShort (direct_seen c name a w byte bit)
+direct_short : (c : Context) (name : Option BlockName) (a : Letters) (w : Width) (byte bit : ℕ) → SeenShort (resolution_of_address c name a w byte bit)
 direct_short c None a w byte bit = tt
 direct_short c (Some name) a w byte bit = by (data_number c name) where
   by : (n : Option ℕ) → SeenShort (address_in_block n a w byte bit)
   by None = tt
   by (Some n) = tt
 
-opened_short : (di : Bool) (n : Option ℕ) → SeenShort (opened_seen di n)
+opened_short : (di : Bool) (n : Option ℕ) → SeenShort (resolution_of_opened_block di n)
 opened_short di None = tt
 opened_short di (Some n) = tt
 
-called_short : (id : Option BlockId) (name : Option BlockName) (instance : Option ℕ) → SeenShort (called_seen id name instance)
+called_short : (id : Option BlockId) (name : Option BlockName) (instance : Option ℕ) → SeenShort (resolution_of_call id name instance)
 called_short None name instance = tt
 called_short (Some id) None instance = tt
 called_short (Some id) (Some name) None = tt
@@ -209,14 +209,14 @@ jump_written _ n to = tt
 abbrev IsShortOrNone : Option ResolvedOperand → Type 0
 IsShortOrNone o = MatchOption o (Unit {0}) IsShort
 
-view_short : (r : Resolution) → SeenShort r → IsShortOrNone (seen_view r)
+view_short : (r : Resolution) → SeenShort r → IsShortOrNone (resolved_view r)
 view_short (Resolved v) h = h
 view_short resolution.Unknown h = tt
 view_short _ h = tt
 
 resolved_short : (c : Context) (s : Statement) → IsOperand s.operand → IsShortOrNone (resolved_operand c s)
 unfolding resolved_operand
-resolved_short c s is = either_way IsShortOrNone _ (seen_view (resolution_of c s.operand)) None (view_short (resolution_of c s.operand) (seen_short c s.operand is)) tt
+resolved_short c s is = either_way IsShortOrNone _ (resolved_view (resolution_of c s.operand)) None (view_short (resolution_of c s.operand) (seen_short c s.operand is)) tt
 
 resolved_written : (c : Context) (s : Statement) (o : Option ResolvedOperand) → IsShortOrNone o → IsWrittenInstr (resolved_instr c s o)
 resolved_written c s None h = tt

@@ -6,10 +6,9 @@ use Rattle.std.specs.Str.{bytes_eq}
 use Rattle.std.proofs.lemmas.Bool.{cond_both, false≢true}
 use Rattle.std.proofs.lemmas.Bool.Decides.{nat_tests}
 use Rattle.std.proofs.lemmas.List.{length-map}
-use Rattle.plc_base.proofs.ListLemmas.{all_append}
+use Rattle.plc_base.proofs.ListLemmas.{all_append, nil_parts}
 use Rattle.plc_base.specs.Kinds.{is_code}
 use Rattle.plc_base.specs.Least.{broken_if}
-use Rattle.plc_base.specs.declared.Refusal.{Refusal}
 use Rattle.plc_base.specs.declared.blocks.BlockId.{BlockId}
 use Rattle.flat_code.specs.declared.kinds.JumpOperation.TheVariants as jump
 use Rattle.flat_code.specs.declared.kinds.JumpOperation.{JumpOperation}
@@ -24,6 +23,7 @@ use Rattle.stl_ast.specs.declared.operands.Operand.{Operand}
 use Rattle.stl_ast.specs.declared.statements.Statement.{Statement}
 use Rattle.stl_symbols.specs.Names.{name_place}
 use Rattle.block_layout.specs.declared.blocks.BlockLayout.{BlockLayout}
+use Rattle.block_layout.proofs.CommonLemmas.{not_broken}
 use Rattle.stl_types.specs.Bodies.{first_context}
 use Rattle.stl_types.specs.Context.{Context}
 use Rattle.stl_types.specs.Labels.{is_unknown_label, label_of, labels_of, rule_26, unknown_labels}
@@ -138,14 +138,6 @@ instr_free c body n s some bare known = by (jump_operation_of s.code) where
 
 abbrev AreKnown : List Statement → List Statement → Type 0
 AreKnown body ss = AllByRecursion (λ s. is_unknown_label (labels_of body) s.operand ≡ false) ss
-
-nil_parts : (xs ys : List Refusal) → xs ++ ys ≡ [] → (xs ≡ []) × (ys ≡ [])
-nil_parts [] ys e = (refl, e)
-nil_parts (x ∷ xs) ys e = absurd cc
-
-not_broken : (b : Bool) (line rule : ℕ) → broken_if b line rule ≡ [] → b ≡ false
-not_broken true line rule e = absurd cc
-not_broken false line rule e = refl
 
 labels_known : (body ss : List Statement) → unknown_labels (labels_of body) ss ≡ [] → AreKnown body ss
 labels_known body [] e = tt

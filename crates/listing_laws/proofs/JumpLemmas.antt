@@ -28,7 +28,7 @@ use Rattle.stl_list.specs.Lines.{line_of_statement}
 use Rattle.stl_list.specs.Operands.{implied_operand, operand_by, operand_of_run, plain_operand, timer_or_counter}
 use Rattle.stl_list.specs.Runs.{Run, number_at, runs, statement_starts}
 use Rattle.stl_list.specs.Signatures.{Signature}
-use Rattle.stl_list.specs.Statements.{Surroundings, body_of, label_at, label_of_end, listed_statement, statement_at, statements_from, surroundings}
+use Rattle.stl_list.specs.Statements.{ListingContext, body_of, label_at, label_of_end, listed_statement, statement_at, statements_from, listing_context}
 use Rattle.listing_laws.specs.Jumps.{AreLabelsKnown, AreLabelsOnce, GoesWithin, LandsWithin}
 use Rattle.listing_laws.specs.Statements.{goes_to, jumps_to, statement_offset, run_of}
 use Rattle.listing_laws.proofs.LabelLemmas.{below, equal, other_label, same_label}
@@ -71,7 +71,7 @@ end_twice : (k : ℕ) (before : List (List ℕ)) (line : ℕ) (b : Bool) (rest :
 end_twice k before line true rest few h more = one_twice k before line true rest few h more
 end_twice k before line false rest few h more = more before (others_later k before h)
 
-at_twice : (sur : Surroundings) (k : ℕ) (before : List (List ℕ)) (r : Run) (rest : List Statement) → k < 93312 → Others k before
+at_twice : (sur : ListingContext) (k : ℕ) (before : List (List ℕ)) (r : Run) (rest : List Statement) → k < 93312 → Others k before
     → ((next : List (List ℕ)) → Others (suc k) next → NoneTwice next rest) → NoneTwice before (statement_at sur k r ++ rest)
 unfolding statement_at
 at_twice sur k before r rest few h more = by (suc k == length sur.lines)
@@ -80,14 +80,14 @@ at_twice sur k before r rest few h more = by (suc k == length sur.lines)
     by true = end_twice k before (line_of_statement sur.lines k) (unwrap_or (slice_get sur.targets k) false) rest few h more
     by false = one_twice k before (line_of_statement sur.lines k) (unwrap_or (slice_get sur.targets k) false) rest few h more
 
-from_twice : (sur : Surroundings) (k : ℕ) (before : List (List ℕ)) (rs : List Run) → k + length rs ≤ 93312 → Others k before → NoneTwice before (statements_from sur k rs)
+from_twice : (sur : ListingContext) (k : ℕ) (before : List (List ℕ)) (rs : List Run) → k + length rs ≤ 93312 → Others k before → NoneTwice before (statements_from sur k rs)
 from_twice sur k before [] few h = refl
 from_twice sur k before (r ∷ rs) few h =
     at_twice sur k before r (statements_from sur (suc k) rs) (omega (arith, few)) h (λ next others. from_twice sur (suc k) next rs (omega (arith, few)) others)
 
 pub labels_once : AreLabelsOnce
 unfolding body_of
-labels_once signatures lines b few = from_twice (surroundings signatures lines b) 0 [] (runs b.code) (omega (arith, few)) tt
+labels_once signatures lines b few = from_twice (listing_context signatures lines b) 0 [] (runs b.code) (omega (arith, few)) tt
 
 -- ---- each that is named
 
@@ -118,7 +118,7 @@ first_stands : (n : ℕ) (rest : List (List ℕ)) → Stands (label_of_number n)
 first_stands n rest = rw (same_label n) refl
 
 -- what a statement adds to the labels where it is marked
-here_stands : (sur : Surroundings) (n : ℕ) (r : Run) (rest : List Statement) → unwrap_or (slice_get sur.targets n) false ≡ true → Stands (label_of_number n) (labels_of (statement_at sur n r ++ rest))
+here_stands : (sur : ListingContext) (n : ℕ) (r : Run) (rest : List Statement) → unwrap_or (slice_get sur.targets n) false ≡ true → Stands (label_of_number n) (labels_of (statement_at sur n r ++ rest))
 unfolding statement_at
 here_stands sur n r rest h = by (suc n == length sur.lines)
   where
@@ -130,7 +130,7 @@ here_stands sur n r rest h = by (suc n == length sur.lines)
         ap (λ (o : Option (List ℕ)). is_none (name_place (label_of_number n) (labels_of (label_of_end (line_of_statement sur.lines n) o ++ rest)))) marked ∙ first_stands n (labels_of rest)
     by false = ap (λ (o : Option (List ℕ)). is_none (name_place (label_of_number n) (label_in o ++ labels_of rest))) marked ∙ first_stands n (labels_of rest)
 
-from_stands : (sur : Surroundings) (k n : ℕ) (rs : List Run) → unwrap_or (slice_get sur.targets n) false ≡ true → k ≤ n → n < k + length rs → Stands (label_of_number n) (labels_of (statements_from sur k rs))
+from_stands : (sur : ListingContext) (k n : ℕ) (rs : List Run) → unwrap_or (slice_get sur.targets n) false ≡ true → k ≤ n → n < k + length rs → Stands (label_of_number n) (labels_of (statements_from sur k rs))
 from_stands sur k n [] marked low high = absurd (omega (arith, low, high))
 from_stands sur k n (r ∷ rs) marked low high =
     by (k == n) refl (λ other. from_stands sur (suc k) n rs marked (omega (arith, other)) (omega (arith, high)))
@@ -201,7 +201,7 @@ operand_known labels formals starts opened o (flat.Parameter index width) h = re
 operand_known labels formals starts opened o (flat.Jump kind target) h = h
 operand_known labels formals starts opened o other h = plain_known labels opened o other
 
-at_known : (labels : List (List ℕ)) (sur : Surroundings) (k : ℕ) (r : Run) (rest : List Statement) → IsKnown labels (operand_of_run sur.formals sur.starts r) → unknown_labels labels rest ≡ []
+at_known : (labels : List (List ℕ)) (sur : ListingContext) (k : ℕ) (r : Run) (rest : List Statement) → IsKnown labels (operand_of_run sur.formals sur.starts r) → unknown_labels labels rest ≡ []
     → unknown_labels labels (statement_at sur k r ++ rest) ≡ []
 unfolding statement_at
 at_known labels sur k r rest known more = by (suc k == length sur.lines)
@@ -214,7 +214,7 @@ at_known labels sur k r rest known more = by (suc k == length sur.lines)
     by true = ended (line_of_statement sur.lines k) (label_at sur.targets k)
     by false = ap (λ (t : Bool). broken_if t (line_of_statement sur.lines k) 26 ++ unknown_labels labels rest) known ∙ more
 
-from_known : (labels : List (List ℕ)) (sur : Surroundings) (k : ℕ) (rs : List Run) → AllByRecursion (λ r. GoesThere labels sur.starts r.op.operand) rs → unknown_labels labels (statements_from sur k rs) ≡ []
+from_known : (labels : List (List ℕ)) (sur : ListingContext) (k : ℕ) (rs : List Run) → AllByRecursion (λ r. GoesThere labels sur.starts r.op.operand) rs → unknown_labels labels (statements_from sur k rs) ≡ []
 from_known labels sur k [] h = refl
 from_known labels sur k (r ∷ rs) h =
     at_known labels sur k r (statements_from sur (suc k) rs) (operand_known labels sur.formals sur.starts _ _ r.op.operand h.0) (from_known labels sur (suc k) rs h.1)
@@ -256,9 +256,9 @@ all_there labels starts f count (s ∷ ss) within h = (
 
 target_there : (signatures : List Signature) (lines : List ℕ) (b : StatedBlock) (t : ℕ) → t < length b.statements → one_jumps t b.statements ≡ true
     → Stands (label_of_number (number_at (statement_starts (code_in b.statements)) (statement_offset b.statements t)))
-    (labels_of (statements_from (surroundings signatures lines (compiled_block b)) 0 (map (λ s. run_of (statement_offset b.statements) s.instr) b.statements)))
+    (labels_of (statements_from (listing_context signatures lines (compiled_block b)) 0 (map (λ s. run_of (statement_offset b.statements) s.instr) b.statements)))
 target_there signatures lines b t low any =
-    let sur = surroundings signatures lines (compiled_block b) in
+    let sur = listing_context signatures lines (compiled_block b) in
     let rs : List Run = map (λ s. run_of (statement_offset b.statements) s.instr) b.statements in
     let count = length-map b.statements (λ (s : SourceInstruction). run_of (statement_offset b.statements) s.instr) in
     let same : min t (length b.statements) ≡ t = omega (arith, low) in
@@ -268,7 +268,7 @@ target_there signatures lines b t low any =
 pub labels_known : AreLabelsKnown
 unfolding body_of
 labels_known signatures lines b within =
-    let sur = surroundings signatures lines (compiled_block b) in
+    let sur = listing_context signatures lines (compiled_block b) in
     let f = statement_offset b.statements in
     let rs : List Run = map (λ s. run_of f s.instr) b.statements in
     let labels : List (List ℕ) = labels_of (statements_from sur 0 rs) in

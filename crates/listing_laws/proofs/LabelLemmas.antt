@@ -18,7 +18,7 @@ use Rattle.stl_list.specs.Labels.{base_36_digit, label_of_number, three_digits}
 use Rattle.stl_list.specs.Lines.{line_of_statement}
 use Rattle.stl_list.specs.Mnemonics.{mnemonic_of, word_by}
 use Rattle.stl_list.specs.Runs.{Run, target_marks}
-use Rattle.stl_list.specs.Statements.{Surroundings, body_of, label_alone, label_at, label_of_end, listed_statement, statement_at, statements_from, surroundings}
+use Rattle.stl_list.specs.Statements.{ListingContext, body_of, label_alone, label_at, label_of_end, listed_statement, statement_at, statements_from, listing_context}
 use Rattle.listing_laws.specs.Labels.{AreLabelsApart, AreLabelsReached, HasWord}
 use Rattle.listing_laws.specs.Statements.{statement_offset, run_of}
 use Rattle.listing_laws.proofs.RunLemmas.{runs_found, targets_found}
@@ -89,7 +89,7 @@ last_found line n found rest e =
     ap (λ (o : Option (List ℕ)). target_in (label_of_number n) (label_of_end line o ++ rest)) e
     ∙ found_here (label_of_number n) (label_alone line (label_of_number n)) rest (same_label n)
 
-first_found : (sur : Surroundings) (n : ℕ) (r : Run) (rest : List Statement) → unwrap_or (slice_get sur.targets n) false ≡ true → target_in (label_of_number n) (statement_at sur n r ++ rest) ≡ 0
+first_found : (sur : ListingContext) (n : ℕ) (r : Run) (rest : List Statement) → unwrap_or (slice_get sur.targets n) false ≡ true → target_in (label_of_number n) (statement_at sur n r ++ rest) ≡ 0
 unfolding statement_at
 first_found sur n r rest h = by (suc n == length sur.lines)
   where
@@ -97,7 +97,7 @@ first_found sur n r rest h = by (suc n == length sur.lines)
     by true = last_found (line_of_statement sur.lines n) n (label_at sur.targets n) rest (here sur.targets n h)
     by false = found_here (label_of_number n) (listed_statement sur n r) rest (ap (has_label (label_of_number n)) (here sur.targets n h) ∙ same_label n)
 
-next_found : (sur : Surroundings) (k n : ℕ) (r : Run) (rest : List Statement) → k < n → n < 93312 → suc k < length sur.lines → is_empty_statement (mnemonic_of r.op) ≡ false
+next_found : (sur : ListingContext) (k n : ℕ) (r : Run) (rest : List Statement) → k < n → n < 93312 → suc k < length sur.lines → is_empty_statement (mnemonic_of r.op) ≡ false
     → target_in (label_of_number n) (statement_at sur k r ++ rest) ≡ 1 + target_in (label_of_number n) rest
 unfolding statement_at
 next_found sur k n r rest h few more some =
@@ -114,7 +114,7 @@ below k n low e = grind (arith, nat_tests)
 abbrev Words : (ℕ → ℕ) → List SourceInstruction → Type 0
 Words f ss = AllByRecursion (λ s. is_empty_statement (mnemonic_of (run_of f s.instr).op) ≡ false) ss
 
-reached_from : (sur : Surroundings) (f : ℕ → ℕ) (k n : ℕ) (ss : List SourceInstruction) → Words f ss → length sur.lines ≡ k + length ss → length sur.lines ≤ 93312
+reached_from : (sur : ListingContext) (f : ℕ → ℕ) (k n : ℕ) (ss : List SourceInstruction) → Words f ss → length sur.lines ≡ k + length ss → length sur.lines ≤ 93312
     → unwrap_or (slice_get sur.targets n) false ≡ true → k ≤ n → n < k + length ss
     → k + target_in (label_of_number n) (statements_from sur k (map (λ s. run_of f s.instr) ss)) ≡ n
 reached_from sur f k n [] words size few marked low high = absurd (omega (arith, low, high))
@@ -159,7 +159,7 @@ placed_words f (s ∷ ss) h = (ap is_empty_statement (same_word f s.instr) ∙ h
 pub labels_reached : AreLabelsReached
 unfolding body_of
 labels_reached signatures lines b n words size few within jumps =
-    let sur = surroundings signatures lines (compiled_block b) in
+    let sur = listing_context signatures lines (compiled_block b) in
     let f = statement_offset b.statements in
     let found = reached_from sur f 0 n b.statements (placed_words f b.statements words) (omega (arith, size)) (omega (arith, size, few)) (targets_found b.statements n within ∙ jumps) (omega arith) (omega (arith, within)) in
     ap (λ (rs : List Run). target_in (label_of_number n) (statements_from sur 0 rs)) (runs_found b.statements) ∙ omega (arith, found)

@@ -41,7 +41,7 @@ use Rattle.stl_codegen.specs.Instruction.{source_block_at, call_instr, end_instr
 use Rattle.stl_codegen.specs.Operands.{is_db, is_in_named_block, block_opened_by_operand, flat_operand_of}
 use Rattle.stl_codegen.specs.Operations.{call_operation_of, end_operation_of, jump_operation_of}
 use Rattle.stl_codegen.specs.Order.{is_code_before}
-use Rattle.stl_codegen.specs.Passed.{passed_actual, passed_place, passed_seen, passed_view, passings_from, actual_of_formal, with_index}
+use Rattle.stl_codegen.specs.Passed.{passed_actual, passed_place, passed_resolution, passed_view, passings_from, actual_of_formal, with_index}
 use Rattle.stl_list.specs.Runs.{runs}
 use Rattle.listing_laws.proofs.BlockLemmas.{all_sorted}
 use Rattle.listing_laws.proofs.NameLemmas.{either_way}
@@ -91,7 +91,7 @@ indexed_in index o (view.Parameter own section declared) = (tt, tt)
 indexed_in index o view.Constant = (tt, tt)
 indexed_in index o _ = tt
 
-seen_in : (index : ℕ) (o : Operand) (r : Resolution) → ArePassedIn (with_index index (passed_seen o r))
+seen_in : (index : ℕ) (o : Operand) (r : Resolution) → ArePassedIn (with_index index (passed_resolution o r))
 seen_in index o (Resolved v) = indexed_in index o v
 seen_in index o _ = tt
 

@@ -37,7 +37,7 @@ use Rattle.stl_list.specs.Listing.{listed_tree}
 use Rattle.stl_list.specs.Runs.{Run, runs}
 use Rattle.stl_list.specs.Sections.{byte_array, bytes_here, data_name, declared_here, declarations_of_section, is_declared_in, plain_declaration, section_part, section_parts, static_bytes, static_len, static_name, static_start, temporary_name}
 use Rattle.stl_list.specs.Signatures.{Signature, formals_of_block, signatures}
-use Rattle.stl_list.specs.Statements.{Surroundings, body_of, label_at, label_of_end, listed_statement, statement_at, statements_from, surroundings}
+use Rattle.stl_list.specs.Statements.{ListingContext, body_of, label_at, label_of_end, listed_statement, statement_at, statements_from, listing_context}
 use Rattle.print_laws.specs.Reading.{AreOnLines, IsOnLine}
 use Rattle.listing_laws.proofs.BlockLemmas.{all_sorted}
 use Rattle.listing_laws.proofs.NameLemmas.{either_way}
@@ -180,7 +180,7 @@ end_reaches : (reached line : ℕ) (label : Option (List ℕ)) → 1 ≤ reached
 end_reaches reached line None h le = record { on = tt; some = h; low = le }
 end_reaches reached line (Some label) h le = single_reaches reached _ h le
 
-at_reaches : (s : Surroundings) (n : ℕ) (r : Run) (reached : ℕ) → 1 ≤ reached → reached ≤ line_of_statement s.lines n → Reaches reached (line_of_statement s.lines n) (map clause.Runs (statement_at s n r))
+at_reaches : (s : ListingContext) (n : ℕ) (r : Run) (reached : ℕ) → 1 ≤ reached → reached ≤ line_of_statement s.lines n → Reaches reached (line_of_statement s.lines n) (map clause.Runs (statement_at s n r))
 unfolding statement_at
 at_reaches s n r reached h le =
     either_way (λ (l : List Statement). Reaches reached (line_of_statement s.lines n) (map clause.Runs l)) (suc n == length s.lines) (label_of_end (line_of_statement s.lines n) (label_at s.targets n)) (listed_statement s n r ∷ [])
@@ -201,7 +201,7 @@ reach_joined reached last xs ys h k = subst (λ (cs : List Clause). Reaches reac
 abbrev DoRise : List ℕ → Type 0
 DoRise lines = (i : ℕ) → suc i < length lines → line_of_statement lines i ≤ line_of_statement lines (suc i)
 
-body_reaches : (s : Surroundings) (n reached : ℕ) (r : Run) (rs : List Run) → DoRise s.lines → n + length (r ∷ rs) ≡ length s.lines → 1 ≤ reached → reached ≤ line_of_statement s.lines n
+body_reaches : (s : ListingContext) (n reached : ℕ) (r : Run) (rs : List Run) → DoRise s.lines → n + length (r ∷ rs) ≡ length s.lines → 1 ≤ reached → reached ≤ line_of_statement s.lines n
     → Reaches reached (line_of_statement s.lines (length s.lines - 1)) (map clause.Runs (statements_from s n (r ∷ rs)))
 body_reaches s n reached r [] rise size h le =
     let last : n ≡ length s.lines - 1 = omega (arith, size) in
@@ -244,13 +244,13 @@ abbrev pub HasLines : CodeBlock → Type 0
 HasLines b = length (runs b.code) ≡ length b.lines
 
 block_body : (ss : List Signature) (reached : ℕ) (b : CodeBlock) (rs : List Run) (lines : List ℕ) → length rs ≡ length lines → 1 ≤ reached
-    → Reaches (max reached (line_of_statement lines 0)) (line_behind_statements reached lines) (map clause.Runs (statements_from (surroundings ss (lines_from reached lines) b) 0 rs))
+    → Reaches (max reached (line_of_statement lines 0)) (line_behind_statements reached lines) (map clause.Runs (statements_from (listing_context ss (lines_from reached lines) b) 0 rs))
 block_body ss reached b [] [] e h = record { on = tt; some = omega (arith, h); low = omega arith }
 block_body ss reached b [] (line ∷ lines) e h = absurd (omega (arith, e))
 block_body ss reached b (r ∷ rs) [] e h = absurd (omega (arith, e))
 block_body ss reached b (r ∷ rs) (line ∷ lines) e h =
-    subst (λ (last : ℕ). Reaches (max reached line) last (map clause.Runs (statements_from (surroundings ss (lines_from reached (line ∷ lines)) b) 0 (r ∷ rs)))) (lines_last reached line lines)
-    (body_reaches (surroundings ss (lines_from reached (line ∷ lines)) b) 0 (max reached line) r rs (lines_rise reached (line ∷ lines)) (omega (arith, e, lines_count reached (line ∷ lines))) (omega (arith, h)) (omega arith))
+    subst (λ (last : ℕ). Reaches (max reached line) last (map clause.Runs (statements_from (listing_context ss (lines_from reached (line ∷ lines)) b) 0 (r ∷ rs)))) (lines_last reached line lines)
+    (body_reaches (listing_context ss (lines_from reached (line ∷ lines)) b) 0 (max reached line) r rs (lines_rise reached (line ∷ lines)) (omega (arith, e, lines_count reached (line ∷ lines))) (omega (arith, h)) (omega arith))
 
 head_ends : (reached line last : ℕ) (k : BlockKind) (name : BlockName) (result : Option Simple) (cs : List Clause) → 1 ≤ line → reached ≤ line → Ends line last cs → Ends reached last (clause.Head line k name result ∷ cs)
 unfolding line_of

@@ -10,7 +10,7 @@ use Rattle.block_layout.specs.Layouts.{layouts_of}
 use Rattle.block_layout.specs.declared.blocks.BlockLayout.{BlockLayout}
 use Rattle.stl_codegen.specs.Compiled.{StatedBlock, compiled_block, lines_in}
 use Rattle.stl_codegen.specs.Generated.{code_block, code_blocks_of, stated_from}
-use Rattle.stl_list.specs.Statements.{Surroundings, body_of, surroundings}
+use Rattle.stl_list.specs.Statements.{ListingContext, body_of, listing_context}
 use Rattle.sem_kept.specs.Accepted.{IsAccepted, program_in}
 use Rattle.listing_laws.specs.Again.{IsMadeOf, IsWholeAgain, again_at, context_at, listed_again}
 use Rattle.listing_laws.specs.Declared.{signatures_in}
@@ -30,9 +30,9 @@ body_again symbols t x =
 
 -- what the statements refer to in the body that the listing of a source's program has for a code
 -- block, `x`
-abbrev pub around_again : (symbols : List Symbol) → Tree → StatedBlock → Surroundings
+abbrev pub around_again : (symbols : List Symbol) → Tree → StatedBlock → ListingContext
 around_again symbols t x =
-    surroundings (signatures_in (program_in symbols t)) (lines_in x.statements) (compiled_block x)
+    listing_context (signatures_in (program_in symbols t)) (lines_in x.statements) (compiled_block x)
 
 -- each listed statement of a block of the source comes to its instruction, at its place in the listing
 abbrev pub IsBodyKept : (symbols : List Symbol) → Tree → (others : List Symbol) → (again place : ℕ)

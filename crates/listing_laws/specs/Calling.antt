@@ -11,7 +11,7 @@ use Rattle.stl_types.specs.Resolved.{resolved_operand}
 use Rattle.stl_types.specs.declared.views.ResolvedOperand.{ResolvedOperand}
 use Rattle.stl_codegen.specs.Instruction.{instruction}
 use Rattle.stl_codegen.specs.Operations.{call_operation_of}
-use Rattle.stl_list.specs.Statements.{Surroundings, listed_statement}
+use Rattle.stl_list.specs.Statements.{ListingContext, listed_statement}
 use Rattle.listing_laws.specs.Instructions.{HasAgain, IsInstructionKept}
 use Rattle.listing_laws.specs.Statements.{run_of}
 
@@ -24,7 +24,7 @@ AreCalledAgain c listed =
 -- UC, CC, or a CALL without actual parameters comes to the instruction of the source
 abbrev pub AreBareCallsKept : Type 0
 AreBareCallsKept =
-    (c listed : Context) (sur : Surroundings) (f : ℕ → ℕ) (body again : List Statement) (n k : ℕ)
+    (c listed : Context) (sur : ListingContext) (f : ℕ → ℕ) (body again : List Statement) (n k : ℕ)
     (s : Statement) (v : ResolvedOperand) (how : CallOperation)
     → HasAgain c listed sur.formals → AreCalledAgain c listed
     → names_called_block s.operand ≡ true → s.actuals ≡ [] → call_operation_of s.code ≡ Some how

@@ -25,7 +25,7 @@ use Rattle.stl_codegen.specs.Emitted.{pass_ops}
 use Rattle.stl_list.specs.Actuals.{actuals_before}
 use Rattle.stl_list.specs.Lines.{line_of_statement}
 use Rattle.stl_list.specs.Signatures.{called_formals}
-use Rattle.stl_list.specs.Statements.{Surroundings, listed_statement}
+use Rattle.stl_list.specs.Statements.{ListingContext, listed_statement}
 use Rattle.stl_list.specs.Operands.{name_of_data_block, operand_of_run}
 use Rattle.listing_laws.specs.Passings.{IsListedCall}
 use Rattle.listing_laws.specs.Statements.{run_of}
@@ -46,7 +46,7 @@ AreCallsListed =
 -- made of the ops before the call
 abbrev pub AreStatementsListed : Type 0
 AreStatementsListed =
-    (sur : Surroundings) (n : ℕ) (f : ℕ → ℕ) (m : Mnemonic) (how : CallOperation) (id : BlockId)
+    (sur : ListingContext) (n : ℕ) (f : ℕ → ℕ) (m : Mnemonic) (how : CallOperation) (id : BlockId)
     (instance : Option ℕ) (ps : List Passing) → is_callable id.kind ≡ true → call_operation_of m ≡ Some how
     → ((listed_statement sur n (run_of f (Calls how id instance ps))).code ≡ m)
     × ((listed_statement sur n (run_of f (Calls how id instance ps))).actuals

@@ -26,7 +26,7 @@ use Rattle.stl_codegen.specs.Instruction.{instruction, target_in, target_of}
 use Rattle.stl_codegen.specs.Operations.{call_operation_of, jump_operation_of}
 use Rattle.stl_list.specs.Labels.{label_of_number}
 use Rattle.stl_list.specs.Runs.{number_at}
-use Rattle.stl_list.specs.Statements.{Surroundings, listed_statement}
+use Rattle.stl_list.specs.Statements.{ListingContext, listed_statement}
 use Rattle.listing_laws.specs.Operands.{IsConstantCoded, IsOpenedAgain, IsParameterAgain}
 use Rattle.listing_laws.specs.Statements.{run_of}
 
@@ -65,7 +65,7 @@ pub record IsInstructionKept (listed : Context) (body : List Statement) (n : ℕ
 -- a statement that calls nothing and doesn't jump comes to the instruction of the source
 abbrev pub AreInstructionsKept : Type 0
 AreInstructionsKept =
-    (c listed : Context) (sur : Surroundings) (f : ℕ → ℕ) (body again : List Statement) (n k : ℕ)
+    (c listed : Context) (sur : ListingContext) (f : ℕ → ℕ) (body again : List Statement) (n k : ℕ)
     (s : Statement) (v : ResolvedOperand)
     → HasAgain c listed sur.formals → IsRightOperand c.symbols s.operand
     → is_empty_statement s.code ≡ false → jump_operation_of s.code ≡ None → call_operation_of s.code ≡ None
@@ -76,7 +76,7 @@ AreInstructionsKept =
 -- a jump comes to the instruction of the source, where its target has the label of its number
 abbrev pub AreJumpsKept : Type 0
 AreJumpsKept =
-    (c listed : Context) (sur : Surroundings) (f : ℕ → ℕ) (body again : List Statement) (n k : ℕ)
+    (c listed : Context) (sur : ListingContext) (f : ℕ → ℕ) (body again : List Statement) (n k : ℕ)
     (s : Statement)
     → (jump_operation_of s.code ≡ None → ⊥)
     → number_at sur.starts (f (target_of body s.operand)) ≡ target_of body s.operand

@@ -7,11 +7,11 @@ use Rattle.stl_codegen.specs.Compiled.{SourceInstruction, StatedBlock, compiled_
 use Rattle.stl_codegen.specs.Generated.{stated_from}
 use Rattle.stl_codegen.specs.Instruction.{instruction}
 use Rattle.stl_list.specs.Signatures.{Signature}
-use Rattle.stl_list.specs.Statements.{Surroundings, body_of, listed_statement, surroundings}
+use Rattle.stl_list.specs.Statements.{ListingContext, body_of, listed_statement, listing_context}
 use Rattle.listing_laws.specs.Statements.{statement_offset, run_of}
 
 -- each listed statement from a number on isn't empty, and comes to its instruction
-abbrev pub AreKeptFrom : Context → (body : List Statement) → Surroundings → (ℕ → ℕ) → (k : ℕ)
+abbrev pub AreKeptFrom : Context → (body : List Statement) → ListingContext → (ℕ → ℕ) → (k : ℕ)
     → List SourceInstruction → Type 0
 AreKeptFrom listed body sur f k [] = Unit {0}
 AreKeptFrom listed body sur f k (s ∷ ss) =
@@ -27,7 +27,7 @@ AreBodiesKept =
     (last : SourceInstruction)
     → b.statements ≡ ss ++ last ∷ []
     → AreKeptFrom listed (body_of signatures (lines_in b.statements) (compiled_block b))
-    (surroundings signatures (lines_in b.statements) (compiled_block b)) (statement_offset b.statements) 0 ss
+    (listing_context signatures (lines_in b.statements) (compiled_block b)) (statement_offset b.statements) 0 ss
     → stated_from listed (body_of signatures (lines_in b.statements) (compiled_block b)) 0
     (body_of signatures (lines_in b.statements) (compiled_block b))
     ≡ ss

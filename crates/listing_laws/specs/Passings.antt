@@ -15,7 +15,7 @@ use Rattle.stl_ast.specs.declared.statements.Actual.{Actual}
 use Rattle.stl_ast.specs.declared.statements.Statement.{Statement}
 use Rattle.block_layout.specs.Offsets.{width_of}
 use Rattle.stl_types.specs.Actuals.{formal_named, is_input_section, takes_section}
-use Rattle.stl_types.specs.Calls.{lacks_actual, misfits_formal, names_no_formal, sees_date, actuals_supplied_twice}
+use Rattle.stl_types.specs.Calls.{lacks_actual, misfits_formal, names_no_formal, is_resolved_date, actuals_supplied_twice}
 use Rattle.stl_types.specs.Context.{Context, data_number}
 use Rattle.stl_types.specs.Parameters.{Callee}
 use Rattle.stl_types.specs.Resolution.{resolution_of}
@@ -96,7 +96,7 @@ AreAllPassed called ps =
 -- parameters
 pub record BreaksNone (c : Context) (callee : Callee) (s : Statement) : Type 0 where
   -- no actual parameter is a DATE_AND_TIME
-  pub by_24 : AllByRecursion (λ (a : Actual). sees_date (resolution_of c a.value) ≡ false) s.actuals
+  pub by_24 : AllByRecursion (λ (a : Actual). is_resolved_date (resolution_of c a.value) ≡ false) s.actuals
   -- each actual parameter names a parameter of the block
   pub by_34 : AllByRecursion (λ (a : Actual). names_no_formal callee.formals a ≡ false) s.actuals
   -- no parameter is supplied twice

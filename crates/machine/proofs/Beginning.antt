@@ -149,7 +149,7 @@ delay_fits p m a n h =
 -- ---- the result of a system function
 
 result_kept : (to : Binding) (value : ℕ) (c : LocalMemory) → KeepsScene c.local c.memory (with_ret_val to value c)
-result_kept (binding.Bound place width frame) value c = put_kept (record { place = place; width = width; frame = frame }) value c
+result_kept (binding.AtPlace place width frame) value c = put_kept (record { place = place; width = width; frame = frame }) value c
 result_kept (binding.Constant n) value c = same_scene c.local c.memory
 result_kept binding.Unsupplied value c = same_scene c.local c.memory
 

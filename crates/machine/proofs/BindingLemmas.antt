@@ -12,7 +12,7 @@ use Rattle.plc_base.specs.declared.blocks.BlockKind.TheVariants as kinds
 use Rattle.plc_base.specs.Widths.{bit_count}
 use Rattle.plc_mem.specs.Areas.{Areas}
 use Rattle.plc_mem.specs.Number.{number_at_place}
-use Rattle.frames.specs.Bound.{binding_set as bound_at_index}
+use Rattle.frames.specs.ParameterBindings.{binding_set as bound_at_index}
 use Rattle.frames.specs.Locals.{LocalData, local_number}
 use Rattle.frames.specs.declared.bindings.Binding.{Binding}
 use Rattle.frames.specs.declared.bindings.Binding.TheVariants as binding
@@ -29,7 +29,7 @@ use Rattle.machine.specs.DataBlocks.{is_block_loaded}
 use Rattle.machine.specs.Fitting.{local_len_at, LiesIn, ExistsIn, IsBound, AreBound, LocalsFit}
 use Rattle.machine.specs.ExecState.{Local}
 use Rattle.machine.specs.Places.{location_at, open_block_location, open_area_location, is_area_l, location_number, is_bit_width, is_area_p, area_location, error_of}
-use Rattle.machine.proofs.Errors.{IfTold, then_told, either_told, absent_told, placed_told}
+use Rattle.machine.proofs.Errors.{IfKnownError, then_known, either_known, absent_known, placed_known}
 use Rattle.machine.proofs.FrameBytes.{local_lies}
 use Rattle.machine.proofs.Keeping.{IfDone, done_then}
 
@@ -147,7 +147,7 @@ bound_of kind (q ∷ ps) below m [] i p all found = absurd all
 passed_bound :
     (p q : Param) (g : Frame) (below : List Frame) (m : Areas) (b : Binding) → p.width ≡ q.width
     → (p.section ≡ section_in → q.section ≡ section_in) → IsBound kinds.Fc p below m b → IsBound kinds.Fc q (g ∷ below) m b
-passed_bound p q g below m (binding.Bound at width frame) wide input is =
+passed_bound p q g below m (binding.AtPlace at width frame) wide input is =
     (is.0 ∙ wide, exists_more at.area (record { place = at; width = width; frame = frame }) g below m is.1)
 passed_bound p q g below m (binding.Constant value) wide input is =
     (input is.0, subst (λ (w : Width). value < 2 ^ bit_count w) wide is.1)
@@ -181,7 +181,7 @@ actual_bound kind own q g below access (passed.InBlock number area width byte bi
 
 -- a function's bindings are supplied, so they are those of a function block too
 supplied : (q : Param) (frames : List Frame) (m : Areas) (b : Binding) → IsBound kinds.Fc q frames m b → IsBound kinds.Fb q frames m b
-supplied q frames m (binding.Bound at width frame) is = is
+supplied q frames m (binding.AtPlace at width frame) is = is
 supplied q frames m (binding.Constant value) is = is
 supplied q frames m binding.Unsupplied is = absurd is
 
@@ -343,41 +343,41 @@ all_supplied (p ∷ ps) frames m [] all each = absurd all
 
 -- ---- errors
 
-place_told : (access : Access) (at : Location) (s : Local) (m : Areas) → IfTold (bound_place access at s m)
+place_known : (access : Access) (at : Location) (s : Local) (m : Areas) → IfKnownError (bound_place access at s m)
 unfolding bound_place
-place_told access at s m = by (location_number at s.locals m)
+place_known access at s m = by (location_number at s.locals m)
   where
-    by : (o : Option ℕ) → IfTold (bound_if access at o)
-    by None = absent_told access at.place.area
+    by : (o : Option ℕ) → IfKnownError (bound_if access at o)
+    by None = absent_known access at.place.area
     by (Some n) = tt
 
-actual_told :
+actual_known :
     (kind : BlockKind) (own : List Param) (q : Param) (below : List Frame) (access : Access) (actual : Passed)
     (s : Local) (m : Areas) → AreBound kind own below m s.inner.bindings → FitsActual kind own q actual
-    → IfTold (bound_actual access actual s m)
+    → IfKnownError (bound_actual access actual s m)
 unfolding bound_actual
-actual_told kind own q below access (passed.Literal value) s m bound is = tt
-actual_told kind own q below access (passed.Direct area width byte bit) s m bound is =
-    then_told (area_location access area byte bit width s) (λ at. bound_place access at s m)
-    (placed_told access area byte bit width s) (λ at. place_told access at s m)
-actual_told kind own q below access (passed.Parameter index width) s m bound is =
+actual_known kind own q below access (passed.Literal value) s m bound is = tt
+actual_known kind own q below access (passed.Direct area width byte bit) s m bound is =
+    then_known (area_location access area byte bit width s) (λ at. bound_place access at s m)
+    (placed_known access area byte bit width s) (λ at. place_known access at s m)
+actual_known kind own q below access (passed.Parameter index width) s m bound is =
     rw (bound_of kind own below m s.inner.bindings index is.1 bound is.2).1 tt
-actual_told kind own q below access (passed.InBlock number area width byte bit) s m bound is =
-    either_told (is_block_loaded number m) (bound_place access (location_at areas.Db number byte bit width 0) s m) (Err 0x3A)
-    (place_told access (location_at areas.Db number byte bit width 0) s m) refl
+actual_known kind own q below access (passed.InBlock number area width byte bit) s m bound is =
+    either_known (is_block_loaded number m) (bound_place access (location_at areas.Db number byte bit width 0) s m) (Err 0x3A)
+    (place_known access (location_at areas.Db number byte bit width 0) s m) refl
 
-params_told :
+params_known :
     (kind : BlockKind) (own ps : List Param) (below : List Frame) (s : Local) (m : Areas) (xs : List Passing) (bs : List Binding)
-    → AreBound kind own below m s.inner.bindings → PassingsFit kind own ps xs → IfTold (bound_params ps xs bs s m)
-params_told kind own ps below s m [] bs bound fits = tt
-params_told kind own ps below s m (x ∷ xs) bs bound fits =
+    → AreBound kind own below m s.inner.bindings → PassingsFit kind own ps xs → IfKnownError (bound_params ps xs bs s m)
+params_known kind own ps below s m [] bs bound fits = tt
+params_known kind own ps below s m (x ∷ xs) bs bound fits =
     rw fits.0.1
-    (then_told (bound_actual (param_access fits.0.0) x.actual s m) (λ b. bound_params ps xs (bound_at_index bs x.index b) s m)
-    (actual_told kind own fits.0.0 below (param_access fits.0.0) x.actual s m bound fits.0.2)
-    (λ b. params_told kind own ps below s m xs (bound_at_index bs x.index b) bound fits.1))
+    (then_known (bound_actual (param_access fits.0.0) x.actual s m) (λ b. bound_params ps xs (bound_at_index bs x.index b) s m)
+    (actual_known kind own fits.0.0 below (param_access fits.0.0) x.actual s m bound fits.0.2)
+    (λ b. params_known kind own ps below s m xs (bound_at_index bs x.index b) bound fits.1))
 
-pub call_told :
+pub call_known :
     (kind : BlockKind) (own ps : List Param) (below : List Frame) (s : Local) (m : Areas) (xs : List Passing)
-    → AreBound kind own below m s.inner.bindings → PassingsFit kind own ps xs → IfTold (param_bindings ps xs s m)
+    → AreBound kind own below m s.inner.bindings → PassingsFit kind own ps xs → IfKnownError (param_bindings ps xs s m)
 unfolding param_bindings
-call_told kind own ps below s m xs bound fits = params_told kind own ps below s m xs (no_bindings ps) bound fits
+call_known kind own ps below s m xs bound fits = params_known kind own ps below s m xs (no_bindings ps) bound fits

@@ -28,8 +28,8 @@ use Rattle.machine.specs.Lasting.{FitsProgram, StepFitsAgain}
 use Rattle.machine.specs.OpenBrackets.{open_codes}
 use Rattle.machine.specs.ExecState.{LocalMemory, local_of, local_memory_of, with_local}
 use Rattle.machine.specs.Statement.{GlobalStore, call_step, called_block, block_called}
-use Rattle.machine.proofs.BindingLemmas.{Bindings, PassingsFit, is_among, all_supplied, call_binds, call_told}
-use Rattle.machine.proofs.Errors.{IfTold}
+use Rattle.machine.proofs.BindingLemmas.{Bindings, PassingsFit, is_among, all_supplied, call_binds, call_known}
+use Rattle.machine.proofs.Errors.{IfKnownError}
 use Rattle.machine.proofs.FrameBytes.{locals_moved, locals_opened}
 use Rattle.machine.proofs.Keeping.{IfDone, KeepsScene, open_after}
 use Rattle.machine.proofs.Moving.{some_there, stands_of, fits_of, frames_are, frame_open, frame_follows, activation_follows}
@@ -162,22 +162,22 @@ supplied_lasts l p a after w next (Some number) ps verifies h =
     let kept = params_in_kept ps 0 after.running.frame.bindings number (local_memory_of after.running w.memory) in
     record { sizes = kept.memory; fits = scene_fits l p w.memory after _ verifies h kept }
 
-stops_told : (p : Program) (a : Activation) (w : GlobalStore) (next : ℕ) (fault : FrameFault) → StepFitsAgain p w (call_step (Stops fault) next a w)
-stops_told p a w next Depth = inl refl
-stops_told p a w next LocalFull = inr refl
+stops_known : (p : Program) (a : Activation) (w : GlobalStore) (next : ℕ) (fault : FrameFault) → StepFitsAgain p w (call_step (Stops fault) next a w)
+stops_known p a w next Depth = inl refl
+stops_known p a w next LocalFull = inr refl
 
 called_lasts :
     (l : ImageLaws) (p : Program) (a : Activation) (w : GlobalStore) (next : ℕ) (block : BlockId) (b : CodeBlock) (o : Option ℕ)
-    (r : Result (List Binding) ℕ) → Caller p w.memory a next → block_by_id block p.code_blocks ≡ Some b → IfTold r
+    (r : Result (List Binding) ℕ) → Caller p w.memory a next → block_by_id block p.code_blocks ≡ Some b → IfKnownError r
     → IfDone (AreBound block.kind b.params (caller a next ∷ a.below) w.memory) r → HasInstance block.kind (block_head_of b) w.memory o
     → StepFitsAgain p w (call_step (call_with_bindings r (called_block block o (block_head_of b)) next a w.memory) next a w)
-called_lasts l p a w next block b o (Err code) h found told bound instance =
-    (told, going_fits l p w.memory a next a.running.regs h.fits h.stood)
-called_lasts l p a w next block b o (Ok bs) h found told bound instance = by (entry_fault b.local_len a)
+called_lasts l p a w next block b o (Err code) h found known bound instance =
+    (known, going_fits l p w.memory a next a.running.regs h.fits h.stood)
+called_lasts l p a w next block b o (Ok bs) h found known bound instance = by (entry_fault b.local_len a)
   where
     by : (fault : Option FrameFault)
         → StepFitsAgain p w (call_step (entry_or_stop fault (called_block block o (block_head_of b)) bs next a w.memory) next a w)
-    by (Some fault) = stops_told p a w next fault
+    by (Some fault) = stops_known p a w next fault
     by None =
         supplied_lasts l p a (block_entered (fresh_frame (called_block block o (block_head_of b)) bs a.running.frame) (caller_at next a)) w next o b.params h.verifies
         (entered_fits l p w.memory a next block b o bs h found bound instance)
@@ -215,12 +215,12 @@ caller_binds p m a own ps next xs found h fits =
     (locals_moved a.running.frame (caller a next) a.below a.running.locals refl was.locals)
     (own_bound p m a own found h) fits
 
-pub caller_told :
+pub caller_known :
     (p : Program) (m : Areas) (a : Activation) (own : CodeBlock) (ps : List Param) (xs : List Passing)
     → block_by_id a.running.frame.block p.code_blocks ≡ Some own → FitsProgram p m a
-    → PassingsFit a.running.frame.block.kind own.params ps xs → IfTold (param_bindings ps xs (local_of a.running) m)
-caller_told p m a own ps xs found h fits =
-    call_told a.running.frame.block.kind own.params ps a.below (local_of a.running) m xs (own_bound p m a own found h) fits
+    → PassingsFit a.running.frame.block.kind own.params ps xs → IfKnownError (param_bindings ps xs (local_of a.running) m)
+caller_known p m a own ps xs found h fits =
+    call_known a.running.frame.block.kind own.params ps a.below (local_of a.running) m xs (own_bound p m a own found h) fits
 
 pub function_lasts :
     (l : ImageLaws) (p : Program) (a : Activation) (w : GlobalStore) (next number : ℕ) (own b : CodeBlock) (xs : List Passing)
@@ -233,7 +233,7 @@ unfolding block_call
 function_lasts l p a w next number own b xs h own_is found fits each =
     let bound = caller_binds p w.memory a own b.params next xs own_is h.fits fits in
     called_lasts l p a w next (record { kind = kinds.Fc; number = number }) b None
-    (param_bindings b.params xs (local_of a.running) w.memory) h found (caller_told p w.memory a own b.params xs own_is h.fits fits)
+    (param_bindings b.params xs (local_of a.running) w.memory) h found (caller_known p w.memory a own b.params xs own_is h.fits fits)
     (function_bound b.params (caller a next ∷ a.below) w.memory xs (param_bindings b.params xs (local_of a.running) w.memory) each bound) tt
 
 pub function_block_lasts :
@@ -246,5 +246,5 @@ unfolding block_call
 function_block_lasts l p a w next number own b o xs h own_is found fits instance =
     let bound = caller_binds p w.memory a own b.params next xs own_is h.fits fits in
     called_lasts l p a w next (record { kind = kinds.Fb; number = number }) b o
-    (param_bindings b.params xs (local_of a.running) w.memory) h found (caller_told p w.memory a own b.params xs own_is h.fits fits)
+    (param_bindings b.params xs (local_of a.running) w.memory) h found (caller_known p w.memory a own b.params xs own_is h.fits fits)
     (block_bound b.params (caller a next ∷ a.below) w.memory xs (param_bindings b.params xs (local_of a.running) w.memory) bound) instance

@@ -112,15 +112,15 @@ literal_small p r value is fits small = one (eqb r.width 1) refl fits
     one true e h = let le = leb-true value 1 h in at widths.Bit (eqb-true r.width 1 e) (omega (arith, le))
     one false e h = two (eqb r.width 2) refl h
 
-abbrev around_in : Program → CodeBlock → Environment
-around_in p b = environment_of_block (Some (lens_of p.data_blocks)) (map record_of_block p.code_blocks) (record_of_block b)
+abbrev environment_in : Program → CodeBlock → Environment
+environment_in p b = environment_of_block (Some (lens_of p.data_blocks)) (map record_of_block p.code_blocks) (record_of_block b)
 
 record_at : (ps : List Param) (index : ℕ) (p : Param) → slice_get ps index ≡ Some p → slice_get (map record_of_param ps) index ≡ Some (record_of_param p)
 record_at [] index p found = absurd cc
 record_at (q ∷ ps) zero p found = ap (λ (z : Param). Some (record_of_param z)) (same_Some q p found)
 record_at (q ∷ ps) (suc index) p found = record_at ps index p found
 
-own_there : (p : Program) (b : CodeBlock) (index : ℕ) (w : Width) (own : Param) → HasParam b index w own → parameter_meant (around_in p b) index ≡ Some (record_of_param own)
+own_there : (p : Program) (b : CodeBlock) (index : ℕ) (w : Width) (own : Param) → HasParam b index w own → parameter_meant (environment_in p b) index ≡ Some (record_of_param own)
 own_there p b index w own h = rw h.kind (record_at b.params index own h.there)
 
 input_kept : (x y : ℕ) (wide : Bool) → (wide || (not (eqb y 1) && eqb x 1)) ≡ false → x ≡ 1 → y ≡ 1
@@ -132,7 +132,7 @@ input_kept x y wide h is = by (eqb y 1) refl (or_parts wide (not (eqb y 1) && eq
 
 pub actual_fits :
     (p : Program) (b : CodeBlock) (q : Param) (r : ParameterRecord) (actual : Passed) → IsParam q r
-    → FitsPassed b actual → misfits_parameter (around_in p b) r actual ≡ false
+    → FitsPassed b actual → misfits_parameter (environment_in p b) r actual ≡ false
     → ((value : ℕ) → actual ≡ passed.Literal value → value < 4294967296)
     → FitsActual b.id.kind b.params q actual
 actual_fits p b q r (passed.Literal value) is by_itself fits small =

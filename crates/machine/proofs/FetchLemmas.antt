@@ -14,12 +14,12 @@ use Rattle.flat_code.specs.declared.operands.Operand.TheVariants as operand
 use Rattle.flat_code.specs.declared.programs.Param.{Param}
 use Rattle.flat_code.specs.Instr.{Passing}
 use Rattle.machine.specs.Code.{Code, Fetched}
-use Rattle.frames.specs.Bound.{binding_set}
+use Rattle.frames.specs.ParameterBindings.{binding_set}
 use Rattle.machine.specs.ExecState.{Local, then_ok}
 use Rattle.machine.specs.Bindings.{bound_params, bound_for}
 use Rattle.machine.specs.Flat.{OpRun, op_run_at, run_with, with_op, most_ops_of_statement, passings_of, use_db_of, with_passing, fetched_of, statement_fetched, instr_of}
 use Rattle.machine.specs.Statement.{GlobalStore, step_found, instruction_step, IsNotStuck}
-use Rattle.machine.specs.Walking.{Walk, walk_with, bound_from, binding_by, bound_next, passings_up_to, passings_with, fetched_at}
+use Rattle.machine.specs.Walking.{StatementWalk, walk_with, bound_from, binding_by, bound_next, passings_up_to, passings_with, fetched_at}
 
 -- a pass over the bindings that fails or goes on
 then_same :
@@ -145,7 +145,7 @@ run_passes (suc most) ops at r h =
 
 -- what was found along the ops is the statement at the offset
 with_line :
-    (b : CodeBlock) (at : ℕ) (line : Option ℕ) (found : Option OpRun) (walk : Walk) → op_run_at most_ops_of_statement b.code at ≡ found
+    (b : CodeBlock) (at : ℕ) (line : Option ℕ) (found : Option OpRun) (walk : StatementWalk) → op_run_at most_ops_of_statement b.code at ≡ found
     → line_placed 0 true b.code b.lines at ≡ line → is_some line ≡ true → Some walk ≡ option_map (walk_with None) found
     → option_and_then (λ line. option_map (fetched_of b.code line) found) line ≡ Some (fetched_at b at walk)
 with_line b at None found walk is placed there h = cc
@@ -159,7 +159,7 @@ with_line b at (Some line) (Some r) walk is placed there h =
     })) (run_passes most_ops_of_statement b.code at r is))
 
 pub found_at :
-    (b : CodeBlock) (at : ℕ) (walk there : Walk) → there ≡ walk → is_some (line_placed 0 true b.code b.lines at) ≡ true
+    (b : CodeBlock) (at : ℕ) (walk there : StatementWalk) → there ≡ walk → is_some (line_placed 0 true b.code b.lines at) ≡ true
     → Some walk ≡ option_map (walk_with None) (op_run_at most_ops_of_statement b.code at)
     → statement_fetched b at ≡ Some (fetched_at b at there)
 unfolding statement_fetched
@@ -186,7 +186,7 @@ no_walk None h some = cc
 no_walk (Some r) h some = none_some (walk_with None r) (sym h)
 
 pub found_there :
-    (b : CodeBlock) (at : ℕ) (walk there : Walk) → there ≡ walk → is_some (statement_fetched b at) ≡ true
+    (b : CodeBlock) (at : ℕ) (walk there : StatementWalk) → there ≡ walk → is_some (statement_fetched b at) ≡ true
     → Some walk ≡ option_map (walk_with None) (op_run_at most_ops_of_statement b.code at)
     → statement_fetched b at ≡ Some (fetched_at b at there)
 unfolding statement_fetched
@@ -209,7 +209,7 @@ goes_there c (Some f) a w there = refl
 
 -- and comes to what its instruction comes to
 pub found_is :
-    (b : CodeBlock) (at : ℕ) (walk there : Walk) (c : Code) (a : Activation) (w : GlobalStore) → there ≡ walk
+    (b : CodeBlock) (at : ℕ) (walk there : StatementWalk) (c : Code) (a : Activation) (w : GlobalStore) → there ≡ walk
     → Some walk ≡ option_map (walk_with None) (op_run_at most_ops_of_statement b.code at) → IsNotStuck (step_found c (statement_fetched b at) a w)
     → step_found c (statement_fetched b at) a w ≡ instruction_step c (fetched_at b at there).instr (fetched_at b at there).next a w
 found_is b at walk there c a w same h goes =

@@ -69,7 +69,7 @@ use Rattle.machine.specs.Statement.{GlobalStore, Went, statement_step, instructi
 use Rattle.machine.proofs.BindingLemmas.{PassingsFit, bound_of}
 use Rattle.machine.proofs.Called.{Caller, own_bound, function_lasts, function_block_lasts, going_fits, head_there}
 use Rattle.machine.proofs.Entered.{AreParams, of_blocks, of_functions, passings_fit, all_among, instance_long}
-use Rattle.machine.proofs.Errors.{Told, IfTold, IsSupplied, IsPlace, ParamHas, is_writing, goes_by_statement, HasRoom, Suits, effect_told, either_told, kind_none, zone_room, zone_there}
+use Rattle.machine.proofs.Errors.{IsKnownError, IfKnownError, IsSupplied, IsPlace, ParamHas, is_writing, goes_by_statement, HasRoom, Suits, effect_known, either_known, kind_none, zone_room, zone_there}
 use Rattle.machine.proofs.Keeping.{IfDone, Keeps, Quiet, codes_after, left_open, does_with_keeps}
 use Rattle.machine.proofs.Moving.{stands_of, frame_open, activation_follows}
 use Rattle.machine.proofs.Ready.{IsCallable, callable_kind, kind_callable}
@@ -143,8 +143,10 @@ went_fits l p a w at v q is goes kept =
 
 -- what an error of an instruction says: its code, and that brackets and zones are as they were
 pub record Erring (v : Operation) (code : ℕ) : Type 0 where
+  -- the operation opens and closes no bracket and no zone
   pub quiet : Quiet v
-  pub told : Told code
+  -- the code is one that an error may have
+  pub known : IsKnownError code
 
 abbrev pub IfErring : Operation → Result ExecState ℕ → Type 0
 IfErring v (Ok q) = Unit {0}
@@ -157,7 +159,7 @@ does_lasts :
     → StepFitsAgain p w (continue_with r at.here.run.next a)
 does_lasts l p a w at v (Ok q) is goes kept erring = record { sizes = kept.memory; fits = went_fits l p a w at v q is goes kept }
 does_lasts l p a w at v (Err code) is goes kept erring =
-    (erring.told, going_fits l p w.memory a at.here.run.next a.running.regs at.fits (next_same l p a w at v is goes erring.quiet))
+    (erring.known, going_fits l p w.memory a at.here.run.next a.running.regs at.fits (next_same l p a w at v is goes erring.quiet))
 
 -- ---- jumps
 
@@ -182,8 +184,8 @@ abbrev only_one : ℕ → List JumpOperation → Bool
 only_one from [] = true
 only_one from (j ∷ js) = (not (is_jl j) || eqb from 1) && only_one (from + 1) js
 
-jumps_told : only_one 0 JUMPS ≡ true
-jumps_told = refl
+jumps_known : only_one 0 JUMPS ≡ true
+jumps_known = refl
 
 jl_at : (from : ℕ) (js : List JumpOperation) (i : ℕ) → only_one from js ≡ true → is_jl (get_or js i jump.Ju) ≡ true → from + i ≡ 1
 jl_at from [] i all is = absurd cc
@@ -198,7 +200,7 @@ jl_at from (j ∷ js) (suc i) all is =
 
 jl_kind : (kind : ℕ) → is_jl (jump_of_number kind) ≡ true → kind ≡ 1
 unfolding jump_of_number
-jl_kind kind is = let e = jl_at 0 JUMPS kind jumps_told is in omega (arith, e)
+jl_kind kind is = let e = jl_at 0 JUMPS kind jumps_known is in omega (arith, e)
 
 -- each target of a list is a statement with this open before it
 abbrev AllStood : Program → BlockId → OpenAt → List ℕ → Type 0
@@ -624,8 +626,8 @@ abbrev all_writing : ℕ → List Operation → Bool
 all_writing from [] = true
 all_writing from (v ∷ vs) = (not (is_writing v) || writes_operand from) && all_writing (from + 1) vs
 
-writing_told : all_writing 0 OPERATIONS ≡ true
-writing_told = refl
+writing_known : all_writing 0 OPERATIONS ≡ true
+writing_known = refl
 
 writing_at : (from : ℕ) (vs : List Operation) (i : ℕ) → all_writing from vs ≡ true → is_writing (get_or vs i operation.NoOperation) ≡ true → writes_operand (from + i) ≡ true
 writing_at from [] i all is = absurd cc
@@ -641,16 +643,16 @@ writing_code : (code : ℕ) (v : Operation) → operation_of code ≡ v → is_w
 unfolding operation_of
 writing_code code v is h =
     let e : 0 + code ≡ code = omega arith in
-    rw e at (writing_at 0 OPERATIONS code writing_told (ap is_writing is ∙ h))
+    rw e at (writing_at 0 OPERATIONS code writing_known (ap is_writing is ∙ h))
 
 -- a parameter stands for something
 bound_has : (q : Param) (below : List Frame) (m : Areas) (b : Binding) → IsBound kinds.Fc q below m b → IsSupplied b
-bound_has q below m (binding.Bound at width frame) is = tt
+bound_has q below m (binding.AtPlace at width frame) is = tt
 bound_has q below m (binding.Constant value) is = tt
 bound_has q below m binding.Unsupplied is = is
 
 bound_place_is : (q : Param) (below : List Frame) (m : Areas) (b : Binding) → (q.section ≡ section_in → ⊥) → IsBound kinds.Fc q below m b → IsPlace b
-bound_place_is q below m (binding.Bound at width frame) other is = tt
+bound_place_is q below m (binding.AtPlace at width frame) other is = tt
 bound_place_is q below m (binding.Constant value) other is = absurd (other is.0)
 bound_place_is q below m binding.Unsupplied other is = absurd is
 
@@ -823,21 +825,21 @@ param_moved : (s t : Local) (written : Bool) (o : Operand) → t.inner.bindings 
 param_moved s t written (operand.Parameter index width) same has = (has.0, ap (λ (z : List Binding). slice_get z index) same ∙ has.1, has.2, has.3)
 param_moved s t written _ same has = tt
 
-with_told : (u : Option ℕ) (v : Operation) (o : Operand) (q : ExecState) → Suits v o q → IfTold (statement_effect u v o q)
+with_known : (u : Option ℕ) (v : Operation) (o : Operand) (q : ExecState) → Suits v o q → IfKnownError (statement_effect u v o q)
 unfolding statement_effect
-with_told None v o q s = effect_told v o q s
-with_told (Some number) v o q s =
-    either_told (is_block_loaded number q.memory) (operation_effect v o (with_db_opened number q)) (Err 0x3A)
-    (effect_told v o (with_db_opened number q) (record {
+with_known None v o q s = effect_known v o q s
+with_known (Some number) v o q s =
+    either_known (is_block_loaded number q.memory) (operation_effect v o (with_db_opened number q)) (Err 0x3A)
+    (effect_known v o (with_db_opened number q) (record {
       admitted = s.admitted;
       has = param_moved q.local (with_db_opened number q).local (is_writing v) o refl s.has;
       other = s.other;
       room = s.room;
     })) refl
 
-quiet_erring : (v : Operation) (r : Result ExecState ℕ) → Quiet v → IfTold r → IfErring v r
-quiet_erring v (Ok q) quiet told = tt
-quiet_erring v (Err code) quiet told = record { quiet = quiet; told = told }
+quiet_erring : (v : Operation) (r : Result ExecState ℕ) → Quiet v → IfKnownError r → IfErring v r
+quiet_erring v (Ok q) quiet known = tt
+quiet_erring v (Err code) quiet known = record { quiet = quiet; known = known }
 
 nest_erring : (with : Check) (o : Operand) (q : ExecState) → (length q.local.inner.brackets ≡ 7 → ⊥) → IfErring (operation.Nest with) (operation_effect (operation.Nest with) o q)
 unfolding operation_effect nesting_opened
@@ -877,7 +879,7 @@ unfolding statement_effect
 erring u (operation.Nest with) o q s none = rw (none refl) (nest_erring with o q s.room)
 erring u operation.Unnest o q s none = rw (none refl) (unnest_erring o q s.room)
 erring u (operation.Relay which) o q s none = rw (none refl) (relay_erring which o q s.room)
-erring u v o q s none = quiet_erring v (statement_effect u v o q) (λ held. refl) (with_told u v o q s)
+erring u v o q s none = quiet_erring v (statement_effect u v o q) (λ held. refl) (with_known u v o q s)
 
 nothing_in_db : (o : Operand) → admits takes.Nothing o ≡ true → is_in_db o ≡ false
 unfolding admits

@@ -31,10 +31,10 @@ unchanged p old new a answer same leaves = rw same (record { sizes = same_sizes 
 step_leaves :
     (p : Program) (step : StatementStep) (old new : Activation) (w after : GlobalStore) (answer : Outcome) → FitsProgram p w.memory old
     → StepFitsAgain p w step → IsOutcomeOf step old new w after answer → LeavesFit p w.memory after.memory new answer
-step_leaves p (Went a world) old new w after outcome.Went h lasts comes =
+step_leaves p (Went a store) old new w after outcome.Went h lasts comes =
     rw (comes.0, comes.1) (record { sizes = lasts.sizes; leaves = lasts.fits })
-step_leaves p (Ended regs world) old new w after outcome.Ended h lasts comes =
-    rw comes.1 (record { sizes = lasts; leaves = memory_stays (code_of p) w.memory world.memory h.memory lasts })
+step_leaves p (Ended regs store) old new w after outcome.Ended h lasts comes =
+    rw comes.1 (record { sizes = lasts; leaves = memory_stays (code_of p) w.memory store.memory h.memory lasts })
 step_leaves p (SyncError code a) old new w after (outcome.SyncError answer) h lasts comes =
     rw (comes.0, comes.1, comes.2) (record { sizes = same_sizes w.memory; leaves = lasts })
 step_leaves p (SysCall number given a) old new w after (outcome.SysCall function inputs result) h lasts comes =

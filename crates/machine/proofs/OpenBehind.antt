@@ -46,40 +46,40 @@ zones_same (operation.Relay relay.Deactivate) zones h = refl
 zones_same _ zones h = refl
 
 -- in a table all operations are of a kind, but for those of some codes
-abbrev all_told : (Operation → Bool) → (ℕ → Bool) → ℕ → List Operation → Bool
-all_told kind named from [] = true
-all_told kind named from (w ∷ ws) = (kind w || named from) && all_told kind named (from + 1) ws
+abbrev all_known : (Operation → Bool) → (ℕ → Bool) → ℕ → List Operation → Bool
+all_known kind named from [] = true
+all_known kind named from (w ∷ ws) = (kind w || named from) && all_known kind named (from + 1) ws
 
-told :
+is_of_kind :
     (kind : Operation → Bool) (named : ℕ → Bool) (from : ℕ) (ws : List Operation) (i : ℕ)
-    → kind operation.NoOperation ≡ true → all_told kind named from ws ≡ true → named (from + i) ≡ false
+    → kind operation.NoOperation ≡ true → all_known kind named from ws ≡ true → named (from + i) ≡ false
     → kind (get_or ws i operation.NoOperation) ≡ true
-told kind named from [] i none all o = none
-told kind named from (w ∷ ws) zero none all o =
+is_of_kind kind named from [] i none all o = none
+is_of_kind kind named from (w ∷ ws) zero none all o =
     let e : from + 0 ≡ from = omega arith in
-    quiet (kind w) (named from) (and_parts (kind w || named from) (all_told kind named (from + 1) ws) all).0 (rw e at o)
+    quiet (kind w) (named from) (and_parts (kind w || named from) (all_known kind named (from + 1) ws) all).0 (rw e at o)
   where
     quiet : (x y : Bool) → (x || y) ≡ true → y ≡ false → x ≡ true
     quiet true y h a = refl
     quiet false true h a = absurd cc
     quiet false false h a = absurd cc
-told kind named from (w ∷ ws) (suc i) none all o =
+is_of_kind kind named from (w ∷ ws) (suc i) none all o =
     let e : from + suc i ≡ from + 1 + i = omega arith in
-    told kind named (from + 1) ws i none (and_parts (kind w || named from) (all_told kind named (from + 1) ws) all).1 (rw e at o)
+    is_of_kind kind named (from + 1) ws i none (and_parts (kind w || named from) (all_known kind named (from + 1) ws) all).1 (rw e at o)
 
 -- only A( to XN( open a bracket, and only `)` closes one
 abbrev of_brackets : ℕ → Bool
 of_brackets code = is_opening code || eqb code (op_code operation.Unnest)
 
-brackets_told : all_told is_other of_brackets 0 OPERATIONS ≡ true
-brackets_told = refl
+brackets_known : all_known is_other of_brackets 0 OPERATIONS ≡ true
+brackets_known = refl
 
 -- only `MCR(` begins a zone, and only `)MCR` ends one
 abbrev of_zones : ℕ → Bool
 of_zones code = eqb code (op_code (operation.Relay relay.Open)) || eqb code (op_code (operation.Relay relay.Close))
 
-zones_told : all_told keeps_zones of_zones 0 OPERATIONS ≡ true
-zones_told = refl
+zones_known : all_known keeps_zones of_zones 0 OPERATIONS ≡ true
+zones_known = refl
 
 neither : (x y : Bool) → x ≡ false → y ≡ false → (x || y) ≡ false
 neither false y a b = b
@@ -89,7 +89,7 @@ other_code : (code : ℕ) → is_opening code ≡ false → eqb code (op_code op
 unfolding operation_of
 other_code code o c =
     let e : 0 + code ≡ code = omega arith in
-    told is_other of_brackets 0 OPERATIONS code refl brackets_told
+    is_of_kind is_other of_brackets 0 OPERATIONS code refl brackets_known
     (rw (sym e) at (neither (is_opening code) (eqb code (op_code operation.Unnest)) o c))
 
 quiet_word : (code : ℕ) (codes : List Check) → is_opening code ≡ false → eqb code (op_code operation.Unnest) ≡ false → codes_after (operation_of code) codes ≡ codes
@@ -97,13 +97,13 @@ quiet_word code codes o c = other_same (operation_of code) codes (other_code cod
 
 -- an operation that opens a bracket has such a code, and the one that closes has its own
 pub nest_opens : (code : ℕ) → is_other (operation_of code) ≡ false → (eqb code (op_code operation.Unnest) ≡ true → ⊥) → is_opening code ≡ true
-nest_opens code told_by other = by (is_opening code) refl
+nest_opens code known_by other = by (is_opening code) refl
   where
     by : (o : Bool) → is_opening code ≡ o → o ≡ true
     by true o = refl
     by false o =
         let is = other_code code o (not_true (eqb code (op_code operation.Unnest)) other) in
-        absurd (let f : false ≡ true = sym told_by ∙ is in cc)
+        absurd (let f : false ≡ true = sym known_by ∙ is in cc)
       where
         not_true : (x : Bool) → (x ≡ true → ⊥) → x ≡ false
         not_true true h = absurd (h refl)
@@ -198,7 +198,7 @@ unfolding operation_of
 quiet_zones code zones o c =
     let e : 0 + code ≡ code = omega arith in
     zones_same (get_or OPERATIONS code operation.NoOperation) zones
-    (told keeps_zones of_zones 0 OPERATIONS code refl zones_told
+    (is_of_kind keeps_zones of_zones 0 OPERATIONS code refl zones_known
     (rw (sym e) at (neither (eqb code (op_code (operation.Relay relay.Open))) (eqb code (op_code (operation.Relay relay.Close))) o c)))
 
 -- these operations have these codes alone

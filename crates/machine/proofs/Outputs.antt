@@ -197,7 +197,7 @@ pointer_inside access area width n s h =
 
 binding_inside :
     (b : Option Binding) → is_bound_inside b ≡ true → IfDone IsPlacedInside (binding_location b)
-binding_inside (Some (binding.Bound place width frame)) h = inside_is place.area h
+binding_inside (Some (binding.AtPlace place width frame)) h = inside_is place.area h
 binding_inside (Some (binding.Constant value)) h = tt
 binding_inside (Some binding.Unsupplied) h = tt
 binding_inside None h = tt
@@ -413,7 +413,7 @@ passed_stays :
     (b : Option Binding) (to : Location) (c : LocalMemory) → is_area_p to.place.area ≡ false
     → Stay c.memory (actual_copied_to b to c).memory
 unfolding actual_copied_to number_copied
-passed_stays (Some (binding.Bound place width frame)) to c inside = put_in_stays to _ c inside
+passed_stays (Some (binding.AtPlace place width frame)) to c inside = put_in_stays to _ c inside
 passed_stays (Some (binding.Constant value)) to c inside = put_in_stays to value c inside
 passed_stays (Some binding.Unsupplied) to c inside = refl
 passed_stays None to c inside = refl

@@ -51,14 +51,14 @@ copied_kept from to c = put_kept to (unwrap_or (location_number from c.local.loc
 
 passed_kept : (b : Option Binding) (to : Location) (c : LocalMemory) → Kept c (actual_copied_to b to c)
 unfolding actual_copied_to
-passed_kept (Some (binding.Bound place width frame)) to c = copied_kept (record { place = place; width = width; frame = frame }) to c
+passed_kept (Some (binding.AtPlace place width frame)) to c = copied_kept (record { place = place; width = width; frame = frame }) to c
 passed_kept (Some (binding.Constant value)) to c = put_kept to value c
 passed_kept (Some binding.Unsupplied) to c = same_scene c.local c.memory
 passed_kept None to c = same_scene c.local c.memory
 
 given_kept : (from : Location) (b : Option Binding) (c : LocalMemory) → Kept c (copied_to_actual from b c)
 unfolding copied_to_actual
-given_kept from (Some (binding.Bound place width frame)) c = copied_kept from (record { place = place; width = width; frame = frame }) c
+given_kept from (Some (binding.AtPlace place width frame)) c = copied_kept from (record { place = place; width = width; frame = frame }) c
 given_kept from (Some (binding.Constant value)) c = same_scene c.local c.memory
 given_kept from (Some binding.Unsupplied) c = same_scene c.local c.memory
 given_kept from None c = same_scene c.local c.memory

@@ -35,7 +35,7 @@ exists_still areas.Di at below m n same h = numbers_there m n at.place at.width 
 bound_still :
     (kind : BlockKind) (p : Param) (below : List Frame) (m n : Areas) (b : Binding) → SameSizes m n
     → IsBound kind p below m b → IsBound kind p below n b
-bound_still kind p below m n (binding.Bound at width frame) same h =
+bound_still kind p below m n (binding.AtPlace at width frame) same h =
     (h.0, exists_still at.area (record { place = at; width = width; frame = frame }) below m n same h.1)
 bound_still kind p below m n (binding.Constant value) same h = h
 bound_still kinds.Ob p below m n binding.Unsupplied same h = h

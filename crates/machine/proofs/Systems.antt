@@ -28,6 +28,7 @@ use Rattle.frames.specs.declared.frame.Frame.{Frame}
 use Rattle.flat_code.specs.declared.programs.Param.{Param}
 use Rattle.flat_code.specs.Instr.{Passing}
 use Rattle.flat_code.specs.Programs.{CodeBlock, Program}
+use Rattle.flat_code.specs.Records.{section_out}
 use Rattle.image_file.specs.Readers.{block_by_id}
 use Rattle.machine.specs.declared.places.Location.{Location}
 use Rattle.machine.specs.Bindings.{param_bindings}
@@ -43,8 +44,8 @@ use Rattle.machine.specs.Statement.{GlobalStore, after_system_call, system_call_
 use Rattle.machine.specs.SystemCalls.{system_call_arguments, input_of, inputs_from, result_from, system_call, system_function}
 use Rattle.machine.specs.Values.{with_locals, stored_at}
 use Rattle.machine.proofs.BindingLemmas.{PassingsFit, is_among, bound_of}
-use Rattle.machine.proofs.Called.{Caller, caller, function_bound, caller_binds, caller_told, going_fits}
-use Rattle.machine.proofs.Errors.{IfTold}
+use Rattle.machine.proofs.Called.{Caller, caller, function_bound, caller_binds, caller_known, going_fits}
+use Rattle.machine.proofs.Errors.{IfKnownError}
 use Rattle.machine.proofs.FrameBytes.{mapped_there, lies_written, locals_moved}
 use Rattle.machine.proofs.Keeping.{IfDone}
 use Rattle.machine.proofs.Moving.{stands_of}
@@ -153,7 +154,7 @@ place_fits at l m n is = by (is_area_l at.place.area) is
 given_fits :
     (p : Param) (frames : List Frame) (m : Areas) (b : Binding) (s : Local) → IsBound kinds.Fc p frames m b
     → input_of (Some b) s m < 2 ^ bit_count p.width
-given_fits p frames m (binding.Bound at width frame) s is =
+given_fits p frames m (binding.AtPlace at width frame) s is =
     by (location_number (record { place = at; width = width; frame = frame }) s.locals m) refl
   where
     by : (o : Option ℕ) → location_number (record { place = at; width = width; frame = frame }) s.locals m ≡ o → unwrap_or o 0 < 2 ^ bit_count p.width
@@ -192,34 +193,34 @@ result_taken :
     → TakesResult (result_from ps i bs) a m
 result_taken [] frames m bs i a fits w each = tt
 result_taken (p ∷ ps) frames m bs i a fits w each =
-    by (eqb p.section 2) refl
+    by (eqb p.section section_out) refl
     (result_taken ps frames m bs (i + 1) a fits w (λ j q found.
     let one = each (suc j) q found in
     let at : i + 1 + j ≡ i + suc j = omega arith in
     (one.0, ap (slice_get bs) at ∙ one.1, one.2)))
   where
-    taken : (b : Binding) → IsBound kinds.Fc p frames m b → p.section ≡ 2 → TakesResult (Some b) a m
-    taken (binding.Bound at width frame) is two =
+    taken : (b : Binding) → IsBound kinds.Fc p frames m b → p.section ≡ section_out → TakesResult (Some b) a m
+    taken (binding.AtPlace at width frame) is two =
         λ value. stored_there frames m (record { place = at; width = width; frame = frame }) value (local_of a.running) fits w is.1
     taken (binding.Constant value) is two = let one = is.0 in absurd (omega (arith, one, two))
     taken binding.Unsupplied is two = absurd is
 
-    by : (t : Bool) → eqb p.section 2 ≡ t → TakesResult (result_from ps (i + 1) bs) a m → TakesResult (cond t (slice_get bs i) (result_from ps (i + 1) bs)) a m
+    by : (t : Bool) → eqb p.section section_out ≡ t → TakesResult (result_from ps (i + 1) bs) a m → TakesResult (cond t (slice_get bs i) (result_from ps (i + 1) bs)) a m
     by true e more =
         let one = each 0 p refl in
         let at : i + 0 ≡ i = omega arith in
         let found : slice_get bs i ≡ Some one.0 = ap (slice_get bs) (sym at) ∙ one.1 in
-        rw found (taken one.0 one.2 (eqb-true p.section 2 e))
+        rw found (taken one.0 one.2 (eqb-true p.section section_out e))
     by false e more = more
 
 system_lasts :
     (l : ImageLaws) (p : Program) (a : Activation) (w : GlobalStore) (next number : ℕ) (ps : List Param) (r : Result (List Binding) ℕ)
-    → Caller p w.memory a next → system_function number ≡ Some ps → IfTold r → IfDone (AreBound kinds.Fc ps (caller a next ∷ a.below) w.memory) r
+    → Caller p w.memory a next → system_function number ≡ Some ps → IfKnownError r → IfDone (AreBound kinds.Fc ps (caller a next ∷ a.below) w.memory) r
     → StepFitsAgain p w (after_system_call (then_ok r (λ bs. Ok (system_call_arguments ps bs (local_of a.running) w.memory))) number next a)
-system_lasts l p a w next number ps (Err code) h known told bound = (told, going_fits l p w.memory a next a.running.regs h.fits h.stood)
-system_lasts l p a w next number ps (Ok bs) h known told bound =
+system_lasts l p a w next number ps (Err code) h function_is known bound = (known, going_fits l p w.memory a next a.running.regs h.fits h.stood)
+system_lasts l p a w next number ps (Ok bs) h function_is known bound =
     let was = stands_of (code_of p) (open_codes p) w.memory a h.fits.fits in (
-      rw known (inputs_fit ps (caller a next ∷ a.below) w.memory bs 0 (local_of a.running) (λ j q found.
+      rw function_is (inputs_fit ps (caller a next ∷ a.below) w.memory bs 0 (local_of a.running) (λ j q found.
           let one = bound_of kinds.Fc ps (caller a next ∷ a.below) w.memory bs j q bound found in
           let at : 0 + j ≡ j = omega arith in
           (one.0, ap (slice_get bs) at ∙ one.1, one.2))),
@@ -240,7 +241,7 @@ pub function_called_lasts :
     → ((i : ℕ) (q : Param) → slice_get ps i ≡ Some q → is_among i xs ≡ true)
     → StepFitsAgain p w (system_call_made (Some ps) number xs next a w)
 unfolding system_call
-function_called_lasts l p a w next number own ps xs h known own_is fits each =
+function_called_lasts l p a w next number own ps xs h function_is own_is fits each =
     let bound = caller_binds p w.memory a own ps next xs own_is h.fits fits in
-    system_lasts l p a w next number ps (param_bindings ps xs (local_of a.running) w.memory) h known (caller_told p w.memory a own ps xs own_is h.fits fits)
+    system_lasts l p a w next number ps (param_bindings ps xs (local_of a.running) w.memory) h function_is (caller_known p w.memory a own ps xs own_is h.fits fits)
     (function_bound ps (caller a next ∷ a.below) w.memory xs (param_bindings ps xs (local_of a.running) w.memory) each bound)

@@ -11,7 +11,7 @@ use Rattle.flat_code.specs.declared.operands.Operand.TheVariants as operand
 use Rattle.flat_code.specs.declared.programs.Param.{Param}
 use Rattle.machine.specs.ExecState.{Local, then_ok}
 use Rattle.machine.specs.Flat.{OpRun, op_run_at, run_with, use_db_of, use_db_first, list_of, listed_with, with_op}
-use Rattle.machine.specs.Walking.{Walk, walk_by, walk_with, first_present, opens_after, list_jump, bound_from, binding_by, bound_next}
+use Rattle.machine.specs.Walking.{StatementWalk, walk_by, walk_with, first_present, opens_after, list_jump, bound_from, binding_by, bound_next}
 
 -- what is behind a count of which some are done
 one_less : (k most : ℕ) → k < most → most - k ≡ suc (most - suc k)
@@ -20,7 +20,7 @@ one_less k most h = omega arith
 one_more : (k : ℕ) → k + 1 ≡ suc k
 one_more k = omega arith
 
-abbrev walked : Option ℕ → Option OpRun → Option Walk
+abbrev walked : Option ℕ → Option OpRun → Option StatementWalk
 walked opens r = option_map (walk_with opens) r
 
 run_next :
@@ -101,7 +101,7 @@ walk_ends most k ops at next op opens less h last =
 
 -- and where it is read once more
 pub walk_ends_there :
-    (most k : ℕ) (ops : List OpData) (at next : ℕ) (op : OpData) (opens : Option ℕ) (walk : Option Walk) → k < most
+    (most k : ℕ) (ops : List OpData) (at next : ℕ) (op : OpData) (opens : Option ℕ) (walk : Option StatementWalk) → k < most
     → Some (op, next) ≡ op_placed 0 ops at → op.last ≡ true → walk ≡ option_map (walk_by opens) (op_placed 0 ops at)
     → walk ≡ option_map (walk_with opens) (op_run_at (most - k) ops at)
 walk_ends_there most k ops at next op opens walk less h last is =
@@ -152,7 +152,7 @@ first_leads_on r ops at opens h more is =
     ∙ ap (λ (z : Option ℕ). option_map (walk_with z) (op_run_at 63 ops r.1)) (sym is)
 
 pub first_goes_on :
-    (ops : List OpData) (at next : ℕ) (op : OpData) (walk : Option Walk) → Some (op, next) ≡ op_placed 0 ops at → op.last ≡ false
+    (ops : List OpData) (at next : ℕ) (op : OpData) (walk : Option StatementWalk) → Some (op, next) ≡ op_placed 0 ops at → op.last ≡ false
     → walk ≡ option_map (walk_with (opens_after None op.operand)) (op_run_at 63 ops next)
     → walk ≡ option_map (walk_with None) (op_run_at 64 ops at)
 first_goes_on ops at next op walk h more is = is ∙ sym (first_leads_on (op, next) ops at (opens_after None op.operand) h more refl)

@@ -3,7 +3,7 @@ use Rattle.std.specs.Prelude.{ℕ, ◌==◌, List, [], ◌∷◌, length, replic
 use Rattle.plc_base.specs.ErrorCodes as errors
 use Rattle.plc_base.specs.declared.Area.TheVariants as areas
 use Rattle.plc_mem.specs.Areas.{Areas}
-use Rattle.frames.specs.Bound.{binding_set}
+use Rattle.frames.specs.ParameterBindings.{binding_set}
 use Rattle.frames.specs.declared.bindings.Binding.{Binding}
 use Rattle.frames.specs.declared.bindings.Binding.TheVariants as binding
 use Rattle.flat_code.specs.declared.operands.Passed.{Passed}
@@ -18,16 +18,18 @@ use Rattle.machine.specs.ExecState.{Local, then_ok}
 use Rattle.machine.specs.Places.{location_at, area_location, location_number, error_of_absent_place, no_operand}
 use Rattle.machine.specs.DataBlocks.{is_block_loaded}
 
--- of the sections of a declaration OUT alone is tested as a place that is written
+-- how a parameter of the section of a declaration is tested when it is bound: OUT alone as a place
+-- that is written
 abbrev pub param_access : Param → Access
 param_access p = if p.section == section_out then Writing else Reading
 
--- a place is bound if it exists
+-- a parameter bound to a place if the place exists; else the error of the place
 abbrev pub bound_if : Access → Location → Option ℕ → Result Binding ℕ
 bound_if access at None = Err (error_of_absent_place access at.place.area)
-bound_if access at (Some n) = Ok (binding.Bound at.place at.width at.frame)
+bound_if access at (Some n) = Ok (binding.AtPlace at.place at.width at.frame)
 
--- a place exists where a number is read, for OUT too; else 22, 23, in the peripheral area 42, 43
+-- a parameter bound to a place, tested as one that is read, for OUT too; error 22 or 23 where it
+-- doesn't exist, in the peripheral area 42 or 43
 unfoldable pub bound_place : Access → Location → Local → Areas → Result Binding ℕ
 bound_place access at s m = bound_if access at (location_number at s.locals m)
 
@@ -36,8 +38,8 @@ abbrev pub binding_of_caller : Option Binding → Result Binding ℕ
 binding_of_caller (Some b) = Ok b
 binding_of_caller None = Err no_operand
 
--- what is passed: constants by value, places as they are at the call. A place in a data block that
--- is named opens nothing: 3A where the block isn't loaded
+-- what a passing binds: a constant by its value, a place as it is at the call. A place in a data
+-- block that is named opens nothing: error 3A where the block isn't loaded
 unfoldable pub bound_actual : Access → Passed → Local → Areas → Result Binding ℕ
 bound_actual access (passed.Literal value) s m = Ok (binding.Constant value)
 bound_actual access (passed.Direct area width byte bit) s m =
@@ -45,15 +47,17 @@ bound_actual access (passed.Direct area width byte bit) s m =
 bound_actual access (passed.Parameter index width) s m =
     binding_of_caller (slice_get s.inner.bindings index)
 bound_actual access (passed.InBlock number area width byte bit) s m =
-    if is_block_loaded number m then bound_place access (location_at areas.Db number byte bit width 0) s m
+    if is_block_loaded number m
+    then bound_place access (location_at areas.Db number byte bit width 0) s m
     else Err errors.no_data_block
 
--- for a parameter of the called block; one that it lacks is passed in no program that is loaded
+-- what is passed, bound for a parameter of the called block; one that the block lacks is passed in
+-- no program that is loaded
 abbrev pub bound_for : Option Param → Passed → Local → Areas → Result Binding ℕ
 bound_for (Some p) actual s m = bound_actual (param_access p) actual s m
 bound_for None actual s m = Err no_operand
 
--- one after another, each passing sets what its parameter stands for
+-- the bindings after each passing, one after another, has set what its parameter stands for
 abbrev pub bound_params :
     List Param → List Passing → List Binding → Local → Areas → Result (List Binding) ℕ
 bound_params params [] bindings s m = Ok bindings

@@ -7,25 +7,28 @@ use Rattle.plc_base.specs.declared.Width.TheVariants as widths
 use Rattle.plc_mem.specs.Areas.{Areas}
 use Rattle.status_word.specs.declared.Regs.{Regs}
 use Rattle.frames.specs.FrameData.{FrameData}
+use Rattle.flat_code.specs.Kinds.{db_register_number}
 use Rattle.flat_code.specs.declared.operands.Operand.{Operand}
 use Rattle.flat_code.specs.declared.operands.Operand.TheVariants as operand
 use Rattle.machine.specs.ExecState.{Local, then_ok}
 use Rattle.machine.specs.Places.{pointer_number, no_operand}
 use Rattle.machine.specs.Loads.{with_accu_loaded}
 
--- the data block of a number is loaded
+-- whether the data block with a number is loaded
 abbrev pub is_block_loaded : ℕ → Areas → Bool
 is_block_loaded number m = is_some (map.get m.data_blocks number)
 
--- the data block opened in the DB (1) or DI (2) register
+-- a running block with the data block of a number opened in the DB (1) or DI (2) register
 abbrev pub block_opened : (register number : ℕ) → Local → Local
 block_opened register number s =
-    if register == 1 then record s { inner = record s.inner { db = Some number } }
+    if register == db_register_number then record s { inner = record s.inner { db = Some number } }
     else record s { inner = record s.inner { di = Some number } }
 
--- 3A: the data block isn't loaded
+-- a running block with a data block opened in the DB (1) or DI (2) register, if it is loaded; else
+-- error 3A
 abbrev pub opened_if : Bool → (register number : ℕ) → Local → Result Local ℕ
-opened_if loaded register number s = if loaded then Ok (block_opened register number s) else Err errors.no_data_block
+opened_if loaded register number s =
+    if loaded then Ok (block_opened register number s) else Err errors.no_data_block
 
 -- OPN of a number, or of the number in a word of memory
 unfoldable pub block_opened_by : Operand → Local → Areas → Result Local ℕ
@@ -36,26 +39,25 @@ block_opened_by (operand.OpenBy register from byte) s m =
     opened_if (is_block_loaded number m) register number s)
 block_opened_by _ s m = Err no_operand
 
--- CDB: DB and DI register exchanged
+-- CDB: a running block with the contents of the DB and DI registers exchanged
 unfoldable pub registers_exchanged : Local → Local
 registers_exchanged s = record s { inner = record s.inner { db = s.inner.di; di = s.inner.db } }
 
--- the number of an opened data block, and its length in bytes, in the 32 bits of an accumulator; 0
--- where none is open
+-- the number of an opened data block, as it is loaded in an accumulator; 0 where none is open
 abbrev pub number_opened : Option ℕ → ℕ
 number_opened block = unwrap_or block 0
 
--- the length in bytes, modulo 2^32; 0 for a data block that isn't loaded
+-- the length of a data block in bytes, modulo 2^32; 0 for one that isn't loaded
 abbrev pub len_of : Option (List ℕ) → ℕ
 len_of None = 0
 len_of (Some bytes) = length bytes % 2 ^ 32
 
--- DBLG, DILG: the length of the data block in a register; 0 where none is open
+-- the length in bytes, modulo 2^32, of the data block in a register; 0 where none is open
 abbrev pub len_opened : Option ℕ → Areas → ℕ
 len_opened None m = 0
 len_opened (Some number) m = len_of (map.get m.data_blocks number)
 
--- 0 DBLG, 1 DBNO, 2 DILG, 3 DINO
+-- the number that L loads of an open data block: for 0 DBLG, 1 DBNO, 2 DILG, 3 DINO
 unfoldable pub open_block_fact : ℕ → FrameData → Areas → ℕ
 open_block_fact which f m =
     if which == 0 then len_opened f.db m
@@ -63,7 +65,7 @@ open_block_fact which f m =
     else if which == 2 then len_opened f.di m
     else number_opened f.di
 
--- L DBLG, L DBNO, L DILG, L DINO
+-- registers after L DBLG, L DBNO, L DILG or L DINO
 unfoldable pub loading_open_block : Operand → Local → Areas → Result Regs ℕ
 loading_open_block (operand.Literal which) s m =
     Ok (with_accu_loaded (open_block_fact which s.inner m) s.regs)

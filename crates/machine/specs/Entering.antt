@@ -15,16 +15,20 @@ use Rattle.machine.specs.ExecState.{LocalMemory, local_of, local_memory_of, with
 use Rattle.machine.specs.Bindings.{param_bindings}
 use Rattle.machine.specs.Copies.{params_copied_in}
 
--- OS 0, OR 0, STA 1, /FC 0: at each call and return
+-- registers after a call or return: OS 0, OR 0, STA 1, /FC 0
 abbrev pub at_block : Regs → Regs
 at_block r =
     record r { status = record r.status { os = false; or = false; sta = true; fc = false } }
 
 -- a block that is called: its instance, if one is named, its local bytes and its parameters
 pub record CalledBlock : Type 0 where
+  -- the kind and number of the block
   pub block : BlockId
+  -- the number of the instance data block, if the call names one
   pub instance : Option ℕ
+  -- how many local bytes the block has
   pub local_len : ℕ
+  -- the declared parameters of the block, by their index
   pub params : List Param
 
 -- the DI register of the called block: the instance, else the caller's
@@ -32,8 +36,8 @@ abbrev pub di_of : (instance di : Option ℕ) → Option ℕ
 di_of None di = di
 di_of (Some instance) di = Some instance
 
--- the frame of the called block: it begins with the caller's data blocks, no open bracket, and its own
--- relay, which is inactive
+-- the frame of the called block: it begins with the caller's data blocks, no open bracket, and its
+-- own relay, which is inactive
 abbrev pub called_frame : CalledBlock → List Binding → Frame → Frame
 called_frame called bindings caller =
     record (frame_begun called.block called.local_len) {
@@ -54,10 +58,13 @@ activation_continued_at at r a =
 abbrev pub caller_at : (next : ℕ) → Activation → Activation
 caller_at next a = activation_continued_at next (at_block a.running.regs) a
 
--- a call: a synchronous error, a stop, or the called block runs
+-- what comes of a call
 pub data Call : Type 0 where
+  -- a synchronous error with this code; nothing has changed
   Fails : (code : ℕ) → Call
+  -- STOP, since the block can't be entered; nothing has changed
   Stops : (fault : FrameFault) → Call
+  -- the called block runs in this activation, with this memory
   Enters : (a : Activation) (m : Areas) → Call
 
 -- the called block runs, with what copying its parameters left of it and of memory
@@ -68,7 +75,8 @@ entered_with_parameters a c = Enters (record a { running = with_local a.running 
 abbrev pub instance_supplied : Option ℕ → List Param → Activation → Areas → Call
 instance_supplied None params a m = Enters a m
 instance_supplied (Some instance) params a m =
-    entered_with_parameters a (params_copied_in params 0 a.running.frame.bindings instance (local_memory_of a.running m))
+    entered_with_parameters a
+    (params_copied_in params 0 a.running.frame.bindings instance (local_memory_of a.running m))
 
 -- a stop by depth or local data sets and copies nothing; else the caller stands behind the call
 abbrev pub entry_or_stop :
@@ -79,7 +87,8 @@ entry_or_stop None called bindings next a m =
     (block_entered (called_frame called bindings a.running.frame) (caller_at next a)) m
 
 -- a parameter that can't be bound is a synchronous error, and comes before depth and local data
-abbrev pub call_with_bindings : Result (List Binding) ℕ → CalledBlock → (next : ℕ) → Activation → Areas → Call
+abbrev pub call_with_bindings :
+    Result (List Binding) ℕ → CalledBlock → (next : ℕ) → Activation → Areas → Call
 call_with_bindings (Err code) called next a m = Fails code
 call_with_bindings (Ok bindings) called next a m =
     entry_or_stop (entry_fault called.local_len a) called bindings next a m
@@ -87,7 +96,8 @@ call_with_bindings (Ok bindings) called next a m =
 -- a call of a block; after it the caller goes on at the position `next`
 unfoldable pub block_call : CalledBlock → List Passing → (next : ℕ) → Activation → Areas → Call
 block_call called passings next a m =
-    call_with_bindings (param_bindings called.params passings (local_of a.running) m) called next a m
+    call_with_bindings (param_bindings called.params passings (local_of a.running) m)
+    called next a m
 
 -- a call whose parameters are bound leaves its arguments as that says; after a stop as they were
 abbrev pub LeavesCall :

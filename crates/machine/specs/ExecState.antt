@@ -9,22 +9,33 @@ use Rattle.frames.specs.Locals.{LocalData}
 use Rattle.frames.specs.declared.running.Running.{Running}
 
 -- what an activation has of its own: registers, the innermost frame but for its block, position and
--- length, and the local bytes of all frames
+-- count of local bytes, and the local bytes of all frames
 pub record Local : Type 0 where
+  -- the registers of the CPU with the status word
   pub regs : Regs
+  -- the innermost frame, but for its block, position and count of local bytes
   pub inner : FrameData
+  -- the local bytes (L) of all frames
   pub locals : LocalData
 
--- what an instruction may see and change of the running block (registers, brackets, local data), and memory
+-- what an instruction may see and change of the running block (registers, brackets, local data),
+-- and memory
 pub record LocalMemory : Type 0 where
+  -- what the running block has of its own
   pub local : Local
+  -- the memory areas but local data
   pub memory : Areas
 
--- all that an instruction may see and change: what the running block has of its own, memory, timers and counters
+-- all that an instruction may see and change: what the running block has of its own, memory, timers
+-- and counters
 pub record ExecState : Type 0 where
+  -- what the running block has of its own
   pub local : Local
+  -- the memory areas but local data
   pub memory : Areas
+  -- the timers, by number
   pub timers : List Timer
+  -- the counters, by number
   pub counters : List Counter
 
 -- what an instruction works on of a running block: all but which block it is, its position and how
@@ -42,9 +53,10 @@ exec_state_of s m t n = record { local = local_of s; memory = m; timers = t; cou
 
 -- the running block with these parts; its block and position stay
 abbrev pub with_local : Running → Local → Running
-with_local s o = record s { regs = o.regs; frame = with_frame_data s.frame o.inner; locals = o.locals }
+with_local s o =
+    record s { regs = o.regs; frame = with_frame_data s.frame o.inner; locals = o.locals }
 
--- what comes of a first result, or its error
+-- what a function makes of a first result, or the error code of that result
 abbrev pub then_ok : {A B : Type 0} → Result A ℕ → (A → Result B ℕ) → Result B ℕ
 then_ok (Ok x) f = f x
 then_ok (Err e) f = Err e

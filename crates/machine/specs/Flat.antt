@@ -20,24 +20,29 @@ use Rattle.flat_code.specs.declared.operations.Operation.TheVariants as operatio
 use Rattle.image_file.specs.Readers.{block_by_id}
 use Rattle.machine.specs.Code.{Code, Fetched, BlockHead}
 
--- the ops of a statement: those that prepare, the last one, and the offset behind it
+-- the ops of a statement one after another: those that prepare, the last one, and the offset behind
+-- it
 pub record OpRun : Type 0 where
+  -- the ops that prepare, USEDB and PASS, in their order
   pub before : List OpData
+  -- the last op, which has the end mark
   pub last : OpData
+  -- the byte offset behind the last op
   pub next : ℕ
 
--- one more op that prepares, before those of the run
+-- a run of ops with one more op that prepares, in front of the others
 abbrev pub with_op : OpData → OpRun → OpRun
 with_op op r = record r { before = op ∷ r.before }
 
--- the run from an op on that has the offset `next` behind it
+-- the run of ops from an op on: the op alone where it has the end mark, else in front of the run
+-- that begins at the offset behind it; None where there is no op
 abbrev pub run_with : Option (OpData × ℕ) → (ℕ → Option OpRun) → Option OpRun
 run_with None more = None
 run_with (Some r) more =
     if r.0.last then Some (record { before = []; last = r.0; next = r.1 })
     else option_map (with_op r.0) (more r.1)
 
--- the run of at most so many ops from an offset on
+-- the ops of the statement from an offset on, where they are at most so many
 unfoldable pub op_run_at : (most : ℕ) → List OpData → ℕ → Option OpRun
 op_run_at zero ops at = None
 op_run_at (suc most) ops at = run_with (op_placed 0 ops at) (λ next. op_run_at most ops next)
@@ -46,7 +51,8 @@ op_run_at (suc most) ops at = run_with (op_placed 0 ops at) (λ next. op_run_at 
 abbrev pub most_ops_of_statement : ℕ
 most_ops_of_statement = 64
 
--- USEDB: the data block that the statement opens first
+-- the data block that a statement opens first, given an op that prepares and what the ops behind it
+-- open: the block of a USEDB op, else theirs
 abbrev pub use_db_first : Operand → Option ℕ → Option ℕ
 use_db_first (operand.UseDb number) more = Some number
 use_db_first _ more = more
@@ -67,13 +73,15 @@ abbrev pub passings_of : List OpData → List Passing
 passings_of [] = []
 passings_of (op ∷ ops) = with_passing op.operand (passings_of ops)
 
--- the list of a JL: the offsets of the ops from an offset on to the target, so many at most
+-- the list of a JL from one of its ops on: the offset of the op, then the list from the offset
+-- behind it; empty where no op is there
 abbrev pub listed_with :
     Option (OpData × ℕ) → (at : ℕ) → (ℕ → List ℕ) → List ℕ
 listed_with None at more = []
 listed_with (Some r) at more = at ∷ more r.1
 
--- the target is not in the list, which ends early where no op begins at an offset
+-- the list of a JL: the offsets of the ops from an offset on up to the target, at most so many; it
+-- ends early where no op begins at an offset
 unfoldable pub list_of : (most : ℕ) → List OpData → (target at : ℕ) → List ℕ
 list_of zero ops target at = []
 list_of (suc most) ops target at =
@@ -89,19 +97,21 @@ abbrev pub is_jl : JumpOperation → Bool
 is_jl jump.Jl = true
 is_jl _ = false
 
--- the list of a JL stands between the offset behind it and its target, where it else goes on
+-- the instruction of a jump; the list of a JL stands between the offset behind it and its target,
+-- where it else goes on
 abbrev pub jump_by_operation : JumpOperation → (target next : ℕ) → List OpData → Instr
 jump_by_operation operation target next ops =
     if is_jl operation then JumpsByList (list_of most_listed ops target next) target
     else Jumps operation target
 
--- no instance is 0
+-- the instance that a CALL names by a number: none by 0
 abbrev pub instance_named : ℕ → Option ℕ
 instance_named number = if number == 0 then None else Some number
 
 -- a call of a block by the number of its kind; a number that names none is called in no program
 abbrev pub call_by_number :
-    Option BlockKind → CallOperation → (number instance : ℕ) → List Passing → (other : Instr) → Instr
+    Option BlockKind → CallOperation → (number instance : ℕ) → List Passing → (other : Instr)
+    → Instr
 call_by_number None how number instance passings other = other
 call_by_number (Some kind) how number instance passings other =
     Calls how (record { kind = kind; number = number }) (instance_named instance) passings
@@ -121,7 +131,8 @@ instr_of w o use_db passings next ops = Does use_db w o
 -- the statement that a run of ops is; the ops of the whole block give the list of a JL
 abbrev pub fetched_of : List OpData → (line : ℕ) → OpRun → Fetched
 fetched_of ops line r = record {
-  instr = instr_of (operation_of r.last.code) r.last.operand (use_db_of r.before) (passings_of r.before)
+  instr =
+      instr_of (operation_of r.last.code) r.last.operand (use_db_of r.before) (passings_of r.before)
       r.next ops;
   next = r.next;
   line = line;
@@ -130,7 +141,8 @@ fetched_of ops line r = record {
 -- the statement of a block that begins at an offset
 unfoldable pub statement_fetched : CodeBlock → ℕ → Option Fetched
 statement_fetched b at =
-    option_and_then (λ line. option_map (fetched_of b.code line) (op_run_at most_ops_of_statement b.code at))
+    option_and_then
+    (λ line. option_map (fetched_of b.code line) (op_run_at most_ops_of_statement b.code at))
     (line_placed 0 true b.code b.lines at)
 
 -- the head of a code block: all but its kind, number, ops and source lines
@@ -149,7 +161,8 @@ numbered_bytes (d ∷ rest) = (d.number, d.bytes) ∷ numbered_bytes rest
 -- the code of a program
 abbrev pub code_of : Program → Code
 code_of p = record {
-  fetch = λ block at. option_and_then (λ b. statement_fetched b at) (block_by_id block p.code_blocks);
+  fetch =
+      λ block at. option_and_then (λ b. statement_fetched b at) (block_by_id block p.code_blocks);
   head = λ block. option_map block_head_of (block_by_id block p.code_blocks);
   blocks = numbered_bytes p.data_blocks;
 }

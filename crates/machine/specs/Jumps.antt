@@ -35,24 +35,25 @@ is_jump_taken jump.Loop r = not ((loop_counter_decremented r).a1 % 2 ^ 16 == 0)
 -- the list of a JL goes by `list_goal`
 is_jump_taken jump.Jl r = false
 
--- JC JCN JCB JNB: RLO 1, STA 1, OR 0, /FC 0
+-- registers after JC, JCN, JCB or JNB: RLO 1, STA 1, OR 0, /FC 0
 abbrev pub rlo_tested : Regs → Regs
 rlo_tested r =
     record r { status = record r.status { rlo = true; sta = true; or = false; fc = false } }
 
--- JCB and JNB copy the RLO to BR first
+-- registers in which JCB or JNB has copied the RLO to BR
 abbrev pub rlo_saved : Regs → Regs
 rlo_saved r = record r { status = record r.status { br = r.status.rlo } }
 
--- JBI JNBI: OR 0, STA 1, /FC 0
+-- registers after JBI or JNBI: OR 0, STA 1, /FC 0
 abbrev pub br_tested : Regs → Regs
 br_tested r = record r { status = record r.status { or = false; sta = true; fc = false } }
 
--- JOS resets OS
+-- registers after JOS: OS 0
 abbrev pub os_reset : Regs → Regs
 os_reset r = record r { status = record r.status { os = false } }
 
--- the jumps that change registers do so whether they are taken or not; the others change none
+-- registers after a jump, taken or not; jumps other than JC, JCN, JCB, JNB, JBI, JNBI, JOS and LOOP
+-- change none
 unfoldable pub regs_after_jump : JumpOperation → Regs → Regs
 regs_after_jump jump.Jc r = rlo_tested r
 regs_after_jump jump.Jcn r = rlo_tested r
@@ -64,11 +65,11 @@ regs_after_jump jump.Jos r = os_reset r
 regs_after_jump jump.Loop r = loop_counter_decremented r
 regs_after_jump _ r = r
 
--- where a jump goes on
+-- the position at which a jump goes on: its target where it is taken, else the one behind it
 abbrev pub jump_goal : Bool → (target next : ℕ) → ℕ
 jump_goal taken target next = if taken then target else next
 
--- JL goes on at the jump of its list that the lowest byte of accumulator 1 names, from 0, or
--- behind the list where there is none
+-- the position at which JL goes on: the jump of its list that the lowest byte of accumulator 1
+-- names, counted from 0, or behind the list where there is none
 unfoldable pub list_goal : List ℕ → (otherwise : ℕ) → Regs → ℕ
 list_goal targets otherwise r = unwrap_or (slice_get targets (r.a1 % 2 ^ 8)) otherwise

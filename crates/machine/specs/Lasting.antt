@@ -27,14 +27,19 @@ use Rattle.machine.specs.Statement.{GlobalStore, StatementStep, Went, Ended, Syn
 
 -- an activation fits a program and its memory
 pub record FitsProgram (p : Program) (m : Areas) (a : Activation) : Type 0 where
+  -- memory has the sizes of the program's
   pub memory : IsMemoryOf (code_of p) m
+  -- the activation fits the code and the memory
   pub fits : ActivationFits (code_of p) (open_codes p) m a
 
 -- what a call of a statement asks for: a frame stands, as many frames have local data as stand, and
 -- nothing that the statement needs is missing
 pub record IsStatementReady (p : Program) (a : Activation) : Type 0 where
+  -- a frame stands
   pub stands : a.left ≡ false
+  -- as many frames have local data as stand
   pub depth : length a.running.locals.starts ≡ length (frames_of a)
+  -- nothing that the statement needs is missing, whatever memory, timers and counters are
   pub there : (w : GlobalStore) → IsNotStuck (statement_step (code_of p) a w)
 
 -- an organization block by its number
@@ -47,13 +52,15 @@ first_frame ob local_len = frame_begun (ob_block ob) local_len
 
 -- no area and no data block has become longer or shorter, and the activation fits
 pub record GoesOnFitting (p : Program) (old new : Areas) (a : Activation) : Type 0 where
+  -- each area and each data block has as many bytes as before
   pub sizes : SameSizes old new
+  -- the activation fits the program and the new memory
   pub fits : FitsProgram p new a
 
 -- the result of a system function can be written where it was bound; some have none
 abbrev pub TakesResult : Option Binding → Activation → Areas → Type 0
 TakesResult None a m = Unit {0}
-TakesResult (Some (binding.Bound place width frame)) a m =
+TakesResult (Some (binding.AtPlace place width frame)) a m =
     (value : ℕ)
     → IsSome (stored_at (record { place = place; width = width; frame = frame }) value
     (local_of a.running) m)
@@ -93,8 +100,8 @@ StepFitsAgain p w (SysCall number given a) =
 StepFitsAgain p w (Stop cause) = (cause ≡ causes.block_depth) ⊎ (cause ≡ causes.local_data)
 StepFitsAgain p w Stuck = ⊥
 
--- what a call of a statement leaves, by its answer: an activation that fits again, with memory `m`,
--- or where the outermost block has ended memory alone; codes, causes and arguments are right
+-- what a statement leaves, by its answer: an activation that fits again, or, where the outermost
+-- block has ended, memory alone; codes, causes and arguments are right
 abbrev pub LeavesActivation : Program → Areas → Activation → Outcome → Type 0
 LeavesActivation p m a outcome.Went = FitsProgram p m a
 LeavesActivation p m a outcome.Ended = IsMemoryOf (code_of p) m
@@ -104,8 +111,11 @@ LeavesActivation p m a (outcome.SysCall number inputs result) =
 LeavesActivation p m a (outcome.Stop cause) =
     ((cause ≡ causes.block_depth) ⊎ (cause ≡ causes.local_data)) × FitsProgram p m a
 
--- what a call leaves. No area and no data block becomes longer or shorter, so activations that wait
--- fit as before
-pub record LeavesFit (p : Program) (old new : Areas) (a : Activation) (answer : Outcome) : Type 0 where
+-- what a call of a statement leaves fits: no area and no data block becomes longer or shorter, so
+-- activations that wait fit as before, and so does this one
+pub record LeavesFit (p : Program) (old new : Areas) (a : Activation) (answer : Outcome)
+    : Type 0 where
+  -- each area and each data block has as many bytes as before
   pub sizes : SameSizes old new
+  -- the activation fits again by its answer, and codes, causes and arguments are right
   pub leaves : LeavesActivation p new a answer

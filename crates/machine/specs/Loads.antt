@@ -18,27 +18,32 @@ use Rattle.machine.specs.Relay.{is_writing_off}
 abbrev pub with_accu_loaded : ℕ → Regs → Regs
 with_accu_loaded n r = record r { a1 = n; a2 = r.a1 }
 
--- L
+-- L: registers with the number of the operand in accumulator 1 and its old content in accumulator 2
 unfoldable pub regs_after_load : Operand → Local → Areas → List Timer → List Counter → Result Regs ℕ
 regs_after_load o s m t n = then_ok (load_value o s m t n) (λ x. Ok (with_accu_loaded x s.regs))
 
--- LC
-unfoldable pub regs_after_bcd_load : Operand → Local → Areas → List Timer → List Counter → Result Regs ℕ
+-- LC: registers with the time or count of the operand, in BCD, in accumulator 1 and its old content
+-- in accumulator 2
+unfoldable pub regs_after_bcd_load :
+    Operand → Local → Areas → List Timer → List Counter → Result Regs ℕ
 regs_after_bcd_load o s m t n = then_ok (bcd_loaded o s m t n) (λ x. Ok (with_accu_loaded x s.regs))
 
--- the lowest bits of a number at the place of an operand
+-- the lowest bits of a number, as many as the operand is wide, written to the place of the operand
 unfoldable pub number_transferred : ℕ → Operand → Local → Areas → Result LocalMemory ℕ
 number_transferred n o s m =
-    then_ok (operand_location Writing o s m) (λ at. number_written_at at (n % 2 ^ bit_count at.width) s m)
+    then_ok (operand_location Writing o s m)
+    (λ at. number_written_at at (n % 2 ^ bit_count at.width) s m)
 
--- T: accumulator 1, and 0 while the relay is closed
+-- T: accumulator 1 written to the place of the operand, and 0 while the master control relay is
+-- closed
 abbrev pub local_memory_after_transfer : Operand → Local → Areas → Result LocalMemory ℕ
-local_memory_after_transfer o s m = number_transferred (if is_writing_off s then 0 else s.regs.a1) o s m
+local_memory_after_transfer o s m =
+    number_transferred (if is_writing_off s then 0 else s.regs.a1) o s m
 
--- L STW: /FC, STA and OR read as 0
+-- L STW: the status word in accumulator 1, with /FC, STA and OR as 0
 unfoldable pub status_loaded : Regs → Regs
 status_loaded r = with_accu_loaded (status_number (status_shown r.status)) r
 
--- T STW: all nine bits
+-- T STW: all nine bits of the status word from accumulator 1
 unfoldable pub status_transferred : Regs → Regs
 status_transferred r = record r { status = status_of r.a1 }

@@ -9,7 +9,7 @@ use Rattle.frames.specs.declared.frame.Frame.{Frame}
 use Rattle.machine.specs.Code.{Code, Fetched}
 use Rattle.machine.specs.Statement.{GlobalStore, StatementStep, Went, Ended, SyncError, SysCall, Stop, Stuck, statement_step}
 
--- an instruction with other targets
+-- an instruction whose jump targets a function of positions has moved
 abbrev pub aimed_instr : (ℕ → ℕ) → Instr → Instr
 aimed_instr f (Does use_db w o) = Does use_db w o
 aimed_instr f (Jumps how target) = Jumps how (f target)
@@ -21,12 +21,18 @@ aimed_instr f (Returns how) = Returns how
 abbrev pub moved_fetched : (ℕ → ℕ) → Fetched → Fetched
 moved_fetched f s = record { instr = aimed_instr f s.instr; next = f s.next; line = s.line }
 
--- one code follows another: at the position of each position is the same statement, and everything
--- else is the same. Blocks begin at position 0 in both
+-- one code is another at other positions, given by a function in each block: at the position of
+-- each position is the same statement, and everything else is the same. Blocks begin at position 0
+-- in both
 pub record FollowsCode (f : BlockId → ℕ → ℕ) (c d : Code) : Type 0 where
+  -- position 0 of each block stays 0
   pub start : (b : BlockId) → f b 0 ≡ 0
-  pub fetch : (b : BlockId) (at : ℕ) → d.fetch b (f b at) ≡ option_map (moved_fetched (f b)) (c.fetch b at)
+  -- at the position of each position is the same statement, moved
+  pub fetch :
+      (b : BlockId) (at : ℕ) → d.fetch b (f b at) ≡ option_map (moved_fetched (f b)) (c.fetch b at)
+  -- each code block has the same head
   pub head : (b : BlockId) → d.head b ≡ c.head b
+  -- the data blocks are the same
   pub blocks : d.blocks ≡ c.blocks
 
 -- a frame at the position to which its own goes; positions move block by block

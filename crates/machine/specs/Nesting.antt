@@ -11,7 +11,8 @@ use Rattle.machine.specs.Places.{no_operand}
 abbrev pub with_open_brackets : List Bracket → Local → Local
 with_open_brackets brackets s = record s { inner = record s.inner { brackets = brackets } }
 
--- A( to XN( open a bracket; an eighth one stands in no program that is loaded
+-- A(, AN(, O(, ON(, X( or XN(: a running block with one more open bracket; an eighth one stands in
+-- no program that is loaded
 unfoldable pub nesting_opened : Check → Local → Result Local ℕ
 nesting_opened with s =
     if length s.inner.brackets == 7 then Err no_operand
@@ -25,6 +26,6 @@ bracket_closed [] s = Err no_operand
 bracket_closed (bracket ∷ rest) s =
     Ok (with_open_brackets rest (record s { regs = bracket_ended bracket s.regs }))
 
--- `)` closes the bracket of the innermost frame that was opened last
+-- `)`: a running block after the bracket of the innermost frame that was opened last is closed
 unfoldable pub nesting_closed : Local → Result Local ℕ
 nesting_closed s = bracket_closed s.inner.brackets s

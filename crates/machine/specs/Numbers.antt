@@ -22,11 +22,11 @@ use Rattle.alu.specs.WordLogic.{accumulator_anded, accumulator_ored, accumulator
 use Rattle.alu.specs.Shifts.{places_of, shifted_left, shifted_right, shifted_signed}
 use Rattle.alu.specs.Rotations.{rotated_left, rotated_right, rotated_left_through, rotated_right_through}
 
--- 21: a digit or the sign isn't one of BCD
+-- registers after a conversion from BCD; error code 21 where a digit or the sign isn't one of BCD
 abbrev pub from_bcd : Option Regs → Result Regs ℕ
 from_bcd found = ok_or found errors.bad_bcd
 
--- instructions without operand
+-- the effect on the registers of an accumulator or number instruction without operand
 unfoldable pub number_effect : AccuOperation → Regs → Result Regs ℕ
 number_effect number.Tak r = Ok (accumulators_toggled r)
 number_effect number.Push r = Ok (accumulator_pushed r)
@@ -54,24 +54,25 @@ number_effect number.Negd r = Ok (accu_negated 32 r)
 number_effect number.Rlda r = Ok (rotated_left_through r)
 number_effect number.Rrda r = Ok (rotated_right_through r)
 
--- the constant of an operand, in w bits; none where there is no operand
+-- the constant of an operand, cut to w bits; None where there is no operand
 abbrev pub constant_in : (w : ℕ) → Operand → Option ℕ
 constant_in w (operand.Literal value) = Some (value % 2 ^ w)
 constant_in w _ = None
 
--- the constant of an operand, in w bits, for an instruction that always has one; 0 without it
+-- the constant of an operand, cut to w bits, for an instruction that always has one; 0 without an
+-- operand
 abbrev pub constant_or_zero : (w : ℕ) → Operand → ℕ
 constant_or_zero w (operand.Literal value) = value % 2 ^ w
 constant_or_zero w _ = 0
 
--- INC, DEC, and + with 16 or 32 bits
+-- registers after INC, DEC or + with a constant of 16 or 32 bits
 unfoldable pub with_constant : AddConstant → Operand → Regs → Regs
 with_constant adding.Inc o r = accumulator_increased 8 (constant_or_zero 8 o) r
 with_constant adding.Dec o r = accumulator_decreased 8 (constant_or_zero 8 o) r
 with_constant adding.Word o r = accumulator_increased 16 (constant_or_zero 16 o) r
 with_constant adding.Dword o r = accumulator_increased 32 (constant_or_zero 32 o) r
 
--- AW OW XOW AD OD XOD, with a constant or accumulator 2
+-- registers after AW, OW, XOW, AD, OD or XOD, with a constant or accumulator 2
 unfoldable pub word_logic_effect : Logic → Operand → Regs → Regs
 word_logic_effect logic.Aw o r = accumulator_anded 16 (constant_in 16 o) r
 word_logic_effect logic.Ow o r = accumulator_ored 16 (constant_in 16 o) r
@@ -80,7 +81,7 @@ word_logic_effect logic.Ad o r = accumulator_anded 32 (constant_in 32 o) r
 word_logic_effect logic.Od o r = accumulator_ored 32 (constant_in 32 o) r
 word_logic_effect logic.Xod o r = accumulator_xored 32 (constant_in 32 o) r
 
--- shifts and rotations, by a constant or the lowest byte of accumulator 2
+-- registers after a shift or rotation, by a constant or the lowest byte of accumulator 2
 unfoldable pub shift_effect : Shift → Operand → Regs → Regs
 shift_effect shift.Ssi o r = shifted_signed 16 (places_of (constant_in 8 o) r) r
 shift_effect shift.Ssd o r = shifted_signed 32 (places_of (constant_in 8 o) r) r

@@ -12,35 +12,44 @@ abbrev pub ErrorAnswer : Type 0
 ErrorAnswer = Result (Unit {0}) ℕ
 
 -- what a call leaves: what its effect says, or the effect's error and all as it was
-abbrev pub IsDone : {A : Type 0} → Result A ℕ → (done : A → Type 0) → (unchanged : Type 0) → ErrorAnswer → Type 0
+abbrev pub IsDone :
+    {A : Type 0} → Result A ℕ → (done : A → Type 0) → (unchanged : Type 0) → ErrorAnswer → Type 0
 IsDone (Ok x) done unchanged (Ok answer) = done x
 IsDone (Err e) done unchanged (Err code) = (code ≡ e) × unchanged
 IsDone effect done unchanged answer = ⊥
 
--- an effect on registers, given by themselves
+-- what a call leaves of registers given by themselves: as an effect says, or its error with the
+-- registers as before
 abbrev pub ChangesRegs : Result Regs ℕ → (old new : Regs) → ErrorAnswer → Type 0
 ChangesRegs effect old new answer = IsDone effect (λ r. new ≡ r) (new ≡ old) answer
 
--- an effect on the registers of a running block
+-- what a call leaves of a running block: the registers as an effect says and all else as before, or
+-- its error with all as before
 abbrev pub ChangesRunningRegs : Result Regs ℕ → (old new : Running) → ErrorAnswer → Type 0
-ChangesRunningRegs effect old new answer = IsDone effect (λ r. new ≡ record old { regs = r }) (new ≡ old) answer
+ChangesRunningRegs effect old new answer =
+    IsDone effect (λ r. new ≡ record old { regs = r }) (new ≡ old) answer
 
--- an effect on all that an activation has of its own
+-- what a call leaves of a running block: as an effect on all that it has of its own says, or its
+-- error with all as before
 abbrev pub ChangesLocal : Result Local ℕ → (old new : Running) → ErrorAnswer → Type 0
 ChangesLocal effect old new answer = IsDone effect (λ s. new ≡ with_local old s) (new ≡ old) answer
 
--- an effect, which can't fail, on all that an activation has of its own and on memory
+-- what a call leaves of a running block and memory: as an effect says, which can't fail
 abbrev pub BecomesLocalMemory : LocalMemory → (old new : Running) (m' : Areas) → Type 0
 BecomesLocalMemory c old new m' = (new ≡ with_local old c.local) × (m' ≡ c.memory)
 
--- an effect, which can fail, on all that an activation has of its own and on memory
-abbrev pub ChangesLocalMemory : Result LocalMemory ℕ → (old new : Running) (m m' : Areas) → ErrorAnswer → Type 0
+-- what a call leaves of a running block and memory: as an effect says, or its error with all as
+-- before
+abbrev pub ChangesLocalMemory :
+    Result LocalMemory ℕ → (old new : Running) (m m' : Areas) → ErrorAnswer → Type 0
 ChangesLocalMemory effect old new m m' answer =
     IsDone effect (λ c. BecomesLocalMemory c old new m') ((new ≡ old) × (m' ≡ m)) answer
 
--- an effect on all
+-- what a call leaves of a running block, memory, timers and counters: as an effect says, or its
+-- error with all as before
 abbrev pub ChangesExecState :
-    Result ExecState ℕ → (old new : Running) (m m' : Areas) (t t' : List Timer) (n n' : List Counter)
+    Result ExecState ℕ
+    → (old new : Running) (m m' : Areas) (t t' : List Timer) (n n' : List Counter)
     → ErrorAnswer → Type 0
 ChangesExecState effect old new m m' t t' n n' answer =
     IsDone effect

@@ -12,25 +12,31 @@ use Rattle.machine.specs.ExecState.{LocalMemory, local_memory_of, with_local}
 use Rattle.machine.specs.Entering.{at_block}
 use Rattle.machine.specs.Copies.{params_out}
 
--- activation and memory
+-- an activation with the memory that copying parameters out of the instance leaves
 pub record ReturnState : Type 0 where
+  -- the activation that returns from its innermost block
   pub activation : Activation
+  -- the memory areas but local data
   pub memory : Areas
 
--- an activation with other local data and registers of its running block, and a memory; the frames below stay
+-- an activation with other local data and registers of its running block, and a memory; the frames
+-- below stay
 abbrev pub return_state_of : Activation → LocalMemory → ReturnState
 return_state_of a c = record {
   activation = record a { running = with_local a.running c.local };
   memory = c.memory;
 }
 
--- copied out of the instance that the call named, whatever DI holds now, to the places bound then
+-- what copying the OUT and IN_OUT parameters out leaves: out of the instance that the call named,
+-- whatever DI holds now, to the places bound at the call
 abbrev pub outputs_copied_back : Option ℕ → List Param → Activation → Areas → ReturnState
 outputs_copied_back None params a m = record { activation = a; memory = m }
 outputs_copied_back (Some instance) params a m =
-    return_state_of a (params_out params 0 a.running.frame.bindings instance (local_memory_of a.running m))
+    return_state_of a
+    (params_out params 0 a.running.frame.bindings instance (local_memory_of a.running m))
 
--- the frame below is the innermost one: its own data blocks, brackets and relay are as it left them
+-- an activation whose innermost frame is again that of the caller, with the data blocks, brackets
+-- and relay as the caller left them
 abbrev pub activation_of_caller : (caller : Frame) (rest : List Frame) → Activation → Activation
 activation_of_caller caller rest a =
     record a {
@@ -44,15 +50,22 @@ activation_of_caller caller rest a =
 
 -- an activation that has ended: its registers are those of the return, and no frame stands
 pub record HasReturnedLast (old new : Activation) (regs : Regs) : Type 0 where
+  -- no frame stands
   pub frames : frames_of new ≡ []
+  -- the registers are those of the return
   pub regs_are : new.running.regs ≡ regs
+  -- the priority class is as before
   pub class : new.class ≡ old.class
+  -- the number of the organization block is as before
   pub ob : new.ob ≡ old.ob
+  -- the profile is as before
   pub profile : new.profile ≡ old.profile
 
--- a return: the caller goes on, or the outermost block has ended
+-- what comes of a return
 pub data Return : Type 0 where
+  -- the caller goes on in this activation, with this memory
   GoesOn : (a : Activation) (m : Areas) → Return
+  -- the outermost block has ended, with these registers and this memory
   Ends : (regs : Regs) (m : Areas) → Return
 
 -- the innermost block is left, with OS 0, OR 0, STA 1 and /FC 0: the caller goes on, or without a
@@ -63,7 +76,8 @@ return_to_caller (caller ∷ rest) s = GoesOn (activation_of_caller caller rest 
 
 -- the innermost block returns: the parameters of its head are copied out, then its frame is left
 unfoldable pub block_return : List Param → Activation → Areas → Return
-block_return params a m = return_to_caller a.below (outputs_copied_back a.running.frame.instance params a m)
+block_return params a m =
+    return_to_caller a.below (outputs_copied_back a.running.frame.instance params a m)
 
 -- the innermost block is left to the frames that stand below; the answer is whether a caller goes
 -- on, and false where there are none

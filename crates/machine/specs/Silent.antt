@@ -1,5 +1,5 @@
--- Statements one after another that leave the peripheral outputs as they are, and after each of which
--- the activation goes on.
+-- Statements one after another that leave the peripheral outputs as they are, and after each of
+-- which the activation goes on.
 use Rattle.std.specs.Prelude.{◌≡◌, ℕ, zero, suc, Bool, true, false, not, ◌||◌, ◌&&◌, List, [], ◌∷◌, slice_get, Option, Some, None, is_some}
 use Rattle.plc_base.specs.Kinds.{is_system_function}
 use Rattle.plc_base.specs.declared.Area.{Area}
@@ -21,9 +21,13 @@ use Rattle.machine.specs.Lasting.{IsStatementReady}
 use Rattle.machine.specs.Places.{is_area_p}
 use Rattle.machine.specs.Statement.{GlobalStore, StatementStep, Went, is_call_made, is_return_made, statement_step}
 
--- the activation goes on, with no change of the peripheral outputs
-pub record GoesSilently (step : StatementStep) (w : GlobalStore) (next : Activation) (after : GlobalStore) : Type 0 where
+-- an activation goes on after a statement, with no change of the peripheral outputs
+pub record GoesSilently
+    (step : StatementStep) (w : GlobalStore) (next : Activation) (after : GlobalStore)
+    : Type 0 where
+  -- the statement leaves this activation, which goes on
   pub goes : step ≡ Went next after
+  -- the peripheral outputs are as before
   pub outputs : after.memory.peripheral_outputs ≡ w.memory.peripheral_outputs
 
 -- an activation executes so many statements, one after another, with which it goes on and which
@@ -41,7 +45,7 @@ StaysReady p a w =
     (count : ℕ) (b : Activation) (after : GlobalStore)
     → RunsSilently (code_of p) count a b w after → IsStatementReady p b
 
--- the instructions that write to the place of their operand
+-- whether an instruction writes to the place of its operand
 abbrev pub may_write : Operation → Bool
 may_write operation.Transfer = true
 may_write operation.Assign = true
@@ -51,16 +55,17 @@ may_write (operation.Edge rising) = true
 may_write (operation.Pointer what) = true
 may_write _ = false
 
--- an area that is not the peripheral one
+-- whether an area is not the peripheral one
 abbrev pub is_inside_area : Area → Bool
 is_inside_area area = not (is_area_p area)
 
--- what a parameter stands for: no peripheral place; a constant has no place at all
+-- whether what a parameter stands for is surely no peripheral place; a constant has no place at all
 abbrev pub is_bound_inside : Option Binding → Bool
-is_bound_inside (Some (binding.Bound place width frame)) = is_inside_area place.area
+is_bound_inside (Some (binding.AtPlace place width frame)) = is_inside_area place.area
 is_bound_inside _ = true
 
--- without an area in the operand the address register names it, so nothing is sure
+-- whether the area that an operand names is surely not the peripheral one; without a name the
+-- address register names it, so nothing is sure
 abbrev pub is_named_inside : Option Area → Bool
 is_named_inside (Some area) = is_inside_area area
 is_named_inside None = false
@@ -75,34 +80,37 @@ has_place_inside (operand.Parameter index width) bindings =
     is_bound_inside (slice_get bindings index)
 has_place_inside _ bindings = true
 
--- an instruction that surely leaves the peripheral outputs as they are
+-- whether an instruction surely leaves the peripheral outputs as they are, by its operation, its
+-- operand and what parameters stand for
 abbrev pub keeps_outputs : Operation → Operand → List Binding → Bool
 keeps_outputs w o bindings = not (may_write w) || has_place_inside o bindings
 
 -- ---- before which statements it stops
 
--- not after a synchronous error, a system function, a stop or the end of the organization block
+-- whether the activation goes on after a statement: not after a synchronous error, a system
+-- function, a stop or the end of the organization block
 abbrev pub is_going_on : StatementStep → Bool
 is_going_on (Went a w) = true
 is_going_on _ = false
 
--- an instruction that jumps, calls or returns
+-- whether an instruction jumps, calls or returns
 abbrev pub is_control_transfer : Operation → Bool
 is_control_transfer operation.Jump = true
 is_control_transfer (operation.Call how) = true
 is_control_transfer (operation.End how) = true
 is_control_transfer _ = false
 
--- a frame below the innermost one, to which a return goes; the outermost block has none
+-- whether there is a frame below the innermost one, to which a return goes
 abbrev pub has_caller : List Frame → Bool
 has_caller [] = false
 has_caller (caller ∷ rest) = true
 
--- the peripheral outputs surely stay as they are: an instruction that stays in its block and writes no
--- peripheral place; a jump but JL; a call that is made of a function or function block; a return that
--- is made from a block without an instance to its caller
+-- whether an instruction surely leaves the peripheral outputs as they are: one that stays in its
+-- block and writes no peripheral place; a jump but JL; a call that is made of a function or
+-- function block; a return that is made from a block without an instance to its caller
 abbrev pub is_silent : Instr → Activation → Bool
-is_silent (Does use_db w o) a = not (is_control_transfer w) && keeps_outputs w o a.running.frame.bindings
+is_silent (Does use_db w o) a =
+    not (is_control_transfer w) && keeps_outputs w o a.running.frame.bindings
 is_silent (Jumps w target) a = true
 is_silent (Calls how block instance passings) a =
     is_call_made how a.running.regs.status.rlo && not (is_system_function block.kind)
@@ -118,32 +126,37 @@ stays_in_block (Calls how block instance passings) = false
 stays_in_block (Returns how) = false
 stays_in_block _ = true
 
--- the statement has an instruction of a kind
+-- whether a statement was found whose instruction is of a kind
 abbrev pub is_statement_of_kind : (Instr → Activation → Bool) → Option Fetched → Activation → Bool
 is_statement_of_kind kind None a = false
 is_statement_of_kind kind (Some f) a = kind f.instr a
 
--- the next statement is of a kind
+-- whether the next statement of an activation has an instruction of a kind
 abbrev pub is_next_statement_of_kind : (Instr → Activation → Bool) → Code → Activation → Bool
-is_next_statement_of_kind kind code a = is_statement_of_kind kind (code.fetch a.running.frame.block a.running.frame.at) a
+is_next_statement_of_kind kind code a =
+    is_statement_of_kind kind (code.fetch a.running.frame.block a.running.frame.at) a
 
--- the next statement is of a kind, and the activation goes on after it
+-- whether the next statement of an activation has an instruction of a kind, and the activation goes
+-- on after it
 abbrev pub goes_on_by_kind : (Instr → Activation → Bool) → Code → Activation → GlobalStore → Bool
-goes_on_by_kind kind code a w = is_next_statement_of_kind kind code a && is_going_on (statement_step code a w)
+goes_on_by_kind kind code a w =
+    is_next_statement_of_kind kind code a && is_going_on (statement_step code a w)
 
 -- one statement of a kind was executed (true), or nothing was done, since the next one isn't of the
 -- kind or the activation doesn't go on after it
-abbrev pub GoesOrStays : StatementStep → (kind : Bool) → (old new : Activation) (w after : GlobalStore) → Bool → Type 0
+abbrev pub GoesOrStays :
+    StatementStep → (kind : Bool) → (old new : Activation) (w after : GlobalStore) → Bool → Type 0
 GoesOrStays step kind old new w after true = GoesSilently step w new after
 GoesOrStays step kind old new w after false =
     (new ≡ old) × (after ≡ w) × ((kind && is_going_on step) ≡ false)
 
--- whether a statement that was tried was executed
+-- whether a statement that was tried as a silent one was executed
 abbrev pub shows_nothing : Silent → Bool
 shows_nothing silent.Not = false
 shows_nothing _ = true
 
--- whether a statement that was tried was executed, and its block is surely the running one still
+-- whether a statement that was tried as a silent one was executed, and its block is surely the
+-- running one still
 abbrev pub is_still_inside : Silent → Bool
 is_still_inside silent.Inside = true
 is_still_inside _ = false

@@ -27,28 +27,32 @@ use Rattle.machine.specs.Code.{Code, Fetched, BlockHead}
 use Rattle.machine.specs.declared.outcomes.Outcome.{Outcome}
 use Rattle.machine.specs.declared.outcomes.Outcome.TheVariants as outcome
 
--- memory, timers and counters
+-- what all activations share: memory, timers and counters
 pub record GlobalStore : Type 0 where
+  -- the memory areas but local data
   pub memory : Areas
+  -- the timers, by number
   pub timers : List Timer
+  -- the counters, by number
   pub counters : List Counter
 
 -- what comes of a statement
 pub data StatementStep : Type 0 where
-  -- the activation goes on
+  -- the activation goes on, with this memory and these timers and counters
   Went : (a : Activation) (w : GlobalStore) → StatementStep
-  -- the outermost block has returned: its registers, and memory
+  -- the outermost block has returned, with these registers, memory, timers and counters
   Ended : (regs : Regs) (w : GlobalStore) → StatementStep
-  -- a synchronous error: the statement has done nothing but go to the next one
+  -- a synchronous error with this code: the statement has done nothing but go to the next one
   SyncError : (code : ℕ) (a : Activation) → StatementStep
-  -- a system function is to do its work, and its result goes where RET_VAL is bound
+  -- the system function with this number is to do its work on these arguments, and its result goes
+  -- where RET_VAL is bound
   SysCall : (number : ℕ) (given : SystemCallArguments) (a : Activation) → StatementStep
-  -- STOP with its cause
+  -- STOP with this cause: block depth or local data
   Stop : (cause : ℕ) → StatementStep
   -- a block, position or parameter is missing: never in a program that verifies
   Stuck : StatementStep
 
--- causes of STOP: block depth, local data
+-- the code of the cause of STOP: block depth or local data
 abbrev pub cause_of : FrameFault → ℕ
 cause_of Depth = causes.block_depth
 cause_of LocalFull = causes.local_data
@@ -73,9 +77,11 @@ global_store_of p = record { memory = p.memory; timers = p.timers; counters = p.
 abbrev pub with_memory : Areas → GlobalStore → GlobalStore
 with_memory m w = record w { memory = m }
 
--- an instruction that touches no position, then the next one
+-- what comes of an instruction that touches no position: the activation goes on at the next
+-- statement, or has a synchronous error there
 abbrev pub continue_with : Result ExecState ℕ → (next : ℕ) → Activation → StatementStep
-continue_with (Ok p) next a = Went (activation_advanced_to next (with_exec_state p a)) (global_store_of p)
+continue_with (Ok p) next a =
+    Went (activation_advanced_to next (with_exec_state p a)) (global_store_of p)
 continue_with (Err code) next a = SyncError code (activation_advanced_to next a)
 
 -- a jump but JL goes on at its target where it is taken, else at the next statement
@@ -84,13 +90,13 @@ jump_step operation target next a w =
     Went (activation_continued_at (jump_goal (is_jump_taken operation a.running.regs) target next)
     (regs_after_jump operation a.running.regs) a) w
 
--- a call of a function or function block
+-- what comes of a call of a function or function block
 abbrev pub call_step : Call → (next : ℕ) → Activation → GlobalStore → StatementStep
 call_step (Fails code) next a w = SyncError code (activation_advanced_to next a)
 call_step (Stops fault) next a w = Stop (cause_of fault)
 call_step (Enters after m) next a w = Went after (with_memory m w)
 
--- a block of the program, by its head, with the instance that the call names
+-- what a call needs of a block: its head in the program, with the instance that the call names
 abbrev pub called_block : BlockId → Option ℕ → BlockHead → CalledBlock
 called_block block instance h = record {
   block = block;
@@ -99,27 +105,34 @@ called_block block instance h = record {
   params = h.params;
 }
 
--- a call of a function or function block, by its head; stuck where the program has none
+-- what comes of a call of a function or function block, given its head; stuck where the program has
+-- none
 abbrev pub block_called :
-    Option BlockHead → BlockId → Option ℕ → List Passing → (next : ℕ) → Activation → GlobalStore → StatementStep
+    Option BlockHead → BlockId → Option ℕ → List Passing → (next : ℕ) → Activation → GlobalStore
+    → StatementStep
 block_called None block instance passings next a w = Stuck
 block_called (Some h) block instance passings next a w =
     call_step (block_call (called_block block instance h) passings next a w.memory) next a w
 
--- a call of a system function; the four bits are set as at each call
-abbrev pub after_system_call : Result SystemCallArguments ℕ → (number next : ℕ) → Activation → StatementStep
+-- what comes of a call of a system function, given its arguments or their error; OS, OR, STA and
+-- /FC are set as at each call
+abbrev pub after_system_call :
+    Result SystemCallArguments ℕ → (number next : ℕ) → Activation → StatementStep
 after_system_call (Err code) number next a = SyncError code (activation_advanced_to next a)
 after_system_call (Ok given) number next a =
     SysCall number given (activation_continued_at next (at_block a.running.regs) a)
 
--- a call of a system function, by its parameters; stuck where the number is none of the nine
+-- what comes of a call of a system function, given its parameters; stuck where the number is none
+-- of the nine
 abbrev pub system_call_made :
-    Option (List Param) → (number : ℕ) → List Passing → (next : ℕ) → Activation → GlobalStore → StatementStep
+    Option (List Param) → (number : ℕ) → List Passing → (next : ℕ) → Activation → GlobalStore
+    → StatementStep
 system_call_made None number passings next a w = Stuck
 system_call_made (Some params) number passings next a w =
     after_system_call (system_call params passings (local_of a.running) w.memory) number next a
 
--- a call that is made: of a system function by its number, of each other block by its head
+-- what comes of a call that is made: of a system function by its number, of each other block by its
+-- head
 abbrev pub call_made :
     Code → BlockId → Option ℕ → List Passing → (next : ℕ) → Activation → GlobalStore → StatementStep
 call_made code block instance passings next a w =
@@ -127,26 +140,28 @@ call_made code block instance passings next a w =
     then system_call_made (system_function block.number) block.number passings next a w
     else block_called (code.head block) block instance passings next a w
 
--- CC calls where RLO is 1; else it sets the four bits, and RLO 1
+-- whether a call is made: CC where the RLO is 1, CALL and UC always
 abbrev pub is_call_made : CallOperation → (rlo : Bool) → Bool
 is_call_made calls.Cc rlo = rlo
 is_call_made _ rlo = true
 
--- CC with RLO 0: OS 0, OR 0, STA 1, /FC 0 and RLO 1
+-- registers after CC with RLO 0: OS 0, OR 0, STA 1, /FC 0 and RLO 1
 abbrev pub regs_after_call_not_made : Regs → Regs
 regs_after_call_not_made r = rlo_tested (at_block r)
 
--- timers and counters stay; memory is as copying the parameters out left it
+-- what comes of a return; timers and counters stay, and memory is as copying the parameters out
+-- left it
 abbrev pub after_return : Return → GlobalStore → StatementStep
 after_return (GoesOn a m) w = Went a (with_memory m w)
 after_return (Ends regs m) w = Ended regs (with_memory m w)
 
--- a return that is made, by the head of the running block; stuck where the program has none
+-- what comes of a return that is made, given the head of the running block; stuck where the program
+-- has none
 abbrev pub return_made : Option BlockHead → Activation → GlobalStore → StatementStep
 return_made None a w = Stuck
 return_made (Some h) a w = after_return (block_return h.params a w.memory) w
 
--- BEC returns where RLO is 1; else RLO 1, OR 0, STA 1, /FC 0, and the block goes on
+-- whether a return is made: BEC where the RLO is 1, BE and BEU always
 abbrev pub is_return_made : EndOperation → (rlo : Bool) → Bool
 is_return_made ends.Bec rlo = rlo
 is_return_made _ rlo = true
@@ -154,15 +169,20 @@ is_return_made _ rlo = true
 -- what comes of an instruction; `next` is the position behind its statement
 abbrev pub instruction_step : Code → Instr → (next : ℕ) → Activation → GlobalStore → StatementStep
 instruction_step code (Does use_db operation operand) next a w =
-    continue_with (statement_effect use_db operation operand (exec_state_of a.running w.memory w.timers w.counters)) next a
+    continue_with
+    (statement_effect use_db operation operand
+    (exec_state_of a.running w.memory w.timers w.counters))
+    next a
 instruction_step code (Jumps operation target) next a w = jump_step operation target next a w
 instruction_step code (JumpsByList targets otherwise) next a w =
     Went (activation_advanced_to (list_goal targets otherwise a.running.regs) a) w
 instruction_step code (Calls how block instance passings) next a w =
-    if is_call_made how a.running.regs.status.rlo then call_made code block instance passings next a w
+    if is_call_made how a.running.regs.status.rlo
+    then call_made code block instance passings next a w
     else Went (activation_continued_at next (regs_after_call_not_made a.running.regs) a) w
 instruction_step code (Returns how) next a w =
-    if is_return_made how a.running.regs.status.rlo then return_made (code.head a.running.frame.block) a w
+    if is_return_made how a.running.regs.status.rlo
+    then return_made (code.head a.running.frame.block) a w
     else Went (activation_continued_at next (rlo_tested a.running.regs) a) w
 
 -- what comes of the statement that was found; stuck where none begins at the position
@@ -170,37 +190,41 @@ abbrev pub step_found : Code → Option Fetched → Activation → GlobalStore �
 step_found code None a w = Stuck
 step_found code (Some f) a w = instruction_step code f.instr f.next a w
 
--- the statement at which the innermost frame stands
+-- what comes of the statement at which the innermost frame stands
 unfoldable pub statement_step : Code → Activation → GlobalStore → StatementStep
 statement_step code a w =
     step_found code (code.fetch a.running.frame.block a.running.frame.at) a w
 
--- nothing that the statement needs is missing
+-- a statement is not stuck: nothing that it needs is missing
 abbrev pub IsNotStuck : StatementStep → Type 0
 IsNotStuck Stuck = ⊥
 IsNotStuck _ = Unit {0}
 
 -- what a call of a statement answers, and what it leaves
-abbrev pub IsOutcomeOf : StatementStep → (old new : Activation) (w w' : GlobalStore) → Outcome → Type 0
+abbrev pub IsOutcomeOf :
+    StatementStep → (old new : Activation) (w w' : GlobalStore) → Outcome → Type 0
 IsOutcomeOf (Went a after) old new w w' outcome.Went = (new ≡ a) × (w' ≡ after)
-IsOutcomeOf (Ended regs after) old new w w' outcome.Ended = HasReturnedLast old new regs × (w' ≡ after)
+IsOutcomeOf (Ended regs after) old new w w' outcome.Ended =
+    HasReturnedLast old new regs × (w' ≡ after)
 IsOutcomeOf (SyncError code a) old new w w' (outcome.SyncError answer) =
     (answer ≡ code) × (new ≡ a) × (w' ≡ w)
 IsOutcomeOf (SysCall number given a) old new w w' (outcome.SysCall function inputs result) =
     (function ≡ number) × (inputs ≡ given.inputs) × (result ≡ given.result) × (new ≡ a) × (w' ≡ w)
-IsOutcomeOf (Stop cause) old new w w' (outcome.Stop answer) = (answer ≡ cause) × (new ≡ old) × (w' ≡ w)
+IsOutcomeOf (Stop cause) old new w w' (outcome.Stop answer) =
+    (answer ≡ cause) × (new ≡ old) × (w' ≡ w)
 IsOutcomeOf step old new w w' answer = ⊥
 
--- the answer is a synchronous error
+-- whether an answer is a synchronous error
 abbrev pub is_sync_error : Outcome → Bool
 is_sync_error (outcome.SyncError code) = true
 is_sync_error _ = false
 
 -- whether the activation goes on once an instruction was performed, what else came of it, and what
--- that left: a synchronous error nothing at all, so that the next statement is still to be gone to. Of
--- an instruction that lacks what it needs nothing is said
+-- that left: a synchronous error nothing at all, so that the next statement is still to be gone to.
+-- Of an instruction that lacks what it needs nothing is said
 abbrev pub IsPerformed :
-    StatementStep → (next : ℕ) → (old new : Activation) (w w' : GlobalStore) → (goes : Bool) → (other : Outcome) → Type 0
+    StatementStep → (next : ℕ) → (old new : Activation) (w w' : GlobalStore) → (goes : Bool)
+    → (other : Outcome) → Type 0
 IsPerformed Stuck next old new w w' goes other = Unit {0}
 IsPerformed (Went a after) next old new w w' true other = (new ≡ a) × (w' ≡ after)
 IsPerformed (Went a after) next old new w w' false other = ⊥

@@ -19,20 +19,24 @@ use Rattle.machine.specs.Bindings.{param_bindings}
 abbrev pub system_function : ℕ → Option (List Param)
 system_function number = option_map (map param_of_record) (system_params number)
 
--- a system call: the numbers of its IN parameters, and what RET_VAL is bound to
+-- the arguments of a system function: the numbers of its IN parameters, and what RET_VAL is bound
+-- to
 pub record SystemCallArguments : Type 0 where
+  -- the numbers of the IN parameters, in their order
   pub inputs : List ℕ
+  -- what RET_VAL stands for, if the system function has it
   pub result : Option Binding
 
--- the number that is passed; a place was tested when it was bound
+-- the number of an IN parameter of a system function: the constant, or what stands at the place,
+-- which was tested when it was bound
 abbrev pub input_of : Option Binding → Local → Areas → ℕ
-input_of (Some (binding.Bound place width frame)) s m =
+input_of (Some (binding.AtPlace place width frame)) s m =
     unwrap_or
     (location_number (record { place = place; width = width; frame = frame }) s.locals m) 0
 input_of (Some (binding.Constant value)) s m = value
 input_of _ s m = 0
 
--- how many of the parameters are IN
+-- how many of these parameters are IN parameters
 abbrev pub count_inputs : List Param → ℕ
 count_inputs [] = 0
 count_inputs (p ∷ rest) = (if p.section == section_in then 1 else 0) + count_inputs rest
@@ -49,7 +53,9 @@ inputs_from (p ∷ rest) index bindings s m =
 abbrev pub result_from : List Param → (index : ℕ) → List Binding → Option Binding
 result_from [] index bindings = None
 result_from (p ∷ rest) index bindings =
-    if p.section == section_out then slice_get bindings index else result_from rest (index + 1) bindings
+    if p.section == section_out
+    then slice_get bindings index
+    else result_from rest (index + 1) bindings
 
 -- the arguments of a system call: the numbers of the IN parameters as they are now, and what
 -- RET_VAL stands for
@@ -61,11 +67,15 @@ system_call_arguments params bindings s m = record {
 
 -- the arguments of a system call of an activation: the numbers of the IN parameters as they are
 -- now, and what RET_VAL stands for
-abbrev pub arguments_of_activation : List Param → List Binding → Activation → Areas → SystemCallArguments
-arguments_of_activation params bindings a m = system_call_arguments params bindings (local_of a.running) m
+abbrev pub arguments_of_activation :
+    List Param → List Binding → Activation → Areas → SystemCallArguments
+arguments_of_activation params bindings a m =
+    system_call_arguments params bindings (local_of a.running) m
 
 -- the arguments of a CALL of a system function; its parameters are bound as in each call, and the
 -- error is that of the first that can't be bound
-unfoldable pub system_call : List Param → List Passing → Local → Areas → Result SystemCallArguments ℕ
+unfoldable pub system_call :
+    List Param → List Passing → Local → Areas → Result SystemCallArguments ℕ
 system_call params passings s m =
-    then_ok (param_bindings params passings s m) (λ bindings. Ok (system_call_arguments params bindings s m))
+    then_ok (param_bindings params passings s m)
+    (λ bindings. Ok (system_call_arguments params bindings s m))

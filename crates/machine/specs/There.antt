@@ -8,23 +8,26 @@ use Rattle.flat_code.specs.Instr.{Instr, Calls, Returns}
 use Rattle.machine.specs.Code.{Code, Fetched}
 use Rattle.machine.specs.SystemCalls.{system_function}
 
--- a called block is there: a system function of the profile, or a block of the program
+-- whether a block can be called: it is a system function of the profile, or a block of the program
 abbrev pub is_block_callable : Code → BlockId → Bool
 is_block_callable c block =
-    if is_system_function block.kind then is_some (system_function block.number) else is_some (c.head block)
+    if is_system_function block.kind
+    then is_some (system_function block.number)
+    else is_some (c.head block)
 
--- what a CALL calls is there, and at a return the head of its own block
+-- whether what an instruction calls is there, and at a return the head of its own block
 abbrev pub is_called_block_there : Code → Instr → (own : BlockId) → Bool
 is_called_block_there c (Calls how block instance passings) own = is_block_callable c block
 is_called_block_there c (Returns how) own = is_some (c.head own)
 is_called_block_there c _ own = true
 
--- the statement is there, and so is what it needs
+-- whether a statement was found, and what it needs of the program is there
 abbrev pub is_statement_complete : Code → Option Fetched → (own : BlockId) → Bool
 is_statement_complete c None own = false
 is_statement_complete c (Some f) own = is_called_block_there c f.instr own
 
--- a frame stands, as many frames have local data as stand, and the statement there is complete
+-- whether a frame stands, as many frames have local data as stand, and what the next statement
+-- needs of the program is there
 abbrev pub is_activation_ready : Code → Activation → Bool
 is_activation_ready c a =
     if a.left then false

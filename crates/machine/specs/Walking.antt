@@ -1,7 +1,7 @@
 -- How the machine goes along the ops of a statement, by their offsets.
 use Rattle.std.specs.Prelude.{ℕ, true, zero, suc, List, [], slice_get, Option, Some, None, unwrap_or, Result, Ok, if◌then◌else◌}
 use Rattle.plc_mem.specs.Areas.{Areas}
-use Rattle.frames.specs.Bound.{binding_set}
+use Rattle.frames.specs.ParameterBindings.{binding_set}
 use Rattle.frames.specs.declared.bindings.Binding.{Binding}
 use Rattle.flat_code.specs.Ops.{OpData}
 use Rattle.flat_code.specs.Placed.{op_placed, line_placed}
@@ -16,28 +16,32 @@ use Rattle.machine.specs.ExecState.{Local, then_ok}
 use Rattle.machine.specs.Bindings.{bound_for, no_bindings}
 use Rattle.machine.specs.Flat.{OpRun, use_db_of, use_db_first, list_of, most_ops_of_statement, with_passing, instr_of}
 
--- what a statement opens first, its last op, and the offset behind it
-pub record Walk : Type 0 where
+-- what going along the ops of a statement finds: the data block that the statement opens first, its
+-- last op, and the offset behind it
+pub record StatementWalk : Type 0 where
+  -- the data block that the statement opens first, if any
   pub opens : Option ℕ
+  -- the last op of the statement
   pub last : OpData
+  -- the byte offset behind the last op
   pub next : ℕ
 
--- the first of two numbers that is there
+-- the first of two optional numbers that is there
 abbrev pub first_present : Option ℕ → Option ℕ → Option ℕ
 first_present None more = more
 first_present (Some number) more = Some number
 
--- what a walk over the ops of a run comes to; the data block `opens` that was opened before the run
--- counts first, then the first USEDB in it
-abbrev pub walk_with : Option ℕ → OpRun → Walk
+-- what going along a run of ops finds; the data block `opens` that was opened before the run counts
+-- first, then the first USEDB in it
+abbrev pub walk_with : Option ℕ → OpRun → StatementWalk
 walk_with opens r = record {
   opens = first_present opens (use_db_of r.before);
   last = r.last;
   next = r.next;
 }
 
--- what a walk comes to at the last op of a statement, with the offset behind it
-abbrev pub walk_by : Option ℕ → OpData × ℕ → Walk
+-- what going along the ops finds at the last op of a statement, with the offset behind it
+abbrev pub walk_by : Option ℕ → OpData × ℕ → StatementWalk
 walk_by opens r = record { opens = opens; last = r.0; next = r.1 }
 
 -- the data block that a statement opens first, behind a further op: the one so far, or that of a
@@ -50,8 +54,9 @@ abbrev pub list_jump : (most : ℕ) → List OpData → (target at number : ℕ)
 list_jump most ops target at number =
     unwrap_or (slice_get (list_of most ops target at) number) target
 
--- an op that passes a parameter sets what it stands for
-abbrev pub binding_by : Operand → List Param → List Binding → Local → Areas → Result (List Binding) ℕ
+-- the bindings after an op: one that passes a parameter sets what the parameter stands for
+abbrev pub binding_by :
+    Operand → List Param → List Binding → Local → Areas → Result (List Binding) ℕ
 binding_by (operand.Pass index actual) params bindings s m =
     then_ok (bound_for (slice_get params index) actual s m) (λ b. Ok (binding_set bindings index b))
 binding_by _ params bindings s m = Ok bindings
@@ -66,7 +71,8 @@ bound_next (Some r) params bindings s m more =
     if r.0.last then Ok bindings
     else then_ok (binding_by r.0.operand params bindings s m) (λ next. more r.1 next)
 
--- at most so many ops from an offset on; it ends at the last op of the statement, which passes none
+-- the bindings after at most so many ops from an offset on; they end at the last op of the
+-- statement, which passes none
 unfoldable pub bound_from :
     (most : ℕ) → List OpData → ℕ → List Param → List Binding → Local → Areas
     → Result (List Binding) ℕ
@@ -77,9 +83,10 @@ bound_from (suc most) ops at params bindings s m =
 
 -- what all parameters stand for, by the ops of the statement at an offset
 abbrev pub bound_all : List OpData → ℕ → List Param → Local → Areas → Result (List Binding) ℕ
-bound_all ops at params s m = bound_from most_ops_of_statement ops at params (no_bindings params) s m
+bound_all ops at params s m =
+    bound_from most_ops_of_statement ops at params (no_bindings params) s m
 
--- what a further op passes, and those behind it; the last op of a statement passes nothing
+-- what a further op and the ops behind it pass; the last op of a statement passes nothing
 abbrev pub passings_with : Option (OpData × ℕ) → (ℕ → List Passing) → List Passing
 passings_with None more = []
 passings_with (Some r) more = if r.0.last then [] else with_passing r.0.operand (more r.1)
@@ -95,9 +102,10 @@ abbrev pub passings_at : List OpData → ℕ → List Passing
 passings_at ops at = passings_up_to most_ops_of_statement ops at
 
 -- the statement at an offset of a block, by what was found along its ops
-abbrev pub fetched_at : CodeBlock → ℕ → Walk → Fetched
+abbrev pub fetched_at : CodeBlock → ℕ → StatementWalk → Fetched
 fetched_at b at walk = record {
-  instr = instr_of (operation_of walk.last.code) walk.last.operand walk.opens (passings_at b.code at)
+  instr =
+      instr_of (operation_of walk.last.code) walk.last.operand walk.opens (passings_at b.code at)
       walk.next b.code;
   next = walk.next;
   line = unwrap_or (line_placed 0 true b.code b.lines at) 0;

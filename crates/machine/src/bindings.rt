@@ -25,7 +25,7 @@ fn bound_place(access: Access, at: &Location, s: &Running, m: &Memory) -> Result
     ensures { result ≡ bound_place_of access at.now (local_of s.now) m.now }
 {
     match number_at(at, &s.locals, m) {
-        Some(_) => Ok(Binding::Bound {
+        Some(_) => Ok(Binding::AtPlace {
             place: at.place,
             width: at.width,
             frame: at.frame,

@@ -25,7 +25,8 @@ pub(crate) fn check(
     t: &Timers,
     n: &Counters,
 ) -> Result<(), u8>
-    ensures { ChangesRunningRegs (regs_after_bit_check with operand.now (local_of s.old) m.now t.now n.now)
+    ensures { ChangesRunningRegs (regs_after_bit_check with operand.now (local_of s.old)
+        m.now t.now n.now)
         s.old s.new result }
 {
     let bit = tested(operand, s, m, t, n)?;
@@ -68,7 +69,8 @@ fn put_bit(at: &Location, bit: bool, regs: Regs, s: &mut Running, m: &mut Memory
 #[tactic(auto, unfolding(crate::specs::BitLogic::put_bit))]
 #[inline(always)]
 fn assign_at(at: &Location, s: &mut Running, m: &mut Memory) -> Result<(), u8>
-    ensures { ChangesLocalMemory (assigned_at at.now (local_of s.old) m.old) s.old s.new m.old m.new result }
+    ensures { ChangesLocalMemory (assigned_at at.now (local_of s.old) m.old)
+        s.old s.new m.old m.new result }
 {
     let value = power_flow(s);
     write(at, bit_number(value), s, m)?;
@@ -79,7 +81,8 @@ fn assign_at(at: &Location, s: &mut Running, m: &mut Memory) -> Result<(), u8>
 // = with a fixed place. Each area has its arm, so that the compiler joins it with the memory's own.
 #[inline(always)]
 fn assign_direct(area: Area, byte: u16, bit: u8, s: &mut Running, m: &mut Memory) -> Result<(), u8>
-    ensures { ChangesLocalMemory (bit_assigned (Operand.Direct area Width.Bit byte bit) (local_of s.old) m.old)
+    ensures { ChangesLocalMemory (bit_assigned (Operand.Direct area Width.Bit byte bit)
+        (local_of s.old) m.old)
         s.old s.new m.old m.new result }
 {
     match area {
@@ -97,7 +100,8 @@ fn assign_direct(area: Area, byte: u16, bit: u8, s: &mut Running, m: &mut Memory
 #[tactic(auto, unfolding(crate::specs::BitLogic::bit_assigned, crate::specs::Places::operand_location))]
 #[inline(always)]
 fn assign_in(area: Area, byte: u16, bit: u8, s: &mut Running, m: &mut Memory) -> Result<(), u8>
-    ensures { ChangesLocalMemory (bit_assigned (Operand.Direct area Width.Bit byte bit) (local_of s.old) m.old)
+    ensures { ChangesLocalMemory (bit_assigned (Operand.Direct area Width.Bit byte bit)
+        (local_of s.old) m.old)
         s.old s.new m.old m.new result }
 {
     let at = placed(Access::Writing, area, byte, bit, Width::Bit, s)?;
@@ -108,7 +112,8 @@ fn assign_in(area: Area, byte: u16, bit: u8, s: &mut Running, m: &mut Memory) ->
 #[tactic(auto, unfolding(crate::specs::BitLogic::bit_assigned))]
 #[inline(never)]
 fn assign_elsewhere(operand: &Operand, s: &mut Running, m: &mut Memory) -> Result<(), u8>
-    ensures { ChangesLocalMemory (bit_assigned operand.now (local_of s.old) m.old) s.old s.new m.old m.new result }
+    ensures { ChangesLocalMemory (bit_assigned operand.now (local_of s.old) m.old)
+        s.old s.new m.old m.new result }
 {
     let at = located(Access::Writing, operand, s, m)?;
     assign_at(&at, s, m)
@@ -117,7 +122,8 @@ fn assign_elsewhere(operand: &Operand, s: &mut Running, m: &mut Memory) -> Resul
 /// =.
 #[inline(always)]
 pub(crate) fn assign(operand: &Operand, s: &mut Running, m: &mut Memory) -> Result<(), u8>
-    ensures { ChangesLocalMemory (bit_assigned operand.now (local_of s.old) m.old) s.old s.new m.old m.new result }
+    ensures { ChangesLocalMemory (bit_assigned operand.now (local_of s.old) m.old)
+        s.old s.new m.old m.new result }
 {
     match *operand {
         Operand::Direct {
@@ -162,7 +168,8 @@ fn set_direct(
     s: &mut Running,
     m: &mut Memory,
 ) -> Result<(), u8>
-    ensures { ChangesLocalMemory (bit_set_of value (Operand.Direct area Width.Bit byte bit) (local_of s.old) m.old)
+    ensures { ChangesLocalMemory (bit_set_of value (Operand.Direct area Width.Bit byte bit)
+        (local_of s.old) m.old)
         s.old s.new m.old m.new result }
 {
     let at = placed(Access::Writing, area, byte, bit, Width::Bit, s)?;

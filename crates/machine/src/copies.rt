@@ -43,7 +43,8 @@ fn in_instance(param: &Param, instance: u16) -> Location
 
 // A number to a place.
 pub(crate) fn put(to: &Location, number: u32, s: &mut Running, m: &mut Memory)
-    ensures { BecomesLocalMemory (put_of to.now number (local_memory_of s.old m.old)) s.old s.new m.new }
+    ensures { BecomesLocalMemory (put_of to.now number (local_memory_of s.old m.old))
+        s.old s.new m.new }
 {
     // a place that a parameter was bound to exists
     match write(to, low(to.width, number), s, m) {
@@ -55,7 +56,8 @@ pub(crate) fn put(to: &Location, number: u32, s: &mut Running, m: &mut Memory)
 // The number at a place to a place.
 #[tactic(auto, unfolding(crate::specs::Copies::number_copied))]
 fn copy(from: &Location, to: &Location, s: &mut Running, m: &mut Memory)
-    ensures { BecomesLocalMemory (number_copied from.now to.now (local_memory_of s.old m.old)) s.old s.new m.new }
+    ensures { BecomesLocalMemory (number_copied from.now to.now (local_memory_of s.old m.old))
+        s.old s.new m.new }
 {
     let number = number_at(from, &s.locals, m).unwrap_or(0);
     put(to, number, s, m);
@@ -63,11 +65,12 @@ fn copy(from: &Location, to: &Location, s: &mut Running, m: &mut Memory)
 
 #[tactic(auto, unfolding(crate::specs::Copies::actual_copied_to))]
 fn passed_to(binding: Option<Binding>, to: &Location, s: &mut Running, m: &mut Memory)
-    ensures { BecomesLocalMemory (passed_to_of binding to.now (local_memory_of s.old m.old)) s.old s.new m.new }
+    ensures { BecomesLocalMemory (passed_to_of binding to.now (local_memory_of s.old m.old))
+        s.old s.new m.new }
 {
     match binding {
         Some(
-            Binding::Bound {
+            Binding::AtPlace {
                 place,
                 width,
                 frame,
@@ -87,11 +90,12 @@ fn passed_to(binding: Option<Binding>, to: &Location, s: &mut Running, m: &mut M
 
 #[tactic(auto, unfolding(crate::specs::Copies::copied_to_actual))]
 fn given_to(from: &Location, binding: Option<Binding>, s: &mut Running, m: &mut Memory)
-    ensures { BecomesLocalMemory (given_to_of from.now binding (local_memory_of s.old m.old)) s.old s.new m.new }
+    ensures { BecomesLocalMemory (given_to_of from.now binding (local_memory_of s.old m.old))
+        s.old s.new m.new }
 {
     match binding {
         Some(
-            Binding::Bound {
+            Binding::AtPlace {
                 place,
                 width,
                 frame,
@@ -109,7 +113,8 @@ fn given_to(from: &Location, binding: Option<Binding>, s: &mut Running, m: &mut 
 }
 
 fn param_in(param: &Param, binding: Option<Binding>, instance: u16, s: &mut Running, m: &mut Memory)
-    ensures { BecomesLocalMemory (param_in_of param.now binding instance (local_memory_of s.old m.old))
+    ensures { BecomesLocalMemory (param_in_of param.now binding instance
+        (local_memory_of s.old m.old))
         s.old s.new m.new }
 {
     if comes_in(param) {
@@ -124,7 +129,8 @@ fn param_out(
     s: &mut Running,
     m: &mut Memory,
 )
-    ensures { BecomesLocalMemory (param_out_of param.now binding instance (local_memory_of s.old m.old))
+    ensures { BecomesLocalMemory (param_out_of param.now binding instance
+        (local_memory_of s.old m.old))
         s.old s.new m.new }
 {
     if goes_out(param) {
@@ -141,7 +147,8 @@ pub(crate) fn params_in(
     m: &mut Memory,
 )
     requires { length params.now ≤ 60 }
-    ensures { BecomesLocalMemory (params_in_of params.now 0 bindings.now instance (local_memory_of s.old m.old))
+    ensures { BecomesLocalMemory (params_in_of params.now 0 bindings.now instance
+        (local_memory_of s.old m.old))
         s.old s.new m.new }
 {
     let mut index = 0u8;
@@ -160,7 +167,8 @@ pub(crate) fn params_out(
     m: &mut Memory,
 )
     requires { length params.now ≤ 60 }
-    ensures { BecomesLocalMemory (params_out_of params.now 0 bindings.now instance (local_memory_of s.old m.old))
+    ensures { BecomesLocalMemory (params_out_of params.now 0 bindings.now instance
+        (local_memory_of s.old m.old))
         s.old s.new m.new }
 {
     let mut index = 0u8;

@@ -7,7 +7,7 @@ ghost use Rattle.machine.specs.DataBlocks.{is_block_loaded as is_loaded_in, open
 
 use crate::loads::put_loaded;
 use crate::places::number_from;
-use flat_code::Operand;
+use flat_code::{DB_REGISTER_NUMBER, Operand};
 use frames::{Frame, Running};
 use plc_base::error_codes;
 use plc_mem::Memory;
@@ -27,7 +27,7 @@ fn open_if_loaded(register: u8, number: u16, s: &mut Running, m: &Memory) -> Res
     if !is_loaded(number, m) {
         return Err(error_codes::NO_DATA_BLOCK);
     }
-    if register == 1 {
+    if register == DB_REGISTER_NUMBER {
         s.frame.db = Some(number);
     } else {
         s.frame.di = Some(number);
@@ -102,7 +102,8 @@ fn open_block_fact(which: u32, f: &Frame, m: &Memory) -> u32
 #[tactic(auto, unfolding(crate::specs::DataBlocks::loading_open_block))]
 #[inline(never)]
 pub(crate) fn load_open_block(operand: &Operand, s: &mut Running, m: &Memory) -> Result<(), u8>
-    ensures { ChangesRunningRegs (loading_open_block operand.now (local_of s.old) m.now) s.old s.new result }
+    ensures { ChangesRunningRegs (loading_open_block operand.now (local_of s.old) m.now)
+        s.old s.new result }
 {
     match *operand {
         Operand::Literal { value } => {

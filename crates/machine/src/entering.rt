@@ -13,17 +13,17 @@ use std::marker::Model;
 
 /// A block that is called: its instance, if one is named, its local bytes and its parameters.
 #[derive(Drop)]
-pub(crate) struct Callee<'a> {
+pub(crate) struct CalledBlock<'a> {
     pub(crate) block: BlockId,
     pub(crate) instance: Option<u16>,
     pub(crate) local_len: u16,
     pub(crate) params: &'a [Param],
 }
 
-impl<'a> Model for Callee<'a> {
-    ghost use Rattle.machine.specs.Entering.{CalledBlock as CalleeData};
+impl<'a> Model for CalledBlock<'a> {
+    ghost use Rattle.machine.specs.Entering.{CalledBlock as CalledBlockData};
 
-    ghost Value = { CalleeData };
+    ghost Value = { CalledBlockData };
 
     ghost view = { λ c. record {
       block = c.block;
@@ -54,7 +54,7 @@ fn di_of(instance: Option<u16>, di: Option<u16>) -> Option<u16>
 }
 
 // The frame becomes that of the called block, but for its local bytes.
-fn begin(called: &Callee<'_>, bindings: &Bindings, frame: &mut Frame)
+fn begin(called: &CalledBlock<'_>, bindings: &Bindings, frame: &mut Frame)
     requires { frame.old.local_len ≡ called.now.local_len }
     ensures { frame.new ≡ fresh_of called.now bindings.now frame.old }
 {
@@ -68,7 +68,7 @@ fn begin(called: &Callee<'_>, bindings: &Bindings, frame: &mut Frame)
 }
 
 // The caller goes on behind the call, and the called block runs; it has room.
-fn enter(called: &Callee<'_>, bindings: &Bindings, next: u32, a: &mut Activation)
+fn enter(called: &CalledBlock<'_>, bindings: &Bindings, next: u32, a: &mut Activation)
     requires depth { length a.old.running.locals.starts ≡ length (frames_of a.old) }
     requires few { length (frames_of a.old) < 24 }
     requires room { entry_fault called.now.local_len a.old ≡ None }
@@ -101,7 +101,7 @@ fn supply(
 
 /// The block is entered, if it has room.
 pub(crate) fn enter_if_room(
-    called: &Callee<'_>,
+    called: &CalledBlock<'_>,
     bindings: &Bindings,
     next: u32,
     a: &mut Activation,
@@ -109,7 +109,8 @@ pub(crate) fn enter_if_room(
 ) -> Result<(), FrameFault>
     requires depth { length a.old.running.locals.starts ≡ length (frames_of a.old) }
     requires params { length called.now.params ≤ 60 }
-    ensures { LeavesCall (entry_or_stop (entry_fault called.now.local_len a.old) called.now bindings.now next
+    ensures { LeavesCall (entry_or_stop (entry_fault called.now.local_len a.old)
+        called.now bindings.now next
         a.old m.old) a.old a.new m.old m.new result }
 {
     if let Some(fault) = a.refuses(called.local_len) {

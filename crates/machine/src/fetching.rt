@@ -3,9 +3,9 @@ use flat_code::Op;
 use image_file::LoadedCode;
 use std::marker::Model;
 
-/// A statement that was found: the code in which it stands and its offset there, the data block that
-/// it opens first, its last op, and the offset behind it. The ops before its last one are read again
-/// where they are wanted. A contract sees its instruction, with all that these ops prepare.
+/// A statement that was found: the code in which it stands and its offset there, the data block
+/// that it opens first, its last op, and the offset behind it. The ops before its last one are read
+/// again where they are wanted. A contract sees its instruction, with all that these ops prepare.
 #[derive(Drop)]
 pub(crate) struct Fetched<'a> {
     pub(crate) code: &'a LoadedCode<'a>,

@@ -29,7 +29,8 @@ ghost use Rattle.machine.specs.There.{is_statement_complete};
 /// A statement that is there, with what it calls, goes.
 pub fn what_is_there_goes()
     ensures { (c : Code) (a : Activation) (w : GlobalStore)
-        → is_statement_complete c (c.fetch a.running.frame.block a.running.frame.at) a.running.frame.block
+        → is_statement_complete c (c.fetch a.running.frame.block a.running.frame.at)
+        a.running.frame.block
         ≡ true
         → IsNotStuck (step_found c (c.fetch a.running.frame.block a.running.frame.at) a w) }
 {}
@@ -64,7 +65,8 @@ pub fn what_fits_goes()
 /// comes of it: by the statement's meaning, and by what a call of `statement` answers.
 pub fn what_fits_lasts()
     ensures step { (p : Program) (a : Activation) (w : GlobalStore)
-        → Verifies p → FitsProgram p w.memory a → StepFitsAgain p w (statement_step (code_of p) a w) }
+        → Verifies p → FitsProgram p w.memory a
+        → StepFitsAgain p w (statement_step (code_of p) a w) }
     ensures answer { (p : Program) (old new : Activation) (w after : GlobalStore) (answer : Outcome)
         → Verifies p → FitsProgram p w.memory old
         → IsOutcomeOf (statement_step (code_of p) old w) old new w after answer
@@ -89,7 +91,8 @@ pub fn blocks_begin()
         → Verifies p → (code_of p).head (ob_block ob) ≡ Some h → h.local_len ≤ 1024 }
     ensures start { (f : Profile) (p : Program) (class ob byte value : ℕ) (h : BlockHead)
         → Verifies p → (code_of p).head (ob_block ob) ≡ Some h → byte < 20
-        → IsSome (with_local_byte 0 byte value (activation_begun f class ob (first_frame ob h.local_len))) }
+        → IsSome (with_local_byte 0 byte value
+        (activation_begun f class ob (first_frame ob h.local_len))) }
 {
     what_verifying_gives();
 }

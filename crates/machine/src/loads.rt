@@ -32,7 +32,8 @@ pub(crate) fn load(
     t: &Timers,
     n: &Counters,
 ) -> Result<(), u8>
-    ensures { ChangesRunningRegs (regs_after_load operand.now (local_of s.old) m.now t.now n.now) s.old s.new result }
+    ensures { ChangesRunningRegs (regs_after_load operand.now (local_of s.old) m.now t.now n.now)
+        s.old s.new result }
 {
     let number = loaded(operand, s, m, t, n)?;
     put_loaded(&mut s.regs, number);
@@ -49,7 +50,8 @@ pub(crate) fn load_bcd(
     t: &Timers,
     n: &Counters,
 ) -> Result<(), u8>
-    ensures { ChangesRunningRegs (regs_after_bcd_load operand.now (local_of s.old) m.now t.now n.now)
+    ensures { ChangesRunningRegs (regs_after_bcd_load operand.now (local_of s.old)
+        m.now t.now n.now)
         s.old s.new result }
 {
     let number = bcd_loaded(operand, s, m, t, n)?;
@@ -98,7 +100,8 @@ fn put_direct(
     s: &mut Running,
     m: &mut Memory,
 ) -> Result<(), u8>
-    ensures { ChangesLocalMemory (number_transferred number (Operand.Direct area width byte bit) (local_of s.old) m.old)
+    ensures { ChangesLocalMemory (number_transferred number (Operand.Direct area width byte bit)
+        (local_of s.old) m.old)
         s.old s.new m.old m.new result }
 {
     let at = placed(Access::Writing, area, byte, bit, width, s)?;

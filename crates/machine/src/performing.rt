@@ -1,8 +1,8 @@
 //! What performing an instruction comes to: the one place where operations are told apart.
 //!
-//! Each function answers whether the activation goes on. What else came of it stands in `other`, which
-//! is handed in: an answer of that size would be made anew for each instruction. What the parameters of
-//! a call stand for is found in `spare`, whatever that held.
+//! Each function answers whether the activation goes on. What else came of it stands in `other`,
+//! which is handed in: an answer of that size would be made anew for each instruction. What the
+//! parameters of a call stand for is found in `spare`, whatever that held.
 ghost use Rattle.std.specs.Prelude.{◌≡◌, ◌≤◌, ℕ, length, false, true, Ok, List};
 ghost use Rattle.timers_counters.specs.Timer.{Timer};
 ghost use Rattle.timers_counters.specs.Counter.{Counter};
@@ -20,7 +20,7 @@ ghost use Rattle.machine.specs.SystemCalls.{system_function as system_function_o
 ghost use Rattle.machine.specs.Walking.{passings_at};
 ghost use Rattle.machine.specs.declared.outcomes.Outcome.{Outcome as OutcomeOf};
 
-use crate::entering::{Callee, at_block, enter_if_room};
+use crate::entering::{CalledBlock, at_block, enter_if_room};
 use crate::fetching::Fetched;
 use crate::jumps::{goes_to, is_taken, put_jump, test_rlo};
 use crate::outcomes::Outcome;
@@ -95,7 +95,8 @@ pub(crate) fn is_jl(operation: JumpOperation) -> bool
 
 // A jump, JL apart.
 fn jump_to(operation: JumpOperation, target: u32, next: u32, a: &mut Activation)
-    ensures { a.new ≡ activation_continued_at (goes_to_of (is_taken_of operation a.old.running.regs) target next)
+    ensures { a.new ≡ activation_continued_at
+        (goes_to_of (is_taken_of operation a.old.running.regs) target next)
         (regs_after_jump operation a.old.running.regs) a.old }
 {
     let taken = is_taken(operation, &a.running.regs);
@@ -107,7 +108,8 @@ fn jump_to(operation: JumpOperation, target: u32, next: u32, a: &mut Activation)
 #[inline(never)]
 fn jump(code: &LoadedCode<'_>, operation: JumpOperation, target: u32, next: u32, a: &mut Activation)
     ensures { (c : Code) (w : GlobalStore) (other : OutcomeOf) →
-        IsPerformed (instruction_step c (jump_by_operation operation target next code.now.code) next a.old w) next
+        IsPerformed (instruction_step c (jump_by_operation operation target next code.now.code)
+        next a.old w) next
         a.old a.new w w true other }
 {
     if is_jl(operation) {
@@ -144,7 +146,8 @@ fn instance_named(number: u16) -> Option<u16>
 
 // CC with RLO 0.
 fn pass_over_call(next: u32, a: &mut Activation)
-    ensures { a.new ≡ activation_continued_at next (regs_after_call_not_made a.old.running.regs) a.old }
+    ensures { a.new ≡ activation_continued_at next (regs_after_call_not_made a.old.running.regs)
+        a.old }
 {
     at_block(&mut a.running.regs);
     test_rlo(&mut a.running.regs);
@@ -171,7 +174,7 @@ fn cause_of(fault: FrameFault) -> u8
 // A call of a function or function block whose parameters are bound.
 #[tactic(auto, using(crate::proofs::Steps::call_performs, crate::proofs::Steps::call_stops))]
 fn call_block(
-    called: &Callee<'_>,
+    called: &CalledBlock<'_>,
     bindings: &Bindings,
     next: u32,
     a: &mut Activation,
@@ -181,8 +184,9 @@ fn call_block(
     requires depth { length a.old.running.locals.starts ≡ length (frames_of a.old) }
     requires params { length called.now.params ≤ 60 }
     ensures { (t : List Timer) (n : List Counter) →
-        IsPerformed (call_step (call_with_bindings (Ok bindings.now) called.now next a.old m.old) next a.old
-        (global_store m.old t n)) next a.old a.new (global_store m.old t n) (global_store m.new t n) result other.new }
+        IsPerformed (call_step (call_with_bindings (Ok bindings.now) called.now next a.old m.old)
+        next a.old (global_store m.old t n))
+        next a.old a.new (global_store m.old t n) (global_store m.new t n) result other.new }
 {
     match enter_if_room(called, bindings, next, a, m) {
         Ok(()) => true,
@@ -197,7 +201,7 @@ fn call_block(
 
 // A call of a function or function block with these parameters.
 fn call_with(
-    called: &Callee<'_>,
+    called: &CalledBlock<'_>,
     code: &LoadedCode<'_>,
     at: u32,
     next: u32,
@@ -209,8 +213,9 @@ fn call_with(
     requires depth { length a.old.running.locals.starts ≡ length (frames_of a.old) }
     requires params { length called.now.params ≤ 60 }
     ensures { (t : List Timer) (n : List Counter) →
-        IsPerformed (call_step (call_of called.now (passings_at code.now.code at) next a.old m.old) next
-        a.old (global_store m.old t n)) next a.old a.new (global_store m.old t n) (global_store m.new t n) result other.new }
+        IsPerformed (call_step (call_of called.now (passings_at code.now.code at) next a.old m.old)
+        next a.old (global_store m.old t n))
+        next a.old a.new (global_store m.old t n) (global_store m.new t n) result other.new }
 {
     match bind_all(code, at, called.params, &a.running, m, spare) {
         Err(error) => {
@@ -237,10 +242,10 @@ fn call_loaded(
     requires depth { length a.old.running.locals.starts ≡ length (frames_of a.old) }
     ensures { (t : List Timer) (n : List Counter) →
         IsPerformed (call_step (call_of (called_block block instance (block_head_of callee.now))
-        (passings_at code.now.code at) next a.old m.old) next a.old (global_store m.old t n)) next
-        a.old a.new (global_store m.old t n) (global_store m.new t n) result other.new }
+        (passings_at code.now.code at) next a.old m.old) next a.old (global_store m.old t n))
+        next a.old a.new (global_store m.old t n) (global_store m.new t n) result other.new }
 {
-    let called = Callee {
+    let called = CalledBlock {
         block,
         instance,
         local_len: callee.local_len(),
@@ -265,8 +270,8 @@ fn call_code(
     requires depth { length a.old.running.locals.starts ≡ length (frames_of a.old) }
     ensures { (t : List Timer) (n : List Counter) →
         IsPerformed (block_called ((code_of c.now.program).head block) block instance
-        (passings_at code.now.code at) next a.old (global_store m.old t n)) next
-        a.old a.new (global_store m.old t n) (global_store m.new t n) result other.new }
+        (passings_at code.now.code at) next a.old (global_store m.old t n))
+        next a.old a.new (global_store m.old t n) (global_store m.new t n) result other.new }
 {
     match c.block(block) {
         Some(callee) => call_loaded(&callee, code, at, block, instance, next, a, m, spare, other),
@@ -286,7 +291,8 @@ fn call_system(
     requires few { length params.now ≤ 4 }
     requires inputs { count_inputs params.now ≤ 3 }
     ensures { (w : GlobalStore) →
-        IsOutcomeOf (after_system_call (Ok (arguments_of_activation params.now bindings.now a.old m.now)) number next
+        IsOutcomeOf (after_system_call (Ok (arguments_of_activation
+        params.now bindings.now a.old m.now)) number next
         a.old) a.old a.new w w result }
 {
     let inputs = inputs_of(params, bindings, &a.running, m);
@@ -336,9 +342,10 @@ fn call_function(
     other: &mut Outcome,
 )
     ensures { (t : List Timer) (n : List Counter) →
-        IsPerformed (system_call_made (system_function_of number) number (passings_at code.now.code at)
-        next a.old (global_store m.now t n)) next a.old a.new (global_store m.now t n) (global_store m.now t n)
-        false other.new }
+        IsPerformed (system_call_made (system_function_of number)
+        number (passings_at code.now.code at)
+        next a.old (global_store m.now t n))
+        next a.old a.new (global_store m.now t n) (global_store m.now t n) false other.new }
 {
     match system_function(number) {
         Some(params) => call_system_with(
@@ -371,9 +378,9 @@ fn call_any(
 ) -> bool
     requires depth { length a.old.running.locals.starts ≡ length (frames_of a.old) }
     ensures { (t : List Timer) (n : List Counter) →
-        IsPerformed (call_made (code_of c.now.program) block instance (passings_at code.now.code at) next
-        a.old (global_store m.old t n)) next a.old a.new (global_store m.old t n) (global_store m.new t n)
-        result other.new }
+        IsPerformed (call_made (code_of c.now.program) block instance (passings_at code.now.code at)
+        next a.old (global_store m.old t n))
+        next a.old a.new (global_store m.old t n) (global_store m.new t n) result other.new }
 {
     if block.kind.is_system_function() {
         call_function(code, at, block.number, next, a, m, spare, other);
@@ -401,8 +408,9 @@ fn call(
     requires depth { length a.old.running.locals.starts ≡ length (frames_of a.old) }
     ensures { (t : List Timer) (n : List Counter) →
         IsPerformed (instruction_step (code_of c.now.program)
-        (Calls how block instance (passings_at code.now.code at)) next a.old (global_store m.old t n)) next
-        a.old a.new (global_store m.old t n) (global_store m.new t n) result other.new }
+        (Calls how block instance (passings_at code.now.code at))
+        next a.old (global_store m.old t n))
+        next a.old a.new (global_store m.old t n) (global_store m.new t n) result other.new }
 {
     if is_called(how, a.running.regs.status.rlo) {
         call_any(c, code, at, block, instance, next, a, m, spare, other)
@@ -422,7 +430,8 @@ fn end_loaded(
 ) -> bool
     requires stands { a.old.left ≡ false }
     ensures { (next : ℕ) (t : List Timer) (n : List Counter) →
-        IsPerformed (return_made (Some (block_head_of code.now)) a.old (global_store m.old t n)) next
+        IsPerformed (return_made (Some (block_head_of code.now)) a.old (global_store m.old t n))
+        next
         a.old a.new (global_store m.old t n) (global_store m.new t n) result other.new }
 {
     if return_from_block(code.params(), a, m) {
@@ -438,7 +447,8 @@ fn end_any(c: &Loaded, a: &mut Activation, m: &mut Memory, other: &mut Outcome) 
     requires stands { a.old.left ≡ false }
     ensures { (next : ℕ) (t : List Timer) (n : List Counter) →
         IsPerformed (return_made ((code_of c.now.program).head a.old.running.frame.block) a.old
-        (global_store m.old t n)) next a.old a.new (global_store m.old t n) (global_store m.new t n) result other.new }
+        (global_store m.old t n))
+        next a.old a.new (global_store m.old t n) (global_store m.new t n) result other.new }
 {
     match c.block(a.running.frame.block) {
         Some(code) => end_loaded(&code, a, m, other),
@@ -458,8 +468,9 @@ fn end(
 ) -> bool
     requires stands { a.old.left ≡ false }
     ensures { (t : List Timer) (n : List Counter) →
-        IsPerformed (instruction_step (code_of c.now.program) (Returns how) next a.old (global_store m.old t n)) next
-        a.old a.new (global_store m.old t n) (global_store m.new t n) result other.new }
+        IsPerformed (instruction_step (code_of c.now.program) (Returns how)
+        next a.old (global_store m.old t n))
+        next a.old a.new (global_store m.old t n) (global_store m.new t n) result other.new }
 {
     if is_ended(how, a.running.regs.status.rlo) {
         end_any(c, a, m, other)
@@ -489,8 +500,9 @@ fn perform_op(
     requires stands { a.old.left ≡ false }
     requires depth { length a.old.running.locals.starts ≡ length (frames_of a.old) }
     ensures { IsPerformed (instruction_step (code_of c.now.program)
-        (instr_of operation operand.now opens (passings_at code.now.code at) next code.now.code) next
-        a.old (global_store m.old t.old n.old)) next a.old a.new (global_store m.old t.old n.old)
+        (instr_of operation operand.now opens (passings_at code.now.code at) next code.now.code)
+        next a.old (global_store m.old t.old n.old))
+        next a.old a.new (global_store m.old t.old n.old)
         (global_store m.new t.new n.new) result other.new }
 {
     match operation {
@@ -541,8 +553,9 @@ fn perform_op_apart(
     requires stands { a.old.left ≡ false }
     requires depth { length a.old.running.locals.starts ≡ length (frames_of a.old) }
     ensures { IsPerformed (instruction_step (code_of c.now.program)
-        (instr_of operation operand.now opens (passings_at code.now.code at) next code.now.code) next
-        a.old (global_store m.old t.old n.old)) next a.old a.new (global_store m.old t.old n.old)
+        (instr_of operation operand.now opens (passings_at code.now.code at) next code.now.code)
+        next a.old (global_store m.old t.old n.old))
+        next a.old a.new (global_store m.old t.old n.old)
         (global_store m.new t.new n.new) result other.new }
 {
     perform_op(
@@ -550,7 +563,8 @@ fn perform_op_apart(
     )
 }
 
-/// Performs the instruction of a statement that was found. A synchronous error leaves all as it was.
+/// Performs the instruction of a statement that was found. A synchronous error leaves all as it
+/// was.
 #[inline(always)]
 pub(crate) fn perform(
     c: &Loaded,

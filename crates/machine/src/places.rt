@@ -4,7 +4,7 @@ ghost use Rattle.plc_base.specs.Widths.{bit_count};
 ghost use Rattle.machine.specs.ExecState.{local_of};
 ghost use Rattle.machine.specs.Places.{error_of, innermost_frame_index as innermost_of, open_block_location as in_register_of, open_area_location as in_area_of, error_of_absent_place as absent_of, location_number, number_read_at as read_of, direct_number as direct_of, pointer_number as pointer_of, is_aligned as is_aligned_of, location_at_pointer as at_pointer_of, pointer_location as by_pointer_of, location_in_named_area as in_named_of, area_location as placed_of, area_crossing_location as by_crossing_of, address_moved_by as moved_of, register_address as address_of, register_location as by_register_of, binding_location as of_binding_of, operand_location as located_of};
 
-use flat_code::Operand;
+use flat_code::{AR1_NUMBER, Operand};
 use frames::{Binding, Locals, Running};
 use plc_base::{Area, Place, Width, error_codes, place_of_pointer};
 use plc_mem::Memory;
@@ -265,7 +265,7 @@ fn moved(address: u32, bits: u32) -> u32
 fn address(register: u8, s: &Running) -> u32
     ensures { result ≡ address_of register (local_of s.now) }
 {
-    if register == 1 {
+    if register == AR1_NUMBER {
         s.regs.ar1
     } else {
         s.regs.ar2
@@ -293,7 +293,7 @@ fn of_binding(binding: Option<Binding>) -> Result<Location, u8>
 {
     match binding {
         Some(
-            Binding::Bound {
+            Binding::AtPlace {
                 place,
                 width,
                 frame,

@@ -76,7 +76,8 @@ pub(crate) fn point(
     s: &mut Running,
     m: &mut Memory,
 ) -> Result<(), u8>
-    ensures { ChangesLocalMemory (pointer_effect what operand.now (local_of s.old) m.old) s.old s.new m.old m.new result }
+    ensures { ChangesLocalMemory (pointer_effect what operand.now (local_of s.old) m.old)
+        s.old s.new m.old m.new result }
 {
     match what {
         PointerOperation::Lar1 => {

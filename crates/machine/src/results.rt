@@ -13,7 +13,7 @@ pub fn give_result(m: &mut Memory, a: &mut Activation, to: &Binding, value: u32)
     ensures { GivesResult to.now value a.old a.new m.old m.new }
 {
     match *to {
-        Binding::Bound {
+        Binding::AtPlace {
             place,
             width,
             frame,

@@ -66,7 +66,7 @@ fn is_bound_inside(binding: Option<Binding>) -> bool
     ensures { result ≡ is_bound_inside_of binding }
 {
     match binding {
-        Some(Binding::Bound { place, .. }) => is_inside(place.area),
+        Some(Binding::AtPlace { place, .. }) => is_inside(place.area),
         _ => true,
     }
 }
@@ -197,9 +197,11 @@ fn pass(
     other: &mut Outcome,
 ) -> Silent
     requires ready { IsStatementReady c.now.program a.old }
-    requires there { IsNotStuck (instruction_step (code_of c.now.program) f.now.instr f.now.next a.old
+    requires there { IsNotStuck (instruction_step (code_of c.now.program)
+        f.now.instr f.now.next a.old
         (global_store m.old t.old n.old)) }
-    ensures goes { GoesOrStays (instruction_step (code_of c.now.program) f.now.instr f.now.next a.old
+    ensures goes { GoesOrStays (instruction_step (code_of c.now.program)
+        f.now.instr f.now.next a.old
         (global_store m.old t.old n.old)) (is_silent f.now.instr a.old) a.old a.new
         (global_store m.old t.old n.old) (global_store m.new t.new n.new) (shows_nothing result) }
     ensures block { is_still_inside result ≡ true
@@ -212,8 +214,8 @@ fn pass(
     }
 }
 
-// The statement of a block at which the innermost frame stands, from its second op on, with what the
-// first one opens, under the same conditions.
+// The statement of a block at which the innermost frame stands, from its second op on, with what
+// the first one opens, under the same conditions.
 #[inline(never)]
 fn pass_further(
     c: &Loaded,
@@ -228,11 +230,13 @@ fn pass_further(
     other: &mut Outcome,
 ) -> Silent
     requires ready { IsStatementReady c.now.program a.old }
-    requires block { block_by_id a.old.running.frame.block c.now.program.code_blocks ≡ Some code.now }
+    requires block { block_by_id a.old.running.frame.block c.now.program.code_blocks
+        ≡ Some code.now }
     requires walk { option_map (walk_with None)
         (op_run_at most_ops_of_statement code.now.code a.old.running.frame.at)
         ≡ option_map (walk_with opens) (op_run_at 63 code.now.code second) }
-    ensures goes { GoesOrStays (statement_step (code_of c.now.program) a.old (global_store m.old t.old n.old))
+    ensures goes { GoesOrStays (statement_step (code_of c.now.program)
+        a.old (global_store m.old t.old n.old))
         (is_next_statement_of_kind is_silent (code_of c.now.program) a.old) a.old a.new
         (global_store m.old t.old n.old) (global_store m.new t.new n.new) (shows_nothing result) }
     ensures block { is_still_inside result ≡ true
@@ -267,8 +271,10 @@ fn pass_statement(
     other: &mut Outcome,
 ) -> Silent
     requires ready { IsStatementReady c.now.program a.old }
-    requires block { block_by_id a.old.running.frame.block c.now.program.code_blocks ≡ Some code.now }
-    ensures goes { GoesOrStays (statement_step (code_of c.now.program) a.old (global_store m.old t.old n.old))
+    requires block { block_by_id a.old.running.frame.block c.now.program.code_blocks
+        ≡ Some code.now }
+    ensures goes { GoesOrStays (statement_step (code_of c.now.program)
+        a.old (global_store m.old t.old n.old))
         (is_next_statement_of_kind is_silent (code_of c.now.program) a.old) a.old a.new
         (global_store m.old t.old n.old) (global_store m.new t.new n.new) (shows_nothing result) }
     ensures block { is_still_inside result ≡ true
@@ -332,11 +338,11 @@ fn run_inside(
 
 /// Executes statements one after another as long as each lets the activation go on and leaves the
 /// peripheral outputs as they are, `most` at most; the answer is how many. It stops only before one
-/// that isn't of the silent kind or doesn't go on: what it leaves is for `statement`. Silent are the
-/// instructions inside a block that don't write to a peripheral place, by their operand or what a
-/// parameter stands for; jumps but JL; a call that is made, but of a system function; and a return
-/// to a caller from a block without an instance. `spare` is room for what the parameters of a call stand
-/// for; what it holds before and after says nothing.
+/// that isn't of the silent kind or doesn't go on: what it leaves is for `statement`. Silent are
+/// the instructions inside a block that don't write to a peripheral place, by their operand or what
+/// a parameter stands for; jumps but JL; a call that is made, but of a system function; and a
+/// return to a caller from a block without an instance. `spare` is room for what the parameters of
+/// a call stand for; what it holds before and after says nothing.
 pub fn run(
     c: &Loaded,
     m: &mut Memory,
@@ -351,7 +357,8 @@ pub fn run(
     ensures runs { RunsSilently (code_of c.now.program) result a.old a.new
         (global_store m.old t.old n.old) (global_store m.new t.new n.new) }
     ensures stops { result < most
-        → goes_on_by_kind is_silent (code_of c.now.program) a.new (global_store m.new t.new n.new) ≡ false }
+        → goes_on_by_kind is_silent (code_of c.now.program) a.new (global_store m.new t.new n.new)
+        ≡ false }
 {
     let mut done = 0;
     while done < most {

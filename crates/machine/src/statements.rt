@@ -33,10 +33,12 @@ fn execute(
 ) -> Outcome
     requires stands { a.old.left ≡ false }
     requires depth { length a.old.running.locals.starts ≡ length (frames_of a.old) }
-    requires there { IsNotStuck (instruction_step (code_of c.now.program) f.now.instr f.now.next a.old
+    requires there { IsNotStuck (instruction_step (code_of c.now.program)
+        f.now.instr f.now.next a.old
         (global_store m.old t.old n.old)) }
     ensures { IsOutcomeOf (instruction_step (code_of c.now.program) f.now.instr f.now.next a.old
-        (global_store m.old t.old n.old)) a.old a.new (global_store m.old t.old n.old) (global_store m.new t.new n.new)
+        (global_store m.old t.old n.old)) a.old a.new (global_store m.old t.old n.old)
+        (global_store m.new t.new n.new)
         result }
 {
     let mut other = Outcome::Went;
@@ -64,7 +66,8 @@ fn execute_at(
     requires stands { a.old.left ≡ false }
     requires depth { length a.old.running.locals.starts ≡ length (frames_of a.old) }
     requires there { IsNotStuck (step_found (code_of c.now.program)
-        (statement_fetched code.now a.old.running.frame.at) a.old (global_store m.old t.old n.old)) }
+        (statement_fetched code.now a.old.running.frame.at)
+        a.old (global_store m.old t.old n.old)) }
     ensures { IsOutcomeOf (step_found (code_of c.now.program)
         (statement_fetched code.now a.old.running.frame.at) a.old (global_store m.old t.old n.old))
         a.old a.new (global_store m.old t.old n.old) (global_store m.new t.new n.new) result }
@@ -87,8 +90,9 @@ fn execute_at(
 
 /// Executes the statement at which the innermost frame of an activation stands, with memory, timers
 /// and counters, over the code of a loaded program. A frame stands, as many frames have local data
-/// as stand, and nothing that the statement needs is missing, as in an activation that fits. `spare`
-/// is room for what the parameters of a call stand for; what it holds before and after says nothing.
+/// as stand, and nothing that the statement needs is missing, as in an activation that fits.
+/// `spare` is room for what the parameters of a call stand for; what it holds before and after says
+/// nothing.
 #[tactic(auto, unfolding(crate::specs::Statement::statement_step))]
 pub fn statement(
     c: &Loaded,
@@ -102,7 +106,8 @@ pub fn statement(
     requires depth { length a.old.running.locals.starts ≡ length (frames_of a.old) }
     requires there { IsNotStuck (statement_of (code_of c.now.program) a.old
         (global_store m.old t.old n.old)) }
-    ensures { IsOutcomeOf (statement_of (code_of c.now.program) a.old (global_store m.old t.old n.old))
+    ensures { IsOutcomeOf (statement_of (code_of c.now.program)
+        a.old (global_store m.old t.old n.old))
         a.old a.new (global_store m.old t.old n.old) (global_store m.new t.new n.new) result }
 {
     match c.block(a.running.frame.block) {

@@ -50,8 +50,8 @@ impl Inputs {
     }
 }
 
-/// The parameters of a system function, three of them IN at most. `None` exactly where there is none
-/// of the number.
+/// The parameters of a system function, three of them IN at most. `None` exactly where there is
+/// none of the number.
 #[tactic(auto, using(crate::proofs::FunctionLemmas::few_inputs))]
 pub(crate) fn system_function(number: u16) -> Option<ArrayVec<Param, 4>>
     ensures params { option_map (λ p. p.items) result ≡ system_function_of number }
@@ -66,7 +66,7 @@ fn input_of(binding: Option<Binding>, s: &Running, m: &Memory) -> u32
 {
     match binding {
         Some(
-            Binding::Bound {
+            Binding::AtPlace {
                 place,
                 width,
                 frame,

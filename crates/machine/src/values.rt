@@ -7,7 +7,7 @@ ghost use Rattle.machine.specs.Outcomes.{ChangesLocalMemory};
 ghost use Rattle.machine.specs.Values.{number_of_binding as number_of_binding_of, operand_number as number_of, bit_of_numbered as bit_of_numbered_of, value_of_numbered as value_of_numbered_of, bcd_of_numbered as bcd_of_numbered_of, number_named as number_named_of, bcd_loaded as bcd_loaded_of, with_timer_error, checked_bit as tested_of, load_value as loaded_of, bit_of_number, number_written_at as write_of};
 
 use crate::places::{Access, Location, located, number_from, placed, read};
-use flat_code::{CONDITIONS, Operand};
+use flat_code::{CONDITIONS, Operand, TIMER_KIND};
 use frames::{Binding, Running};
 use plc_base::{Area, Flag, Width, error_codes};
 use plc_mem::Memory;
@@ -18,7 +18,7 @@ fn number_of_binding(binding: Option<Binding>, s: &Running, m: &Memory) -> Resul
 {
     match binding {
         Some(
-            Binding::Bound {
+            Binding::AtPlace {
                 place,
                 width,
                 frame,
@@ -102,7 +102,7 @@ fn number_or(found: Result<u16, TimerFault>, code: u8) -> Result<u32, u8>
 fn bit_of_numbered(kind: u8, number: u16, t: &Timers, n: &Counters) -> Result<bool, u8>
     ensures { result ≡ bit_of_numbered_of kind number t.now n.now }
 {
-    if kind == 1 {
+    if kind == TIMER_KIND {
         bit_or(t.output(number), error_codes::NO_TIMER)
     } else {
         bit_or(n.output(number), error_codes::NO_COUNTER)
@@ -113,7 +113,7 @@ fn bit_of_numbered(kind: u8, number: u16, t: &Timers, n: &Counters) -> Result<bo
 fn value_of_numbered(kind: u8, number: u16, t: &Timers, n: &Counters) -> Result<u32, u8>
     ensures { result ≡ value_of_numbered_of kind number t.now n.now }
 {
-    if kind == 1 {
+    if kind == TIMER_KIND {
         number_or(t.value(number), error_codes::NO_TIMER)
     } else {
         number_or(n.value(number), error_codes::NO_COUNTER)
@@ -124,7 +124,7 @@ fn value_of_numbered(kind: u8, number: u16, t: &Timers, n: &Counters) -> Result<
 fn bcd_of_numbered(kind: u8, number: u16, t: &Timers, n: &Counters) -> Result<u32, u8>
     ensures { result ≡ bcd_of_numbered_of kind number t.now n.now }
 {
-    if kind == 1 {
+    if kind == TIMER_KIND {
         number_or(t.bcd(number), error_codes::NO_TIMER)
     } else {
         number_or(n.bcd(number), error_codes::NO_COUNTER)

@@ -25,16 +25,16 @@ const MOST_LISTED: u32 = 255;
 
 /// A statement: the data block that it opens first, its last op, and the offset behind it.
 #[derive(Drop)]
-pub(crate) struct Walk {
+pub(crate) struct StatementWalk {
     pub(crate) opens: Option<u16>,
     pub(crate) last: Op,
     pub(crate) next: u32,
 }
 
-impl Model for Walk {
-    ghost use Rattle.machine.specs.Walking.{Walk as WalkData};
+impl Model for StatementWalk {
+    ghost use Rattle.machine.specs.Walking.{StatementWalk as StatementWalkData};
 
-    ghost Value = { WalkData };
+    ghost Value = { StatementWalkData };
 
     ghost view = { λ w. record { opens = w.opens; last = w.last; next = w.next } };
 }
@@ -56,12 +56,13 @@ pub(crate) fn opens_after(opens: Option<u16>, operand: &Operand) -> Option<u16>
 /// where nothing is inlined.
 #[tactic(auto, using(crate::proofs::Walks::walk_nowhere, crate::proofs::Walks::first_ends, crate::proofs::Walks::first_goes_on))]
 #[inline(always)]
-pub(crate) fn walk_from(code: &LoadedCode<'_>, at: u32) -> Option<Walk>
-    ensures { result ≡ option_map (walk_with None) (op_run_at most_ops_of_statement code.now.code at) }
+pub(crate) fn walk_from(code: &LoadedCode<'_>, at: u32) -> Option<StatementWalk>
+    ensures { result ≡ option_map (walk_with None)
+        (op_run_at most_ops_of_statement code.now.code at) }
 {
     let (op, next) = code.op(at)?;
     if op.last {
-        return Some(Walk {
+        return Some(StatementWalk {
             opens: None,
             last: op,
             next,
@@ -70,20 +71,20 @@ pub(crate) fn walk_from(code: &LoadedCode<'_>, at: u32) -> Option<Walk>
     walk_on(code, next, opens_after(None, &op.operand))
 }
 
-// A statement whose last op begins at an offset. It is read once more there, so that of an op on the
-// way nothing is kept but where it ends and what it opens.
+// A statement whose last op begins at an offset. It is read once more there, so that of an op on
+// the way nothing is kept but where it ends and what it opens.
 #[inline(always)]
-fn walk_to(code: &LoadedCode<'_>, at: u32, opens: Option<u16>) -> Option<Walk>
+fn walk_to(code: &LoadedCode<'_>, at: u32, opens: Option<u16>) -> Option<StatementWalk>
     ensures { result ≡ option_map (walk_by opens) (op_placed 0 code.now.code at) }
 {
     let (last, next) = code.part(at)?;
-    Some(Walk { opens, last, next })
+    Some(StatementWalk { opens, last, next })
 }
 
 /// The rest of a statement, from its second op on, with what stands open.
 #[tactic(auto, using(crate::proofs::Walks::walk_nowhere, crate::proofs::Walks::walk_stops, crate::proofs::Walks::walk_ends_there, crate::proofs::Walks::walk_goes_on))]
 #[inline(never)]
-pub(crate) fn walk_on(code: &LoadedCode<'_>, at: u32, opens: Option<u16>) -> Option<Walk>
+pub(crate) fn walk_on(code: &LoadedCode<'_>, at: u32, opens: Option<u16>) -> Option<StatementWalk>
     ensures { result ≡ option_map (walk_with opens) (op_run_at 63 code.now.code at) }
 {
     let mut opens = opens;
@@ -161,7 +162,8 @@ fn bind(
     m: &Memory,
 ) -> Result<(), u8>
     ensures { MatchResult result
-        (λ _. binding_by operand.now params.now bindings.old (local_of s.now) m.now ≡ Ok bindings.new)
+        (λ _. binding_by operand.now params.now bindings.old (local_of s.now) m.now
+        ≡ Ok bindings.new)
         (λ code. binding_by operand.now params.now bindings.old (local_of s.now) m.now ≡ Err code) }
 {
     match *operand {

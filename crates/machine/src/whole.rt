@@ -104,7 +104,8 @@ pub(crate) fn effect(
     t: &mut Timers,
     n: &mut Counters,
 ) -> Result<(), u8>
-    ensures { ChangesExecState (does_of operation operand.now (exec_state_of s.old m.old t.old n.old))
+    ensures { ChangesExecState (does_of operation operand.now
+        (exec_state_of s.old m.old t.old n.old))
         s.old s.new m.old m.new t.old t.new n.old n.new result }
 {
     match operation {
@@ -200,7 +201,8 @@ fn effect_opened(
     t: &mut Timers,
     n: &mut Counters,
 ) -> Result<(), u8>
-    ensures { ChangesExecState (does_of operation operand.now (with_db_opened number (exec_state_of s.old m.old t.old n.old)))
+    ensures { ChangesExecState (does_of operation operand.now
+        (with_db_opened number (exec_state_of s.old m.old t.old n.old)))
         s.old s.new m.old m.new t.old t.new n.old n.new result }
 {
     let before = s.frame.db;
@@ -226,7 +228,8 @@ pub(crate) fn effect_with(
     t: &mut Timers,
     n: &mut Counters,
 ) -> Result<(), u8>
-    ensures { ChangesExecState (does_with_of opens operation operand.now (exec_state_of s.old m.old t.old n.old))
+    ensures { ChangesExecState (does_with_of opens operation operand.now
+        (exec_state_of s.old m.old t.old n.old))
         s.old s.new m.old m.new t.old t.new n.old n.new result }
 {
     match opens {

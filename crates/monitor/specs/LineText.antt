@@ -52,13 +52,13 @@ unfoldable pub registers_text : MonRecord → List ℕ
 registers_text r =
     codes " STW " ++ hex_text 4 r.stw ++ codes " A1 " ++ hex_text 8 r.a1 ++ codes " A2 " ++ hex_text 8 r.a2
 
--- a statement of the monitored block that entry n executed
+-- the line of a run text for a statement of the monitored block that entry n executed
 unfoldable pub mon_text : ℕ → MonRecord → List ℕ
 mon_text n r =
     codes "@" ++ decimal n ++ codes " MON " ++ spot_text (record { block = r.block; line = r.line })
     ++ registers_text r ++ codes "\n"
 
--- a mode that entry n began
+-- the line of a run text for a mode that entry n began
 unfoldable pub mode_text : ℕ → Mode → List ℕ
 mode_text n Run = codes "@" ++ decimal n ++ codes " MODE RUN\n"
 mode_text n Startup = codes "@" ++ decimal n ++ codes " MODE STARTUP\n"

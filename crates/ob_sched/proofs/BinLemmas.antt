@@ -5,23 +5,23 @@ use Rattle.std.proofs.lemmas.Bool.{and_parts, and_from}
 use Rattle.std.proofs.lemmas.Bool.Decides.{nat_tests}
 use Rattle.std.proofs.lemmas.List.{append-nil}
 use Rattle.ob_sched.specs.OrganizationBlock.{priority_class, can_wait}
-use Rattle.ob_sched.specs.Request.{Request, request_queued, waiting_count}
+use Rattle.ob_sched.specs.StartRequest.{StartRequest, request_queued, waiting_count}
 use Rattle.ob_sched.specs.Bin.{requests_by_rank, are_of_class, are_placed_from, waiting_in, empty_bin}
 use Rattle.ob_sched.specs.declared.bin.Bin.{Bin}
 use Rattle.ob_sched.proofs.QueueLemmas.{AtLeast, Below, AtLeast-append, AtLeast-lower, queued-last, queued-append, waiting-append, waiting-above, waiting-below}
 
 -- a bin with one request more
-abbrev pub with_request : Request → Bin → Bin
+abbrev pub with_request : StartRequest → Bin → Bin
 with_request r bin = record { waiting = record { items = bin.waiting.items ++ r ∷ [] } }
 
 -- the requests of a bin are of its class
-same_class : (class : ℕ) (x : Request) → (can_wait x.0 && priority_class x.0 == class) ≡ true → priority_class x.0 ≡ class
+same_class : (class : ℕ) (x : StartRequest) → (can_wait x.0 && priority_class x.0 == class) ≡ true → priority_class x.0 ≡ class
 same_class class x h = same (priority_class x.0) class (and_parts (can_wait x.0) (priority_class x.0 == class) h).1
   where
     same : (a b : ℕ) → (a == b) ≡ true → a ≡ b
     same a b h = grind (arith, nat_tests)
 
-of_class-AtLeast : (class : ℕ) (xs : List Request) → are_of_class class xs ≡ true → AtLeast class xs
+of_class-AtLeast : (class : ℕ) (xs : List StartRequest) → are_of_class class xs ≡ true → AtLeast class xs
 of_class-AtLeast class [] h = tt
 of_class-AtLeast class (x ∷ xs) h =
     let parts = and_parts (can_wait x.0 && priority_class x.0 == class) (are_of_class class xs) h in
@@ -30,7 +30,7 @@ of_class-AtLeast class (x ∷ xs) h =
     at_least : (a b : ℕ) → b ≡ a → a ≤ b
     at_least a b e = omega arith
 
-pub of_class-Below : (class high : ℕ) (xs : List Request) → class < high → are_of_class class xs ≡ true → Below high xs
+pub of_class-Below : (class high : ℕ) (xs : List StartRequest) → class < high → are_of_class class xs ≡ true → Below high xs
 of_class-Below class high [] lt h = tt
 of_class-Below class high (x ∷ xs) lt h =
     let parts = and_parts (can_wait x.0 && priority_class x.0 == class) (are_of_class class xs) h in
@@ -48,7 +48,7 @@ ranked-AtLeast class (bin ∷ rest) h =
     (of_class-AtLeast class bin.waiting.items parts.0)
 
 -- a request that is queued goes to the end of its bin
-pub queued-ranked : (class n : ℕ) (bins : List Bin) (r : Request) → are_placed_from class bins ≡ true → n < length bins
+pub queued-ranked : (class n : ℕ) (bins : List Bin) (r : StartRequest) → are_placed_from class bins ≡ true → n < length bins
     → priority_class r.0 ≡ class + n → request_queued r (requests_by_rank bins) ≡ requests_by_rank (set bins n (with_request r (get_or bins n empty_bin)))
 queued-ranked class n [] r h lt e = absurd (omega arith)
 queued-ranked class zero (bin ∷ rest) r h lt e =
@@ -63,7 +63,7 @@ queued-ranked class (suc n) (bin ∷ rest) r h lt e =
     let parts = and_parts (are_of_class class bin.waiting.items) (are_placed_from (class + 1) rest) h in
     let higher : class < priority_class r.0 = above (priority_class r.0) class n e in
     queued-append r (requests_by_rank rest) bin.waiting.items (of_class-Below class (priority_class r.0) bin.waiting.items higher parts.0)
-    ∙ ap (λ (front : List Request). front ++ bin.waiting.items) (queued-ranked (class + 1) n rest r parts.1 (omega arith) (next (priority_class r.0) class n e))
+    ∙ ap (λ (front : List StartRequest). front ++ bin.waiting.items) (queued-ranked (class + 1) n rest r parts.1 (omega arith) (next (priority_class r.0) class n e))
   where
     above : (a b n : ℕ) → a ≡ b + suc n → b < a
     above a b n e = omega arith
@@ -75,25 +75,25 @@ queued-ranked class (suc n) (bin ∷ rest) r h lt e =
 pub ranked-set : (n : ℕ) (bins : List Bin) (bin : Bin) → n < length bins
     → requests_by_rank (set bins n bin) ≡ requests_by_rank (drop (suc n) bins) ++ (bin.waiting.items ++ requests_by_rank (take n bins))
 ranked-set n [] bin lt = absurd (omega arith)
-ranked-set zero (old ∷ rest) bin lt = ap (λ (low : List Request). requests_by_rank rest ++ low) (sym (append-nil bin.waiting.items))
+ranked-set zero (old ∷ rest) bin lt = ap (λ (low : List StartRequest). requests_by_rank rest ++ low) (sym (append-nil bin.waiting.items))
 ranked-set (suc n) (first ∷ rest) bin lt =
     let high = requests_by_rank (drop (suc n) rest) in
     let low = requests_by_rank (take n rest) in
-    ap (λ (front : List Request). front ++ first.waiting.items) (ranked-set n rest bin (omega arith))
+    ap (λ (front : List StartRequest). front ++ first.waiting.items) (ranked-set n rest bin (omega arith))
     ∙ append_assoc high (bin.waiting.items ++ low) first.waiting.items
-    ∙ ap (λ (back : List Request). high ++ back) (append_assoc bin.waiting.items low first.waiting.items)
+    ∙ ap (λ (back : List StartRequest). high ++ back) (append_assoc bin.waiting.items low first.waiting.items)
 
 pub ranked-split : (n : ℕ) (bins : List Bin) → n < length bins
     → requests_by_rank bins ≡ requests_by_rank (drop (suc n) bins) ++ (waiting_in bins n ++ requests_by_rank (take n bins))
 ranked-split n [] lt = absurd (omega arith)
-ranked-split zero (first ∷ rest) lt = ap (λ (low : List Request). requests_by_rank rest ++ low) (sym (append-nil first.waiting.items))
+ranked-split zero (first ∷ rest) lt = ap (λ (low : List StartRequest). requests_by_rank rest ++ low) (sym (append-nil first.waiting.items))
 ranked-split (suc n) (first ∷ rest) lt =
     let high = requests_by_rank (drop (suc n) rest) in
     let low = requests_by_rank (take n rest) in
     let here = waiting_in rest n in
-    ap (λ (front : List Request). front ++ first.waiting.items) (ranked-split n rest (omega arith))
+    ap (λ (front : List StartRequest). front ++ first.waiting.items) (ranked-split n rest (omega arith))
     ∙ append_assoc high (here ++ low) first.waiting.items
-    ∙ ap (λ (back : List Request). high ++ back) (append_assoc here low first.waiting.items)
+    ∙ ap (λ (back : List StartRequest). high ++ back) (append_assoc here low first.waiting.items)
 
 -- the requests of an OB wait in the bin of its class
 pub waiting-ranked : (ob class n : ℕ) (bins : List Bin) → are_placed_from class bins ≡ true → n < length bins
@@ -160,7 +160,7 @@ placed-set class (suc n) (first ∷ rest) bin h one =
     plain a n = omega arith
 
 -- what waits in a bin with one request more, or one less, is of its class
-pub of_class-push : (class : ℕ) (xs : List Request) (r : Request) → are_of_class class xs ≡ true
+pub of_class-push : (class : ℕ) (xs : List StartRequest) (r : StartRequest) → are_of_class class xs ≡ true
     → can_wait r.0 ≡ true → priority_class r.0 ≡ class → are_of_class class (xs ++ r ∷ []) ≡ true
 of_class-push class [] r h known e =
     and_from (can_wait r.0 && priority_class r.0 == class) true (and_from (can_wait r.0) (priority_class r.0 == class) known (same (priority_class r.0) class e)) refl
@@ -171,7 +171,7 @@ of_class-push class (x ∷ xs) r h known e =
     let parts = and_parts (can_wait x.0 && priority_class x.0 == class) (are_of_class class xs) h in
     and_from (can_wait x.0 && priority_class x.0 == class) (are_of_class class (xs ++ r ∷ [])) parts.0 (of_class-push class xs r parts.1 known e)
 
-pub of_class-drop : (class : ℕ) (xs : List Request) → are_of_class class xs ≡ true → are_of_class class (drop 1 xs) ≡ true
+pub of_class-drop : (class : ℕ) (xs : List StartRequest) → are_of_class class xs ≡ true → are_of_class class (drop 1 xs) ≡ true
 of_class-drop class [] h = refl
 of_class-drop class (x ∷ xs) h = (and_parts (can_wait x.0 && priority_class x.0 == class) (are_of_class class xs) h).1
 

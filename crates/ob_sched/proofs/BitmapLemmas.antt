@@ -7,23 +7,23 @@ use Rattle.std.proofs.lemmas.Nat.{and_comm, and-not, pow_pos}
 use Rattle.std.proofs.lemmas.Nat.Bits.{and_pow, bit_at_lowest, bit_at-suc}
 use Rattle.std.proofs.Math.Nat.{pow-succ'}
 use Rattle.std.proofs.Math.Pow.{pow-lt}
-use Rattle.ob_sched.specs.Request.{Request}
+use Rattle.ob_sched.specs.StartRequest.{StartRequest}
 use Rattle.ob_sched.specs.Bin.{requests_by_rank, waiting_bit, bitmap_of, waiting_in}
 use Rattle.ob_sched.specs.declared.bin.Bin.{Bin}
 
-bit_of-le : (xs : List Request) → waiting_bit xs ≤ 1
+bit_of-le : (xs : List StartRequest) → waiting_bit xs ≤ 1
 bit_of-le [] = omega arith
 bit_of-le (x ∷ xs) = omega arith
 
-pub bit_of-some : (xs : List Request) → 0 < length xs → waiting_bit xs ≡ 1
+pub bit_of-some : (xs : List StartRequest) → 0 < length xs → waiting_bit xs ≡ 1
 bit_of-some [] h = absurd (omega arith)
 bit_of-some (x ∷ xs) h = refl
 
-pub bit_of-none : (xs : List Request) → length xs ≡ 0 → waiting_bit xs ≡ 0
+pub bit_of-none : (xs : List StartRequest) → length xs ≡ 0 → waiting_bit xs ≡ 0
 bit_of-none [] h = refl
 bit_of-none (x ∷ xs) h = absurd (omega arith)
 
-pub some-bit_of : (xs : List Request) → waiting_bit xs ≡ 1 → 0 < length xs
+pub some-bit_of : (xs : List StartRequest) → waiting_bit xs ≡ 1 → 0 < length xs
 some-bit_of [] h = absurd (omega arith)
 some-bit_of (x ∷ xs) h = omega arith
 
@@ -106,8 +106,8 @@ ranked-above zero (first ∷ rest) h = empty first.waiting.items (ranked-above z
     none : (w rest : ℕ) → w + 2 * rest < 1 → w ≡ 0
     none w rest h = omega arith
 
-    empty : (xs : List Request) → requests_by_rank rest ≡ [] → waiting_bit xs ≡ 0 → requests_by_rank rest ++ xs ≡ []
-    empty [] e h = ap (λ (front : List Request). front ++ []) e
+    empty : (xs : List StartRequest) → requests_by_rank rest ≡ [] → waiting_bit xs ≡ 0 → requests_by_rank rest ++ xs ≡ []
+    empty [] e h = ap (λ (front : List StartRequest). front ++ []) e
     empty (x ∷ xs) e h = absurd (omega arith)
 ranked-above (suc n) (first ∷ rest) h =
     ranked-above n rest (below (waiting_bit first.waiting.items) (bitmap_of rest) (2 ^ n) (2 ^ suc n) (pow-succ' 2 n) h)

@@ -7,7 +7,7 @@ use Rattle.std.proofs.lemmas.Bool.{and_from, and_parts}
 use Rattle.std.proofs.lemmas.Bool.Decides.{nat_tests}
 use Rattle.arrayvec.specs.ArrayVec.{ArrayVec}
 use Rattle.ob_sched.specs.OrganizationBlock.{priority_class, can_wait, queue_length}
-use Rattle.ob_sched.specs.Request.{Request, request_queued, waiting_count, is_queue_full}
+use Rattle.ob_sched.specs.StartRequest.{StartRequest, request_queued, waiting_count, is_queue_full}
 use Rattle.ob_sched.specs.Bin.{requests_by_rank, bitmap_of, are_of_class, are_placed_from, waiting_in, empty_bin, IsHighest}
 use Rattle.ob_sched.specs.declared.bin.Bin.{Bin}
 use Rattle.ob_sched.proofs.QueueLemmas.{one_if, waiting-queued, waiting-drop}
@@ -21,13 +21,13 @@ pub record KeepsBins (bins : List Bin) : Type 0 where
   pub within : (ob : ℕ) → waiting_count ob (requests_by_rank bins) ≤ queue_length ob
 
 -- bin `n` with its new contents is what a request of its class makes of it
-pub new_bin : (n : ℕ) (bins : List Bin) (bin : Bin) (v : ArrayVec Request) (r : Request) → n < length bins → bin ≡ get_or bins n bin
+pub new_bin : (n : ℕ) (bins : List Bin) (bin : Bin) (v : ArrayVec StartRequest) (r : StartRequest) → n < length bins → bin ≡ get_or bins n bin
     → v.items ≡ bin.waiting.items ++ r ∷ [] → record { waiting = v } ≡ with_request r (get_or bins n empty_bin)
 new_bin n bins bin v r lt found e =
-    let filled : List Request → Bin = λ xs. record { waiting = record { items = xs } } in
+    let filled : List StartRequest → Bin = λ xs. record { waiting = record { items = xs } } in
     ap filled e ∙ ap (with_request r) (sym (bin_found n bins bin lt found))
 
-pub ranked-push : (n : ℕ) (bins : List Bin) (bin : Bin) (v : ArrayVec Request) (r : Request) → KeepsBins bins → n < 32 → n ≡ priority_class r.0
+pub ranked-push : (n : ℕ) (bins : List Bin) (bin : Bin) (v : ArrayVec StartRequest) (r : StartRequest) → KeepsBins bins → n < 32 → n ≡ priority_class r.0
     → bin ≡ get_or bins n bin → v.items ≡ bin.waiting.items ++ r ∷ []
     → requests_by_rank (set bins n (record { waiting = v })) ≡ request_queued r (requests_by_rank bins)
 ranked-push n bins bin v r keeps lt class found e =
@@ -39,13 +39,13 @@ ranked-push n bins bin v r keeps lt class found e =
     plain n = omega arith
 
 -- the room of a queue that isn't full
-pub has_room : (ob : ℕ) (pending : List Request) → is_queue_full ob pending ≡ false → waiting_count ob pending < queue_length ob
+pub has_room : (ob : ℕ) (pending : List StartRequest) → is_queue_full ob pending ≡ false → waiting_count ob pending < queue_length ob
 has_room ob pending h = below (queue_length ob) (waiting_count ob pending) h
   where
     below : (a b : ℕ) → nat_le a b ≡ false → b < a
     below a b h = grind (arith, nat_tests)
 
-within-queued : (ob : ℕ) (r : Request) (pending : List Request) → waiting_count r.0 pending < queue_length r.0
+within-queued : (ob : ℕ) (r : StartRequest) (pending : List StartRequest) → waiting_count r.0 pending < queue_length r.0
     → ((t : ℕ) → waiting_count t pending ≤ queue_length t) → waiting_count ob (request_queued r pending) ≤ queue_length ob
 within-queued ob r pending room within = by (r.0 == ob) refl (waiting-queued ob r pending)
   where
@@ -72,7 +72,7 @@ pub found_of_class : (n : ℕ) (bins : List Bin) (bin : Bin) → KeepsBins bins 
     → are_of_class n bin.waiting.items ≡ true
 found_of_class n bins bin keeps lt found = of_class-at n bins bin (omega (arith, keeps.count)) keeps.placed found
 
-pub keeps-push : (n : ℕ) (bins : List Bin) (bin : Bin) (v : ArrayVec Request) (r : Request) → KeepsBins bins → n < 32 → n ≡ priority_class r.0
+pub keeps-push : (n : ℕ) (bins : List Bin) (bin : Bin) (v : ArrayVec StartRequest) (r : StartRequest) → KeepsBins bins → n < 32 → n ≡ priority_class r.0
     → can_wait r.0 ≡ true → is_queue_full r.0 (requests_by_rank bins) ≡ false → bin ≡ get_or bins n bin → v.items ≡ bin.waiting.items ++ r ∷ []
     → KeepsBins (set bins n (record { waiting = v }))
 keeps-push n bins bin v r keeps lt class known room found e = record {
@@ -90,11 +90,11 @@ keeps-push n bins bin v r keeps lt class known room found e = record {
     plain n = omega arith
 
 -- the first of the highest bin is the first of all
-drop-append : (xs ys : List Request) → 0 < length xs → drop 1 xs ++ ys ≡ drop 1 (xs ++ ys)
+drop-append : (xs ys : List StartRequest) → 0 < length xs → drop 1 xs ++ ys ≡ drop 1 (xs ++ ys)
 drop-append [] ys h = absurd (omega arith)
 drop-append (x ∷ xs) ys h = refl
 
-pub ranked-take : (n : ℕ) (bins : List Bin) (bin : Bin) (v : ArrayVec Request) → KeepsBins bins → IsHighest bins n
+pub ranked-take : (n : ℕ) (bins : List Bin) (bin : Bin) (v : ArrayVec StartRequest) → KeepsBins bins → IsHighest bins n
     → bin ≡ get_or bins n bin → v.items ≡ drop 1 bin.waiting.items
     → requests_by_rank (set bins n (record { waiting = v })) ≡ drop 1 (requests_by_rank bins)
 ranked-take n bins bin v keeps high found e =
@@ -103,12 +103,12 @@ ranked-take n bins bin v keeps high found e =
     let found_items = ap (λ (b : Bin). b.waiting.items) (bin_found n bins bin within found) in
     let after =
     ranked-set n bins (record { waiting = v }) within
-    ∙ ap (λ (xs : List Request). xs ++ (v.items ++ low)) high.none_above
-    ∙ ap (λ (xs : List Request). xs ++ low) (e ∙ ap (drop 1) (sym found_items)) in
-    let before = ranked-split n bins within ∙ ap (λ (xs : List Request). xs ++ (waiting_in bins n ++ low)) high.none_above in
+    ∙ ap (λ (xs : List StartRequest). xs ++ (v.items ++ low)) high.none_above
+    ∙ ap (λ (xs : List StartRequest). xs ++ low) (e ∙ ap (drop 1) (sym found_items)) in
+    let before = ranked-split n bins within ∙ ap (λ (xs : List StartRequest). xs ++ (waiting_in bins n ++ low)) high.none_above in
     after ∙ drop-append (waiting_in bins n) low high.some ∙ ap (drop 1) (sym before)
 
-pub keeps-take : (n : ℕ) (bins : List Bin) (bin : Bin) (v : ArrayVec Request) → KeepsBins bins → IsHighest bins n
+pub keeps-take : (n : ℕ) (bins : List Bin) (bin : Bin) (v : ArrayVec StartRequest) → KeepsBins bins → IsHighest bins n
     → bin ≡ get_or bins n bin → v.items ≡ drop 1 bin.waiting.items
     → KeepsBins (set bins n (record { waiting = v }))
 keeps-take n bins bin v keeps high found e = record {
@@ -134,11 +134,11 @@ pub ranked-first : (n : ℕ) (bins : List Bin) (bin : Bin) → KeepsBins bins �
 ranked-first n bins bin keeps high found =
     let within : n < length bins = omega (arith, keeps.count, high.within) in
     let low = requests_by_rank (take n bins) in
-    let before = ranked-split n bins within ∙ ap (λ (xs : List Request). xs ++ (waiting_in bins n ++ low)) high.none_above in
-    ap (λ (xs : List Request). slice_get xs 0) before ∙ front (waiting_in bins n) low high.some
+    let before = ranked-split n bins within ∙ ap (λ (xs : List StartRequest). xs ++ (waiting_in bins n ++ low)) high.none_above in
+    ap (λ (xs : List StartRequest). slice_get xs 0) before ∙ front (waiting_in bins n) low high.some
     ∙ ap (λ (b : Bin). slice_get b.waiting.items 0) (bin_found n bins bin within found)
   where
-    front : (xs ys : List Request) → 0 < length xs → slice_get (xs ++ ys) 0 ≡ slice_get xs 0
+    front : (xs ys : List StartRequest) → 0 < length xs → slice_get (xs ++ ys) 0 ≡ slice_get xs 0
     front [] ys h = absurd (omega arith)
     front (x ∷ xs) ys h = refl
 
@@ -147,15 +147,15 @@ found_some n bins bin keeps high found =
     subst (λ (b : Bin). 0 < length b.waiting.items) (bin_found n bins bin (omega (arith, keeps.count, high.within)) found) high.some
 
 -- the first of a bin can wait
-pub first_known : (class : ℕ) (xs : List Request) (r : Request) → are_of_class class xs ≡ true → slice_get xs 0 ≡ Some r → can_wait r.0 ≡ true
+pub first_known : (class : ℕ) (xs : List StartRequest) (r : StartRequest) → are_of_class class xs ≡ true → slice_get xs 0 ≡ Some r → can_wait r.0 ≡ true
 first_known class [] r h e = absurd (cc)
 first_known class (x ∷ xs) r h e =
     let parts = and_parts (can_wait x.0 && priority_class x.0 == class) (are_of_class class xs) h in
     let same : x ≡ r = cc in
-    subst (λ (q : Request). can_wait q.0 ≡ true) same (and_parts (can_wait x.0) (priority_class x.0 == class) parts.0).0
+    subst (λ (q : StartRequest). can_wait q.0 ≡ true) same (and_parts (can_wait x.0) (priority_class x.0 == class) parts.0).0
 
 -- the first of a list that isn't empty
-pub first_of_some : (xs : List Request) (d : Request) → 0 < length xs → Some (get_or xs 0 d) ≡ slice_get xs 0
+pub first_of_some : (xs : List StartRequest) (d : StartRequest) → 0 < length xs → Some (get_or xs 0 d) ≡ slice_get xs 0
 first_of_some [] d h = absurd (omega arith)
 first_of_some (x ∷ xs) d h = refl
 
@@ -170,14 +170,14 @@ AreEmpty-push (first ∷ rest) bin h e = (h.0, AreEmpty-push rest bin h.1 e)
 
 pub ranked-empty : (bins : List Bin) → AreEmpty bins → requests_by_rank bins ≡ []
 ranked-empty [] h = refl
-ranked-empty (bin ∷ rest) h = ap (λ (xs : List Request). requests_by_rank rest ++ xs) h.0 ∙ ap (λ (xs : List Request). xs ++ []) (ranked-empty rest h.1)
+ranked-empty (bin ∷ rest) h = ap (λ (xs : List StartRequest). requests_by_rank rest ++ xs) h.0 ∙ ap (λ (xs : List StartRequest). xs ++ []) (ranked-empty rest h.1)
 
 pub bitmap_of-empty : (bins : List Bin) → AreEmpty bins → bitmap_of bins ≡ 0
 bitmap_of-empty [] h = refl
 bitmap_of-empty (bin ∷ rest) h = none (bin.waiting.items) h.0 (bitmap_of-empty rest h.1)
   where
-    none : (xs : List Request) → xs ≡ [] → bitmap_of rest ≡ 0 → bitmap_of (record { waiting = record { items = xs } } ∷ rest) ≡ 0
-    none xs e f = subst (λ (ys : List Request). bitmap_of (record { waiting = record { items = ys } } ∷ rest) ≡ 0) (sym e) (omega arith)
+    none : (xs : List StartRequest) → xs ≡ [] → bitmap_of rest ≡ 0 → bitmap_of (record { waiting = record { items = xs } } ∷ rest) ≡ 0
+    none xs e f = subst (λ (ys : List StartRequest). bitmap_of (record { waiting = record { items = ys } } ∷ rest) ≡ 0) (sym e) (omega arith)
 
 pub placed-empty : (class : ℕ) (bins : List Bin) → AreEmpty bins → are_placed_from class bins ≡ true
 placed-empty class [] h = refl
@@ -192,10 +192,10 @@ keeps-empty bins h count = record {
   within = λ ob. subst (λ pending. waiting_count ob pending ≤ queue_length ob) (sym (ranked-empty bins h)) (omega arith);
 }
 
-pub some_pushed : (new old : List Request) (r : Request) → new ≡ old ++ r ∷ [] → 0 < length new
-some_pushed new old r e = subst (λ (xs : List Request). 0 < length xs) (sym e) (some old)
+pub some_pushed : (new old : List StartRequest) (r : StartRequest) → new ≡ old ++ r ∷ [] → 0 < length new
+some_pushed new old r e = subst (λ (xs : List StartRequest). 0 < length xs) (sym e) (some old)
   where
-    some : (xs : List Request) → 0 < length (xs ++ r ∷ [])
+    some : (xs : List StartRequest) → 0 < length (xs ++ r ∷ [])
     some [] = omega arith
     some (x ∷ xs) = omega arith
 
@@ -214,13 +214,13 @@ room_in_bin n bins bin ob keeps lt class known full found =
     no_more : {a b c : ℕ} (t : ℕ) → a ≤ b → b ≤ c → a ≤ c
     no_more t h k = omega arith
 
-pub length_zero : (xs : List Request) → (length xs == 0) ≡ true → length xs ≡ 0
+pub length_zero : (xs : List StartRequest) → (length xs == 0) ≡ true → length xs ≡ 0
 length_zero xs h = equal (length xs) h
   where
     equal : (n : ℕ) → (n == 0) ≡ true → n ≡ 0
     equal n h = grind (arith, nat_tests)
 
-pub length_some : (xs : List Request) → (length xs == 0) ≡ false → 0 < length xs
+pub length_some : (xs : List StartRequest) → (length xs == 0) ≡ false → 0 < length xs
 length_some xs h = some (length xs) h
   where
     some : (n : ℕ) → (n == 0) ≡ false → 0 < n

@@ -7,39 +7,39 @@ use Rattle.std.proofs.lemmas.Bool.Decides.{nat_tests}
 use Rattle.std.proofs.lemmas.List.Elements.{filter-append}
 use Rattle.std.proofs.lemmas.List.{append-nil}
 use Rattle.ob_sched.specs.OrganizationBlock.{priority_class, can_wait}
-use Rattle.ob_sched.specs.Request.{Request}
+use Rattle.ob_sched.specs.StartRequest.{StartRequest}
 use Rattle.ob_sched.specs.Bin.{requests_by_rank, bitmap_of, are_of_class, are_placed_from, waiting_in, IsListedByClass, IsBitmapOf}
 use Rattle.ob_sched.specs.declared.bin.Bin.{Bin}
 use Rattle.ob_sched.proofs.BinLemmas.{ranked-AtLeast, of_class-Below}
 use Rattle.ob_sched.proofs.BitmapLemmas.{bit_at-bitmap_of, bit_of-some, some-bit_of}
 use Rattle.ob_sched.proofs.QueueLemmas.{AtLeast, Below}
 
-abbrev of_class : ℕ → List Request → List Request
-of_class n xs = filter (λ (request : Request). priority_class request.0 == n) xs
+abbrev of_class : ℕ → List StartRequest → List StartRequest
+of_class n xs = filter (λ (request : StartRequest). priority_class request.0 == n) xs
 
-of_class-step : (n : ℕ) (x : Request) (xs : List Request) (b : Bool) → (priority_class x.0 == n) ≡ b → of_class n (x ∷ xs) ≡ (if b then x ∷ of_class n xs else of_class n xs)
+of_class-step : (n : ℕ) (x : StartRequest) (xs : List StartRequest) (b : Bool) → (priority_class x.0 == n) ≡ b → of_class n (x ∷ xs) ≡ (if b then x ∷ of_class n xs else of_class n xs)
 of_class-step n x xs b e = ap (λ (c : Bool). if c then x ∷ of_class n xs else of_class n xs) e
 
-none-above : (n : ℕ) (xs : List Request) → AtLeast (suc n) xs → of_class n xs ≡ []
+none-above : (n : ℕ) (xs : List StartRequest) → AtLeast (suc n) xs → of_class n xs ≡ []
 none-above n [] h = refl
 none-above n (x ∷ xs) h = of_class-step n x xs false (other (priority_class x.0) n h.0) ∙ none-above n xs h.1
   where
     other : (a b : ℕ) → suc b ≤ a → (a == b) ≡ false
     other a b h = grind (arith, nat_tests)
 
-none-below : (n : ℕ) (xs : List Request) → Below n xs → of_class n xs ≡ []
+none-below : (n : ℕ) (xs : List StartRequest) → Below n xs → of_class n xs ≡ []
 none-below n [] h = refl
 none-below n (x ∷ xs) h = of_class-step n x xs false (other (priority_class x.0) n h.0) ∙ none-below n xs h.1
   where
     other : (a b : ℕ) → a < b → (a == b) ≡ false
     other a b h = grind (arith, nat_tests)
 
-all-of_class : (n : ℕ) (xs : List Request) → are_of_class n xs ≡ true → of_class n xs ≡ xs
+all-of_class : (n : ℕ) (xs : List StartRequest) → are_of_class n xs ≡ true → of_class n xs ≡ xs
 all-of_class n [] h = refl
 all-of_class n (x ∷ xs) h =
     let parts = and_parts (can_wait x.0 && priority_class x.0 == n) (are_of_class n xs) h in
     of_class-step n x xs true (and_parts (can_wait x.0) (priority_class x.0 == n) parts.0).1
-    ∙ ap (λ (ys : List Request). x ∷ ys) (all-of_class n xs parts.1)
+    ∙ ap (λ (ys : List StartRequest). x ∷ ys) (all-of_class n xs parts.1)
 
 listed : (class k n : ℕ) (bins : List Bin) → are_placed_from class bins ≡ true → k < length bins → n ≡ class + k
     → waiting_in bins k ≡ of_class n (requests_by_rank bins)
@@ -50,8 +50,8 @@ listed class zero n (bin ∷ rest) h lt e =
     let above = ranked-AtLeast (class + 1) rest parts.1 in
     let next : class + 1 ≡ suc n = omega (arith, here) in
     sym (
-    filter-append (λ (request : Request). priority_class request.0 == n) (requests_by_rank rest) bin.waiting.items
-    ∙ ap (λ (xs : List Request). xs ++ of_class n bin.waiting.items) (none-above n (requests_by_rank rest) (subst (λ c. AtLeast c (requests_by_rank rest)) next above))
+    filter-append (λ (request : StartRequest). priority_class request.0 == n) (requests_by_rank rest) bin.waiting.items
+    ∙ ap (λ (xs : List StartRequest). xs ++ of_class n bin.waiting.items) (none-above n (requests_by_rank rest) (subst (λ c. AtLeast c (requests_by_rank rest)) next above))
     ∙ all-of_class n bin.waiting.items (subst (λ c. are_of_class c bin.waiting.items ≡ true) here parts.0)
     )
 listed class (suc k) n (bin ∷ rest) h lt e =
@@ -59,8 +59,8 @@ listed class (suc k) n (bin ∷ rest) h lt e =
     let lower : class < n = omega (arith, e) in
     let next : n ≡ class + 1 + k = omega (arith, e) in
     sym (
-    filter-append (λ (request : Request). priority_class request.0 == n) (requests_by_rank rest) bin.waiting.items
-    ∙ ap (λ (xs : List Request). of_class n (requests_by_rank rest) ++ xs) (none-below n bin.waiting.items (of_class-Below class n bin.waiting.items lower parts.0))
+    filter-append (λ (request : StartRequest). priority_class request.0 == n) (requests_by_rank rest) bin.waiting.items
+    ∙ ap (λ (xs : List StartRequest). of_class n (requests_by_rank rest) ++ xs) (none-below n bin.waiting.items (of_class-Below class n bin.waiting.items lower parts.0))
     ∙ append-nil (of_class n (requests_by_rank rest))
     ∙ sym (listed (class + 1) k n rest parts.1 (omega arith) next)
     )

@@ -6,24 +6,24 @@ use Rattle.std.proofs.lemmas.List.Sums.{sum_by-append, sum_by-cons}
 use Rattle.std.proofs.lemmas.Bool.{lt-ltb}
 use Rattle.ob_sched.specs.OrganizationBlock.{priority_class}
 use Rattle.plc_base.specs.declared.Mode.{Mode}
-use Rattle.ob_sched.specs.Request.{Request, request_queued, waiting_count, best_of, IsBest}
+use Rattle.ob_sched.specs.StartRequest.{StartRequest, request_queued, waiting_count, best_of, IsBest}
 use Rattle.ob_sched.specs.declared.requests.Pending.{Pending}
 
 -- all requests have at least this class
-abbrev pub AtLeast : ℕ → List Request → Type 0
+abbrev pub AtLeast : ℕ → List StartRequest → Type 0
 AtLeast class [] = Unit {0}
 AtLeast class (first ∷ rest) = (class ≤ priority_class first.0) × AtLeast class rest
 
 -- all have a lower one
-abbrev pub Below : ℕ → List Request → Type 0
+abbrev pub Below : ℕ → List StartRequest → Type 0
 Below class [] = Unit {0}
 Below class (first ∷ rest) = (priority_class first.0 < class) × Below class rest
 
-pub AtLeast-append : (class : ℕ) (xs ys : List Request) → AtLeast class xs → AtLeast class ys → AtLeast class (xs ++ ys)
+pub AtLeast-append : (class : ℕ) (xs ys : List StartRequest) → AtLeast class xs → AtLeast class ys → AtLeast class (xs ++ ys)
 AtLeast-append class [] ys h k = k
 AtLeast-append class (x ∷ xs) ys h k = (h.0, AtLeast-append class xs ys h.1 k)
 
-pub AtLeast-lower : (low high : ℕ) (xs : List Request) → low ≤ high → AtLeast high xs → AtLeast low xs
+pub AtLeast-lower : (low high : ℕ) (xs : List StartRequest) → low ≤ high → AtLeast high xs → AtLeast low xs
 AtLeast-lower low high [] le h = tt
 AtLeast-lower low high (x ∷ xs) le h = (≤-through low high (priority_class x.0) le h.0, AtLeast-lower low high xs le h.1)
   where
@@ -34,14 +34,14 @@ isnt_below : (a b : ℕ) → b ≤ a → nat_lt a b ≡ false
 isnt_below a b h = grind (arith, nat_tests)
 
 -- behind requests of its class or a higher one a request is the last
-pub queued-last : (r : Request) (xs : List Request) → AtLeast (priority_class r.0) xs → request_queued r xs ≡ xs ++ r ∷ []
+pub queued-last : (r : StartRequest) (xs : List StartRequest) → AtLeast (priority_class r.0) xs → request_queued r xs ≡ xs ++ r ∷ []
 queued-last r [] h = refl
 queued-last r (x ∷ xs) h =
     ap (λ (b : Bool). if b then r ∷ x ∷ xs else x ∷ request_queued r xs) (isnt_below (priority_class x.0) (priority_class r.0) h.0)
-    ∙ ap (λ (rest : List Request). x ∷ rest) (queued-last r xs h.1)
+    ∙ ap (λ (rest : List StartRequest). x ∷ rest) (queued-last r xs h.1)
 
 -- it stands before requests of lower classes
-pub queued-append : (r : Request) (xs ys : List Request) → Below (priority_class r.0) ys → request_queued r (xs ++ ys) ≡ request_queued r xs ++ ys
+pub queued-append : (r : StartRequest) (xs ys : List StartRequest) → Below (priority_class r.0) ys → request_queued r (xs ++ ys) ≡ request_queued r xs ++ ys
 queued-append r [] [] h = refl
 queued-append r [] (y ∷ ys) h =
     ap (λ (b : Bool). if b then r ∷ y ∷ ys else y ∷ request_queued r ys) (lt-ltb (priority_class y.0) (priority_class r.0) h.0)
@@ -50,23 +50,23 @@ queued-append r (x ∷ xs) ys h = by (nat_lt (priority_class x.0) (priority_clas
     by : (b : Bool) → request_queued r (xs ++ ys) ≡ request_queued r xs ++ ys
         → (if b then r ∷ x ∷ (xs ++ ys) else x ∷ request_queued r (xs ++ ys)) ≡ (if b then r ∷ x ∷ xs else x ∷ request_queued r xs) ++ ys
     by true e = refl
-    by false e = ap (λ (rest : List Request). x ∷ rest) e
+    by false e = ap (λ (rest : List StartRequest). x ∷ rest) e
 
 abbrev pub one_if : Bool → ℕ
 one_if b = if b then 1 else 0
 
 -- one of an OB counts one
-abbrev pub counts : ℕ → Request → ℕ
+abbrev pub counts : ℕ → StartRequest → ℕ
 counts ob request = one_if (request.0 == ob)
 
-pub waiting-cons : (ob : ℕ) (x : Request) (xs : List Request) → waiting_count ob (x ∷ xs) ≡ counts ob x + waiting_count ob xs
+pub waiting-cons : (ob : ℕ) (x : StartRequest) (xs : List StartRequest) → waiting_count ob (x ∷ xs) ≡ counts ob x + waiting_count ob xs
 waiting-cons ob x xs = sum_by-cons (counts ob) x xs
 
-pub waiting-append : (ob : ℕ) (xs ys : List Request) → waiting_count ob (xs ++ ys) ≡ waiting_count ob xs + waiting_count ob ys
+pub waiting-append : (ob : ℕ) (xs ys : List StartRequest) → waiting_count ob (xs ++ ys) ≡ waiting_count ob xs + waiting_count ob ys
 waiting-append ob xs ys = sum_by-append (counts ob) xs ys
 
 -- a request that is queued is one more
-pub waiting-queued : (ob : ℕ) (r : Request) (xs : List Request) → waiting_count ob (request_queued r xs) ≡ counts ob r + waiting_count ob xs
+pub waiting-queued : (ob : ℕ) (r : StartRequest) (xs : List StartRequest) → waiting_count ob (request_queued r xs) ≡ counts ob r + waiting_count ob xs
 waiting-queued ob r [] = waiting-cons ob r []
 waiting-queued ob r (x ∷ xs) = by (nat_lt (priority_class x.0) (priority_class r.0)) (waiting-queued ob r xs)
   where
@@ -81,12 +81,12 @@ waiting-queued ob r (x ∷ xs) = by (nat_lt (priority_class x.0) (priority_class
         plain whole one new more rest old e f g = omega arith
 
 -- with the first request gone no more wait
-pub waiting-drop : (ob : ℕ) (xs : List Request) → waiting_count ob (drop 1 xs) ≤ waiting_count ob xs
+pub waiting-drop : (ob : ℕ) (xs : List StartRequest) → waiting_count ob (drop 1 xs) ≤ waiting_count ob xs
 waiting-drop ob [] = omega arith
 waiting-drop ob (x ∷ xs) = omega (arith, waiting-cons ob x xs)
 
 -- requests of other classes aren't of the OB
-counts-other : (ob : ℕ) (x : Request) → (x.0 ≡ ob → ⊥) → counts ob x ≡ 0
+counts-other : (ob : ℕ) (x : StartRequest) → (x.0 ≡ ob → ⊥) → counts ob x ≡ 0
 counts-other ob x other = by (x.0 == ob) (λ same. other (equal x.0 ob same))
   where
     equal : (a b : ℕ) → (a == b) ≡ true → a ≡ b
@@ -96,7 +96,7 @@ counts-other ob x other = by (x.0 == ob) (λ same. other (equal x.0 ob same))
     by true h = absurd (h refl)
     by false h = refl
 
-pub waiting-above : (ob : ℕ) (xs : List Request) → AtLeast (suc (priority_class ob)) xs → waiting_count ob xs ≡ 0
+pub waiting-above : (ob : ℕ) (xs : List StartRequest) → AtLeast (suc (priority_class ob)) xs → waiting_count ob xs ≡ 0
 waiting-above ob [] h = refl
 waiting-above ob (x ∷ xs) h =
     let other : (x.0 ≡ ob → ⊥) = λ e. strict (priority_class ob) (priority_class x.0) h.0 (ap priority_class e) in
@@ -108,7 +108,7 @@ waiting-above ob (x ∷ xs) h =
     both : {a b : ℕ} → a ≡ 0 → b ≡ 0 → a + b ≡ 0
     both e f = omega arith
 
-pub waiting-below : (ob : ℕ) (xs : List Request) → Below (priority_class ob) xs → waiting_count ob xs ≡ 0
+pub waiting-below : (ob : ℕ) (xs : List StartRequest) → Below (priority_class ob) xs → waiting_count ob xs ≡ 0
 waiting-below ob [] h = refl
 waiting-below ob (x ∷ xs) h =
     let other : (x.0 ≡ ob → ⊥) = λ e. strict (priority_class ob) (priority_class x.0) h.0 (ap priority_class e) in
@@ -121,7 +121,7 @@ waiting-below ob (x ∷ xs) h =
     both e f = omega arith
 
 -- the best request is the first
-pub best_is_first : (mode : Mode) (pending : List Request) (answer : Option Pending) → answer ≡ best_of mode pending
+pub best_is_first : (mode : Mode) (pending : List StartRequest) (answer : Option Pending) → answer ≡ best_of mode pending
     → IfSome answer (λ best. IsBest best pending)
 best_is_first mode [] answer e = subst (λ (a : Option Pending). IfSome a (λ best. IsBest best [])) (sym e) tt
 best_is_first mode (first ∷ rest) answer e = subst (λ (a : Option Pending). IfSome a (λ best. IsBest best (first ∷ rest))) (sym e) refl

@@ -9,7 +9,7 @@ use Rattle.plc_base.specs.declared.Mode.{Mode}
 use Rattle.plc_base.specs.declared.Mode.TheVariants.{Run, Startup, Stop}
 use Rattle.ob_sched.specs.OrganizationBlock.{can_wait, is_error, priority_class, priority_class_in}
 use Rattle.ob_sched.specs.Ranking.{NumberedRequest, rank_in, Outranks, OutranksAll, IsRanked, ArrivedBefore, QueuedJoins, BestOutranksAll, StartedLeaves}
-use Rattle.ob_sched.specs.Request.{Request, request_queued, best_of}
+use Rattle.ob_sched.specs.StartRequest.{StartRequest, request_queued, best_of}
 use Rattle.ob_sched.specs.declared.requests.Pending.{Pending}
 
 -- the class of those that can wait, with the class in STARTUP
@@ -70,7 +70,7 @@ joined-other : (one first : NumberedRequest) (rest : List NumberedRequest) → n
     → joined one (first ∷ rest) ≡ first ∷ joined one rest
 joined-other one first rest e = ap (λ (b : Bool). insert (first ∷ rest) (if b then 0 else suc (place one rest)) one) e
 
-abbrev requests_of : List NumberedRequest → List Request
+abbrev requests_of : List NumberedRequest → List StartRequest
 requests_of set = map (λ (one : NumberedRequest). one.request) set
 
 requests-joined : (one : NumberedRequest) (set : List NumberedRequest) → requests_of (joined one set) ≡ request_queued one.request (requests_of set)
@@ -85,7 +85,7 @@ requests-joined one (first ∷ rest) = by (nat_lt (priority_class first.request.
         ∙ ap (λ (b : Bool). if b then one.request ∷ requests_of (first ∷ rest) else first.request ∷ request_queued one.request (requests_of rest)) (sym e)
     by false e h =
         ap requests_of (joined-other one first rest e)
-        ∙ ap (λ (xs : List Request). first.request ∷ xs) h
+        ∙ ap (λ (xs : List StartRequest). first.request ∷ xs) h
         ∙ ap (λ (b : Bool). if b then one.request ∷ requests_of (first ∷ rest) else first.request ∷ request_queued one.request (requests_of rest)) (sym e)
 
 -- the OBs of a set can all wait
@@ -93,10 +93,10 @@ abbrev AllWait : List NumberedRequest → Type 0
 AllWait [] = Unit {0}
 AllWait (first ∷ rest) = (can_wait first.request.0 ≡ true) × AllWait rest
 
-all_wait : (set : List NumberedRequest) → list_all (λ (request : Request). can_wait request.0) (requests_of set) ≡ true → AllWait set
+all_wait : (set : List NumberedRequest) → list_all (λ (request : StartRequest). can_wait request.0) (requests_of set) ≡ true → AllWait set
 all_wait [] h = tt
 all_wait (first ∷ rest) h =
-    let parts = and_parts (can_wait first.request.0) (list_all (λ (request : Request). can_wait request.0) (requests_of rest)) h in
+    let parts = and_parts (can_wait first.request.0) (list_all (λ (request : StartRequest). can_wait request.0) (requests_of rest)) h in
     (parts.0, all_wait rest parts.1)
 
 -- what is outranked by a lower request is outranked
@@ -152,22 +152,22 @@ ranked-joined mode one (first ∷ rest) all known before ranked =
           more,
         )
 
-known-queued : (request : Request) (pending : List Request) → can_wait request.0 ≡ true
-    → list_all (λ (r : Request). can_wait r.0) pending ≡ true → list_all (λ (r : Request). can_wait r.0) (request_queued request pending) ≡ true
+known-queued : (request : StartRequest) (pending : List StartRequest) → can_wait request.0 ≡ true
+    → list_all (λ (r : StartRequest). can_wait r.0) pending ≡ true → list_all (λ (r : StartRequest). can_wait r.0) (request_queued request pending) ≡ true
 known-queued request [] k h = and_from (can_wait request.0) true k refl
 known-queued request (first ∷ rest) k h =
-    let parts = and_parts (can_wait first.0) (list_all (λ (r : Request). can_wait r.0) rest) h in
+    let parts = and_parts (can_wait first.0) (list_all (λ (r : StartRequest). can_wait r.0) rest) h in
     by (nat_lt (priority_class first.0) (priority_class request.0)) (known-queued request rest k parts.1) parts.0
   where
-    by : (b : Bool) → list_all (λ (r : Request). can_wait r.0) (request_queued request rest) ≡ true → can_wait first.0 ≡ true
-        → list_all (λ (r : Request). can_wait r.0) (if b then request ∷ first ∷ rest else first ∷ request_queued request rest) ≡ true
-    by true more one = and_from (can_wait request.0) (list_all (λ (r : Request). can_wait r.0) (first ∷ rest)) k h
-    by false more one = and_from (can_wait first.0) (list_all (λ (r : Request). can_wait r.0) (request_queued request rest)) one more
+    by : (b : Bool) → list_all (λ (r : StartRequest). can_wait r.0) (request_queued request rest) ≡ true → can_wait first.0 ≡ true
+        → list_all (λ (r : StartRequest). can_wait r.0) (if b then request ∷ first ∷ rest else first ∷ request_queued request rest) ≡ true
+    by true more one = and_from (can_wait request.0) (list_all (λ (r : StartRequest). can_wait r.0) (first ∷ rest)) k h
+    by false more one = and_from (can_wait first.0) (list_all (λ (r : StartRequest). can_wait r.0) (request_queued request rest)) one more
 
 pub queued_joins : QueuedJoins
 queued_joins mode set pending number request stands before known =
     let one : NumberedRequest = record { arrival = number; request = request } in
-    let all = all_wait set (ap (list_all (λ (r : Request). can_wait r.0)) stands.requests ∙ stands.known) in (
+    let all = all_wait set (ap (list_all (λ (r : StartRequest). can_wait r.0)) stands.requests ∙ stands.known) in (
       joined one set,
       IsPermutation-insert set (place one set) one,
       record {
@@ -193,7 +193,7 @@ started_leaves mode first rest pending stands = record {
   ranked = stands.ranked.1;
   requests = ap (drop 1) stands.requests;
   known =
-      let whole = ap (list_all (λ (r : Request). can_wait r.0)) stands.requests ∙ stands.known in
-      let parts = and_parts (can_wait first.request.0) (list_all (λ (r : Request). can_wait r.0) (requests_of rest)) whole in
-      ap (λ (xs : List Request). list_all (λ (r : Request). can_wait r.0) (drop 1 xs)) (sym stands.requests) ∙ parts.1;
+      let whole = ap (list_all (λ (r : StartRequest). can_wait r.0)) stands.requests ∙ stands.known in
+      let parts = and_parts (can_wait first.request.0) (list_all (λ (r : StartRequest). can_wait r.0) (requests_of rest)) whole in
+      ap (λ (xs : List StartRequest). list_all (λ (r : StartRequest). can_wait r.0) (drop 1 xs)) (sym stands.requests) ∙ parts.1;
 }

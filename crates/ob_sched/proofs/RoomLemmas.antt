@@ -5,12 +5,12 @@ use Rattle.std.specs.List.{list_all, list_any}
 use Rattle.std.proofs.lemmas.Bool.{and_parts, and_from}
 use Rattle.std.proofs.lemmas.Bool.Decides.{nat_tests}
 use Rattle.ob_sched.specs.OrganizationBlock.{priority_class, can_wait, queue_length}
-use Rattle.ob_sched.specs.Request.{Request, waiting_count}
+use Rattle.ob_sched.specs.StartRequest.{StartRequest, waiting_count}
 use Rattle.ob_sched.specs.Bin.{are_of_class}
 use Rattle.ob_sched.proofs.QueueLemmas.{counts, waiting-cons}
 
 -- how many of the requests are those of the OBs, and how many may be
-abbrev pub waiting_of : List ℕ → List Request → ℕ
+abbrev pub waiting_of : List ℕ → List StartRequest → ℕ
 waiting_of [] xs = 0
 waiting_of (ob ∷ obs) xs = waiting_count ob xs + waiting_of obs xs
 
@@ -21,15 +21,15 @@ queues_of (ob ∷ obs) = queue_length ob + queues_of obs
 abbrev pub is_one_of : List ℕ → ℕ → Bool
 is_one_of obs number = list_any (λ ob. number == ob) obs
 
-abbrev counts_of : List ℕ → Request → ℕ
+abbrev counts_of : List ℕ → StartRequest → ℕ
 counts_of [] x = 0
 counts_of (ob ∷ obs) x = counts ob x + counts_of obs x
 
-waiting_of-cons : (obs : List ℕ) (x : Request) (xs : List Request) → waiting_of obs (x ∷ xs) ≡ counts_of obs x + waiting_of obs xs
+waiting_of-cons : (obs : List ℕ) (x : StartRequest) (xs : List StartRequest) → waiting_of obs (x ∷ xs) ≡ counts_of obs x + waiting_of obs xs
 waiting_of-cons [] x xs = refl
 waiting_of-cons (ob ∷ obs) x xs = omega (arith, waiting-cons ob x xs, waiting_of-cons obs x xs)
 
-counted : (obs : List ℕ) (x : Request) → is_one_of obs x.0 ≡ true → 1 ≤ counts_of obs x
+counted : (obs : List ℕ) (x : StartRequest) → is_one_of obs x.0 ≡ true → 1 ≤ counts_of obs x
 counted [] x h = absurd (grind (arith, h))
 counted (ob ∷ obs) x h = by (x.0 == ob) h (counted obs x)
   where
@@ -38,14 +38,14 @@ counted (ob ∷ obs) x h = by (x.0 == ob) h (counted obs x)
     by false h more = omega (arith, more h)
 
 -- requests of these OBs alone are at most as many
-covered : (obs : List ℕ) (xs : List Request) → list_all (λ (r : Request). is_one_of obs r.0) xs ≡ true → length xs ≤ waiting_of obs xs
+covered : (obs : List ℕ) (xs : List StartRequest) → list_all (λ (r : StartRequest). is_one_of obs r.0) xs ≡ true → length xs ≤ waiting_of obs xs
 covered obs [] h = omega arith
 covered obs (x ∷ xs) h =
-    let parts = and_parts (is_one_of obs x.0) (list_all (λ (r : Request). is_one_of obs r.0) xs) h in
+    let parts = and_parts (is_one_of obs x.0) (list_all (λ (r : StartRequest). is_one_of obs r.0) xs) h in
     omega (arith, waiting_of-cons obs x xs, counted obs x parts.0, covered obs xs parts.1)
 
 -- with room in the queue of one of them they are fewer than their queues hold
-fewer : (obs : List ℕ) (ob : ℕ) (xs : List Request) → ((t : ℕ) → waiting_count t xs ≤ queue_length t)
+fewer : (obs : List ℕ) (ob : ℕ) (xs : List StartRequest) → ((t : ℕ) → waiting_count t xs ≤ queue_length t)
     → waiting_count ob xs < queue_length ob → is_one_of obs ob ≡ true → waiting_of obs xs < queues_of obs
 fewer [] ob xs within room h = absurd (grind (arith, h))
 fewer (first ∷ obs) ob xs within room h = by (ob == first) refl h (fewer obs ob xs within room)
@@ -90,20 +90,20 @@ queues-le : (class : ℕ) → queues_of (members class) ≤ 8
 queues-le class = grind (arith, nat_tests)
 
 -- so a bin with a queue that isn't full holds fewer than eight requests
-pub room : (ob : ℕ) (xs : List Request) → can_wait ob ≡ true → are_of_class (priority_class ob) xs ≡ true
+pub room : (ob : ℕ) (xs : List StartRequest) → can_wait ob ≡ true → are_of_class (priority_class ob) xs ≡ true
     → ((t : ℕ) → waiting_count t xs ≤ queue_length t) → waiting_count ob xs < queue_length ob → length xs < 8
 room ob xs known placed within some =
     let less = fewer (members (priority_class ob)) ob xs within some (is_member ob known) in
     let most = queues-le (priority_class ob) in
     omega (arith, covered (members (priority_class ob)) xs (all xs placed), less, most)
   where
-    all : (xs : List Request) → are_of_class (priority_class ob) xs ≡ true
-        → list_all (λ (r : Request). is_one_of (members (priority_class ob)) r.0) xs ≡ true
+    all : (xs : List StartRequest) → are_of_class (priority_class ob) xs ≡ true
+        → list_all (λ (r : StartRequest). is_one_of (members (priority_class ob)) r.0) xs ≡ true
     all [] h = refl
     all (x ∷ xs) h =
         let parts = and_parts (can_wait x.0 && priority_class x.0 == priority_class ob) (are_of_class (priority_class ob) xs) h in
         let here = and_parts (can_wait x.0) (priority_class x.0 == priority_class ob) parts.0 in
-        and_from (is_one_of (members (priority_class ob)) x.0) (list_all (λ (r : Request). is_one_of (members (priority_class ob)) r.0) xs)
+        and_from (is_one_of (members (priority_class ob)) x.0) (list_all (λ (r : StartRequest). is_one_of (members (priority_class ob)) r.0) xs)
         (subst (λ c. is_one_of (members c) x.0 ≡ true) (equal (priority_class x.0) (priority_class ob) here.1) (is_member x.0 here.0)) (all xs parts.1)
       where
         equal : (a b : ℕ) → (a == b) ≡ true → a ≡ b

@@ -4,8 +4,8 @@ pub mod Millisecond
 pub mod OrganizationBlock
 pub mod Quiet
 pub mod Ranking
-pub mod Request
 pub mod Scheduler
 pub mod StartInformation
+pub mod StartRequest
 pub mod TickState
 pub mod Views

@@ -6,12 +6,13 @@ use Rattle.ob_sched.specs.declared.start_infos.StartInfo.{StartInfo}
 use Rattle.ob_sched.specs.declared.start_infos.StartEvent.{StartEvent}
 use Rattle.ob_sched.specs.declared.start_infos.StartEvent.TheVariants.{Cycle, Startup, Arrival, Delay, Period, CycleTime, Missed, QueueFull, NotLoaded, Synchronous}
 
--- the OB of a synchronous error: an access error to peripherals is one of OB 122
+-- the OB that a synchronous error starts: OB 122 for an access error to peripherals, OB 121 for
+-- any other error code
 abbrev pub ob_of_error : ℕ → ℕ
 ob_of_error code =
     if code == errors.no_peripheral || code == errors.no_peripheral_to_write then 122 else 121
 
--- the OB that an event starts
+-- the number of the organization block that a start event starts
 abbrev pub event_ob : StartEvent → ℕ
 event_ob (Cycle first) = 1
 event_ob Startup = 100
@@ -24,15 +25,15 @@ event_ob (QueueFull ob) = 80
 event_ob (NotLoaded ob) = 85
 event_ob (Synchronous code kind number line) = ob_of_error code
 
--- the events that there are: an arrival is one of OB 10 to 17 or 40 to 47, a delay one of OB 20 to 23,
--- a period one of OB 30 to 38
+-- a start event whose OB fits it: an arrival is one of OB 10 to 17 or 40 to 47, the end of a delay
+-- one of OB 20 to 23, the end of a period one of OB 30 to 38
 abbrev pub IsEvent : StartEvent → Type 0
 IsEvent (Arrival ob value) = IsTrue (is_time_of_day ob || is_hardware ob)
 IsEvent (Delay ob) = IsTrue (is_delay ob)
 IsEvent (Period ob) = IsTrue (is_cyclic ob)
 IsEvent event = Unit {0}
 
--- byte 0: the event class
+-- byte 0 of the start information, the event class, by the OB that starts
 abbrev pub event_class : ℕ → ℕ
 event_class ob =
     if is_error ob then 0x35
@@ -41,8 +42,8 @@ event_class ob =
     else if ob == 122 then 0x29
     else 0x11
 
--- the start code of an interrupt: that of OB 10 and the following is 16#11 and the following, of
--- OB 20 16#21, of OB 30 16#31, of OB 40 16#41
+-- the start code of an interrupt OB: 16#11 for OB 10, 16#21 for OB 20, 16#31 for OB 30, 16#41 for
+-- OB 40, and one more for each further OB of the group
 abbrev pub interrupt_code : ℕ → ℕ
 interrupt_code ob =
     if nat_lt ob 20 then 0x11 + (ob - 10)
@@ -50,7 +51,7 @@ interrupt_code ob =
     else if nat_lt ob 40 then 0x31 + (ob - 30)
     else 0x41 + (ob - 40)
 
--- byte 1: the start code
+-- byte 1 of the start information, the start code
 abbrev pub start_code : StartEvent → ℕ
 start_code (Cycle first) = if first then 0x01 else 0x03
 start_code Startup = 0x81
@@ -63,13 +64,15 @@ start_code (QueueFull ob) = 0x07
 start_code (NotLoaded ob) = 0xA1
 start_code (Synchronous code kind number line) = code
 
--- byte 5: the kind of the block that failed
+-- byte 5 of the start information: the kind of the block in which a synchronous error came (1 OB,
+-- 2 FC, 3 FB), else 0
 abbrev pub event_block_kind : StartEvent → ℕ
 event_block_kind (Synchronous code kind number line) = kind
 event_block_kind event = 0
 
--- bytes 6 and 7: the OB that a time error concerns, 1 for the cycle, the OB that isn't loaded, or the
--- number of the block that failed
+-- bytes 6 and 7 of the start information: the OB that a time error concerns (1 where the cycle
+-- time is exceeded), the OB that isn't loaded, or the number of the block in which a synchronous
+-- error came, else 0
 abbrev pub event_number : StartEvent → ℕ
 event_number CycleTime = 1
 event_number (Missed ob) = ob
@@ -78,26 +81,29 @@ event_number (NotLoaded ob) = ob
 event_number (Synchronous code kind number line) = number
 event_number event = 0
 
--- bytes 8 to 11: the value of the arrival, or the source line of the statement that failed
+-- bytes 8 to 11 of the start information: the value of an arrival, or the source line of the
+-- statement at which a synchronous error came, else 0
 abbrev pub event_value : StartEvent → ℕ
 event_value (Arrival ob value) = value
 event_value (Synchronous code kind number line) = line
 event_value event = 0
 
--- a number in two bytes, the higher one first; of a greater number the lowest 16 bits
+-- the lowest 16 bits of a number in two bytes, the higher byte first
 abbrev pub two_bytes : ℕ → List ℕ
 two_bytes n = n / 256 % 256 ∷ n % 256 ∷ []
 
--- a number in four bytes, the highest one first; of a greater number the lowest 32 bits
+-- the lowest 32 bits of a number in four bytes, the highest byte first
 abbrev pub four_bytes : ℕ → List ℕ
 four_bytes n = two_bytes (n / 65536) ++ two_bytes n
 
--- bytes 2 and 3 are the priority class and the OB number, byte 4 and bytes 12 to 19 are 0
+-- the 20 bytes of the start information, of a start event and a priority class: bytes 2 and 3 are
+-- the priority class and the OB number, byte 4 and bytes 12 to 19 are 0
 abbrev pub start_bytes : StartEvent → ℕ → List ℕ
 start_bytes event class =
-    event_class (event_ob event) ∷ start_code event ∷ class ∷ event_ob event ∷ 0 ∷ event_block_kind event
+    event_class (event_ob event) ∷ start_code event ∷ class ∷ event_ob event ∷ 0
+    ∷ event_block_kind event
     ∷ (two_bytes (event_number event) ++ four_bytes (event_value event) ++ replicate 8 0)
 
--- the start information of an event's OB in a priority class
+-- the start information of the OB that a start event starts in a priority class
 unfoldable pub start_info : StartEvent → ℕ → StartInfo
 start_info event class = record { bytes = start_bytes event class }

@@ -5,5 +5,6 @@ use arrayvec::ArrayVec;
 /// in the order of their arrival.
 #[derive(Drop)]
 pub struct Bin {
+    /// The requests, each an OB number and the start information, in the order of their arrival.
     pub waiting: ArrayVec<(u16, StartInfo), 8>,
 }

@@ -2,7 +2,7 @@ ghost use Rattle.std.specs.Prelude.{◌≡◌, ◌+◌, ◌%◌, ◌^◌, ◌<�
 
 use std::marker::Model;
 
-/// How many milliseconds the clock counts before it begins anew.
+/// After how many milliseconds the clock of TIME_TCK begins anew at 0.
 const CLOCK_MS: u64 = 0x8000_0000;
 
 /// The clock of TIME_TCK. A contract sees its milliseconds, below 2^31.
@@ -22,14 +22,14 @@ impl Model for Clock {
 }
 
 impl Clock {
-    /// The clock begins.
+    /// The clock at 0.
     pub(crate) fn new() -> Clock
         ensures { result ≡ 0 }
     {
         Clock { ms: 0 }
     }
 
-    /// The milliseconds that it shows.
+    /// The milliseconds that the clock shows, below 2^31.
     pub(crate) fn ms(&self) -> u32
         ensures value { result ≡ self.now }
         ensures bound { result < 2 ^ 31 }
@@ -37,7 +37,7 @@ impl Clock {
         self.ms
     }
 
-    /// Milliseconds pass.
+    /// The clock counts milliseconds; after 2^31 - 1 it begins anew at 0.
     pub(crate) fn count(&mut self, ms: u32)
         ensures { self.new ≡ (self.old + ms) % 2 ^ 31 }
     {

@@ -10,18 +10,18 @@ use crate::organization_blocks::period_of;
 use arrayvec::ArrayVec;
 use std::marker::Model;
 
-/// How many time delay interrupts there are.
+/// How many time-delay interrupts there are, OB 20 to 23.
 const DELAYS: usize = 4;
 
-/// How many cyclic interrupts there are.
+/// How many cyclic interrupts there are, OB 30 to 38.
 const CYCLIC: usize = 9;
 
-/// The periods of the cyclic interrupts in milliseconds.
+/// The periods of the cyclic interrupts OB 30 to 38, in milliseconds.
 const PERIODS: [u32; CYCLIC] = [5000, 2000, 1000, 500, 200, 100, 50, 20, 10];
 
-/// The milliseconds left of the started delays and of the periods of the cyclic interrupts, in one list
-/// that is sorted by millisecond and then by number, so that a delay comes before a cyclic interrupt of
-/// the same millisecond.
+/// The milliseconds left of the started delays and of the periods of the cyclic interrupts, in one
+/// list that is sorted by millisecond and then by OB number, so that a delay comes before a period
+/// of the same millisecond.
 #[derive(Drop)]
 pub(crate) struct Countdowns {
     dues: ArrayVec<Remaining, 13>,
@@ -43,7 +43,7 @@ impl Model for Countdowns {
         ≡ remaining_list (delays_in c.dues.items) (periods_in c.dues.items) };
 }
 
-/// Whether a delay ends with a millisecond.
+/// Whether a delay is started and ends with the next millisecond.
 fn is_ending(delay: Option<u32>) -> bool
     ensures { result ≡ is_ending delay }
 {
@@ -53,7 +53,7 @@ fn is_ending(delay: Option<u32>) -> bool
     }
 }
 
-/// A delay after a millisecond.
+/// The milliseconds left of a delay after one millisecond, none where it isn't started or ends.
 fn delay_counted(delay: Option<u32>) -> Option<u32>
     ensures { result ≡ delay_counted delay }
 {
@@ -63,7 +63,7 @@ fn delay_counted(delay: Option<u32>) -> Option<u32>
     }
 }
 
-/// A delay after milliseconds in which it doesn't end.
+/// The milliseconds left of a delay after milliseconds in which it doesn't end.
 fn delay_shortened(delay: Option<u32>, ms: u32) -> Option<u32>
     ensures { result ≡ option_map (λ left. left - ms) delay }
 {
@@ -73,7 +73,7 @@ fn delay_shortened(delay: Option<u32>, ms: u32) -> Option<u32>
     }
 }
 
-/// A millisecond of the delays.
+/// The started delays count one millisecond; those that end aren't started any more.
 fn count_delays(delays: &mut [Option<u32>])
     ensures { delays.new ≡ map delay_counted delays.old }
 {
@@ -82,7 +82,7 @@ fn count_delays(delays: &mut [Option<u32>])
     }
 }
 
-/// Milliseconds of the delays, in which none ends.
+/// The started delays count milliseconds in which none of them ends.
 fn shorten_delays(delays: &mut [Option<u32>], ms: u32)
     ensures { delays.new ≡ map (option_map (λ left. left - ms)) delays.old }
 {
@@ -91,7 +91,7 @@ fn shorten_delays(delays: &mut [Option<u32>], ms: u32)
     }
 }
 
-/// A millisecond of the periods of the cyclic interrupts.
+/// The periods of the cyclic interrupts count one millisecond; those that end begin anew.
 fn count_periods(periods: &mut [u32])
     requires { length periods.old ≤ 9 }
     ensures { periods.new ≡ periods_counted_from 30 periods.old }
@@ -101,14 +101,14 @@ fn count_periods(periods: &mut [u32])
     }
 }
 
-/// A period after a millisecond.
+/// The milliseconds left of a cyclic interrupt's period after one millisecond.
 fn period_counted(ob: u16, left: u32) -> u32
     ensures { result ≡ period_counted ob left }
 {
     if left <= 1 { period_of(ob) } else { left - 1 }
 }
 
-/// Milliseconds of the periods, in which none ends.
+/// The periods of the cyclic interrupts count milliseconds in which none of them ends.
 fn shorten_periods(periods: &mut [u32], ms: u32)
     ensures { periods.new ≡ map (λ left. left - ms) periods.old }
 {
@@ -117,7 +117,8 @@ fn shorten_periods(periods: &mut [u32], ms: u32)
     }
 }
 
-/// The lesser of a number and the milliseconds left of a delay that is started.
+/// The lesser of a number and the milliseconds left of a delay; the number where the delay isn't
+/// started.
 fn lesser(least: u32, delay: Option<u32>) -> u32
     ensures bound { result ≤ least }
     ensures lasts { DelayLasts result delay }
@@ -128,7 +129,7 @@ fn lesser(least: u32, delay: Option<u32>) -> u32
     }
 }
 
-/// No started delay has fewer milliseconds left than this.
+/// As many milliseconds as every started delay has left at least.
 fn least_delay(delays: &[Option<u32>]) -> u32
     ensures { All (DelayLasts result) delays.now }
 {
@@ -140,7 +141,7 @@ fn least_delay(delays: &[Option<u32>]) -> u32
 }
 
 impl Countdowns {
-    /// The list of these delays and periods.
+    /// The list of some delays and periods, sorted.
     fn of(delays: [Option<u32>; DELAYS], periods: [u32; CYCLIC]) -> Countdowns
         ensures { result ≡ record { delays = delays; periods = periods } }
     {
@@ -149,7 +150,7 @@ impl Countdowns {
         }
     }
 
-    /// The milliseconds left of the started delays.
+    /// The milliseconds left of the delays of OB 20 to 23, none where a delay isn't started.
     fn delays(&self) -> [Option<u32>; DELAYS]
         ensures { result ≡ self.now.delays }
     {
@@ -162,7 +163,7 @@ impl Countdowns {
         ]
     }
 
-    /// The milliseconds left of the periods.
+    /// The milliseconds left of the periods of OB 30 to 38.
     fn periods(&self) -> [u32; CYCLIC]
         ensures { result ≡ self.now.periods }
     {
@@ -180,14 +181,14 @@ impl Countdowns {
         ]
     }
 
-    /// No delay is started, and the periods begin.
+    /// The countdowns in which no delay is started and every period begins.
     pub(crate) fn new() -> Countdowns
         ensures { result ≡ record { delays = no_delays; periods = whole_periods } }
     {
         Countdowns::of([None; DELAYS], PERIODS)
     }
 
-    /// The milliseconds left of a delay, if it is started.
+    /// The milliseconds left of the delay of an OB from 20 to 23, if it is started.
     pub(crate) fn delay(&self, ob: u16) -> Option<u32>
         requires { IsTrue (is_delay ob) }
         ensures { result ≡ delay_of self.now ob }
@@ -195,7 +196,7 @@ impl Countdowns {
         self.delays()[usize::from(ob - FIRST_DELAY)]
     }
 
-    /// A delay starts, or ends.
+    /// The delay of an OB from 20 to 23 begins with some milliseconds, or ends.
     pub(crate) fn set_delay(&mut self, ob: u16, left: Option<u32>)
         requires { IsTrue (is_delay ob) }
         ensures { self.new ≡ delay_set left ob self.old }
@@ -205,14 +206,14 @@ impl Countdowns {
         *self = Countdowns::of(delays, self.periods());
     }
 
-    /// All delays end.
+    /// No delay is started any more; the periods stay.
     pub(crate) fn end_delays(&mut self)
         ensures { self.new ≡ record self.old { delays = no_delays } }
     {
         *self = Countdowns::of([None; DELAYS], self.periods());
     }
 
-    /// The periods begin.
+    /// The periods of the cyclic interrupts begin anew; the delays stay.
     pub(crate) fn begin_periods(&mut self)
         ensures { self.new ≡ record self.old { periods = whole_periods } }
     {
@@ -234,7 +235,7 @@ impl Countdowns {
         obs
     }
 
-    /// A millisecond of the started delays.
+    /// The started delays count one millisecond; the periods stay.
     pub(crate) fn count_delays(&mut self)
         ensures { self.new ≡ record self.old { delays = map delay_counted self.old.delays } }
     {
@@ -258,7 +259,7 @@ impl Countdowns {
         obs
     }
 
-    /// A millisecond of the periods.
+    /// The periods of the cyclic interrupts count one millisecond; the delays stay.
     pub(crate) fn count_periods(&mut self)
         ensures { self.new
             ≡ record self.old { periods = periods_counted_from 30 self.old.periods } }
@@ -268,14 +269,15 @@ impl Countdowns {
         *self = Countdowns::of(self.delays(), periods);
     }
 
-    /// No started delay has fewer milliseconds left than this.
+    /// As many milliseconds as every started delay has left at least.
     pub(crate) fn least_delay(&self) -> u32
         ensures { All (DelayLasts result) self.now.delays }
     {
         least_delay(&self.delays())
     }
 
-    /// The front of the list: no started delay and no period has fewer milliseconds left than this.
+    /// As many milliseconds as every started delay and every period has left at least, from the
+    /// front of the list.
     pub(crate) fn least(&self) -> u32
         ensures delays { All (DelayLasts result) self.now.delays }
         ensures periods { All (λ left. result ≤ left) self.now.periods }
@@ -286,7 +288,7 @@ impl Countdowns {
         }
     }
 
-    /// Milliseconds of the delays, in which none ends.
+    /// The started delays count milliseconds in which none of them ends; the periods stay.
     pub(crate) fn shorten_delays(&mut self, ms: u32)
         ensures { self.new ≡ delays_shortened ms self.old }
     {
@@ -295,7 +297,7 @@ impl Countdowns {
         *self = Countdowns::of(delays, self.periods());
     }
 
-    /// Milliseconds of the periods, in which none ends.
+    /// The periods count milliseconds in which none of them ends; the delays stay.
     pub(crate) fn shorten_periods(&mut self, ms: u32)
         ensures { self.new ≡ periods_shortened ms self.old }
     {

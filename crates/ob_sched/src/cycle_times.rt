@@ -3,7 +3,7 @@ ghost use Rattle.ob_sched.specs.Scheduler.{new_cycle, counter_cleared};
 
 use std::marker::Model;
 
-/// The cycle time in milliseconds at which it is exceeded.
+/// The milliseconds of a cycle at which the cycle time is exceeded.
 const EXCEEDED_MS: u32 = 151;
 
 /// The cycle counter, and the mark that the cycle time was exceeded in this cycle.
@@ -25,7 +25,7 @@ impl Model for CycleTime {
 }
 
 impl CycleTime {
-    /// A cycle begins.
+    /// The cycle time at the begin of a cycle: counter 0, not exceeded.
     pub(crate) fn new() -> CycleTime
         ensures { result ≡ new_cycle }
     {
@@ -35,7 +35,7 @@ impl CycleTime {
         }
     }
 
-    /// The counter begins anew, and the mark stays.
+    /// The cycle counter begins anew at 0; the mark of an exceeded cycle time stays.
     pub(crate) fn clear_counter(&mut self)
         ensures { self.new ≡ counter_cleared self.old }
     {
@@ -57,7 +57,7 @@ impl CycleTime {
         self.exceeded
     }
 
-    /// The cycle time is exceeded: the counter begins anew, and the mark is set.
+    /// The cycle time is exceeded: the cycle counter begins anew at 0, and the mark is set.
     pub(crate) fn exceed(&mut self)
         ensures { self.new ≡ record { counter = 0; exceeded = Rattle.std.specs.Prelude.true } }
     {
@@ -65,7 +65,7 @@ impl CycleTime {
         self.exceeded = true;
     }
 
-    /// Milliseconds pass, in which the cycle time isn't exceeded.
+    /// The cycle counter counts milliseconds in which the cycle time isn't exceeded.
     pub(crate) fn count(&mut self, ms: u32)
         requires { self.old.counter + ms < 151 }
         ensures { self.new ≡ record self.old { counter = self.old.counter + ms } }

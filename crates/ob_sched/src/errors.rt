@@ -20,7 +20,8 @@ const LOST_REQUEST: u16 = 2;
 /// Record of diagnostics: an organization block that isn't loaded.
 const NOT_LOADED: u16 = 3;
 
-/// What a request that found its queue full is for OB 80.
+/// The start event of OB 80 for a request of an organization block whose queue was full: a
+/// hardware interrupt has one of its own.
 fn lost_event(ob: u16) -> StartEvent
     ensures event { result ≡ lost_event ob }
     ensures known { IsEvent result }
@@ -33,8 +34,8 @@ fn lost_event(ob: u16) -> StartEvent
 }
 
 impl Sched {
-    /// Requests OB 80 or OB 85. Without it the controller stops with the cause; a request that is
-    /// lost is recorded.
+    /// Requests OB 80 or OB 85. Where it isn't loaded the controller stops with the cause; where
+    /// one request of it is pending already the new one is lost, which is recorded.
     fn request_error(
         &mut self,
         mode: Mode,
@@ -56,7 +57,8 @@ impl Sched {
         }
     }
 
-    /// A time error: it is recorded, and requests OB 80.
+    /// A time error, which is recorded with the organization block that it concerns, and requests
+    /// OB 80.
     #[tactic(auto, unfolding(crate::specs::TickState::time_error))]
     pub(crate) fn time_error(
         &mut self,
@@ -73,7 +75,8 @@ impl Sched {
         self.request_error(mode, 80, stop_causes::NO_OB_80, event, passed);
     }
 
-    /// An organization block isn't loaded: this is recorded, and requests OB 85.
+    /// A request of an organization block that isn't loaded, which is recorded, and requests OB
+    /// 85.
     #[tactic(auto, unfolding(crate::specs::TickState::ob_not_loaded))]
     fn not_loaded(&mut self, mode: Mode, ob: u16, passed: &mut TickResult)
         ensures { tick_state_of self.new passed.new
@@ -89,9 +92,10 @@ impl Sched {
         );
     }
 
-    /// A request in an operating mode, with all that follows where it isn't queued: one of an
-    /// organization block that isn't loaded requests OB 85, and one that finds its queue full is a time
-    /// error, which requests OB 80. `passed` gains the records of diagnostics and the stop cause.
+    /// A request of an organization block in an operating mode, with all that follows where it
+    /// isn't queued: one of a block that isn't loaded requests OB 85, and one that finds its queue
+    /// full is a time error, which requests OB 80. `passed` gains the records of diagnostics and
+    /// the stop cause.
     #[tactic(auto, unfolding(crate::specs::TickState::ob_requested))]
     pub fn request(&mut self, mode: Mode, ob: u16, info: StartInfo, passed: &mut TickResult)
         requires { IsTrue (can_wait ob) }

@@ -3,10 +3,11 @@ ghost use Rattle.ob_sched.specs.Scheduler.{none_disabled};
 
 use std::marker::Model;
 
-/// One above the greatest number of a member.
+/// One above the greatest number that an organization block in the set can have.
 const NUMBERS: usize = 128;
 
-/// A set of organization blocks. A contract sees for each number whether it is in the set.
+/// A set of organization block numbers. A contract sees for each number from 0 to 127 whether it
+/// is in the set.
 #[derive(Drop)]
 pub(crate) struct ObSet {
     members: [bool; NUMBERS],

@@ -18,21 +18,21 @@ pub fn is_ob(ob: u16) -> bool
     can_wait(ob) || matches!(ob, 100 | 121 | 122)
 }
 
-/// Whether it is OB 80 or OB 85.
+/// Whether it is the organization block of an asynchronous error, OB 80 or OB 85.
 pub(crate) fn is_error(ob: u16) -> bool
     ensures { result ≡ is_error ob }
 {
     ob == 80 || ob == 85
 }
 
-/// Whether it is a hardware interrupt.
+/// Whether it is a hardware interrupt, OB 40 to 47.
 pub(crate) fn is_hardware(ob: u16) -> bool
     ensures { result ≡ is_hardware ob }
 {
     matches!(ob, 40..=47)
 }
 
-/// The priority class in RUN.
+/// The priority class of an organization block in RUN.
 pub(crate) fn class_of(ob: u16) -> u8
     requires { IsTrue (has_priority_class ob) }
     ensures class { result ≡ priority_class ob }
@@ -61,14 +61,14 @@ pub fn class_in(mode: Mode, ob: u16) -> u8
     }
 }
 
-/// How many requests of an organization block may wait.
+/// How many requests of an organization block can be pending at once.
 pub(crate) fn queue_length(ob: u16) -> usize
     ensures { result ≡ queue_length ob }
 {
     if is_hardware(ob) { 8 } else { 1 }
 }
 
-/// The period of a cyclic OB in milliseconds.
+/// The period of a cyclic interrupt, OB 30 to 38, in milliseconds.
 pub(crate) fn period_of(ob: u16) -> u32
     ensures { result ≡ period_of ob }
 {

@@ -1,7 +1,7 @@
 ghost use Rattle.std.specs.Prelude.{◌≡◌, ◌≤◌, ◌<◌, ◌^◌, [], ◌∷◌, ◌++◌, Some, None, drop, length, IsTrue, MatchOption, slice_get, slice_set, IfOk, IfSome, false};
 ghost use Rattle.ob_sched.specs.Bin.{requests_by_rank, empty_bin, waiting_in, IsHighest};
 ghost use Rattle.ob_sched.specs.OrganizationBlock.{can_wait, priority_class};
-ghost use Rattle.ob_sched.specs.Request.{waiting_count, is_queue_full, request_queued, best_of};
+ghost use Rattle.ob_sched.specs.StartRequest.{waiting_count, is_queue_full, request_queued, best_of};
 ghost use Rattle.ob_sched.specs.Views.{pending_of};
 
 use crate::bin::Bin;
@@ -13,10 +13,10 @@ use arrayvec::ArrayVec;
 use plc_base::{Mode, NoMemory};
 use std::alloc::Global;
 
-/// How many bins there are.
+/// How many bins there are, one for each priority class from 0 to 31.
 const BINS: usize = 32;
 
-/// The bit of a bin.
+/// The bit of bin n in the bitmap.
 fn bit(n: usize) -> u32
     requires { n < 32 }
     ensures { result ≡ 2 ^ n }
@@ -24,7 +24,7 @@ fn bit(n: usize) -> u32
     1 << n
 }
 
-/// How many of the requests are those of an organization block.
+/// How many of some requests are requests of this organization block.
 fn count(waiting_requests: &[(u16, StartInfo)], ob: u16) -> usize
     ensures { result ≡ waiting_count ob waiting_requests.now }
 {
@@ -35,7 +35,7 @@ fn count(waiting_requests: &[(u16, StartInfo)], ob: u16) -> usize
 }
 
 impl Bins {
-    /// Nothing waits.
+    /// The bins in which no request waits.
     pub(crate) fn new(alloc: Global) -> Result<Bins, NoMemory>
         ensures { IfOk result (λ bins. pending_of bins ≡ []) }
     {
@@ -48,7 +48,7 @@ impl Bins {
         Ok(Bins { map: 0, bins })
     }
 
-    /// How many requests of an organization block wait.
+    /// How many requests of an organization block are pending.
     pub(crate) fn waiting(&self, ob: u16) -> usize
         requires { IsTrue (can_wait ob) }
         ensures { result ≡ waiting_count ob (pending_of self.now) }
@@ -57,7 +57,7 @@ impl Bins {
         count(bin.waiting.as_slice(), ob)
     }
 
-    /// A request waits behind all that outrank it.
+    /// Adds a request to the pending ones, behind all that outrank it.
     pub(crate) fn push(&mut self, ob: u16, info: StartInfo)
         requires known { IsTrue (can_wait ob) }
         requires room { is_queue_full ob (pending_of self.old) ≡ false }
@@ -69,7 +69,7 @@ impl Bins {
         self.map |= bit(n);
     }
 
-    /// The highest bin that holds a request.
+    /// The number of the highest bin in which a request waits.
     fn highest(&self) -> Option<usize>
         ensures { MatchOption result (pending_of self.now ≡ []) (IsHighest self.now.bins.items) }
     {
@@ -80,7 +80,7 @@ impl Bins {
         }
     }
 
-    /// The best request.
+    /// The first pending request by rank: the one that is started next.
     fn first(&self) -> Option<(u16, StartInfo)>
         ensures value { result ≡ slice_get (pending_of self.now) 0 }
         ensures known { IfSome result (λ request. IsTrue (can_wait request.0)) }
@@ -94,7 +94,7 @@ impl Bins {
         }
     }
 
-    /// The best request, with its class in the operating mode.
+    /// The first pending request by rank, with its priority class in the operating mode.
     pub(crate) fn best(&self, mode: Mode) -> Option<Pending>
         ensures value { result ≡ best_of mode (pending_of self.now) }
         ensures known { IfSome result (λ best. IsTrue (can_wait best.ob)) }
@@ -107,7 +107,7 @@ impl Bins {
         })
     }
 
-    /// The best request leaves, if one waits.
+    /// Takes the first request by rank away, if one is pending.
     pub(crate) fn take_best(&mut self)
         ensures { pending_of self.new ≡ drop 1 (pending_of self.old) }
     {
@@ -120,7 +120,7 @@ impl Bins {
         }
     }
 
-    /// No request waits any more.
+    /// Takes all pending requests away.
     pub(crate) fn clear(&mut self)
         ensures { pending_of self.new ≡ [] }
     {

@@ -1,7 +1,7 @@
 ghost use Rattle.std.specs.Prelude.{◌≡◌, ◌≤◌, ◌<◌, ◌^◌, IsTrue, is_some, true, false, length, IfOk, IfSome};
 ghost use Rattle.ob_sched.specs.Bin.{IsListedByClass, IsBitmapOf};
 ghost use Rattle.ob_sched.specs.OrganizationBlock.{can_wait, is_ob, is_delay};
-ghost use Rattle.ob_sched.specs.Request.{best_of, IsBest};
+ghost use Rattle.ob_sched.specs.StartRequest.{best_of, IsBest};
 ghost use Rattle.ob_sched.specs.Scheduler.{sched_at_rest, is_ob_loaded, is_ob_disabled, arrival, request_arrived, best_removed, disabled_as, delay_of, delay_started, delay_cancelled, cycle_retriggered, cycle_begun, run_begun, sched_stopped, sched_restarted};
 ghost use Rattle.ob_sched.specs.Views.{scheduler_of, pending_of};
 
@@ -20,11 +20,17 @@ use std::alloc::Global;
 /// the delays and periods, the clock of TIME_TCK and the cycle time.
 #[derive(Drop)]
 pub struct Sched {
+    /// The numbers of the organization blocks that are loaded.
     pub(crate) loaded: Vec<u16>,
+    /// The organization blocks that are disabled (SFC 39, DIS_IRT).
     pub(crate) disabled: ObSet,
+    /// The pending requests.
     pub(crate) pending: Bins,
+    /// The milliseconds left of the delays and periods.
     pub(crate) countdowns: Countdowns,
+    /// The clock of SFC 64, TIME_TCK.
     pub(crate) clock: Clock,
+    /// The cycle counter, and the mark that the cycle time was exceeded.
     pub(crate) cycle: CycleTime,
 }
 
@@ -54,7 +60,7 @@ impl Sched {
         self.loaded.as_slice().contains(&ob)
     }
 
-    /// Whether it is disabled.
+    /// Whether an organization block is disabled (SFC 39, DIS_IRT).
     pub(crate) fn is_disabled(&self, ob: u16) -> bool
         ensures { result ≡ is_ob_disabled (scheduler_of self.now) ob }
     {
@@ -93,7 +99,7 @@ impl Sched {
         self.pending.best(mode)
     }
 
-    /// The best request is started: it isn't pending any more.
+    /// Starts the first pending request by rank: it isn't pending any more.
     pub fn start(&mut self, best: Pending)
         requires { IsBest best (scheduler_of self.old).pending }
         ensures { scheduler_of self.new ≡ best_removed (scheduler_of self.old) }
@@ -102,7 +108,7 @@ impl Sched {
         self.pending.take_best();
     }
 
-    /// Disables an organization block: its requests are dropped from now on.
+    /// Disables an organization block (SFC 39, DIS_IRT): its requests are dropped from now on.
     pub fn disable(&mut self, ob: u16)
         requires { IsTrue (is_ob ob) }
         ensures { scheduler_of self.new ≡ disabled_as true ob (scheduler_of self.old) }
@@ -110,7 +116,7 @@ impl Sched {
         self.disabled.set(ob, true);
     }
 
-    /// Enables an organization block.
+    /// Enables an organization block (SFC 40, EN_IRT): its requests are taken from now on.
     pub fn enable(&mut self, ob: u16)
         requires { IsTrue (is_ob ob) }
         ensures { scheduler_of self.new ≡ disabled_as false ob (scheduler_of self.old) }
@@ -118,7 +124,8 @@ impl Sched {
         self.disabled.set(ob, false);
     }
 
-    /// Starts the delay of a time delay interrupt, or starts it anew, with 1 to 60,000 milliseconds.
+    /// Starts the delay of a time-delay interrupt, or starts it anew, with 1 to 60,000
+    /// milliseconds.
     pub fn start_delay(&mut self, ob: u16, ms: u32)
         requires delay { IsTrue (is_delay ob) }
         requires some { 1 ≤ ms }
@@ -128,7 +135,8 @@ impl Sched {
         self.countdowns.set_delay(ob, Some(ms));
     }
 
-    /// Ends the delay of a time delay interrupt. The answer is false exactly where none is started.
+    /// Ends the delay of a time-delay interrupt. The answer is false exactly where none is
+    /// started.
     pub fn cancel_delay(&mut self, ob: u16) -> bool
         requires { IsTrue (is_delay ob) }
         ensures answer { result ≡ is_some (delay_of (scheduler_of self.old).countdowns ob) }
@@ -169,7 +177,8 @@ impl Sched {
         self.cycle.clear_counter();
     }
 
-    /// STOP: pending requests and delays end, and all else stays.
+    /// Stops the scheduler with the controller: pending requests and delays end, and all else
+    /// stays.
     pub fn stop(&mut self)
         ensures { scheduler_of self.new ≡ sched_stopped (scheduler_of self.old) }
     {
@@ -177,8 +186,8 @@ impl Sched {
         self.countdowns.end_delays();
     }
 
-    /// A start of the controller: disabling, the clock, the cycle counter and the mark of an exceeded
-    /// cycle time are cleared.
+    /// Starts the scheduler with the controller: no organization block is disabled, and the clock,
+    /// the cycle counter and the mark of an exceeded cycle time are cleared.
     pub fn restart(&mut self)
         ensures { scheduler_of self.new ≡ sched_restarted (scheduler_of self.old) }
     {

@@ -8,6 +8,7 @@ use plc_base::error_codes;
 /// The start information of an organization block: its first 20 local bytes.
 #[derive(Clone, Copy, Debug, Default, PartialEq, Eq)]
 pub struct StartInfo {
+    /// The local bytes 0 to 19 of the organization block at its start.
     pub bytes: [u8; 20],
 }
 
@@ -20,22 +21,23 @@ pub enum StartEvent {
     },
     /// OB 100: a start of the controller.
     Startup,
-    /// OB 10 to 17 and 40 to 47: an interrupt from outside, with its value.
+    /// OB 10 to 17 and 40 to 47: a time-of-day or hardware interrupt from outside, with its value.
     Arrival {
         ob: u16,
         value: u32,
     },
-    /// OB 20 to 23: a delay has ended.
+    /// OB 20 to 23: the delay of this time-delay interrupt has ended.
     Delay {
         ob: u16,
     },
-    /// OB 30 to 38: a period has ended.
+    /// OB 30 to 38: the period of this cyclic interrupt has ended.
     Period {
         ob: u16,
     },
     /// OB 80: the cycle time was exceeded.
     CycleTime,
-    /// OB 80: a request of this OB came while it was still pending or active.
+    /// OB 80: a request of this OB, which is no hardware interrupt, came while it was still
+    /// pending or active.
     Missed {
         ob: u16,
     },
@@ -57,7 +59,8 @@ pub enum StartEvent {
     },
 }
 
-/// The OB of a synchronous error.
+/// The organization block that a synchronous error starts: OB 122 for an access error to
+/// peripherals, else OB 121.
 fn ob_of_error(code: u8) -> u16
     ensures { result ≡ ob_of_error code }
 {
@@ -68,7 +71,7 @@ fn ob_of_error(code: u8) -> u16
     }
 }
 
-/// The event class of an organization block.
+/// Byte 0 of the start information, the event class, by the organization block that starts.
 fn event_class(ob: u16) -> u8
     ensures { result ≡ event_class ob }
 {
@@ -83,7 +86,8 @@ fn event_class(ob: u16) -> u8
     }
 }
 
-/// The start code of an interrupt.
+/// The start code of an interrupt OB: 16#11, 16#21, 16#31 or 16#41 by its group, and one more for
+/// each further OB of the group.
 fn interrupt_code(ob: u16) -> u8
     requires { IsTrue (is_interrupt ob) }
     ensures { result ≡ interrupt_code ob }
@@ -112,6 +116,7 @@ impl StartEvent {
         }
     }
 
+    /// Byte 1 of the start information, the start code.
     fn start_code(self) -> u8
         requires { IsEvent self }
         ensures { result ≡ start_code self }
@@ -129,6 +134,8 @@ impl StartEvent {
         }
     }
 
+    /// Byte 5 of the start information: the kind of the block in which a synchronous error came,
+    /// else 0.
     fn kind(self) -> u8
         ensures { result ≡ event_block_kind self }
     {
@@ -138,6 +145,8 @@ impl StartEvent {
         }
     }
 
+    /// Bytes 6 and 7 of the start information: the OB that a time error concerns or that isn't
+    /// loaded, or the number of the block in which a synchronous error came, else 0.
     fn number(self) -> u16
         ensures { result ≡ event_number self }
     {
@@ -151,6 +160,8 @@ impl StartEvent {
         }
     }
 
+    /// Bytes 8 to 11 of the start information: the value of an arrival, or the source line of the
+    /// statement at which a synchronous error came, else 0.
     fn value(self) -> u32
         ensures { result ≡ event_value self }
     {

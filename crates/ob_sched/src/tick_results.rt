@@ -3,17 +3,19 @@ ghost use Rattle.ob_sched.specs.TickState.{with_record, with_stop};
 
 use arrayvec::ArrayVec;
 
-/// What passed in a tick: the milliseconds, the stop cause that ended it, and the last 100 records of
-/// diagnostics, each a code and its detail.
+/// What passed in a tick.
 #[derive(Drop)]
 pub struct TickResult {
+    /// The milliseconds that have passed in the tick.
     pub ms: u32,
+    /// The stop cause that ended the tick, if there is one.
     pub stop: Option<u8>,
+    /// The last 100 records of diagnostics in their order, each a code and its detail.
     pub records: ArrayVec<(u16, u16), 100>,
 }
 
 impl TickResult {
-    /// Nothing has passed.
+    /// The result of a tick at its begin: no millisecond, no stop cause, no record of diagnostics.
     pub fn new() -> TickResult
         ensures ms { result.ms ≡ 0 }
         ensures stop { result.stop ≡ None }
@@ -26,7 +28,7 @@ impl TickResult {
         }
     }
 
-    /// One more record. Where 100 stand the oldest goes.
+    /// Adds a record of diagnostics, a code and its detail. Where there are 100 the oldest goes.
     pub(crate) fn record(&mut self, code: u16, info: u16)
         ensures { self.new ≡ with_record code info self.old }
     {
@@ -36,7 +38,7 @@ impl TickResult {
         self.records.push((code, info));
     }
 
-    /// The controller stops.
+    /// Sets the stop cause with which the tick ends.
     pub(crate) fn halt(&mut self, cause: u8)
         ensures { self.new ≡ with_stop cause self.old }
     {

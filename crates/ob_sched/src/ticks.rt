@@ -14,7 +14,7 @@ use crate::tick_results::TickResult;
 use plc_base::{Mode, stop_causes};
 
 impl Sched {
-    /// A delay has ended: its organization block is requested.
+    /// The delay of a time-delay interrupt has ended: its organization block is requested.
     fn end_delay(&mut self, mode: Mode, ob: u16, passed: &mut TickResult)
         requires { IsTrue (is_delay ob) }
         ensures { tick_state_of self.new passed.new
@@ -24,8 +24,8 @@ impl Sched {
         self.request(mode, ob, info, passed);
     }
 
-    /// A period has ended: its organization block is requested, unless it is disabled or isn't loaded.
-    /// One that is still pending or active is a time error.
+    /// The period of a cyclic interrupt has ended: its organization block is requested, unless it
+    /// is disabled or isn't loaded. Where it is still pending or active this is a time error.
     #[tactic(auto, unfolding(crate::specs::Millisecond::period_ended))]
     fn end_period(&mut self, mode: Mode, active: &[u16], ob: u16, passed: &mut TickResult)
         requires { IsTrue (is_cyclic ob) }
@@ -43,7 +43,8 @@ impl Sched {
         self.pending.push(ob, info);
     }
 
-    /// A millisecond of the cycle counter.
+    /// The cycle counter counts one millisecond. At 151 ms it begins anew: the first time in a
+    /// cycle this is a time error, the second time the controller stops.
     #[tactic(auto, unfolding(crate::specs::Millisecond::cycle_counted))]
     fn count_cycle(&mut self, mode: Mode, passed: &mut TickResult)
         ensures { tick_state_of self.new passed.new
@@ -62,7 +63,8 @@ impl Sched {
         }
     }
 
-    /// The delays that have ended, until the controller stops.
+    /// The organization blocks whose delays have ended are requested by number, until the
+    /// controller stops.
     fn end_delays(&mut self, mode: Mode, obs: &[u16], passed: &mut TickResult)
         requires { AllPass is_delay obs.now }
         ensures { tick_state_of self.new passed.new
@@ -76,7 +78,8 @@ impl Sched {
         }
     }
 
-    /// The periods that have ended, until the controller stops.
+    /// The organization blocks whose periods have ended are requested by number, until the
+    /// controller stops.
     fn end_periods(&mut self, mode: Mode, active: &[u16], obs: &[u16], passed: &mut TickResult)
         requires { AllPass is_cyclic obs.now }
         ensures { tick_state_of self.new passed.new
@@ -90,16 +93,18 @@ impl Sched {
         }
     }
 
-    /// A millisecond of the clock.
+    /// The clock of TIME_TCK and the tick count one millisecond.
     fn count_time(&mut self, passed: &mut TickResult)
         requires { passed.old.ms + 1 < 2 ^ 32 }
-        ensures { tick_state_of self.new passed.new ≡ time_counted (tick_state_of self.old passed.old) }
+        ensures { tick_state_of self.new passed.new
+            ≡ time_counted (tick_state_of self.old passed.old) }
     {
         passed.ms += 1;
         self.clock.count(1);
     }
 
-    /// A millisecond of the started delays.
+    /// The started delays count one millisecond, and those that end request their organization
+    /// blocks.
     fn pass_delays(&mut self, mode: Mode, passed: &mut TickResult)
         ensures { tick_state_of self.new passed.new
             ≡ delays_passed mode (tick_state_of self.old passed.old) }
@@ -109,7 +114,8 @@ impl Sched {
         self.end_delays(mode, obs.as_slice(), passed);
     }
 
-    /// A millisecond of the periods.
+    /// The periods of the cyclic interrupts count one millisecond, and those that end request
+    /// their organization blocks.
     fn pass_periods(&mut self, mode: Mode, active: &[u16], passed: &mut TickResult)
         ensures { tick_state_of self.new passed.new
             ≡ periods_passed mode active.now (tick_state_of self.old passed.old) }
@@ -119,7 +125,8 @@ impl Sched {
         self.end_periods(mode, active, obs.as_slice(), passed);
     }
 
-    /// A millisecond of what moves in RUN alone, until the controller stops.
+    /// What moves in RUN alone counts one millisecond: the periods of the cyclic interrupts and
+    /// the cycle counter, until the controller stops.
     fn pass_run(&mut self, mode: Mode, active: &[u16], passed: &mut TickResult)
         ensures { tick_state_of self.new passed.new
             ≡ run_passed mode active.now (tick_state_of self.old passed.old) }
@@ -133,7 +140,8 @@ impl Sched {
         }
     }
 
-    /// One millisecond.
+    /// One millisecond of a tick: the clock, the started delays, and in RUN the periods and the
+    /// cycle counter.
     #[tactic(auto, unfolding(crate::specs::Millisecond::after_ms))]
     fn pass_one_ms(&mut self, mode: Mode, active: &[u16], passed: &mut TickResult)
         requires { passed.old.ms + 1 < 2 ^ 32 }
@@ -148,7 +156,8 @@ impl Sched {
         self.pass_run(mode, active, passed);
     }
 
-    /// Before so many milliseconds have passed nothing ends and nothing is due.
+    /// A number of milliseconds before which no delay and no period ends and the cycle time isn't
+    /// exceeded.
     fn ms_to_next(&self, mode: Mode) -> u32
         ensures { NothingDueFor mode result (scheduler_of self.now) }
     {
@@ -158,7 +167,7 @@ impl Sched {
         }
     }
 
-    /// Milliseconds in which nothing ends and nothing is due.
+    /// Passes milliseconds in which no delay and no period ends and the cycle time isn't exceeded.
     fn wait(&mut self, mode: Mode, ms: u32, passed: &mut TickResult)
         requires fits { passed.old.ms + ms < 2 ^ 32 }
         requires running { passed.old.stop ≡ None }
@@ -175,7 +184,8 @@ impl Sched {
         self.wait_in_run(mode, ms);
     }
 
-    /// What such milliseconds do to what moves in RUN alone.
+    /// Passes milliseconds, in which nothing is due, for what moves in RUN alone: the periods and
+    /// the cycle counter.
     fn wait_in_run(&mut self, mode: Mode, ms: u32)
         requires { RunLastsIn mode (ms + 1) (scheduler_of self.old) }
         ensures { scheduler_of self.new ≡ run_shortened_in mode ms (scheduler_of self.old) }
@@ -186,7 +196,8 @@ impl Sched {
         }
     }
 
-    /// Milliseconds, from one moment at which something ends or is due to the next.
+    /// Passes `n` milliseconds, from one moment at which a delay or a period ends or the cycle
+    /// time is exceeded to the next.
     fn pass(&mut self, n: u32, mode: Mode, active: &[u16]) -> TickResult
         ensures { tick_state_of self.new result
             ≡ iterate (after_ms mode active.now) n (tick_begun (scheduler_of self.old)) }
@@ -209,7 +220,8 @@ impl Sched {
     /// the clock, the started delays by number, and in RUN the cyclic interrupts by number and the
     /// cycle counter. A stop ends it. In STOP nothing passes.
     pub fn pass_ms(&mut self, n: u32, mode: Mode, active: &[u16]) -> TickResult
-        ensures { tick_state_of self.new result ≡ after_tick mode active.now n (scheduler_of self.old) }
+        ensures { tick_state_of self.new result
+            ≡ after_tick mode active.now n (scheduler_of self.old) }
     {
         match mode {
             Mode::Run => self.pass(n, Mode::Run, active),

@@ -1,16 +1,15 @@
 -- The sizes of the process images and of the peripheral areas, and which peripheral bytes there are.
 use Rattle.std.specs.Prelude.{ℕ, ◌+◌, Bool, ◌&&◌, ◌||◌, nat_le, nat_lt}
 
--- the bytes of the process image of the inputs, and of that of the outputs: 0 to 127
+-- how many bytes each process image has, that of the inputs and that of the outputs
 abbrev pub process_image_size : ℕ
 process_image_size = 128
 
--- the peripheral inputs, and outputs, have the bytes of the process image and further ones from byte
--- 256 on: 256 to 767
+-- the number of the first peripheral byte behind the process image: 256
 abbrev pub upper_start : ℕ
 upper_start = 256
 
--- how many these further bytes are: 256 to 767
+-- how many peripheral bytes lie from 256 to 767
 abbrev pub upper_size : ℕ
 upper_size = 512
 

@@ -32,7 +32,7 @@ unfoldable pub signed_of_bcd : ℕ → ℕ → Option ℤ
 signed_of_bcd n word =
     option_and_then (with_sign (word / 2 ^ (4 * n) % 16)) (unsigned_of_bcd n word)
 
--- the sign digit of a number
+-- the sign digit of a number in BCD: 0 for 0 or more, 15 below 0
 abbrev pub sign_digit : ℤ → ℕ
 sign_digit (pos size) = 0
 sign_digit (negsuc size) = 15

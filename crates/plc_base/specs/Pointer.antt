@@ -15,7 +15,7 @@ area_number Db = 4
 area_number Di = 5
 area_number L = 6
 
--- the area of a number; none for 7
+-- the area of a number in a pointer; none above 6
 abbrev pub area_numbered : ℕ → Option Area
 area_numbered number =
     if number == 0 then Some P

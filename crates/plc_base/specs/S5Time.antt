@@ -12,7 +12,7 @@ unit_of HundredMs = 100
 unit_of OneSecond = 1000
 unit_of TenSeconds = 10000
 
--- the number of a time base
+-- a time base as bits 12 and 13 of an S5TIME: 0 (10 ms) to 3 (10 s)
 abbrev pub base_number : TimeBase → ℕ
 base_number TenMs = 0
 base_number HundredMs = 1

@@ -21,11 +21,11 @@ no_ob_122 = 4
 abbrev pub in_error_ob : ℕ
 in_error_ob = 5
 
--- a frame too many
+-- a block is called where the activation already has the most frames of its profile
 abbrev pub block_depth : ℕ
 block_depth = 6
 
--- too many local bytes
+-- a block is called whose local bytes don't fit into the 1024 of its activation
 abbrev pub local_data : ℕ
 local_data = 7
 

@@ -17,7 +17,7 @@ bit_count Byte = 8
 bit_count Word = 16
 bit_count Dword = 32
 
--- the number of a width, as they rise
+-- a width as a number, the wider the greater: 1 to 4
 abbrev pub width_number : Width → ℕ
 width_number Bit = 1
 width_number Byte = 2

@@ -15,10 +15,10 @@ pub const NO_OB_122: u8 = 4;
 /// A synchronous error in OB 121 or OB 122.
 pub const IN_ERROR_OB: u8 = 5;
 
-/// A frame too many.
+/// A block is called where the activation already has the most frames of its profile.
 pub const BLOCK_DEPTH: u8 = 6;
 
-/// Too many local bytes.
+/// A block is called whose local bytes don't fit into those that are left of its activation.
 pub const LOCAL_DATA: u8 = 7;
 
 /// A request of an organization block that isn't loaded, without OB 85.

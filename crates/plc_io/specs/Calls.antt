@@ -8,8 +8,11 @@ use Rattle.plc_io.specs.Counts.{last_count}
 
 -- no call was made, and none is to fail
 pub record NoCalls (calls : Calls) : Type 0 where
+  -- no call was made so far
   pub made : calls.made ≡ 0
+  -- none of the calls made so far failed
   pub failed : calls.failed ≡ 0
+  -- no call has a number at which it is to fail
   pub failing : calls.failing.items ≡ []
 
 -- the count after one more

@@ -35,7 +35,7 @@ abbrev pub told_files : Contents → (failed_reads failed_writes : ℕ) → File
 told_files contents failed_reads failed_writes =
     record { contents = contents; failed_reads = for_every_name failed_reads; failed_writes = for_every_name failed_writes }
 
--- files in memory at one moment
+-- files given by names and bytes, as an outside in memory shows them
 abbrev pub memory_files : List (List ℕ × List ℕ) → (failed_reads failed_writes : ℕ) → FilesAt
 memory_files files = told_files (contents_of files)
 

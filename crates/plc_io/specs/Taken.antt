@@ -14,8 +14,11 @@ TookPrefix before after bytes = (n : ℕ) × TookBytes before after (take n byte
 
 -- the first `n` bytes of a piece were taken, at least one of a nonempty piece
 pub record TookFront (before after : SinkAt) (bytes : List ℕ) (n : ℕ) : Type 0 where
+  -- the sink took the first `n` bytes of the piece
   pub took : TookBytes before after (take n bytes)
+  -- the piece has at least `n` bytes
   pub within : n ≤ length bytes
+  -- at least one byte of a nonempty piece is taken
   pub some : 0 < length bytes → 0 < n
 
 -- what an offer of a piece took: as many of its first bytes as are told, or, where it failed, none
@@ -25,7 +28,9 @@ TookOffer before after bytes (Err fault) = after.taken ≡ before.taken
 
 -- a piece was offered, with this result
 pub record OfferedPiece (before after : SinkAt) (bytes : List ℕ) (result : Result ℕ IoFault) : Type 0 where
+  -- the sink took as many of the first bytes as the result tells, none where it is an error
   pub taken : TookOffer before after bytes result
+  -- where the result is `Failed`, the count of failed pushes rose; else it stays
   pub faults : CountsFailure before.faults after.faults result
 
 -- what the writing of a text took: all of it, or, where it failed, some of its first bytes
@@ -35,7 +40,9 @@ TookText before after text (Err fault) = TookPrefix before after text
 
 -- a text was written, with this result
 pub record WroteText {X : Type 0} (before after : SinkAt) (text : List ℕ) (result : Result X IoFault) : Type 0 where
+  -- the sink took the whole text, or some of its first bytes where the result is an error
   pub taken : TookText before after text result
+  -- where the result is `Failed`, the count of failed pushes rose; else it stays
   pub faults : CountsFailure before.faults after.faults result
 
 -- what a sink shows that tells these bytes and this count

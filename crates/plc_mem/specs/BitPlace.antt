@@ -1,31 +1,31 @@
 -- Where a bit lies.
 use Rattle.std.specs.Prelude.{ℕ}
 
--- A memory area as bits are told apart: peripheral inputs and peripheral outputs are two, and each
--- data block is one.
+-- A memory area in which bits lie. Peripheral inputs and peripheral outputs are two of them, and
+-- each data block is one.
 pub data Region : Type 0 where
-  -- the process image of the inputs
+  -- the process image of the inputs (I)
   Inputs : Region
-  -- the process image of the outputs
+  -- the process image of the outputs (Q)
   Outputs : Region
-  -- bit memory
+  -- bit memory (M)
   BitMemory : Region
-  -- peripheral inputs
+  -- the peripheral inputs (PI)
   PeripheralInputs : Region
-  -- peripheral outputs
+  -- the peripheral outputs (PQ)
   PeripheralOutputs : Region
-  -- the data block of a number
+  -- the data block (DB) with this number
   DataBlock : (number : ℕ) → Region
 
--- A bit place: region, byte, and bit from 0, the least significant, to 7.
+-- Where a bit of memory lies: the region, the byte and the bit of the byte.
 pub record BitPlace : Type 0 where
-  -- the memory area
+  -- the memory area in which the bit lies
   pub region : Region
-  -- the byte in it
+  -- the number of the byte in the region, from 0
   pub byte : ℕ
-  -- the bit of the byte, 0 the least significant
+  -- the number of the bit in the byte, 0 (the least significant) to 7
   pub bit : ℕ
 
--- The bit place with these parts.
+-- The bit place given by region, byte number and bit number.
 abbrev pub bit_place : Region → (byte bit : ℕ) → BitPlace
 bit_place region byte bit = record { region = region; byte = byte; bit = bit }

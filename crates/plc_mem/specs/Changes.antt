@@ -4,7 +4,8 @@ use Rattle.plc_base.specs.AreaBytes.{upper_start}
 use Rattle.plc_mem.specs.Areas.{PeripheralBytes}
 use Rattle.plc_mem.specs.Bits.{peripheral_byte}
 
--- The first byte, from a number on, that differs between two peripheral areas, if there is one.
+-- An answer is the number of the first byte, from the number `from` on, that differs between two
+-- peripheral areas; it is None where none differs.
 abbrev pub IsFirstChange : (old new : PeripheralBytes) (from : ℕ) → Option ℕ → Type 0
 IsFirstChange old new from None = (n : ℕ) → from ≤ n → peripheral_byte new n ≡ peripheral_byte old n
 IsFirstChange old new from (Some byte) =
@@ -12,7 +13,8 @@ IsFirstChange old new from (Some byte) =
     × (peripheral_byte new byte ≢ peripheral_byte old byte)
     × ((n : ℕ) → from ≤ n → n < byte → peripheral_byte new n ≡ peripheral_byte old n)
 
--- The first index, from a number on, at which two lists differ, if there is one.
+-- An answer is the first index, from `from` on, at which two lists differ; it is None where they
+-- differ at none.
 abbrev pub IsFirstDifference : (old new : List ℕ) (from : ℕ) → Option ℕ → Type 0
 IsFirstDifference old new from None = (n : ℕ) → from ≤ n → slice_get new n ≡ slice_get old n
 IsFirstDifference old new from (Some i) =
@@ -21,7 +23,9 @@ IsFirstDifference old new from (Some i) =
     × (slice_get new i ≢ slice_get old i)
     × ((n : ℕ) → from ≤ n → n < i → slice_get new n ≡ slice_get old n)
 
--- The number of the first byte of the upper part, of which some bytes are passed over, that differs.
+-- An answer is the number of the first byte of the upper part, bytes 256 to 767, that differs
+-- between two peripheral areas, where the first `skip` bytes of the part are passed over; it is
+-- None where none differs.
 abbrev pub IsFirstHighChange : (old new : PeripheralBytes) (skip : ℕ) → Option ℕ → Type 0
 IsFirstHighChange old new skip None = IsFirstDifference old.high new.high skip None
 IsFirstHighChange old new skip (Some byte) =

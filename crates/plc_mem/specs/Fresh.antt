@@ -7,11 +7,11 @@ use Rattle.plc_base.specs.Profiles.{bit_memory_size}
 use Rattle.plc_base.specs.declared.Profile.{Profile}
 use Rattle.plc_mem.specs.Areas.{Areas, PeripheralBytes}
 
--- A peripheral area in which each bit is 0.
+-- A peripheral area, inputs or outputs, in which each bit is 0.
 abbrev pub clear_peripheral : PeripheralBytes
 clear_peripheral = record { low = replicate process_image_size 0; high = replicate upper_size 0 }
 
--- Memory with these data blocks, in which all else is 0.
+-- Memory with these data blocks in which every other byte is 0, bit memory of the profile's size.
 abbrev pub zeroed_memory : Profile → map.FinMap nat_cmp (List ℕ) → Areas
 zeroed_memory profile blocks = record {
   inputs = replicate process_image_size 0;
@@ -22,6 +22,7 @@ zeroed_memory profile blocks = record {
   data_blocks = blocks;
 }
 
--- The same, where the data blocks are given by their numbers.
+-- Memory as it begins: the data blocks are given by their numbers with their bytes, and every other
+-- byte is 0.
 unfoldable pub initial_memory : Profile → List (ℕ × List ℕ) → Areas
 initial_memory profile blocks = zeroed_memory profile (map.from_entries blocks)

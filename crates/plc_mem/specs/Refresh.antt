@@ -14,15 +14,15 @@ memory_refreshed m = record m {
   peripheral_outputs = record m.peripheral_outputs { low = m.outputs };
 }
 
--- The same, said of bits: each bit of the inputs is that of the peripheral inputs, each of peripheral
--- outputs 0 to 127 that of the outputs, and every other is as before.
+-- Between two memories the process images are updated: each bit of I becomes that of PI, each of PQ
+-- 0 to 127 becomes that of Q, and every other bit is as before.
 pub record IsRefreshed (old new : Areas) : Type 0 where
-  -- the process image of the inputs is read
+  -- each bit of the process image of the inputs is that of the peripheral inputs
   pub inputs :
       (byte bit : ℕ)
       → byte < process_image_size
       → bit_at new (bit_place Inputs byte bit) ≡ bit_at old (bit_place PeripheralInputs byte bit)
-  -- the process image of the outputs is written
+  -- each bit of peripheral outputs 0 to 127 is that of the process image of the outputs
   pub outputs :
       (byte bit : ℕ)
       → byte < process_image_size
@@ -31,12 +31,13 @@ pub record IsRefreshed (old new : Areas) : Type 0 where
   pub upper_outputs :
       (byte bit : ℕ)
       → process_image_size ≤ byte
-      → bit_at new (bit_place PeripheralOutputs byte bit) ≡ bit_at old (bit_place PeripheralOutputs byte bit)
-  -- so is every other bit
+      → bit_at new (bit_place PeripheralOutputs byte bit)
+      ≡ bit_at old (bit_place PeripheralOutputs byte bit)
+  -- every bit outside the process image of the inputs and the peripheral outputs is as before
   pub others :
       (place : BitPlace)
       → place.region ≢ Inputs
       → place.region ≢ PeripheralOutputs
       → bit_at new place ≡ bit_at old place
-  -- no place is added or removed
+  -- no bit place and no data block is added or removed
   pub places : SamePlaces old new

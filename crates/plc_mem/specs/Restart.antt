@@ -3,12 +3,12 @@ use Rattle.std.specs.Prelude.{ℕ, List, ◌++◌, ◌-◌, take, replicate, len
 use Rattle.plc_base.specs.AreaBytes.{process_image_size}
 use Rattle.plc_mem.specs.Areas.{Areas}
 
--- Bytes 0 to 15 of bit memory are retained, and all others become 0.
+-- Bit memory after a warm restart: MB 0 to MB 15 are retained, and every other byte is 0.
 abbrev pub retained_bit_memory : List ℕ → List ℕ
 retained_bit_memory bytes = take 16 bytes ++ replicate (length bytes - 16) 0
 
--- The process images are cleared, and bit memory but for what is retained; data blocks and the
--- peripheral inputs and outputs stay.
+-- Memory after a warm restart: the process images are 0, and so is bit memory but for MB 0 to MB
+-- 15; data blocks and the peripheral inputs and outputs stay.
 abbrev pub memory_after_restart : Areas → Areas
 memory_after_restart m = record m {
   inputs = replicate process_image_size 0;

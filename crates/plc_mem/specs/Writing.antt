@@ -13,18 +13,21 @@ use Rattle.plc_mem.specs.BitPlace.{Region, Inputs, Outputs, BitMemory, Periphera
 use Rattle.plc_base.specs.Widths.{byte_count}
 use Rattle.plc_mem.specs.Number.{region_written}
 
--- A byte with another value of bit k.
+-- A byte in which bit k is the value, 0 or 1, and every other bit as before.
 abbrev pub byte_with_bit : ℕ → ℕ → ℕ → ℕ
 byte_with_bit byte k value = byte + value * 2 ^ k - int.bit_at byte k * 2 ^ k
 
--- Whether an operand lies within a run of bytes, of a bit operand the bit within its byte.
+-- Whether the operand from byte `at` on lies within a list of bytes; a bit operand also needs a bit
+-- number of at most 7.
 abbrev pub is_within : List ℕ → (at bit : ℕ) → Width → Bool
 is_within bytes at bit Bit = nat_lt at (length bytes) && nat_lt bit 8
 is_within bytes at bit width = nat_le (at + byte_count width) (length bytes)
 
--- The bytes with a number in the operand, the highest byte first.
+-- A list of bytes with a number written to the operand from byte `at` on, which lies within it; the
+-- first byte weighs most.
 abbrev pub bytes_with_number : List ℕ → (at bit : ℕ) → Width → ℕ → List ℕ
-bytes_with_number bytes at bit Bit value = slice_set bytes at (byte_with_bit (slice_index bytes at) bit value)
+bytes_with_number bytes at bit Bit value =
+    slice_set bytes at (byte_with_bit (slice_index bytes at) bit value)
 bytes_with_number bytes at bit Byte value = slice_set bytes at value
 bytes_with_number bytes at bit Word value =
     slice_set (slice_set bytes at (value / 2 ^ 8)) (at + 1) (value % 2 ^ 8)
@@ -37,36 +40,44 @@ bytes_with_number bytes at bit Dword value =
     (at + 3)
     (value % 2 ^ 8)
 
--- The same, if the operand lies within the bytes.
+-- A list of bytes with a number written to the operand from byte `at` on, if the operand lies
+-- within the list.
 unfoldable pub put_number : List ℕ → (at bit : ℕ) → Width → ℕ → Option (List ℕ)
 put_number bytes at bit width value =
     if is_within bytes at bit width then Some (bytes_with_number bytes at bit width value) else None
 
--- A peripheral area with a number in the operand, if the operand lies within one of its parts.
+-- A peripheral area with a number written to an operand, if the operand lies within one of the two
+-- parts.
 unfoldable pub put_peripheral :
     PeripheralBytes → (byte bit : ℕ) → Width → ℕ → Option PeripheralBytes
 put_peripheral p byte bit width value =
     if nat_lt byte upper_start
     then option_map (λ bytes. record p { low = bytes }) (put_number p.low byte bit width value)
-    else option_map (λ bytes. record p { high = bytes }) (put_number p.high (byte - upper_start) bit width value)
+    else option_map (λ bytes. record p { high = bytes })
+    (put_number p.high (byte - upper_start) bit width value)
 
--- Data blocks with a number in the operand.
+-- Loaded data blocks with a number written to an operand of one of them, if that is loaded and the
+-- operand lies within it.
 unfoldable pub put_in_block :
-    map.FinMap nat_cmp (List ℕ) → (number byte bit : ℕ) → Width → ℕ → Option (map.FinMap nat_cmp (List ℕ))
+    map.FinMap nat_cmp (List ℕ) → (number byte bit : ℕ) → Width → ℕ
+    → Option (map.FinMap nat_cmp (List ℕ))
 put_in_block blocks number byte bit width value =
     option_and_then
-    (λ bytes. option_map (λ new. map.insert blocks number new) (put_number bytes byte bit width value))
+    (λ bytes.
+    option_map (λ new. map.insert blocks number new) (put_number bytes byte bit width value))
     (map.get blocks number)
 
--- The memory with a number in an operand of a region. What is written to peripheral outputs is
--- written to the process image of the outputs as well, where that has these bytes.
+-- The memory with a number written to an operand of a region, if the operand lies within the
+-- region. What is written to peripheral outputs (PQ) is written to the process image of the outputs
+-- (Q) as well, where that has these bytes.
 abbrev pub number_written_in : Areas → Region → (byte bit : ℕ) → Width → ℕ → Option Areas
 number_written_in m Inputs byte bit width value =
     option_map (λ bytes. record m { inputs = bytes }) (put_number m.inputs byte bit width value)
 number_written_in m Outputs byte bit width value =
     option_map (λ bytes. record m { outputs = bytes }) (put_number m.outputs byte bit width value)
 number_written_in m BitMemory byte bit width value =
-    option_map (λ bytes. record m { bit_memory = bytes }) (put_number m.bit_memory byte bit width value)
+    option_map (λ bytes. record m { bit_memory = bytes })
+    (put_number m.bit_memory byte bit width value)
 number_written_in m PeripheralInputs byte bit width value =
     option_map
     (λ p. record m { peripheral_inputs = p })
@@ -83,7 +94,7 @@ number_written_in m (DataBlock number) byte bit width value =
     (λ blocks. record m { data_blocks = blocks })
     (put_in_block m.data_blocks number byte bit width value)
 
--- The memory with a number at a place and width, if each bit of the operand exists.
+-- The memory with a number written at a place and width, if each bit of the operand exists.
 unfoldable pub number_written : Areas → Place → Width → ℕ → Option Areas
 number_written m place width value =
     option_and_then

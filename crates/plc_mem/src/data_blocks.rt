@@ -18,8 +18,10 @@ use std::alloc::Global;
 use std::collections::BTreeMap;
 use std::marker::Model;
 
+/// The loaded data blocks. A contract sees the finite map from their numbers to their bytes.
 #[derive(Drop)]
 pub(crate) struct DataBlocks {
+    /// The bytes of each loaded data block, by its number.
     by_number: BTreeMap<u16, Vec<u8>>,
 }
 
@@ -37,7 +39,7 @@ impl Model for DataBlocks {
     ghost view = { λ a. data_block_map a.by_number.entries };
 }
 
-/// A copy of these bytes.
+/// A copy of a list of bytes, or `NoMemory` where no memory for it is left.
 fn copied(alloc: Global, bytes: &[u8]) -> Result<Vec<u8>, NoMemory>
     ensures items { IfOk result (λ copy. copy.items ≡ bytes.now) }
     ensures bytes { AreByteValues bytes.now }
@@ -46,7 +48,8 @@ fn copied(alloc: Global, bytes: &[u8]) -> Result<Vec<u8>, NoMemory>
 }
 
 impl DataBlocks {
-    /// Copies of these data blocks.
+    /// Copies of data blocks, each given by its number and bytes, or `NoMemory` where no memory for
+    /// them is left.
     pub(crate) fn new(alloc: Global, blocks: &[(u16, Vec<u8>)]) -> Result<Self, NoMemory>
         requires { IsDistinct nat_eq (block_numbers blocks.now) }
         ensures blocks { IfOk result (λ r. r ≡ map.from_entries (bytes_by_number blocks.now)) }
@@ -59,7 +62,7 @@ impl DataBlocks {
         Ok(DataBlocks { by_number })
     }
 
-    /// The bytes of a data block, if it is loaded.
+    /// The bytes of the data block with a number, if it is loaded.
     pub(crate) fn bytes(&self, number: u16) -> Option<&[u8]>
         ensures { option_copied result ≡ map.get self.now number }
     {
@@ -69,7 +72,8 @@ impl DataBlocks {
         }
     }
 
-    /// The number in an operand of a data block, if the operand lies within it.
+    /// The unsigned number in the operand from byte `at` of a data block, if that is loaded and the
+    /// operand lies within it.
     #[inline(never)]
     pub(crate) fn number(&self, number: u16, at: usize, bit: u8, width: Width) -> Option<u32>
         requires { at < 2 ^ 16 }
@@ -79,7 +83,8 @@ impl DataBlocks {
         operands::number(bytes, at, bit, width)
     }
 
-    /// Writes a number to an operand of a data block, if the operand lies within it.
+    /// Writes a number to the operand from byte `at` of a data block, if that is loaded and the
+    /// operand lies within it.
     pub(crate) fn put(
         &mut self,
         number: u16,

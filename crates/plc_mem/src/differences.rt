@@ -2,10 +2,11 @@
 ghost use Rattle.std.specs.Prelude.{◌≡◌, ℕ, ◌+◌, ◌<◌, ◌≤◌, length, slice_get, IsTrue};
 ghost use Rattle.plc_mem.specs.Changes.{IsFirstDifference};
 
-/// How many bytes are compared at once: outputs seldom change, so most of a walk finds them equal.
+/// How many bytes are compared at once: outputs seldom change, so most blocks of bytes are equal.
 pub(crate) const BLOCK: usize = 64;
 
-/// The first index from `from` on at which two runs of the same length differ.
+/// The first index, from `from` on, at which two lists of bytes of the same length differ, if there
+/// is one.
 pub(crate) fn first_difference(old: &[u8], new: &[u8], from: usize) -> Option<usize>
     requires { length old.now ≡ length new.now }
     ensures { IsFirstDifference old.now new.now from result }

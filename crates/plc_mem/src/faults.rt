@@ -1,3 +1,3 @@
-/// A bit of the operand, or the byte, doesn't exist.
+/// A memory access is refused: a bit of the operand, or the byte, does not exist.
 #[derive(Clone, Copy, Debug, PartialEq, Eq)]
 pub struct Missing;

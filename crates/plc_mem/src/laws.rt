@@ -11,8 +11,8 @@ pub fn bits_determine_memory(m: &Memory, n: &Memory)
     n.law_of_areas();
 }
 
-/// Writing gives a memory with the number there and every other bit as before, and there is no other
-/// such memory.
+/// Writing a number gives a memory with the number in the operand and every other bit as before,
+/// and there is no other such memory.
 pub fn writing_gives_the_one_memory(m: &Memory, other: &Memory)
     ensures { WritingGivesTheOneMemory m.now other.now }
 {
@@ -20,7 +20,8 @@ pub fn writing_gives_the_one_memory(m: &Memory, other: &Memory)
     other.law_of_areas();
 }
 
-/// A place has a number, and takes one, exactly where each bit of the operand exists.
+/// A number is read at a place, and can be written there, exactly where each bit of the operand
+/// exists.
 pub fn places_exist_bit_by_bit(m: &Memory)
     ensures reads { ReadsWhereEachBitExists m.now }
     ensures writes { WritesWhereEachBitExists m.now }
@@ -28,21 +29,24 @@ pub fn places_exist_bit_by_bit(m: &Memory)
     m.law_of_areas();
 }
 
-/// A number written is read back, but in area P, whose reading reads inputs.
+/// A number written is read back from its place, but in area P, where writing means peripheral
+/// outputs and reading peripheral inputs.
 pub fn numbers_are_read_back(m: &Memory)
     ensures { NumbersAreReadBack m.now }
 {
     m.law_of_areas();
 }
 
-/// No call adds or removes a place.
+/// No bit place is added or removed by a write, by setting an input, by clearing the outputs or by
+/// updating the process images.
 pub fn places_stay(m: &Memory)
     ensures { PlacesStay m.now }
 {
     m.law_of_areas();
 }
 
-/// A refresh, a clearing of the outputs and an input, said of bits.
+/// Which bits change when the process images are updated, the peripheral outputs cleared or a
+/// peripheral input byte set.
 pub fn calls_change_these_bits(m: &Memory)
     ensures refreshes { RefreshesBits m.now }
     ensures clears { ClearsBits m.now }
@@ -51,7 +55,8 @@ pub fn calls_change_these_bits(m: &Memory)
     m.law_of_areas();
 }
 
-/// Memory begins as one that can be, where the data blocks are made of bytes.
+/// Memory as it begins has all areas in their sizes, where the data blocks' bytes are numbers below
+/// 256.
 pub fn memory_starts()
     ensures { MemoryStarts }
 {}

@@ -33,11 +33,17 @@ const RETAINED: usize = 16;
 /// memory (M), peripheral inputs and outputs (PI, PQ) and the data blocks (DB).
 #[derive(Drop)]
 pub struct Memory {
+    /// The process image of the inputs (I).
     inputs: [u8; LOW_BYTES],
+    /// The process image of the outputs (Q).
     outputs: [u8; LOW_BYTES],
+    /// Bit memory (M), as many bytes as the profile has.
     bit_memory: Vec<u8>,
+    /// The peripheral inputs (PI).
     peripheral_inputs: PeripheralArea,
+    /// The peripheral outputs (PQ).
     peripheral_outputs: PeripheralArea,
+    /// The loaded data blocks (DB).
     data_blocks: DataBlocks,
 }
 
@@ -114,16 +120,14 @@ impl Memory {
         Ok(Memory::cleared(profile, bit_memory, data_blocks))
     }
 
-    /// Nothing is done. The contract says that each memory has its areas, each of its size and made
-    /// of bytes.
+    /// Law, which does nothing: each memory has its areas, each of its size and made of bytes.
     pub fn law_of_areas(&self)
         ensures { IsMemory self.now }
     {
         let _ = &self.inputs;
     }
 
-    /// The number at a place, right-justified with zeros above. Reading area P reads peripheral
-    /// inputs.
+    /// Reads the unsigned number at a place and width. Reading area P reads peripheral inputs.
     #[inline(always)]
     pub fn read(&self, place: Place, width: Width) -> Result<u32, Missing>
         ensures cases { MatchResult result
@@ -135,8 +139,8 @@ impl Memory {
         self.number(place, width).ok_or(Missing)
     }
 
-    /// Writes a number at a place. Writing area P writes peripheral outputs, and the same bytes of
-    /// the process image of the outputs where these exist.
+    /// Writes a number at a place and width. Writing area P writes peripheral outputs, and the same
+    /// bytes of the process image of the outputs where these exist.
     #[inline(always)]
     pub fn write(&mut self, place: Place, width: Width, value: u32) -> Result<(), Missing>
         requires { value < 2 ^ bit_count width }
@@ -148,7 +152,7 @@ impl Memory {
         self.store(place, width, value)
     }
 
-    /// Sets one byte of the peripheral inputs.
+    /// Sets one byte of the peripheral inputs (PI).
     #[tactic(auto, unfolding(crate::specs::Peripherals::with_input))]
     pub fn set_input(&mut self, byte: u16, value: u8) -> Result<(), Missing>
         ensures exists { IsOk result ↔ IsTrue (is_peripheral_byte byte) }
@@ -158,7 +162,7 @@ impl Memory {
         self.peripheral_inputs.put(at, 0, Width::Byte, value.into())
     }
 
-    /// One byte of the peripheral outputs, if it exists.
+    /// One byte of the peripheral outputs (PQ), if there is one with this number.
     #[tactic(auto, unfolding(crate::specs::Peripherals::output_of))]
     pub fn output(&self, byte: u16) -> Option<u8>
         ensures value { result ≡ output_of self.now byte }
@@ -167,7 +171,7 @@ impl Memory {
         self.peripheral_outputs.byte(byte)
     }
 
-    /// All peripheral outputs.
+    /// All bytes of the peripheral outputs (PQ).
     pub fn outputs(&self) -> &PeripheralArea
         ensures { result.now ≡ self.now.peripheral_outputs }
     {
@@ -182,7 +186,7 @@ impl Memory {
         self.peripheral_outputs = PeripheralArea::clear();
     }
 
-    /// The bytes of a data block, if it is loaded.
+    /// The bytes of the data block with a number, if it is loaded.
     pub fn data_block(&self, number: u16) -> Option<&[u8]>
         ensures { option_copied result ≡ map.get self.now.data_blocks number }
     {
@@ -333,7 +337,8 @@ impl Memory {
         requires near { at < 2 ^ 16 }
         requires fits { value < 2 ^ bit_count width }
         ensures sizes { HasImage self.old }
-        ensures cases { ChangesOrStays (number_written_in self.old PeripheralOutputs at bit width value)
+        ensures cases { ChangesOrStays
+            (number_written_in self.old PeripheralOutputs at bit width value)
             self.old self.new result }
     {
         self.peripheral_outputs.put(at, bit, width, value)?;

@@ -11,8 +11,8 @@ use plc_base::Width;
 /// How many bits a byte has.
 const BYTE_BITS: u8 = 8;
 
-/// The number in the operand from byte `at` on, the highest byte first; of a bit operand its bit.
-/// `None` exactly where not each bit of the operand exists.
+/// The unsigned number in the operand from byte `at` on, whose first byte weighs most; a bit
+/// operand is bit `bit` of the byte. `None` exactly where not each bit of the operand exists.
 #[inline(always)]
 pub fn number(bytes: &[u8], at: usize, bit: u8, width: Width) -> Option<u32>
     requires { at < 2 ^ 16 }

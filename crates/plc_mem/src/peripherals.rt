@@ -16,16 +16,20 @@ use crate::upper_parts::UpperPart;
 use plc_base::Width;
 use std::marker::Model;
 
-/// How many bytes the lower part has, and the process images with it.
+/// How many bytes the lower part of a peripheral area has, bytes 0 to 127, and a process image with
+/// it.
 pub(crate) const LOW_BYTES: usize = 128;
 
-/// The number of the upper part's first byte.
+/// The number of the first byte of the upper part of a peripheral area, bytes 256 to 767.
 const HIGH_START: usize = 256;
 
-/// Peripheral inputs, or peripheral outputs: bytes 0 to 127, and bytes 256 to 767.
+/// A peripheral area, that of the inputs (PI) or that of the outputs (PQ): bytes 0 to 127, and
+/// bytes 256 to 767.
 #[derive(Drop)]
 pub struct PeripheralArea {
+    /// Peripheral bytes 0 to 127.
     pub(crate) low: [u8; LOW_BYTES],
+    /// Peripheral bytes 256 to 767.
     high: UpperPart,
 }
 
@@ -40,7 +44,7 @@ impl Model for PeripheralArea {
 }
 
 impl PeripheralArea {
-    /// The area with each bit 0.
+    /// A peripheral area in which each bit is 0.
     pub(crate) fn clear() -> Self
         ensures { result ≡ clear_peripheral }
     {
@@ -50,7 +54,7 @@ impl PeripheralArea {
         }
     }
 
-    /// A copy of the area.
+    /// A copy of the peripheral area.
     pub fn copied(&self) -> PeripheralArea
         ensures { result ≡ self.now }
     {
@@ -60,7 +64,7 @@ impl PeripheralArea {
         }
     }
 
-    /// Becomes a copy of another area.
+    /// Makes the peripheral area a copy of another one.
     pub fn copy_from(&mut self, other: &PeripheralArea)
         ensures { self.new ≡ other.now }
     {
@@ -68,7 +72,7 @@ impl PeripheralArea {
         self.high.copy_from(&other.high);
     }
 
-    /// The byte of this number, if it exists.
+    /// The peripheral byte with a number, if there is one.
     pub fn byte(&self, number: u16) -> Option<u8>
         ensures value { result ≡ peripheral_byte self.now number }
         ensures exists { IsSome result ↔ IsTrue (is_peripheral_byte number) }
@@ -81,8 +85,8 @@ impl PeripheralArea {
         }
     }
 
-    /// The number of the first byte, from `from` on, that differs from that of `before`, if there is
-    /// one. What changed is found by asking again from the number after it.
+    /// The number of the first byte, from `from` on, that differs from that of `before`, if there
+    /// is one. All changes are found by asking again from the number after each.
     pub fn next_change(&self, before: &PeripheralArea, from: u16) -> Option<u16>
         ensures first { IsFirstChange before.now self.now from result }
         ensures exists { IfSome result (λ byte. IsTrue (is_peripheral_byte byte)) }
@@ -103,7 +107,8 @@ impl PeripheralArea {
         Some((HIGH_START + index) as u16)
     }
 
-    /// The number in an operand, if each bit of it exists.
+    /// The unsigned number in the operand from byte `at` of the peripheral area, if each bit of the
+    /// operand exists.
     #[inline(never)]
     pub(crate) fn number(&self, at: usize, bit: u8, width: Width) -> Option<u32>
         requires { at < 2 ^ 16 }
@@ -116,7 +121,8 @@ impl PeripheralArea {
         }
     }
 
-    /// Writes a number to an operand, if each bit of it exists.
+    /// Writes a number to the operand from byte `at` of the peripheral area, if each bit of the
+    /// operand exists.
     #[tactic(auto, unfolding(crate::specs::Writing::put_peripheral))]
     pub(crate) fn put(
         &mut self,

@@ -13,14 +13,16 @@ use crate::operands;
 use plc_base::Width;
 use std::marker::Model;
 
-/// How many bytes the upper part has.
+/// How many bytes the upper part of a peripheral area has: bytes 256 to 767.
 const UPPER_BYTES: usize = 512;
 
-/// The upper part of a peripheral area. Most programs write few of its bytes, so it keeps where
-/// those end: from `in_use` on, each byte is 0.
+/// The upper part of a peripheral area, bytes 256 to 767. Most programs write few of its bytes, so
+/// it keeps where those end: from `in_use` on, each byte is 0.
 #[derive(Drop)]
 pub(crate) struct UpperPart {
+    /// The bytes of the upper part, from peripheral byte 256 on.
     bytes: [u8; UPPER_BYTES],
+    /// The index from which on each byte is 0.
     in_use: usize,
 }
 
@@ -36,7 +38,7 @@ impl Model for UpperPart {
 }
 
 impl UpperPart {
-    /// The part with each bit 0.
+    /// An upper part in which each bit is 0.
     pub(crate) fn clear() -> Self
         ensures { result ≡ replicate upper_size 0 }
     {
@@ -46,7 +48,7 @@ impl UpperPart {
         }
     }
 
-    /// A copy of the part.
+    /// A copy of the upper part.
     pub(crate) fn copied(&self) -> Self
         ensures { result ≡ self.now }
     {
@@ -56,7 +58,7 @@ impl UpperPart {
         }
     }
 
-    /// Becomes a copy of another part.
+    /// Makes the upper part a copy of another one.
     pub(crate) fn copy_from(&mut self, other: &UpperPart)
         ensures { self.new ≡ other.now }
     {
@@ -65,7 +67,7 @@ impl UpperPart {
         self.in_use = other.in_use;
     }
 
-    /// The byte of this index, if it exists.
+    /// The byte of the upper part at an index from 0 (peripheral byte 256), if there is one.
     pub(crate) fn byte(&self, index: usize) -> Option<u8>
         ensures value { result ≡ slice_get self.now index }
         ensures exists { IsSome result ↔ index < 512 }
@@ -73,7 +75,8 @@ impl UpperPart {
         self.bytes.get(index).copied()
     }
 
-    /// The number in an operand, if each bit of it exists.
+    /// The unsigned number in the operand from index `at` of the upper part, if each bit of the
+    /// operand exists.
     pub(crate) fn number(&self, at: usize, bit: u8, width: Width) -> Option<u32>
         requires { at < 2 ^ 16 }
         ensures { result ≡ number_over (slice_get self.now) at bit width }
@@ -81,7 +84,8 @@ impl UpperPart {
         operands::number(&self.bytes, at, bit, width)
     }
 
-    /// Writes a number to an operand, if each bit of it exists.
+    /// Writes a number to the operand from index `at` of the upper part, if each bit of the operand
+    /// exists.
     pub(crate) fn put(
         &mut self,
         at: usize,
@@ -99,7 +103,8 @@ impl UpperPart {
         Ok(())
     }
 
-    /// The first index from `from` on at which the part differs from `before`.
+    /// The first index, from `from` on, at which the upper part differs from `before`, if there is
+    /// one.
     pub(crate) fn first_difference(&self, before: &UpperPart, from: usize) -> Option<usize>
         ensures first { IsFirstDifference before.now self.now from result }
         ensures within { IfSome result (λ index. index < 512) }

@@ -22,7 +22,7 @@ use Rattle.stack_bound.specs.declared.finding.Found.TheVariants as found
 use Rattle.stack_bound.specs.declared.texts.CertificateFault.{CertificateFault}
 use Rattle.stack_bound.specs.declared.texts.CertificateFault.TheVariants as certificate
 use Rattle.s7_cli.specs.declared.bound_command.BoundText.{BoundText}
-use Rattle.s7_cli.specs.declared.bound_command.BoundText.TheVariants as told
+use Rattle.s7_cli.specs.declared.bound_command.BoundText.TheVariants as bound_text
 use Rattle.s7_cli.specs.declared.failures.File.TheVariants.{Certificate}
 use Rattle.s7_cli.specs.declared.failures.Failure.{Failure}
 use Rattle.s7_cli.specs.declared.failures.Failure.TheVariants.{WordsRefused, ReadFault, TooLong, Refused, ImageRefused, NoListing, SaysNo, TooDeep, WriteFault, NoMemory}
@@ -40,7 +40,7 @@ use Rattle.s7_cli.specs.Says.{CommandSays}
 use Rattle.s7_cli.proofs.ComesLemmas.{never-fell, same-files}
 use Rattle.s7_cli.proofs.LoadLemmas.{loads-one}
 use Rattle.s7_cli.proofs.ReadingLemmas.{reads-all}
-use Rattle.s7_cli.proofs.Verdicts.{IsVerdict}
+use Rattle.s7_cli.proofs.CommandAnswers.{IsCommandAnswer}
 
 -- ---- one outcome, and one answer of `recheck`
 
@@ -86,19 +86,19 @@ bound-outcome image a b p q =
 
 -- ---- which answers there are
 
-pub bound-verdict : (v : Result LoadedProgram LoadFault) (a : CallAnswer) → BoundAnswer v a → IsVerdict a
-bound-verdict (Err fault) a said = inr (inr (inl (fault, said)))
-bound-verdict (Ok l) a (inl fits) = inl (ok_line, fits.1)
-bound-verdict (Ok l) a (inr deep) = inr (inr (inr (inr (inl (deep.0, deep.2)))))
+pub bound-is-answer : (v : Result LoadedProgram LoadFault) (a : CallAnswer) → BoundAnswer v a → IsCommandAnswer a
+bound-is-answer (Err fault) a said = inr (inr (inl (fault, said)))
+bound-is-answer (Ok l) a (inl fits) = inl (ok_line, fits.1)
+bound-is-answer (Ok l) a (inr deep) = inr (inr (inr (inr (inl (deep.0, deep.2)))))
 
-checked-verdict : (l : LoadedProgram) (read : Result (List BoundOf) Refusal) (a : CallAnswer) → CheckedAnswer l read a → IsVerdict a
-checked-verdict l (Err refusal) a said = inr (inl (Certificate, refusal, said))
-checked-verdict l (Ok list) a (inl held) = inl (ok_line, held.1)
-checked-verdict l (Ok list) a (inr fails) = inr (inr (inr (inl fails.1)))
+certificate-is-answer : (l : LoadedProgram) (read : Result (List BoundOf) Refusal) (a : CallAnswer) → CheckedAnswer l read a → IsCommandAnswer a
+certificate-is-answer l (Err refusal) a said = inr (inl (Certificate, refusal, said))
+certificate-is-answer l (Ok list) a (inl held) = inl (ok_line, held.1)
+certificate-is-answer l (Ok list) a (inr fails) = inr (inr (inr (inl fails.1)))
 
-pub recheck-verdict : (v : Result LoadedProgram LoadFault) (certificate : List ℕ) (a : CallAnswer) → RecheckAnswer v certificate a → IsVerdict a
-recheck-verdict (Err fault) certificate a said = inr (inr (inl (fault, said)))
-recheck-verdict (Ok l) certificate a said = checked-verdict l (certificate_of l.program certificate) a said
+pub recheck-is-answer : (v : Result LoadedProgram LoadFault) (certificate : List ℕ) (a : CallAnswer) → RecheckAnswer v certificate a → IsCommandAnswer a
+recheck-is-answer (Err fault) certificate a said = inr (inr (inl (fault, said)))
+recheck-is-answer (Ok l) certificate a said = certificate-is-answer l (certificate_of l.program certificate) a said
 
 -- ---- where the answer is that it is done, no history stops for want of stack
 
@@ -153,10 +153,10 @@ bound-stacks : CertificatesKeepStacks → (d : Disk) (image certificate : List �
     → ReadsFilesInTurn d (inputs_of (Bound image certificate)) (CommandSays (Bound image certificate)) a → exit_status a.outcome ≡ 0
     → StacksSuffice (Bound image certificate) d
 bound-stacks keep d image certificate a (inl stops) zero = absurd (stopped d _ a stops zero)
-bound-stacks keep d image certificate a (inr (bytes, holds, said)) zero = λ name held l is told there loads.
+bound-stacks keep d image certificate a (inr (bytes, holds, said)) zero = λ name held l is known there loads.
     let here : d.before.contents.at image ≡ Some held =
     subst (λ (n : List ℕ). d.before.contents.at n ≡ Some held) (sym (other_name image name is)) there in
-    let same : held ≡ bytes = same_bytes d.before.contents image held bytes here (holds.agrees told) in
+    let same : held ≡ bytes = same_bytes d.before.contents image held bytes here (holds.agrees known) in
     bound-suffices keep bytes said.0 a l said.1 said.2 zero (subst (λ (b : List ℕ). LoadsAs b (Ok l)) same loads)
 
 recheck-stacks : CertificatesKeepStacks → (d : Disk) (image certificate : List ℕ) (a : CallAnswer)
@@ -164,26 +164,26 @@ recheck-stacks : CertificatesKeepStacks → (d : Disk) (image certificate : List
     → StacksSuffice (Recheck image certificate) d
 recheck-stacks keep d image certificate a (inl stops) zero = absurd (stopped d _ a stops zero)
 recheck-stacks keep d image certificate a (inr (bytes, holds, inl stops)) zero = absurd (stopped d _ a stops zero)
-recheck-stacks keep d image certificate a (inr (bytes, holds, inr (text, within, said))) zero = λ name held l is told there loads.
+recheck-stacks keep d image certificate a (inr (bytes, holds, inr (text, within, said))) zero = λ name held l is known there loads.
     let here : d.before.contents.at image ≡ Some held =
     subst (λ (n : List ℕ). d.before.contents.at n ≡ Some held) (sym (other_name image name is)) there in
-    let same : held ≡ bytes = same_bytes d.before.contents image held bytes here (holds.agrees told) in
+    let same : held ≡ bytes = same_bytes d.before.contents image held bytes here (holds.agrees known) in
     recheck-suffices keep bytes text said.0 a l said.1 said.2 zero (subst (λ (b : List ℕ). LoadsAs b (Ok l)) same loads)
 
 pub stacks-suffice : CertificatesKeepStacks → (k : Command) (d : Disk) (a : CallAnswer) → ReadsFilesInTurn d (inputs_of k) (CommandSays k) a
     → exit_status a.outcome ≡ 0 → StacksSuffice k d
 stacks-suffice keep (Bound image certificate) d a said zero = bound-stacks keep d image certificate a said zero
 stacks-suffice keep (Recheck image certificate) d a said zero = recheck-stacks keep d image certificate a said zero
-stacks-suffice keep (Go s y g h) d a said zero = λ name held l is told there loads. absurd (no_name (Go s y g h) name refl is)
-stacks-suffice keep (Check s y g) d a said zero = λ name held l is told there loads. absurd (no_name (Check s y g) name refl is)
-stacks-suffice keep (Compile s y g i) d a said zero = λ name held l is told there loads. absurd (no_name (Compile s y g i) name refl is)
-stacks-suffice keep (Translate l s t) d a said zero = λ name held m is told there loads. absurd (no_name (Translate l s t) name refl is)
-stacks-suffice keep (Run i h) d a said zero = λ name held l is told there loads. absurd (no_name (Run i h) name refl is)
-stacks-suffice keep (Gen n) d a said zero = λ name held l is told there loads. absurd (no_name (Gen n) name refl is)
-stacks-suffice keep (Live i s o n) d a said zero = λ name held l is told there loads. absurd (no_name (Live i s o n) name refl is)
-stacks-suffice keep (Watch i s v o n) d a said zero = λ name held l is told there loads. absurd (no_name (Watch i s v o n) name refl is)
-stacks-suffice keep (Upgrade i u) d a said zero = λ name held l is told there loads. absurd (no_name (Upgrade i u) name refl is)
-stacks-suffice keep (ListImage i s y) d a said zero = λ name held l is told there loads. absurd (no_name (ListImage i s y) name refl is)
+stacks-suffice keep (Go s y g h) d a said zero = λ name held l is known there loads. absurd (no_name (Go s y g h) name refl is)
+stacks-suffice keep (Check s y g) d a said zero = λ name held l is known there loads. absurd (no_name (Check s y g) name refl is)
+stacks-suffice keep (Compile s y g i) d a said zero = λ name held l is known there loads. absurd (no_name (Compile s y g i) name refl is)
+stacks-suffice keep (Translate l s t) d a said zero = λ name held m is known there loads. absurd (no_name (Translate l s t) name refl is)
+stacks-suffice keep (Run i h) d a said zero = λ name held l is known there loads. absurd (no_name (Run i h) name refl is)
+stacks-suffice keep (Gen n) d a said zero = λ name held l is known there loads. absurd (no_name (Gen n) name refl is)
+stacks-suffice keep (Live i s o n) d a said zero = λ name held l is known there loads. absurd (no_name (Live i s o n) name refl is)
+stacks-suffice keep (Watch i s v o n) d a said zero = λ name held l is known there loads. absurd (no_name (Watch i s v o n) name refl is)
+stacks-suffice keep (Upgrade i u) d a said zero = λ name held l is known there loads. absurd (no_name (Upgrade i u) name refl is)
+stacks-suffice keep (ListImage i s y) d a said zero = λ name held l is known there loads. absurd (no_name (ListImage i s y) name refl is)
 
 -- ---- an image that isn't loaded, and a certificate that isn't read
 
@@ -231,14 +231,14 @@ pub yes-said : (image text : List ℕ) → IsCertificateOfImage image text → R
 yes-said image text (l, loads, list, spells, holds) =
     (Ok l, loads, subst (λ (r : Result (List BoundOf) Refusal). CheckedAnswer l r (done_answer ok_line)) (sym spells) (inl (holds, refl)))
 
--- ---- what is told of an image
+-- ---- what is written of an image
 
-pub tells : (image : List ℕ) (l : LoadedProgram) (found : Found) (told : BoundText) → LoadsAs image (Ok l)
-    → IsFindingFor l.profile l.program found → IsBoundText found told → IsBoundTextOfImage image told
-tells image l (found.Fits list) (told.Fits certificate) loads finds is = (l, loads, list.items, finds, is)
-tells image l (found.Deep chain) (told.Deep line) loads finds is = (l, loads, chain.items, finds, is)
-tells image l (found.Fits list) (told.Deep line) loads finds is = absurd is
-tells image l (found.Deep chain) (told.Fits certificate) loads finds is = absurd is
+pub tells : (image : List ℕ) (l : LoadedProgram) (found : Found) (text : BoundText) → LoadsAs image (Ok l)
+    → IsFindingFor l.profile l.program found → IsBoundText found text → IsBoundTextOfImage image text
+tells image l (found.Fits list) (bound_text.Fits certificate) loads finds is = (l, loads, list.items, finds, is)
+tells image l (found.Deep chain) (bound_text.Deep line) loads finds is = (l, loads, chain.items, finds, is)
+tells image l (found.Fits list) (bound_text.Deep line) loads finds is = absurd is
+tells image l (found.Deep chain) (bound_text.Fits certificate) loads finds is = absurd is
 
 -- ---- the line of a chain was written, or a front of it
 

@@ -19,7 +19,7 @@ pub unchanged : (at : FilesAt) → AreFilesUnchanged at at
 unchanged at = record { contents = record { told = refl; at = λ name. refl }; reads = λ name. refl; writes = λ name. refl }
 
 agrees-before : (start now : Contents) (name bytes : List ℕ) → SameFiles start now → FileHoldsBytes now name bytes → FileHoldsBytes start name bytes
-agrees-before start now name bytes same agrees = λ told. sym (same.at name) ∙ agrees (same.told ∙ told)
+agrees-before start now name bytes same agrees = λ known. sym (same.at name) ∙ agrees (same.told ∙ known)
 
 held-before : (start now : Contents) (i : Input) (bytes : List ℕ) → SameFiles start now → HoldsBytes now i bytes → HoldsBytes start i bytes
 held-before start now i bytes same holds =
@@ -43,9 +43,9 @@ only-reads start now same =
 -- files that hold what they held
 pub same-files : (c : Option Command) (d : Disk) → SameFiles d.before.contents d.after.contents → ChangesOutputs c d
 same-files c d same = record {
-  told = same.told;
+  known = same.told;
   elsewhere = λ name other. same.at name;
-  outputs = λ k is_k name output told. inl (same.at name);
+  outputs = λ k is_k name output known. inl (same.at name);
 }
 
 -- ---- a file isn't read
@@ -274,9 +274,9 @@ pub comes-refused : (V : Type 0) (c : Command) (start now : FilesAt) (at : SinkA
     (failure : Failure) (came : CallOutcome) → came ≡ Err failure → HasRead start now (inputs_of c) contents
     → ((a : CallAnswer) → said a → CommandSays c contents a) → SaysRefusal {V = V} said (Err failure)
     → ComesBeforeLine (Some c) (disk_moments start now) (sink_moments at at) came
-comes-refused V c start now at contents said failure came equal read each told =
+comes-refused V c start now at contents said failure came equal read each refused =
     subst (λ (o : CallOutcome). ComesBeforeLine (Some c) (disk_moments start now) (sink_moments at at) o) (sym equal)
-    (refuses V c start now at contents failure read (allowed V V said (CommandSays c contents) failure each told))
+    (refuses V c start now at contents failure read (allowed V V said (CommandSays c contents) failure each refused))
 
 -- ---- the result was written, or a front of it
 

@@ -12,29 +12,29 @@ use Rattle.s7_cli.specs.Reading.{Disk}
 use Rattle.s7_cli.proofs.ComesLemmas.{same-files}
 
 -- the failure, and its line, which was taken
-record Told (c : Option Command) (d : Disk) (a b z : SinkAt) (failure : Failure) : Type 0 where
+record FailureWritten (c : Option Command) (d : Disk) (a b z : SinkAt) (failure : Failure) : Type 0 where
   fails : FailsWith c d (sink_moments a b) failure
   written : TextWritten fails.line (sink_moments a z) (Ok tt)
 
-said : (c : Option Command) (d : Disk) (a b z : SinkAt) (failure : Failure) → Told c d a b z failure
+said : (c : Option Command) (d : Disk) (a b z : SinkAt) (failure : Failure) → FailureWritten c d a b z failure
     → (text : List ℕ) × SaysWholeText c d (sink_moments a z) (record { outcome = Err failure; text = text })
-said c d a b z failure told = (
-  told.fails.line,
+said c d a b z failure both = (
+  both.fails.line,
   record {
-    answers = told.fails.answers;
-    took = told.written.0;
-    faults = told.written.1;
-    reads = told.fails.counts;
-    writes = told.fails.only_reads.writes;
-    files = told.fails.only_reads.files;
+    answers = both.fails.answers;
+    took = both.written.0;
+    faults = both.written.1;
+    reads = both.fails.counts;
+    writes = both.fails.only_reads.writes;
+    files = both.fails.only_reads.files;
   },
 )
 
 -- the ending is the failure
-as-told : (c : Option Command) (d : Disk) (a b z : SinkAt) (failure ended : Failure) (fails : FailsWith c d (sink_moments a b) failure)
-    → ended ≡ failure → TextWritten fails.line (sink_moments a z) (Ok tt) → Told c d a b z ended
-as-told c d a b z failure ended fails is written =
-    subst (λ (f : Failure). Told c d a b z f) (sym is) (record { fails = fails; written = written })
+as-written : (c : Option Command) (d : Disk) (a b z : SinkAt) (failure ended : Failure) (fails : FailsWith c d (sink_moments a b) failure)
+    → ended ≡ failure → TextWritten fails.line (sink_moments a z) (Ok tt) → FailureWritten c d a b z ended
+as-written c d a b z failure ended fails is written =
+    subst (λ (f : Failure). FailureWritten c d a b z f) (sym is) (record { fails = fails; written = written })
 
 -- only a front of the line was taken
 front : (c : Option Command) (d : Disk) (a b z : SinkAt) (failure : Failure) (fails : FailsWith c d (sink_moments a b) failure) (n : ℕ)
@@ -56,16 +56,16 @@ ended-so c d a b z failure NoMemory fails (took, faults) = record {
   faults = faults;
   writes = fails.only_reads.writes;
 }
-ended-so c d a b z failure WordsRefused fails (is, took) = said c d a b z WordsRefused (as-told c d a b z failure WordsRefused fails is took)
-ended-so c d a b z failure ReadFault fails (is, took) = said c d a b z ReadFault (as-told c d a b z failure ReadFault fails is took)
-ended-so c d a b z failure (TooLong file) fails (is, took) = said c d a b z (TooLong file) (as-told c d a b z failure (TooLong file) fails is took)
+ended-so c d a b z failure WordsRefused fails (is, took) = said c d a b z WordsRefused (as-written c d a b z failure WordsRefused fails is took)
+ended-so c d a b z failure ReadFault fails (is, took) = said c d a b z ReadFault (as-written c d a b z failure ReadFault fails is took)
+ended-so c d a b z failure (TooLong file) fails (is, took) = said c d a b z (TooLong file) (as-written c d a b z failure (TooLong file) fails is took)
 ended-so c d a b z failure (Refused file refusal) fails (is, took) =
-    said c d a b z (Refused file refusal) (as-told c d a b z failure (Refused file refusal) fails is took)
+    said c d a b z (Refused file refusal) (as-written c d a b z failure (Refused file refusal) fails is took)
 ended-so c d a b z failure (ImageRefused fault) fails (is, took) =
-    said c d a b z (ImageRefused fault) (as-told c d a b z failure (ImageRefused fault) fails is took)
-ended-so c d a b z failure NoListing fails (is, took) = said c d a b z NoListing (as-told c d a b z failure NoListing fails is took)
-ended-so c d a b z failure SaysNo fails (is, took) = said c d a b z SaysNo (as-told c d a b z failure SaysNo fails is took)
-ended-so c d a b z failure TooDeep fails (is, took) = said c d a b z TooDeep (as-told c d a b z failure TooDeep fails is took)
+    said c d a b z (ImageRefused fault) (as-written c d a b z failure (ImageRefused fault) fails is took)
+ended-so c d a b z failure NoListing fails (is, took) = said c d a b z NoListing (as-written c d a b z failure NoListing fails is took)
+ended-so c d a b z failure SaysNo fails (is, took) = said c d a b z SaysNo (as-written c d a b z failure SaysNo fails is took)
+ended-so c d a b z failure TooDeep fails (is, took) = said c d a b z TooDeep (as-written c d a b z failure TooDeep fails is took)
 
 -- a failure that has a line
 with-line : (c : Option Command) (d : Disk) (a b z : SinkAt) (failure ended : Failure) → FailsWith c d (sink_moments a b) failure

@@ -1,6 +1,7 @@
 pub mod BoardLemmas
 pub mod BoundLemmas
 pub mod ComesLemmas
+pub mod CommandAnswers
 mod CompileLemmas
 pub mod FinishLemmas
 pub mod KeptLemmas
@@ -25,7 +26,6 @@ pub mod SummaryLemmas
 pub mod TableLemmas
 pub mod TranslatingLemmas
 pub mod UpgradeLemmas
-pub mod Verdicts
 pub mod WatchingLemmas
 pub mod WatchRunLemmas
 pub mod WatchSaysLemmas

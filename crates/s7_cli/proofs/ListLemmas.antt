@@ -34,7 +34,7 @@ use Rattle.s7_cli.specs.Says.{CommandSays}
 use Rattle.s7_cli.specs.Translating.{IsSourceImage, language_of}
 use Rattle.s7_cli.proofs.LoadLemmas.{loads-one}
 use Rattle.s7_cli.proofs.RefusedLemmas.{refused-more}
-use Rattle.s7_cli.proofs.Verdicts.{IsVerdict}
+use Rattle.s7_cli.proofs.CommandAnswers.{IsCommandAnswer}
 
 -- ---- one answer
 
@@ -62,14 +62,14 @@ list-one image a b p q =
     answer-one p.0 a b p.2
     (subst (λ (v : Result LoadedProgram LoadFault). ListAnswer v b) (loads-one image q.0 p.0 q.1 p.1) q.2)
 
-listed-verdict : (p : Program) (a : CallAnswer) → ListedAnswer p a → IsVerdict a
-listed-verdict p a (inl (long, gives)) = inr (inr (inr (inr (inr (inl (Listing, gives))))))
-listed-verdict p a (inr (inl (short, none, gives))) = inr (inr (inr (inr (inr (inr gives)))))
-listed-verdict p a (inr (inr (short, has, gives))) = inl (ok_line, gives)
+listed-is-answer : (p : Program) (a : CallAnswer) → ListedAnswer p a → IsCommandAnswer a
+listed-is-answer p a (inl (long, gives)) = inr (inr (inr (inr (inr (inl (Listing, gives))))))
+listed-is-answer p a (inr (inl (short, none, gives))) = inr (inr (inr (inr (inr (inr gives)))))
+listed-is-answer p a (inr (inr (short, has, gives))) = inl (ok_line, gives)
 
-pub list-verdict : (v : Result LoadedProgram LoadFault) (a : CallAnswer) → ListAnswer v a → IsVerdict a
-list-verdict (Err fault) a said = inr (inr (inl (fault, said)))
-list-verdict (Ok l) a said = listed-verdict l.program a said
+pub list-is-answer : (v : Result LoadedProgram LoadFault) (a : CallAnswer) → ListAnswer v a → IsCommandAnswer a
+list-is-answer (Err fault) a said = inr (inr (inl (fault, said)))
+list-is-answer (Ok l) a said = listed-is-answer l.program a said
 
 -- ---- an image that isn't loaded, or has no listing
 
@@ -86,9 +86,9 @@ says-of image l loads a said = (Ok l, loads, said)
 
 pub listing-refused : (V : Type 0) (image : List ℕ) (l : LoadedProgram) (r : Result V Failure) → LoadsAs image (Ok l)
     → SaysRefusal (ListedAnswer l.program) r → SaysRefusal (ListSays image) r
-listing-refused V image l (Ok v) loads told = tt
-listing-refused V image l (Err failure) loads told =
-    refused-more V V (ListedAnswer l.program) (ListSays image) failure (Err failure) refl (says-of image l loads) told
+listing-refused V image l (Ok v) loads refused = tt
+listing-refused V image l (Err failure) loads refused =
+    refused-more V V (ListedAnswer l.program) (ListSays image) failure (Err failure) refl (says-of image l loads) refused
 
 -- ---- what listings compile to
 
@@ -145,10 +145,10 @@ list-never have d image source symbols a (inl (inl (rose, gives))) nine =
     let e : exit_status a.outcome ≡ 5 = ap (λ (b : CallAnswer). exit_status b.outcome) gives in absurd (omega (arith, e, nine))
 list-never have d image source symbols a (inl (inr (bytes, agrees, long, gives))) nine =
     let e : exit_status a.outcome ≡ 8 = ap (λ (b : CallAnswer). exit_status b.outcome) gives in absurd (omega (arith, e, nine))
-list-never have d image source symbols a (inr (bytes, holds, said)) nine = λ name held german s y is told there made.
+list-never have d image source symbols a (inr (bytes, holds, said)) nine = λ name held german s y is known there made.
     let here : d.before.contents.at image ≡ Some held =
     subst (λ (n : List ℕ). d.before.contents.at n ≡ Some held) (sym (other_name image name is)) there in
-    let also : bytes ≡ held = same_bytes d.before.contents image bytes held (holds.agrees told) here in
+    let also : bytes ≡ held = same_bytes d.before.contents image bytes held (holds.agrees known) here in
     answer-never bytes a (λ l loads. have german bytes s y (subst (λ (i : List ℕ). IsSourceImage german i s y) (sym also) made) l loads)
     said.0 said.1 said.2 nine
 
@@ -158,14 +158,14 @@ no_name k name none some = let e : None ≡ Some name = sym none ∙ some in cc
 pub never-compiled : CompiledHaveListings → (k : Command) (d : Disk) (a : CallAnswer) → ReadsFilesInTurn d (inputs_of k) (CommandSays k) a
     → exit_status a.outcome ≡ 9 → IsNotCompiled k d
 never-compiled have (ListImage i s y) d a said nine = list-never have d i s y a said nine
-never-compiled have (Go s y g h) d a said nine = λ name held german source symbols is told there made. no_name (Go s y g h) name refl is
-never-compiled have (Check s y g) d a said nine = λ name held german source symbols is told there made. no_name (Check s y g) name refl is
-never-compiled have (Compile s y g i) d a said nine = λ name held german source symbols is told there made. no_name (Compile s y g i) name refl is
-never-compiled have (Translate l s t) d a said nine = λ name held german source symbols is told there made. no_name (Translate l s t) name refl is
-never-compiled have (Run i h) d a said nine = λ name held german source symbols is told there made. no_name (Run i h) name refl is
-never-compiled have (Gen n) d a said nine = λ name held german source symbols is told there made. no_name (Gen n) name refl is
-never-compiled have (Live i s o n) d a said nine = λ name held german source symbols is told there made. no_name (Live i s o n) name refl is
-never-compiled have (Watch i s v o n) d a said nine = λ name held german source symbols is told there made. no_name (Watch i s v o n) name refl is
-never-compiled have (Upgrade i u) d a said nine = λ name held german source symbols is told there made. no_name (Upgrade i u) name refl is
-never-compiled have (Bound i t) d a said nine = λ name held german source symbols is told there made. no_name (Bound i t) name refl is
-never-compiled have (Recheck i t) d a said nine = λ name held german source symbols is told there made. no_name (Recheck i t) name refl is
+never-compiled have (Go s y g h) d a said nine = λ name held german source symbols is known there made. no_name (Go s y g h) name refl is
+never-compiled have (Check s y g) d a said nine = λ name held german source symbols is known there made. no_name (Check s y g) name refl is
+never-compiled have (Compile s y g i) d a said nine = λ name held german source symbols is known there made. no_name (Compile s y g i) name refl is
+never-compiled have (Translate l s t) d a said nine = λ name held german source symbols is known there made. no_name (Translate l s t) name refl is
+never-compiled have (Run i h) d a said nine = λ name held german source symbols is known there made. no_name (Run i h) name refl is
+never-compiled have (Gen n) d a said nine = λ name held german source symbols is known there made. no_name (Gen n) name refl is
+never-compiled have (Live i s o n) d a said nine = λ name held german source symbols is known there made. no_name (Live i s o n) name refl is
+never-compiled have (Watch i s v o n) d a said nine = λ name held german source symbols is known there made. no_name (Watch i s v o n) name refl is
+never-compiled have (Upgrade i u) d a said nine = λ name held german source symbols is known there made. no_name (Upgrade i u) name refl is
+never-compiled have (Bound i t) d a said nine = λ name held german source symbols is known there made. no_name (Bound i t) name refl is
+never-compiled have (Recheck i t) d a said nine = λ name held german source symbols is known there made. no_name (Recheck i t) name refl is

@@ -271,22 +271,22 @@ scripts-refused V text p stimuli failure r fails loads are tells = λ steps.
     subst (λ (q : Result V Failure). SaysRefusal (LiveTextSays steps text) q) (sym fails) (scripts-refuse V steps text p stimuli failure loads are tells)
 
 on : (V W : Type 0) (says : CallAnswer → Type 0) (failure : Failure) → SaysRefusal {V = V} says (Err failure) → SaysRefusal {V = W} says (Err failure)
-on V W says (Refused file refusal) told = told
-on V W says (ImageRefused fault) told = told
-on V W says NoListing told = told
-on V W says SaysNo told = told
-on V W says TooDeep told = absurd told
-on V W says NoMemory told = tt
-on V W says WordsRefused told = absurd told
-on V W says ReadFault told = absurd told
-on V W says (TooLong file) told = told
-on V W says WriteFault told = absurd told
+on V W says (Refused file refusal) refused = refused
+on V W says (ImageRefused fault) refused = refused
+on V W says NoListing refused = refused
+on V W says SaysNo refused = refused
+on V W says TooDeep refused = absurd refused
+on V W says NoMemory refused = tt
+on V W says WordsRefused refused = absurd refused
+on V W says ReadFault refused = absurd refused
+on V W says (TooLong file) refused = refused
+on V W says WriteFault refused = absurd refused
 
 -- a refusal is handed on
 pub refused-on : (V W : Type 0) (says : CallAnswer → Type 0) (failure : Failure) (r : Result W Failure) → r ≡ Err failure
     → SaysRefusal {V = V} says (Err failure) → SaysRefusal says r
-refused-on V W says failure r fails told =
-    subst (λ (q : Result W Failure). SaysRefusal says q) (sym fails) (on V W says failure told)
+refused-on V W says failure r fails refused =
+    subst (λ (q : Result W Failure). SaysRefusal says q) (sym fails) (on V W says failure refused)
 
 -- the workers made this history
 pub live-said : (steps : ℕ) (text : LiveText) (p q : LoadedProgram) (stimuli : List Entry) (scripts : List (List Entry)) (history : List Entry)

@@ -27,14 +27,14 @@ is-one one name is = (0, omega arith, sym is)
 
 -- what a write of one file leaves, since the start
 record Since (start now : FilesAt) (name : List ℕ) : Type 0 where
-  told : now.contents.told ≡ start.contents.told
+  known : now.contents.told ≡ start.contents.told
   elsewhere : (other : List ℕ) → other ≢ name → now.contents.at other ≡ start.contents.at other
   reads : SameCounts start.failed_reads now.failed_reads
 
 since : (start middle now : FilesAt) (name : List ℕ) → AreFilesUnchanged start middle → SameElsewhere middle.contents now.contents name
     → SameCounts middle.failed_reads now.failed_reads → Since start now name
 since start middle now name same elsewhere reads = record {
-  told = elsewhere.told ∙ same.contents.told;
+  known = elsewhere.told ∙ same.contents.told;
   elsewhere = λ other differs. elsewhere.at other differs ∙ same.contents.at other;
   reads = λ other. reads other ∙ same.reads other;
 }
@@ -43,7 +43,7 @@ since start middle now name same elsewhere reads = record {
 changes : (c : Command) (start now : FilesAt) (name : List ℕ) → outputs_of c ≡ name ∷ [] → Since start now name
     → HoldsFront c (disk_moments start now) name → ChangesOutputs (Some c) (disk_moments start now)
 changes c start now name are later front = record {
-  told = later.told;
+  known = later.known;
   elsewhere = λ other apart. later.elsewhere other (λ is. apart (subst (λ (names : List (List ℕ)). Contains names other) (sym are) (is-one name other is)));
   outputs = λ k is_k other within.
       let same : c ≡ k = cc in
@@ -70,8 +70,8 @@ front-left : (c : Command) (start middle now : FilesAt) (contents : List (List �
     → WritesOutputFile c contents name bytes
     → (middle.contents.told ≡ true → (now.contents.at name ≡ middle.contents.at name) ⊎ ((n : ℕ) × (now.contents.at name ≡ Some (take n bytes))))
     → HoldsFront c (disk_moments start now) name
-front-left c start middle now contents name bytes read writes cut = λ told.
-    elim (cut (read.same.contents.told ∙ told)) [
+front-left c start middle now contents name bytes read writes cut = λ known.
+    elim (cut (read.same.contents.told ∙ known)) [
       | inl held ↦ inl (held ∙ read.same.contents.at name)
       | inr (n, holds) ↦ inr (bytes, n, (contents, read.hold, writes), holds)
     ]
@@ -179,11 +179,11 @@ comes-output c start middle now s contents name bytes text came are read writes 
     to : WritesTo c (disk_moments start now) name bytes
     to = (contents, read.hold, writes)
 
-    told-now : start.contents.told ≡ true → now.contents.told ≡ true
-    told-now told = later.told ∙ told
+    known-now : start.contents.told ≡ true → now.contents.told ≡ true
+    known-now known = later.known ∙ known
 
     all : HoldsWhole c (disk_moments start now) name
-    all = λ told. (bytes, to, left.contents (told-now told))
+    all = λ known. (bytes, to, left.contents (known-now known))
 
     front : HoldsFront c (disk_moments start now) name
-    front = λ told. inr (bytes, length bytes, to, left.contents (told-now told) ∙ ap Some (sym (take-whole bytes)))
+    front = λ known. inr (bytes, length bytes, to, left.contents (known-now known) ∙ ap Some (sym (take-whole bytes)))

@@ -31,7 +31,7 @@ is-second one two name is = (1, omega arith, sym is)
 
 -- what calls leave of the files, since the start, where they write to none but these two
 record Since (start now : FilesAt) (one two : List ℕ) : Type 0 where
-  told : now.contents.told ≡ start.contents.told
+  known : now.contents.told ≡ start.contents.told
   elsewhere : (other : List ℕ) → other ≢ one → other ≢ two → now.contents.at other ≡ start.contents.at other
   reads : SameCounts start.failed_reads now.failed_reads
 
@@ -50,7 +50,7 @@ each c one two P are first second k is name within =
 changes : (c : Command) (start now : FilesAt) (one two : List ℕ) → outputs_of c ≡ one ∷ two ∷ [] → Since start now one two
     → HoldsFront c (disk_moments start now) one → HoldsFront c (disk_moments start now) two → ChangesOutputs (Some c) (disk_moments start now)
 changes c start now one two are later first second = record {
-  told = later.told;
+  known = later.known;
   elsewhere = λ other apart. later.elsewhere other
       (λ is. apart (subst (λ (names : List (List ℕ)). Contains names other) (sym are) (is-first one two other is)))
       (λ is. apart (subst (λ (names : List (List ℕ)). Contains names other) (sym are) (is-second one two other is)));
@@ -62,16 +62,16 @@ cut-front : (c : Command) (start middle before now : FilesAt) (contents : List (
     → WritesOutputFile c contents to.name to.bytes → before.contents.told ≡ start.contents.told
     → before.contents.at to.name ≡ start.contents.at to.name → IsWriteCutShort before.contents now.contents to.name to.bytes
     → HoldsFront c (disk_moments start now) to.name
-cut-front c start middle before now contents to read writes tells held cut = λ told.
-    elim (cut (tells ∙ told)) [
+cut-front c start middle before now contents to read writes tells held cut = λ known.
+    elim (cut (tells ∙ known)) [
       | inl same ↦ inl (same ∙ held)
       | inr (n, holds) ↦ inr (to.bytes, n, (contents, read.hold, writes), holds)
     ]
 
 -- one that holds the whole holds a front
 whole-front : (c : Command) (start now : FilesAt) (name : List ℕ) → HoldsWhole c (disk_moments start now) name → HoldsFront c (disk_moments start now) name
-whole-front c start now name holds = λ told.
-    let is = holds told in
+whole-front c start now name holds = λ known.
+    let is = holds known in
     inr (is.0, length is.0, is.1, is.2 ∙ ap Some (sym (take-whole is.0)))
 
 -- ---- the write of the first file failed
@@ -83,11 +83,11 @@ first-changes : (c : Command) (start middle now : FilesAt) (contents : List (Lis
 first-changes c start middle now contents one two are read elsewhere reads cut =
     changes c start now one.name two.name are.outputs later
     (cut-front c start middle middle now contents one read are.writes_first read.same.contents.told (read.same.contents.at one.name) cut)
-    (λ told. inl (elsewhere.at two.name (λ is. are.apart (sym is)) ∙ read.same.contents.at two.name))
+    (λ known. inl (elsewhere.at two.name (λ is. are.apart (sym is)) ∙ read.same.contents.at two.name))
   where
     later : Since start now one.name two.name
     later = record {
-      told = elsewhere.told ∙ read.same.contents.told;
+      known = elsewhere.told ∙ read.same.contents.told;
       elsewhere = λ other apart from. elsewhere.at other apart ∙ read.same.contents.at other;
       reads = λ other. reads other ∙ read.same.reads other;
     }
@@ -139,7 +139,7 @@ first-unwritten c start middle now at contents one two failure came is are read 
 record HasFirst (c : Command) (start between : FilesAt) (contents : List (List ℕ)) (one two : WrittenFile) : Type 0 where
   are : AreOutputs c contents one two
   hold : HoldBytesInTurn start.contents (inputs_of c) contents
-  told : between.contents.told ≡ start.contents.told
+  known : between.contents.told ≡ start.contents.told
   there : start.contents.told ≡ true → between.contents.at one.name ≡ Some one.bytes
   elsewhere : (other : List ℕ) → other ≢ one.name → between.contents.at other ≡ start.contents.at other
   reads : SameCounts start.failed_reads between.failed_reads
@@ -151,8 +151,8 @@ first-written : (c : Command) (start middle between : FilesAt) (contents : List 
 first-written c start middle between contents one two are read left = record {
   are = are;
   hold = read.hold;
-  told = tells;
-  there = λ told. left.contents (tells ∙ told);
+  known = tells;
+  there = λ known. left.contents (tells ∙ known);
   elsewhere = λ other apart. left.elsewhere.at other apart ∙ read.same.contents.at other;
   reads = λ other. left.reads other ∙ read.same.reads other;
   writes = λ other. left.writes other ∙ read.same.writes other;
@@ -164,14 +164,14 @@ first-written c start middle between contents one two are read left = record {
 -- it holds the whole, also behind the second write
 first-whole : (c : Command) (start between now : FilesAt) (contents : List (List ℕ)) (one two : WrittenFile) → HasFirst c start between contents one two
     → SameElsewhere between.contents now.contents two.name → HoldsWhole c (disk_moments start now) one.name
-first-whole c start between now contents one two has elsewhere = λ told.
-    (one.bytes, (contents, has.hold, has.are.writes_first), elsewhere.at one.name has.are.apart ∙ has.there told)
+first-whole c start between now contents one two has elsewhere = λ known.
+    (one.bytes, (contents, has.hold, has.are.writes_first), elsewhere.at one.name has.are.apart ∙ has.there known)
 
 both-since : (c : Command) (start between now : FilesAt) (contents : List (List ℕ)) (one two : WrittenFile) → HasFirst c start between contents one two
     → SameElsewhere between.contents now.contents two.name → SameCounts between.failed_reads now.failed_reads
     → Since start now one.name two.name
 both-since c start between now contents one two has elsewhere reads = record {
-  told = elsewhere.told ∙ has.told;
+  known = elsewhere.told ∙ has.known;
   elsewhere = λ other apart from. elsewhere.at other from ∙ has.elsewhere other apart;
   reads = λ other. reads other ∙ has.reads other;
 }
@@ -183,7 +183,7 @@ second-changes : (c : Command) (start between now : FilesAt) (contents : List (L
 second-changes c start between now contents one two has elsewhere reads cut =
     changes c start now one.name two.name has.are.outputs (both-since c start between now contents one two has elsewhere reads)
     (whole-front c start now one.name (first-whole c start between now contents one two has elsewhere))
-    (λ told. elim (cut (has.told ∙ told)) [
+    (λ known. elim (cut (has.known ∙ known)) [
       | inl same ↦ inl (same ∙ has.elsewhere two.name (λ is. has.are.apart (sym is)))
       | inr (n, holds) ↦ inr (two.bytes, n, (contents, has.hold, has.are.writes_second), holds)
     ])
@@ -253,4 +253,4 @@ comes-outputs c start middle between now s contents one two came are read first 
     one-whole = first-whole c start between now contents one two has second.elsewhere
 
     two-whole : HoldsWhole c (disk_moments start now) two.name
-    two-whole = λ told. (two.bytes, (contents, has.hold, are.writes_second), second.contents (later.told ∙ told))
+    two-whole = λ known. (two.bytes, (contents, has.hold, are.writes_second), second.contents (later.known ∙ known))

@@ -23,19 +23,19 @@ reads-all d (i ∷ is) (bytes ∷ more) says a hold said =
 -- ---- over files that tell what they hold
 
 -- a read on the way failed, or the answer is one that the files allow
-pub reads-told : (d : Disk) (is : List Input) (says : Saying) (a : CallAnswer) → d.before.contents.told ≡ true
+pub reads-known : (d : Disk) (is : List Input) (says : Saying) (a : CallAnswer) → d.before.contents.told ≡ true
     → ReadsFilesInTurn d is says a → ((a ≡ read_fault_answer) × FailsOnTheWay d is) ⊎ AllowsAnswer d.before.contents is says a
-reads-told d [] says a told said = inr said
-reads-told d (i ∷ is) says a told (inl (inl (rose, gives))) = inl (gives, inl rose)
-reads-told d (i ∷ is) says a told (inl (inr (bytes, agrees, long, gives))) = inr (inl (inr (bytes, agrees told, long, gives)))
-reads-told d (i ∷ is) says a told (inr (bytes, holds, more)) =
-    elim (reads-told d is (λ files. says (bytes ∷ files)) a told more) [
+reads-known d [] says a known said = inr said
+reads-known d (i ∷ is) says a known (inl (inl (rose, gives))) = inl (gives, inl rose)
+reads-known d (i ∷ is) says a known (inl (inr (bytes, agrees, long, gives))) = inr (inl (inr (bytes, agrees known, long, gives)))
+reads-known d (i ∷ is) says a known (inr (bytes, holds, more)) =
+    elim (reads-known d is (λ files. says (bytes ∷ files)) a known more) [
       | inl fails ↦ inl (fails.0, inr (bytes, held, fails.1))
       | inr allowed ↦ inr (inr (bytes, held, allowed))
     ]
   where
     held : IsFileThere d.before.contents i bytes
-    held = record { there = holds.agrees told; within = holds.within }
+    held = record { there = holds.agrees known; within = holds.within }
 
 -- two answers to any contents are alike
 abbrev pub AnswersAlike : (Alike : CallAnswer → CallAnswer → Type 0) → Saying → Type 0
@@ -50,7 +50,7 @@ no_file c name xs p q = let e : None ≡ Some xs = sym p ∙ q in cc
 not_both : (i : Input) (xs ys : List ℕ) → xs ≡ ys → limit_of i.file < length xs → length ys ≤ limit_of i.file → ⊥
 not_both i xs ys same long within = omega (arith, ap length same)
 
--- so are two that told files allow
+-- so are two that files allow whose contents are known
 pub allows-alike : (c : Contents) (Alike : CallAnswer → CallAnswer → Type 0) → ((a b : CallAnswer) → a ≡ b → Alike a b) → (is : List Input) (says : Saying)
     → AnswersAlike Alike says → (a b : CallAnswer) → AllowsAnswer c is says a → AllowsAnswer c is says b → Alike a b
 allows-alike c Alike same [] says alike a b p q = alike [] a b p q

@@ -40,10 +40,10 @@ lines-kept continues profile c d kept before n (e ∷ es) =
 pub texts-kept : ContinuesReplay → (profile : Profile) (c d : Code) → BehavesAlike profile c d → (es : List Entry) → run_text profile d es ≡ run_text profile c es
 unfolding run_text replay
 texts-kept continues profile c d kept es =
-    ap (λ (lines : List ℕ). lines ++ (end_text (length es) (replay profile d (entry_events es)).mode ++ data_blocks_text (replay profile d (entry_events es)).world))
+    ap (λ (lines : List ℕ). lines ++ (end_text (length es) (replay profile d (entry_events es)).mode ++ data_blocks_text (replay profile d (entry_events es)).store))
     (lines-kept continues profile c d kept [] 0 es)
-    ∙ ap (λ (mode : Mode). lines ++ (end_text (length es) mode ++ data_blocks_text (replay profile d (entry_events es)).world)) (kept.mode (entry_events es))
-    ∙ ap (λ (world : GlobalStore). lines ++ (end_text (length es) (replay profile c (entry_events es)).mode ++ data_blocks_text world)) (kept.world (entry_events es))
+    ∙ ap (λ (mode : Mode). lines ++ (end_text (length es) mode ++ data_blocks_text (replay profile d (entry_events es)).store)) (kept.mode (entry_events es))
+    ∙ ap (λ (store : GlobalStore). lines ++ (end_text (length es) (replay profile c (entry_events es)).mode ++ data_blocks_text store)) (kept.store (entry_events es))
   where
     lines : List ℕ
     lines = entry_lines_from c 0 (replay profile c []) es

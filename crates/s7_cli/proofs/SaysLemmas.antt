@@ -46,14 +46,14 @@ use Rattle.s7_cli.specs.Says.{GoSays, CheckSays, RefusedProgram, RefusedText, Ru
 use Rattle.s7_cli.specs.StatusTable.{HasOneText}
 use Rattle.s7_cli.specs.Texts.{AreFilesWithinLimits, file_contents_of, symbols_file}
 use Rattle.s7_cli.specs.Translating.{IsEnglish, IsSourceImage, KeepsText, NotInEnglish, NotTranslated, SaysWithSymbols, language_of}
-use Rattle.s7_cli.proofs.BoundLemmas.{bound-outcome, bound-verdict, recheck-one, recheck-verdict}
-use Rattle.s7_cli.proofs.ListLemmas.{list-one, list-verdict}
+use Rattle.s7_cli.proofs.BoundLemmas.{bound-outcome, bound-is-answer, recheck-one, recheck-is-answer}
+use Rattle.s7_cli.proofs.ListLemmas.{list-one, list-is-answer}
 use Rattle.s7_cli.proofs.LoadLemmas.{loads-one}
 use Rattle.s7_cli.proofs.RefusedLemmas.{refused-more}
 use Rattle.s7_cli.proofs.ReadingLemmas.{AnswersAlike}
-use Rattle.s7_cli.proofs.TranslatingLemmas.{SaysOne, TranslatesOne, english-one, english-verdict, english-weaker, german-so, in-english, translated-one, translated-verdict}
-use Rattle.s7_cli.proofs.Verdicts.{IsVerdict}
-use Rattle.s7_cli.proofs.WatchSaysLemmas.{watch-one, watch-verdict}
+use Rattle.s7_cli.proofs.TranslatingLemmas.{SaysOne, TranslatesOne, english-one, english-is-answer, english-weaker, german-so, in-english, translated-one, translated-is-answer}
+use Rattle.s7_cli.proofs.CommandAnswers.{IsCommandAnswer}
+use Rattle.s7_cli.proofs.WatchSaysLemmas.{watch-one, watch-is-answer}
 
 -- ---- one answer
 
@@ -195,7 +195,7 @@ says-outcome one (Watch i s v o n) (x ∷ []) a b p q = absurd p
 says-outcome one (Watch i s v o n) (x ∷ y ∷ []) a b p q = absurd p
 says-outcome one (Watch i s v o n) (image ∷ stimuli ∷ vars ∷ scripts) a b p q = watch-one n image stimuli vars scripts a b p q
 
--- two answers of a command that told files allow
+-- two answers of a command that files allow whose contents are known
 abbrev pub Alike : Command → CallAnswer → CallAnswer → Type 0
 Alike k a b = (a.outcome ≡ b.outcome) × (HasOneText k → a ≡ b)
 
@@ -207,113 +207,113 @@ says-alike one k contents a b p q = (says-outcome one k contents a b p q, λ tex
 
 -- ---- which answers there are
 
-refused-verdict : (a : CallAnswer) (why : RefusedFile) → a ≡ refused_source_answer why → IsVerdict a
-refused-verdict a (InSymbols refusal) gives = inr (inl (Symbols, refusal, gives))
-refused-verdict a (InSource refusal) gives = inr (inl (Source, refusal, gives))
+refused-is-answer : (a : CallAnswer) (why : RefusedFile) → a ≡ refused_source_answer why → IsCommandAnswer a
+refused-is-answer a (InSymbols refusal) gives = inr (inl (Symbols, refusal, gives))
+refused-is-answer a (InSource refusal) gives = inr (inl (Source, refusal, gives))
 
-told-verdict : (a : CallAnswer) (v : Result Code RefusedFile) (h : Result (List Entry) Refusal) → a ≡ go_answer Large v h → IsVerdict a
-told-verdict a (Err why) h gives = refused-verdict a why gives
-told-verdict a (Ok code) (Err refusal) gives = inr (inl (History, refusal, gives))
-told-verdict a (Ok code) (Ok entries) gives = inl (run_text Large code entries, gives)
+source-and-history-is-answer : (a : CallAnswer) (v : Result Code RefusedFile) (h : Result (List Entry) Refusal) → a ≡ go_answer Large v h → IsCommandAnswer a
+source-and-history-is-answer a (Err why) h gives = refused-is-answer a why gives
+source-and-history-is-answer a (Ok code) (Err refusal) gives = inr (inl (History, refusal, gives))
+source-and-history-is-answer a (Ok code) (Ok entries) gives = inl (run_text Large code entries, gives)
 
-go-verdict : (german : Bool) (source symbols history : List ℕ) (a : CallAnswer) → GoSays german source symbols history a → IsVerdict a
-go-verdict german source symbols history a said =
-    english-verdict german source symbols (λ text. SourceSays (language_of german) Large text symbols history)
-    (λ text b says. told-verdict b says.0 (history_of_text (names_read_in (language_of german) symbols) history) says.2) a said
+go-is-answer : (german : Bool) (source symbols history : List ℕ) (a : CallAnswer) → GoSays german source symbols history a → IsCommandAnswer a
+go-is-answer german source symbols history a said =
+    english-is-answer german source symbols (λ text. SourceSays (language_of german) Large text symbols history)
+    (λ text b says. source-and-history-is-answer b says.0 (history_of_text (names_read_in (language_of german) symbols) history) says.2) a said
 
-source-verdict : (a : CallAnswer) (v : Result Code RefusedFile) → a ≡ check_answer v → IsVerdict a
-source-verdict a (Err why) gives = refused-verdict a why gives
-source-verdict a (Ok code) gives = inl (ok_line, gives)
+source-is-answer : (a : CallAnswer) (v : Result Code RefusedFile) → a ≡ check_answer v → IsCommandAnswer a
+source-is-answer a (Err why) gives = refused-is-answer a why gives
+source-is-answer a (Ok code) gives = inl (ok_line, gives)
 
-check-verdict : (german : Bool) (source symbols : List ℕ) (a : CallAnswer) → CheckSays german source symbols a → IsVerdict a
-check-verdict german source symbols a said =
-    english-verdict german source symbols (ChecksAs (language_of german) symbols) (λ text b says. source-verdict b says.0 says.2) a said
+check-is-answer : (german : Bool) (source symbols : List ℕ) (a : CallAnswer) → CheckSays german source symbols a → IsCommandAnswer a
+check-is-answer german source symbols a said =
+    english-is-answer german source symbols (ChecksAs (language_of german) symbols) (λ text b says. source-is-answer b says.0 says.2) a said
 
-translate-verdict : (language : Language) (source : List ℕ) (a : CallAnswer) → TranslateSays language source a → IsVerdict a
-translate-verdict language source a said =
-    translated-verdict language source (λ text answer. answer ≡ done_answer ok_line) (λ text b gives. inl (ok_line, gives)) a said
+translate-is-answer : (language : Language) (source : List ℕ) (a : CallAnswer) → TranslateSays language source a → IsCommandAnswer a
+translate-is-answer language source a said =
+    translated-is-answer language source (λ text answer. answer ≡ done_answer ok_line) (λ text b gives. inl (ok_line, gives)) a said
 
-ran-verdict : (a : CallAnswer) (l : LoadedProgram) (h : Result (List Entry) Refusal) → a ≡ run_loaded_answer l h → IsVerdict a
-ran-verdict a l (Err refusal) gives = inr (inl (History, refusal, gives))
-ran-verdict a l (Ok entries) gives = inl (run_text l.profile (code_of l.program) entries, gives)
+ran-is-answer : (a : CallAnswer) (l : LoadedProgram) (h : Result (List Entry) Refusal) → a ≡ run_loaded_answer l h → IsCommandAnswer a
+ran-is-answer a l (Err refusal) gives = inr (inl (History, refusal, gives))
+ran-is-answer a l (Ok entries) gives = inl (run_text l.profile (code_of l.program) entries, gives)
 
-run-verdict : (a : CallAnswer) (v : Result LoadedProgram LoadFault) (history : List ℕ) → a ≡ run_answer v history → IsVerdict a
-run-verdict a (Err fault) history gives = inr (inr (inl (fault, gives)))
-run-verdict a (Ok l) history gives = ran-verdict a l (history_of_text l.program.names history) gives
+run-is-answer : (a : CallAnswer) (v : Result LoadedProgram LoadFault) (history : List ℕ) → a ≡ run_answer v history → IsCommandAnswer a
+run-is-answer a (Err fault) history gives = inr (inr (inl (fault, gives)))
+run-is-answer a (Ok l) history gives = ran-is-answer a l (history_of_text l.program.names history) gives
 
-upgrade-verdict : (a : CallAnswer) (v : Result LoadedProgram LoadFault) → a ≡ upgrade_answer v → IsVerdict a
-upgrade-verdict a (Err fault) gives = inr (inr (inl (fault, gives)))
-upgrade-verdict a (Ok l) gives = inl (ok_line, gives)
+upgrade-is-answer : (a : CallAnswer) (v : Result LoadedProgram LoadFault) → a ≡ upgrade_answer v → IsCommandAnswer a
+upgrade-is-answer a (Err fault) gives = inr (inr (inl (fault, gives)))
+upgrade-is-answer a (Ok l) gives = inl (ok_line, gives)
 
-gen-verdict : (a : CallAnswer) (number : ℕ) (v : Result Code RefusedFile) → a ≡ gen_answer number v → IsVerdict a
-gen-verdict a number (Err why) gives = refused-verdict a why gives
-gen-verdict a number (Ok code) gives = inl (summary_text number Large code (generated_history number), gives)
+gen-is-answer : (a : CallAnswer) (number : ℕ) (v : Result Code RefusedFile) → a ≡ gen_answer number v → IsCommandAnswer a
+gen-is-answer a number (Err why) gives = refused-is-answer a why gives
+gen-is-answer a number (Ok code) gives = inl (summary_text number Large code (generated_history number), gives)
 
-stimulated-verdict : (p : LoadedProgram) (steps : ℕ) (s : Result (List Entry) Refusal) (r : Result (List (List Entry)) RefusedScript) (a : CallAnswer)
-    → LiveAnswer p steps s r a → IsVerdict a
-stimulated-verdict p steps (Err refusal) r a said = inr (inl (Stimuli, refusal, said))
-stimulated-verdict p steps (Ok stimuli) (Err script) a said = inr (inl (Script script.number, script.refusal, said))
-stimulated-verdict p steps (Ok stimuli) (Ok scripts) a said = inl (live_text p said.history, said.says)
+stimulated-is-answer : (p : LoadedProgram) (steps : ℕ) (s : Result (List Entry) Refusal) (r : Result (List (List Entry)) RefusedScript) (a : CallAnswer)
+    → LiveAnswer p steps s r a → IsCommandAnswer a
+stimulated-is-answer p steps (Err refusal) r a said = inr (inl (Stimuli, refusal, said))
+stimulated-is-answer p steps (Ok stimuli) (Err script) a said = inr (inl (Script script.number, script.refusal, said))
+stimulated-is-answer p steps (Ok stimuli) (Ok scripts) a said = inl (live_text p said.history, said.says)
 
-live-verdict : (v : Result LoadedProgram LoadFault) (steps : ℕ) (stimuli : List ℕ) (scripts : List (List ℕ)) (a : CallAnswer)
-    → LoadedLive v steps stimuli scripts a → IsVerdict a
-live-verdict (Err fault) steps stimuli scripts a said = inr (inr (inl (fault, said)))
-live-verdict (Ok p) steps stimuli scripts a said =
-    stimulated-verdict p steps (stimuli_of stimuli) (scripts_from p.program.names 1 scripts) a said
+live-is-answer : (v : Result LoadedProgram LoadFault) (steps : ℕ) (stimuli : List ℕ) (scripts : List (List ℕ)) (a : CallAnswer)
+    → LoadedLive v steps stimuli scripts a → IsCommandAnswer a
+live-is-answer (Err fault) steps stimuli scripts a said = inr (inr (inl (fault, said)))
+live-is-answer (Ok p) steps stimuli scripts a said =
+    stimulated-is-answer p steps (stimuli_of stimuli) (scripts_from p.program.names 1 scripts) a said
 
-pub says-verdict : (k : Command) (contents : List (List ℕ)) (a : CallAnswer) → CommandSays k contents a → IsVerdict a
-says-verdict (Go _ None german _) [] a said = absurd said
-says-verdict (Go _ None german _) (x ∷ []) a said = absurd said
-says-verdict (Go _ None german _) (source ∷ history ∷ []) a said = go-verdict german source [] history a said
-says-verdict (Go _ None german _) (x ∷ y ∷ more ∷ rest) a said = absurd said
-says-verdict (Go _ (Some _) german _) [] a said = absurd said
-says-verdict (Go _ (Some _) german _) (x ∷ []) a said = absurd said
-says-verdict (Go _ (Some _) german _) (x ∷ y ∷ []) a said = absurd said
-says-verdict (Go _ (Some _) german _) (source ∷ symbols ∷ history ∷ []) a said = go-verdict german source symbols history a said
-says-verdict (Go _ (Some _) german _) (x ∷ y ∷ z ∷ more ∷ rest) a said = absurd said
-says-verdict (Check _ None german) [] a said = absurd said
-says-verdict (Check _ None german) (source ∷ []) a said = check-verdict german source [] a said
-says-verdict (Check _ None german) (x ∷ more ∷ rest) a said = absurd said
-says-verdict (Check _ (Some _) german) [] a said = absurd said
-says-verdict (Check _ (Some _) german) (x ∷ []) a said = absurd said
-says-verdict (Check _ (Some _) german) (source ∷ symbols ∷ []) a said = check-verdict german source symbols a said
-says-verdict (Check _ (Some _) german) (x ∷ y ∷ more ∷ rest) a said = absurd said
-says-verdict (Compile _ None german _) [] a said = absurd said
-says-verdict (Compile _ None german _) (source ∷ []) a said = check-verdict german source [] a said
-says-verdict (Compile _ None german _) (x ∷ more ∷ rest) a said = absurd said
-says-verdict (Compile _ (Some _) german _) [] a said = absurd said
-says-verdict (Compile _ (Some _) german _) (x ∷ []) a said = absurd said
-says-verdict (Compile _ (Some _) german _) (source ∷ symbols ∷ []) a said = check-verdict german source symbols a said
-says-verdict (Compile _ (Some _) german _) (x ∷ y ∷ more ∷ rest) a said = absurd said
-says-verdict (Translate language _ _) [] a said = absurd said
-says-verdict (Translate language _ _) (source ∷ []) a said = translate-verdict language source a said
-says-verdict (Translate language _ _) (x ∷ more ∷ rest) a said = absurd said
-says-verdict (Run _ _) [] a said = absurd said
-says-verdict (Run _ _) (x ∷ []) a said = absurd said
-says-verdict (Run _ _) (image ∷ history ∷ []) a said = run-verdict a said.0 history said.2
-says-verdict (Run _ _) (x ∷ y ∷ more ∷ rest) a said = absurd said
-says-verdict (Gen number) [] a said = gen-verdict a number said.0 said.2
-says-verdict (Gen number) (more ∷ rest) a said = absurd said
-says-verdict (Upgrade _ _) [] a said = absurd said
-says-verdict (Upgrade _ _) (image ∷ []) a said = upgrade-verdict a said.0 said.2
-says-verdict (Upgrade _ _) (x ∷ more ∷ rest) a said = absurd said
-says-verdict (ListImage _ _ _) [] a said = absurd said
-says-verdict (ListImage _ _ _) (image ∷ []) a said = list-verdict said.0 a said.2
-says-verdict (ListImage _ _ _) (x ∷ more ∷ rest) a said = absurd said
-says-verdict (Bound _ _) [] a said = absurd said
-says-verdict (Bound _ _) (image ∷ []) a said = bound-verdict said.0 a said.2
-says-verdict (Bound _ _) (x ∷ more ∷ rest) a said = absurd said
-says-verdict (Recheck _ _) [] a said = absurd said
-says-verdict (Recheck _ _) (x ∷ []) a said = absurd said
-says-verdict (Recheck _ _) (image ∷ certificate ∷ []) a said = recheck-verdict said.0 certificate a said.2
-says-verdict (Recheck _ _) (x ∷ y ∷ more ∷ rest) a said = absurd said
-says-verdict (Live _ _ _ _) [] a said = absurd said
-says-verdict (Live _ _ _ _) (x ∷ []) a said = absurd said
-says-verdict (Live _ _ _ steps) (image ∷ stimuli ∷ scripts) a said = live-verdict said.0 steps stimuli scripts a said.2
-says-verdict (Watch _ _ _ _ _) [] a said = absurd said
-says-verdict (Watch _ _ _ _ _) (x ∷ []) a said = absurd said
-says-verdict (Watch _ _ _ _ _) (x ∷ y ∷ []) a said = absurd said
-says-verdict (Watch _ _ _ _ steps) (image ∷ stimuli ∷ vars ∷ scripts) a said = watch-verdict steps image stimuli vars scripts a said
+pub says-is-answer : (k : Command) (contents : List (List ℕ)) (a : CallAnswer) → CommandSays k contents a → IsCommandAnswer a
+says-is-answer (Go _ None german _) [] a said = absurd said
+says-is-answer (Go _ None german _) (x ∷ []) a said = absurd said
+says-is-answer (Go _ None german _) (source ∷ history ∷ []) a said = go-is-answer german source [] history a said
+says-is-answer (Go _ None german _) (x ∷ y ∷ more ∷ rest) a said = absurd said
+says-is-answer (Go _ (Some _) german _) [] a said = absurd said
+says-is-answer (Go _ (Some _) german _) (x ∷ []) a said = absurd said
+says-is-answer (Go _ (Some _) german _) (x ∷ y ∷ []) a said = absurd said
+says-is-answer (Go _ (Some _) german _) (source ∷ symbols ∷ history ∷ []) a said = go-is-answer german source symbols history a said
+says-is-answer (Go _ (Some _) german _) (x ∷ y ∷ z ∷ more ∷ rest) a said = absurd said
+says-is-answer (Check _ None german) [] a said = absurd said
+says-is-answer (Check _ None german) (source ∷ []) a said = check-is-answer german source [] a said
+says-is-answer (Check _ None german) (x ∷ more ∷ rest) a said = absurd said
+says-is-answer (Check _ (Some _) german) [] a said = absurd said
+says-is-answer (Check _ (Some _) german) (x ∷ []) a said = absurd said
+says-is-answer (Check _ (Some _) german) (source ∷ symbols ∷ []) a said = check-is-answer german source symbols a said
+says-is-answer (Check _ (Some _) german) (x ∷ y ∷ more ∷ rest) a said = absurd said
+says-is-answer (Compile _ None german _) [] a said = absurd said
+says-is-answer (Compile _ None german _) (source ∷ []) a said = check-is-answer german source [] a said
+says-is-answer (Compile _ None german _) (x ∷ more ∷ rest) a said = absurd said
+says-is-answer (Compile _ (Some _) german _) [] a said = absurd said
+says-is-answer (Compile _ (Some _) german _) (x ∷ []) a said = absurd said
+says-is-answer (Compile _ (Some _) german _) (source ∷ symbols ∷ []) a said = check-is-answer german source symbols a said
+says-is-answer (Compile _ (Some _) german _) (x ∷ y ∷ more ∷ rest) a said = absurd said
+says-is-answer (Translate language _ _) [] a said = absurd said
+says-is-answer (Translate language _ _) (source ∷ []) a said = translate-is-answer language source a said
+says-is-answer (Translate language _ _) (x ∷ more ∷ rest) a said = absurd said
+says-is-answer (Run _ _) [] a said = absurd said
+says-is-answer (Run _ _) (x ∷ []) a said = absurd said
+says-is-answer (Run _ _) (image ∷ history ∷ []) a said = run-is-answer a said.0 history said.2
+says-is-answer (Run _ _) (x ∷ y ∷ more ∷ rest) a said = absurd said
+says-is-answer (Gen number) [] a said = gen-is-answer a number said.0 said.2
+says-is-answer (Gen number) (more ∷ rest) a said = absurd said
+says-is-answer (Upgrade _ _) [] a said = absurd said
+says-is-answer (Upgrade _ _) (image ∷ []) a said = upgrade-is-answer a said.0 said.2
+says-is-answer (Upgrade _ _) (x ∷ more ∷ rest) a said = absurd said
+says-is-answer (ListImage _ _ _) [] a said = absurd said
+says-is-answer (ListImage _ _ _) (image ∷ []) a said = list-is-answer said.0 a said.2
+says-is-answer (ListImage _ _ _) (x ∷ more ∷ rest) a said = absurd said
+says-is-answer (Bound _ _) [] a said = absurd said
+says-is-answer (Bound _ _) (image ∷ []) a said = bound-is-answer said.0 a said.2
+says-is-answer (Bound _ _) (x ∷ more ∷ rest) a said = absurd said
+says-is-answer (Recheck _ _) [] a said = absurd said
+says-is-answer (Recheck _ _) (x ∷ []) a said = absurd said
+says-is-answer (Recheck _ _) (image ∷ certificate ∷ []) a said = recheck-is-answer said.0 certificate a said.2
+says-is-answer (Recheck _ _) (x ∷ y ∷ more ∷ rest) a said = absurd said
+says-is-answer (Live _ _ _ _) [] a said = absurd said
+says-is-answer (Live _ _ _ _) (x ∷ []) a said = absurd said
+says-is-answer (Live _ _ _ steps) (image ∷ stimuli ∷ scripts) a said = live-is-answer said.0 steps stimuli scripts a said.2
+says-is-answer (Watch _ _ _ _ _) [] a said = absurd said
+says-is-answer (Watch _ _ _ _ _) (x ∷ []) a said = absurd said
+says-is-answer (Watch _ _ _ _ _) (x ∷ y ∷ []) a said = absurd said
+says-is-answer (Watch _ _ _ _ steps) (image ∷ stimuli ∷ vars ∷ scripts) a said = watch-is-answer steps image stimuli vars scripts a said
 
 -- ---- of what was read
 
@@ -375,15 +375,15 @@ compile-writes c src (Some name) german img source (Some bytes) image hold keeps
 
 -- what refuses it is what `check` and `go` say
 pub refused-checks : (german : Bool) (source symbols : List ℕ) (a : CallAnswer) → RefusedProgram german source symbols a → CheckSays german source symbols a
-refused-checks german source symbols a told =
+refused-checks german source symbols a holds =
     english-weaker german source symbols (RefusedText (language_of german) symbols) (ChecksAs (language_of german) symbols)
-    (λ text b refused. (Err refused.0, refused.1, refused.2)) a told
+    (λ text b refused. (Err refused.0, refused.1, refused.2)) a holds
 
 pub refused-goes : (german : Bool) (source symbols history : List ℕ) (a : CallAnswer) → RefusedProgram german source symbols a
     → GoSays german source symbols history a
-refused-goes german source symbols history a told =
+refused-goes german source symbols history a holds =
     english-weaker german source symbols (RefusedText (language_of german) symbols)
-    (λ text. SourceSays (language_of german) Large text symbols history) (λ text b refused. (Err refused.0, refused.1, refused.2)) a told
+    (λ text. SourceSays (language_of german) Large text symbols history) (λ text b refused. (Err refused.0, refused.1, refused.2)) a holds
 
 pub text-refuses : (V : Type 0) (language : Language) (symbols text : List ℕ) (fault : CompileFault) → RefusesInLanguage language text symbols fault
     → SaysRefusal {V = V} (RefusedText language symbols text) (Err (failure_of_compiling fault))
@@ -417,25 +417,25 @@ symbols-refused V source symbols compiling.NoMemory r fails has =
 pub translation-refused : (V W : Type 0) (source source' symbols : List ℕ) (list : List Symbol) (failure : Failure) (r : Result V Failure)
     → r ≡ Err failure → source' ≡ source → HasSymbolsIn German symbols (Ok list)
     → SaysRefusal {V = W} (NotTranslated English source') (Err failure) → SaysRefusal (NotInEnglish source symbols) r
-translation-refused V W source source' symbols list failure r fails is has told =
+translation-refused V W source source' symbols list failure r fails is has refused =
     refused-more W V (NotTranslated English source') (NotInEnglish source symbols) failure r fails
     (λ (a : CallAnswer) no. german-so (symbols_in German symbols) list source (λ text b. ⊥) a has
     (subst (λ (s : List ℕ). NotTranslated English s a) is no))
-    told
+    refused
 
 pub english-refused : (V W : Type 0) (source symbols : List ℕ) (failure : Failure) (r : Result V Failure) → r ≡ Err failure
     → SaysRefusal {V = W} (NotInEnglish source symbols) (Err failure) → SaysRefusal (RefusedProgram true source symbols) r
-english-refused V W source symbols failure r fails told =
+english-refused V W source symbols failure r fails refused =
     refused-more W V (NotInEnglish source symbols) (RefusedProgram true source symbols) failure r fails
     (λ (a : CallAnswer) no. english-weaker true source symbols (λ text b. ⊥) (RefusedText German symbols) (λ text b none. absurd none) a no)
-    told
+    refused
 
 pub text-refused : (V : Type 0) (source symbols text : List ℕ) (list : List Symbol) (fault : CompileFault) (r : Result V Failure)
     → r ≡ Err (failure_of_compiling fault) → HasSymbolsIn German symbols (Ok list) → IsEnglish true source text
     → RefusesForSymbols text list fault → SaysRefusal (RefusedProgram true source symbols) r
 text-refused V source symbols text list fault r fails has is refuses =
     refused-more V V (RefusedText German symbols text) (RefusedProgram true source symbols) (failure_of_compiling fault) r fails
-    (λ (a : CallAnswer) told. in-english true source symbols text list (RefusedText German symbols) a has is told)
+    (λ (a : CallAnswer) holds. in-english true source symbols text list (RefusedText German symbols) a has is holds)
     (text-refuses V German symbols text fault (refuses German symbols has))
 
 -- ---- what a source with a program says

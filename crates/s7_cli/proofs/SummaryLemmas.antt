@@ -72,13 +72,13 @@ values_in (Values values) = values
 values_in _ = []
 
 -- a read of eight bytes of bit memory is answered by them
-pub eight-answered : (code : Code) (s : State) → IsMemory s.world.memory → (first : ℕ) → first ≤ 248 → (vars : List Var)
+pub eight-answered : (code : Code) (s : State) → IsMemory s.store.memory → (first : ℕ) → first ≤ 248 → (vars : List Var)
     → vars ≡ map memory_byte (range_with_len first 8)
-    → request_reply code (ReadVars vars) s ≡ Values (take 8 (drop first s.world.memory.bit_memory))
+    → request_reply code (ReadVars vars) s ≡ Values (take 8 (drop first s.store.memory.bit_memory))
 unfolding request_reply
 eight-answered code s is first low vars are =
-    ap (λ (read : List Var). read_reply (values_from s.world.memory 1 read)) are
-    ∙ ap read_reply (eight-read s.world.memory is first low)
+    ap (λ (read : List Var). read_reply (values_from s.store.memory 1 read)) are
+    ∙ ap read_reply (eight-read s.store.memory is first low)
 
 -- ---- sums
 
@@ -96,4 +96,4 @@ pub summary-kept : (number entries : ℕ) (profile : Profile) (c d : Code) → B
 unfolding summary_of
 summary-kept number entries profile c d kept events =
     ap (λ (mode : Mode). summary_of number entries (record (replay profile d events) { mode = mode })) (kept.mode events)
-    ∙ ap (λ (world : GlobalStore). summary_of number entries (record (replay profile c events) { world = world })) (kept.world events)
+    ∙ ap (λ (store : GlobalStore). summary_of number entries (record (replay profile c events) { store = store })) (kept.store events)

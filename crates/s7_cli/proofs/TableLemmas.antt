@@ -21,9 +21,9 @@ use Rattle.s7_cli.specs.StatusTable.{IsDecided, IsCutOff, IsStatus, StatusTable}
 use Rattle.s7_cli.proofs.BoundLemmas.{stacks-suffice}
 use Rattle.s7_cli.proofs.ComesLemmas.{same-files}
 use Rattle.s7_cli.proofs.ListLemmas.{never-compiled}
-use Rattle.s7_cli.proofs.ReadingLemmas.{reads-told, reads-kinds, allows-alike, fails-rose}
-use Rattle.s7_cli.proofs.SaysLemmas.{Alike, OneEach, same-alike, says-alike, says-verdict}
-use Rattle.s7_cli.proofs.Verdicts.{IsVerdict}
+use Rattle.s7_cli.proofs.ReadingLemmas.{reads-known, reads-kinds, allows-alike, fails-rose}
+use Rattle.s7_cli.proofs.SaysLemmas.{Alike, OneEach, same-alike, says-alike, says-is-answer}
+use Rattle.s7_cli.proofs.CommandAnswers.{IsCommandAnswer}
 
 -- ---- the rows that go by the answer alone
 
@@ -137,31 +137,31 @@ file-status Vars refusal = refused-status 4 (omega arith) (omega arith)
 file-status (Script number) refusal = refused-status 4 (omega arith) (omega arith)
 file-status Certificate refusal = refused-status 4 (omega arith) (omega arith)
 
-rows-verdict : (c : Option Command) (d : Disk) (s : SinkMoments) (k : Command) (a : CallAnswer) → c ≡ Some k → IsVerdict a
+rows-answer : (c : Option Command) (d : Disk) (s : SinkMoments) (k : Command) (a : CallAnswer) → c ≡ Some k → IsCommandAnswer a
     → TookBytes s.before s.after a.text → Rows c d s (exit_status a.outcome)
-rows-verdict c d s k a is (inl (text, gives)) took =
+rows-answer c d s k a is (inl (text, gives)) took =
     subst (λ (b : CallAnswer). Rows c d s (exit_status b.outcome)) (sym gives) (rows-done c d s k is)
-rows-verdict c d s k a is (inr (inl (file, refusal, gives))) took =
+rows-answer c d s k a is (inr (inl (file, refusal, gives))) took =
     subst (λ (b : CallAnswer). Rows c d s (exit_status b.outcome)) (sym gives)
     (rows-file c d s k (Refused file refusal) (refused_file_answer file refusal).text (exit_status (refused_file_answer file refusal).outcome) is refl refl
     (subst (λ (b : CallAnswer). TookBytes s.before s.after b.text) gives took) (file-status file refusal))
-rows-verdict c d s k a is (inr (inr (inl (fault, gives)))) took =
+rows-answer c d s k a is (inr (inr (inl (fault, gives)))) took =
     subst (λ (b : CallAnswer). Rows c d s (exit_status b.outcome)) (sym gives)
     (rows-file c d s k (ImageRefused fault) (refused_image_answer fault).text 3 is refl refl
     (subst (λ (b : CallAnswer). TookBytes s.before s.after b.text) gives took) (refused-status 3 (omega arith) (omega arith)))
-rows-verdict c d s k a is (inr (inr (inr (inl gives)))) took =
+rows-answer c d s k a is (inr (inr (inr (inl gives)))) took =
     subst (λ (b : CallAnswer). Rows c d s (exit_status b.outcome)) (sym gives)
     (rows-file c d s k SaysNo says_no_answer.text 10 is refl refl
     (subst (λ (b : CallAnswer). TookBytes s.before s.after b.text) gives took) certificate-status)
-rows-verdict c d s k a is (inr (inr (inr (inr (inl (chain, gives)))))) took =
+rows-answer c d s k a is (inr (inr (inr (inr (inl (chain, gives)))))) took =
     subst (λ (b : CallAnswer). Rows c d s (exit_status b.outcome)) (sym gives)
     (rows-file c d s k TooDeep (too_deep_answer chain).text 10 is refl (chain, refl)
     (subst (λ (b : CallAnswer). TookBytes s.before s.after b.text) gives took) certificate-status)
-rows-verdict c d s k a is (inr (inr (inr (inr (inr (inl (file, gives))))))) took =
+rows-answer c d s k a is (inr (inr (inr (inr (inr (inl (file, gives))))))) took =
     subst (λ (b : CallAnswer). Rows c d s (exit_status b.outcome)) (sym gives)
     (rows-file c d s k (TooLong file) (too_long_answer file).text 8 is refl refl
     (subst (λ (b : CallAnswer). TookBytes s.before s.after b.text) gives took) too-long-status)
-rows-verdict c d s k a is (inr (inr (inr (inr (inr (inr gives)))))) took =
+rows-answer c d s k a is (inr (inr (inr (inr (inr (inr gives)))))) took =
     subst (λ (b : CallAnswer). Rows c d s (exit_status b.outcome)) (sym gives)
     (rows-file c d s k NoListing no_listing_answer.text 9 is refl refl
     (subst (λ (b : CallAnswer). TookBytes s.before s.after b.text) gives took) no-listing-status)
@@ -177,7 +177,7 @@ rows-command k d s a reads took =
           subst (λ (b : CallAnswer). Rows (Some k) d s (exit_status b.outcome)) (sym gives)
           (rows-file (Some k) d s k (TooLong i.file) (too_long_answer i.file).text 8 refl refl refl
           (subst (λ (b : CallAnswer). TookBytes s.before s.after b.text) gives took) too-long-status)
-      | inr (inr (contents, says)) ↦ rows-verdict (Some k) d s k a refl (says-verdict k contents a says) took
+      | inr (inr (contents, says)) ↦ rows-answer (Some k) d s k a refl (says-is-answer k contents a says) took
     ]
 
 rows : (c : Option Command) (d : Disk) (s : SinkMoments) (a : CallAnswer) → IsAnswerOfCall c d a → TookBytes s.before s.after a.text
@@ -194,8 +194,8 @@ Decided k d s code = ((code ≡ 5) × FailsOnTheWay d (inputs_of k)) ⊎ IsCutOf
 
 decided-command : OneEach → (k : Command) (d : Disk) (s : SinkMoments) (a : CallAnswer) → d.before.contents.told ≡ true
     → ReadsFilesInTurn d (inputs_of k) (CommandSays k) a → TookBytes s.before s.after a.text → Decided k d s (exit_status a.outcome)
-decided-command one k d s a told reads took =
-    elim (reads-told d (inputs_of k) (CommandSays k) a told reads) [
+decided-command one k d s a known reads took =
+    elim (reads-known d (inputs_of k) (CommandSays k) a known reads) [
       | inl fails ↦ inl (ap (λ (b : CallAnswer). exit_status b.outcome) fails.0, fails.1)
       | inr allowed ↦ inr (inr (record {
         answer = a;
@@ -208,8 +208,8 @@ decided-command one k d s a told reads took =
 
 decided : OneEach → (c : Option Command) (d : Disk) (s : SinkMoments) (a : CallAnswer) → IsAnswerOfCall c d a → TookBytes s.before s.after a.text
     → (k : Command) → c ≡ Some k → d.before.contents.told ≡ true → Decided k d s (exit_status a.outcome)
-decided one c d s a answers took k is told =
-    decided-command one k d s a told (subst (λ (o : Option Command). IsAnswerOfCall o d a) is answers) took
+decided one c d s a answers took k is known =
+    decided-command one k d s a known (subst (λ (o : Option Command). IsAnswerOfCall o d a) is answers) took
 
 -- no count rose: want of memory alone is free
 complete : (c : Option Command) (d : Disk) (s : SinkMoments) (code : ℕ)
@@ -217,8 +217,8 @@ complete : (c : Option Command) (d : Disk) (s : SinkMoments) (code : ℕ)
     → (code ≡ 6 → CountRose s.before.faults s.after.faults ⊎ OutputRose c d)
     → (k : Command) → c ≡ Some k → d.before.contents.told ≡ true
     → (InputRose c d → ⊥) → (OutputRose c d → ⊥) → (CountRose s.before.faults s.after.faults → ⊥) → (code ≡ 7) ⊎ IsDecided k d s code
-complete c d s code decides six k is told no_input no_output no_fault =
-    elim (decides k is told) [
+complete c d s code decides six k is known no_input no_output no_fault =
+    elim (decides k is known) [
       | inl fails ↦ absurd (no_input (subst (λ (o : Option Command). InputRose o d) (sym is) (fails-rose d (inputs_of k) fails.1)))
       | inr (inl (inl e)) ↦ elim (six e) [ inl rose ↦ absurd (no_fault rose) | inr rose ↦ absurd (no_output rose) ]
       | inr (inl (inr e)) ↦ inl e
@@ -298,8 +298,8 @@ table-cut : (c : Option Command) (d : Disk) (s : SinkMoments) (code : ℕ) → I
     → (s.before.faults < s.after.faults → code ≡ 6) → StatusTable c d s code
 table-cut c d s code off cut six writes faults = record {
   statuses = elim off [ inl e ↦ omega (arith, e) | inr e ↦ omega (arith, e) ];
-  decided = λ k is told. inr (inl off);
-  complete = complete c d s code (λ k is told. inr (inl off)) six;
+  decided = λ k is known. inr (inl off);
+  complete = complete c d s code (λ k is known. inr (inl off)) six;
   words_refused_only = λ e. absurd (elim off [ inl f ↦ omega (arith, e, f) | inr f ↦ omega (arith, e, f) ]);
   words_refused = λ none. inr off;
   takes_line = λ isnt whole. absurd (whole off);

@@ -11,7 +11,7 @@ use Rattle.stl_symbols.specs.declared.languages.Language.TheVariants.{English, G
 use Rattle.s7_cli.specs.declared.failures.File.TheVariants.{Source, Translation, Symbols}
 use Rattle.s7_cli.specs.Answer.{CallAnswer, too_long_answer}
 use Rattle.s7_cli.specs.Translating.{IfFits, SaysInEnglish, IsEnglish, NotTranslated, SaysWithSymbols, SaysByTranslation, SaysTranslated, TranslatesSource, language_of}
-use Rattle.s7_cli.proofs.Verdicts.{IsVerdict}
+use Rattle.s7_cli.proofs.CommandAnswers.{IsCommandAnswer}
 
 -- what is said of a text
 abbrev pub Says : Type 1
@@ -66,61 +66,61 @@ english-one each true source symbols says one a b p q = symbols-one each (symbol
 
 -- ---- which answers there are
 
-abbrev pub SaysVerdict : Says → Type 0
-SaysVerdict says = (text : List ℕ) (a : CallAnswer) → says text a → IsVerdict a
+abbrev pub SaysCommandAnswer : Says → Type 0
+SaysCommandAnswer says = (text : List ℕ) (a : CallAnswer) → says text a → IsCommandAnswer a
 
-fits-verdict : (fits : Bool) (says : Says) → SaysVerdict says → (text : List ℕ) (a : CallAnswer) → IfFits fits (says text a) a → IsVerdict a
-fits-verdict true says each text a said = each text a said
-fits-verdict false says each text a said = inr (inr (inr (inr (inr (inl (Translation, said))))))
+fits-is-answer : (fits : Bool) (says : Says) → SaysCommandAnswer says → (text : List ℕ) (a : CallAnswer) → IfFits fits (says text a) a → IsCommandAnswer a
+fits-is-answer true says each text a said = each text a said
+fits-is-answer false says each text a said = inr (inr (inr (inr (inr (inl (Translation, said))))))
 
-translation-verdict : (says : Says) → SaysVerdict says → (v : Result (List ℕ) Refusal) (a : CallAnswer) → SaysByTranslation says v a → IsVerdict a
-translation-verdict says each (Err refusal) a said = inr (inl (Source, refusal, said))
-translation-verdict says each (Ok text) a said = fits-verdict (nat_le (length text) 1048576) says each text a said
+translation-is-answer : (says : Says) → SaysCommandAnswer says → (v : Result (List ℕ) Refusal) (a : CallAnswer) → SaysByTranslation says v a → IsCommandAnswer a
+translation-is-answer says each (Err refusal) a said = inr (inl (Source, refusal, said))
+translation-is-answer says each (Ok text) a said = fits-is-answer (nat_le (length text) 1048576) says each text a said
 
-pub translated-verdict : (language : Language) (source : List ℕ) (says : Says) → SaysVerdict says → (a : CallAnswer)
-    → SaysTranslated language source says a → IsVerdict a
-translated-verdict language source says each a said = translation-verdict says each said.0 a said.2
+pub translated-is-answer : (language : Language) (source : List ℕ) (says : Says) → SaysCommandAnswer says → (a : CallAnswer)
+    → SaysTranslated language source says a → IsCommandAnswer a
+translated-is-answer language source says each a said = translation-is-answer says each said.0 a said.2
 
-symbols-verdict : (read : Result (List Symbol) Refusal) (source : List ℕ) (says : Says) → SaysVerdict says → (a : CallAnswer)
-    → SaysWithSymbols read source says a → IsVerdict a
-symbols-verdict (Err refusal) source says each a said = inr (inl (Symbols, refusal, said))
-symbols-verdict (Ok list) source says each a said = translated-verdict English source says each a said
+symbols-is-answer : (read : Result (List Symbol) Refusal) (source : List ℕ) (says : Says) → SaysCommandAnswer says → (a : CallAnswer)
+    → SaysWithSymbols read source says a → IsCommandAnswer a
+symbols-is-answer (Err refusal) source says each a said = inr (inl (Symbols, refusal, said))
+symbols-is-answer (Ok list) source says each a said = translated-is-answer English source says each a said
 
-pub english-verdict : (german : Bool) (source symbols : List ℕ) (says : Says) → SaysVerdict says → (a : CallAnswer)
-    → SaysInEnglish german source symbols says a → IsVerdict a
-english-verdict false source symbols says each a said = each source a said
-english-verdict true source symbols says each a said = symbols-verdict (symbols_in German symbols) source says each a said
+pub english-is-answer : (german : Bool) (source symbols : List ℕ) (says : Says) → SaysCommandAnswer says → (a : CallAnswer)
+    → SaysInEnglish german source symbols says a → IsCommandAnswer a
+english-is-answer false source symbols says each a said = each source a said
+english-is-answer true source symbols says each a said = symbols-is-answer (symbols_in German symbols) source says each a said
 
 -- ---- more is said
 
 fits-weaker : (fits : Bool) (said says : Type 0) (a : CallAnswer) → (said → says) → IfFits fits said a → IfFits fits says a
-fits-weaker true said says a each told = each told
-fits-weaker false said says a each told = told
+fits-weaker true said says a each holds = each holds
+fits-weaker false said says a each holds = holds
 
 translation-weaker : (said says : Says) → ((text : List ℕ) (a : CallAnswer) → said text a → says text a) → (v : Result (List ℕ) Refusal)
     (a : CallAnswer) → SaysByTranslation said v a → SaysByTranslation says v a
-translation-weaker said says each (Err refusal) a told = told
-translation-weaker said says each (Ok text) a told = fits-weaker (nat_le (length text) 1048576) (said text a) (says text a) a (each text a) told
+translation-weaker said says each (Err refusal) a holds = holds
+translation-weaker said says each (Ok text) a holds = fits-weaker (nat_le (length text) 1048576) (said text a) (says text a) a (each text a) holds
 
 pub translated-weaker : (language : Language) (source : List ℕ) (said says : Says) → ((text : List ℕ) (a : CallAnswer) → said text a → says text a)
     → (a : CallAnswer) → SaysTranslated language source said a → SaysTranslated language source says a
-translated-weaker language source said says each a told = (told.0, told.1, translation-weaker said says each told.0 a told.2)
+translated-weaker language source said says each a holds = (holds.0, holds.1, translation-weaker said says each holds.0 a holds.2)
 
 symbols-weaker : (read : Result (List Symbol) Refusal) (source : List ℕ) (said says : Says)
     → ((text : List ℕ) (a : CallAnswer) → said text a → says text a) → (a : CallAnswer) → SaysWithSymbols read source said a → SaysWithSymbols read source says a
-symbols-weaker (Err refusal) source said says each a told = told
-symbols-weaker (Ok list) source said says each a told = translated-weaker English source said says each a told
+symbols-weaker (Err refusal) source said says each a holds = holds
+symbols-weaker (Ok list) source said says each a holds = translated-weaker English source said says each a holds
 
 pub english-weaker : (german : Bool) (source symbols : List ℕ) (said says : Says) → ((text : List ℕ) (a : CallAnswer) → said text a → says text a)
     → (a : CallAnswer) → SaysInEnglish german source symbols said a → SaysInEnglish german source symbols says a
-english-weaker false source symbols said says each a told = each source a told
-english-weaker true source symbols said says each a told = symbols-weaker (symbols_in German symbols) source said says each a told
+english-weaker false source symbols said says each a holds = each source a holds
+english-weaker true source symbols said says each a holds = symbols-weaker (symbols_in German symbols) source said says each a holds
 
 -- ---- the English text is known
 
 fitting : (fits : Bool) (said : Type 0) (a : CallAnswer) → fits ≡ true → said → IfFits fits said a
-fitting true said a is told = told
-fitting false said a is told = absurd (true≢false (sym is))
+fitting true said a is holds = holds
+fitting false said a is holds = absurd (true≢false (sym is))
 
 too-long : (fits : Bool) (said : Type 0) (a : CallAnswer) → fits ≡ false → a ≡ too_long_answer Translation → IfFits fits said a
 too-long true said a is gives = absurd (true≢false is)

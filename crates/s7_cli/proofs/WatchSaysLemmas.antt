@@ -12,7 +12,7 @@ use Rattle.s7_cli.specs.Answer.{CallAnswer}
 use Rattle.s7_cli.specs.LiveSays.{RefusedScript, scripts_from}
 use Rattle.s7_cli.specs.WatchSays.{LoadedWatch, WatchAnswer, WatchSays, watch_text}
 use Rattle.s7_cli.proofs.LoadLemmas.{loads-one}
-use Rattle.s7_cli.proofs.Verdicts.{IsVerdict}
+use Rattle.s7_cli.proofs.CommandAnswers.{IsCommandAnswer}
 
 same-outcome : (a b c : CallAnswer) → a ≡ c → b ≡ c → a.outcome ≡ b.outcome
 same-outcome a b c m n = ap (λ (x : CallAnswer). x.outcome) (m ∙ sym n)
@@ -38,18 +38,18 @@ watch-one steps image stimuli vars scripts a b p q =
 
 -- ---- it is done, or refuses a file or the image
 
-checked-verdict : (p : LoadedProgram) (steps : ℕ) (s : Result (List Entry) Refusal) (v : Result (List Var) Refusal) (r : Result (List (List Entry)) RefusedScript) (a : CallAnswer)
-    → WatchAnswer p steps s v r a → IsVerdict a
-checked-verdict p steps (Err refusal) v r a said = inr (inl (Stimuli, refusal, said))
-checked-verdict p steps (Ok stimuli) (Err refusal) r a said = inr (inl (Vars, refusal, said))
-checked-verdict p steps (Ok stimuli) (Ok vars) (Err script) a said = inr (inl (Script script.number, script.refusal, said))
-checked-verdict p steps (Ok stimuli) (Ok vars) (Ok scripts) a said = inl (watch_text p said.history vars said.seen, said.says)
+watched-is-answer : (p : LoadedProgram) (steps : ℕ) (s : Result (List Entry) Refusal) (v : Result (List Var) Refusal) (r : Result (List (List Entry)) RefusedScript) (a : CallAnswer)
+    → WatchAnswer p steps s v r a → IsCommandAnswer a
+watched-is-answer p steps (Err refusal) v r a said = inr (inl (Stimuli, refusal, said))
+watched-is-answer p steps (Ok stimuli) (Err refusal) r a said = inr (inl (Vars, refusal, said))
+watched-is-answer p steps (Ok stimuli) (Ok vars) (Err script) a said = inr (inl (Script script.number, script.refusal, said))
+watched-is-answer p steps (Ok stimuli) (Ok vars) (Ok scripts) a said = inl (watch_text p said.history vars said.seen, said.says)
 
-loaded-verdict : (l : Result LoadedProgram LoadFault) (steps : ℕ) (stimuli vars : List ℕ) (scripts : List (List ℕ)) (a : CallAnswer)
-    → LoadedWatch l steps stimuli vars scripts a → IsVerdict a
-loaded-verdict (Err fault) steps stimuli vars scripts a said = inr (inr (inl (fault, said)))
-loaded-verdict (Ok p) steps stimuli vars scripts a said =
-    checked-verdict p steps (stimuli_of stimuli) (watched_vars_of p.program.names vars) (scripts_from p.program.names 1 scripts) a said
+loaded-is-answer : (l : Result LoadedProgram LoadFault) (steps : ℕ) (stimuli vars : List ℕ) (scripts : List (List ℕ)) (a : CallAnswer)
+    → LoadedWatch l steps stimuli vars scripts a → IsCommandAnswer a
+loaded-is-answer (Err fault) steps stimuli vars scripts a said = inr (inr (inl (fault, said)))
+loaded-is-answer (Ok p) steps stimuli vars scripts a said =
+    watched-is-answer p steps (stimuli_of stimuli) (watched_vars_of p.program.names vars) (scripts_from p.program.names 1 scripts) a said
 
-pub watch-verdict : (steps : ℕ) (image stimuli vars : List ℕ) (scripts : List (List ℕ)) (a : CallAnswer) → WatchSays steps image stimuli vars scripts a → IsVerdict a
-watch-verdict steps image stimuli vars scripts a said = loaded-verdict said.0 steps stimuli vars scripts a said.2
+pub watch-is-answer : (steps : ℕ) (image stimuli vars : List ℕ) (scripts : List (List ℕ)) (a : CallAnswer) → WatchSays steps image stimuli vars scripts a → IsCommandAnswer a
+watch-is-answer steps image stimuli vars scripts a said = loaded-is-answer said.0 steps stimuli vars scripts a said.2

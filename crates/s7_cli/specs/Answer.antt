@@ -19,40 +19,42 @@ pub record CallAnswer : Type 0 where
   pub outcome : CallOutcome
   pub text : List ℕ
 
--- done, with a text as the result
+-- the answer of a command that is done, with this text as its result
 abbrev pub done_answer : List ℕ → CallAnswer
 done_answer text = record { outcome = Ok tt; text = text }
 
--- a file breaks a rule
+-- the answer where a file breaks a rule
 abbrev pub refused_file_answer : File → Refusal → CallAnswer
-refused_file_answer file refusal = record { outcome = Err (Refused file refusal); text = refusal_text file refusal }
+refused_file_answer file refusal =
+    record { outcome = Err (Refused file refusal); text = refusal_text file refusal }
 
--- an image isn't that of a program that verifies
+-- the answer where an image isn't that of a program that verifies
 abbrev pub refused_image_answer : LoadFault → CallAnswer
 refused_image_answer fault =
     record { outcome = Err (ImageRefused fault); text = image_refused_text fault }
 
--- a file holds a byte past its limit, or a translation or a text of a listing would
+-- the answer where a file holds a byte past its limit, or a translation or a text of a listing
+-- would
 abbrev pub too_long_answer : File → CallAnswer
 too_long_answer file = record { outcome = Err (TooLong file); text = too_long_text file }
 
--- a file can't be read
+-- the answer where a file can't be read
 abbrev pub read_fault_answer : CallAnswer
 read_fault_answer = record { outcome = Err ReadFault; text = read_fault_text }
 
--- the listing of an image doesn't compile to its program
+-- the answer where the listing of an image doesn't compile to its program
 abbrev pub no_listing_answer : CallAnswer
 no_listing_answer = record { outcome = Err NoListing; text = no_listing_text }
 
--- a certificate doesn't hold
+-- the answer where a certificate doesn't hold
 abbrev pub says_no_answer : CallAnswer
 says_no_answer = record { outcome = Err SaysNo; text = says_no_text }
 
--- a chain of calls is too deep, and this is such a chain
+-- the answer where this chain of calls is too deep
 abbrev pub too_deep_answer : List BlockId → CallAnswer
 too_deep_answer chain = record { outcome = Err TooDeep; text = chain_text chain }
 
--- the words aren't those of a command
+-- the answer where the words of a call aren't those of a command
 abbrev pub words_refused_answer : CallAnswer
 words_refused_answer = record { outcome = Err WordsRefused; text = words_refused_text }
 

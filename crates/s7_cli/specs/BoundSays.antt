@@ -22,13 +22,14 @@ use Rattle.s7_cli.specs.Reading.{Disk}
 abbrev pub HasLeastCertificate : LoadedProgram → Type 0
 HasLeastCertificate l = (list : List Bound) × IsLeastCertificate l.profile l.program list
 
--- what `bound` answers by how its image loads: it is refused, the certificate is written, or a
--- chain of calls is told that is too deep
+-- what `bound` answers by how its image loads: the image is refused, the least certificate is
+-- written, or the line of a chain of calls that is too deep
 abbrev pub BoundAnswer : Result LoadedProgram LoadFault → CallAnswer → Type 0
 BoundAnswer (Err fault) answer = answer ≡ refused_image_answer fault
 BoundAnswer (Ok l) answer =
     (HasLeastCertificate l × (answer ≡ done_answer ok_line))
-    ⊎ ((chain : List BlockId) × IsDeepChain l.profile l.program chain × (answer ≡ too_deep_answer chain))
+    ⊎ ((chain : List BlockId) × IsDeepChain l.profile l.program chain
+    × (answer ≡ too_deep_answer chain))
 
 -- what `bound` answers, over the contents of its file
 abbrev pub BoundSays : (image : List ℕ) → CallAnswer → Type 0
@@ -57,7 +58,8 @@ CheckedAnswer l (Ok list) answer = HeldAnswer l list answer
 
 -- what `recheck` answers by how its image loads; the blocks of the certificate are those of the
 -- image
-abbrev pub RecheckAnswer : Result LoadedProgram LoadFault → (certificate : List ℕ) → CallAnswer → Type 0
+abbrev pub RecheckAnswer :
+    Result LoadedProgram LoadFault → (certificate : List ℕ) → CallAnswer → Type 0
 RecheckAnswer (Err fault) certificate answer = answer ≡ refused_image_answer fault
 RecheckAnswer (Ok l) certificate answer =
     CheckedAnswer l (certificate_of l.program certificate) answer

@@ -4,14 +4,15 @@ use Rattle.stl_symbols.specs.declared.languages.Language.{Language}
 use Rattle.s7_cli.specs.declared.failures.File.{File}
 use Rattle.s7_cli.specs.declared.failures.File.TheVariants.{Source, Translation, Symbols, Image, Listing, History, Stimuli, Vars, Script, Certificate}
 
--- `go SRC HIST` runs a source along a history, `check SRC` checks a source, `compile SRC IMG` writes
--- its image; each with a file of symbols where `--symbols FILE` names one, and with both in German where
--- `--german` says so. `english SRC OUT` and `german SRC OUT` write a source in the other language.
--- `run IMG HIST` runs an image along a history, `gen NUMBER` a program and a history that are made of a number.
--- `live IMG STIM OPS.. --steps N` has several workers run an image, `watch IMG STIM VARS OPS.. --steps N`
--- besides watches variables of it, `upgrade IMG IMG2` writes an image
--- once more, in version 2. `list IMG SRC SYM` writes the source and the symbols file of what an image holds. `bound IMG CERT` writes the
--- certificate of an image, `recheck IMG CERT` checks one
+-- `go SRC HIST` runs a source along a history, `check SRC` checks a source, `compile SRC IMG`
+-- writes its image; each with a file of symbols where `--symbols FILE` names one, and with both in
+-- German where `--german` says so. `english SRC OUT` and `german SRC OUT` write a source in the
+-- other language. `run IMG HIST` runs an image along a history, `gen NUMBER` a program and a
+-- history that are made of a number. `live IMG STIM OPS.. --steps N` has several workers run an
+-- image, `watch IMG STIM VARS OPS.. --steps N` besides watches variables of it, `upgrade IMG IMG2`
+-- writes an image once more, in version 2. `list IMG SRC SYM` writes the source and the symbols
+-- file of what an image holds. `bound IMG CERT` writes the certificate of an image, `recheck IMG
+-- CERT` checks one
 pub data Command : Type 0 where
   Go : (source : List ℕ) (symbols : Option (List ℕ)) (german : Bool) (history : List ℕ) → Command
   Check : (source : List ℕ) (symbols : Option (List ℕ)) (german : Bool) → Command

@@ -38,7 +38,8 @@ RefusesEnglish source symbols fault = RefusesInLanguage English source symbols f
 
 -- a symbols file with addresses in a language is refused by this fault, whatever the source is
 abbrev pub RefusesSymbols : Language → (symbols : List ℕ) → CompileFault → Type 0
-RefusesSymbols language symbols (fault.Symbols refusal) = HasSymbolsIn language symbols (Err refusal)
+RefusesSymbols language symbols (fault.Symbols refusal) =
+    HasSymbolsIn language symbols (Err refusal)
 RefusesSymbols language symbols (fault.Source refusal) = ⊥
 RefusesSymbols language symbols fault.NoMemory = Unit {0}
 
@@ -60,7 +61,8 @@ fault_in_source (found.Refused refusal) = fault.Source refusal
 fault_in_source found.NoMemory = fault.NoMemory
 
 -- what a stage makes, or its refusal; nothing is said where memory is wanting
-abbrev pub MakesOrRefuses : {A : Type 0} → (Result A Refusal → Type 0) → Result A SourceFault → Type 0
+abbrev pub MakesOrRefuses :
+    {A : Type 0} → (Result A Refusal → Type 0) → Result A SourceFault → Type 0
 MakesOrRefuses stage (Ok made) = stage (Ok made)
 MakesOrRefuses stage (Err (found.Refused refusal)) = stage (Err refusal)
 MakesOrRefuses stage (Err found.NoMemory) = Unit {0}
@@ -96,8 +98,8 @@ abbrev pub HasProgramIn : Language → (source symbols : List ℕ) → Type 0
 HasProgramIn language source symbols =
     (p : Program) × KeepsSourceIn language profile.Large source symbols p
 
--- bytes are the image of version 2, for the large profile, of the program to which a source with its
--- symbols compiles, as files hold them, and keep the source
+-- bytes are the image of version 2, for the large profile, of the program to which a source with
+-- its symbols compiles, as files hold them, and keep the source
 abbrev pub IsCompiledIn : Language → (bytes source symbols : List ℕ) → Type 0
 IsCompiledIn language bytes source symbols =
     (kept : ImageKeepsSourceIn language bytes source symbols)

@@ -38,7 +38,8 @@ output_names (Some c) = outputs_of c
 -- the count of one of these names rose
 abbrev pub RoseAmong : (before after : List ℕ → ℕ) → List (List ℕ) → Type 0
 RoseAmong before after [] = ⊥
-RoseAmong before after (name ∷ names) = CountRose (before name) (after name) ⊎ RoseAmong before after names
+RoseAmong before after (name ∷ names) =
+    CountRose (before name) (after name) ⊎ RoseAmong before after names
 
 -- some count of failed reads of an input file rose in the call
 abbrev pub InputRose : Option Command → Disk → Type 0
@@ -56,49 +57,61 @@ CountsReads d outcome = SameCounts d.before.failed_reads d.after.failed_reads
 -- what the command writes to an output file, for contents of its input files that agree with
 -- what is known of them
 abbrev pub WritesTo : Command → Disk → (name bytes : List ℕ) → Type 0
-WritesTo c d name bytes = (contents : List (List ℕ)) × HoldBytesInTurn d.before.contents (inputs_of c) contents × WritesOutputFile c contents name bytes
+WritesTo c d name bytes =
+    (contents : List (List ℕ)) × HoldBytesInTurn d.before.contents (inputs_of c) contents
+    × WritesOutputFile c contents name bytes
 
 -- where the contents of files are known, an output file holds what it held, or a front of what the
 -- command writes to it, or the whole of that
 abbrev pub HoldsFront : Command → Disk → List ℕ → Type 0
 HoldsFront c d name =
     d.before.contents.told ≡ true → (d.after.contents.at name ≡ d.before.contents.at name)
-    ⊎ ((bytes : List ℕ) × (n : ℕ) × WritesTo c d name bytes × (d.after.contents.at name ≡ Some (take n bytes)))
+    ⊎ ((bytes : List ℕ) × (n : ℕ) × WritesTo c d name bytes
+    × (d.after.contents.at name ≡ Some (take n bytes)))
 
 -- where the contents of files are known, an output file holds the whole of what the command writes
 -- to it
 abbrev pub HoldsWhole : Command → Disk → List ℕ → Type 0
 HoldsWhole c d name =
-    d.before.contents.told ≡ true → (bytes : List ℕ) × WritesTo c d name bytes × (d.after.contents.at name ≡ Some bytes)
+    d.before.contents.told ≡ true
+    → (bytes : List ℕ) × WritesTo c d name bytes × (d.after.contents.at name ≡ Some bytes)
 
 -- no file changed but output files
 pub record ChangesOutputs (c : Option Command) (d : Disk) : Type 0 where
   -- whether the contents of files are known stays as it was
-  pub told : d.after.contents.told ≡ d.before.contents.told
+  pub known : d.after.contents.told ≡ d.before.contents.told
   -- a file that is no output file holds what it held
-  pub elsewhere : (name : List ℕ) → (Contains (output_names c) name → ⊥) → d.after.contents.at name ≡ d.before.contents.at name
+  pub elsewhere : (name : List ℕ) → (Contains (output_names c) name → ⊥)
+      → d.after.contents.at name ≡ d.before.contents.at name
   -- an output file holds what it held, or a front of what is written to it
-  pub outputs : (k : Command) → c ≡ Some k → (name : List ℕ) → Contains (outputs_of k) name → HoldsFront k d name
+  pub outputs : (k : Command) → c ≡ Some k → (name : List ℕ) → Contains (outputs_of k) name
+      → HoldsFront k d name
 
 -- each output file is written whole
 abbrev pub WritesOutputs : Option Command → Disk → Type 0
-WritesOutputs c d = (k : Command) → c ≡ Some k → (name : List ℕ) → Contains (outputs_of k) name → HoldsWhole k d name
+WritesOutputs c d =
+    (k : Command) → c ≡ Some k → (name : List ℕ) → Contains (outputs_of k) name
+    → HoldsWhole k d name
 
 -- what an answer leaves of the files: only a result writes
 abbrev pub LeavesFiles : Option Command → Disk → CallOutcome → Type 0
 LeavesFiles c d (Ok done) = ChangesOutputs c d × WritesOutputs c d
 LeavesFiles c d (Err failure) = SameFiles d.before.contents d.after.contents
 
--- the call was cut short: nothing was taken, or a front of the text of an answer that these files, and these counts of failed reads,
--- allow, and the files are as that answer leaves them: no `OK` before the image stands whole
+-- the call was cut short: nothing was taken, or a front of the text of an answer that these files,
+-- and these counts of failed reads, allow, and the files are as that answer leaves them: no `OK`
+-- before the image stands whole
 abbrev pub CutShort : Option Command → Disk → SinkMoments → Type 0
 CutShort c d s =
     (s.after.taken ≡ s.before.taken)
-    ⊎ ((answer : CallAnswer) × IsAnswerOfCall c d answer × CountsReads d answer.outcome × LeavesFiles c d answer.outcome × TookPrefix s.before s.after answer.text)
+    ⊎ ((answer : CallAnswer) × IsAnswerOfCall c d answer × CountsReads d answer.outcome
+    × LeavesFiles c d answer.outcome × TookPrefix s.before s.after answer.text)
 
 -- the call gave this answer: the sink took its whole text, and the files and counts are as its
 -- outcome leaves them
-pub record SaysWholeText (c : Option Command) (d : Disk) (s : SinkMoments) (answer : CallAnswer) : Type 0 where
+pub record SaysWholeText
+    (c : Option Command) (d : Disk) (s : SinkMoments) (answer : CallAnswer)
+    : Type 0 where
   -- it is an answer that the call may give
   pub answers : IsAnswerOfCall c d answer
   -- the sink took the text, behind what it had taken before
@@ -161,8 +174,10 @@ pub record IsNoMemory (c : Option Command) (d : Disk) (s : SinkMoments) : Type 0
 abbrev pub EndsWithOutcome : Option Command → Disk → SinkMoments → CallOutcome → Type 0
 EndsWithOutcome c d s (Err WriteFault) = IsWriteFault c d s
 EndsWithOutcome c d s (Err NoMemory) = IsNoMemory c d s
-EndsWithOutcome c d s outcome = (text : List ℕ) × SaysWholeText c d s (record { outcome = outcome; text = text })
+EndsWithOutcome c d s outcome =
+    (text : List ℕ) × SaysWholeText c d s (record { outcome = outcome; text = text })
 
 -- a call came out with an outcome that has this exit status
 abbrev pub EndsWithStatus : Option Command → Disk → SinkMoments → ℕ → Type 0
-EndsWithStatus c d s code = (outcome : CallOutcome) × (code ≡ exit_status outcome) × EndsWithOutcome c d s outcome
+EndsWithStatus c d s code =
+    (outcome : CallOutcome) × (code ≡ exit_status outcome) × EndsWithOutcome c d s outcome

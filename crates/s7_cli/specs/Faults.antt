@@ -12,28 +12,30 @@ use Rattle.s7_cli.specs.declared.failures.File.TheVariants.{Source, Symbols, His
 use Rattle.s7_cli.specs.declared.failures.Failure.{Failure}
 use Rattle.s7_cli.specs.declared.failures.Failure.TheVariants.{Refused, ImageRefused, NoMemory}
 
--- the symbols file or the source is refused, or there is no memory
+-- the failure by a fault of compiling: the symbols file or the source is refused, or there is no
+-- memory
 abbrev pub failure_of_compiling : CompileFault → Failure
 failure_of_compiling (compiling.Symbols refusal) = Refused Symbols refusal
 failure_of_compiling (compiling.Source refusal) = Refused Source refusal
 failure_of_compiling compiling.NoMemory = NoMemory
 
--- a history, stimuli or a script is refused, or there is no memory
+-- the failure by a fault of a file of entries (history, stimuli or script): the file is refused, or
+-- there is no memory
 abbrev pub failure_of_text : File → TextFault → Failure
 failure_of_text file (text.BadLine line rule) =
     Refused file (record { line = line; rule = rule })
 failure_of_text file text.NoMemory = NoMemory
 
--- a history is refused, or there is no memory
+-- the failure by a fault of a history: it is refused, or there is no memory
 abbrev pub failure_of_history : TextFault → Failure
 failure_of_history fault = failure_of_text History fault
 
--- the image is refused, or there is no memory
+-- the failure by a fault of loading: the image is refused, or there is no memory
 abbrev pub failure_of_loading : LoadError → Failure
 failure_of_loading (loading.Fault fault) = ImageRefused fault
 failure_of_loading loading.NoMemory = NoMemory
 
--- a certificate is refused, or there is no memory
+-- the failure by a fault of a certificate: it is refused, or there is no memory
 abbrev pub failure_of_certificate : CertificateFault → Failure
 failure_of_certificate (certificate.BadLine line rule) =
     Refused Certificate (record { line = line; rule = rule })

@@ -21,20 +21,23 @@ mode_words (Stop cause at) = codes "STOP " ++ decimal cause
 
 -- a byte of bit memory
 abbrev pub memory_byte : ℕ → Var
-memory_byte byte = record { place = record { number = 0; byte = byte; area = M; bit = 0 }; width = Byte }
+memory_byte byte =
+    record { place = record { number = 0; byte = byte; area = M; bit = 0 }; width = Byte }
 
 -- eight bytes of bit memory from this one on, added up
 abbrev pub sum_of_eight : State → (first : ℕ) → ℕ
-sum_of_eight s first = sum (take 8 (drop first s.world.memory.bit_memory))
+sum_of_eight s first = sum (take 8 (drop first s.store.memory.bit_memory))
 
 -- the bytes MB 0 to MB 255, added up
 abbrev pub bit_memory_sum : State → ℕ
-bit_memory_sum s = sum (take 256 s.world.memory.bit_memory)
+bit_memory_sum s = sum (take 256 s.store.memory.bit_memory)
 
--- how many entries the history has, the mode after them, and the sum of bit memory bytes 0 to 255
+-- the line of `gen NUMBER`: how many entries the history has, the mode behind them, and the sum of
+-- the bytes MB 0 to MB 255
 unfoldable pub summary_of : (number entries : ℕ) → State → List ℕ
 summary_of number entries s =
-    codes "GEN " ++ decimal number ++ codes " ENTRIES " ++ decimal entries ++ codes " MODE " ++ mode_words s.mode
+    codes "GEN " ++ decimal number ++ codes " ENTRIES " ++ decimal entries ++ codes " MODE "
+    ++ mode_words s.mode
     ++ codes " SUM " ++ decimal (bit_memory_sum s) ++ codes "\n"
 
 -- the summary of a program's run along a history, at a profile

@@ -28,14 +28,18 @@ pub record OnlyReads (d : Disk) : Type 0 where
 -- the reading of one input file, by its outcome: the bytes that it holds, a failed read, a byte
 -- past its limit, or no memory
 abbrev pub FileRead : {V : Type 0} (view : V → List ℕ) → Disk → Input → Result V Failure → Type 0
-FileRead view d i (Ok v) = AreFilesUnchanged d.before d.after × HoldsBytes d.before.contents i (view v)
+FileRead view d i (Ok v) =
+    AreFilesUnchanged d.before d.after × HoldsBytes d.before.contents i (view v)
 FileRead view d i (Err ReadFault) = OnlyReads d × StopsAt d i read_fault_answer
-FileRead view d i (Err (TooLong file)) = AreFilesUnchanged d.before d.after × (file ≡ i.file) × StopsAt d i (too_long_answer file)
+FileRead view d i (Err (TooLong file)) =
+    AreFilesUnchanged d.before d.after × (file ≡ i.file) × StopsAt d i (too_long_answer file)
 FileRead view d i (Err NoMemory) = OnlyReads d
 FileRead view d i (Err failure) = ⊥
 
 -- these input files were read and hold these contents, one after the other, and nothing changed
-pub record HasRead (before after : FilesAt) (inputs : List Input) (contents : List (List ℕ)) : Type 0 where
+pub record HasRead
+    (before after : FilesAt) (inputs : List Input) (contents : List (List ℕ))
+    : Type 0 where
   -- neither contents nor counts of the files changed
   pub same : AreFilesUnchanged before after
   -- each file holds its contents, no longer than it may be
@@ -75,8 +79,10 @@ SaysRefusal says (Err failure) = ⊥
 abbrev pub TextWritten : List ℕ → SinkMoments → CallOutcome → Type 0
 TextWritten text s (Ok done) = TookBytes s.before s.after text × (s.after.faults ≡ s.before.faults)
 TextWritten text s (Err WriteFault) =
-    TookPrefix s.before s.after text × CountRose s.before.faults s.after.faults × (s.before.faults ≤ s.after.faults)
-TextWritten text s (Err NoMemory) = TookPrefix s.before s.after text × (s.after.faults ≡ s.before.faults)
+    TookPrefix s.before s.after text × CountRose s.before.faults s.after.faults
+    × (s.before.faults ≤ s.after.faults)
+TextWritten text s (Err NoMemory) =
+    TookPrefix s.before s.after text × (s.after.faults ≡ s.before.faults)
 TextWritten text s (Err failure) = ⊥
 
 -- the writing of a whole output file, by its outcome: done, failed, or no memory
@@ -90,7 +96,9 @@ FileWritten d name bytes (Err NoMemory) =
 FileWritten d name bytes (Err failure) = ⊥
 
 -- a command comes to a failure whose line isn't written yet
-pub record FailsWith (c : Option Command) (d : Disk) (s : SinkMoments) (failure : Failure) : Type 0 where
+pub record FailsWith
+    (c : Option Command) (d : Disk) (s : SinkMoments) (failure : Failure)
+    : Type 0 where
   -- the line of the failure
   pub line : List ℕ
   -- it is the one that this failure has
@@ -108,7 +116,8 @@ pub record FailsWith (c : Option Command) (d : Disk) (s : SinkMoments) (failure 
 -- is too deep, its whole text was said; a failed write or want of memory cut it short; with any
 -- other failure nothing was written yet
 abbrev pub ComesBeforeLine : Option Command → Disk → SinkMoments → CallOutcome → Type 0
-ComesBeforeLine c d s (Ok done) = (text : List ℕ) × SaysWholeText c d s (record { outcome = Ok done; text = text })
+ComesBeforeLine c d s (Ok done) =
+    (text : List ℕ) × SaysWholeText c d s (record { outcome = Ok done; text = text })
 ComesBeforeLine c d s (Err WriteFault) = IsWriteFault c d s
 ComesBeforeLine c d s (Err NoMemory) = IsNoMemory c d s
 ComesBeforeLine c d s (Err TooDeep) =
@@ -118,7 +127,8 @@ ComesBeforeLine c d s (Err failure) = FailsWith c d s failure
 -- how a command comes out that has read its input files, which held these contents: `d` and `s`
 -- begin behind the reading, and seen from the moment at which the reading began it came out so,
 -- before the line of its failure is written
-abbrev pub CommandComesTo : Command → (contents : List (List ℕ)) → Disk → SinkMoments → CallOutcome → Type 0
+abbrev pub CommandComesTo :
+    Command → (contents : List (List ℕ)) → Disk → SinkMoments → CallOutcome → Type 0
 CommandComesTo c contents d s came =
     (start : FilesAt) → HasRead start d.before (inputs_of c) contents
     → ComesBeforeLine (Some c) (disk_moments start d.after) s came
@@ -141,8 +151,11 @@ pub record WrittenFile : Type 0 where
 abbrev pub written_file : Output → WrittenFile
 written_file o = record { name = o.name.now; bytes = o.bytes.now }
 
--- a command whose input files hold this writes these two files, its only ones, the first one first, and `OK`
-pub record AreOutputs (c : Command) (contents : List (List ℕ)) (first second : WrittenFile) : Type 0 where
+-- a command whose input files hold this writes these two files, its only ones, the first one first,
+-- and `OK`
+pub record AreOutputs
+    (c : Command) (contents : List (List ℕ)) (first second : WrittenFile)
+    : Type 0 where
   -- the two files are all that the command writes, in this order
   pub outputs : outputs_of c ≡ first.name ∷ second.name ∷ []
   -- the two files have different names

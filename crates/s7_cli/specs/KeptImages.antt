@@ -1,5 +1,6 @@
--- An image that keeps a source, beside the source: their runs. The addresses of the symbols are those of a
--- language, and where this is German, the source is the English text of what was compiled.
+-- An image that keeps a source, beside the source: their runs. The addresses of the symbols are
+-- those of a language, and where this is German, the source is the English text of what was
+-- compiled.
 use Rattle.std.specs.Prelude.{◌≡◌, ◌<◌, ℕ, List, get_or, Ok}
 use Rattle.var_access.specs.declared.Entry.{Entry}
 use Rattle.flat_code.specs.Stamps.{profile_of}
@@ -31,5 +32,7 @@ KeptImagesAnswerAlike =
     (language : Language) (image source symbols : List ℕ)
     → ((i : ℕ) → get_or image i 0 < 256) → (kept : ImageKeepsSourceIn language image source symbols)
     → (history : List ℕ) (answer : CallAnswer)
-    → (RunSays image history answer → SourceSays language (profile_of kept.stamp) source symbols history answer)
-    × (SourceSays language (profile_of kept.stamp) source symbols history answer → RunSays image history answer)
+    → (RunSays image history answer
+    → SourceSays language (profile_of kept.stamp) source symbols history answer)
+    × (SourceSays language (profile_of kept.stamp) source symbols history answer
+    → RunSays image history answer)

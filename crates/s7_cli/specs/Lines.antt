@@ -22,42 +22,45 @@ file_text Vars = codes "vars"
 file_text (Script number) = codes "script " ++ decimal number
 file_text Certificate = codes "certificate"
 
--- the words of the call are refused
+-- the line of a call whose words are refused
 unfoldable pub words_refused_text : List ℕ
 words_refused_text = codes "words refused\n"
 
--- a file can't be read
+-- the line of a call where a file can't be read
 unfoldable pub read_fault_text : List ℕ
 read_fault_text = codes "read fault\n"
 
--- a file holds a byte past its limit
+-- the line of a file that holds a byte past its limit
 unfoldable pub too_long_text : File → List ℕ
 too_long_text file = codes "too long: " ++ file_text file ++ codes "\n"
 
--- a refused file: the line and the rule that it breaks
+-- the line of a refused file: which of its lines breaks a rule, and which rule
 unfoldable pub refusal_text : File → Refusal → List ℕ
 refusal_text file refusal =
-    file_text file ++ codes " refused: line " ++ decimal refusal.line ++ codes " rule " ++ decimal refusal.rule ++ codes "\n"
+    file_text file ++ codes " refused: line " ++ decimal refusal.line ++ codes " rule "
+    ++ decimal refusal.rule ++ codes "\n"
 
--- a refused image: the offset of its least fault, and the fault's code
+-- the line of a refused image: the offset of its least fault, and the fault's code
 unfoldable pub image_refused_text : LoadFault → List ℕ
 image_refused_text fault =
-    codes "image refused: offset " ++ decimal fault.at ++ codes " code " ++ decimal fault.code ++ codes "\n"
+    codes "image refused: offset " ++ decimal fault.at ++ codes " code " ++ decimal fault.code
+    ++ codes "\n"
 
--- the listing of an image doesn't compile to its program
+-- the line of an image whose listing doesn't compile to its program
 unfoldable pub no_listing_text : List ℕ
 no_listing_text = codes "image has no listing\n"
 
--- a certificate doesn't hold
+-- the line of a certificate that doesn't hold
 unfoldable pub says_no_text : List ℕ
 says_no_text = codes "certificate says no\n"
 
--- what `check` writes for a source that is accepted, `recheck` for a certificate that holds, and `compile`, `upgrade`, `list` and
--- `bound` where they have written their files
+-- what `check` writes for a source that is accepted, `recheck` for a certificate that holds, and
+-- `compile`, `upgrade`, `list` and `bound` where they have written their files
 unfoldable pub ok_line : List ℕ
 ok_line = codes "OK\n"
 
--- the line of a failure; a failed write and want of memory have none of their own, and that of a chain which is too deep goes by the chain
+-- the line of a failure; a failed write and want of memory have none of their own, and that of a
+-- chain which is too deep goes by the chain
 abbrev pub line_of_failure : Failure → Option (List ℕ)
 line_of_failure WordsRefused = Some words_refused_text
 line_of_failure ReadFault = Some read_fault_text

@@ -16,7 +16,8 @@ use Rattle.s7_cli.specs.Loads.{LoadsAs}
 -- a text of the listing of a program is longer than it may be
 abbrev pub IsLongListing : Program → Type 0
 IsLongListing p =
-    (limit_of Listing < length (listed_source p)) ⊎ (limit_of Listing < length (listed_names p.names))
+    (limit_of Listing < length (listed_source p))
+    ⊎ (limit_of Listing < length (listed_names p.names))
 
 -- neither text of the listing of a program is longer than it may be
 pub record IsShortListing (p : Program) : Type 0 where

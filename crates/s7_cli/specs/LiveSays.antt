@@ -20,13 +20,17 @@ pub record RefusedScript : Type 0 where
   pub refusal : Refusal
 
 -- a script that was read, in front of those that follow; the first one that is refused decides
-abbrev pub script_first : (number : ℕ) → Result (List Entry) Refusal → Result (List (List Entry)) RefusedScript → Result (List (List Entry)) RefusedScript
+abbrev pub script_first :
+    (number : ℕ) → Result (List Entry) Refusal → Result (List (List Entry)) RefusedScript
+    → Result (List (List Entry)) RefusedScript
 script_first number (Err refusal) more = Err (record { number = number; refusal = refusal })
 script_first number (Ok entries) (Err refused) = Err refused
 script_first number (Ok entries) (Ok more) = Ok (entries ∷ more)
 
--- scripts, numbered from this one on: script k is read as what worker k + 2 asks, with the names of the program
-abbrev pub scripts_from : List NameEntry → (number : ℕ) → List (List ℕ) → Result (List (List Entry)) RefusedScript
+-- scripts, numbered from this one on: script k is read as what worker k + 2 asks, with the names of
+-- the program
+abbrev pub scripts_from :
+    List NameEntry → (number : ℕ) → List (List ℕ) → Result (List (List Entry)) RefusedScript
 scripts_from names number [] = Ok []
 scripts_from names number (script ∷ more) =
     script_first number (script_of (number + 2) names script) (scripts_from names (number + 1) more)
@@ -34,10 +38,14 @@ scripts_from names number (script ∷ more) =
 -- the history as it is written, a line `---`, and the text of its run, at the image's profile
 abbrev pub live_text : LoadedProgram → List Entry → List ℕ
 live_text loaded history =
-    history_text history ++ (codes "---\n" ++ run_text loaded.profile (code_of loaded.program) history)
+    history_text history
+    ++ (codes "---\n" ++ run_text loaded.profile (code_of loaded.program) history)
 
 -- the workers made some live history of these lists, and its text is the answer
-pub record RanLive (loaded : LoadedProgram) (steps : ℕ) (stimuli : List Entry) (scripts : List (List Entry)) (answer : CallAnswer) : Type 0 where
+pub record RanLive
+    (loaded : LoadedProgram) (steps : ℕ) (stimuli : List Entry) (scripts : List (List Entry))
+    (answer : CallAnswer)
+    : Type 0 where
   -- the history that the workers made
   pub history : List Entry
   -- it is a live history of these lists
@@ -49,18 +57,27 @@ pub record RanLive (loaded : LoadedProgram) (steps : ℕ) (stimuli : List Entry)
 
 -- what `live` answers for a program: the stimuli are checked first, then the scripts in their
 -- order, and then the workers run
-abbrev pub LiveAnswer : LoadedProgram → (steps : ℕ) → Result (List Entry) Refusal → Result (List (List Entry)) RefusedScript → CallAnswer → Type 0
+abbrev pub LiveAnswer :
+    LoadedProgram → (steps : ℕ) → Result (List Entry) Refusal
+    → Result (List (List Entry)) RefusedScript → CallAnswer → Type 0
 LiveAnswer loaded steps (Err refusal) scripts answer = answer ≡ refused_file_answer Stimuli refusal
-LiveAnswer loaded steps (Ok stimuli) (Err script) answer = answer ≡ refused_file_answer (Script script.number) script.refusal
-LiveAnswer loaded steps (Ok stimuli) (Ok scripts) answer = RanLive loaded steps stimuli scripts answer
+LiveAnswer loaded steps (Ok stimuli) (Err script) answer =
+    answer ≡ refused_file_answer (Script script.number) script.refusal
+LiveAnswer loaded steps (Ok stimuli) (Ok scripts) answer =
+    RanLive loaded steps stimuli scripts answer
 
 -- what `live` answers by how its image loads, which is before stimuli and scripts are checked
-abbrev pub LoadedLive : Result LoadedProgram LoadFault → (steps : ℕ) → (stimuli : List ℕ) (scripts : List (List ℕ)) → CallAnswer → Type 0
+abbrev pub LoadedLive :
+    Result LoadedProgram LoadFault → (steps : ℕ) → (stimuli : List ℕ) (scripts : List (List ℕ))
+    → CallAnswer → Type 0
 LoadedLive (Err fault) steps stimuli scripts answer = answer ≡ refused_image_answer fault
 LoadedLive (Ok loaded) steps stimuli scripts answer =
-    LiveAnswer loaded steps (stimuli_of stimuli) (scripts_from loaded.program.names 1 scripts) answer
+    LiveAnswer loaded steps (stimuli_of stimuli) (scripts_from loaded.program.names 1 scripts)
+    answer
 
 -- what `live` answers, over the contents of its files
-abbrev pub LiveSays : (steps : ℕ) (image stimuli : List ℕ) (scripts : List (List ℕ)) → CallAnswer → Type 0
+abbrev pub LiveSays :
+    (steps : ℕ) (image stimuli : List ℕ) (scripts : List (List ℕ)) → CallAnswer → Type 0
 LiveSays steps image stimuli scripts answer =
-    (loaded : Result LoadedProgram LoadFault) × LoadsAs image loaded × LoadedLive loaded steps stimuli scripts answer
+    (loaded : Result LoadedProgram LoadFault) × LoadsAs image loaded
+    × LoadedLive loaded steps stimuli scripts answer

@@ -13,11 +13,11 @@ use Rattle.s7_cli.specs.LiveSays.{LiveSays, RefusedScript, scripts_from}
 use Rattle.s7_cli.specs.Living.{AreRegularBy, total_length}
 use Rattle.s7_cli.specs.Loads.{LoadsAs}
 
--- the bytes of the scripts, in their order
+-- the bytes of the scripts of a live run, in their order
 abbrev pub scripts_of : LiveText → List (List ℕ)
 scripts_of text = map (λ v. v.items) text.scripts.items
 
--- the contents of the files, in the order of reading
+-- the contents of the files of a live run, in the order of reading
 abbrev pub live_contents : LiveText → List (List ℕ)
 live_contents text = text.image.items ∷ text.stimuli.items ∷ scripts_of text
 
@@ -34,9 +34,10 @@ pub record IsLiveText (text : LiveText) : Type 0 where
   -- there are at most four
   pub few : length text.scripts.items ≤ 4
 
--- what `live` answers for these files
+-- what `live` answers, over its files as they were read
 abbrev pub LiveTextSays : (steps : ℕ) → LiveText → CallAnswer → Type 0
-LiveTextSays steps text answer = LiveSays steps text.image.items text.stimuli.items (scripts_of text) answer
+LiveTextSays steps text answer =
+    LiveSays steps text.image.items text.stimuli.items (scripts_of text) answer
 
 -- the first script that is refused is answered, by its number and its refusal, or memory was
 -- wanting
@@ -48,7 +49,9 @@ IsScriptRefusal scripts failure =
 
 -- what is found in the files of a live run: the program and the lists of the workers; an entry
 -- has four bytes of its text at least
-pub record FindsProgramAndScripts (text : LiveText) (loaded : LoadedProgram) (stimuli : List Entry) (scripts : List (List Entry)) : Type 0 where
+pub record FindsProgramAndScripts
+    (text : LiveText) (loaded : LoadedProgram) (stimuli : List Entry) (scripts : List (List Entry))
+    : Type 0 where
   -- the image loads as this program
   pub loads : LoadsAs text.image.items (Ok loaded)
   -- the stimuli break no rule and are these entries

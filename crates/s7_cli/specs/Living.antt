@@ -23,16 +23,21 @@ total_length (x ∷ xs) = length x + total_length xs
 -- each list stands whole and in its order in the history, as the entries of its worker
 abbrev pub StandInHistory : (who : ℕ) → List (List Entry) → (history : List Entry) → Type 0
 StandInHistory who [] history = Unit {0}
-StandInHistory who (x ∷ xs) history = (entries_of_worker who history ≡ x) × StandInHistory (suc who) xs history
+StandInHistory who (x ∷ xs) history =
+    (entries_of_worker who history ≡ x) × StandInHistory (suc who) xs history
 
 -- a station that begins with a program, at its profile, and no entry
 abbrev pub opened_on : LoadedProgram → Opening
 opened_on loaded = record { program = loaded.program; profile = loaded.profile; first = [] }
 
--- a live history of stimuli, scripts and a number of steps on a program. Worker 1 made steps alone, at most so many, each but the last of
--- which leaves another mode than STOP at its place, and fewer only where the last one leaves STOP. The entries of worker 2 are the stimuli,
--- those of worker k + 2 script k, each list whole and in its order. There are no other workers
-pub record IsLive (loaded : LoadedProgram) (steps : ℕ) (stimuli : List Entry) (scripts : List (List Entry)) (history : List Entry) : Type 0 where
+-- a live history of stimuli, scripts and a number of steps on a program. Worker 1 made steps alone,
+-- at most so many, each but the last of which leaves another mode than STOP at its place, and fewer
+-- only where the last one leaves STOP. The entries of worker 2 are the stimuli, those of worker
+-- k + 2 script k, each list whole and in its order. There are no other workers
+pub record IsLive
+    (loaded : LoadedProgram) (steps : ℕ) (stimuli : List Entry) (scripts : List (List Entry))
+    (history : List Entry)
+    : Type 0 where
   -- how many steps worker 1 made
   pub count : ℕ
   -- they are at most as many as it was to make
@@ -48,7 +53,7 @@ pub record IsLive (loaded : LoadedProgram) (steps : ℕ) (stimuli : List Entry) 
   -- there are no workers but the stepper, the feeder and one for each script
   pub workers : All (λ e. (1 ≤ e.who) × (e.who ≤ 2 + length scripts)) history
 
--- the outcome isn't that the station was full
+-- the outcome of a worker isn't that the station was full
 abbrev pub IsFullNever : Result Unit StationFault → Type 0
 IsFullNever (Err Full) = ⊥
 IsFullNever outcome = Unit {0}

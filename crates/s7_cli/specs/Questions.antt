@@ -16,7 +16,8 @@ question_text Version = VERSION.now
 abbrev pub question_by : List ℕ → Option Question
 question_by word =
     if bytes_eq word (codes "--help") || bytes_eq word (codes "-h") then Some Help
-    else if bytes_eq word (codes "--version") || bytes_eq word (codes "-V") then Some Version else None
+    else if bytes_eq word (codes "--version") || bytes_eq word (codes "-V") then Some Version
+    else None
 
 -- the question that the words of a call ask: it stands as their only word
 abbrev pub question_of : List (List ℕ) → Option Question

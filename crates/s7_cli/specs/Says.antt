@@ -35,14 +35,14 @@ abbrev pub refused_source_answer : RefusedFile → CallAnswer
 refused_source_answer (InSymbols refusal) = refused_file_answer Symbols refusal
 refused_source_answer (InSource refusal) = refused_file_answer Source refusal
 
--- `go`: the source with its symbols is checked first, then the history; else the text of the run is
--- told, at a profile
+-- the answer of `go`, at a profile: the refusal of the source with its symbols, which is checked
+-- first; else that of the history; else the text of the run
 abbrev pub go_answer : Profile → Result Code RefusedFile → Result (List Entry) Refusal → CallAnswer
 go_answer profile (Err why) history = refused_source_answer why
 go_answer profile (Ok code) (Err refusal) = refused_file_answer History refusal
 go_answer profile (Ok code) (Ok entries) = done_answer (run_text profile code entries)
 
--- `check` and `compile`: the source with its symbols is checked
+-- the answer of `check` and `compile`: the refusal of the source with its symbols, or `OK`
 abbrev pub check_answer : Result Code RefusedFile → CallAnswer
 check_answer (Err why) = refused_source_answer why
 check_answer (Ok code) = done_answer ok_line
@@ -52,7 +52,8 @@ check_answer (Ok code) = done_answer ok_line
 abbrev pub SourceSays : Language → Profile → (source symbols history : List ℕ) → CallAnswer → Type 0
 SourceSays language profile source symbols history answer =
     (outcome : Result Code RefusedFile) × HasOutcomeOfSourceIn language source symbols outcome
-    × (answer ≡ go_answer profile outcome (history_of_text (names_read_in language symbols) history))
+    × (answer
+    ≡ go_answer profile outcome (history_of_text (names_read_in language symbols) history))
 
 -- what `go` answers, of the English text of the source: it has the sizes of the large profile
 abbrev pub GoSays : (german : Bool) → (source symbols history : List ℕ) → CallAnswer → Type 0
@@ -60,17 +61,19 @@ GoSays german source symbols history answer =
     SaysInEnglish german source symbols
     (λ text. SourceSays (language_of german) Large text symbols history) answer
 
--- `run` with an image that loads: the history is checked, or the text of the run is told, at the
--- image's profile
+-- the answer of `run` with an image that loads: the refusal of the history, or the text of the run,
+-- at the image's profile
 abbrev pub run_loaded_answer : LoadedProgram → Result (List Entry) Refusal → CallAnswer
 run_loaded_answer loaded (Err refusal) = refused_file_answer History refusal
-run_loaded_answer loaded (Ok entries) = done_answer (run_text loaded.profile (code_of loaded.program) entries)
+run_loaded_answer loaded (Ok entries) =
+    done_answer (run_text loaded.profile (code_of loaded.program) entries)
 
--- `run`, by how its image loads: it is refused, or runs along the history, which may name the
--- variables whose names stand in the image
+-- the answer of `run`, by how its image loads: the image is refused, or runs along the history,
+-- which may name the variables whose names stand in the image
 abbrev pub run_answer : Result LoadedProgram LoadFault → (history : List ℕ) → CallAnswer
 run_answer (Err fault) history = refused_image_answer fault
-run_answer (Ok loaded) history = run_loaded_answer loaded (history_of_text loaded.program.names history)
+run_answer (Ok loaded) history =
+    run_loaded_answer loaded (history_of_text loaded.program.names history)
 
 -- what `run` answers, over the contents of its files
 abbrev pub RunSays : (image history : List ℕ) → CallAnswer → Type 0
@@ -86,17 +89,21 @@ upgrade_answer (Ok loaded) = done_answer ok_line
 -- what `upgrade` answers, over the contents of its file
 abbrev pub UpgradeSays : (image : List ℕ) → CallAnswer → Type 0
 UpgradeSays image answer =
-    (loaded : Result LoadedProgram LoadFault) × LoadsAs image loaded × (answer ≡ upgrade_answer loaded)
+    (loaded : Result LoadedProgram LoadFault) × LoadsAs image loaded
+    × (answer ≡ upgrade_answer loaded)
 
--- bytes are the image of version 2 of the program, with its names, and of the profile as which an image loads
+-- bytes are the image of version 2 of the program, with its names, and of the profile as which an
+-- image loads
 abbrev pub IsUpgraded : (bytes image : List ℕ) → Type 0
 IsUpgraded bytes image =
-    (loaded : LoadedProgram) × LoadsAs image (Ok loaded) × (bytes ≡ image_of (Two loaded.profile) loaded.program)
+    (loaded : LoadedProgram) × LoadsAs image (Ok loaded)
+    × (bytes ≡ image_of (Two loaded.profile) loaded.program)
 
 -- `gen`: the source of the number is checked; its run along the history of the number is summed up
 abbrev pub gen_answer : (number : ℕ) → Result Code RefusedFile → CallAnswer
 gen_answer number (Err why) = refused_source_answer why
-gen_answer number (Ok code) = done_answer (summary_text number Large code (generated_history number))
+gen_answer number (Ok code) =
+    done_answer (summary_text number Large code (generated_history number))
 
 -- what `gen` answers; it reads no file
 abbrev pub GenSays : (number : ℕ) → CallAnswer → Type 0
@@ -118,7 +125,8 @@ CheckSays german source symbols answer =
 -- an English text with symbols in a language is refused with this answer
 abbrev pub RefusedText : Language → (symbols text : List ℕ) → CallAnswer → Type 0
 RefusedText language symbols text answer =
-    (why : RefusedFile) × IsRefusedSourceIn language text symbols why × (answer ≡ refused_source_answer why)
+    (why : RefusedFile) × IsRefusedSourceIn language text symbols why
+    × (answer ≡ refused_source_answer why)
 
 -- a source with its symbols is refused with this answer, or its translation is too long
 abbrev pub RefusedProgram : (german : Bool) → (source symbols : List ℕ) → CallAnswer → Type 0
@@ -133,7 +141,8 @@ TranslateSays language source answer =
 -- what a command answers, over the contents of its input files, in the order of reading; without
 -- a symbols file the symbols are no bytes
 abbrev pub CommandSays : Command → List (List ℕ) → CallAnswer → Type 0
-CommandSays (Go _ None german _) (source ∷ history ∷ []) answer = GoSays german source [] history answer
+CommandSays (Go _ None german _) (source ∷ history ∷ []) answer =
+    GoSays german source [] history answer
 CommandSays (Go _ (Some _) german _) (source ∷ symbols ∷ history ∷ []) answer =
     GoSays german source symbols history answer
 CommandSays (Check _ None german) (source ∷ []) answer = CheckSays german source [] answer
@@ -172,7 +181,8 @@ WritesOutputFile (Run _ _) contents name bytes = ⊥
 WritesOutputFile (Gen _) contents name bytes = ⊥
 WritesOutputFile (Live _ _ _ _) contents name bytes = ⊥
 WritesOutputFile (Watch _ _ _ _ _) contents name bytes = ⊥
-WritesOutputFile (Upgrade _ upgraded) (image ∷ []) name bytes = (name ≡ upgraded) × IsUpgraded bytes image
+WritesOutputFile (Upgrade _ upgraded) (image ∷ []) name bytes =
+    (name ≡ upgraded) × IsUpgraded bytes image
 WritesOutputFile (Upgrade _ _) contents name bytes = ⊥
 WritesOutputFile (ListImage _ source symbols) (image ∷ []) name bytes =
     IsListed source symbols image name bytes

@@ -73,7 +73,8 @@ pub record StatusTable (c : Option Command) (d : Disk) (s : SinkMoments) (code :
   pub words_refused : c ≡ None → (code ≡ 1) ⊎ IsCutOff code
   -- 1, 2, 3, 4, 5, 8, 9, 10: the sink took the one line of a failure that has this status
   pub takes_line : code ≢ 0 → (IsCutOff code → ⊥)
-      → (failure : Failure) × (line : List ℕ) × (code ≡ exit_status (Err failure)) × IsFailureLine failure line × TookBytes s.before s.after line
+      → (failure : Failure) × (line : List ℕ) × (code ≡ exit_status (Err failure))
+      × IsFailureLine failure line × TookBytes s.before s.after line
   -- 5 comes only where the count of failed reads of an input file rose
   pub read_fault : code ≡ 5 → InputRose c d
   -- 6 comes only where the count of failed writes of an output file rose, or that of the sink's
@@ -82,9 +83,11 @@ pub record StatusTable (c : Option Command) (d : Disk) (s : SinkMoments) (code :
   -- 6 and 7: the sink took nothing, or a front of a text that another status allows
   pub cut_short : IsCutOff code → CutShort c d s
   -- a count of failed reads that is greater behind the call than before it gives 5, 6 or 7
-  pub more_failed_reads : (name : List ℕ) → d.before.failed_reads name < d.after.failed_reads name → (code ≡ 5) ⊎ IsCutOff code
+  pub more_failed_reads : (name : List ℕ) → d.before.failed_reads name < d.after.failed_reads name
+      → (code ≡ 5) ⊎ IsCutOff code
   -- a count of failed writes that is greater behind the call than before it gives 6
-  pub more_failed_writes : (name : List ℕ) → d.before.failed_writes name < d.after.failed_writes name → code ≡ 6
+  pub more_failed_writes : (name : List ℕ)
+      → d.before.failed_writes name < d.after.failed_writes name → code ≡ 6
   -- a count of the sink's faults that is greater behind the call than before it gives 6
   pub more_faults : s.before.faults < s.after.faults → code ≡ 6
   -- at a status other than 0, 6 and 7 no file changed

@@ -15,7 +15,8 @@ abbrev pub UpgradesLoadAlike : Type 0
 UpgradesLoadAlike =
     (upgraded image : List ℕ) → ((i : ℕ) → get_or upgraded i 0 < 256) → IsUpgraded upgraded image
     → (loaded : Result LoadedProgram LoadFault)
-    → (LoadsAs upgraded loaded → LoadsAs image loaded) × (LoadsAs image loaded → LoadsAs upgraded loaded)
+    → (LoadsAs upgraded loaded → LoadsAs image loaded)
+    × (LoadsAs image loaded → LoadsAs upgraded loaded)
 
 -- `run` with an upgraded image answers what it answers with the image that it was made of
 abbrev pub UpgradesRunAlike : Type 0
@@ -37,4 +38,5 @@ UpgradesLiveAlike =
 abbrev pub UpgradesKeepSources : Type 0
 UpgradesKeepSources =
     (language : Language) (upgraded image source symbols : List ℕ) → IsUpgraded upgraded image
-    → ImageKeepsSourceIn language image source symbols → ImageKeepsSourceIn language upgraded source symbols
+    → ImageKeepsSourceIn language image source symbols
+    → ImageKeepsSourceIn language upgraded source symbols

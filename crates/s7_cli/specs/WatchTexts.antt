@@ -19,11 +19,11 @@ use Rattle.s7_cli.specs.Loads.{LoadsAs}
 use Rattle.s7_cli.specs.WatchSays.{WatchSays}
 use Rattle.s7_cli.specs.Watching.{read_entry_of}
 
--- the bytes of the scripts, in their order
+-- the bytes of the scripts of a watch, in their order
 abbrev pub watch_scripts : WatchText → List (List ℕ)
 watch_scripts text = map (λ v. v.items) text.scripts.items
 
--- the contents of the files, in the order of reading
+-- the contents of the files of a watch, in the order of reading
 abbrev pub watch_contents : WatchText → List (List ℕ)
 watch_contents text = text.image.items ∷ text.stimuli.items ∷ text.vars.items ∷ watch_scripts text
 
@@ -37,17 +37,22 @@ pub record IsWatchText (text : WatchText) : Type 0 where
   -- there are at most three
   pub few : length text.scripts.items ≤ 3
 
--- what `watch` answers for these files
+-- what `watch` answers, over its files as they were read
 abbrev pub WatchTextSays : (steps : ℕ) → WatchText → CallAnswer → Type 0
-WatchTextSays steps text answer = WatchSays steps text.image.items text.stimuli.items text.vars.items (watch_scripts text) answer
+WatchTextSays steps text answer =
+    WatchSays steps text.image.items text.stimuli.items text.vars.items (watch_scripts text) answer
 
--- the variables are refused, and their refusal is answered
+-- the variables are refused, and this is the failure by their refusal
 abbrev pub AreVarsRefused : Result (List Var) Refusal → Failure → Type 0
-AreVarsRefused vars failure = (refusal : Refusal) × (vars ≡ Err refusal) × (failure ≡ Refused Vars refusal)
+AreVarsRefused vars failure =
+    (refusal : Refusal) × (vars ≡ Err refusal) × (failure ≡ Refused Vars refusal)
 
 -- what is found in the files of a watch: the program, the lists of the workers and the
 -- variables; an entry has four bytes of its text at least
-pub record FindsWatch (text : WatchText) (loaded : LoadedProgram) (stimuli : List Entry) (vars : List Var) (scripts : List (List Entry)) : Type 0 where
+pub record FindsWatch
+    (text : WatchText) (loaded : LoadedProgram) (stimuli : List Entry) (vars : List Var)
+    (scripts : List (List Entry))
+    : Type 0 where
   -- the image loads as this program
   pub loads : LoadsAs text.image.items (Ok loaded)
   -- the stimuli break no rule and are these entries

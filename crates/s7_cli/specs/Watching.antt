@@ -20,11 +20,14 @@ use Rattle.watch_board.specs.declared.shown.Shown.{Shown}
 abbrev pub read_entry_of : (who : ℕ) → List Var → Entry
 read_entry_of who vars = record { who = who; what = Ask (ReadVars vars) }
 
--- the lists of the four operators of a watch: its scripts, none for an operator without one, and so many reads by the last operator
+-- the lists of the four operators of a watch: its scripts, none for an operator without one, and so
+-- many reads by the last operator
 abbrev pub watch_lists : (reads : ℕ) → List (List Entry) → List Var → List (List Entry)
-watch_lists reads scripts vars = (scripts ++ replicate (3 - length scripts) []) ++ replicate reads (read_entry_of 6 vars) ∷ []
+watch_lists reads scripts vars =
+    (scripts ++ replicate (3 - length scripts) []) ++ replicate reads (read_entry_of 6 vars) ∷ []
 
--- the item is the reply to this entry at a place of the history, with the number of the place, from 1
+-- the item is the reply to this entry at a place of the history, with the number of the place, from
+-- 1
 pub record IsReplyTo (e : Entry) (o : Opening) (story : List Entry) (item : Shown) : Type 0 where
   -- the history before the entry
   pub before : List Entry
@@ -55,22 +58,33 @@ abbrev pub IsLastAt : List Shown → (number : ℕ) → Type 0
 IsLastAt list number = (last : Shown) × (last_item_of list ≡ Some last) × (last.length ≡ number)
 
 -- a pass made an entry, and its reply was put on the board, with the number of its place
-pub record HasPublished (old new : PassView Opening Entry) (was now : KnownBoard) (e : Entry) : Type 0 where
+pub record HasPublished
+    (old new : PassView Opening Entry) (was now : KnownBoard) (e : Entry)
+    : Type 0 where
   -- the story before the entry
   pub before : List Entry
   -- the pass made the entry behind it
   pub made : HasMade old new before e
   -- the board has one item more: the reply, by the length of the story with the entry
-  pub shown : now.list ≡ was.list ++ record { length = length new.seen; reply = Some (reply_at (the_opening old.lock.origin) before e) } ∷ []
+  pub shown : now.list
+      ≡ was.list
+      ++ record
+      { length = length new.seen; reply = Some (reply_at (the_opening old.lock.origin) before e) } ∷
+      []
 
 -- nothing was put on the board: no entry was made, or memory was wanting behind it
-abbrev pub HasPublishedNone : (old new : PassView Opening Entry) (was now : KnownBoard) → Entry → StationFault → Type 0
+abbrev pub HasPublishedNone :
+    (old new : PassView Opening Entry) (was now : KnownBoard) → Entry → StationFault → Type 0
 HasPublishedNone old new was now e fault =
-    (now ≡ was) × (HasMadeNone old new fault ⊎ ((fault ≡ NoMemory) × (before : List Entry) × HasMade old new before e))
+    (now ≡ was)
+    × (HasMadeNone old new fault
+    ⊎ ((fault ≡ NoMemory) × (before : List Entry) × HasMade old new before e))
 
 -- what a publisher leaves that wasn't refused: it made the entry `e` `count` times, and its board's
 -- list is made of the opening item and replies to `e`
-pub record HasShown (s : LockView Opening) (e : Entry) (count : ℕ) (p : PassView Opening Entry) (list : List Shown) : Type 0 where
+pub record HasShown
+    (s : LockView Opening) (e : Entry) (count : ℕ) (p : PassView Opening Entry) (list : List Shown)
+    : Type 0 where
   -- the pass is one of this station
   pub lock : p.lock ≡ s
   -- no value is out with it
@@ -87,7 +101,10 @@ pub record HasShown (s : LockView Opening) (e : Entry) (count : ℕ) (p : PassVi
 -- what a publisher leaves that was to make the entry `e` `count` times and to put each reply on the
 -- board: it has begun, and where it wasn't refused it made all of them, and the last item of the
 -- board stands at the end of the story that it knows
-pub record PublishesReplies (s : LockView Opening) (e : Entry) (count : ℕ) (p : PassView Opening Entry) (was now : KnownBoard) (noted : Result KnownBoard StationFault) : Type 0 where
+pub record PublishesReplies
+    (s : LockView Opening) (e : Entry) (count : ℕ) (p : PassView Opening Entry)
+    (was now : KnownBoard) (noted : Result KnownBoard StationFault)
+    : Type 0 where
   -- it made the entry at most so many times, and nothing else
   pub begun : HasBegun s e.who (replicate count e) p
   -- the board is the same one as before
@@ -118,7 +135,9 @@ pub record AreSeenIn (list seen : List Shown) : Type 0 where
   pub never_fall : NeverFall seen
 
 -- what a viewer leaves that was to view so many times
-pub record ViewsBoard {E : Type 0} (count : ℕ) (was now : KnownBoard) (seen : List Shown) (viewed : Result Unit E) : Type 0 where
+pub record ViewsBoard
+    {E : Type 0} (count : ℕ) (was now : KnownBoard) (seen : List Shown) (viewed : Result Unit E)
+    : Type 0 where
   -- the board is the same one as before
   pub board : now.board ≡ was.board
   -- where it wasn't refused, there were as many views as it was to make
@@ -127,7 +146,10 @@ pub record ViewsBoard {E : Type 0} (count : ℕ) (was now : KnownBoard) (seen : 
   pub each : OnOk viewed (AreSeenIn now.list seen)
 
 -- all was published and viewed, and the viewer has come to the list of the publisher's last note
-pub record HasEnded {E : Type 0} (noted : Result KnownBoard StationFault) (viewed : Result Unit E) (viewer : KnownBoard) : Type 0 where
+pub record HasEnded
+    {E : Type 0} (noted : Result KnownBoard StationFault) (viewed : Result Unit E)
+    (viewer : KnownBoard)
+    : Type 0 where
   -- no view was refused
   pub viewed_all : IsOk viewed
   -- the publisher's last note
@@ -139,7 +161,9 @@ pub record HasEnded {E : Type 0} (noted : Result KnownBoard StationFault) (viewe
 
 -- this many items of a board were seen: each is the opening item or a reply to this entry, and
 -- their numbers never fall
-pub record AreViews (e : Entry) (o : Opening) (story : List Entry) (count : ℕ) (seen : List Shown) : Type 0 where
+pub record AreViews
+    (e : Entry) (o : Opening) (story : List Entry) (count : ℕ) (seen : List Shown)
+    : Type 0 where
   -- there are this many
   pub many : length seen ≡ count
   -- each is the opening item or a reply to the entry

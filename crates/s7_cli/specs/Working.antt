@@ -39,7 +39,9 @@ pub record IsFresh (s : LockView Opening) (p : PassView Opening Entry) : Type 0 
   pub agrees : IsMadeOf (λ e. e.who) p.seen p.made
 
 -- of these entries the pass has made the first ones, and nothing else
-pub record HasBegun (s : LockView Opening) (number : ℕ) (entries : List Entry) (p : PassView Opening Entry) : Type 0 where
+pub record HasBegun
+    (s : LockView Opening) (number : ℕ) (entries : List Entry) (p : PassView Opening Entry)
+    : Type 0 where
   -- the pass is one of this station
   pub lock : p.lock ≡ s
   -- no value is out with it
@@ -58,19 +60,24 @@ AreReady s (p ∷ ps) (x ∷ xs) = IsFresh s p × All (IsEntryOf p.number) x × 
 AreReady s ps xs = ⊥
 
 -- a fresh pass for the stepper, one for the feeder with its stimuli, and one for each script
-abbrev pub CanWork : LockView Opening → List (PassView Opening Entry) → (stimuli : List Entry) → (scripts : List (List Entry)) → Type 0
+abbrev pub CanWork :
+    LockView Opening → List (PassView Opening Entry) → (stimuli : List Entry)
+    → (scripts : List (List Entry)) → Type 0
 CanWork s [] stimuli scripts = ⊥
 CanWork s (p ∷ ps) stimuli scripts = IsFresh s p × AreReady s ps (stimuli ∷ scripts)
 
 -- each list as it was made whole, under its pass's number
 abbrev pub passes_made_whole : List (PassView Opening Entry) → List (List Entry) → List (Made Entry)
-passes_made_whole (p ∷ ps) (x ∷ xs) = record { number = p.number; entries = x } ∷ passes_made_whole ps xs
+passes_made_whole (p ∷ ps) (x ∷ xs) =
+    record { number = p.number; entries = x } ∷ passes_made_whole ps xs
 passes_made_whole ps xs = []
 
 -- of each list the first entries were made, under its pass's number, and nothing else
-abbrev pub HaveBegun : List (PassView Opening Entry) → List (List Entry) → List (Made Entry) → Type 0
+abbrev pub HaveBegun :
+    List (PassView Opening Entry) → List (List Entry) → List (Made Entry) → Type 0
 HaveBegun [] [] [] = Unit {0}
-HaveBegun (p ∷ ps) (x ∷ xs) (m ∷ ms) = (m.number ≡ p.number) × IsPrefix m.entries x × HaveBegun ps xs ms
+HaveBegun (p ∷ ps) (x ∷ xs) (m ∷ ms) =
+    (m.number ≡ p.number) × IsPrefix m.entries x × HaveBegun ps xs ms
 HaveBegun ps xs ms = ⊥
 
 -- a fault of a station with this story: it is full only where its history has at least FULL
@@ -85,7 +92,8 @@ abbrev pub KnowsFault : LockView Opening → (story : List Entry) → Result Uni
 KnowsFault s story (Ok done) = Unit {0}
 KnowsFault s story (Err fault) = IsFaultAt s story fault
 
--- the worker's entries that stand before `last` or more others of its own leave another mode than STOP, each at its place in the story
+-- the worker's entries that stand before `last` or more others of its own leave another mode than
+-- STOP, each at its place in the story
 abbrev pub RunsBefore : (last : ℕ) → Opening → (who : ℕ) → (story : List Entry) → Type 0
 RunsBefore last o who story =
     (before after : List Entry) (e : Entry)
@@ -112,7 +120,9 @@ pub record EndsInStop (o : Opening) (who : ℕ) (story : List Entry) : Type 0 wh
 -- what a stepper leaves of its pass: it made steps alone, at most `steps`, each but the last of
 -- which leaves another mode than STOP; `whole` says that it wasn't refused, and then it made fewer
 -- only where the last one leaves STOP
-pub record HasStepped (s : LockView Opening) (number steps : ℕ) (p : PassView Opening Entry) (whole : Bool) : Type 0 where
+pub record HasStepped
+    (s : LockView Opening) (number steps : ℕ) (p : PassView Opening Entry) (whole : Bool)
+    : Type 0 where
   -- the pass is one of this station
   pub lock : p.lock ≡ s
   -- no value is out with it
@@ -124,7 +134,8 @@ pub record HasStepped (s : LockView Opening) (number steps : ℕ) (p : PassView 
   -- they are at most as many as it was to make
   pub few : count ≤ steps
   -- it made these steps, and nothing else
-  pub made : p.made ≡ record { number = number; entries = replicate count (step_entry_by number) } ∷ []
+  pub made : p.made
+      ≡ record { number = number; entries = replicate count (step_entry_by number) } ∷ []
   -- each of its steps but the last leaves another mode than STOP
   pub runs : RunsBefore 1 (the_opening s.origin) number p.seen
   -- where it wasn't refused, it made all steps, or its last one leaves STOP
@@ -135,7 +146,10 @@ pub record HasStepped (s : LockView Opening) (number steps : ℕ) (p : PassView 
 -- the first entries of their `lists`; `r` is the pass that joined all of theirs, and `whole` says
 -- that no worker was refused: then the lists were made whole, and there are fewer steps only where
 -- the last one leaves STOP
-pub record WorkedBy (s : LockView Opening) (p : PassView Opening Entry) (ps : List (PassView Opening Entry)) (steps : ℕ) (lists : List (List Entry)) (r : PassView Opening Entry) (whole : Bool) : Type 0 where
+pub record WorkedBy
+    (s : LockView Opening) (p : PassView Opening Entry) (ps : List (PassView Opening Entry))
+    (steps : ℕ) (lists : List (List Entry)) (r : PassView Opening Entry) (whole : Bool)
+    : Type 0 where
   -- how many steps the stepper made
   pub count : ℕ
   -- they are at most as many as it was to make
@@ -143,7 +157,8 @@ pub record WorkedBy (s : LockView Opening) (p : PassView Opening Entry) (ps : Li
   -- what each of the other workers made, under its number
   pub others : List (Made Entry)
   -- the pass `r` has made the steps, under the stepper's number, and what the others made
-  pub made : r.made ≡ record { number = p.number; entries = replicate count (step_entry_by p.number) } ∷ others
+  pub made : r.made
+      ≡ record { number = p.number; entries = replicate count (step_entry_by p.number) } ∷ others
   -- each of the others made the first entries of its list
   pub begun : HaveBegun ps lists others
   -- each of the stepper's steps but the last leaves another mode than STOP
@@ -156,6 +171,9 @@ pub record WorkedBy (s : LockView Opening) (p : PassView Opening Entry) (ps : Li
 -- what the workers of these passes made together, the stepper's pass first: it made at most
 -- `steps` steps alone, the others the first entries of the stimuli and of the scripts; `whole`
 -- says that no worker was refused
-abbrev pub HasWorked : LockView Opening → List (PassView Opening Entry) → (steps : ℕ) → (stimuli : List Entry) → (scripts : List (List Entry)) → PassView Opening Entry → Bool → Type 0
+abbrev pub HasWorked :
+    LockView Opening → List (PassView Opening Entry) → (steps : ℕ) → (stimuli : List Entry)
+    → (scripts : List (List Entry)) → PassView Opening Entry → Bool → Type 0
 HasWorked s [] steps stimuli scripts r whole = ⊥
-HasWorked s (p ∷ ps) steps stimuli scripts r whole = WorkedBy s p ps steps (stimuli ∷ scripts) r whole
+HasWorked s (p ∷ ps) steps stimuli scripts r whole =
+    WorkedBy s p ps steps (stimuli ∷ scripts) r whole

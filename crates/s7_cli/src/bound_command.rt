@@ -9,7 +9,7 @@ ghost use Rattle.s7_cli.specs.Reading.{disk_moments};
 ghost use Rattle.s7_cli.specs.StatusTable.{StatusTable};
 
 use crate::command_checks::loaded;
-use crate::failures::{Failure, File, Status};
+use crate::failures::{ExitStatus, Failure, File};
 use crate::files::read_file;
 use crate::finish::{end_command, write_output, write_text};
 use plc_base::NoMemory;
@@ -109,10 +109,10 @@ pub fn cmd_bound<F: Files, K: Sink>(
     cert: &str,
     files: &mut F,
     out: &mut K,
-) -> Status
+) -> ExitStatus
     ensures ends { let went = disk_moments (F.shown files.old) (F.shown files.new) in
-        EndsWithStatus (Some (Bound img.now cert.now)) went (sink_moments (K.shown out.old) (K.shown out.new))
-        result.code }
+        EndsWithStatus (Some (Bound img.now cert.now)) went
+        (sink_moments (K.shown out.old) (K.shown out.new)) result.code }
     ensures table { let went = disk_moments (F.shown files.old) (F.shown files.new) in
         StatusTable (Some (Bound img.now cert.now)) went
         (sink_moments (K.shown out.old) (K.shown out.new)) result.code }

@@ -84,8 +84,8 @@ pub fn check_with_history(
         (λ v. KeepsText german text.now.source.items (symbols_text_of text.now) v.0.program) }
     ensures large { IfOk result (λ v. v.0.profile ≡ Large) }
     ensures spells { IfOk result
-        (λ v. history_of_text (names_read_in (language_of german) (symbols_text_of text.now)) history.now
-        ≡ Ok v.1.entries) }
+        (λ v. history_of_text (names_read_in (language_of german) (symbols_text_of text.now))
+        history.now ≡ Ok v.1.entries) }
     ensures valid { IfOk result (λ v. All IsValid v.1.entries) }
     ensures refused { SaysRefusal
         (GoSays german text.now.source.items (symbols_text_of text.now) history.now) result }

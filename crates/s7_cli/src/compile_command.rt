@@ -8,7 +8,7 @@ ghost use Rattle.s7_cli.specs.StatusTable.{StatusTable};
 ghost use Rattle.s7_cli.specs.Texts.{AreFilesWithinLimits, file_contents_of};
 
 use crate::command_checks::check_image;
-use crate::failures::{Failure, Status};
+use crate::failures::{ExitStatus, Failure};
 use crate::files::{ProgramText, read_program};
 use crate::finish::{end_command, write_output};
 use plc_io::{Files, Sink};
@@ -27,7 +27,8 @@ fn compile_text<F: Files, K: Sink>(
     ensures { let went = disk_moments (F.shown files.old) (F.shown files.new) in
         let took = sink_moments (K.shown out.old) (K.shown out.new) in
         (src : List ℕ) (symbols : Option (List ℕ))
-        → CommandComesTo (Compile src symbols german img.now) (file_contents_of text.now) went took result }
+        → CommandComesTo (Compile src symbols german img.now) (file_contents_of text.now) went
+        took result }
 {
     let image = check_image(alloc, text, german)?;
     write_output(files, out, img, &image)
@@ -45,8 +46,9 @@ fn compile<F: Files, K: Sink>(
 ) -> Result<(), Failure>
     ensures { let went = disk_moments (F.shown files.old) (F.shown files.new) in
         let took = sink_moments (K.shown out.old) (K.shown out.new) in
-        ComesBeforeLine (Some (Compile src.now (option_map (λ s. s.now) symbols.entry) german img.now)) went
-        took result }
+        ComesBeforeLine
+        (Some (Compile src.now (option_map (λ s. s.now) symbols.entry) german img.now))
+        went took result }
 {
     let text = read_program(alloc, files, src, symbols)?;
     compile_text(alloc, &text, img, german, files, out)
@@ -64,11 +66,12 @@ pub fn cmd_compile<F: Files, K: Sink>(
     german: bool,
     files: &mut F,
     out: &mut K,
-) -> Status
+) -> ExitStatus
     ensures ends { let went = disk_moments (F.shown files.old) (F.shown files.new) in
         let took = sink_moments (K.shown out.old) (K.shown out.new) in
-        EndsWithStatus (Some (Compile src.now (option_map (λ s. s.now) symbols.entry) german img.now)) went
-        took result.code }
+        EndsWithStatus
+        (Some (Compile src.now (option_map (λ s. s.now) symbols.entry) german img.now))
+        went took result.code }
     ensures table { let went = disk_moments (F.shown files.old) (F.shown files.new) in
         let took = sink_moments (K.shown out.old) (K.shown out.new) in
         StatusTable (Some (Compile src.now (option_map (λ s. s.now) symbols.entry) german img.now))

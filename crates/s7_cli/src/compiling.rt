@@ -88,7 +88,8 @@ pub(crate) fn symbols_in(
 /// The tree of a source.
 fn tree_of(alloc: Global, source: &[u8]) -> Result<Tree, SourceFault>
     requires { length source.now ≤ source_limit }
-    ensures { MakesOrRefuses (HaveOutcomeInTurn HasTokens (HasTreeOrRefusal source.now) source.now) result }
+    ensures { MakesOrRefuses (HaveOutcomeInTurn HasTokens (HasTreeOrRefusal source.now) source.now)
+        result }
 {
     let tokens = lex(alloc, source)?;
     let tree = parse(alloc, &tokens)?;
@@ -113,8 +114,8 @@ fn refusal_of_statements(
     }
 }
 
-/// The least refusal of a tree that breaks a rule on its layout. The statements are checked with all
-/// that breaks none.
+/// The least refusal of a tree that breaks a rule on its layout. The statements are checked with
+/// all that breaks none.
 fn least_refusal(
     alloc: Global,
     tree: &Tree,
@@ -144,9 +145,9 @@ fn layouts_of(alloc: Global, tree: &Tree, symbols: &Symbols) -> Result<Layouts, 
     }
 }
 
-/// Lays out a source with these symbols. The tokens of the source are checked first, then its clauses,
-/// and its layout. Where a rule on the layout is broken, the refusal is the least one of these rules
-/// and of those on statements.
+/// Lays out a source with these symbols. The tokens of the source are checked first, then its
+/// clauses, and its layout. Where a rule on the layout is broken, the refusal is the least one of
+/// these rules and of those on statements.
 fn laid_out(alloc: Global, source: &[u8], symbols: Symbols) -> Result<LaidSource, CompileFault>
     requires { length source.now ≤ source_limit }
     ensures laid { IfOk result (IsSourceLaidOut source.now) }
@@ -209,8 +210,8 @@ pub(crate) fn law_of_files(source: &[u8], symbols: &[u8])
     law_of_bytes(symbols);
 }
 
-/// Checks a source with symbols that were read, in either language. No program is made: that a source
-/// which breaks no rule has one that verifies and runs as it means is proved.
+/// Checks a source with symbols that were read, in either language. No program is made: that a
+/// source which breaks no rule has one that verifies and runs as it means is proved.
 pub(crate) fn check_source_with(
     alloc: Global,
     source: &[u8],
@@ -249,8 +250,8 @@ pub(crate) fn program_with(
 ///
 /// # Errors
 ///
-/// Those of `compiled`: `Symbols` or `Source` with the refusal exactly where the symbols file or the
-/// source with these symbols is refused; or `NoMemory`.
+/// Those of `compiled`: `Symbols` or `Source` with the refusal exactly where the symbols file or
+/// the source with these symbols is refused; or `NoMemory`.
 pub fn check_source(alloc: Global, source: &[u8], symbols: &[u8]) -> Result<(), CompileFault>
     requires source { length source.now ≤ source_limit }
     requires symbols { length symbols.now ≤ symbols_limit }
@@ -278,11 +279,11 @@ fn program_of(alloc: Global, source: &[u8], symbols: &[u8]) -> Result<Program, C
     program_with(alloc, source, list)
 }
 
-/// Compiles a source of at most 1,048,576 bytes with its symbols file, which has at most as many (no
-/// file: no bytes), into a loaded program that runs as it means and has the names of its symbols. The
-/// symbols are checked first, then the tokens of the source, its clauses, and its layout together
-/// with its statements. It has the large profile. `load` gives this program, with this profile, for the
-/// image that `compiled_image` gives.
+/// Compiles a source of at most 1,048,576 bytes with its symbols file, which has at most as many
+/// (no file: no bytes), into a loaded program that runs as it means and has the names of its
+/// symbols. The symbols are checked first, then the tokens of the source, its clauses, and its
+/// layout together with its statements. It has the large profile. `load` gives this program, with
+/// this profile, for the image that `compiled_image` gives.
 ///
 /// # Errors
 ///
@@ -309,8 +310,8 @@ pub fn compiled(alloc: Global, source: &[u8], symbols: &[u8]) -> Result<Loaded, 
 ///
 /// # Errors
 ///
-/// Those of `compiled`: `Symbols` or `Source` with the refusal exactly where the symbols file or the
-/// source with these symbols is refused; or `NoMemory`.
+/// Those of `compiled`: `Symbols` or `Source` with the refusal exactly where the symbols file or
+/// the source with these symbols is refused; or `NoMemory`.
 pub fn compiled_image(alloc: Global, source: &[u8], symbols: &[u8]) -> Result<Vec<u8>, CompileFault>
     requires source { length source.now ≤ source_limit }
     requires symbols { length symbols.now ≤ symbols_limit }
@@ -323,7 +324,8 @@ pub fn compiled_image(alloc: Global, source: &[u8], symbols: &[u8]) -> Result<Ve
     Ok(write_image2(alloc, &program, Profile::Large)?)
 }
 
-/// A law: a source with its symbols compiles to one program at most, and to none where it is refused.
+/// A law: a source with its symbols compiles to one program at most, and to none where it is
+/// refused.
 pub(crate) fn law_of_programs()
     ensures one { IsProgramUnique }
     ensures refused { RefusedHaveNone }

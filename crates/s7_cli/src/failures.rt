@@ -129,7 +129,7 @@ impl From<CertificateFault> for Failure {
 
 /// The exit status of a call.
 #[derive(Clone, Copy, Debug, PartialEq, Eq)]
-pub struct Status {
+pub struct ExitStatus {
     pub code: u8,
 }
 
@@ -144,9 +144,9 @@ fn refused_code(file: File) -> u8
     }
 }
 
-impl Status {
+impl ExitStatus {
     /// The exit status of a command that came out so.
-    pub fn of(outcome: Result<(), Failure>) -> Status
+    pub fn of(outcome: Result<(), Failure>) -> ExitStatus
         ensures { result.code ≡ exit_status outcome }
     {
         let code = match outcome {
@@ -161,6 +161,6 @@ impl Status {
             Err(Failure::NoListing) => 9,
             Err(Failure::SaysNo | Failure::TooDeep) => 10,
         };
-        Status { code }
+        ExitStatus { code }
     }
 }

@@ -79,7 +79,7 @@ pub(crate) fn limit_of(file: File) -> usize
     }
 }
 
-/// Reads an input file whole. A failed read is told before a length.
+/// Reads an input file whole. A failed read goes before a length past the limit.
 pub fn read_file<F: Files>(
     alloc: Global,
     files: &mut F,
@@ -87,7 +87,8 @@ pub fn read_file<F: Files>(
     name: &str,
 ) -> Result<Vec<u8>, Failure>
     ensures { let input : Input = record { file = file; name = name.now } in
-        FileRead (λ v. v.items) (disk_moments (F.shown files.old) (F.shown files.new)) input result }
+        FileRead (λ v. v.items) (disk_moments (F.shown files.old) (F.shown files.new)) input
+        result }
 {
     let limit = limit_of(file);
     match read_to_limit(alloc, files, name, limit) {

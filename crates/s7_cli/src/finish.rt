@@ -8,7 +8,7 @@ ghost use Rattle.s7_cli.specs.Lines.{line_of_failure};
 ghost use Rattle.s7_cli.specs.Reading.{Disk, disk_moments};
 ghost use Rattle.s7_cli.specs.StatusTable.{StatusTable};
 
-use crate::failures::{Failure, Status};
+use crate::failures::{ExitStatus, Failure};
 use crate::files::write_file;
 use crate::listing::law_of_listings;
 use crate::texts::failure_line;
@@ -21,7 +21,8 @@ pub const OK_LINE: &[u8] = b"OK\n";
 /// How a command came out whose text was written so.
 pub fn written(outcome: Result<(), IoFault>) -> Result<(), Failure>
     ensures { (before after : SinkAt) (text : List ℕ)
-        → WroteText before after text outcome → TextWritten text (sink_moments before after) result }
+        → WroteText before after text outcome
+        → TextWritten text (sink_moments before after) result }
 {
     match outcome {
         Ok(()) => Ok(()),
@@ -60,7 +61,8 @@ pub struct Output<'a> {
     pub bytes: &'a [u8],
 }
 
-/// Makes texts the whole of a command's two output files, the first one first, and then writes `OK`.
+/// Makes texts the whole of a command's two output files, the first one first, and then writes
+/// `OK`.
 pub fn write_outputs<F: Files, K: Sink>(
     files: &mut F,
     out: &mut K,
@@ -105,7 +107,7 @@ fn finish<K: Sink>(out: &mut K, came: Result<(), Failure>) -> Result<(), Failure
 }
 
 /// Ends a command, whose failure isn't written yet.
-pub fn end_command<K: Sink>(out: &mut K, came: Result<(), Failure>) -> Status
+pub fn end_command<K: Sink>(out: &mut K, came: Result<(), Failure>) -> ExitStatus
     ensures ends { (c : Option Command) (d : Disk) (start : SinkAt)
         → ComesBeforeLine c d (sink_moments start (K.shown out.old)) came
         → EndsWithStatus c d (sink_moments start (K.shown out.new)) result.code }
@@ -118,5 +120,5 @@ pub fn end_command<K: Sink>(out: &mut K, came: Result<(), Failure>) -> Status
     de_mnemonics::law_of_translations();
     stack_bound::laws::certificates_keep_stacks();
     law_of_listings();
-    Status::of(finish(out, came))
+    ExitStatus::of(finish(out, came))
 }

@@ -13,7 +13,7 @@ ghost use Rattle.s7_cli.specs.Says.{GenSays};
 ghost use Rattle.s7_cli.specs.StatusTable.{StatusTable};
 
 use crate::compiling::compiled;
-use crate::failures::{Failure, Status};
+use crate::failures::{ExitStatus, Failure};
 use crate::finish::{end_command, write_text};
 use crate::nowhere::Nowhere;
 use crate::run_text::{started, write_entries};
@@ -73,9 +73,9 @@ fn generate<K: Sink>(alloc: Global, number: u32, out: &mut K) -> Result<(), Fail
 }
 
 /// Makes the program and the history of a number, runs the one along the other, and writes the
-/// summary: how many entries the history has, the mode behind them, and the sum of the bytes MB 0 to
-/// MB 255; or the line of a refusal. No file is read.
-pub fn cmd_gen<K: Sink>(alloc: Global, number: u32, out: &mut K) -> Status
+/// summary: how many entries the history has, the mode behind them, and the sum of the bytes MB 0
+/// to MB 255; or the line of a refusal. No file is read.
+pub fn cmd_gen<K: Sink>(alloc: Global, number: u32, out: &mut K) -> ExitStatus
     ensures ends { (files : FilesAt) → EndsWithStatus (Some (Gen number)) (disk_moments files files)
         (sink_moments (K.shown out.old) (K.shown out.new)) result.code }
     ensures table { (files : FilesAt) → StatusTable (Some (Gen number)) (disk_moments files files)

@@ -9,7 +9,7 @@ ghost use Rattle.s7_cli.specs.StatusTable.{StatusTable};
 ghost use Rattle.s7_cli.specs.Texts.{AreFilesWithinLimits, file_contents_of};
 
 use crate::command_checks::check_with_history;
-use crate::failures::{Failure, File, Status};
+use crate::failures::{ExitStatus, Failure, File};
 use crate::files::{ProgramText, read_file, read_program};
 use crate::finish::{end_command, written};
 use crate::run_text::replay_text;
@@ -28,8 +28,8 @@ fn go_along<K: Sink>(
     requires history { length history.now ≤ 4194304 }
     ensures { let took = sink_moments (K.shown out.old) (K.shown out.new) in
         (src hist : List ℕ) (symbols : Option (List ℕ)) (at : FilesAt)
-        → CommandComesTo (Go src symbols german hist) (file_contents_of text.now ++ history.now ∷ [])
-        (disk_moments at at) took result }
+        → CommandComesTo (Go src symbols german hist)
+        (file_contents_of text.now ++ history.now ∷ []) (disk_moments at at) took result }
 {
     let (program, entries) = check_with_history(alloc, text, german, history)?;
     // programs that no history tells apart have one text
@@ -49,16 +49,18 @@ fn go<F: Files, K: Sink>(
 ) -> Result<(), Failure>
     ensures { let went = disk_moments (F.shown files.old) (F.shown files.new) in
         let took = sink_moments (K.shown out.old) (K.shown out.new) in
-        ComesBeforeLine (Some (Go src.now (option_map (λ s. s.now) symbols.entry) german hist.now)) went took
-        result }
+        ComesBeforeLine
+        (Some (Go src.now (option_map (λ s. s.now) symbols.entry) german hist.now))
+        went took result }
 {
     let text = read_program(alloc, files, src, symbols)?;
     let history = read_file(alloc, files, File::History, hist)?;
     go_along(alloc, &text, german, &history, out)
 }
 
-/// Runs the source in the file `src`, with the symbols in the file `symbols` if there is one, both of
-/// which are German where `german` says so, along the history in the file `hist`, and writes the text of the run, or the line of a refusal.
+/// Runs the source in the file `src`, with the symbols in the file `symbols` if there is one, both
+/// of which are German where `german` says so, along the history in the file `hist`, and writes the
+/// text of the run, or the line of a refusal.
 pub fn cmd_go<F: Files, K: Sink>(
     alloc: Global,
     src: &str,
@@ -67,15 +69,17 @@ pub fn cmd_go<F: Files, K: Sink>(
     german: bool,
     files: &mut F,
     out: &mut K,
-) -> Status
+) -> ExitStatus
     ensures ends { let went = disk_moments (F.shown files.old) (F.shown files.new) in
         let took = sink_moments (K.shown out.old) (K.shown out.new) in
-        EndsWithStatus (Some (Go src.now (option_map (λ s. s.now) symbols.entry) german hist.now)) went took
-        result.code }
+        EndsWithStatus
+        (Some (Go src.now (option_map (λ s. s.now) symbols.entry) german hist.now))
+        went took result.code }
     ensures table { let went = disk_moments (F.shown files.old) (F.shown files.new) in
         let took = sink_moments (K.shown out.old) (K.shown out.new) in
-        StatusTable (Some (Go src.now (option_map (λ s. s.now) symbols.entry) german hist.now)) went took
-        result.code }
+        StatusTable
+        (Some (Go src.now (option_map (λ s. s.now) symbols.entry) german hist.now))
+        went took result.code }
 {
     let came = go(alloc, src, hist, symbols, german, files, out);
     end_command(out, came)

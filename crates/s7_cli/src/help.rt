@@ -2,7 +2,7 @@
 ghost use Rattle.std.specs.Prelude.{◌≡◌, map, string_bytes};
 ghost use Rattle.s7_cli.specs.Questions.{AnswerWritten, question_by, question_of, question_text};
 
-use crate::failures::{Failure, Status};
+use crate::failures::{ExitStatus, Failure};
 use plc_io::{IoFault, Sink, push_all};
 
 /// What the words may ask of the program itself.
@@ -248,13 +248,14 @@ impl Question {
 
 /// Writes the answer to a question. The status is 0, or 6 where the sink failed, or 7 where memory
 /// was wanting.
-pub fn write_answer<K: Sink>(out: &mut K, question: Question) -> Status
-    ensures { AnswerWritten (question_text question) (K.shown out.old) (K.shown out.new) result.code }
+pub fn write_answer<K: Sink>(out: &mut K, question: Question) -> ExitStatus
+    ensures { AnswerWritten (question_text question) (K.shown out.old) (K.shown out.new)
+        result.code }
 {
     let outcome = match push_all(out, question.text().as_bytes()) {
         Ok(()) => Ok(()),
         Err(IoFault::Failed) => Err(Failure::WriteFault),
         Err(IoFault::NoMemory) => Err(Failure::NoMemory),
     };
-    Status::of(outcome)
+    ExitStatus::of(outcome)
 }

@@ -42,7 +42,7 @@ pub use bound_command::cmd_bound;
 pub use checking::cmd_check;
 pub use compile_command::cmd_compile;
 pub use compiling::{check_source, compiled, compiled_image, compiles_to};
-pub use failures::{Failure, File, Status};
+pub use failures::{ExitStatus, Failure, File};
 pub use faults::CompileFault;
 pub use gen_command::cmd_gen;
 pub use going::cmd_go;

@@ -5,7 +5,7 @@ ghost use Rattle.s7_cli.specs.Inner.{ComesBeforeLine, CommandComesTo};
 ghost use Rattle.s7_cli.specs.Reading.{disk_moments};
 ghost use Rattle.s7_cli.specs.StatusTable.{StatusTable};
 
-use crate::failures::{Failure, File, Status};
+use crate::failures::{ExitStatus, Failure, File};
 use crate::files::read_file;
 use crate::finish::{Output, end_command, write_outputs};
 use crate::listing::check_listing;
@@ -58,9 +58,9 @@ fn list<F: Files, K: Sink>(
 }
 
 /// Loads the image in the file `img`, makes the source that is listed of its program the whole of
-/// the file `src`, and its names the whole of the symbols file `sym`, and then writes `OK`; or writes
-/// the line of a refusal, and no file. Where the status is 0, the two compile to the program of the
-/// image, names and lines with it. Either may be the image's own file.
+/// the file `src`, and its names the whole of the symbols file `sym`, and then writes `OK`; or
+/// writes the line of a refusal, and no file. Where the status is 0, the two compile to the program
+/// of the image, names and lines with it. Either may be the image's own file.
 pub fn cmd_list<F: Files, K: Sink>(
     alloc: Global,
     img: &str,
@@ -68,7 +68,7 @@ pub fn cmd_list<F: Files, K: Sink>(
     sym: &str,
     files: &mut F,
     out: &mut K,
-) -> Status
+) -> ExitStatus
     requires { src.now ≢ sym.now }
     ensures ends { let went = disk_moments (F.shown files.old) (F.shown files.new) in
         EndsWithStatus (Some (ListImage img.now src.now sym.now)) went

@@ -54,8 +54,8 @@ pub(crate) fn check_listing(alloc: Global, image: &[u8]) -> Result<Listing, Fail
     listing_of(alloc, &loaded)
 }
 
-/// A law: where a listing compiles, it compiles to one program, that of the image; where `compile` wrote
-/// the image, the listing does compile, unless it is too long, and to the same bytes.
+/// A law: where a listing compiles, it compiles to one program, that of the image; where `compile`
+/// wrote the image, the listing does compile, unless it is too long, and to the same bytes.
 pub fn law_of_listings()
     ensures programs { ListingsGivePrograms }
     ensures images { ListingsGiveImages }

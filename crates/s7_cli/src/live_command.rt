@@ -1,4 +1,5 @@
-//! A live run: several workers run an image, and the history that they made is written, and its run.
+//! A live run: several workers run an image, and the history that they made is written, and its
+//! run.
 ghost use Rattle.std.specs.Prelude.{◌≡◌, ℕ, ◌^◌, ◌<◌, ◌≤◌, List, ◌++◌, codes, length, map, All, IfOk, Some};
 ghost use Rattle.plc_io.specs.Moments.{FilesAt};
 ghost use Rattle.plc_io.specs.Taken.{WroteText};
@@ -18,7 +19,7 @@ ghost use Rattle.s7_cli.specs.run_text.Behind.{program_of_recording};
 ghost use Rattle.s7_cli.specs.run_text.RunText.{run_text};
 
 use crate::command_checks::{LiveWork, check_live};
-use crate::failures::{Failure, Status};
+use crate::failures::{ExitStatus, Failure};
 use crate::files::{LiveText, read_live};
 use crate::finish::{end_command, written};
 use crate::living::live_run;
@@ -43,7 +44,8 @@ fn lived<R: Threads + Wait + Sync, G: Gate + Sync>(
     requires text { IsLiveText text.now }
     requires steps { steps ≤ 1000000 }
     ensures says { IfOk result
-        (λ c. LiveTextSays steps text.now (done_answer (live_text (program_of_recording c) c.history))) }
+        (λ c. LiveTextSays steps text.now
+        (done_answer (live_text (program_of_recording c) c.history))) }
     ensures valid { IfOk result (λ c. All IsValid c.history) }
     ensures refused { SaysRefusal (LiveTextSays steps text.now) result }
 {
@@ -123,13 +125,15 @@ fn live_read<R: Threads + Wait + Sync, K: Sink, G: Gate + Sync>(
     requires steps { steps ≤ 1000000 }
     ensures { let took = sink_moments (K.shown out.old) (K.shown out.new) in
         (img stim : List ℕ) (ops : List (List ℕ)) (at : FilesAt)
-        → CommandComesTo (Live img stim ops steps) (live_contents text.now) (disk_moments at at) took result }
+        → CommandComesTo (Live img stim ops steps) (live_contents text.now)
+        (disk_moments at at) took result }
 {
     let controller = lived(rt, alloc, text, steps, gate)?;
     written(write_live(alloc, controller, out))
 }
 
-/// Reads an image, stimuli and scripts, checks all, lets the workers work, and writes what they made.
+/// Reads an image, stimuli and scripts, checks all, lets the workers work, and writes what they
+/// made.
 fn live<R: Threads + Wait + Sync, F: Files, K: Sink, G: Gate + Sync>(
     rt: &R,
     alloc: Global,
@@ -145,17 +149,18 @@ fn live<R: Threads + Wait + Sync, F: Files, K: Sink, G: Gate + Sync>(
     requires steps { steps ≤ 1000000 }
     ensures { let went = disk_moments (F.shown files.old) (F.shown files.new) in
         let took = sink_moments (K.shown out.old) (K.shown out.new) in
-        ComesBeforeLine (Some (Live img.now stim.now (map (λ w. w.now) ops.now) steps)) went took result }
+        ComesBeforeLine (Some (Live img.now stim.now (map (λ w. w.now) ops.now) steps)) went
+        took result }
 {
     let text = read_live(alloc, files, img, stim, ops)?;
     live_read(rt, alloc, &text, steps, out, gate)
 }
 
 /// Lets several workers run the image in the file `img` beside each other: a stepper makes `steps`
-/// steps, or fewer where one of them leaves STOP; a feeder makes the entries of the file `stim`; and an
-/// operator for each file of `ops` asks what that holds, where the names of the image are known. Each
-/// passes `gate` before each of its entries. Then the history that they made is written, a line `---`,
-/// and the text of the history's run; or the line of a refusal.
+/// steps, or fewer where one of them leaves STOP; a feeder makes the entries of the file `stim`;
+/// and an operator for each file of `ops` asks what that holds, where the names of the image are
+/// known. Each passes `gate` before each of its entries. Then the history that they made is
+/// written, a line `---`, and the text of the history's run; or the line of a refusal.
 pub fn cmd_live<R: Threads + Wait + Sync, F: Files, K: Sink, G: Gate + Sync>(
     rt: &R,
     alloc: Global,
@@ -166,7 +171,7 @@ pub fn cmd_live<R: Threads + Wait + Sync, F: Files, K: Sink, G: Gate + Sync>(
     files: &mut F,
     out: &mut K,
     gate: &G,
-) -> Status
+) -> ExitStatus
     requires ops { (1 ≤ length ops.now) × (length ops.now ≤ 4) }
     requires steps { (1 ≤ steps) × (steps ≤ 1000000) }
     ensures ends { let went = disk_moments (F.shown files.old) (F.shown files.new) in

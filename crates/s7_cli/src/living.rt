@@ -21,8 +21,8 @@ use std::sync::Wait;
 use std::thread::Threads;
 use var_access::Entry;
 
-/// The controller of a station, once all workers have ended. The station is closed before the refusal is
-/// looked at: only the whole history says that it isn't full.
+/// The controller of a station, once all workers have ended. The station is closed before the
+/// refusal is looked at: only the whole history says that it isn't full.
 pub(crate) fn ended(
     station: Station,
     pass: Pass<Shared>,
@@ -45,8 +45,8 @@ pub(crate) fn ended(
     }
 }
 
-/// Lets a stepper, a feeder and an operator for each script work beside each other on a program, and
-/// gives the controller with the history that they made.
+/// Lets a stepper, a feeder and an operator for each script work beside each other on a program,
+/// and gives the controller with the history that they made.
 ///
 /// # Errors
 ///

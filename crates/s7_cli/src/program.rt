@@ -8,7 +8,7 @@ ghost use Rattle.s7_cli.specs.StatusTable.{StatusTable};
 use crate::bound_command::cmd_bound;
 use crate::checking::cmd_check;
 use crate::compile_command::cmd_compile;
-use crate::failures::{Failure, Status};
+use crate::failures::{ExitStatus, Failure};
 use crate::finish::end_command;
 use crate::gen_command::cmd_gen;
 use crate::going::cmd_go;
@@ -31,7 +31,7 @@ fn with_source<F: Files, K: Sink>(
     asked: Asked<'_>,
     files: &mut F,
     out: &mut K,
-) -> Status
+) -> ExitStatus
     requires { compiles_a_source asked ≡ true }
     ensures ends { let went = disk_moments (F.shown files.old) (F.shown files.new) in
         let took = sink_moments (K.shown out.old) (K.shown out.new) in
@@ -68,7 +68,7 @@ fn with_image<F: Files, K: Sink>(
     asked: Asked<'_>,
     files: &mut F,
     out: &mut K,
-) -> Status
+) -> ExitStatus
     requires image { takes_image asked ≡ true }
     requires limits { KeepsLimits (command_value asked) }
     ensures ends { let went = disk_moments (F.shown files.old) (F.shown files.new) in
@@ -102,7 +102,7 @@ fn with_workers<R: Threads + Wait + Sync, F: Files, K: Sink, G: Gate + Sync>(
     files: &mut F,
     out: &mut K,
     gate: &G,
-) -> Status
+) -> ExitStatus
     requires workers { has_workers asked ≡ true }
     requires limits { KeepsLimits (command_value asked) }
     ensures ends { let went = disk_moments (F.shown files.old) (F.shown files.new) in
@@ -159,7 +159,7 @@ fn carry_out<R: Threads + Wait + Sync, F: Files, K: Sink, G: Gate + Sync>(
     files: &mut F,
     out: &mut K,
     gate: &G,
-) -> Status
+) -> ExitStatus
     requires limits { KeepsLimits (command_value asked) }
     ensures ends { let went = disk_moments (F.shown files.old) (F.shown files.new) in
         let took = sink_moments (K.shown out.old) (K.shown out.new) in
@@ -223,7 +223,7 @@ pub fn s7_main<R: Threads + Wait + Sync, F: Files, K: Sink, G: Gate + Sync>(
     files: &mut F,
     out: &mut K,
     gate: &G,
-) -> Status
+) -> ExitStatus
     ensures ends { let went = disk_moments (F.shown files.old) (F.shown files.new) in
         let took = sink_moments (K.shown out.old) (K.shown out.new) in
         EndsWithStatus (command_of (map string_bytes words.now)) went took result.code }

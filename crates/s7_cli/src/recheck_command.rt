@@ -9,7 +9,7 @@ ghost use Rattle.s7_cli.specs.Reading.{disk_moments};
 ghost use Rattle.s7_cli.specs.StatusTable.{StatusTable};
 
 use crate::command_checks::loaded;
-use crate::failures::{Failure, File, Status};
+use crate::failures::{ExitStatus, Failure, File};
 use crate::files::read_file;
 use crate::finish::{OK_LINE, end_command, write_text};
 use plc_io::{Files, Sink};
@@ -40,7 +40,8 @@ fn recheck_image<K: Sink>(
     requires { length certificate.now ≤ 4194304 }
     ensures { let took = sink_moments (K.shown out.old) (K.shown out.new) in
         (img cert : List ℕ) (at : FilesAt)
-        → CommandComesTo (Recheck img cert) (image.now ∷ certificate.now ∷ []) (disk_moments at at) took result }
+        → CommandComesTo (Recheck img cert) (image.now ∷ certificate.now ∷ [])
+        (disk_moments at at) took result }
 {
     check_recheck(alloc, image, certificate)?;
     write_text(out, OK_LINE)
@@ -72,10 +73,10 @@ pub fn cmd_recheck<F: Files, K: Sink>(
     cert: &str,
     files: &mut F,
     out: &mut K,
-) -> Status
+) -> ExitStatus
     ensures ends { let went = disk_moments (F.shown files.old) (F.shown files.new) in
-        EndsWithStatus (Some (Recheck img.now cert.now)) went (sink_moments (K.shown out.old) (K.shown out.new))
-        result.code }
+        EndsWithStatus (Some (Recheck img.now cert.now)) went
+        (sink_moments (K.shown out.old) (K.shown out.new)) result.code }
     ensures table { let went = disk_moments (F.shown files.old) (F.shown files.new) in
         StatusTable (Some (Recheck img.now cert.now)) went
         (sink_moments (K.shown out.old) (K.shown out.new)) result.code }

@@ -7,7 +7,7 @@ ghost use Rattle.s7_cli.specs.Reading.{disk_moments};
 ghost use Rattle.s7_cli.specs.StatusTable.{StatusTable};
 
 use crate::command_checks::check_run;
-use crate::failures::{Failure, File, Status};
+use crate::failures::{ExitStatus, Failure, File};
 use crate::files::read_file;
 use crate::finish::{end_command, written};
 use crate::run_text::replay_text;
@@ -24,7 +24,8 @@ fn run_along<K: Sink>(
     requires { length history.now ≤ 4194304 }
     ensures { let took = sink_moments (K.shown out.old) (K.shown out.new) in
         (img hist : List ℕ) (at : FilesAt)
-        → CommandComesTo (Run img hist) (image.now ∷ history.now ∷ []) (disk_moments at at) took result }
+        → CommandComesTo (Run img hist) (image.now ∷ history.now ∷ [])
+        (disk_moments at at) took result }
 {
     let (program, entries) = check_run(alloc, image, history)?;
     written(replay_text(alloc, program, &entries, out))
@@ -56,13 +57,13 @@ pub fn cmd_run<F: Files, K: Sink>(
     hist: &str,
     files: &mut F,
     out: &mut K,
-) -> Status
+) -> ExitStatus
     ensures ends { let went = disk_moments (F.shown files.old) (F.shown files.new) in
-        EndsWithStatus (Some (Run img.now hist.now)) went (sink_moments (K.shown out.old) (K.shown out.new))
-        result.code }
+        EndsWithStatus (Some (Run img.now hist.now)) went
+        (sink_moments (K.shown out.old) (K.shown out.new)) result.code }
     ensures table { let went = disk_moments (F.shown files.old) (F.shown files.new) in
-        StatusTable (Some (Run img.now hist.now)) went (sink_moments (K.shown out.old) (K.shown out.new))
-        result.code }
+        StatusTable (Some (Run img.now hist.now)) went
+        (sink_moments (K.shown out.old) (K.shown out.new)) result.code }
 {
     let came = run(alloc, img, hist, files, out);
     end_command(out, came)

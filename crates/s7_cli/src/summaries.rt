@@ -91,8 +91,8 @@ fn add_mode(line: &mut Line, mode: Mode)
     }
 }
 
-/// The line `GEN NUMBER ENTRIES e MODE m SUM s` of a controller behind its history: how many entries
-/// that has, the mode, and what the bytes MB 0 to MB 255 hold, added up.
+/// The line `GEN NUMBER ENTRIES e MODE m SUM s` of a controller behind its history: how many
+/// entries that has, the mode, and what the bytes MB 0 to MB 255 hold, added up.
 #[tactic(auto, unfolding(crate::specs::GenText::summary_of))]
 pub(crate) fn summary_line(number: u32, controller: &Controller) -> Line
     ensures { result

@@ -91,8 +91,8 @@ fn fixed_line(text: &[u8]) -> Line
     line
 }
 
-/// The line of a failure; none where a write failed or memory is wanting, and where the line of a chain
-/// was written.
+/// The line of a failure; none where a write failed or memory is wanting, and where the line of a
+/// chain was written.
 #[tactic(auto, unfolding(crate::specs::Lines::words_refused_text, crate::specs::Lines::read_fault_text, crate::specs::Lines::no_listing_text, crate::specs::Lines::says_no_text))]
 pub fn failure_line(failure: Failure) -> Option<Line>
     ensures { result ≡ line_of_failure failure }

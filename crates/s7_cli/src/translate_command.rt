@@ -7,7 +7,7 @@ ghost use Rattle.s7_cli.specs.Inner.{ComesBeforeLine, CommandComesTo};
 ghost use Rattle.s7_cli.specs.Reading.{disk_moments};
 ghost use Rattle.s7_cli.specs.StatusTable.{StatusTable};
 
-use crate::failures::{Failure, File, Status};
+use crate::failures::{ExitStatus, Failure, File};
 use crate::files::read_file;
 use crate::finish::{end_command, write_output};
 use crate::translating::translated;
@@ -28,7 +28,8 @@ fn translate_text<F: Files, K: Sink>(
     ensures { let went = disk_moments (F.shown files.old) (F.shown files.new) in
         let took = sink_moments (K.shown out.old) (K.shown out.new) in
         (src : List ℕ)
-        → CommandComesTo (Translate language src translation.now) (source.now ∷ []) went took result }
+        → CommandComesTo (Translate language src translation.now) (source.now ∷ []) went took
+        result }
 {
     let text = translated(alloc, language, source)?;
     write_output(files, out, translation, &text)
@@ -51,8 +52,8 @@ fn translate<F: Files, K: Sink>(
     translate_text(alloc, language, &source, translation, files, out)
 }
 
-/// Makes the translation of the source in the file `src` to the mnemonics of a language the whole of
-/// the file `translation`, and then writes `OK`; or writes the line of a refusal, and no file.
+/// Makes the translation of the source in the file `src` to the mnemonics of a language the whole
+/// of the file `translation`, and then writes `OK`; or writes the line of a refusal, and no file.
 pub fn cmd_translate<F: Files, K: Sink>(
     alloc: Global,
     language: Language,
@@ -60,7 +61,7 @@ pub fn cmd_translate<F: Files, K: Sink>(
     translation: &str,
     files: &mut F,
     out: &mut K,
-) -> Status
+) -> ExitStatus
     ensures ends { let went = disk_moments (F.shown files.old) (F.shown files.new) in
         EndsWithStatus (Some (Translate language src.now translation.now)) went
         (sink_moments (K.shown out.old) (K.shown out.new)) result.code }
@@ -81,7 +82,7 @@ pub fn cmd_english<F: Files, K: Sink>(
     translation: &str,
     files: &mut F,
     out: &mut K,
-) -> Status
+) -> ExitStatus
     ensures ends { let went = disk_moments (F.shown files.old) (F.shown files.new) in
         EndsWithStatus (Some (Translate English src.now translation.now)) went
         (sink_moments (K.shown out.old) (K.shown out.new)) result.code }
@@ -99,7 +100,7 @@ pub fn cmd_german<F: Files, K: Sink>(
     translation: &str,
     files: &mut F,
     out: &mut K,
-) -> Status
+) -> ExitStatus
     ensures ends { let went = disk_moments (F.shown files.old) (F.shown files.new) in
         EndsWithStatus (Some (Translate German src.now translation.now)) went
         (sink_moments (K.shown out.old) (K.shown out.new)) result.code }

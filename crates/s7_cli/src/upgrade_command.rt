@@ -6,7 +6,7 @@ ghost use Rattle.s7_cli.specs.Reading.{disk_moments};
 ghost use Rattle.s7_cli.specs.StatusTable.{StatusTable};
 
 use crate::command_checks::check_upgrade;
-use crate::failures::{Failure, File, Status};
+use crate::failures::{ExitStatus, Failure, File};
 use crate::files::read_file;
 use crate::finish::{end_command, write_output};
 use plc_io::{Files, Sink};
@@ -44,19 +44,19 @@ fn upgrade<F: Files, K: Sink>(
     upgrade_image(alloc, &image, img2, files, out)
 }
 
-/// Loads the image in the file `img`, makes the image of version 2 of its program, names and profile
-/// the whole of the file `img2`, and then writes `OK`; or writes the line of a refusal, and no file.
-/// Both may be the same file.
+/// Loads the image in the file `img`, makes the image of version 2 of its program, names and
+/// profile the whole of the file `img2`, and then writes `OK`; or writes the line of a refusal, and
+/// no file. Both may be the same file.
 pub fn cmd_upgrade<F: Files, K: Sink>(
     alloc: Global,
     img: &str,
     img2: &str,
     files: &mut F,
     out: &mut K,
-) -> Status
+) -> ExitStatus
     ensures ends { let went = disk_moments (F.shown files.old) (F.shown files.new) in
-        EndsWithStatus (Some (Upgrade img.now img2.now)) went (sink_moments (K.shown out.old) (K.shown out.new))
-        result.code }
+        EndsWithStatus (Some (Upgrade img.now img2.now)) went
+        (sink_moments (K.shown out.old) (K.shown out.new)) result.code }
     ensures table { let went = disk_moments (F.shown files.old) (F.shown files.new) in
         StatusTable (Some (Upgrade img.now img2.now)) went
         (sink_moments (K.shown out.old) (K.shown out.new)) result.code }

@@ -14,7 +14,7 @@ ghost use Rattle.s7_cli.specs.WatchSays.{seen_line, seen_reply, seen_text, watch
 ghost use Rattle.s7_cli.specs.WatchTexts.{IsWatchText, WatchTextSays, watch_contents};
 ghost use Rattle.s7_cli.specs.run_text.Behind.{program_of_recording};
 
-use crate::failures::{Failure, Status};
+use crate::failures::{ExitStatus, Failure};
 use crate::finish::{end_command, written};
 use crate::live_command::write_live;
 use crate::watch_checks::{WatchWork, check_watch};
@@ -53,7 +53,8 @@ fn run_watch<R: Threads + Wait + Sync, G: Gate + Sync>(
     requires text { IsWatchText text.now }
     requires steps { steps ≤ 1000000 }
     ensures says { IfOk result (λ w. WatchTextSays steps text.now (done_answer
-        (watch_text (program_of_recording w.controller) w.controller.history w.vars w.views.items))) }
+        (watch_text (program_of_recording w.controller) w.controller.history w.vars
+        w.views.items))) }
     ensures valid { IfOk result (λ w. All IsValid w.controller.history) }
     ensures refused { SaysRefusal (WatchTextSays steps text.now) result }
 {
@@ -133,8 +134,8 @@ fn write_views<K: Sink>(
 fn write_watch<K: Sink>(alloc: Global, watched: Watched, out: &mut K) -> Result<(), IoFault>
     requires { All IsValid watched.controller.history }
     ensures { WroteText (K.shown out.old) (K.shown out.new)
-        (watch_text (program_of_recording watched.controller) watched.controller.history watched.vars
-        watched.views.items) result }
+        (watch_text (program_of_recording watched.controller) watched.controller.history
+        watched.vars watched.views.items) result }
 {
     let Watched {
         controller,
@@ -145,8 +146,8 @@ fn write_watch<K: Sink>(alloc: Global, watched: Watched, out: &mut K) -> Result<
     write_views(alloc, &vars, &views, out)
 }
 
-/// Checks what the files of a watch hold, lets the workers work and the viewer view, and writes what
-/// they made and saw.
+/// Checks what the files of a watch hold, lets the workers work and the viewer view, and writes
+/// what they made and saw.
 fn watch_read<R: Threads + Wait + Sync, K: Sink, G: Gate + Sync>(
     rt: &R,
     alloc: Global,
@@ -159,8 +160,8 @@ fn watch_read<R: Threads + Wait + Sync, K: Sink, G: Gate + Sync>(
     requires steps { steps ≤ 1000000 }
     ensures { let took = sink_moments (K.shown out.old) (K.shown out.new) in
         (img stim vars : List ℕ) (ops : List (List ℕ)) (at : FilesAt)
-        → CommandComesTo (Watch img stim vars ops steps) (watch_contents text.now) (disk_moments at at) took
-        result }
+        → CommandComesTo (Watch img stim vars ops steps) (watch_contents text.now)
+        (disk_moments at at) took result }
 {
     let watched = run_watch(rt, alloc, text, steps, gate)?;
     written(write_watch(alloc, watched, out))
@@ -207,15 +208,17 @@ pub fn cmd_watch<R: Threads + Wait + Sync, F: Files, K: Sink, G: Gate + Sync>(
     files: &mut F,
     out: &mut K,
     gate: &G,
-) -> Status
+) -> ExitStatus
     requires ops { (1 ≤ length ops.now) × (length ops.now ≤ 3) }
     requires steps { (1 ≤ steps) × (steps ≤ 1000000) }
     ensures ends { let went = disk_moments (F.shown files.old) (F.shown files.new) in
         let asked = Watch img.now stim.now vars.now (map (λ w. w.now) ops.now) steps in
-        EndsWithStatus (Some asked) went (sink_moments (K.shown out.old) (K.shown out.new)) result.code }
+        EndsWithStatus (Some asked) went (sink_moments (K.shown out.old) (K.shown out.new))
+        result.code }
     ensures table { let went = disk_moments (F.shown files.old) (F.shown files.new) in
         let asked = Watch img.now stim.now vars.now (map (λ w. w.now) ops.now) steps in
-        StatusTable (Some asked) went (sink_moments (K.shown out.old) (K.shown out.new)) result.code }
+        StatusTable (Some asked) went (sink_moments (K.shown out.old) (K.shown out.new))
+        result.code }
 {
     let came = watch(rt, alloc, img, stim, vars, ops, steps, files, out, gate);
     end_command(out, came)

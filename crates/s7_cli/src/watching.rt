@@ -81,8 +81,8 @@ fn publish_all<R: Wait, G: Gate>(
     requires fresh { IsFresh s.now p.old }
     requires valid { IsRequest (ReadVars vars.now) }
     requires opening { publisher.old.list ≡ initial_item ∷ [] }
-    ensures { PublishesReplies s.now (read_entry_of p.old.number vars.now) PUBLISHED p.new publisher.old
-        publisher.new result }
+    ensures { PublishesReplies s.now (read_entry_of p.old.number vars.now) PUBLISHED p.new
+        publisher.old publisher.new result }
 {
     let who = p.number();
     gate.pass(who, 1);
@@ -131,12 +131,13 @@ fn publish_beside_views<R: Threads + Wait + Sync, G: Gate + Sync>(
         &mut || -> Result<Note, StationFault>
             requires { IsFresh s.now p.now × IsRequest (ReadVars vars.now)
                 × (publisher.now.list ≡ initial_item ∷ []) }
-            ensures { PublishesReplies s.entry.now (read_entry_of p.entry.now.number vars.entry.now) PUBLISHED
-                p.exit.now publisher.entry.now publisher.exit.now result }
+            ensures { PublishesReplies s.entry.now (read_entry_of p.entry.now.number vars.entry.now)
+                PUBLISHED p.exit.now publisher.entry.now publisher.exit.now result }
         { publish_all(rt, s, p, publisher, vars, gate) },
         &mut || -> Result<(), NoMemory>
             requires { views.now.items ≡ [] }
-            ensures { ViewsBoard VIEWED viewer.entry.now viewer.exit.now views.exit.now.items result }
+            ensures { ViewsBoard VIEWED viewer.entry.now viewer.exit.now views.exit.now.items
+                result }
         { view_all(viewer, views) },
     )
 }
@@ -203,8 +204,9 @@ fn work_beside_watch<R: Threads + Wait + Sync, G: Gate + Sync>(
         &mut || -> (Result<Note, StationFault>, Result<(), NoMemory>)
             requires { IsFresh s.now p.now × IsRequest (ReadVars vars.now)
                 × (publisher.now.list ≡ initial_item ∷ []) × (views.now.items ≡ []) }
-            ensures published { PublishesReplies s.entry.now (read_entry_of p.entry.now.number vars.entry.now)
-                PUBLISHED p.exit.now publisher.entry.now publisher.exit.now result.0 }
+            ensures published { PublishesReplies s.entry.now
+                (read_entry_of p.entry.now.number vars.entry.now) PUBLISHED p.exit.now
+                publisher.entry.now publisher.exit.now result.0 }
             ensures viewed { ViewsBoard VIEWED viewer.entry.now viewer.exit.now views.exit.now.items
                 result.1 }
         { publish_beside_views(rt, s, p, publisher, viewer, views, vars, gate) },
@@ -279,11 +281,11 @@ pub(crate) fn watch_station<R: Threads + Wait + Sync, G: Gate + Sync>(
     ensures pass { (result.0.lock ≡ s.now) × (result.0.out ≡ false) }
     ensures agrees { IsMadeOf (λ e. e.who) result.0.seen result.0.made }
     ensures made { HasWorked s.now (passes.items ++ p ∷ []) steps stimuli.now
-        (map (λ v. v.items) scripts.now ++ replicate PUBLISHED (read_entry_of p.number vars.now) ∷ [])
-        result.0 (is_ok result.1) }
+        (map (λ v. v.items) scripts.now
+        ++ replicate PUBLISHED (read_entry_of p.number vars.now) ∷ []) result.0 (is_ok result.1) }
     ensures fault { KnowsFault s.now result.0.seen result.1 }
-    ensures views { OnOk result.1 (AreViews (read_entry_of p.number vars.now) (the_opening s.now.origin)
-        result.0.seen VIEWED views.new.items) }
+    ensures views { OnOk result.1 (AreViews (read_entry_of p.number vars.now)
+        (the_opening s.now.origin) result.0.seen VIEWED views.new.items) }
 {
     let (worked, (published, viewed)) = work_beside_watch(
         rt,

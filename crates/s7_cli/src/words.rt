@@ -68,8 +68,8 @@ pub enum Asked<'a> {
         scripts: ArrayVec<&'a str, MOST_SCRIPTS>,
         steps: u32,
     },
-    /// The same with one to three scripts, and the variables that a further operator reads, which are
-    /// viewed.
+    /// The same with one to three scripts, and the variables that a further operator reads, which
+    /// are viewed.
     Watch {
         image: &'a str,
         stimuli: &'a str,
@@ -453,14 +453,14 @@ pub fn read_words(alloc: Global, words: &[String]) -> Result<Option<Asked<'_>>, 
     }
 }
 
-/// A word that doesn't begin with a hyphen is plain, and so is `-` alone. Plain words are read by the
-/// first of them, as the command, and by those behind it: a call without options, or none. Behind
-/// `--` at the front all words are read so, whatever they begin with. `--symbols FILE` or `--steps N`
-/// may stand in any place among plain words, and adds that option to the call of the others: as two
-/// words, with a plain value, or as a single one, `--symbols=FILE` or `--steps=N`, with any value.
-/// Where `--symbols` or `--steps` is the last word, plain words before it are refused. The numbers of
-/// a call, and how many scripts it has, are within their limits, and the two files that `list` writes
-/// have different names.
+/// A word that doesn't begin with a hyphen is plain, and so is `-` alone. Plain words are read by
+/// the first of them, as the command, and by those behind it: a call without options, or none.
+/// Behind `--` at the front all words are read so, whatever they begin with. `--symbols FILE` or
+/// `--steps N` may stand in any place among plain words, and adds that option to the call of the
+/// others: as two words, with a plain value, or as a single one, `--symbols=FILE` or `--steps=N`,
+/// with any value. Where `--symbols` or `--steps` is the last word, plain words before it are
+/// refused. The numbers of a call, and how many scripts it has, are within their limits, and the
+/// two files that `list` writes have different names.
 pub fn law_of_words()
     ensures plain { ReadsPlainWords }
     ensures behind_dashes { ReadsWordsBehindDashes }

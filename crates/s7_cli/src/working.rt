@@ -1,4 +1,5 @@
-//! The workers of a station, each in a thread of its own: the stepper, the feeder and the operators.
+//! The workers of a station, each in a thread of its own: the stepper, the feeder and the
+//! operators.
 ghost use Rattle.std.specs.Prelude.{◌≡◌, ◌+◌, ◌<◌, false, List, [], ◌∷◌, ◌++◌, length, map, is_ok, All, IfErr, IsOk, OnOk};
 ghost use Rattle.std.specs.Thread.{IsSync};
 ghost use mathlib.Core.List.{IsPrefix};
@@ -26,7 +27,8 @@ fn is_stop(mode: Mode) -> bool
     matches!(mode, Mode::Stop { .. })
 }
 
-/// The stepper: makes steps, each after the gate, until one leaves STOP or there are as many as wanted.
+/// The stepper: makes steps, each after the gate, until one leaves STOP or there are as many as
+/// wanted.
 fn make_steps<R: Wait, G: Gate>(
     rt: &R,
     s: &Station,
@@ -81,8 +83,8 @@ fn make_entry<R: Wait>(
     }
 }
 
-/// The feeder or an operator: makes the entries of its list in their order, each after the gate. It ends
-/// at the first that is refused.
+/// The feeder or an operator: makes the entries of its list in their order, each after the gate. It
+/// ends at the first that is refused.
 fn make_entries<R: Wait, G: Gate>(
     rt: &R,
     s: &Station,
@@ -235,11 +237,11 @@ fn feed_and_ask<R: Threads + Wait + Sync, G: Gate + Sync>(
     together(s, fed, asked)
 }
 
-/// Lets the workers of a station work beside each other, each in a thread of its own: the stepper with
-/// the first pass, the feeder with the second, and an operator with each pass behind them, one for each
-/// script. The stepper makes `steps` steps, and fewer only where one leaves STOP; the feeder and the
-/// operators make the entries of their lists. Each passes the gate before each of its entries, with its
-/// turns counted from 1. The pass that comes back has all numbers.
+/// Lets the workers of a station work beside each other, each in a thread of its own: the stepper
+/// with the first pass, the feeder with the second, and an operator with each pass behind them, one
+/// for each script. The stepper makes `steps` steps, and fewer only where one leaves STOP; the
+/// feeder and the operators make the entries of their lists. Each passes the gate before each of
+/// its entries, with its turns counted from 1. The pass that comes back has all numbers.
 ///
 /// # Errors
 ///

@@ -15,7 +15,7 @@ use Rattle.ob_sched.specs.Millisecond.{tick_begun, after_tick}
 use Rattle.ob_sched.specs.OrganizationBlock.{priority_class_in}
 use Rattle.ob_sched.specs.StartInformation.{start_info}
 use Rattle.ob_sched.specs.declared.start_infos.StartEvent.TheVariants.{Arrival}
-use Rattle.ob_sched.specs.Request.{best_of}
+use Rattle.ob_sched.specs.StartRequest.{best_of}
 use Rattle.ob_sched.specs.declared.requests.Pending.{Pending}
 use Rattle.var_access.specs.declared.Request.{Request}
 use Rattle.var_access.specs.declared.Request.TheVariants as request
@@ -156,7 +156,7 @@ serves_keeps : (old : Activation) (at : Option Spot) (r : ServiceResult) (to : O
     → place < length below → is_stop (after_service at r to below s).mode ≡ false
     → Keeps (old ∷ below) (after_service at r to below s).activations place
 serves_keeps old at (Returns r) to below s place there on =
-    replaced old (result_given to r.value r.activation s.world.memory).activation below place there
+    replaced old (result_given to r.value r.activation s.store.memory).activation below place there
 serves_keeps old at (Passes sched a) to below s place there on = replaced old a below place there
 serves_keeps old at (Stops cause a) to below s place there on = absurd cc
 
@@ -192,7 +192,7 @@ stepped_on_keeps : (code : Code) (acts : List Activation) (s : State) (place : �
     → Keeps acts (step_of_first code acts s).activations place
 stepped_on_keeps code [] s place were there on = absurd (omega (arith, there))
 stepped_on_keeps code (a ∷ below) s place were there on =
-    statement_keeps code a (statement_step code a s.world) a.ob (spot_of_frame code a.running.frame) below s
+    statement_keeps code a (statement_step code a s.store) a.ob (spot_of_frame code a.running.frame) below s
     place were (omega (arith, there)) on
 
 stepped_keeps : (code : Code) (s : State) (place : ℕ) → place + 1 < length s.activations
@@ -246,7 +246,7 @@ time_keeps : (code : Code) (ms : ℕ) (s : State) (place : ℕ)
     → Keeps s.activations (time_passed code ms s).activations place
 unfolding time_passed
 time_keeps code ms s place there on =
-    course_keeps code course (record s { world = timers_moved course.passed.ms s.world }) place there on
+    course_keeps code course (record s { store = timers_moved course.passed.ms s.store }) place there on
   where
     course : TickState
     course = after_tick s.mode (active_obs s.activations) ms s.sched

@@ -24,13 +24,10 @@ pub mod OperandsFormals
 pub mod OperandsInstr
 pub mod OperandsMembers
 pub mod OperandsPassed
-pub mod OperandsPaths
 pub mod OperandsPlaced
 pub mod OperandsPlaces
 pub mod OperandsSymbols
-pub mod OperandsTypes
 pub mod OperandsViews
-pub mod OperandsWalks
 pub mod OperandsOperations
 pub mod RecordBlocks
 pub mod RecordData
@@ -41,11 +38,9 @@ pub mod Records
 pub mod Settled
 pub mod Shared
 pub mod Sizes
-pub mod SizesBlocks
 pub mod SizesCalls
 pub mod SizesNames
 pub mod SizesOps
 pub mod SizesProgram
 pub mod SizesSums
-pub mod SizesTokens
 pub mod Verified

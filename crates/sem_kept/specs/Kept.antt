@@ -15,7 +15,7 @@ use Rattle.sem_kept.specs.Statements.{stated_code, IsCompilable, program_with}
 -- answers and shows the same
 pub record BehavesAlike (profile : Profile) (c d : Code) : Type 0 where
   -- memory with timers and counters
-  pub world : (history : List What) → (replay profile d history).world ≡ (replay profile c history).world
+  pub store : (history : List What) → (replay profile d history).store ≡ (replay profile c history).store
   pub mode : (history : List What) → (replay profile d history).mode ≡ (replay profile c history).mode
   -- the scheduler
   pub sched : (history : List What) → (replay profile d history).sched ≡ (replay profile c history).sched

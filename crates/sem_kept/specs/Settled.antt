@@ -24,7 +24,7 @@ use Rattle.stl_types.specs.Resolved.{resolved_operand}
 use Rattle.stl_types.specs.declared.views.ResolvedOperand.{ResolvedOperand}
 use Rattle.stl_types.specs.declared.views.ResolvedOperand.TheVariants as view
 use Rattle.stl_codegen.specs.Operations.{call_operation_of, jump_operation_of}
-use Rattle.stl_codegen.specs.Passed.{passed_seen}
+use Rattle.stl_codegen.specs.Passed.{passed_resolution}
 use Rattle.sem_kept.specs.Accepted.{IsAccepted}
 
 -- a jump: its operand is a label of its body
@@ -71,7 +71,7 @@ HasInstruction c body s (Some how) = HasLabel body s
 
 -- an actual parameter names what is passed
 abbrev pub NamesWhatIsPassed : Context → Actual → Type 0
-NamesWhatIsPassed c a = (p : Passed) × (passed_seen a.value (resolution_of c a.value) ≡ Some p)
+NamesWhatIsPassed c a = (p : Passed) × (passed_resolution a.value (resolution_of c a.value) ≡ Some p)
 
 -- a statement names what its instruction takes, and each of its actual parameters what is passed
 pub record IsResolvedStatement (c : Context) (body : List Statement) (s : Statement) : Type 0 where

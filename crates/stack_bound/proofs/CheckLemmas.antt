@@ -1,4 +1,4 @@
--- A list is judged for a certificate that holds exactly where it is one.
+-- A list passes the check of certificates exactly where it is one that holds.
 use Rattle.std.proofs.Common.{◌≡◌, inl, inr, ℕ, ◌+◌, ◌≤◌, Bool, true, false, List, [], ◌∷◌, ◌++◌, map, Option, Some, None, refl, sym, ap, ◌∙◌, subst, arith, if◌then◌else◌}
 use Rattle.std.specs.Prelude.{◌⊎◌, ◌↔◌, ◌&&◌, ◌||◌, not, nat_le, is_none, is_some, IsSome, IsTrue}
 use Rattle.std.proofs.lemmas.Bool.{and_parts, and_from}
@@ -39,11 +39,11 @@ are_once_if (b ∷ rest) is =
     let parts = and_parts (is_none (bound_of b.block rest)) (has_each_block_once rest) is in
     (none_of (bound_of b.block rest) parts.0, are_once_if rest parts.1)
 
-once_judged : (c : List Bound) → HasEachBlockOnce c → has_each_block_once c ≡ true
-once_judged [] is = refl
-once_judged (b ∷ rest) is =
+once_checked : (c : List Bound) → HasEachBlockOnce c → has_each_block_once c ≡ true
+once_checked [] is = refl
+once_checked (b ∷ rest) is =
     and_from (is_none (bound_of b.block rest)) (has_each_block_once rest)
-    (ap (λ (o : Option Bound). is_none o) is.0) (once_judged rest is.1)
+    (ap (λ (o : Option Bound). is_none o) is.0) (once_checked rest is.1)
 
 -- each of some bounds is what a list says of its block
 abbrev AreFound : List Bound → List Bound → Type 0
@@ -95,10 +95,10 @@ called_if len b (Some d) is =
     let parts = and_parts (nat_le (d.depth + 1) b.depth) (nat_le (len + d.bytes) b.bytes) is in
     (le_of (d.depth + 1) b.depth parts.0, le_of (len + d.bytes) b.bytes parts.1)
 
-called_judged : (len : ℕ) (b : Bound) (d : Option Bound) → CountsCalled len (Some b) d
+called_checked : (len : ℕ) (b : Bound) (d : Option Bound) → CountsCalled len (Some b) d
     → counts_called len b d ≡ true
-called_judged len b None counts = absurd counts
-called_judged len b (Some d) counts =
+called_checked len b None counts = absurd counts
+called_checked len b (Some d) counts =
     and_from (nat_le (d.depth + 1) b.depth) (nat_le (len + d.bytes) b.bytes)
     (le_test (d.depth + 1) b.depth counts.0) (le_test (len + d.bytes) b.bytes counts.1)
 
@@ -109,17 +109,17 @@ callee_if p c len b called d there is =
     called_if len b (bound_of called c)
     (sym (ap (λ (o : Option CodeBlock). is_none o || counts_called len b (bound_of called c)) there) ∙ is)
 
-callee_judged : (p : Program) (c : List Bound) (len : ℕ) (b : Bound) (callee : Option BlockId)
+callee_checked : (p : Program) (c : List Bound) (len : ℕ) (b : Bound) (callee : Option BlockId)
     → ((called : BlockId) (d : CodeBlock) → callee ≡ Some called
     → block_by_id called p.code_blocks ≡ Some d → CountsCalled len (Some b) (bound_of called c))
     → counts_callee p c len b callee ≡ true
-callee_judged p c len b None counts = refl
-callee_judged p c len b (Some called) counts = by (block_by_id called p.code_blocks) refl
+callee_checked p c len b None counts = refl
+callee_checked p c len b (Some called) counts = by (block_by_id called p.code_blocks) refl
   where
     by : (found : Option CodeBlock) → block_by_id called p.code_blocks ≡ found
         → (is_none found || counts_called len b (bound_of called c)) ≡ true
     by None is = refl
-    by (Some d) is = called_judged len b (bound_of called c) (counts called d refl is)
+    by (Some d) is = called_checked len b (bound_of called c) (counts called d refl is)
 
 ops_if : (p : Program) (c : List Bound) (len : ℕ) (b : Bound) (ops : List OpData) (called : BlockId)
     (d : CodeBlock) → block_by_id called p.code_blocks ≡ Some d → counts_ops p c len b ops ≡ true
@@ -139,26 +139,26 @@ ops_if p c len b (op ∷ ops) called d there is calls =
         (sym (ap (λ (o : Option BlockId). counts_callee p c len b o) here) ∙ parts.0)
     by parts next (inr behind) = next parts.1 behind
 
-ops_judged : (p : Program) (c : List Bound) (len : ℕ) (b : Bound) (ops : List OpData)
+ops_checked : (p : Program) (c : List Bound) (len : ℕ) (b : Bound) (ops : List OpData)
     → ((called : BlockId) (d : CodeBlock) → block_by_id called p.code_blocks ≡ Some d
     → CallsIn ops called → CountsCalled len (Some b) (bound_of called c))
     → counts_ops p c len b ops ≡ true
-ops_judged p c len b [] counts = refl
-ops_judged p c len b (op ∷ ops) counts =
+ops_checked p c len b [] counts = refl
+ops_checked p c len b (op ∷ ops) counts =
     and_from (counts_callee p c len b (callee_of_op op)) (counts_ops p c len b ops)
-    (callee_judged p c len b (callee_of_op op) (λ called d is there. counts called d there (inl is)))
-    (ops_judged p c len b ops (λ called d there calls. counts called d there (inr calls)))
+    (callee_checked p c len b (callee_of_op op) (λ called d is there. counts called d there (inl is)))
+    (ops_checked p c len b ops (λ called d there calls. counts called d there (inr calls)))
 
 -- ---- each bound of the list
 
--- a bound that is found was judged
-judged_found : (p : Program) (c some : List Bound) (block : BlockId) (b : Bound)
+-- a bound that is found was checked
+checked_found : (p : Program) (c some : List Bound) (block : BlockId) (b : Bound)
     → each_counts p c some ≡ true → bound_of block some ≡ Some b
     → counts_block p c b (block_by_id block p.code_blocks) ≡ true
-judged_found p c [] block b is found = absurd cc
-judged_found p c (d ∷ rest) block b is found =
+checked_found p c [] block b is found = absurd cc
+checked_found p c (d ∷ rest) block b is found =
     by (and_parts (counts_block p c d (block_by_id d.block p.code_blocks)) (each_counts p c rest) is)
-    (λ parts behind. judged_found p c rest block b parts behind) (is_same_id d.block block) refl found
+    (λ parts behind. checked_found p c rest block b parts behind) (is_same_id d.block block) refl found
   where
     bound_in : Option Bound → Bound
     bound_in None = d
@@ -196,7 +196,7 @@ found_counts : (p : Program) (c : List Bound) (id : BlockId) (block : CodeBlock)
 found_counts p c id block b is there found =
     block_if p c b block
     (sym (ap (λ (o : Option CodeBlock). counts_block p c b o) there)
-    ∙ judged_found p c c id b is found)
+    ∙ checked_found p c c id b is found)
 
 own_if : (p : Program) (c : List Bound) (id : BlockId) (block : CodeBlock) (found : Option Bound)
     → each_counts p c c ≡ true → block_by_id id p.code_blocks ≡ Some block → bound_of id c ≡ found
@@ -226,31 +226,31 @@ loaded_if p c (b ∷ rest) is =
     there None counts = absurd cc
     there (Some block) counts = refl
 
-block_judged : (p : Program) (c : List Bound) (b : Bound) (block : CodeBlock)
+block_checked : (p : Program) (c : List Bound) (b : Bound) (block : CodeBlock)
     → CountsItself block.local_len (Some b) → counts_ops p c block.local_len b block.code ≡ true
     → counts_block p c b (Some block) ≡ true
-block_judged p c b block own ops =
+block_checked p c b block own ops =
     and_from (nat_le 1 b.depth && nat_le block.local_len b.bytes)
     (counts_ops p c block.local_len b block.code)
     (and_from (nat_le 1 b.depth) (nat_le block.local_len b.bytes) (le_test 1 b.depth own.0)
     (le_test block.local_len b.bytes own.1)) ops
 
-each_judged : (z : Profile) (p : Program) (c some : List Bound) → IsCertificateOf z p c → AreFound c some
+each_checked : (z : Profile) (p : Program) (c some : List Bound) → IsCertificateOf z p c → AreFound c some
     → HasLoadedBlocksOnly p some → each_counts p c some ≡ true
-each_judged z p c [] holds found loaded = refl
-each_judged z p c (b ∷ rest) holds found loaded =
+each_checked z p c [] holds found loaded = refl
+each_checked z p c (b ∷ rest) holds found loaded =
     and_from (counts_block p c b (block_by_id b.block p.code_blocks)) (each_counts p c rest)
     (by (block_by_id b.block p.code_blocks) refl loaded.0)
-    (each_judged z p c rest holds found.1 loaded.1)
+    (each_checked z p c rest holds found.1 loaded.1)
   where
     by : (there : Option CodeBlock) → block_by_id b.block p.code_blocks ≡ there → IsSome there
         → counts_block p c b there ≡ true
     by None is none = absurd cc
     by (Some block) is some =
-        block_judged p c b block
+        block_checked p c b block
         (subst (λ (o : Option Bound). CountsItself block.local_len o) found.0
         (holds.own b.block block is))
-        (ops_judged p c block.local_len b block.code
+        (ops_checked p c block.local_len b block.code
         (λ called d at calls. subst (λ (o : Option Bound). CountsCalled block.local_len o (bound_of called c))
         found.0 (holds.calls b.block called block d is at calls)))
 
@@ -262,9 +262,9 @@ within_if z (Some b) is =
     let parts = and_parts (nat_le b.depth (most_frames z)) (nat_le b.bytes most_local_bytes) is in
     (le_of b.depth (most_frames z) parts.0, le_of b.bytes most_local_bytes parts.1)
 
-within_judged : (z : Profile) (b : Option Bound) → IsBoundWithinLimits z b → is_bound_within_limits z b ≡ true
-within_judged z None within = absurd within
-within_judged z (Some b) within =
+within_checked : (z : Profile) (b : Option Bound) → IsBoundWithinLimits z b → is_bound_within_limits z b ≡ true
+within_checked z None within = absurd within
+within_checked z (Some b) within =
     and_from (nat_le b.depth (most_frames z)) (nat_le b.bytes most_local_bytes)
     (le_test b.depth (most_frames z) within.0) (le_test b.bytes most_local_bytes within.1)
 
@@ -302,22 +302,22 @@ abbrev ObsWithin : Profile → List Bound → List CodeBlock → Type 0
 ObsWithin z c blocks =
     (b : CodeBlock) → block_by_id b.id blocks ≡ Some b → b.id.kind ≡ Ob → IsBoundWithinLimits z (bound_of b.id c)
 
-data_judged : (z : Profile) (c : List Bound) (datas : List DataBlock)
+data_checked : (z : Profile) (c : List Bound) (datas : List DataBlock)
     → obs_within z c (map data_block_id datas) ≡ true
-data_judged z c [] = refl
-data_judged z c (d ∷ datas) = data_judged z c datas
+data_checked z c [] = refl
+data_checked z c (d ∷ datas) = data_checked z c datas
 
 -- the first block of some with a kind and number is there
 is_there : (b : CodeBlock) (rest : List CodeBlock) → block_by_id b.id (b ∷ rest) ≡ Some b
 is_there b rest = rw (same_self b.id) refl
 
-test_judged : (z : Profile) (c : List Bound) (id : BlockId) → (id.kind ≡ Ob → IsBoundWithinLimits z (bound_of id c))
+test_checked : (z : Profile) (c : List Bound) (id : BlockId) → (id.kind ≡ Ob → IsBoundWithinLimits z (bound_of id c))
     → (not (is_organization_block id.kind) || is_bound_within_limits z (bound_of id c)) ≡ true
-test_judged z c id within = by id.kind refl
+test_checked z c id within = by id.kind refl
   where
     by : (k : BlockKind) → id.kind ≡ k
         → (not (is_organization_block k) || is_bound_within_limits z (bound_of id c)) ≡ true
-    by Ob is = within_judged z (bound_of id c) (within is)
+    by Ob is = within_checked z (bound_of id c) (within is)
     by Fc is = refl
     by Fb is = refl
     by Db is = refl
@@ -349,16 +349,16 @@ found_more one blocks id found = by (is_same_id one.id id)
     by true = refl
     by false = found
 
-obs_judged : (z : Profile) (c : List Bound) (all blocks : List CodeBlock) (datas : List DataBlock)
+obs_checked : (z : Profile) (c : List Bound) (all blocks : List CodeBlock) (datas : List DataBlock)
     → ObsWithin z c all → ((id : BlockId) → IsFoundIn blocks id → IsFoundIn all id)
     → obs_within z c (map (λ (x : CodeBlock). x.id) blocks ++ map data_block_id datas) ≡ true
-obs_judged z c all [] datas within among = data_judged z c datas
-obs_judged z c all (one ∷ blocks) datas within among =
+obs_checked z c all [] datas within among = data_checked z c datas
+obs_checked z c all (one ∷ blocks) datas within among =
     and_from (not (is_organization_block one.id.kind) || is_bound_within_limits z (bound_of one.id c))
     (obs_within z c (map (λ (x : CodeBlock). x.id) blocks ++ map data_block_id datas))
-    (test_judged z c one.id (λ ob. found_within z c all one.id within
+    (test_checked z c one.id (λ ob. found_within z c all one.id within
     (among one.id (ap (λ (o : Option CodeBlock). is_some o) (is_there one blocks))) ob))
-    (obs_judged z c all blocks datas within (λ id found. among id (found_more one blocks id found)))
+    (obs_checked z c all blocks datas within (λ id found. among id (found_more one blocks id found)))
 
 -- ---- together
 
@@ -378,12 +378,12 @@ holds_if z p c is =
               calls_if p c id called b d (bound_of id c) one.1 here there calls refl;
         }
 
-judged_if : (z : Profile) (p : Program) (c : List Bound) → IsCertificateOf z p c → is_certificate z p c ≡ true
-judged_if z p c holds =
+checked_if : (z : Profile) (p : Program) (c : List Bound) → IsCertificateOf z p c → is_certificate z p c ≡ true
+checked_if z p c holds =
     and_from (has_each_block_once c && each_counts p c c) (obs_within z c (block_ids p))
-    (and_from (has_each_block_once c) (each_counts p c c) (once_judged c holds.once)
-    (each_judged z p c c holds (are_found c holds.once) holds.loaded))
-    (obs_judged z c p.code_blocks p.code_blocks p.data_blocks holds.obs (λ id found. found))
+    (and_from (has_each_block_once c) (each_counts p c c) (once_checked c holds.once)
+    (each_checked z p c c holds (are_found c holds.once) holds.loaded))
+    (obs_checked z c p.code_blocks p.code_blocks p.data_blocks holds.obs (λ id found. found))
 
-pub judges : (z : Profile) (p : Program) (c : List Bound) → IsTrue (is_certificate z p c) ↔ IsCertificateOf z p c
-judges z p c = (holds_if z p c, judged_if z p c)
+pub check_decides : (z : Profile) (p : Program) (c : List Bound) → IsTrue (is_certificate z p c) ↔ IsCertificateOf z p c
+check_decides z p c = (holds_if z p c, checked_if z p c)

@@ -17,7 +17,7 @@ use Rattle.machine.specs.Statement.{StatementStep, Went, Ended, SyncError, SysCa
 use Rattle.ob_sched.specs.TickState.{TickState, ob_requested}
 use Rattle.ob_sched.specs.Millisecond.{tick_begun as course_begun, after_tick}
 use Rattle.ob_sched.specs.OrganizationBlock.{priority_class_in, is_delay}
-use Rattle.ob_sched.specs.Request.{best_of}
+use Rattle.ob_sched.specs.StartRequest.{best_of}
 use Rattle.ob_sched.specs.Scheduler.{Scheduler, delay_of, delay_started, delay_cancelled, cycle_retriggered}
 use Rattle.ob_sched.specs.StartInformation.{ob_of_error, start_info}
 use Rattle.ob_sched.specs.declared.requests.Pending.{Pending}
@@ -268,9 +268,9 @@ service_bounded z c call (Returns r) to a below s same all b = record {
   profile = b.profile;
   room = (
     (
-      given_profile to r.value r.activation s.world.memory ∙ same.0 ∙ all.0.0,
+      given_profile to r.value r.activation s.store.memory ∙ same.0 ∙ all.0.0,
       subst (λ (stack : List _). HasRoom z c stack)
-          (sym (given_stack to r.value r.activation s.world.memory ∙ same.1)) all.0.1,
+          (sym (given_stack to r.value r.activation s.store.memory ∙ same.1)) all.0.1,
     ),
     all.1,
   );
@@ -323,13 +323,13 @@ cycle_bounded z code c s holds b =
     (record { profile = b.profile; room = b.room; mode = b.mode })
 
 stepped_on_bounded : (z : Profile) (p : Program) (c : List Bound) (activations : List Activation) (s : State)
-    → Certifies z (code_of p) c → AllFit p s.world.memory activations → AllRoom z c activations
+    → Certifies z (code_of p) c → AllFit p s.store.memory activations → AllRoom z c activations
     → Bounded z c s → Bounded z c (step_of_first (code_of p) activations s)
 stepped_on_bounded z p c [] s holds fit all b = cycle_bounded z (code_of p) c s holds b
 stepped_on_bounded z p c (a ∷ below) s holds fit all b =
-    statement_bounded z (code_of p) c (statement_step (code_of p) a s.world) a.ob
+    statement_bounded z (code_of p) c (statement_step (code_of p) a s.store) a.ob
     (spot_of_frame (code_of p) a.running.frame) below s holds
-    (statement_room z p c a s.world holds fit.0 all.0) all.1 b
+    (statement_room z p c a s.store holds fit.0 all.0) all.1 b
 
 step_bounded : (z : Profile) (p : Program) (c : List Bound) (s : State) → Certifies z (code_of p) c → IsFit p s
     → Bounded z c s → Bounded z c (after_step (code_of p) s)
@@ -372,7 +372,7 @@ time_bounded : (z : Profile) (code : Code) (c : List Bound) (ms : ℕ) (s : Stat
 unfolding time_passed
 time_bounded z code c ms s b =
     course_bounded z code c (after_tick s.mode (active_obs s.activations) ms s.sched)
-    (record s { world = timers_moved (after_tick s.mode (active_obs s.activations) ms s.sched).passed.ms s.world })
+    (record s { store = timers_moved (after_tick s.mode (active_obs s.activations) ms s.sched).passed.ms s.store })
     (ticked_fine s.mode (active_obs s.activations) ms s.sched) (record { profile = b.profile; room = b.room; mode = b.mode })
 
 started_bounded : (z : Profile) (c : List Bound) (one : Option Activation) (s : State) → RoomIf z c one
@@ -440,7 +440,7 @@ counted_fit : (p : Program) (s : State) → IsFit p s → IsFit p (entry_counted
 counted_fit p s fit = record {
   memory = fit.memory;
   activations = fit.activations;
-  standing = fit.standing;
+  activation_stack = fit.activation_stack;
   sched = fit.sched;
 }
 

@@ -35,8 +35,13 @@ CallsIn (op ∷ ops) called = (callee_of_op op ≡ Some called) ⊎ CallsIn ops 
 -- a loaded block calls a loaded block, which may be itself, where its code has CALL, UC or CC of it. A
 -- system function is none: no program has code of it
 pub record Calls (p : Program) (caller called : BlockId) : Type 0 where
+  -- the caller, with its code
   pub from : CodeBlock
+  -- the called block, with its code
   pub to : CodeBlock
+  -- the caller is loaded
   pub is_loaded : block_by_id caller p.code_blocks ≡ Some from
+  -- the called block is loaded
   pub called_is_loaded : block_by_id called p.code_blocks ≡ Some to
+  -- the code of the caller has CALL, UC or CC of the called block
   pub calls : CallsIn from.code called

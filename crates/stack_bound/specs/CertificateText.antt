@@ -48,7 +48,8 @@ bound_of_parts p = record {
 -- a block, and its two numbers; each number is one of 0 to 65,535, else rule 2
 abbrev pub parts_read : (kind number depth bytes : List ℕ) → Reading ((BlockKind × ℕ) × (ℕ × ℕ))
 parts_read kind number depth bytes =
-    both_readings (both_readings (block_kind_of_word kind) (address_number number)) (both_readings (address_number depth) (address_number bytes))
+    both_readings (both_readings (block_kind_of_word kind) (address_number number))
+    (both_readings (address_number depth) (address_number bytes))
 
 -- the bound of the four words that aren't fixed
 abbrev pub bound_read : (kind number depth bytes : List ℕ) → Reading Bound
@@ -71,7 +72,8 @@ comes_behind (Some before) block = is_before before block
 abbrev pub bound_in_order : Program → Option BlockId → Reading Bound → Reading Bound
 bound_in_order p before (Err rule) = Err rule
 bound_in_order p before (Ok b) =
-    if is_some (block_by_id b.block p.code_blocks) && comes_behind before b.block then Ok b else Err 3
+    if is_some (block_by_id b.block p.code_blocks) && comes_behind before b.block then Ok b
+    else Err 3
 
 -- the bound of a line behind one of a block
 abbrev pub bound_line : Program → Option BlockId → (line : List ℕ) → Reading Bound
@@ -87,16 +89,20 @@ bounds_in_front list (Ok more) = Ok (list ++ more)
 bounds_in_front list (Err refusal) = Err refusal
 
 -- a line's bound in front of those that follow, or the line's refusal
-abbrev pub bound_of_line_first : (line : ℕ) → Reading Bound → (Bound → Result (List Bound) Refusal) → Result (List Bound) Refusal
+abbrev pub bound_of_line_first :
+    (line : ℕ) → Reading Bound → (Bound → Result (List Bound) Refusal) → Result (List Bound) Refusal
 bound_of_line_first line (Err rule) more = Err (record { line = line; rule = rule })
 bound_of_line_first line (Ok b) more = bounds_in_front (b ∷ []) (more b)
 
 -- lines from one with this number on, behind one of a block
-unfoldable pub bounds_of_lines : Program → (line : ℕ) → Option BlockId → List (List ℕ) → Result (List Bound) Refusal
+unfoldable pub bounds_of_lines :
+    Program → (line : ℕ) → Option BlockId → List (List ℕ) → Result (List Bound) Refusal
 bounds_of_lines p line before [] = Ok []
 bounds_of_lines p line before (text ∷ more) =
     if is_line_skipped text then bounds_of_lines p (line + 1) before more
-    else bound_of_line_first line (bound_line p before text) (λ b. bounds_of_lines p (line + 1) (Some b.block) more)
+    else
+    bound_of_line_first line (bound_line p before text)
+    (λ b. bounds_of_lines p (line + 1) (Some b.block) more)
 
 -- a whole text, whose lines are counted from 1
 unfoldable pub certificate_of : Program → List ℕ → Result (List Bound) Refusal
@@ -108,7 +114,8 @@ SpellsCertificate p text list = certificate_of p text ≡ Ok list
 
 -- the first bad line with the least rule that it breaks; want of memory says nothing of the text
 abbrev pub IsCertificateTextFault : Result (List Bound) Refusal → CertificateFault → Type 0
-IsCertificateTextFault reading (BadLine line rule) = reading ≡ Err (record { line = line; rule = rule })
+IsCertificateTextFault reading (BadLine line rule) =
+    reading ≡ Err (record { line = line; rule = rule })
 IsCertificateTextFault reading NoMemory = Unit {0}
 
 -- what a right line leaves: the block and the bounds as they were, or its own block and its bound behind
@@ -118,18 +125,24 @@ TakesBound (Err rule) after old new = ⊥
 TakesBound (Ok b) after old new = (after ≡ Some b.block) × (new ≡ old ++ b ∷ [])
 
 -- a bound that was read comes behind those so far; where the line is skipped they stay as they are
-abbrev pub TakesBoundUnlessSkipped : (skipped : Bool) → Reading Bound → (before after : Option BlockId) → (old new : List Bound) → Type 0
+abbrev pub TakesBoundUnlessSkipped :
+    (skipped : Bool) → Reading Bound → (before after : Option BlockId)
+    → (old new : List Bound) → Type 0
 TakesBoundUnlessSkipped true reading before after old new = (after ≡ before) × (new ≡ old)
 TakesBoundUnlessSkipped false reading before after old new = TakesBound reading after old new
 
 -- the bound of a line of a program's certificate comes behind those so far; where the line is
 -- skipped they stay as they are
-abbrev pub TakesBoundLine : Program → (before after : Option BlockId) → (line : List ℕ) → (old new : List Bound) → Type 0
+abbrev pub TakesBoundLine :
+    Program → (before after : Option BlockId) → (line : List ℕ)
+    → (old new : List Bound) → Type 0
 TakesBoundLine p before after line old new =
     TakesBoundUnlessSkipped (is_line_skipped line) (bound_line p before line) before after old new
 
 -- a line with this number that breaks the rule, and no lesser one
-abbrev pub IsCertificateLineFault : (number : ℕ) → Program → (before : Option BlockId) → (line : List ℕ) → CertificateFault → Type 0
+abbrev pub IsCertificateLineFault :
+    (number : ℕ) → Program → (before : Option BlockId) → (line : List ℕ)
+    → CertificateFault → Type 0
 IsCertificateLineFault number p before line (BadLine at rule) =
     (at ≡ number) × (is_line_skipped line ≡ false) × (bound_line p before line ≡ Err rule)
 IsCertificateLineFault number p before line NoMemory = Unit {0}

@@ -23,12 +23,14 @@ HasEachBlockOnce (b ∷ rest) = (bound_of b.block rest ≡ None) × HasEachBlock
 -- each block of the list is a code block of the program
 abbrev pub HasLoadedBlocksOnly : Program → List Bound → Type 0
 HasLoadedBlocksOnly p [] = Unit {0}
-HasLoadedBlocksOnly p (b ∷ rest) = IsSome (block_by_id b.block p.code_blocks) × HasLoadedBlocksOnly p rest
+HasLoadedBlocksOnly p (b ∷ rest) =
+    IsSome (block_by_id b.block p.code_blocks) × HasLoadedBlocksOnly p rest
 
 -- a bound that is there, and within the limits of an activation
 abbrev pub IsBoundWithinLimits : Profile → Option Bound → Type 0
 IsBoundWithinLimits profile None = ⊥
-IsBoundWithinLimits profile (Some b) = (b.depth ≤ most_frames profile) × (b.bytes ≤ most_local_bytes)
+IsBoundWithinLimits profile (Some b) =
+    (b.depth ≤ most_frames profile) × (b.bytes ≤ most_local_bytes)
 
 -- a bound counts its block, and the local bytes of it
 abbrev pub CountsItself : (local_len : ℕ) → Option Bound → Type 0
@@ -47,12 +49,18 @@ CountsCalled local_len (Some b) (Some d) =
 -- organization block, within the limits, and with a block each loaded block that its code calls; depth
 -- and bytes count the block itself and what it calls
 pub record IsCertificateOf (profile : Profile) (p : Program) (c : List Bound) : Type 0 where
+  -- no block stands in the list twice
   pub once : HasEachBlockOnce c
+  -- each block of the list is loaded
   pub loaded : HasLoadedBlocksOnly p c
+  -- each loaded organization block stands in the list, with a bound within the limits of an
+  -- activation: 16 or 24 frames by the profile, and 1,024 local bytes
   pub obs : (b : CodeBlock) → block_by_id b.id p.code_blocks ≡ Some b → b.id.kind ≡ Ob
       → IsBoundWithinLimits profile (bound_of b.id c)
+  -- the bound of a block counts the block itself and its local bytes
   pub own : (block : BlockId) (b : CodeBlock) → block_by_id block p.code_blocks ≡ Some b
       → CountsItself b.local_len (bound_of block c)
+  -- the bound of a block counts each loaded block that its code calls, which stands in the list too
   pub calls : (block called : BlockId) (b d : CodeBlock)
       → block_by_id block p.code_blocks ≡ Some b → block_by_id called p.code_blocks ≡ Some d
       → CallsIn b.code called → CountsCalled b.local_len (bound_of block c) (bound_of called c)

@@ -1,4 +1,4 @@
--- How a list is judged for a certificate: entry by entry, and in each block op by op.
+-- Whether a list of bounds is a certificate, checked entry by entry, and in each block op by op.
 use Rattle.std.specs.Prelude.{ℕ, ◌+◌, Bool, true, false, ◌&&◌, ◌||◌, not, nat_le, is_none, List, [], ◌∷◌, Option, Some, None}
 use Rattle.plc_base.specs.Kinds.{is_organization_block}
 use Rattle.plc_base.specs.Profiles.{most_frames}
@@ -40,7 +40,8 @@ counts_ops p c local_len b (op ∷ ops) =
 abbrev pub counts_block : Program → List Bound → Bound → Option CodeBlock → Bool
 counts_block p c b None = false
 counts_block p c b (Some block) =
-    nat_le 1 b.depth && nat_le block.local_len b.bytes && counts_ops p c block.local_len b block.code
+    nat_le 1 b.depth && nat_le block.local_len b.bytes
+    && counts_ops p c block.local_len b block.code
 
 -- a bound of the list `c` counts its own block, which is loaded, and what this calls
 abbrev pub counts_its_block : Program → List Bound → Bound → Bool
@@ -55,7 +56,8 @@ each_counts p c (b ∷ rest) =
 -- a bound that is there, and within the limits of an activation
 abbrev pub is_bound_within_limits : Profile → Option Bound → Bool
 is_bound_within_limits profile None = false
-is_bound_within_limits profile (Some b) = nat_le b.depth (most_frames profile) && nat_le b.bytes most_local_bytes
+is_bound_within_limits profile (Some b) =
+    nat_le b.depth (most_frames profile) && nat_le b.bytes most_local_bytes
 
 -- the organization blocks among blocks have bounds that are there, and within the limits of an
 -- activation

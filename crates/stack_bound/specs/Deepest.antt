@@ -21,17 +21,19 @@ use Rattle.stack_bound.specs.declared.measures.Measure.TheVariants.{Depth, Bytes
 
 -- ---- the called block of which a layer says most
 
--- that of an op, where the layer says more of it
+-- the block that an op calls, where a layer says more of it than of the best so far; else the best
+-- so far
 abbrev pub better_callee : Measure → List Bound → Best → OpData → Best
 better_callee m layer best op =
     if nat_lt best.most (measure_in_layer m layer (callee_of_op op))
     then record { block = callee_of_op op; most = measure_in_layer m layer (callee_of_op op) }
     else best
 
--- the best of ops, or one from before
+-- the called block of some ops of which a layer says most, or the best from before
 abbrev pub best_callee_from : Measure → List Bound → Best → List OpData → Best
 best_callee_from m layer best [] = best
-best_callee_from m layer best (op ∷ ops) = best_callee_from m layer (better_callee m layer best op) ops
+best_callee_from m layer best (op ∷ ops) =
+    best_callee_from m layer (better_callee m layer best op) ops
 
 -- a called block of which a layer says most; none where it says nothing of any
 abbrev pub IsMostCalled : Measure → List Bound → List OpData → Option BlockId → Type 0
@@ -67,18 +69,27 @@ first_over profile layer (id ∷ ids) =
     over_or id (ob_over profile layer id) (first_over profile layer ids)
 
 -- the block is a loaded organization block, whose bound is above the limit in the measure
-pub record IsLoadedObOver (profile : Profile) (p : Program) (layer : List Bound) (over : Over) : Type 0 where
+pub record IsLoadedObOver
+    (profile : Profile) (p : Program) (layer : List Bound) (over : Over)
+    : Type 0 where
+  -- the block is an organization block
   pub organization : over.block.kind ≡ Ob
+  -- the block is loaded
   pub loaded : IsSome (block_by_id over.block p.code_blocks)
-  pub is_over : limit_of_measure profile over.measure < measure_in_layer over.measure layer (Some over.block)
+  -- in the measure the layer says more of the block than an activation has: its frames, or its local
+  -- bytes
+  pub is_over :
+      limit_of_measure profile over.measure
+      < measure_in_layer over.measure layer (Some over.block)
 
 -- ---- the chain
 
 -- a chain of so many blocks and local bytes is too deep
 abbrev pub is_chain_too_deep : Profile → (blocks bytes : ℕ) → Bool
-is_chain_too_deep profile blocks bytes = nat_lt (most_frames profile) blocks || nat_lt most_local_bytes bytes
+is_chain_too_deep profile blocks bytes =
+    nat_lt (most_frames profile) blocks || nat_lt most_local_bytes bytes
 
--- what a chain has
+-- what a chain has in a measure: blocks, or local bytes
 abbrev pub measure_of_chain : Measure → Program → List BlockId → ℕ
 measure_of_chain Depth p chain = length chain
 measure_of_chain Bytes p chain = bytes_of_chain p chain
@@ -89,9 +100,18 @@ pub record LeadsOver
     (profile : Profile) (p : Program) (m : Measure) (layer : List Bound) (chain : List BlockId)
     (block : BlockId) (bytes : ℕ)
     : Type 0 where
+  -- the blocks before and the block behind them are a chain of calls
   pub is_chain : IsCallChain p (chain ++ block ∷ [])
+  -- the block behind the others is loaded
   pub loaded : IsSome (block_by_id block p.code_blocks)
+  -- `bytes` are the local bytes of the blocks before, together
   pub total_is : bytes ≡ bytes_of_chain p chain
+  -- the blocks before are at most as many as an activation has frames
   pub few : length chain ≤ most_frames profile
+  -- the blocks before have at most 1,024 local bytes together
   pub within : bytes ≤ most_local_bytes
-  pub over : limit_of_measure profile m < measure_of_chain m p chain + measure_in_layer m layer (Some block)
+  -- what the blocks before have in the measure, and what the layer says of the block, are together
+  -- more than an activation has
+  pub over :
+      limit_of_measure profile m
+      < measure_of_chain m p chain + measure_in_layer m layer (Some block)

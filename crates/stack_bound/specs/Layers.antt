@@ -16,22 +16,22 @@ use Rattle.stack_bound.specs.declared.certificates.Bound.{Bound}
 use Rattle.stack_bound.specs.declared.measures.Measure.{Measure}
 use Rattle.stack_bound.specs.declared.measures.Measure.TheVariants.{Depth, Bytes}
 
--- what a block adds to a chain
+-- what a block adds to a chain in a measure: 1 block, or its local bytes
 abbrev pub measure_of_block : Measure → CodeBlock → ℕ
 measure_of_block Depth b = 1
 measure_of_block Bytes b = b.local_len
 
--- what an activation has at most
+-- what an activation has at most in a measure: frames of the profile, or local bytes
 abbrev pub limit_of_measure : Profile → Measure → ℕ
 limit_of_measure profile Depth = most_frames profile
 limit_of_measure profile Bytes = most_local_bytes
 
--- what a bound says
+-- what a bound says in a measure: its depth, or its bytes
 abbrev pub measure_of_bound : Measure → Bound → ℕ
 measure_of_bound Depth b = b.depth
 measure_of_bound Bytes b = b.bytes
 
--- nothing where no bound is there
+-- what a bound says in a measure; 0 where there is no bound
 abbrev pub measure_if_bound : Measure → Option Bound → ℕ
 measure_if_bound m None = 0
 measure_if_bound m (Some b) = measure_of_bound m b
@@ -41,7 +41,7 @@ abbrev pub measure_in_layer : Measure → List Bound → Option BlockId → ℕ
 measure_in_layer m layer None = 0
 measure_in_layer m layer (Some block) = measure_if_bound m (bound_of block layer)
 
--- the most that it says of a block that ops call
+-- the most that a layer says of a block that some ops call
 abbrev pub most_called : Measure → List Bound → List OpData → ℕ
 most_called m layer [] = 0
 most_called m layer (op ∷ ops) =
@@ -83,6 +83,6 @@ layer_of_height (suc k) p = layer_above p (layer_of_height k p)
 abbrev pub IsBoundAtMost : ℕ → Bound → Type 0
 IsBoundAtMost n b = (b.depth ≤ n) × (b.bytes ≤ n)
 
--- none of a layer is
+-- no number of a bound of a layer is above the given one
 abbrev pub AreBoundsAtMost : ℕ → List Bound → Type 0
 AreBoundsAtMost n layer = AllByRecursion (IsBoundAtMost n) layer

@@ -21,7 +21,7 @@ place_of_bound block [] = None
 place_of_bound block (b ∷ rest) =
     if is_same_id b.block block then Some 0 else option_map suc (place_of_bound block rest)
 
--- that of a block that may be called
+-- the place where a block that an op may call stands first among bounds
 abbrev pub place_in : List Bound → Option BlockId → Option ℕ
 place_in list None = None
 place_in list (Some block) = place_of_bound block list
@@ -34,17 +34,23 @@ with_place (Some place) rest = place ∷ rest
 -- the places of the blocks that ops call
 abbrev pub places_called : List Bound → List OpData → List ℕ
 places_called list [] = []
-places_called list (op ∷ ops) = with_place (place_in list (callee_of_op op)) (places_called list ops)
+places_called list (op ∷ ops) =
+    with_place (place_in list (callee_of_op op)) (places_called list ops)
 
 -- a block, with its local bytes and the places of the blocks that it calls
 pub record CallerData : Type 0 where
+  -- kind and number of the block
   pub block : BlockId
+  -- how many local bytes the block has
   pub local_len : ℕ
+  -- the places among the bounds, counted from 0, of the blocks that the block calls, in the order of
+  -- its code; a block that it calls twice stands there twice
   pub called : List ℕ
 
 -- a code block among those of a list
 abbrev pub caller_of : List Bound → BlockId → CodeBlock → CallerData
-caller_of list id b = record { block = id; local_len = b.local_len; called = places_called list b.code }
+caller_of list id b =
+    record { block = id; local_len = b.local_len; called = places_called list b.code }
 
 -- a block of a program, if it is a code block
 abbrev pub caller_in : Program → List Bound → BlockId → Option CallerData
@@ -62,7 +68,7 @@ callers_of p list (id ∷ ids) = with_caller (caller_in p list id) (callers_of p
 
 -- ---- layers
 
--- what a layer says in a place
+-- the measure that a layer has at a place, from its depth or its bytes; 0 where no bound stands there
 abbrev pub measure_at_place : Measure → List Bound → (place : ℕ) → ℕ
 measure_at_place m layer place = measure_if_bound m (slice_get layer place)
 
@@ -100,22 +106,22 @@ bounds_alone p (id ∷ ids) = with_bound (bound_alone_in p id) (bounds_alone p i
 
 -- ---- marks
 
--- places are marked
+-- the marks with those of some places set
 abbrev pub mark_places : List Bool → List ℕ → List Bool
 mark_places marks [] = marks
 mark_places marks (place ∷ places) = mark_places (slice_set marks place true) places
 
--- what a caller calls, if the caller had a mark
+-- the marks with those of the blocks that a caller calls set, if the caller had a mark
 abbrev pub mark_if : Bool → List Bool → CallerData → List Bool
 mark_if m marks c = if m then mark_places marks c.called else marks
 
--- what the callers call that had a mark before
+-- the marks with those of the blocks set that callers with a mark before this round call
 abbrev pub mark_callers : List Bool → (before : List Bool) → List CallerData → List Bool
 mark_callers marks [] callers = marks
 mark_callers marks (m ∷ before) [] = marks
 mark_callers marks (m ∷ before) (c ∷ callers) = mark_callers (mark_if m marks c) before callers
 
--- the marks of a round
+-- the marks after so many rounds, by the places of the callers
 abbrev pub marks_by : List CallerData → List Bound → ℕ → List Bool
 marks_by callers list zero = ob_marks list
 marks_by callers list (suc k) = mark_callers (ob_marks list) (marks_by callers list k) callers

@@ -160,7 +160,8 @@ fn take_line(
     list: &mut Vec<Bound>,
 ) -> Result<(), CertificateFault>
     ensures taken { OnOk result
-        (TakesBoundLine l.now.program before.old before.new line.now list.old.items list.new.items) }
+        (TakesBoundLine l.now.program before.old before.new line.now list.old.items
+        list.new.items) }
     ensures bad { IfErr result (IsCertificateLineFault number l.now.program before.old line.now) }
 {
     if is_skipped(line) {
@@ -190,7 +191,8 @@ pub fn read_certificate(
 ) -> Result<Vec<Bound>, CertificateFault>
     requires { length bytes.now ≤ 4194304 }
     ensures spelled { IfOk result (λ list. SpellsCertificate l.now.program bytes.now list.items) }
-    ensures refused { IfErr result (IsCertificateTextFault (certificate_of l.now.program bytes.now)) }
+    ensures refused { IfErr result
+        (IsCertificateTextFault (certificate_of l.now.program bytes.now)) }
 {
     let mut list = Vec::new(alloc);
     let mut before = None;

@@ -25,7 +25,7 @@ use Rattle.stl_symbols.specs.Symbol.{Symbol}
 use Rattle.block_layout.specs.Blocks.{found_block, named_block}
 use Rattle.block_layout.specs.Layouts.{layouts_of}
 use Rattle.block_layout.specs.Measures.{types_of_source}
-use Rattle.block_layout.specs.Paths.{folded_path, leaves_judged, plain_kind, structure_of}
+use Rattle.block_layout.specs.Paths.{folded_path, leaves_structure, plain_kind, structure_of}
 use Rattle.block_layout.specs.Rule42.{leaves_found, operand_is_outside}
 use Rattle.block_layout.specs.Cells.{components_of}
 use Rattle.block_layout.specs.declared.blocks.BlockLayout.{BlockLayout}
@@ -33,7 +33,7 @@ use Rattle.block_layout.specs.declared.cells.Cell.{Cell}
 use Rattle.block_layout.specs.declared.cells.Element.{Element}
 use Rattle.stl_types.specs.Context.{Context, data_number, data_place, whole_place}
 use Rattle.stl_types.specs.Parameters.{callee_of}
-use Rattle.stl_types.specs.Resolution.{called_seen, id_at, instance_number, resolution_of, whole_called_block}
+use Rattle.stl_types.specs.Resolution.{resolution_of_call, id_at, instance_number, resolution_of, whole_called_block}
 use Rattle.stl_types.specs.Resolved.{resolved_operand}
 use Rattle.stl_types.specs.declared.views.Resolution.{Resolution}
 use Rattle.stl_types.specs.declared.views.Resolution.TheVariants.{Resolved, Unknown, Unjudged}
@@ -41,7 +41,7 @@ use Rattle.stl_types.specs.declared.views.ResolvedOperand.{ResolvedOperand}
 use Rattle.stl_types.specs.declared.views.ResolvedOperand.TheVariants as view
 use Rattle.stl_codegen.specs.Instruction.{instruction}
 use Rattle.stl_codegen.specs.Operations.{call_operation_of, jump_operation_of}
-use Rattle.stl_codegen.specs.Passed.{passed_seen, passed_view}
+use Rattle.stl_codegen.specs.Passed.{passed_resolution, passed_view}
 use Rattle.flat_code.specs.declared.kinds.JumpOperation.{JumpOperation}
 use Rattle.flat_code.specs.declared.kinds.JumpOperation.TheVariants as jump
 use Rattle.flat_code.specs.declared.operands.Passed.{Passed}
@@ -50,7 +50,9 @@ use Rattle.flat_code.specs.declared.operations.CallOperation.TheVariants as how_
 use Rattle.sem_kept.specs.Accepted.{IsAccepted}
 use Rattle.sem_kept.specs.Settled.{HasCalled, HasInstruction, HasLabel, HasOperand, NamesWhatIsPassed, IsResolvedStatement, context_of}
 use Rattle.sem_kept.proofs.accepted.Accepted.{IsSound, IsSoundActual, IsSoundStatement, all_mapped, right_tree}
-use Rattle.sem_kept.proofs.accepted.OperandsCells.{all_there, cells_are, layout_of_block, measured_symbols}
+use Rattle.block_layout.proofs.CommonLemmas.{all_there}
+use Rattle.sem_kept.proofs.accepted.OperandsCells.{cells_are, layout_of_block}
+use Rattle.block_layout.proofs.LayoutLemmas.{measured_symbols}
 use Rattle.sem_kept.proofs.accepted.OperandsPlaces.{IsParameterCell, function_components}
 use Rattle.sem_kept.proofs.accepted.OperandsViews.{ids_same}
 use Rattle.sem_kept.proofs.accepted.Settled.{statements_settle}
@@ -102,7 +104,7 @@ found_same symbols t k name =
     (sym (measured_symbols symbols t.blocks))
 
 found_judged : (l : List BlockLayout) (o : Option ℕ) (steps : List PathStep)
-    → leaves_found l o steps ≡ leaves_judged l (option_and_then (structure_of l) o) steps
+    → leaves_found l o steps ≡ leaves_structure l (option_and_then (structure_of l) o) steps
 found_judged l None steps = refl
 found_judged l (Some place) steps = refl
 
@@ -111,7 +113,7 @@ stays : (symbols : List Symbol) (t : Tree) (k : ℕ) (o : Operand)
     → stays_inside (context_of symbols t k) o ≡ true
 stays symbols t k (operand.Named (head.Local name) steps) e = ap not e
 stays symbols t k (operand.Named (head.InBlock name) steps) e =
-    ap not (ap (λ (o : Option ℕ). leaves_judged (layouts_of t symbols)
+    ap not (ap (λ (o : Option ℕ). leaves_structure (layouts_of t symbols)
     (option_and_then (structure_of (layouts_of t symbols)) o) (folded_path steps)) (found_same symbols t k name)
     ∙ sym (found_judged (layouts_of t symbols)
     (found_block (types_of_source symbols t.blocks).symbols (types_of_source symbols t.blocks).ids is_data_block name)
@@ -142,13 +144,13 @@ whole_same c (Some other) id e = by (is_system_function other.kind) e
     by false h = placed_same other id (whole_place c other) h
 
 block_named : (c : Context) (name : BlockName) (db : Option BlockName) (v : ResolvedOperand)
-    → called_seen (whole_called_block c (named_block c.symbols name)) db (instance_number c db) ≡ Resolved v
+    → resolution_of_call (whole_called_block c (named_block c.symbols name)) db (instance_number c db) ≡ Resolved v
     → NamesBlock c name db v
 unfolding named_by
 block_named c name None v e = bare (whole_called_block c (named_block c.symbols name)) refl e
   where
     bare : (o : Option BlockId) → whole_called_block c (named_block c.symbols name) ≡ o
-        → called_seen o None None ≡ Resolved v → NamesBlock c name None v
+        → resolution_of_call o None None ≡ Resolved v → NamesBlock c name None v
     bare None is h = absurd cc
     bare (Some id) is h = record {
       id = id;
@@ -161,7 +163,7 @@ block_named c name (Some db) v e =
     both (whole_called_block c (named_block c.symbols name)) (data_number c db) refl refl e
   where
     both : (o : Option BlockId) (number : Option ℕ) → whole_called_block c (named_block c.symbols name) ≡ o
-        → data_number c db ≡ number → called_seen o (Some db) number ≡ Resolved v → NamesBlock c name (Some db) v
+        → data_number c db ≡ number → resolution_of_call o (Some db) number ≡ Resolved v → NamesBlock c name (Some db) v
     both None number is d h = absurd cc
     both (Some id) None is d h = absurd cc
     both (Some id) (Some number) is d h = record {
@@ -241,7 +243,7 @@ actual_named : (c : Context) (a : Actual) → HasElementaryParameters c → stay
     → NamesWhatIsPassed c a → IsNamedActual c a
 actual_named c a plain inside passed = by (resolution_of c a.value) refl passed.1
   where
-    by : (r : Resolution) → resolution_of c a.value ≡ r → passed_seen a.value r ≡ Some passed.0 → IsNamedActual c a
+    by : (r : Resolution) → resolution_of c a.value ≡ r → passed_resolution a.value r ≡ Some passed.0 → IsNamedActual c a
     by (Resolved v) e h =
         let there = value_named c a.value v passed.0 plain inside e h in
         record { view = v; seen = e; named = there.0; names = there.1 }

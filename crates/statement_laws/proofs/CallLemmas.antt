@@ -11,7 +11,7 @@ use Rattle.plc_base.specs.declared.blocks.BlockId.{BlockId}
 use Rattle.plc_base.specs.declared.places.Area.{Area}
 use Rattle.plc_base.specs.declared.places.Area.TheVariants as area
 use Rattle.plc_base.specs.declared.places.Width.{Width}
-use Rattle.frames.specs.Bound.{binding_set}
+use Rattle.frames.specs.ParameterBindings.{binding_set}
 use Rattle.frames.specs.declared.Activation.{Activation}
 use Rattle.frames.specs.declared.bindings.Binding.{Binding}
 use Rattle.frames.specs.declared.bindings.Binding.TheVariants as binding
@@ -49,7 +49,7 @@ use Rattle.stl_types.specs.declared.views.ResolvedOperand.{ResolvedOperand}
 use Rattle.stl_types.specs.declared.views.ResolvedOperand.TheVariants as view
 use Rattle.stl_codegen.specs.Instruction.{source_block_at, call_instr, in_parameter_order, instr_by, instruction, passings_to, resolved_instr, return_last, view_instr}
 use Rattle.stl_codegen.specs.Operations.{call_operation_of, jump_operation_of}
-use Rattle.stl_codegen.specs.Passed.{passed_actual, passed_place, passed_seen, passed_view, passings_from, with_index}
+use Rattle.stl_codegen.specs.Passed.{passed_actual, passed_place, passed_resolution, passed_view, passings_from, with_index}
 use Rattle.machine.specs.Bindings as bindings
 use Rattle.machine.specs.Code.{Code, BlockHead}
 use Rattle.machine.specs.DataBlocks as data_blocks
@@ -218,9 +218,9 @@ view_passed o v = plain_passed o v
 
 -- an actual parameter that resolves and is named
 actual_passed : (c : Context) (a : Actual) → (h : IsNamedActual c a)
-    → passed_seen a.value (resolution_of c a.value) ≡ flat_passed h.named
+    → passed_resolution a.value (resolution_of c a.value) ≡ flat_passed h.named
 actual_passed c a h =
-    ap (passed_seen a.value) h.seen ∙ view_passed a.value h.view
+    ap (passed_resolution a.value) h.seen ∙ view_passed a.value h.view
     ∙ ap (passed_or (passed_view a.value h.view)) (view_same c a.value h.view h.named h.seen h.names)
 
 -- ---- the parameters in their order

@@ -15,7 +15,7 @@ use Rattle.stl_types.specs.Addresses.{address_in_block}
 use Rattle.stl_types.specs.Context.{Context, data_number}
 use Rattle.stl_types.specs.Forms.{form_of}
 use Rattle.stl_types.specs.Operands.{rule_of_resolved_operand, takes_operand}
-use Rattle.stl_types.specs.Resolution.{opened_seen, resolution_of, symbol_seen, target_view}
+use Rattle.stl_types.specs.Resolution.{resolution_of_opened_block, resolution_of, resolution_of_symbol, target_view}
 use Rattle.stl_types.specs.declared.forms.OperandRule.{OperandRule}
 use Rattle.stl_types.specs.declared.forms.OperandRule.TheVariants as form
 use Rattle.stl_types.specs.declared.views.Resolution.TheVariants.{Resolved}
@@ -94,7 +94,7 @@ target_there (target.Counter number) v r e = (named.Counter (named.Written numbe
 target_there (target.Block id) v r e = absurd (false≢true (sym (ap has_no_name (resolved_same view.Block v e) ∙ r)))
 
 symbol_there : (o : Option Symbol) (v : ResolvedOperand) → has_no_name v ≡ false
-    → symbol_seen o ≡ Resolved v
+    → resolution_of_symbol o ≡ Resolved v
     → There (option_and_then target_named (option_map (λ s. s.target) o))
 symbol_there None v r e = absurd cc
 symbol_there (Some s) v r e = target_there s.target v r e
@@ -110,7 +110,7 @@ in_block_there c name a w byte bit v (Some number) d e = (
 )
 
 opened_there : (c : Context) (di : Bool) (name : BlockName) (v : ResolvedOperand) (o : Option ℕ)
-    → data_number c name ≡ o → opened_seen di o ≡ Resolved v
+    → data_number c name ≡ o → resolution_of_opened_block di o ≡ Resolved v
     → There (option_map (λ number. named.DataBlock di (named.Written number)) (block_number c name))
 opened_there c di name v None d e = absurd cc
 opened_there c di name v (Some number) d e = (

@@ -81,7 +81,7 @@ found_same access (named.ByRegister (Some a) w register count) p =
 
 bound_same : (o : Option Binding) → places.binding_location o ≡ own.place_of_binding o
 bound_same None = refl
-bound_same (Some (binding.Bound place w frame)) = refl
+bound_same (Some (binding.AtPlace place w frame)) = refl
 bound_same (Some _) = refl
 
 -- what is named isn't in a data block that the statement opens first
@@ -112,7 +112,7 @@ place_same access _ p e = refl
 bound_number_same : (o : Option Binding) (p : ExecState)
     → values.number_of_binding o p.local p.memory ≡ own.number_of_parameter o p
 bound_number_same None p = refl
-bound_number_same (Some (binding.Bound place w frame)) p =
+bound_number_same (Some (binding.AtPlace place w frame)) p =
     read_same (record { place = place; width = w; frame = frame }) p
 bound_number_same (Some (binding.Constant value)) p = refl
 bound_number_same (Some _) p = refl

@@ -33,9 +33,9 @@ use Rattle.stl_types.specs.Addresses.{resolved_address, address_in_block, area_l
 use Rattle.stl_types.specs.Constants.{takes_constant}
 use Rattle.stl_types.specs.Context.{Context, data_number, number_of_block}
 use Rattle.stl_types.specs.Forms.{form_of}
-use Rattle.stl_types.specs.Operands.{operand_rule, rule_of_resolved_operand, rule_seen, statement_rule}
-use Rattle.stl_types.specs.Resolution.{opened_seen, resolution_of, symbol_seen, target_view}
-use Rattle.stl_types.specs.Resolved.{resolved_operand, seen_view}
+use Rattle.stl_types.specs.Operands.{operand_rule, rule_of_resolved_operand, rule_of_resolution, statement_rule}
+use Rattle.stl_types.specs.Resolution.{resolution_of_opened_block, resolution_of, resolution_of_symbol, target_view}
+use Rattle.stl_types.specs.Resolved.{resolved_operand, resolved_view}
 use Rattle.stl_types.specs.declared.forms.OperandRule.{OperandRule}
 use Rattle.stl_types.specs.declared.views.Register.{Register}
 use Rattle.stl_types.specs.declared.views.Register.TheVariants as register
@@ -226,10 +226,10 @@ rule_by f None v = rule_of_resolved_operand f v
 rule_same : (c : Context) (f : OperandRule) (o : Operand) (v : ResolvedOperand)
     → resolution_of c o ≡ Resolved v → operand_rule c f o ≡ rule_by f (about o) v
 rule_same c f (operand.Constant value) v e = refl
-rule_same c f o v e = ap (rule_seen f) e
+rule_same c f o v e = ap (rule_of_resolution f) e
 
 resolution_same : (r : Option ℕ) (n : Resolution) (v : ResolvedOperand)
-    → (if is_none r then seen_view n else None) ≡ Some v → (r ≡ None) × (n ≡ Resolved v)
+    → (if is_none r then resolved_view n else None) ≡ Some v → (r ≡ None) × (n ≡ Resolved v)
 resolution_same None (Resolved w) v e = (refl, ap Resolved (some_same e))
   where
     some_same : Some w ≡ Some v → w ≡ v
@@ -432,7 +432,7 @@ target_same (target.Counter number) v x e n =
 target_same (target.Block id) v x e n = absurd cc
 
 pub symbol_same : (o : Option Symbol) (v : ResolvedOperand) (x : NamedItem)
-    → symbol_seen o ≡ Resolved v
+    → resolution_of_symbol o ≡ Resolved v
     → option_and_then target_named (option_map (λ s. s.target) o) ≡ Some x
     → view_named None v ≡ Some x
 symbol_same None v x e n = absurd cc
@@ -451,7 +451,7 @@ in_block_same c name a w byte bit v x (Some number) d e n =
     (sym (number_known c name number d)) ∙ n)
 
 pub opened_named : (c : Context) (di : Bool) (name : BlockName) (v : ResolvedOperand) (x : NamedItem)
-    (o : Option ℕ) → data_number c name ≡ o → opened_seen di o ≡ Resolved v
+    (o : Option ℕ) → data_number c name ≡ o → resolution_of_opened_block di o ≡ Resolved v
     → option_map (λ number. named.DataBlock di (named.Written number)) (block_number c name) ≡ Some x
     → view_named None v ≡ Some x
 opened_named c di name v x None d e n = absurd cc

@@ -24,7 +24,7 @@ use Rattle.block_layout.specs.Members.{component_of_name}
 use Rattle.block_layout.specs.Offsets as offsets
 use Rattle.block_layout.specs.Offsets.{place_of_path, elementary_place, place_at_path_end, variable_place, width_of}
 use Rattle.block_layout.specs.Paths as paths
-use Rattle.block_layout.specs.Paths.{cells_at, elementary_at, folded_path, if_whole, path_end_by_index, is_judged, kind_of, leaves_array, leaves_from, leaves_judged, leaves_local, path_end_by_name, outermost_path_end, plain_kind, path_end_by_step, structure_of, path_end_behind, path_end_in_data_block, path_end_in_block, walked_local, whole_at}
+use Rattle.block_layout.specs.Paths.{cells_at, elementary_at, folded_path, if_whole, path_end_by_index, is_checkable, kind_of, leaves_array, leaves_from, leaves_structure, leaves_local, path_end_by_name, outermost_path_end, plain_kind, path_end_by_step, structure_of, path_end_behind, path_end_in_data_block, path_end_in_block, walked_local, whole_at}
 use Rattle.block_layout.specs.declared.blocks.BlockLayout.{BlockLayout}
 use Rattle.block_layout.specs.declared.blocks.Section.TheVariants as section
 use Rattle.block_layout.specs.declared.cells.Cell.{Cell}
@@ -108,7 +108,7 @@ static_end c walk.Unknown v r fc e = absurd cc
 static_end c walk.Rests v r fc e = absurd cc
 
 judged_end : (c : Context) (temporary : Bool) (end : PathEnd) (v : ResolvedOperand)
-    → own_walked c temporary end ≡ Resolved v → is_judged end ≡ true
+    → own_walked c temporary end ≡ Resolved v → is_checkable end ≡ true
 judged_end c temporary (walk.Reaches spot) v e = refl
 judged_end c temporary walk.Unknown v e = absurd cc
 judged_end c temporary walk.Rests v e = absurd cc
@@ -258,7 +258,7 @@ local_there : (c : Context) (name : List ℕ) (steps : List PathStep)
     else outermost_path_end c.layouts c.block true 0 name)
     (λ spot. path_end_behind c.layouts spot steps)
     else walk.Rests) ≡ Resolved v
-    → not (is_judged (if is_some (whole_at c.layouts c.block)
+    → not (is_checkable (if is_some (whole_at c.layouts c.block)
     then paths.path_end_and_then
     (if is_some m then outermost_path_end c.layouts c.block false 0 name
     else outermost_path_end c.layouts c.block true 0 name)
@@ -322,9 +322,9 @@ data_end_there c n walk.Unknown v r e = absurd cc
 data_end_there c n walk.Rests v r e = absurd cc
 
 -- the block that declares the components of a data block, which a path is walked in
-left_judged : (l : List BlockLayout) (structure : Option ℕ) (steps : List PathStep)
-    → not (leaves_judged l structure steps) ≡ true → leaves_judged l structure steps ≡ false
-left_judged l structure steps h = by (leaves_judged l structure steps) h
+left_structure : (l : List BlockLayout) (structure : Option ℕ) (steps : List PathStep)
+    → not (leaves_structure l structure steps) ≡ true → leaves_structure l structure steps ≡ false
+left_structure l structure steps h = by (leaves_structure l structure steps) h
   where
     by : (b : Bool) → not b ≡ true → b ≡ false
     by true e = absurd (false≢true e)
@@ -336,16 +336,16 @@ data_whole : (c : Context) (id : BlockId) (steps : List PathStep) (place n : ℕ
     → is_data_block id.kind ≡ true
     → option_and_then (λ (b : BlockLayout). number_of_block b.id) block ≡ Some n
     → data_walked c id.number (path_end_in_data_block c.layouts place steps) ≡ Resolved v
-    → not (leaves_judged c.layouts (structure_of c.layouts place) steps) ≡ true
+    → not (leaves_structure c.layouts (structure_of c.layouts place) steps) ≡ true
     → There (place_in_layout (option_and_then (offsets.place_in_section c.layouts id section.Global steps)
     (if is_some block then Some place else None)))
 data_whole c id steps place n None v r db d e inside = absurd cc
 data_whole c id steps place n (Some b) v r db d e inside =
     subst (λ (k : Bool). There (place_in_layout
     (if k then offsets.component_place c.layouts id.number place steps else None))) (sym db)
-    (kept (leaves_judged c.layouts (structure_of c.layouts place) steps)
+    (kept (leaves_structure c.layouts (structure_of c.layouts place) steps)
     (place_at_path_end c.layouts area.Db id.number (path_end_in_data_block c.layouts place steps))
-    (left_judged c.layouts (structure_of c.layouts place) steps inside)
+    (left_structure c.layouts (structure_of c.layouts place) steps inside)
     (data_end_there c id.number (path_end_in_data_block c.layouts place steps) v r e))
 
 data_known_there : (c : Context) (id : BlockId) (steps : List PathStep)
@@ -355,7 +355,7 @@ data_known_there : (c : Context) (id : BlockId) (steps : List PathStep)
     → number ≡ option_and_then (λ (b : BlockLayout). number_of_block b.id)
     (option_and_then (whole_at c.layouts) place)
     → data_path c steps number place ≡ Resolved v
-    → not (leaves_judged c.layouts (option_and_then (structure_of c.layouts) place) steps) ≡ true
+    → not (leaves_structure c.layouts (option_and_then (structure_of c.layouts) place) steps) ≡ true
     → There (place_in_layout (option_and_then (offsets.place_in_section c.layouts id section.Global steps)
     (option_and_then (if_whole c.layouts) place)))
 data_known_there c id steps (Some number) (Some place) v r db is d e inside =
@@ -379,7 +379,7 @@ data_named_there : (c : Context) (o : Option BlockId) (steps : List PathStep)
     → data_path c steps number
     (option_and_then (λ id. known_block id (map (λ b. b.id) c.layouts)) (of_kind is_data_block o))
     ≡ Resolved v
-    → not (leaves_judged c.layouts (option_and_then (structure_of c.layouts)
+    → not (leaves_structure c.layouts (option_and_then (structure_of c.layouts)
     (option_and_then (λ id. known_block id (map (λ b. b.id) c.layouts)) (of_kind is_data_block o)))
     steps) ≡ true
     → There (place_in_layout (option_and_then (λ id. place_of_path c.layouts id section.Global steps) o))
@@ -398,7 +398,7 @@ data_named_there c (Some id) steps number v r is d e inside =
         (option_and_then (λ (id : BlockId). known_block id (map (λ (b : BlockLayout). b.id) c.layouts))
         (if db then Some id else None))
         ≡ Resolved v
-        → not (leaves_judged c.layouts (option_and_then (structure_of c.layouts)
+        → not (leaves_structure c.layouts (option_and_then (structure_of c.layouts)
         (option_and_then (λ (id : BlockId). known_block id (map (λ (b : BlockLayout). b.id) c.layouts))
         (if db then Some id else None)))
         steps) ≡ true
@@ -412,7 +412,7 @@ data_named_there c (Some id) steps number v r is d e inside =
 
 component_there : (c : Context) (name : BlockName) (steps : List PathStep)
     (v : ResolvedOperand) → has_no_name v ≡ false → data_variable c name steps ≡ Resolved v
-    → not (leaves_judged c.layouts (option_and_then (structure_of c.layouts) (data_place c name)) steps)
+    → not (leaves_structure c.layouts (option_and_then (structure_of c.layouts) (data_place c name)) steps)
     ≡ true
     → There (component_named c name steps)
 component_there c name steps v r e inside =

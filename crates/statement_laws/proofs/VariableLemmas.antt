@@ -23,7 +23,7 @@ use Rattle.block_layout.specs.Blocks.{known_block, named_block, of_kind}
 use Rattle.block_layout.specs.Members.{component_of_name}
 use Rattle.block_layout.specs.Offsets as offsets
 use Rattle.block_layout.specs.Offsets.{place_of_path, elementary_place, place_at_path_end, variable_place, width_of}
-use Rattle.block_layout.specs.Paths.{cells_at, elementary_at, folded_path, if_whole, kind_of, leaves_from, leaves_judged, outermost_path_end, plain_kind, structure_of, path_end_behind, path_end_in_data_block, path_end_in_block, walked_local, whole_at}
+use Rattle.block_layout.specs.Paths.{cells_at, elementary_at, folded_path, if_whole, kind_of, leaves_from, leaves_structure, outermost_path_end, plain_kind, structure_of, path_end_behind, path_end_in_data_block, path_end_in_block, walked_local, whole_at}
 use Rattle.block_layout.specs.declared.blocks.Section.TheVariants as section
 use Rattle.block_layout.specs.declared.cells.Cell.{Cell}
 use Rattle.block_layout.specs.declared.members.Member.{Member}
@@ -33,7 +33,7 @@ use Rattle.block_layout.specs.declared.walks.PathEnd.TheVariants as walk
 use Rattle.block_layout.specs.Paths as paths
 use Rattle.stl_types.specs.Addresses.{resolved_address, area_left, area_for_letters}
 use Rattle.stl_types.specs.Context.{Context, data_number, in_function, is_of_function, whole_place}
-use Rattle.stl_types.specs.Resolution.{called_seen, id_at, register_for_word, resolution_of, whole_called_block}
+use Rattle.stl_types.specs.Resolution.{resolution_of_call, id_at, register_for_word, resolution_of, whole_called_block}
 use Rattle.stl_types.specs.Variables.{behind_others, data_at, data_path, data_variable, data_walked, variable_in_area, own_at, own_elementary, own_variable, own_walked, parameter_at}
 use Rattle.stl_types.specs.Variables as variables
 use Rattle.stl_types.specs.declared.views.Resolution.TheVariants.{Resolved, Unjudged}
@@ -306,7 +306,7 @@ data_placed c id steps number place v x is e n = by (is_some (whole_at c.layouts
     in_db true h =
         data_end c id.number (path_end_in_data_block c.layouts place steps) v x
         (ap (λ k. data_walked c k (path_end_in_data_block c.layouts place steps)) (sym is) ∙ e)
-        (inside (leaves_judged c.layouts (structure_of c.layouts place) steps)
+        (inside (leaves_structure c.layouts (structure_of c.layouts place) steps)
         (place_at_path_end c.layouts area.Db id.number (path_end_in_data_block c.layouts place steps)) x h)
     in_db false h = absurd cc
 
@@ -373,19 +373,19 @@ component_same c name steps v x e n =
 
 -- a block that is called, or none where it breaks a rule
 whole_called : (c : Context) (id : BlockId) (instance : Option BlockName) (number : Option ℕ)
-    (v : ResolvedOperand) → called_seen (whole_called_block c (Some id)) instance number ≡ Resolved v
-    → called_seen (Some id) instance number ≡ Resolved v
+    (v : ResolvedOperand) → resolution_of_call (whole_called_block c (Some id)) instance number ≡ Resolved v
+    → resolution_of_call (Some id) instance number ≡ Resolved v
 whole_called c id instance number v e = by (is_system_function id.kind) (whole_place c id) e
   where
     by : (system : Bool) (place : Option ℕ)
-        → called_seen (if system then Some id else id_at id place) instance number ≡ Resolved v
-        → called_seen (Some id) instance number ≡ Resolved v
+        → resolution_of_call (if system then Some id else id_at id place) instance number ≡ Resolved v
+        → resolution_of_call (Some id) instance number ≡ Resolved v
     by true place h = h
     by false (Some place) h = h
     by false None h = absurd cc
 
 plain_call : (c : Context) (o : Option BlockId) (v : ResolvedOperand) (x : NamedItem)
-    → called_seen (whole_called_block c o) None None ≡ Resolved v
+    → resolution_of_call (whole_called_block c o) None None ≡ Resolved v
     → option_map (λ id. named.Called id None) o ≡ Some x → view_named None v ≡ Some x
 plain_call c None v x e n = absurd cc
 plain_call c (Some id) v x e n =
@@ -394,7 +394,7 @@ plain_call c (Some id) v x e n =
 
 instance_call : (c : Context) (o : Option BlockId) (db : BlockName) (number : Option ℕ)
     (v : ResolvedOperand) (x : NamedItem) → data_number c db ≡ number
-    → called_seen (whole_called_block c o) (Some db) number ≡ Resolved v
+    → resolution_of_call (whole_called_block c o) (Some db) number ≡ Resolved v
     → with_instance o (block_number c db) ≡ Some x → view_named None v ≡ Some x
 instance_call c None db number v x d e n = absurd cc
 instance_call c (Some id) db None v x d e n =

@@ -46,12 +46,12 @@ use Rattle.stl_parser.specs.Tables.{addresses, flags, head_words, keywords, look
 use Rattle.stl_parser.specs.Terminals.{has_kind, is_key, is_mark}
 use Rattle.stl_parser.specs.declared.clauses.Clause.{Clause}
 use Rattle.stl_parser.specs.declared.clauses.Clause.TheVariants as clause
-use Rattle.stl_parser.specs.declared.keywords.Key.TheVariants as key
+use Rattle.stl_parser.specs.declared.keywords.ClauseWord.TheVariants as key
 use Rattle.stl_parser.specs.declared.places.ClausePlace.{ClausePlace}
 use Rattle.stl_parser.specs.declared.places.ClausePlace.TheVariants as place
 use Rattle.stl_parser.specs.declared.statements.BareStatement.{BareStatement}
-use Rattle.stl_parser.specs.declared.tables.Address.{Address}
-use Rattle.stl_parser.specs.declared.tables.Address.TheVariants as address
+use Rattle.stl_parser.specs.declared.tables.AddressKind.{AddressKind}
+use Rattle.stl_parser.specs.declared.tables.AddressKind.TheVariants as address
 use Rattle.stl_parser.specs.declared.tables.OperandSyntax.{OperandSyntax}
 use Rattle.stl_parser.specs.declared.tables.OperandSyntax.TheVariants as form
 use Rattle.stl_parser.specs.declared.tables.HeadWord.{HeadWord}
@@ -143,7 +143,7 @@ area_has : (source : List ℕ) (a : Letters) (w : Width) (byte : ℕ) (rest : Li
 unfolding reads.area_operand
 area_has source a w byte rest = made (reads.place_bit source w rest) _ Has (λ bit. tt)
 
-direct_has : (source : List ℕ) (a : Address) (n : ℕ) (rest : List Token)
+direct_has : (source : List ℕ) (a : AddressKind) (n : ℕ) (rest : List Token)
     → IfSome (reads.direct_address_operand source a n rest) Has
 unfolding reads.direct_address_operand
 direct_has source (address.Area a w) n rest = area_has source a w n rest
@@ -168,7 +168,7 @@ area_by_has source a w tokens =
     (made (reads.memory_pointer source true tokens) _ Has (λ p. tt))
     (register_has source (Some a) w tokens)
 
-indirect_has : (source : List ℕ) (a : Address) (tokens : List Token)
+indirect_has : (source : List ℕ) (a : AddressKind) (tokens : List Token)
     → IfSome (reads.indirect_operand source a tokens) Has
 unfolding reads.indirect_operand
 indirect_has source (address.Area a w) tokens = area_by_has source a w tokens
@@ -177,7 +177,7 @@ indirect_has source address.Counter tokens = number_has source numbered.Counter 
 indirect_has source (address.Block false) tokens = number_has source numbered.Db tokens
 indirect_has source (address.Block true) tokens = number_has source numbered.Di tokens
 
-area_pointer_has : (source : List ℕ) (a : Address) (byte : ℕ) (rest : List Token)
+area_pointer_has : (source : List ℕ) (a : AddressKind) (byte : ℕ) (rest : List Token)
     → IfSome (reads.area_pointer source a byte rest) Has
 unfolding reads.area_pointer
 area_pointer_has source (address.Area a width.Bit) byte rest =

@@ -8,7 +8,7 @@ use Rattle.plc_base.specs.Kinds.{is_system_function}
 use Rattle.plc_base.specs.declared.blocks.BlockId.{BlockId}
 use Rattle.plc_base.specs.declared.places.Area.TheVariants as area
 use Rattle.status_word.specs.declared.registers.Regs.{Regs}
-use Rattle.frames.specs.Bound.{binding_set}
+use Rattle.frames.specs.ParameterBindings.{binding_set}
 use Rattle.frames.specs.declared.Activation.{Activation}
 use Rattle.frames.specs.declared.bindings.Binding.{Binding}
 use Rattle.frames.specs.declared.bindings.Binding.TheVariants as binding
@@ -125,7 +125,7 @@ named_in_call c (Some a) = option_and_then if_passable (named_by c a.value)
 -- 22 or 23, in the peripheral area 42 or 43
 abbrev pub binding_if : Access → Location → Option ℕ → Result Binding ℕ
 binding_if access b None = Err (missing_place_error access b.place.area)
-binding_if access b (Some n) = Ok (binding.Bound b.place b.width b.frame)
+binding_if access b (Some n) = Ok (binding.AtPlace b.place b.width b.frame)
 
 -- what a parameter stands for that is passed a place: that place, where it exists
 abbrev pub binding_at : Access → Location → ExecState → Result Binding ℕ

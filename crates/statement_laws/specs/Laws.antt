@@ -14,7 +14,7 @@ use Rattle.stl_ast.specs.declared.operands.Operand.TheVariants as operand
 use Rattle.stl_ast.specs.declared.operands.PathHead.TheVariants as head
 use Rattle.stl_ast.specs.declared.statements.Actual.{Actual}
 use Rattle.stl_ast.specs.declared.statements.Statement.{Statement}
-use Rattle.block_layout.specs.Paths.{folded_path, leaves_judged, leaves_local, plain_kind, structure_of}
+use Rattle.block_layout.specs.Paths.{folded_path, leaves_structure, leaves_local, plain_kind, structure_of}
 use Rattle.block_layout.specs.declared.cells.Cell.{Cell}
 use Rattle.stl_types.specs.Context.{Context, data_place}
 use Rattle.stl_types.specs.Parameters.{Callee, callee_of}
@@ -325,7 +325,7 @@ abbrev pub stays_inside : Context → Operand → Bool
 stays_inside c (operand.Named (head.Local name) steps) =
     not (leaves_local c.layouts c.block (upper_case_name name) (folded_path steps))
 stays_inside c (operand.Named (head.InBlock name) steps) =
-    not (leaves_judged c.layouts (option_and_then (structure_of c.layouts) (data_place c name))
+    not (leaves_structure c.layouts (option_and_then (structure_of c.layouts) (data_place c name))
     (folded_path steps))
 stays_inside c _ = true
 

@@ -187,7 +187,7 @@ place_of_spot access (named.ByRegister None width register count) p =
 
 -- the place that a parameter stands for; error 0 where it stands for a constant or nothing
 abbrev pub place_of_binding : Option Binding → Result Location ℕ
-place_of_binding (Some (binding.Bound place width frame)) =
+place_of_binding (Some (binding.AtPlace place width frame)) =
     Ok (record { place = place; width = width; frame = frame })
 place_of_binding _ = Err 0
 
@@ -202,7 +202,7 @@ place_of_operand access _ p = Err 0
 
 -- the number that a parameter stands for
 abbrev pub number_of_parameter : Option Binding → ExecState → Result ℕ ℕ
-number_of_parameter (Some (binding.Bound place width frame)) p =
+number_of_parameter (Some (binding.AtPlace place width frame)) p =
     number_or_error Reading (record { place = place; width = width; frame = frame }) p
 number_of_parameter (Some (binding.Constant value)) p = Ok value
 number_of_parameter _ p = Err 0

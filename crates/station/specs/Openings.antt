@@ -34,9 +34,11 @@ the_opening (o ∷ os) = o
 -- the mode after an entry that stands behind the entries `before` of a station, replayed from the
 -- first start on
 abbrev pub mode_at : Opening → (before : List Entry) → Entry → Mode
-mode_at o before e = (replay o.profile (code_of o.program) (entry_events (o.first ++ before ++ e ∷ []))).mode
+mode_at o before e =
+    (replay o.profile (code_of o.program) (entry_events (o.first ++ before ++ e ∷ []))).mode
 
 -- the reply to an entry that stands behind the entries `before` of a station
 abbrev pub reply_at : Opening → (before : List Entry) → Entry → Reply
 reply_at o before e =
-    (entry_result (code_of o.program) (replay o.profile (code_of o.program) (entry_events (o.first ++ before))) e.what).reply
+    (entry_result (code_of o.program)
+    (replay o.profile (code_of o.program) (entry_events (o.first ++ before))) e.what).reply

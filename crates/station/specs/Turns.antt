@@ -27,21 +27,36 @@ MayFail Full len = FULL ≤ len
 
 -- a controller got exactly this entry
 pub record AddsEntry (old new : Recording) (e : Entry) : Type 0 where
+  -- the controller keeps its program
   pub program : new.program ≡ old.program
+  -- the controller keeps its profile
   pub profile : new.profile ≡ old.profile
+  -- the history has exactly one entry more, at its end
   pub history : new.history ≡ old.history ++ e ∷ []
+  -- the history had fewer than 4,194,304 entries before
   pub room : length old.history < FULL
 
 -- the pass made this entry: the list that it knows ends with it, behind `before`, which all that the pass had seen begins; of the
 -- entries under its own number it is the only new one, and those under its other numbers are as before
-pub record HasMade (old new : PassView Opening Entry) (before : List Entry) (e : Entry) : Type 0 where
+pub record HasMade
+    (old new : PassView Opening Entry) (before : List Entry) (e : Entry)
+    : Type 0 where
+  -- the list that the pass knows ends with the entry, behind `before`
   pub ends : new.seen ≡ before ++ e ∷ []
+  -- `before` begins with all that the pass had seen
   pub begins : IsPrefix old.seen before
+  -- the entry is the only new one under the own number of the pass; the entries under its other
+  -- numbers are as before
   pub made : new.made ≡ made_more old.made (e ∷ [])
+  -- the entries of the opening and those since then are at most 4,194,304 together
   pub room : length (the_opening old.lock.origin).first + length new.seen ≤ FULL
 
 -- the pass made no entry, and may have seen more
 pub record HasMadeNone (old new : PassView Opening Entry) (fault : StationFault) : Type 0 where
+  -- the list that the pass knows begins with all that it had seen
   pub begins : IsPrefix old.seen new.seen
+  -- the entries under the numbers of the pass are as before
   pub made : new.made ≡ old.made
+  -- the history is full, with 4,194,304 entries or more, where the fault says so; by want of memory
+  -- it has fewer
   pub why : MayFail fault (length (the_opening old.lock.origin).first + length new.seen)

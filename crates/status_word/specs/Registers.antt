@@ -4,7 +4,7 @@ use Rattle.std.specs.Prelude.{false}
 use Rattle.status_word.specs.declared.statuses.Status.{Status}
 use Rattle.status_word.specs.declared.registers.Regs.{Regs}
 
--- the status word 0
+-- the status word with all bits 0
 abbrev pub status_at_rest : Status
 status_at_rest = record {
   fc = false;

@@ -42,9 +42,14 @@ FitsType arrays of_ init = IsSingleInit init
 
 -- a declaration: bounds, count and values are in their ranges, and the initial values fit the form of the type
 pub record IsDeclaration (d : Declaration) : Type 0 where
+  -- the bounds of each array are decimal numbers, -32768 to 65535
   pub arrays : AllByRecursion AreBounds d.of.arrays
+  -- a user-defined data type is named by its number or by a quoted name
   pub element : IsElement d.of.of
+  -- each initial value is a literal in its range, with a count of 0 to 65535 or none before it
   pub init : AllByRecursion IsInit d.init
+  -- several initial values, or a count, stand only at a single array of an elementary type,
+  -- and none at a structure
   pub fits : FitsType d.of.arrays d.of.of d.init
 
 -- a type that is an elementary one

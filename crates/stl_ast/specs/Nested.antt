@@ -7,11 +7,12 @@ use Rattle.stl_ast.specs.Outline.{IsOutline}
 
 -- declarations one behind the other, each with its components
 pub data Components : Type 0 where
+  -- no declaration
   none : Components
   -- a declaration with its components, and then those behind it
   more : Declaration → Components → Components → Components
 
--- of these, the leading ones that stand deeper than a level
+-- the leading ones of some components that stand deeper than a level
 abbrev pub inner_components : ℕ → Components → Components
 inner_components level none = none
 inner_components level (more d components behind) =

@@ -85,9 +85,13 @@ IsTarget _ = Unit {0}
 
 -- the value of an actual parameter: an operand that is no block and no label, and not nothing
 pub record IsActual (a : Actual) : Type 0 where
+  -- the value is an operand that is right by itself
   pub value : IsOperand a.value
+  -- there is a value
   pub something : is_nothing a.value ≡ false
+  -- the value is no block that is called
   pub no_block : names_called_block a.value ≡ false
+  -- the value is no label
   pub no_label : is_label a.value ≡ false
 
 -- the actual parameters of a statement, each right by itself; there may be none
@@ -96,16 +100,23 @@ AreActuals actuals = AllByRecursion IsActual actuals
 
 -- a statement: its operand goes with its instruction
 pub record IsStatement (s : Statement) : Type 0 where
+  -- a label before the statement has at most four characters
   pub label : IsLabelOf s.label
+  -- the operand is right by itself
   pub value : IsOperand s.operand
-  -- a block is called exactly by CALL, UC and CC, and with an instance by CALL alone
+  -- a block that is called is the operand exactly with CALL, UC and CC
   pub called : names_called_block s.operand ≡ is_call s.code
+  -- an instance data block stands with CALL alone
   pub instance : has_actuals s.code ≡ false → has_instance s.operand ≡ false
-  -- a label is the target of a jump alone
+  -- a label as operand has at most four characters
   pub target : IsTarget s.operand
+  -- a label is the operand of a jump alone
   pub jumps : is_label s.operand ≡ true → is_jump s.code ≡ true
-  -- the empty statement has no operand and no label
+  -- the empty statement has no operand
   pub empty : is_empty_statement s.code ≡ true → s.operand ≡ operand.Nothing
+  -- the empty statement has no label
   pub unlabelled : is_empty_statement s.code ≡ true → s.label ≡ None
+  -- each actual parameter is right by itself
   pub actuals : AreActuals s.actuals
+  -- actual parameters stand with CALL alone
   pub no_actuals : has_actuals s.code ≡ false → s.actuals ≡ []

@@ -105,12 +105,21 @@ IsBody k body = AllByRecursion IsStatement body × (is_code k ≡ false → body
 -- a block of the source: its kind says which return value, sections, type, settings and statements
 -- it may have
 pub record IsBlock (b : Block) : Type 0 where
+  -- the kind is OB, FC, FB, DB or UDT
   pub head : IsSourceKind b.kind
+  -- a block by its number has the kind of its head
   pub named : IsHeadName b.kind b.name
+  -- only a function has the type of a return value
   pub returns : MayReturn b.kind b.result
+  -- each section is one that the kind may have, stands at most once and in its order, and is right
+  -- by itself
   pub sections : AreSections b.kind b.parts
+  -- a data block has a type or a function block whose instance it is, a data type has a structure,
+  -- and other kinds have none of these
   pub shaped : IsShapeOf b.kind b.shape b.instance_of b.components
+  -- only a data block has settings, and each is right by itself
   pub set : AreSettings b.kind b.settings
+  -- only OB, FC and FB have statements, and each is right by itself
   pub runs : IsBody b.kind b.body
 
 -- the tree of a source: what its grammar and its frame keep of each block

@@ -15,8 +15,8 @@ use Rattle.stl_codegen.specs.Fitting.{BlockFits, ParamFits}
 use Rattle.stl_codegen.specs.Generated.{param_at_bits}
 
 -- a number that fits a word, whatever else its field asks
-word : (n : ℕ) (judged : Bool) → (ltb n 65536 && judged) ≡ true → n < 65536
-word n judged good = ltb-true n 65536 (and_parts (ltb n 65536) judged good).0
+word : (n : ℕ) (checked : Bool) → (ltb n 65536 && checked) ≡ true → n < 65536
+word n checked good = ltb-true n 65536 (and_parts (ltb n 65536) checked good).0
 
 -- the numbers of a head
 record HeadFits (h : Head) : Type 0 where

@@ -1,5 +1,5 @@
--- The statements of a body one behind the other: what each adds to the code, and the numbers of those
--- that have labels.
+-- The statements of a body one behind the other: what each adds to the code, and the numbers of
+-- those that have labels.
 use Rattle.std.specs.Prelude.{◌≡◌, ℕ, ◌+◌, List, [], ◌∷◌, ◌++◌, Option, Some, None, if◌then◌else◌}
 use Rattle.std.specs.List.{flat_map}
 use Rattle.flat_code.specs.Ops.{OpData}
@@ -38,7 +38,7 @@ abbrev pub count_of_statements : List Statement → ℕ
 count_of_statements [] = 0
 count_of_statements (s ∷ ss) = count_of_statement s + count_of_statements ss
 
--- the number of a statement, in a list, where it has a label
+-- the list that holds the number of a statement; it is empty where the statement has no label
 abbrev pub number_here : (n : ℕ) → Option (List ℕ) → List ℕ
 number_here n None = []
 number_here n (Some label) = n ∷ []
@@ -46,11 +46,15 @@ number_here n (Some label) = n ∷ []
 -- the number of the statement of each label, of statements from a number on
 abbrev pub numbers_of_labels : (n : ℕ) → List Statement → List ℕ
 numbers_of_labels n [] = []
-numbers_of_labels n (s ∷ ss) = number_here n s.label ++ numbers_of_labels (n + count_of_statement s) ss
+numbers_of_labels n (s ∷ ss) =
+    number_here n s.label ++ numbers_of_labels (n + count_of_statement s) ss
 
 -- the labels of a body with the numbers of their statements, and how many statements it has
 pub record AreTargets (body : List Statement) (names : List (List ℕ)) (places : List ℕ) (total : ℕ)
     : Type 0 where
+  -- the labels of the body, in their order
   pub labels : names ≡ labels_of body
+  -- of each label the number of its statement, from 0
   pub numbers : places ≡ numbers_of_labels 0 body
+  -- how many statements the body has, empty ones left out
   pub count : total ≡ count_of_statements body

@@ -14,7 +14,9 @@ use Rattle.stl_codegen.specs.Emitted.{ops_of}
 
 -- a statement of a block, empty ones left out: its instruction and its line
 pub record SourceInstruction : Type 0 where
+  -- the instruction of the statement
   pub instr : Instr
+  -- the line of the statement in the source
   pub line : ℕ
 
 -- the ops of statements, whose targets are still numbers of statements
@@ -56,10 +58,15 @@ lines_in statements = map (λ s. s.line) statements
 
 -- a code block before its statements are ops
 pub record StatedBlock : Type 0 where
+  -- kind and number of the block
   pub id : BlockId
+  -- how many bytes of local data the block has
   pub local_len : ℕ
+  -- how many bytes an instance of the block has
   pub instance_len : ℕ
+  -- the parameters of the block with their places
   pub params : List Param
+  -- the statements of the block in order, empty ones left out
   pub statements : List SourceInstruction
 
 -- the code block of these statements: their ops with byte offsets as targets, and their lines

@@ -41,7 +41,8 @@ use Rattle.stl_codegen.specs.Order.{is_code_before, is_data_before, is_name_befo
 
 -- the instructions of statements of a body, from the number `n` on, with their lines; empty
 -- statements have no number
-abbrev pub stated_from : Context → (body : List Statement) → (n : ℕ) → List Statement → List SourceInstruction
+abbrev pub stated_from : Context → (body : List Statement) → (n : ℕ) → List Statement
+    → List SourceInstruction
 stated_from c body n [] = []
 stated_from c body n (s ∷ ss) =
     if is_empty_statement s.code then stated_from c body n ss
@@ -171,7 +172,8 @@ name_entry name _ = []
 
 -- the names of a program, rising by their bytes
 abbrev pub name_entries_of : List Symbol → List NameEntry
-name_entries_of symbols = sorted_list is_name_before (flat_map (λ s. name_entry s.name s.target) symbols)
+name_entries_of symbols =
+    sorted_list is_name_before (flat_map (λ s. name_entry s.name s.target) symbols)
 
 -- ---- the program
 

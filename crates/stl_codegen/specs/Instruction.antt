@@ -33,7 +33,8 @@ count_of_statement s = if is_empty_statement s.code then 0 else 1
 -- the number of the first statement that has a label; where none has it, how many there are
 unfoldable pub target_in : List ℕ → List Statement → ℕ
 target_in name [] = 0
-target_in name (s ∷ ss) = if has_label name s.label then 0 else count_of_statement s + target_in name ss
+target_in name (s ∷ ss) =
+    if has_label name s.label then 0 else count_of_statement s + target_in name ss
 
 -- the target of a jump, by the label that is its operand; 0 for an operand that is no label
 abbrev pub target_of : List Statement → Operand → ℕ
@@ -72,7 +73,8 @@ source_block_at blocks place = option_and_then (slice_get blocks) place
 abbrev pub passings_to : Context → Statement → Option Callee → List Passing
 passings_to c s None = []
 passings_to c s (Some callee) =
-    passings_from c s.actuals 0 (in_parameter_order (source_block_at c.blocks callee.place) callee.formals)
+    passings_from c s.actuals 0
+    (in_parameter_order (source_block_at c.blocks callee.place) callee.formals)
 
 -- NOP 0, for a statement that doesn't name what its instruction takes
 abbrev pub filler_instruction : Instr
@@ -86,7 +88,9 @@ call_instr c s how _ = filler_instruction
 
 -- BE, BEC and BEU return; every other instruction goes on to the next statement, with its operand
 abbrev pub end_instr : Statement → ResolvedOperand → Option EndOperation → Instr
-end_instr s v None = Does (block_opened_by_operand v) (operation_for s.code s.operand v) (flat_operand_of s.operand v)
+end_instr s v None =
+    Does (block_opened_by_operand v) (operation_for s.code s.operand v)
+    (flat_operand_of s.operand v)
 end_instr s v (Some how) = Returns how
 
 -- CALL, UC and CC call a block; every other instruction returns or goes on

@@ -9,7 +9,8 @@ use Rattle.stl_codegen.specs.Compiled.{StatedBlock}
 -- a block's kind and number stand before another's: by the number of the kind, then by its own
 abbrev pub is_id_before : BlockId → BlockId → Bool
 is_id_before a b =
-    nat_lt (kind_number a.kind) (kind_number b.kind) || nat_eq (kind_number a.kind) (kind_number b.kind) && nat_lt a.number b.number
+    nat_lt (kind_number a.kind) (kind_number b.kind)
+    || nat_eq (kind_number a.kind) (kind_number b.kind) && nat_lt a.number b.number
 
 -- a code block stands before another by kind and number, before their statements are ops
 abbrev pub is_code_before : StatedBlock → StatedBlock → Bool
@@ -30,7 +31,8 @@ is_name_before a b = is_earlier_name a.name b.name
 -- a list in order with one more record, behind those that come before it
 abbrev pub sorted_insertion : {A : Type 0} → (A → A → Bool) → A → List A → List A
 sorted_insertion before x [] = x ∷ []
-sorted_insertion before x (y ∷ ys) = if before y x then y ∷ sorted_insertion before x ys else x ∷ y ∷ ys
+sorted_insertion before x (y ∷ ys) =
+    if before y x then y ∷ sorted_insertion before x ys else x ∷ y ∷ ys
 
 -- the records in order; two that are alike stay as they stood
 unfoldable pub sorted_list : {A : Type 0} → (A → A → Bool) → List A → List A

@@ -36,9 +36,9 @@ passed_view o view.Constant = Some (passed.Literal (constant_bits o))
 passed_view o _ = None
 
 -- what an actual parameter passes; none where what it names is unknown, or breaks a rule itself
-abbrev pub passed_seen : Operand → Resolution → Option Passed
-passed_seen o (Resolved v) = passed_view o v
-passed_seen o _ = None
+abbrev pub passed_resolution : Operand → Resolution → Option Passed
+passed_resolution o (Resolved v) = passed_view o v
+passed_resolution o _ = None
 
 -- the actual parameter that is supplied for a parameter
 abbrev pub actual_of_formal : List Actual → Formal → Option Actual
@@ -52,7 +52,8 @@ with_index index (Some actual) = record { index = index; actual = actual } ∷ [
 -- what a CALL passes for the parameter of an index; nothing where it supplies none
 abbrev pub passed_actual : Context → (index : ℕ) → Option Actual → List Passing
 passed_actual c index None = []
-passed_actual c index (Some a) = with_index index (passed_seen a.value (resolution_of c a.value))
+passed_actual c index (Some a) =
+    with_index index (passed_resolution a.value (resolution_of c a.value))
 
 -- what a CALL passes for these parameters, one after the other, the first of them with the index
 -- `index`

@@ -17,11 +17,12 @@ abbrev pub extended_starts : List ℕ → (at : ℕ) → (begins : Bool) → Lis
 extended_starts starts at true = starts ++ at ∷ []
 extended_starts starts at false = starts
 
--- an offset, or that it doesn't fit 32 bits
+-- what is found of an offset: the offset itself, or nothing where it doesn't fit 32 bits
 abbrev pub IsOffset : Option ℕ → ℕ → Type 0
 IsOffset (Some at) offset = at ≡ offset
 IsOffset None offset = 4294967296 ≤ offset
 
 -- the starts and the end of ops
 pub record AreStatementOffsets (starts : List ℕ) (end : Option ℕ) (ops : List OpData) : Type 0 where
+  -- of each statement number the table has the offset, or none where it doesn't fit 32 bits
   pub each : (n : ℕ) → IsOffset (offset_in_table starts end n) (offset_of_statement ops n)

@@ -21,7 +21,7 @@ use flat_code::Op;
 use std::alloc::{AllocError, Global};
 use std::marker::Model;
 use stl_ast::{Block, Mnemonic, Name, Operand, Statement};
-use stl_symbols::Names;
+use stl_symbols::NameIndex;
 use stl_types::Context;
 
 pub(crate) fn is_empty(code: Mnemonic) -> bool
@@ -58,7 +58,7 @@ pub(crate) fn lines_of(alloc: Global, block: &Block) -> Result<Vec<u32>, AllocEr
 #[derive(Drop)]
 pub(crate) struct Body<'a> {
     statements: &'a [Statement],
-    labels: Names,
+    labels: NameIndex,
     numbers: Vec<u32>,
     count: u32,
 }
@@ -84,7 +84,7 @@ fn counted(code: Mnemonic) -> u32
 
 /// Adds a label with the number of its statement.
 fn add_target(
-    labels: &mut Names,
+    labels: &mut NameIndex,
     numbers: &mut Vec<u32>,
     alloc: Global,
     number: u32,
@@ -115,12 +115,12 @@ fn number_at(numbers: &[u32], place: usize) -> u32
 }
 
 impl<'a> Body<'a> {
-    /// These statements.
+    /// The body with these statements.
     pub(crate) fn new(alloc: Global, statements: &'a [Statement]) -> Result<Self, AllocError>
         requires { count_of_statements statements.now < 65536 }
         ensures { IfOk result (λ body. body ≡ statements.now) }
     {
-        let mut labels = Names::new(alloc);
+        let mut labels = NameIndex::new(alloc);
         let mut numbers = Vec::new(alloc);
         let mut count: u32 = 0;
         for statement in statements {

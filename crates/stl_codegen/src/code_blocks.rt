@@ -20,7 +20,7 @@ use std::alloc::{AllocError, Global};
 use stl_ast::Block;
 use stl_types::Context;
 
-/// A length in bytes, where it fits its field.
+/// A length in bytes, where it fits its field of an image.
 fn field(bytes: u64) -> Option<u16>
     ensures value { IfSome result (λ n. n ≡ bytes) }
     ensures long { IfNone result (65536 ≤ bytes) }
@@ -127,7 +127,8 @@ pub(crate) fn code_blocks(
         ≡ map compiled_block (each_block (λ c b l. code_block_of c b l l.id)
         (record scope.now { block = 0 }) blocks.now layouts.now))) }
     ensures none { IfOk result (λ made. IfNone made
-        (AllByRecursion BlockFits (map compiled_block (each_block (λ c b l. code_block_of c b l l.id)
+        (AllByRecursion BlockFits
+        (map compiled_block (each_block (λ c b l. code_block_of c b l l.id)
         (record scope.now { block = 0 }) blocks.now layouts.now)) → ⊥)) }
 {
     let mut made = Vec::new(alloc);

@@ -43,7 +43,8 @@ pub(crate) fn append_opening(
     ops: &mut Vec<Op>,
     block: Option<u16>,
 ) -> Result<Option<()>, AllocError>
-    ensures { IfOk result (λ done. AreOpsAppended ops.old.items ops.new.items (use_db_ops block) done) }
+    ensures { IfOk result (λ done. AreOpsAppended ops.old.items ops.new.items
+        (use_db_ops block) done) }
 {
     match block {
         None => Ok(Some(())),
@@ -76,7 +77,8 @@ pub(crate) fn append_passed_parameter(
     width: Width,
 ) -> Result<Option<()>, AllocError>
     ensures { IfOk result (λ done. AreOpsAppended ops.old.items ops.new.items
-        (preparing_op operations.Pass (operands.Pass index (passed.Parameter own width)) ∷ []) done) }
+        (preparing_op operations.Pass (operands.Pass index (passed.Parameter own width)) ∷ [])
+        done) }
 {
     let Some(own) = index_byte(own) else {
         return Ok(None);
@@ -132,7 +134,8 @@ pub(crate) fn append_call(
 
 /// Appends the end of a block.
 pub(crate) fn append_end(ops: &mut Vec<Op>, how: EndOperation) -> Result<Option<()>, AllocError>
-    ensures { IfOk result (λ done. AreOpsAppended ops.old.items ops.new.items (end_op how ∷ []) done) }
+    ensures { IfOk result (λ done. AreOpsAppended ops.old.items ops.new.items
+        (end_op how ∷ []) done) }
 {
     append(ops, Operation::End(how), true, Operand::Nothing)
 }

@@ -61,8 +61,8 @@ fn ordered_names(alloc: Global, symbols: &Symbols) -> Result<Vec<NameEntry>, NoM
     Ok(list)
 }
 
-/// The program of a source, if it is one: `None` where an op isn't of the table, a number doesn't fit
-/// its field of an image, or the image is too long.
+/// The program of a source, if it is one: `None` where an op isn't of the table, a number doesn't
+/// fit its field of an image, or the image is too long.
 fn program_in(
     alloc: Global,
     checked: &Checked,

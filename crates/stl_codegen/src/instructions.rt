@@ -46,7 +46,8 @@ pub(crate) fn append_jump_to(
 /// Appends NOP 0, for a statement that doesn't name what its instruction takes.
 #[tactic(auto, unfolding(crate::specs::Emitted::ops_of))]
 fn append_filler(ops: &mut Vec<Op>) -> Result<Option<()>, AllocError>
-    ensures { IfOk result (λ done. AreOpsAppended ops.old.items ops.new.items (ops_of filler_instruction) done) }
+    ensures { IfOk result (λ done. AreOpsAppended ops.old.items ops.new.items
+        (ops_of filler_instruction) done) }
 {
     append(ops, Operation::Nop, true, Operand::Literal { value: 0 })
 }
@@ -60,7 +61,9 @@ fn append_operation(
     view: ResolvedOperand,
 ) -> Result<Option<()>, AllocError>
     ensures { IfOk result (λ done. AreOpsAppended ops.old.items ops.new.items
-        (ops_of (Does (block_opened_by_operand view) (operation_for statement.now.code statement.now.operand view)
+        (ops_of
+        (Does (block_opened_by_operand view)
+        (operation_for statement.now.code statement.now.operand view)
         (flat_operand_of statement.now.operand view))) done) }
 {
     let Some(_) = append_opening(ops, opened_by(view))? else {
@@ -73,7 +76,7 @@ fn append_operation(
     append(ops, operation, true, operand)
 }
 
-/// The list with its first item behind the others.
+/// A list with its first item moved behind the others.
 fn first_last<T>(list: Vec<T>) -> Vec<T>
     ensures { result.items ≡ drop 1 list.items ++ take 1 list.items }
 {
@@ -207,7 +210,8 @@ fn append_by_view(
     view: ResolvedOperand,
 ) -> Result<Option<()>, AllocError>
     ensures { IfOk result (λ done. AreOpsAppended ops.old.items ops.new.items
-        (ops_of (view_instr scope.now statement.now view (call_operation_of statement.now.code))) done) }
+        (ops_of (view_instr scope.now statement.now view (call_operation_of statement.now.code)))
+        done) }
 {
     match call_of(statement.code) {
         None => append_plain(ops, statement, view),

@@ -35,7 +35,8 @@ fn section_number(section: PartKind) -> u8
     }
 }
 
-/// A parameter that begins so many bits from the start; `None` where its byte doesn't fit its field.
+/// A parameter that begins so many bits from the start; `None` where its byte doesn't fit its
+/// field.
 fn param(section: u8, width: Width, bits: u64) -> Option<Param>
     ensures value { IfSome result (λ p. p ≡ param_at_bits section width bits) }
     ensures far { IfNone result (65536 ≤ bits / 8) }

@@ -8,7 +8,7 @@ ghost use Rattle.stl_codegen.specs.Fitting.{AreOpsAppended};
 ghost use Rattle.stl_codegen.specs.Passed.{
   passed_actual,
   passed_place,
-  passed_seen,
+  passed_resolution,
   passed_view,
   passings_from,
   actual_of_formal,
@@ -75,16 +75,16 @@ fn append_view(
     }
 }
 
-fn append_seen(
+fn append_resolution(
     ops: &mut Vec<Op>,
     index: usize,
     operand: &Operand,
-    seen: Resolution,
+    resolution: Resolution,
 ) -> Result<Option<()>, AllocError>
     ensures { IfOk result (λ done. AreOpsAppended ops.old.items ops.new.items
-        (pass_ops (with_index index (passed_seen operand.now seen))) done) }
+        (pass_ops (with_index index (passed_resolution operand.now resolution))) done) }
 {
-    match seen {
+    match resolution {
         Resolution::Resolved { view } => append_view(ops, index, operand, view),
         Resolution::Unknown | Resolution::Unjudged => Ok(Some(())),
     }
@@ -124,8 +124,8 @@ fn append_actual(
     match actual {
         None => Ok(Some(())),
         Some(actual) => {
-            let seen = scope.seen(alloc, &actual.value)?;
-            append_seen(ops, index, &actual.value, seen)
+            let resolution = scope.resolution(alloc, &actual.value)?;
+            append_resolution(ops, index, &actual.value, resolution)
         }
     }
 }

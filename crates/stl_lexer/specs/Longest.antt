@@ -12,8 +12,11 @@ Form = List ℕ → List ℕ → Bool
 
 -- the first n bytes of the text, one at least, have this form
 pub record IsFormAt (form : Form) (text : List ℕ) (n : ℕ) : Type 0 where
+  -- at least one byte belongs to the token
   pub some : 0 < n
+  -- the text has at least `n` bytes
   pub within : n ≤ length text
+  -- the first `n` bytes have the form, before what follows them
   pub fits : form (take n text) (drop n text) ≡ true
 
 -- no bytes at the front of the text have this form
@@ -22,7 +25,9 @@ HasNoneOfForm form text = (n : ℕ) → ¬ IsFormAt form text n
 
 -- the first n bytes have this form, and no more of them
 pub record IsLongestOfForm (form : Form) (text : List ℕ) (n : ℕ) : Type 0 where
+  -- the first `n` bytes have the form
   pub fits : IsFormAt form text n
+  -- no more than `n` bytes at the front have the form
   pub longest : (m : ℕ) → IsFormAt form text m → m ≤ n
 
 -- the longest of this form, or None
@@ -31,12 +36,16 @@ FindsLongest form text found = MatchOption found (HasNoneOfForm form text) (IsLo
 
 -- the first n bytes of a text, or none where n is 0, are such a tail
 pub record IsTailAt (tail : Tail) (text : List ℕ) (n : ℕ) : Type 0 where
+  -- the text has at least `n` bytes
   pub within : n ≤ length text
+  -- the first `n` bytes are a tail of this kind, before what follows them
   pub fits : is_tail tail (take n text) (drop n text) ≡ true
 
 -- the first n bytes are such a tail, and no more of them; n may be 0
 pub record IsLongestTail (tail : Tail) (text : List ℕ) (n : ℕ) : Type 0 where
+  -- the first `n` bytes are a tail of this kind
   pub fits : IsTailAt tail text n
+  -- no more than `n` bytes at the front are a tail of this kind
   pub longest : (m : ℕ) → IsTailAt tail text m → m ≤ n
 
 -- the longest tail at the front of a text, or None
@@ -67,7 +76,9 @@ rank_of_kind Title = 11
 -- the longest token at the front of the text: it has the form of its kind, and any other token there is shorter, or as
 -- long and of a kind that stands before it in the table (the word TITLE at a line's end is a title)
 pub record IsLongestToken (text : List ℕ) (kind : TokenKind) (n : ℕ) : Type 0 where
+  -- the first `n` bytes have the form of the kind
   pub fits : IsFormAt (has_form kind) text n
+  -- bytes with the form of any kind are fewer, or as many and of a kind no later in the table
   pub longest : (other : TokenKind) (m : ℕ) → IsFormAt (has_form other) text m → (m < n) ⊎ ((m ≡ n) × (rank_of_kind other ≤ rank_of_kind kind))
 
 -- no token begins at the front of the text

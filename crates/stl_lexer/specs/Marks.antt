@@ -21,7 +21,7 @@ mark_text mark.Minus = codes "-"
 mark_text mark.Pointer = codes "P#"
 mark_text mark.Bytes = codes "B#("
 
--- the marks
+-- all marks of STL as texts
 unfoldable pub marks : List (List ℕ)
 marks =
     map mark_text (mark.Assign ∷ mark.Colon ∷ mark.Semicolon ∷ mark.Comma ∷ mark.Dot ∷ mark.DotDot ∷ mark.OpenParen ∷ mark.CloseParen

@@ -13,8 +13,11 @@ use Rattle.stl_lexer.specs.Tokens.{AreTokens, is_minus, text_of}
 
 -- a token by its bytes, with the gap before it
 pub record Piece : Type 0 where
+  -- the bytes between the token and the one before it, or the front of the text
   pub gap : List ℕ
+  -- the kind of the token
   pub kind : TokenKind
+  -- the bytes of the token
   pub text : List ℕ
 
 -- what pieces spell, with the gap behind the last one
@@ -24,11 +27,14 @@ text_of_pieces (p ∷ ps) end = p.gap ++ (p.text ++ text_of_pieces ps end)
 
 -- a piece stands before these bytes: its gap ends at its text, which is the longest token there, and right
 pub record StandsBefore (p : Piece) (minus : Bool) (after : List ℕ) : Type 0 where
+  -- the gap is separators and comments, and ends where the token begins
   pub gap : after_gap Blanks (p.gap ++ (p.text ++ after)) ≡ p.text ++ after
+  -- the text of the piece is the longest token at its place
   pub longest : IsLongestToken (p.text ++ after) p.kind (length p.text)
+  -- the token breaks no rule; `minus` says that the mark `-` stands before it
   pub right : fault_of p.kind p.text minus ≡ None
 
--- each of these pieces stands before those behind it
+-- each piece of a list stands before those behind it, and the end is separators and comments alone
 abbrev pub ArePiecesStanding : Bool → List Piece → List ℕ → Type 0
 ArePiecesStanding minus [] end = after_gap Blanks end ≡ []
 ArePiecesStanding minus (p ∷ ps) end =

@@ -12,7 +12,7 @@ use Rattle.plc_base.specs.Decimal.{decimal_value}
 unfoldable pub time_units : List TimeUnit
 time_units = Day ∷ Hour ∷ Minute ∷ Second ∷ Millisecond ∷ []
 
--- the letters of a unit, and its milliseconds
+-- the letters of a unit, in upper case
 unfoldable pub letters_of_unit : TimeUnit → List ℕ
 letters_of_unit Day = codes "D"
 letters_of_unit Hour = codes "H"
@@ -67,14 +67,20 @@ milliseconds (unit ∷ smaller) s =
 
 -- a part by itself: decimal digits, one at least, and the letters of its unit in either case
 pub record TimePart : Type 0 where
+  -- the decimal digits of the part
   pub digits : List ℕ
+  -- the letters of the unit as they are written, in either case
   pub letters : List ℕ
+  -- the unit that the digits count
   pub unit : TimeUnit
 
 -- a right part: digits alone, one at least, and the letters of its unit, whatever their case
 pub record IsTimePart (p : TimePart) : Type 0 where
+  -- there is at least one digit
   pub some : 0 < length p.digits
+  -- each of the digits is a decimal digit
   pub digits : list_all is_ascii_digit p.digits ≡ true
+  -- the letters are those of the unit, in either case
   pub letters : str_eq_ignore_ascii_case (letters_of_unit p.unit) p.letters ≡ true
 
 -- a text is these parts, one at least, and between two of them stands one `_` or nothing
@@ -96,9 +102,13 @@ total_milliseconds (p ∷ parts) = part_value p.unit p.digits + total_millisecon
 
 -- a text is parts whose units fall, and these come to n milliseconds together
 pub record IsTime (text : List ℕ) (n : ℕ) : Type 0 where
+  -- the parts of the time, the first one first
   pub parts : List TimePart
+  -- the text is these parts, one at least, with one `_` or nothing between two of them
   pub spelled : SpellsTime parts text
+  -- the unit of each part is smaller than that of the part before it
   pub falling : UnitsFallBelow (milliseconds_of_unit Day + 1) parts
+  -- `n` is the milliseconds of all parts together
   pub sum : n ≡ total_milliseconds parts
 
 -- the milliseconds of a time literal are those of its parts, and there are none where it isn't parts whose units fall

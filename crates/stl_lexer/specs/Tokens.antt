@@ -24,18 +24,27 @@ is_minus _ s = false
 
 -- behind `from` stand separators and comments, and then, at `at`, something else
 pub record IsBehindGap (source : List ℕ) (from at : ℕ) : Type 0 where
+  -- `at` is not before `from`
   pub forward : from ≤ at
+  -- `at` is a place in the source
   pub within : at < length source
+  -- between `from` and `at` stand separators and comments alone, and at `at` something else
   pub gap : drop at source ≡ after_gap Blanks (drop from source)
 
 -- t is the next token behind `from`, where `minus` says that the mark `-` stands before it: only separators and comments
 -- lie before it, it is the longest token at its place, it breaks no rule, and its line is that of its place
 pub record IsNextToken (source : List ℕ) (from : ℕ) (minus : Bool) (t : Token) : Type 0 where
+  -- only separators and comments stand between `from` and the token
   pub start : IsBehindGap source from t.start
+  -- the token has at least one byte
   pub forward : t.start < t.end
+  -- the token ends within the source
   pub within : t.end ≤ length source
+  -- the token is the longest one at its place
   pub longest : IsLongestToken (drop t.start source) t.kind (t.end - t.start)
+  -- the token breaks no rule; `minus` says that the mark `-` stands before it
   pub right : fault_of t.kind (text_of source t) minus ≡ None
+  -- the line of the token is that of its first byte, counted from 1
   pub line : t.line ≡ line_at source t.start
 
 -- only separators and comments stand behind `from`
@@ -44,24 +53,37 @@ IsEndOfTokens source from = after_gap Blanks (drop from source) ≡ []
 
 -- no token begins at `at`
 pub record NoTokenBegins (source : List ℕ) (at line rule : ℕ) : Type 0 where
+  -- the bytes from `at` on begin with no token of any kind
   pub none : HasNoForm (drop at source)
+  -- the line is that of the place `at`, counted from 1
   pub line_is : line ≡ line_at source at
+  -- the rule is 2 where a quoted name, characters or an attribute without end opens at `at`, else 1
   pub rule_is : rule ≡ rule_without_form (drop at source)
 
 -- the longest token at `at` breaks a rule
 pub record LongestBreaksRule (source : List ℕ) (at : ℕ) (minus : Bool) (line rule : ℕ) : Type 0 where
+  -- the kind of the longest token at `at`
   pub kind : TokenKind
+  -- the number of bytes of the longest token at `at`
   pub size : ℕ
+  -- the kind and the size are those of the longest token at `at`
   pub longest : IsLongestToken (drop at source) kind size
+  -- what is wrong first with the token
   pub fault : Fault
+  -- the token breaks a rule as the fault tells; `minus` says that the mark `-` stands before it
   pub breaks : fault_of kind (take size (drop at source)) minus ≡ Some fault
+  -- the line is that of the byte at which the fault lies, counted from 1
   pub line_is : line ≡ line_at source (at + fault.offset)
+  -- the rule is that of the fault: 1, 3 or 4
   pub rule_is : rule ≡ fault.rule
 
 -- a rule of tokens is broken at the next token behind `from`
 pub record BreaksTokenRule (source : List ℕ) (from : ℕ) (minus : Bool) (line rule : ℕ) : Type 0 where
+  -- the place in the source where the next token would begin
   pub at : ℕ
+  -- only separators and comments stand between `from` and `at`
   pub start : IsBehindGap source from at
+  -- no token begins at `at`, or the longest one there breaks a rule
   pub broken : NoTokenBegins source at line rule ⊎ LongestBreaksRule source at minus line rule
 
 -- the next token behind `from`, or None where no more stands there, or the rule that is broken there

@@ -17,8 +17,8 @@ use Rattle.stl_list.specs.Statements.{body_of}
 abbrev pub result_of : List Formal → Option Simple
 result_of formals = option_map (λ f. f.kind) (find is_return formals)
 
--- a code block behind what reaches to a line: its head stands on the line of its first statement, its
--- END clause on that of its last
+-- a code block behind what reaches to a line: its head stands on the line of its first statement,
+-- its END clause on that of its last
 abbrev pub listed_block : List Signature → (reached : ℕ) → CodeBlock → Block
 listed_block signatures reached b = record {
   line = max reached (first_statement_line b);

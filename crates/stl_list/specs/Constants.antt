@@ -51,9 +51,9 @@ word_constant bits = operand.Constant (literal.Word (bits % 2 ^ 16))
 abbrev pub decimal_constant : ℕ → Operand
 decimal_constant bits = operand.Constant (literal.Number (pos (bits % 2 ^ 16)))
 
--- the constant of an instruction. That of L and of AD, OD and XOD is DW#16#, of AW, OW and XOW W#16#, of
--- an address register P#, of the addition of 32 bits L#; NOP, BLD, INC, DEC, the addition of 16 bits
--- and the shifts have a decimal number
+-- the constant of an instruction. That of L and of AD, OD and XOD is DW#16#, of AW, OW and XOW
+-- W#16#, of an address register P#, of the addition of 32 bits L#; NOP, BLD, INC, DEC, the addition
+-- of 16 bits and the shifts have a decimal number
 abbrev pub instruction_constant : Operation → ℕ → Operand
 instruction_constant operation.Load bits = operand.Constant (literal.Dword bits)
 instruction_constant (operation.Logic logic.Ad) bits = operand.Constant (literal.Dword bits)

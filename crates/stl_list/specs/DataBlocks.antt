@@ -17,8 +17,8 @@ use Rattle.stl_list.specs.Operands.{name_of_data_block}
 use Rattle.stl_list.specs.Signatures.{Signature}
 
 -- a data block on a line: a structure with its components, or an instance with its settings
-abbrev pub data_block_tree : (line number : ℕ) → Option TypeTree → List Declaration → Option BlockName
-    → List Setting → Block
+abbrev pub data_block_tree : (line number : ℕ) → Option TypeTree → List Declaration
+    → Option BlockName → List Setting → Block
 data_block_tree line number shape components instance_of settings = record {
   line = line;
   end_line = line;
@@ -48,7 +48,8 @@ known_settings line bytes (Some s) = settings_of line bytes s
 
 -- the signature of the function block of a number
 abbrev pub instance_signature : List Signature → ℕ → Option Signature
-instance_signature signatures number = find (λ s. is_same_block s.id (function_block number)) signatures
+instance_signature signatures number =
+    find (λ s. is_same_block s.id (function_block number)) signatures
 
 -- a data block on a line with these bytes: one of its own, or an instance of the function block of
 -- a number

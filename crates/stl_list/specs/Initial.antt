@@ -54,7 +54,8 @@ abbrev pub value_in : List ℕ → Width → (byte bit : ℕ) → ℕ
 value_in bytes width.Bit byte bit = byte_at bytes byte / 2 ^ (bit % 8) % 2
 value_in bytes width.Byte byte bit = byte_at bytes byte
 value_in bytes width.Word byte bit = word_in_bytes bytes byte
-value_in bytes width.Dword byte bit = 65536 * word_in_bytes bytes byte + word_in_bytes bytes (byte + 2)
+value_in bytes width.Dword byte bit =
+    65536 * word_in_bytes bytes byte + word_in_bytes bytes (byte + 2)
 
 -- the setting of a parameter of an instance, `name := value;`
 abbrev pub parameter_setting : (line : ℕ) → Formal → (bits : ℕ) → Setting
@@ -70,7 +71,8 @@ parameter_here line f bits = if bits == 0 then [] else parameter_setting line f 
 
 -- the settings of the parameters of an instance with these bytes, one behind the other; the
 -- parameters are given by name and by place
-abbrev pub parameter_settings : (line : ℕ) → (bytes : List ℕ) → List Formal → List Param → List Setting
+abbrev pub parameter_settings : (line : ℕ) → (bytes : List ℕ) → List Formal → List Param
+    → List Setting
 parameter_settings line bytes [] ps = []
 parameter_settings line bytes (f ∷ fs) [] = []
 parameter_settings line bytes (f ∷ fs) (p ∷ ps) =

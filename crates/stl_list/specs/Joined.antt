@@ -1,5 +1,5 @@
--- Which parameters a chain of passings joins to an INT or a TIME of a system function. A parameter is
--- a number here: those of all code blocks are counted in the image's order.
+-- Which parameters a chain of passings joins to an INT or a TIME of a system function. A parameter
+-- is a number here: those of all code blocks are counted in the image's order.
 use Rattle.std.specs.Prelude.{ℕ, ◌+◌, ◌==◌, Bool, true, false, List, [], ◌∷◌, ◌++◌, length, map, replicate, Option, Some, None, if◌then◌else◌, slice_get, slice_set}
 use Rattle.std.specs.List.{flat_map, fold, range_with_len}
 use Rattle.std.specs.Option.{unwrap_or}
@@ -131,13 +131,13 @@ total_parameter_count (b ∷ bs) = length b.params + total_parameter_count bs
 abbrev pub replaced_label : (from to label : ℕ) → ℕ
 replaced_label from to label = if label == from then to else label
 
--- all that have one label get another
+-- labels in which each that is the first of these two gives way to the second
 abbrev pub merged_labels : Option ℕ → Option ℕ → List ℕ → List ℕ
 merged_labels (Some from) (Some to) labels = map (replaced_label from to) labels
 merged_labels _ _ labels = labels
 
--- the labels of parameters after a link: two that are joined have the same label, and so have all that
--- were joined to one of them before
+-- the labels of parameters after a link: two that are joined have the same label, and so have all
+-- that were joined to one of them before
 abbrev pub labels_after_link : List ℕ → Link → List ℕ
 labels_after_link labels (Joins own other) =
     merged_labels (slice_get labels own) (slice_get labels other) labels
@@ -194,7 +194,8 @@ chains_by labels links = record {
 
 -- the chains of a program
 unfoldable pub chains_of : List CodeBlock → Chains
-chains_of blocks = chains_by (chain_labels (total_parameter_count blocks) (links blocks)) (links blocks)
+chains_of blocks =
+    chains_by (chain_labels (total_parameter_count blocks) (links blocks)) (links blocks)
 
 -- a label is marked; none is not
 abbrev pub mark_at : List Bool → Option ℕ → Bool

@@ -1,5 +1,5 @@
--- The lines on which a listing prints its pieces. No line comes back: what has a line that has passed by
--- stands on the current one.
+-- The lines on which a listing prints its pieces. No line comes back: what has a line that has
+-- passed by stands on the current one.
 use Rattle.std.specs.Prelude.{ℕ, max, nat_eq, nat_lt, Bool, ◌&&◌, ◌||◌, ◌-◌, length, List, [], ◌∷◌, slice_get}
 use Rattle.std.specs.List.{fold}
 use Rattle.std.specs.Option.{unwrap_or}
@@ -30,4 +30,5 @@ last_statement_line b = line_of_statement b.lines (length b.lines - 1)
 abbrev pub stands_before : CodeBlock → CodeBlock → Bool
 stands_before a b =
     nat_lt (first_statement_line a) (first_statement_line b)
-    || nat_eq (first_statement_line a) (first_statement_line b) && nat_lt (last_statement_line a) (last_statement_line b)
+    || nat_eq (first_statement_line a) (first_statement_line b)
+    && nat_lt (last_statement_line a) (last_statement_line b)

@@ -15,8 +15,8 @@ blocks_by signatures code_blocks data_blocks =
     listed_blocks signatures 1 code_blocks
     ++ listed_data_blocks signatures (line_reached 1 code_blocks) data_blocks
 
--- the tree of the source of a program. What no source writes gets the nearest tree, whose text is refused
--- or comes to another program
+-- the tree of the source of a program. What no source writes gets the nearest tree, whose text is
+-- refused or comes to another program
 unfoldable pub listed_tree : Program → Tree
 listed_tree p = record {
   blocks =

@@ -5,7 +5,7 @@ use Rattle.plc_base.specs.declared.blocks.BlockKind.TheVariants as kinds
 use Rattle.plc_base.specs.declared.places.Area.{Area}
 use Rattle.plc_base.specs.declared.places.Area.TheVariants as area
 use Rattle.plc_base.specs.declared.places.Width.{Width}
-use Rattle.flat_code.specs.Kinds.{flag_of}
+use Rattle.flat_code.specs.Kinds.{flag_of, timer_kind, db_register_number, di_register_number}
 use Rattle.flat_code.specs.Operations.{operation_of}
 use Rattle.flat_code.specs.Ops.{OpData}
 use Rattle.flat_code.specs.declared.operands.Operand.{Operand as FlatOperand}
@@ -80,7 +80,8 @@ name_at formals index = name_or index (slice_get formals index)
 abbrev pub own_parameter : List Formal → ℕ → Operand
 own_parameter formals index = operand.Named (head.Local (name_at formals index)) []
 
--- what an instruction without operand in the code has in a source: STW and AR2 stand in the operation
+-- what an instruction without operand in the code has in a source: STW and AR2 stand in the
+-- operation
 abbrev pub implied_operand : Operation → Operand
 implied_operand operation.LoadStatus = operand.Other (codes "STW")
 implied_operand operation.TransferStatus = operand.Other (codes "STW")
@@ -90,15 +91,17 @@ implied_operand _ = operand.Nothing
 
 -- a timer, of kind 1, or a counter by its number
 abbrev pub timer_or_counter : (kind number : ℕ) → Operand
-timer_or_counter kind number = if kind == 1 then operand.Timer number else operand.Counter number
+timer_or_counter kind number =
+    if kind == timer_kind then operand.Timer number else operand.Counter number
 
 -- what a number in memory is one of
 abbrev pub numbered_by : (kind : ℕ) → Numbered
-numbered_by kind = if kind == 1 then numbered.Timer else numbered.Counter
+numbered_by kind = if kind == timer_kind then numbered.Timer else numbered.Counter
 
 -- the register of a data block, 1 DB or 2 DI, whose number stands in memory
 abbrev pub data_block_register : ℕ → Numbered
-data_block_register register = if register == 1 then numbered.Db else numbered.Di
+data_block_register register =
+    if register == db_register_number then numbered.Db else numbered.Di
 
 -- the instance of a call by its number; 0 is none
 abbrev pub instance_name : ℕ → Option BlockName
@@ -129,15 +132,15 @@ plain_operand opened o (flat.NumberedBy kind from byte) =
 plain_operand opened o (flat.Called kind number instance) =
     operand.Called (block.Number (called_id kind number)) (instance_name instance)
 plain_operand opened o (flat.OpenBlock register number) =
-    operand.OpenBlock (register == 2) (name_of_data_block number)
+    operand.OpenBlock (register == di_register_number) (name_of_data_block number)
 plain_operand opened o (flat.OpenBy register from byte) =
     operand.NumberBy (data_block_register register) (read_letters from) byte
 plain_operand opened o other = condition_operand other
 
 -- the operand of an op. `formals` are the parameters of its block, `starts` the offsets of the
 -- statements, `opened` is the data block that the statement opens first
-unfoldable pub operand_by : List Formal → (starts : List ℕ) → (opened : Option ℕ) → Operation → FlatOperand
-    → Operand
+unfoldable pub operand_by : List Formal → (starts : List ℕ) → (opened : Option ℕ) → Operation
+    → FlatOperand → Operand
 operand_by formals starts opened o flat.Nothing = implied_operand o
 operand_by formals starts opened o (flat.Literal value) = instruction_constant o value
 operand_by formals starts opened o (flat.Parameter index width) = own_parameter formals index

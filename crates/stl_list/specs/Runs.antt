@@ -8,7 +8,9 @@ use Rattle.flat_code.specs.declared.operands.Operand.TheVariants as flat
 
 -- a statement: the ops that prepare it, USEDB or PASS, and the op that does it
 pub record Run : Type 0 where
+  -- the ops before the last one, which prepare it: USEDB or PASS
   pub before : List OpData
+  -- the last op, which does what the statement says
   pub op : OpData
 
 -- the statements of ops; `before` are ops that stand in front of them in the first statement
@@ -30,7 +32,8 @@ start_here at begins = if begins then at ∷ [] else []
 -- with the first of them
 abbrev pub starts_from : (at : ℕ) → (begins : Bool) → List OpData → List ℕ
 starts_from at begins [] = []
-starts_from at begins (op ∷ ops) = start_here at begins ++ starts_from (at + size_of_op op) op.last ops
+starts_from at begins (op ∷ ops) =
+    start_here at begins ++ starts_from (at + size_of_op op) op.last ops
 
 -- the offsets at which the statements of a block begin
 unfoldable pub statement_starts : List OpData → List ℕ
@@ -42,10 +45,12 @@ number_at starts offset = position_or_len (λ start. start == offset) starts
 
 -- the statement at which an op goes on is marked, if it is a jump
 abbrev pub marks_with_target : (starts : List ℕ) → List Bool → Operand → List Bool
-marks_with_target starts marks (flat.Jump kind target) = slice_set marks (number_at starts target) true
+marks_with_target starts marks (flat.Jump kind target) =
+    slice_set marks (number_at starts target) true
 marks_with_target starts marks _ = marks
 
 -- of each statement whether a jump leads to it
 unfoldable pub target_marks : (starts : List ℕ) → List OpData → List Bool
 target_marks starts ops =
-    fold (λ marks op. marks_with_target starts marks op.operand) (replicate (length starts) false) ops
+    fold (λ marks op. marks_with_target starts marks op.operand)
+    (replicate (length starts) false) ops

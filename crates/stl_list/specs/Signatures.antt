@@ -13,27 +13,30 @@ use Rattle.stl_list.specs.Parameters.{name_of, section_of}
 -- a block by kind and number, the bytes of its instances, its parameters with their places, and the
 -- same parameters by name, section and type
 pub record Signature : Type 0 where
+  -- kind and number of the block
   pub id : BlockId
   -- how many bytes an instance of the block has
   pub instance_len : ℕ
   -- the parameters with their places
   pub params : List Param
-  -- the same parameters, in the same order, by name, section and type
+  -- the parameters in the order of `params`, by name, section and type
   pub formals : List Formal
 
 -- whether an IN_OUT of a function stands here or before. `returns`: the block is a function
 abbrev pub is_behind : (returns behind : Bool) → Param → Bool
 is_behind returns behind p = behind || returns && p.section == SECTION_IN_OUT
 
--- a parameter of an index with its number among all; `behind`: an IN_OUT of a function stands before it
+-- a parameter of an index with its number among all; `behind`: an IN_OUT of a function stands
+-- before it
 abbrev pub formal_of_param : Chains → (behind : Bool) → (index parameter : ℕ) → Param → Formal
 formal_of_param c behind index parameter p =
     formal (name_of (behind && p.section == SECTION_OUT) index) (section_of p.section)
     (kind_at c parameter p.width)
 
--- parameters from an index on. `returns`: the block may have a return value; `behind`: an IN_OUT stands
--- before them; `first` is the number of the first of them
-abbrev pub formals_from : Chains → (returns behind : Bool) → (index first : ℕ) → List Param → List Formal
+-- parameters from an index on. `returns`: the block may have a return value; `behind`: an IN_OUT
+-- stands before them; `first` is the number of the first of them
+abbrev pub formals_from : Chains → (returns behind : Bool) → (index first : ℕ) → List Param
+    → List Formal
 formals_from c returns behind index first [] = []
 formals_from c returns behind index first (p ∷ ps) =
     formal_of_param c behind index first p
@@ -51,7 +54,8 @@ signature c first b = record {
 -- the signatures of code blocks, of which the first has its parameters from the number `first` on
 abbrev pub signatures_from : Chains → (first : ℕ) → List CodeBlock → List Signature
 signatures_from c first [] = []
-signatures_from c first (b ∷ bs) = signature c first b ∷ signatures_from c (first + length b.params) bs
+signatures_from c first (b ∷ bs) =
+    signature c first b ∷ signatures_from c (first + length b.params) bs
 
 -- the signatures of the code blocks of a program
 unfoldable pub signatures : Chains → List CodeBlock → List Signature
@@ -65,4 +69,5 @@ formals_of_block (s ∷ ss) id = if is_same_block s.id id then s.formals else fo
 -- the parameters of a block that is called
 abbrev pub called_formals : List Signature → BlockId → List Formal
 called_formals signatures id =
-    if is_system_function id.kind then system_parameters id.number else formals_of_block signatures id
+    if is_system_function id.kind then system_parameters id.number
+    else formals_of_block signatures id

@@ -14,9 +14,10 @@ use Rattle.stl_list.specs.Operands.{operand_of_run}
 use Rattle.stl_list.specs.Runs.{Run, runs, statement_starts, target_marks}
 use Rattle.stl_list.specs.Signatures.{Signature, formals_of_block}
 
--- what the statements of a block refer to: the blocks of the program, the block's own parameters, the
--- lines on which its statements stand, their offsets, and of each whether a jump leads to it
-pub record Surroundings : Type 0 where
+-- what the statements of a block refer to: the blocks of the program, the block's own parameters,
+-- the lines on which its statements stand, their offsets, and of each whether a jump leads to it
+pub record ListingContext : Type 0 where
+  -- the code blocks of the program, with their parameters
   pub signatures : List Signature
   -- the parameters of the block itself
   pub formals : List Formal
@@ -28,8 +29,8 @@ pub record Surroundings : Type 0 where
   pub targets : List Bool
 
 -- what the statements of a block refer to, where they stand on these lines
-abbrev pub surroundings : List Signature → (lines : List ℕ) → CodeBlock → Surroundings
-surroundings signatures lines b = record {
+abbrev pub listing_context : List Signature → (lines : List ℕ) → CodeBlock → ListingContext
+listing_context signatures lines b = record {
   signatures = signatures;
   formals = formals_of_block signatures b.id;
   lines = lines;
@@ -39,10 +40,11 @@ surroundings signatures lines b = record {
 
 -- a statement has a label where a jump leads to it
 abbrev pub label_at : (targets : List Bool) → (n : ℕ) → Option (List ℕ)
-label_at targets n = if unwrap_or (slice_get targets n) false then Some (label_of_number n) else None
+label_at targets n =
+    if unwrap_or (slice_get targets n) false then Some (label_of_number n) else None
 
--- the statement of a number
-abbrev pub listed_statement : Surroundings → (n : ℕ) → Run → Statement
+-- the statement with this number in its block, made from its ops
+abbrev pub listed_statement : ListingContext → (n : ℕ) → Run → Statement
 listed_statement s n r = record {
   line = line_of_statement s.lines n;
   code = mnemonic_of r.op;
@@ -68,17 +70,18 @@ label_of_end line (Some label) = label_alone line label ∷ []
 
 -- what the statement of a number adds to the body: itself, or only a label where it is the last,
 -- the END clause; there are as many statements as lines
-unfoldable pub statement_at : Surroundings → (n : ℕ) → Run → List Statement
+unfoldable pub statement_at : ListingContext → (n : ℕ) → Run → List Statement
 statement_at s n r =
-    if suc n == length s.lines then label_of_end (line_of_statement s.lines n) (label_at s.targets n)
+    if suc n == length s.lines
+    then label_of_end (line_of_statement s.lines n) (label_at s.targets n)
     else listed_statement s n r ∷ []
 
 -- what statements add to the body, of which the first has the number n
-abbrev pub statements_from : Surroundings → (n : ℕ) → List Run → List Statement
+abbrev pub statements_from : ListingContext → (n : ℕ) → List Run → List Statement
 statements_from s n [] = []
 statements_from s n (r ∷ rs) = statement_at s n r ++ statements_from s (suc n) rs
 
 -- the body of a block whose statements stand on these lines
 unfoldable pub body_of : List Signature → (lines : List ℕ) → CodeBlock → List Statement
 body_of signatures lines b =
-    statements_from (surroundings signatures lines b) 0 (runs b.code)
+    statements_from (listing_context signatures lines b) 0 (runs b.code)

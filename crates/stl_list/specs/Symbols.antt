@@ -19,13 +19,14 @@ symbols_writer = with_style default_writer style.Always
 -- the address of a name, `MW 2` or `M 0.3`
 abbrev pub address_text : NameEntry → List ℕ
 address_text e =
-    with_pieces [] (address_pieces gap.Nothing (read_letters e.place.area) e.width e.place.byte e.place.bit)
+    with_pieces []
+    (address_pieces gap.Nothing (read_letters e.place.area) e.width e.place.byte e.place.bit)
 
 -- a name, its address, its type, and an empty comment
 abbrev pub fields_of : NameEntry → List (List ℕ)
 fields_of e = e.name ∷ address_text e ∷ type_word (kind_of_width e.width) ∷ [] ∷ []
 
--- the line of a name
+-- the line of a name in the symbols file
 abbrev pub name_text : NameEntry → List ℕ
 name_text e = row_text symbols_writer (fields_of e)
 

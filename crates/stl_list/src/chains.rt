@@ -42,7 +42,7 @@ fn replaced(from: usize, to: usize, label: usize) -> usize
     if label == from { to } else { label }
 }
 
-/// Gives all that have one label another.
+/// Gives all parameters that have the label `from` the label `to`.
 fn relabel(labels: &mut [usize], from: usize, to: usize)
     ensures { labels.new ≡ map (replaced_label from to) labels.old }
 {
@@ -142,7 +142,7 @@ fn mark_int(marks: &mut [bool], labels: &[usize], link: Link)
     }
 }
 
-/// The same for a TIME.
+/// Marks the label of a parameter that is passed for a TIME of a system function.
 fn mark_time(marks: &mut [bool], labels: &[usize], link: Link)
     ensures { marks.new ≡ marks_after_link is_time_kind labels.now marks.old link }
 {

@@ -131,7 +131,7 @@ pub(crate) fn instruction_constant(
     }
 }
 
-/// A constant by the type of what takes it.
+/// A constant with these bits, written by the type of what takes it.
 pub(crate) fn typed_constant(kind: Simple, bits: u32) -> Literal
     ensures { result ≡ typed_constant kind bits }
 {

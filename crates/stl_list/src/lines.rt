@@ -63,8 +63,8 @@ fn order_of(a: &CodeBlock, b: &CodeBlock) -> Ordering
         .then(last_line(a).cmp(&last_line(b)))
 }
 
-/// Code blocks in the order in which a listing has them: by their first lines, then by their last, then
-/// in the image's order.
+/// Code blocks in the order in which a listing has them: by their first lines, then by their last,
+/// then in the image's order.
 pub(crate) fn in_lines(blocks: Vec<CodeBlock>) -> Result<Vec<CodeBlock>, NoMemory>
     ensures sorted { IfOk result (λ v. v.items ≡ in_lines blocks.items) }
     ensures same { IfOk result (λ v. IsPermutation blocks.items v.items) }

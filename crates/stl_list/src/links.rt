@@ -29,17 +29,18 @@ use std::alloc::Global;
 use stl_ast::Simple;
 use stl_types::{Formal, system_formals};
 
-/// What a CALL says of a parameter of the function that calls. Parameters are numbers here: those of
-/// all code blocks are counted in the image's order.
+/// What a CALL says of a parameter of the function that calls. Parameters are numbers here: those
+/// of all code blocks are counted in the image's order.
 #[derive(Clone, Copy)]
 pub enum Link {
-    /// It is passed for another parameter.
+    /// The parameter is passed for another one.
     Joins { own: usize, other: usize },
-    /// It is passed for a parameter of a system function, which has a type.
+    /// The parameter is passed for one of a system function, which has a type.
     Has { own: usize, kind: Simple },
 }
 
-/// The kind of a block that is called, by its number in an op; a function where none has the number.
+/// The kind of a block that is called, by its number in an op; a function where none has the
+/// number.
 fn called_kind(kind: u8) -> BlockKind
     ensures { result ≡ called_kind kind }
 {

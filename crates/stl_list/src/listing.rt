@@ -26,7 +26,7 @@ use std::alloc::Global;
 use stl_ast::{Block, Sequence, Tree};
 use stl_print::print;
 
-/// A source and a symbols file.
+/// What a program is listed as: a source and a symbols file.
 #[derive(Drop)]
 pub struct Listing {
     pub source: Vec<u8>,
@@ -153,8 +153,8 @@ fn within(listing: Listing, most: usize) -> Option<Listing>
     }
 }
 
-/// The source and the symbols file of a program, if neither has more bytes than `most`: `None` exactly
-/// where one has. Where a line of the program is past that, no text is made.
+/// The source and the symbols file of a program, if neither has more bytes than `most`: `None`
+/// exactly where one has. Where a line of the program is past that, no text is made.
 ///
 /// # Errors
 ///

@@ -119,7 +119,7 @@ fn is_declared_in(kind: PartKind, formal: &Formal) -> bool
     rank(formal.section) == rank(kind) && !is_return(formal)
 }
 
-/// Adds a parameter, if it is of the section.
+/// Adds the declaration of a parameter, if the parameter is declared in this section.
 fn add_declared(
     alloc: Global,
     items: &mut Vec<Declaration>,
@@ -212,7 +212,8 @@ fn add_parameters(
     kind: PartKind,
 ) -> Result<(), NoMemory>
     ensures { IfOk result (λ _. parts.new.items
-        ≡ parts.old.items ++ section_part line kind (declarations_of_section line formals.now kind)) }
+        ≡ parts.old.items
+        ++ section_part line kind (declarations_of_section line formals.now kind)) }
 {
     let items = declared_in(alloc, line, formals, kind)?;
     add_section(parts, line, kind, items)

@@ -12,8 +12,8 @@ use std::alloc::Global;
 use std::marker::Model;
 use stl_types::Formal;
 
-/// A block by kind and number, the bytes of its instances, its parameters with their places, and the
-/// same parameters by name, section and type.
+/// A block by kind and number, the bytes of its instances, its parameters with their places, and
+/// the same parameters by name, section and type.
 #[derive(Drop)]
 pub(crate) struct Signature {
     pub(crate) id: BlockId,
@@ -35,8 +35,8 @@ impl Model for Signature {
     } };
 }
 
-/// A parameter of an index, whose number among all is `parameter`; `behind`: an IN_OUT of a function
-/// stands before it.
+/// A parameter of an index, whose number among all is `parameter`; `behind`: an IN_OUT of a
+/// function stands before it.
 fn formal_of(
     alloc: Global,
     chains: &Chains,
@@ -55,8 +55,8 @@ fn formal_of(
     })
 }
 
-/// The parameters of a block, of which the first has a number; `returns`: the block may have a return
-/// value.
+/// The parameters of a block, of which the first has a number; `returns`: the block may have a
+/// return value.
 fn formals(
     alloc: Global,
     chains: &Chains,
@@ -66,7 +66,8 @@ fn formals(
 ) -> Result<Vec<Formal>, NoMemory>
     requires first { first < 2 ^ 32 }
     requires few { length params.now ≤ 60 }
-    ensures { IfOk result (λ v. v.items ≡ formals_from chains.now returns false 0 first params.now) }
+    ensures { IfOk result (λ v. v.items
+        ≡ formals_from chains.now returns false 0 first params.now) }
 {
     let mut formals = Vec::new(alloc);
     let mut behind = false;

@@ -20,7 +20,7 @@ use stl_types::Formal;
 /// What the statements of a block refer to: the blocks of the program, the block's own parameters,
 /// the lines on which its statements stand, their offsets, and of each whether a jump leads to it.
 #[derive(Drop)]
-struct Surroundings<'a> {
+struct ListingContext<'a> {
     signatures: &'a [Signature],
     formals: &'a [Formal],
     lines: &'a [u32],
@@ -28,10 +28,10 @@ struct Surroundings<'a> {
     targets: &'a [bool],
 }
 
-impl<'a> Model for Surroundings<'a> {
-    ghost use Rattle.stl_list.specs.Statements.{Surroundings as SurroundingsData};
+impl<'a> Model for ListingContext<'a> {
+    ghost use Rattle.stl_list.specs.Statements.{ListingContext as ListingContextData};
 
-    ghost Value = { SurroundingsData };
+    ghost Value = { ListingContextData };
 
     ghost view = { λ s. record {
       signatures = s.signatures.now;
@@ -76,7 +76,7 @@ fn add_label(
     Ok(())
 }
 
-impl<'a> Surroundings<'a> {
+impl<'a> ListingContext<'a> {
     ghost use Rattle.std.specs.Prelude.{◌≡◌, ◌+◌, ◌<◌, ◌≤◌, ◌^◌, ◌++◌, ◌∷◌, List, IfOk};
     ghost use Rattle.flat_code.specs.Ops.{OpData};
     ghost use Rattle.stl_list.specs.Lines.{line_of_statement};
@@ -100,7 +100,7 @@ impl<'a> Surroundings<'a> {
         }
     }
 
-    /// The statement of a number, by its last op and those before it.
+    /// The statement with this number in its block, by its last op and those before it.
     fn statement(
         &self,
         alloc: Global,
@@ -146,8 +146,8 @@ impl<'a> Surroundings<'a> {
         }
     }
 
-    /// Goes on to an op, and gives the number of the statement behind it. `before` are the ops of its
-    /// statement before it; the statement is added with its last op.
+    /// Goes on to an op, and gives the number of the statement behind it. `before` are the ops of
+    /// its statement before it; the statement is added with its last op.
     fn add_op(
         &self,
         alloc: Global,
@@ -200,12 +200,12 @@ pub(crate) fn body_of(
     let ops = block.code.as_slice();
     let starts = starts(alloc, ops)?;
     let targets = targets(alloc, starts.as_slice(), ops)?;
-    let surroundings = Surroundings {
+    let listing_context = ListingContext {
         signatures,
         formals: formals_of(signatures, block.id),
         lines,
         starts: starts.as_slice(),
         targets: targets.as_slice(),
     };
-    surroundings.statements(alloc, ops)
+    listing_context.statements(alloc, ops)
 }

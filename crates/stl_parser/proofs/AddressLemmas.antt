@@ -13,10 +13,10 @@ use Rattle.stl_ast.specs.declared.names.BlockName.TheVariants as block
 use Rattle.stl_ast.specs.declared.operands.Letters.{Letters}
 use Rattle.stl_ast.specs.declared.operands.Letters.TheVariants as letters
 use Rattle.stl_ast.specs.Operands.{IsNumber, IsNameOf, IsAnyName, IsBitOf, MayHoldPointer}
-use Rattle.stl_parser.specs.declared.keywords.Key.TheVariants as key
+use Rattle.stl_parser.specs.declared.keywords.ClauseWord.TheVariants as key
 use Rattle.stl_lexer.specs.declared.marks.Mark.TheVariants as mark
-use Rattle.stl_parser.specs.declared.tables.Address.{Address}
-use Rattle.stl_parser.specs.declared.tables.Address.TheVariants as address
+use Rattle.stl_parser.specs.declared.tables.AddressKind.{AddressKind}
+use Rattle.stl_parser.specs.declared.tables.AddressKind.TheVariants as address
 use Rattle.stl_parser.specs.Terminals.{has_kind, is_mark, is_key}
 use Rattle.stl_parser.specs.Tables.{look_up, addresses}
 use Rattle.plc_base.specs.Decimal.{decimal_up_to}
@@ -145,7 +145,7 @@ pointer_close_holds source area byte (close ∷ []) h =
     (λ test. (pointer_area area (and_first (holds_pointer area) _ test), h))
 pointer_close_holds source area byte _ h = tt
 
-pointer_end_holds : (source : List ℕ) (pointer : Bool) (a : Address) (byte : ℕ) (tokens : List Token) → IsNumber byte →
+pointer_end_holds : (source : List ℕ) (pointer : Bool) (a : AddressKind) (byte : ℕ) (tokens : List Token) → IsNumber byte →
     IfSome (pointer_end source pointer a byte tokens) IsPointerPlace
 unfolding pointer_end
 pointer_end_holds source pointer (address.Area area width.Dword) byte rest h =

@@ -17,5 +17,6 @@ pub mod OperandLemmas
 pub mod TypeLemmas
 pub mod StatementLemmas
 pub mod ClauseLemmas
+pub mod DeclarationLemmas
 pub mod SizeLemmas
 pub mod RiseLemmas

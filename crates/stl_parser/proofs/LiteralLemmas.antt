@@ -18,7 +18,7 @@ use Rattle.stl_ast.specs.declared.literals.Literal.{Literal}
 use Rattle.stl_ast.specs.declared.literals.Literal.TheVariants as literal
 use Rattle.stl_ast.specs.Literals.{IsLong, IsLiteral}
 use Rattle.stl_ast.specs.Operands.{IsNumber}
-use Rattle.stl_parser.specs.declared.keywords.Key.TheVariants as key
+use Rattle.stl_parser.specs.declared.keywords.ClauseWord.TheVariants as key
 use Rattle.stl_lexer.specs.declared.marks.Mark.TheVariants as mark
 use Rattle.stl_parser.specs.Terminals.{is_mark, is_key}
 use Rattle.stl_parser.specs.Numbers.{number_of, signed_number_at}

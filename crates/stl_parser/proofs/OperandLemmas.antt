@@ -23,10 +23,10 @@ use Rattle.stl_ast.specs.Literals.{IsDecimal, IsLiteral}
 use Rattle.stl_ast.specs.Operands.{IsNumber, IsDataBlockName, IsBitOf, IsStep, AreSteps, BeginsByName, IsOperand}
 use Rattle.stl_ast.specs.Sizes.{op_size}
 use Rattle.stl_ast.specs.Statements.{is_nothing, is_label, names_called_block}
-use Rattle.stl_parser.specs.declared.keywords.Key.TheVariants as key
+use Rattle.stl_parser.specs.declared.keywords.ClauseWord.TheVariants as key
 use Rattle.stl_lexer.specs.declared.marks.Mark.TheVariants as mark
-use Rattle.stl_parser.specs.declared.tables.Address.{Address}
-use Rattle.stl_parser.specs.declared.tables.Address.TheVariants as address
+use Rattle.stl_parser.specs.declared.tables.AddressKind.{AddressKind}
+use Rattle.stl_parser.specs.declared.tables.AddressKind.TheVariants as address
 use Rattle.stl_parser.specs.Terminals.{has_kind, is_mark, is_key}
 use Rattle.stl_parser.specs.Tables.{look_up, addresses, flags, registers}
 use Rattle.stl_parser.specs.Numbers.{number_of, int_at}
@@ -107,7 +107,7 @@ area_holds source area w byte rest more h =
 abbrev IsPlace : Width × ℕ × ℕ → Type 0
 IsPlace p = IsNumber p.1 × IsBitOf p.0 p.2
 
-place_holds : (source : List ℕ) (a : Address) (byte : ℕ) (rest : List Token) → IsNumber byte →
+place_holds : (source : List ℕ) (a : AddressKind) (byte : ℕ) (rest : List Token) → IsNumber byte →
     IfSome (spec.place_of_data_address source a byte rest) IsPlace
 unfolding spec.place_of_data_address
 place_holds source (address.Area letters.Db w) byte rest h =
@@ -154,7 +154,7 @@ data_block_holds source n [] more h fits = ((refl, h), omega arith, refl, refl, 
 data_block_holds source n (t ∷ rest) more h fits =
     behind_block_holds source (spec.data_block_name n) (t ∷ rest) more (refl, h) (omega (arith, fits))
 
-direct_holds : (source : List ℕ) (a : Address) (n : ℕ) (tokens : List Token) (more : ℕ) → IsNumber n → length tokens ≤ more →
+direct_holds : (source : List ℕ) (a : AddressKind) (n : ℕ) (tokens : List Token) (more : ℕ) → IsNumber n → length tokens ≤ more →
     IfSome (spec.direct_address_operand source a n tokens) (IsRead more)
 unfolding spec.direct_address_operand
 direct_holds source (address.Area area w) n rest more h fits = area_holds source area w n rest more h
@@ -189,7 +189,7 @@ area_by_holds source area w tokens more fits =
     (λ p h. (h, omega arith, refl, refl, refl)))
     (by_register_holds source (Some area) w tokens more (omega (arith, fits)))
 
-indirect_holds : (source : List ℕ) (a : Address) (tokens : List Token) (more : ℕ) → length tokens ≤ more →
+indirect_holds : (source : List ℕ) (a : AddressKind) (tokens : List Token) (more : ℕ) → length tokens ≤ more →
     IfSome (spec.indirect_operand source a tokens) (IsRead more)
 unfolding spec.indirect_operand
 indirect_holds source (address.Area area w) tokens more fits = area_by_holds source area w tokens more fits
@@ -198,7 +198,7 @@ indirect_holds source address.Counter tokens more fits = number_by_holds source 
 indirect_holds source (address.Block false) tokens more fits = number_by_holds source numbered.Db tokens more
 indirect_holds source (address.Block true) tokens more fits = number_by_holds source numbered.Di tokens more
 
-area_pointer_holds : (source : List ℕ) (a : Address) (byte : ℕ) (rest : List Token) (more : ℕ) → IsNumber byte →
+area_pointer_holds : (source : List ℕ) (a : AddressKind) (byte : ℕ) (rest : List Token) (more : ℕ) → IsNumber byte →
     IfSome (spec.area_pointer source a byte rest) (IsRead more)
 unfolding spec.area_pointer
 area_pointer_holds source (address.Area area width.Bit) byte rest more h =

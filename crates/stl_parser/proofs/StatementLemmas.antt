@@ -25,7 +25,7 @@ use Rattle.stl_ast.specs.Operands.{IsNameOf, IsAnyName, IsDataBlockName, IsInsta
 use Rattle.stl_ast.specs.Sizes.{op_size, code_size, statement_size}
 use Rattle.stl_ast.specs.Statements.{is_jump, is_call, has_actuals, is_empty_statement, is_nothing, is_label, names_called_block, has_instance, IsTarget, IsLabelOf, IsActual, AreActuals, IsStatement}
 use Rattle.stl_lexer.specs.declared.marks.Mark.TheVariants as mark
-use Rattle.stl_parser.specs.declared.keywords.Key.TheVariants as key
+use Rattle.stl_parser.specs.declared.keywords.ClauseWord.TheVariants as key
 use Rattle.stl_parser.specs.declared.statements.BareStatement.{BareStatement}
 use Rattle.stl_parser.specs.declared.tables.OperandSyntax.{OperandSyntax}
 use Rattle.stl_parser.specs.declared.tables.OperandSyntax.TheVariants as form

@@ -19,7 +19,7 @@ use Rattle.stl_ast.specs.declared.names.BlockName.TheVariants as block
 use Rattle.stl_ast.specs.Literals.{IsDecimal, IsLiteral}
 use Rattle.stl_ast.specs.Operands.{IsNumber, IsNameOf, IsAnyName}
 use Rattle.stl_ast.specs.Declarations.{AreBounds, IsElement, IsInit, IsSingleInit, FitsType, IsDeclaration}
-use Rattle.stl_parser.specs.declared.keywords.Key.TheVariants as key
+use Rattle.stl_parser.specs.declared.keywords.ClauseWord.TheVariants as key
 use Rattle.stl_lexer.specs.declared.marks.Mark.TheVariants as mark
 use Rattle.stl_parser.specs.Terminals.{has_kind, is_mark, is_key}
 use Rattle.stl_parser.specs.Tables.{look_up, simple_types}

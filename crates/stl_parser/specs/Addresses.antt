@@ -12,7 +12,7 @@ use Rattle.stl_lexer.specs.Tokens.{text_of}
 use Rattle.stl_ast.specs.declared.names.BlockName.{BlockName}
 use Rattle.stl_ast.specs.declared.names.BlockName.TheVariants as block
 use Rattle.stl_lexer.specs.declared.marks.Mark.TheVariants as mark
-use Rattle.stl_parser.specs.declared.tables.Address.{Address}
+use Rattle.stl_parser.specs.declared.tables.AddressKind.{AddressKind}
 use Rattle.stl_parser.specs.Terminals.{has_kind, is_mark}
 use Rattle.stl_parser.specs.Tables.{look_up, block_kinds, addresses}
 use Rattle.stl_parser.specs.Numbers.{number_of}
@@ -23,27 +23,33 @@ abbrev pub letter_count : List ℕ → ℕ
 letter_count text = prefix_len (λ b. not (is_ascii_digit b)) text
 
 -- letters and number in one word
-unfoldable pub glued_letters_and_number : {X : Type 0} → List (List ℕ × X) → List ℕ → List Token → Option (X × ℕ × List Token)
+unfoldable pub glued_letters_and_number : {X : Type 0} → List (List ℕ × X) → List ℕ → List Token
+    → Option (X × ℕ × List Token)
 glued_letters_and_number table text rest =
-    option_and_then (λ x. option_map (λ n. (x, n, rest)) (decimal_up_to (greatest_number false) (drop (letter_count text) text)))
+    option_and_then (λ x. option_map (λ n. (x, n, rest))
+    (decimal_up_to (greatest_number false) (drop (letter_count text) text)))
     (look_up table (take (letter_count text) text))
 
 -- letters and number in two tokens
-unfoldable pub separate_letters_and_number : {X : Type 0} → List (List ℕ × X) → List ℕ → List ℕ → List Token → Option (X × ℕ × List Token)
+unfoldable pub separate_letters_and_number : {X : Type 0} → List (List ℕ × X) → List ℕ → List ℕ
+    → List Token → Option (X × ℕ × List Token)
 separate_letters_and_number table source text [] = None
 separate_letters_and_number table source text (n ∷ rest) =
-    option_and_then (λ x. option_map (λ number. (x, number, rest)) (number_of source n)) (look_up table text)
+    option_and_then (λ x. option_map (λ number. (x, number, rest)) (number_of source n))
+    (look_up table text)
 
 -- what the letters name, the number behind them, and what follows
-unfoldable pub letters_and_number_at : {X : Type 0} → List (List ℕ × X) → List ℕ → List Token → Option (X × ℕ × List Token)
+unfoldable pub letters_and_number_at : {X : Type 0} → List (List ℕ × X) → List ℕ → List Token
+    → Option (X × ℕ × List Token)
 letters_and_number_at table source [] = None
 letters_and_number_at table source (w ∷ rest) =
     if has_kind w kind.Word
-    then option_or (glued_letters_and_number table (text_of source w) rest) (separate_letters_and_number table source (text_of source w) rest)
+    then option_or (glued_letters_and_number table (text_of source w) rest)
+    (separate_letters_and_number table source (text_of source w) rest)
     else None
 
 -- an address, as `MW 2`, or a block, as `DB 10`, each with what follows
-unfoldable pub address_at : List ℕ → List Token → Option (Address × ℕ × List Token)
+unfoldable pub address_at : List ℕ → List Token → Option (AddressKind × ℕ × List Token)
 address_at source tokens = letters_and_number_at addresses source tokens
 
 -- a block by kind and number, as `DB 10` or `DB10`, and what follows
@@ -53,20 +59,27 @@ block_number_at source tokens = letters_and_number_at block_kinds source tokens
 -- a quoted name as the name of a block
 unfoldable pub quoted_block_at : List ℕ → List Token → Option (BlockName × List Token)
 quoted_block_at source [] = None
-quoted_block_at source (t ∷ rest) = if has_kind t kind.Quoted then Some (block.Quoted (text_between_quotes (text_of source t)), rest) else None
+quoted_block_at source (t ∷ rest) =
+    if has_kind t kind.Quoted
+    then Some (block.Quoted (text_between_quotes (text_of source t)), rest) else None
 
 -- a block by kind and number or by its quoted name, and what follows
 unfoldable pub block_at : List ℕ → List Token → Option (BlockName × List Token)
 block_at source tokens =
-    option_or (option_map (λ r. (block.Number (record { kind = r.0; number = r.1 }), r.2)) (block_number_at source tokens))
+    option_or
+    (option_map (λ r. (block.Number (record { kind = r.0; number = r.1 }), r.2))
+    (block_number_at source tokens))
     (quoted_block_at source tokens)
 
 -- `.` and a bit number, 0 to 7
 unfoldable pub bit_of : List ℕ → List Token → Option ℕ
 bit_of source (dot ∷ b ∷ []) =
-    if is_mark source dot mark.Dot then option_and_then (λ n. if nat_le n 7 then Some n else None) (number_of source b) else None
+    if is_mark source dot mark.Dot
+    then option_and_then (λ n. if nat_le n 7 then Some n else None) (number_of source b) else None
 bit_of source _ = None
 
 -- letters of an address, alone or with digits
 unfoldable pub is_address_word : List ℕ → Bool
-is_address_word text = is_some (look_up addresses (take (letter_count text) text)) && list_all is_ascii_digit (drop (letter_count text) text)
+is_address_word text =
+    is_some (look_up addresses (take (letter_count text) text))
+    && list_all is_ascii_digit (drop (letter_count text) text)

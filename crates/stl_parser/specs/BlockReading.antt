@@ -72,8 +72,12 @@ opened_place k _ = place.Head k
 -- a shape is spelled by the clause that opens it and the clauses that are read behind that
 pub record ReadsShape (source : List ℕ) (k : BlockKind) (opening : Clause) (tokens : List Token)
     (spelled : List Clause) (rest : List Token) : Type 0 where
+  -- the clauses behind the opening one that a tree keeps
   pub kept : List Clause
+  -- these clauses are read from behind the opening one to a place behind the shape,
+  -- where the tokens `rest` stand
   pub reads : ReadsKeptClauses source (opened_place k opening) tokens kept (place.Shaped k) rest
+  -- the opening clause and these clauses spell the shape
   pub whole : spelled ≡ opening ∷ kept
 
 -- a body, or a shape: the clause that opens it, where a tree keeps that, and the components
@@ -93,6 +97,10 @@ spelled_content k c =
 -- keeps that, and the clauses that are read behind that, to the end of the block
 pub record ReadsContent (source : List ℕ) (k : BlockKind) (opening : Clause) (tokens : List Token)
     (spelled : List Clause) (rest : List Token) : Type 0 where
+  -- the clauses behind the opening one that a tree keeps
   pub kept : List Clause
+  -- these clauses are read from behind the opening one to the end of the block,
+  -- where the tokens `rest` stand
   pub reads : ReadsKeptClauses source (opened_place k opening) tokens kept place.Outside rest
+  -- the opening clause, where a tree keeps it, and these clauses spell the content
   pub whole : spelled ≡ filter is_kept_by_tree (opening ∷ []) ++ kept

@@ -19,7 +19,7 @@ use Rattle.stl_ast.specs.Declarations.{is_elementary}
 use Rattle.stl_parser.specs.declared.clauses.Clause.{Clause}
 use Rattle.stl_parser.specs.declared.clauses.Clause.TheVariants as clause
 use Rattle.stl_lexer.specs.declared.marks.Mark.TheVariants as mark
-use Rattle.stl_parser.specs.declared.keywords.Key.TheVariants as key
+use Rattle.stl_parser.specs.declared.keywords.ClauseWord.TheVariants as key
 use Rattle.stl_parser.specs.declared.places.ClausePlace.{ClausePlace}
 use Rattle.stl_parser.specs.declared.places.ClausePlace.TheVariants as place
 use Rattle.stl_parser.specs.declared.tables.HeadWord.{HeadWord}
@@ -45,7 +45,8 @@ semicolon_place source tokens = position (λ t. is_mark source t mark.Semicolon)
 
 -- the tokens before the first `;`, and those behind it
 unfoldable pub until_semicolon : List ℕ → List Token → Option (List Token × List Token)
-until_semicolon source tokens = option_map (λ n. (take n tokens, drop (n + 1) tokens)) (semicolon_place source tokens)
+until_semicolon source tokens =
+    option_map (λ n. (take n tokens, drop (n + 1) tokens)) (semicolon_place source tokens)
 
 -- the place is in the head of a block
 abbrev pub in_head : ClausePlace → Bool
@@ -91,7 +92,8 @@ is_of_kind k (block.Quoted name) = true
 
 -- the name of a block of this kind, and what follows
 unfoldable pub block_of_kind_at : List ℕ → BlockKind → List Token → Option (BlockName × List Token)
-block_of_kind_at source k tokens = option_and_then (λ r. if is_of_kind k r.0 then Some r else None) (block_at source tokens)
+block_of_kind_at source k tokens =
+    option_and_then (λ r. if is_of_kind k r.0 then Some r else None) (block_at source tokens)
 
 -- VOID or the elementary type of a return value, and what follows
 unfoldable pub result_type : List ℕ → List Token → Option (Option Simple × List Token)
@@ -102,25 +104,30 @@ result_type source (t ∷ rest) =
 
 -- what stands behind the name of a block: the type of a function's return value, and else nothing
 unfoldable pub result_at : List ℕ → BlockKind → List Token → Option (Option Simple × List Token)
-result_at source kinds.Fc tokens = option_and_then (λ rest. result_type source rest) (after_colon source tokens)
+result_at source kinds.Fc tokens =
+    option_and_then (λ rest. result_type source rest) (after_colon source tokens)
 result_at source _ tokens = Some (None, tokens)
 
 -- the first clause of a block, behind its keyword
 unfoldable pub head_clause : List ℕ → ℕ → BlockKind → List Token → ClauseReading
 head_clause source line k tokens =
-    option_and_then (λ b. option_map (λ r. (clause.Head line k b.0 r.0, r.1, false)) (result_at source k b.1)) (block_of_kind_at source k tokens)
+    option_and_then
+    (λ b. option_map (λ r. (clause.Head line k b.0 r.0, r.1, false)) (result_at source k b.1))
+    (block_of_kind_at source k tokens)
 
 -- END_STRUCT of an inner structure, behind the word: its `;`
 unfoldable pub inner_end : List ℕ → List Token → ClauseReading
 inner_end source [] = None
-inner_end source (t ∷ rest) = if is_mark source t mark.Semicolon then Some (clause.EndStructure, rest, false) else None
+inner_end source (t ∷ rest) =
+    if is_mark source t mark.Semicolon then Some (clause.EndStructure, rest, false) else None
 
 -- END_STRUCT, behind the word: with a `;` for an inner structure, and else with or without one
 unfoldable pub structure_end : List ℕ → ClausePlace → List Token → ClauseReading
 structure_end source p tokens =
-    if nat_lt 0 (level_at p) then inner_end source tokens else Some (clause.EndStructure, skip_semicolon source tokens, false)
+    if nat_lt 0 (level_at p) then inner_end source tokens
+    else Some (clause.EndStructure, skip_semicolon source tokens, false)
 
--- a clause that begins with a keyword, behind it
+-- the clause that begins with a keyword, read from the tokens behind that keyword
 unfoldable pub keyword_clause : List ℕ → ClausePlace → ℕ → Keyword → List Token → ClauseReading
 keyword_clause source p line (keyword.Opens k) rest = head_clause source line k rest
 keyword_clause source p line (keyword.Ends k) rest = Some (clause.Ends line k, rest, false)
@@ -134,13 +141,15 @@ keyword_clause source p line keyword.EndStructure rest = structure_end source p 
 -- `: n.n` behind VERSION, and what follows
 unfoldable pub version_at : List ℕ → List Token → Option (List Token)
 version_at source (colon ∷ major ∷ dot ∷ minor ∷ rest) =
-    if is_mark source colon mark.Colon && has_kind major kind.Number && is_mark source dot mark.Dot && has_kind minor kind.Number
+    if is_mark source colon mark.Colon && has_kind major kind.Number && is_mark source dot mark.Dot
+    && has_kind minor kind.Number
     then Some rest else None
 version_at source _ = None
 
 -- `: word`, and what follows
 unfoldable pub colon_and_word_at : List ℕ → List Token → Option (List Token)
-colon_and_word_at source (colon ∷ w ∷ rest) = if is_mark source colon mark.Colon && has_kind w kind.Word then Some rest else None
+colon_and_word_at source (colon ∷ w ∷ rest) =
+    if is_mark source colon mark.Colon && has_kind w kind.Word then Some rest else None
 colon_and_word_at source _ = None
 
 -- what stands behind a word of the head, and what follows
@@ -149,9 +158,11 @@ head_word_at source head_word.Version rest = version_at source rest
 head_word_at source head_word.Named rest = colon_and_word_at source rest
 head_word_at source head_word.Alone rest = Some rest
 
--- a clause that begins with a word of the head, behind it
+-- the clause that begins with a word of the head, read from the tokens behind that word
 unfoldable pub head_word_clause : List ℕ → ClausePlace → HeadWord → List Token → ClauseReading
-head_word_clause source p w rest = option_map (λ behind. (clause.Note, behind_note source p behind, false)) (head_word_at source w rest)
+head_word_clause source p w rest =
+    option_map (λ behind. (clause.Note, behind_note source p behind, false))
+    (head_word_at source w rest)
 
 -- FB and UDT, the kinds of block whose declarations a data block can have
 abbrev pub is_base_kind : BlockKind → Bool
@@ -167,18 +178,21 @@ is_base_block (block.Quoted name) = true
 -- what a data block may be based on: a function block, or a user-defined data type
 unfoldable pub base_block_at : List ℕ → List Token → ClauseReading
 base_block_at source tokens =
-    option_and_then (λ r. if is_base_block r.0 then Some (clause.Based r.0, r.1, false) else None) (block_at source tokens)
+    option_and_then (λ r. if is_base_block r.0 then Some (clause.Based r.0, r.1, false) else None)
+    (block_at source tokens)
 
 -- a declaration that opens a structure; a parameter is no structure
 unfoldable pub structure_clause : List ℕ → ClausePlace → List Token → ClauseReading
 structure_clause source p tokens =
     if takes_parameters p then None
-    else option_map (λ r. (clause.Declares r.0, r.1, false)) (structure_at source (level_at p) tokens)
+    else option_map (λ r. (clause.Declares r.0, r.1, false))
+    (structure_at source (level_at p) tokens)
 
 -- a declaration before its `;`; a parameter has an elementary type
 unfoldable pub declaration_clause : List ℕ → ClausePlace → List Token → Option (Clause × Bool)
 declaration_clause source p inside =
-    option_and_then (λ d. if takes_parameters p && not (is_elementary d) then None else Some (clause.Declares d, false))
+    option_and_then (λ d. if takes_parameters p && not (is_elementary d) then None
+    else Some (clause.Declares d, false))
     (declaration_of source (level_at p) inside)
 
 -- the first step of a setting's path: a word, with or without `#`
@@ -199,55 +213,72 @@ value_behind source line path (assign ∷ value) =
 unfoldable pub setting_of : List ℕ → ℕ → List Token → Option Setting
 setting_of source line [] = None
 setting_of source line (t ∷ rest) =
-    option_and_then (λ first. option_and_then (λ r. value_behind source line r.0 r.1) (steps_from source (first ∷ []) rest))
+    option_and_then (λ first. option_and_then (λ r. value_behind source line r.0 r.1)
+    (steps_from source (first ∷ []) rest))
     (first_step source t t.kind)
 
 -- a statement before its `;`, and whether a label in it is too long
 unfoldable pub statement_clause : List ℕ → ℕ → List Token → Option (Clause × Bool)
-statement_clause source line inside = option_map (λ r. (clause.Runs r.0, r.1)) (statement_of source line inside)
+statement_clause source line inside =
+    option_map (λ r. (clause.Runs r.0, r.1)) (statement_of source line inside)
 
 -- a setting before its `;`
 unfoldable pub setting_clause : List ℕ → ℕ → List Token → Option (Clause × Bool)
-setting_clause source line inside = option_map (λ s. (clause.Sets s, false)) (setting_of source line inside)
+setting_clause source line inside =
+    option_map (λ s. (clause.Sets s, false)) (setting_of source line inside)
 
 -- a clause before its `;`: a declaration, a statement or a setting
 unfoldable pub inside_clause : List ℕ → ClausePlace → ℕ → List Token → Option (Clause × Bool)
 inside_clause source p line inside =
-    option_or (declaration_clause source p inside) (option_or (statement_clause source line inside) (setting_clause source line inside))
+    option_or (declaration_clause source p inside)
+    (option_or (statement_clause source line inside) (setting_clause source line inside))
 
 -- a clause that runs to its `;`
 unfoldable pub semicolon_clause : List ℕ → ClausePlace → ℕ → List Token → ClauseReading
 semicolon_clause source p line tokens =
-    option_and_then (λ cut. option_map (λ c. (c.0, cut.1, c.1)) (inside_clause source p line cut.0)) (until_semicolon source tokens)
+    option_and_then (λ cut. option_map (λ c. (c.0, cut.1, c.1)) (inside_clause source p line cut.0))
+    (until_semicolon source tokens)
 
 -- a clause that opens a structure or runs to its `;`
 unfoldable pub plain_clause : List ℕ → ClausePlace → ℕ → List Token → ClauseReading
-plain_clause source p line tokens = option_or (structure_clause source p tokens) (semicolon_clause source p line tokens)
+plain_clause source p line tokens =
+    option_or (structure_clause source p tokens) (semicolon_clause source p line tokens)
 
--- a clause that begins with no keyword; in the head of a data block it may name what the block is based on
+-- a clause that begins with no keyword; in the head of a data block it may name what the block is
+-- based on
 unfoldable pub other_clause : List ℕ → ClausePlace → ℕ → List Token → ClauseReading
 other_clause source p line tokens =
-    if in_data_head p then option_or (base_block_at source tokens) (plain_clause source p line tokens) else plain_clause source p line tokens
+    if in_data_head p
+    then option_or (base_block_at source tokens) (plain_clause source p line tokens)
+    else plain_clause source p line tokens
 
 -- a clause that begins with a word which is no keyword; `tokens` are the word and the rest
-unfoldable pub free_word_clause : List ℕ → ClausePlace → Token → List Token → List Token → Option HeadWord → ClauseReading
+unfoldable pub free_word_clause : List ℕ → ClausePlace → Token → List Token → List Token
+    → Option HeadWord → ClauseReading
 free_word_clause source p t rest tokens (Some w) =
     if is_outer p then head_word_clause source p w rest else other_clause source p t.line tokens
 free_word_clause source p t rest tokens None = other_clause source p t.line tokens
 
 -- a clause that begins with a word; `tokens` are the word and the rest
-unfoldable pub word_clause : List ℕ → ClausePlace → Token → List Token → List Token → Option Keyword → ClauseReading
+unfoldable pub word_clause : List ℕ → ClausePlace → Token → List Token → List Token → Option Keyword
+    → ClauseReading
 word_clause source p t rest tokens (Some k) = keyword_clause source p t.line k rest
-word_clause source p t rest tokens None = free_word_clause source p t rest tokens (look_up head_words (text_of source t))
+word_clause source p t rest tokens None =
+    free_word_clause source p t rest tokens (look_up head_words (text_of source t))
 
 -- a clause, by the kind of its first token; `tokens` are it and the rest
-unfoldable pub clause_by_kind : List ℕ → ClausePlace → Token → List Token → List Token → TokenKind → ClauseReading
-clause_by_kind source p t rest tokens kind.Word = word_clause source p t rest tokens (look_up keywords (text_of source t))
-clause_by_kind source p t rest tokens kind.Attribute = Some (clause.Note, behind_note source p rest, false)
-clause_by_kind source p t rest tokens kind.Title = Some (clause.Title, behind_note source p rest, false)
+unfoldable pub clause_by_kind : List ℕ → ClausePlace → Token → List Token → List Token → TokenKind
+    → ClauseReading
+clause_by_kind source p t rest tokens kind.Word =
+    word_clause source p t rest tokens (look_up keywords (text_of source t))
+clause_by_kind source p t rest tokens kind.Attribute =
+    Some (clause.Note, behind_note source p rest, false)
+clause_by_kind source p t rest tokens kind.Title =
+    Some (clause.Title, behind_note source p rest, false)
 clause_by_kind source p t rest tokens _ = other_clause source p t.line tokens
 
--- the clause at the front, what follows it, and whether a label in it is too long; None where it isn't in the grammar
+-- the clause at the front, what follows it, and whether a label in it is too long; None where it
+-- isn't in the grammar
 unfoldable pub clause_at : List ℕ → ClausePlace → List Token → ClauseReading
 clause_at source p [] = None
 clause_at source p (t ∷ rest) = clause_by_kind source p t rest (t ∷ rest) t.kind

@@ -23,17 +23,19 @@ abbrev pub shape_behind : BlockKind → ℕ → Option ClausePlace
 shape_behind k zero = Some (place.Shaped k)
 shape_behind k (suc level) = Some (place.Shape k level)
 
--- what may stand in the head of a block
+-- the place behind a clause in the head of a block; none where the clause may not stand there
 unfoldable pub next_place_in_head : BlockKind → Clause → Option ClausePlace
 next_place_in_head k clause.Note = Some (place.Head k)
 next_place_in_head k clause.Title = Some (place.Head k)
-next_place_in_head k (clause.Section line p) = if may_have_section k p then Some (place.Section k p 0) else None
+next_place_in_head k (clause.Section line p) =
+    if may_have_section k p then Some (place.Section k p 0) else None
 next_place_in_head k clause.Begins = if is_code k then Some (place.Body k) else None
 next_place_in_head k clause.Structure = if has_shape k then Some (place.Shape k 0) else None
-next_place_in_head k (clause.Based name) = if nat_eq (kind_order k) 3 then Some (place.Shaped k) else None
+next_place_in_head k (clause.Based name) =
+    if nat_eq (kind_order k) 3 then Some (place.Shaped k) else None
 next_place_in_head k _ = None
 
--- what may stand in a section
+-- the place behind a clause in a section; none where the clause may not stand there
 unfoldable pub next_place_in_section : BlockKind → PartKind → ℕ → Clause → Option ClausePlace
 next_place_in_section k p level clause.EndSection =
     if nat_eq level 0 then Some (place.Between k p) else None
@@ -42,7 +44,8 @@ next_place_in_section k p level (clause.Declares d) =
 next_place_in_section k p level clause.EndStructure = section_behind k p level
 next_place_in_section k p level _ = None
 
--- what may stand behind a section: a later section, or the body
+-- the place behind a clause that follows a section: a later section, or the body; none where the
+-- clause may not stand there
 unfoldable pub next_place_between : BlockKind → PartKind → Clause → Option ClausePlace
 next_place_between k last (clause.Section line p) =
     if may_have_section k p && nat_lt (part_rank last) (part_rank p) then Some (place.Section k p 0)
@@ -50,7 +53,8 @@ next_place_between k last (clause.Section line p) =
 next_place_between k last clause.Begins = Some (place.Body k)
 next_place_between k last _ = None
 
--- what may stand in the structure of a data block or of a TYPE block
+-- the place behind a clause in the structure of a data block or of a TYPE block; none where the
+-- clause may not stand there
 unfoldable pub next_place_in_shape : BlockKind → ℕ → Clause → Option ClausePlace
 next_place_in_shape k level (clause.Declares d) =
     if is_date_and_time d.of.of then None else Some (place.Shape k (level_behind level d.of.of))
@@ -64,7 +68,7 @@ next_place_behind_shape kinds.Db clause.Begins = Some place.Settings
 next_place_behind_shape kinds.Udt (clause.Ends line kinds.Udt) = Some place.Outside
 next_place_behind_shape _ _ = None
 
--- what may stand in a body
+-- the place behind a clause in a body; none where the clause may not stand there
 unfoldable pub next_place_in_body : BlockKind → Clause → Option ClausePlace
 next_place_in_body k (clause.Runs s) = Some (place.Body k)
 next_place_in_body k clause.Network = Some (place.Body k)
@@ -73,13 +77,14 @@ next_place_in_body k (clause.Ends line e) =
     if nat_eq (kind_order e) (kind_order k) then Some place.Outside else None
 next_place_in_body k _ = None
 
--- what may stand in the BEGIN part of a data block
+-- the place behind a clause in the BEGIN part of a data block; none where the clause may not stand
+-- there
 unfoldable pub next_place_in_settings : Clause → Option ClausePlace
 next_place_in_settings (clause.Sets s) = Some place.Settings
 next_place_in_settings (clause.Ends line kinds.Db) = Some place.Outside
 next_place_in_settings _ = None
 
--- what may stand between blocks
+-- the place behind a clause between blocks; none where the clause may not stand there
 unfoldable pub next_place_outside : Clause → Option ClausePlace
 next_place_outside (clause.Head line k name result) = Some (place.Head k)
 next_place_outside _ = None

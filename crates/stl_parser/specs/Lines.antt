@@ -11,7 +11,8 @@ use Rattle.stl_parser.specs.Source.{IsTree}
 -- `before`, and none is greater than `last`
 abbrev pub AreRisingLines : (last before : ℕ) → List ℕ → Type 0
 AreRisingLines last before [] = Unit {0}
-AreRisingLines last before (line ∷ lines) = (before ≤ line) × (line ≤ last) × AreRisingLines last line lines
+AreRisingLines last before (line ∷ lines) =
+    (before ≤ line) × (line ≤ last) × AreRisingLines last line lines
 
 -- the lines of the statements of a block, and behind them that of its END clause
 abbrev pub statement_lines_of : Block → List ℕ

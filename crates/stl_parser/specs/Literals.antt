@@ -8,7 +8,7 @@ use Rattle.stl_lexer.specs.Tokens.{text_of}
 use Rattle.stl_ast.specs.declared.literals.Literal.{Literal}
 use Rattle.stl_ast.specs.declared.literals.Literal.TheVariants as literal
 use Rattle.stl_lexer.specs.declared.marks.Mark.TheVariants as mark
-use Rattle.stl_parser.specs.declared.keywords.Key.TheVariants as key
+use Rattle.stl_parser.specs.declared.keywords.ClauseWord.TheVariants as key
 use Rattle.stl_parser.specs.Terminals.{is_mark, is_key}
 use Rattle.stl_parser.specs.Numbers.{number_of, signed_number_at}
 use Rattle.stl_parser.specs.Parts.{complete_reading}
@@ -33,7 +33,8 @@ truth_of source t =
 unfoldable pub literal_token : List ℕ → Token → TokenKind → Option Literal
 literal_token source t kind.Word = truth_of source t
 literal_token source t kind.Number = option_map (λ n. literal.Number (pos n)) (number_of source t)
-literal_token source t kind.Characters = option_map literal.Characters (characters_of (text_between_quotes (text_of source t)))
+literal_token source t kind.Characters =
+    option_map literal.Characters (characters_of (text_between_quotes (text_of source t)))
 literal_token source t kind.Based = based_value (text_of source t)
 literal_token source t kind.NumberLiteral = long_or_count (text_of source t)
 literal_token source t kind.TimeLiteral = duration_literal (text_of source t)
@@ -47,7 +48,9 @@ byte_of source t = option_and_then (λ n. if nat_le n 255 then Some n else None)
 unfoldable pub last_bytes : List ℕ → ℕ → ℕ → List Token → Option (Literal × List Token)
 last_bytes source a b (c ∷ comma ∷ d ∷ close ∷ rest) =
     if is_mark source comma mark.Comma && is_mark source close mark.CloseParen
-    then option_and_then (λ third. option_map (λ fourth. (literal.Bytes (a ∷ b ∷ third ∷ fourth ∷ []), rest)) (byte_of source d)) (byte_of source c)
+    then option_and_then
+    (λ third. option_map (λ fourth. (literal.Bytes (a ∷ b ∷ third ∷ fourth ∷ []), rest))
+    (byte_of source d)) (byte_of source c)
     else None
 last_bytes source a b _ = None
 
@@ -61,7 +64,9 @@ bytes_behind source a b t rest =
 unfoldable pub bytes_at : List ℕ → List Token → Option (Literal × List Token)
 bytes_at source (a ∷ comma ∷ b ∷ next ∷ rest) =
     if is_mark source comma mark.Comma
-    then option_and_then (λ first. option_and_then (λ second. bytes_behind source first second next rest) (byte_of source b)) (byte_of source a)
+    then option_and_then
+    (λ first. option_and_then (λ second. bytes_behind source first second next rest)
+    (byte_of source b)) (byte_of source a)
     else None
 bytes_at source _ = None
 
@@ -75,7 +80,8 @@ long_literal source t rest =
 unfoldable pub literal_at : List ℕ → List Token → Option (Literal × List Token)
 literal_at source [] = None
 literal_at source (t ∷ rest) =
-    option_or (option_map (λ l. (l, rest)) (literal_token source t t.kind)) (long_literal source t rest)
+    option_or (option_map (λ l. (l, rest)) (literal_token source t t.kind))
+    (long_literal source t rest)
 
 -- a constant that is all of the tokens
 unfoldable pub literal_of : List ℕ → List Token → Option Literal

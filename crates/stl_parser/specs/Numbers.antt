@@ -11,7 +11,8 @@ use Rattle.stl_parser.specs.Terminals.{has_kind, is_mark}
 
 -- the number of a number token, where it is at most so great
 unfoldable pub number_up_to : (most : ℕ) → List ℕ → Token → Option ℕ
-number_up_to most source t = if has_kind t kind.Number then decimal_up_to most (text_of source t) else None
+number_up_to most source t =
+    if has_kind t kind.Number then decimal_up_to most (text_of source t) else None
 
 -- the number of a number token
 unfoldable pub number_of : List ℕ → Token → Option ℕ
@@ -23,9 +24,12 @@ signed_number_at source sign [] = None
 signed_number_at source sign (t ∷ rest) =
     if is_mark source sign mark.Minus
     then option_map (λ n. (pos 0 -ℤ pos n, rest)) (number_up_to (greatest_number true) source t)
-    else (if is_mark source sign mark.Plus then option_map (λ n. (pos n, rest)) (number_of source t) else None)
+    else (if is_mark source sign mark.Plus then option_map (λ n. (pos n, rest)) (number_of source t)
+    else None)
 
 -- a decimal number with or without a sign, and what follows
 unfoldable pub int_at : List ℕ → List Token → Option (ℤ × List Token)
 int_at source [] = None
-int_at source (t ∷ rest) = option_or (option_map (λ n. (pos n, rest)) (number_of source t)) (signed_number_at source t rest)
+int_at source (t ∷ rest) =
+    option_or (option_map (λ n. (pos n, rest)) (number_of source t))
+    (signed_number_at source t rest)

@@ -21,9 +21,9 @@ use Rattle.stl_ast.specs.declared.operands.Operand.TheVariants as operand
 use Rattle.stl_ast.specs.declared.operands.PathHead.{PathHead}
 use Rattle.stl_ast.specs.declared.operands.PathHead.TheVariants as head
 use Rattle.stl_lexer.specs.declared.marks.Mark.TheVariants as mark
-use Rattle.stl_parser.specs.declared.keywords.Key.TheVariants as key
-use Rattle.stl_parser.specs.declared.tables.Address.{Address}
-use Rattle.stl_parser.specs.declared.tables.Address.TheVariants as address
+use Rattle.stl_parser.specs.declared.keywords.ClauseWord.TheVariants as key
+use Rattle.stl_parser.specs.declared.tables.AddressKind.{AddressKind}
+use Rattle.stl_parser.specs.declared.tables.AddressKind.TheVariants as address
 use Rattle.stl_parser.specs.Terminals.{has_kind, is_mark, is_key}
 use Rattle.stl_parser.specs.Tables.{look_up, addresses, flags, registers}
 use Rattle.stl_parser.specs.Numbers.{number_of, int_at}
@@ -34,19 +34,22 @@ use Rattle.stl_parser.specs.Addresses.{is_address_word, address_at, bit_of}
 -- `]` behind the index of a step
 unfoldable pub index_end : List ℕ → ℤ → List Token → Option (PathStep × List Token)
 index_end source at [] = None
-index_end source at (close ∷ rest) = if is_mark source close mark.CloseBracket then Some (step.Index at, rest) else None
+index_end source at (close ∷ rest) =
+    if is_mark source close mark.CloseBracket then Some (step.Index at, rest) else None
 
 -- the name of a step, behind its `.`
 unfoldable pub name_step : List ℕ → List Token → Option (PathStep × List Token)
 name_step source [] = None
-name_step source (w ∷ rest) = if has_kind w kind.Word then Some (step.Named (text_of source w), rest) else None
+name_step source (w ∷ rest) =
+    if has_kind w kind.Word then Some (step.Named (text_of source w), rest) else None
 
 -- a step of a path, `.` and a word or an index in brackets, and what follows
 unfoldable pub step_at : List ℕ → List Token → Option (PathStep × List Token)
 step_at source [] = None
 step_at source (t ∷ rest) =
     if is_mark source t mark.Dot then name_step source rest
-    else (if is_mark source t mark.OpenBracket then option_and_then (λ r. index_end source r.0 r.1) (int_at source rest) else None)
+    else (if is_mark source t mark.OpenBracket
+    then option_and_then (λ r. index_end source r.0 r.1) (int_at source rest) else None)
 
 -- a path ends with its clause or before `:=`
 unfoldable pub path_end : List ℕ → List Token → Option (List Token)
@@ -54,12 +57,15 @@ path_end source [] = Some []
 path_end source (t ∷ rest) = if is_mark source t mark.Assign then Some (t ∷ rest) else None
 
 -- the steps of a path behind its first ones, and what stands behind its end
-unfoldable pub steps_from : List ℕ → List PathStep → List Token → Option (List PathStep × List Token)
-steps_from source first tokens = parts_from (path_end source) (step_at source) first (length tokens) tokens
+unfoldable pub steps_from : List ℕ → List PathStep → List Token
+    → Option (List PathStep × List Token)
+steps_from source first tokens =
+    parts_from (path_end source) (step_at source) first (length tokens) tokens
 
 -- a path that is all of the tokens, behind its head
 unfoldable pub path_of : List ℕ → PathHead → List Token → Option Operand
-path_of source h tokens = option_map (λ steps. operand.Named h steps) (complete_reading (steps_from source [] tokens))
+path_of source h tokens =
+    option_map (λ steps. operand.Named h steps) (complete_reading (steps_from source [] tokens))
 
 -- the bit of an address of this width: `.` and its number for a bit, and nothing for a wider one
 unfoldable pub place_bit : List ℕ → Width → List Token → Option ℕ
@@ -67,38 +73,46 @@ place_bit source width.Bit rest = bit_of source rest
 place_bit source _ [] = Some 0
 place_bit source _ (t ∷ rest) = None
 
--- an address in an area
+-- the operand that is an address in an area, with its byte and what follows
 unfoldable pub area_operand : List ℕ → Letters → Width → ℕ → List Token → Option Operand
-area_operand source area w byte rest = option_map (λ bit. operand.Direct None area w byte bit) (place_bit source w rest)
+area_operand source area w byte rest =
+    option_map (λ bit. operand.Direct None area w byte bit) (place_bit source w rest)
 
 -- width, byte and bit of an address of a data block, as `DBW 2`
-unfoldable pub place_of_data_address : List ℕ → Address → ℕ → List Token → Option (Width × ℕ × ℕ)
-place_of_data_address source (address.Area letters.Db w) byte rest = option_map (λ bit. (w, byte, bit)) (place_bit source w rest)
+unfoldable pub place_of_data_address : List ℕ → AddressKind → ℕ → List Token
+    → Option (Width × ℕ × ℕ)
+place_of_data_address source (address.Area letters.Db w) byte rest =
+    option_map (λ bit. (w, byte, bit)) (place_bit source w rest)
 place_of_data_address source _ byte rest = None
 
 -- width, byte and bit of an address in a data block that is given, behind the block and the `.`, as
 -- `DBW 2` in `DB10.DBW 2`
 unfoldable pub block_place : List ℕ → List Token → Option (Width × ℕ × ℕ)
-block_place source tokens = option_and_then (λ r. place_of_data_address source r.0 r.1 r.2) (address_at source tokens)
+block_place source tokens =
+    option_and_then (λ r. place_of_data_address source r.0 r.1 r.2) (address_at source tokens)
 
 -- a component of a data block, behind the block and the `.`
 unfoldable pub block_path : List ℕ → BlockName → List Token → Option Operand
 block_path source name [] = None
 block_path source name (w ∷ rest) =
     if has_kind w kind.Word
-    then option_map (λ steps. operand.Named (head.InBlock name) steps) (complete_reading (steps_from source (step.Named (text_of source w) ∷ []) rest))
+    then option_map (λ steps. operand.Named (head.InBlock name) steps)
+    (complete_reading (steps_from source (step.Named (text_of source w) ∷ []) rest))
     else None
 
 -- what stands in a data block, behind the block and the `.`: an address, else a component
 unfoldable pub operand_in_block : List ℕ → BlockName → List Token → Option Operand
 operand_in_block source name tokens =
-    option_or (option_map (λ p. operand.Direct (Some name) letters.Db p.0 p.1 p.2) (block_place source tokens))
+    option_or
+    (option_map (λ p. operand.Direct (Some name) letters.Db p.0 p.1 p.2)
+    (block_place source tokens))
     (block_path source name tokens)
 
 -- `.` and what stands in a data block
 unfoldable pub operand_behind_block : List ℕ → BlockName → List Token → Option Operand
 operand_behind_block source name [] = None
-operand_behind_block source name (dot ∷ rest) = if is_mark source dot mark.Dot then operand_in_block source name rest else None
+operand_behind_block source name (dot ∷ rest) =
+    if is_mark source dot mark.Dot then operand_in_block source name rest else None
 
 -- the data block with this number
 abbrev pub data_block_name : ℕ → BlockName
@@ -110,38 +124,45 @@ data_block_operand source n [] = Some (operand.OpenBlock false (data_block_name 
 data_block_operand source n (t ∷ rest) = operand_behind_block source (data_block_name n) (t ∷ rest)
 
 -- an operand that is letters and a number
-unfoldable pub direct_address_operand : List ℕ → Address → ℕ → List Token → Option Operand
+unfoldable pub direct_address_operand : List ℕ → AddressKind → ℕ → List Token → Option Operand
 direct_address_operand source (address.Area area w) n rest = area_operand source area w n rest
 direct_address_operand source address.Timer n [] = Some (operand.Timer n)
 direct_address_operand source address.Timer n (t ∷ rest) = None
 direct_address_operand source address.Counter n [] = Some (operand.Counter n)
 direct_address_operand source address.Counter n (t ∷ rest) = None
 direct_address_operand source (address.Block false) n rest = data_block_operand source n rest
-direct_address_operand source (address.Block true) n [] = Some (operand.OpenBlock true (data_block_name n))
+direct_address_operand source (address.Block true) n [] =
+    Some (operand.OpenBlock true (data_block_name n))
 direct_address_operand source (address.Block true) n (t ∷ rest) = None
 
 -- the number of an address register
 unfoldable pub register_of : List ℕ → Token → Option ℕ
-register_of source t = if is_key source t key.Ar1 then Some 1 else (if is_key source t key.Ar2 then Some 2 else None)
+register_of source t =
+    if is_key source t key.Ar1 then Some 1 else (if is_key source t key.Ar2 then Some 2 else None)
 
 -- `P#n.b` with n 0 to 65,535 and b 0 to 7, counted in bits
 unfoldable pub offset_of : List ℕ → Token → Token → List Token → Option ℕ
 offset_of source prefix n rest =
     if is_mark source prefix mark.Pointer
-    then option_and_then (λ byte. option_map (λ bit. 8 * byte + bit) (bit_of source rest)) (number_of source n)
+    then option_and_then (λ byte. option_map (λ bit. 8 * byte + bit) (bit_of source rest))
+    (number_of source n)
     else None
 
 -- `[AR1, P#n.b]` that is all of the tokens: the register, and the constant in bits
 unfoldable pub register_pointer : List ℕ → List Token → Option (ℕ × ℕ)
 register_pointer source (open_ ∷ r ∷ comma ∷ prefix ∷ n ∷ dot ∷ b ∷ close ∷ []) =
-    if is_mark source open_ mark.OpenBracket && is_mark source comma mark.Comma && is_mark source close mark.CloseBracket
-    then option_and_then (λ register. option_map (λ bits. (register, bits)) (offset_of source prefix n (dot ∷ b ∷ []))) (register_of source r)
+    if is_mark source open_ mark.OpenBracket && is_mark source comma mark.Comma
+    && is_mark source close mark.CloseBracket
+    then option_and_then
+    (λ register. option_map (λ bits. (register, bits)) (offset_of source prefix n (dot ∷ b ∷ [])))
+    (register_of source r)
     else None
 register_pointer source _ = None
 
 -- an operand by an address register; `area` is None where the register has the area
 unfoldable pub operand_by_register : List ℕ → Option Letters → Width → List Token → Option Operand
-operand_by_register source area w tokens = option_map (λ p. operand.ByRegister area w p.0 p.1) (register_pointer source tokens)
+operand_by_register source area w tokens =
+    option_map (λ p. operand.ByRegister area w p.0 p.1) (register_pointer source tokens)
 
 -- the places that may hold a pointer: a word or a double word of M, L, DB or DI
 unfoldable pub holds_pointer : Letters → Bool
@@ -159,12 +180,15 @@ pointer_close source area byte _ = None
 
 -- `]` behind an address in brackets that is a double word for a pointer, or a word for a number:
 -- its area and its byte
-unfoldable pub pointer_end : List ℕ → Bool → Address → ℕ → List Token → Option (Letters × ℕ)
-pointer_end source pointer (address.Area area width.Dword) byte rest = if pointer then pointer_close source area byte rest else None
-pointer_end source pointer (address.Area area width.Word) byte rest = if pointer then None else pointer_close source area byte rest
+unfoldable pub pointer_end : List ℕ → Bool → AddressKind → ℕ → List Token → Option (Letters × ℕ)
+pointer_end source pointer (address.Area area width.Dword) byte rest =
+    if pointer then pointer_close source area byte rest else None
+pointer_end source pointer (address.Area area width.Word) byte rest =
+    if pointer then None else pointer_close source area byte rest
 pointer_end source pointer _ byte rest = None
 
--- `[MD n]` for a pointer, or `[MW n]` for a number, that is all of the tokens: the area and the byte
+-- `[MD n]` for a pointer, or `[MW n]` for a number, that is all of the tokens: the area and the
+-- byte
 unfoldable pub memory_pointer : List ℕ → Bool → List Token → Option (Letters × ℕ)
 memory_pointer source pointer [] = None
 memory_pointer source pointer (t ∷ rest) =
@@ -174,24 +198,29 @@ memory_pointer source pointer (t ∷ rest) =
 
 -- a timer, a counter or a data block whose number stands in memory
 unfoldable pub operand_by_memory_number : List ℕ → Numbered → List Token → Option Operand
-operand_by_memory_number source what tokens = option_map (λ p. operand.NumberBy what p.0 p.1) (memory_pointer source false tokens)
+operand_by_memory_number source what tokens =
+    option_map (λ p. operand.NumberBy what p.0 p.1) (memory_pointer source false tokens)
 
 -- an area with a pointer, in memory or in a register
 unfoldable pub operand_by_pointer : List ℕ → Letters → Width → List Token → Option Operand
 operand_by_pointer source area w tokens =
-    option_or (option_map (λ p. operand.ByMemory area w p.0 p.1) (memory_pointer source true tokens))
+    option_or
+    (option_map (λ p. operand.ByMemory area w p.0 p.1) (memory_pointer source true tokens))
     (operand_by_register source (Some area) w tokens)
 
 -- an operand that is letters and a pointer in brackets
-unfoldable pub indirect_operand : List ℕ → Address → List Token → Option Operand
+unfoldable pub indirect_operand : List ℕ → AddressKind → List Token → Option Operand
 indirect_operand source (address.Area area w) tokens = operand_by_pointer source area w tokens
 indirect_operand source address.Timer tokens = operand_by_memory_number source numbered.Timer tokens
-indirect_operand source address.Counter tokens = operand_by_memory_number source numbered.Counter tokens
-indirect_operand source (address.Block false) tokens = operand_by_memory_number source numbered.Db tokens
-indirect_operand source (address.Block true) tokens = operand_by_memory_number source numbered.Di tokens
+indirect_operand source address.Counter tokens =
+    operand_by_memory_number source numbered.Counter tokens
+indirect_operand source (address.Block false) tokens =
+    operand_by_memory_number source numbered.Db tokens
+indirect_operand source (address.Block true) tokens =
+    operand_by_memory_number source numbered.Di tokens
 
 -- a pointer constant with an area, behind `P#`
-unfoldable pub area_pointer : List ℕ → Address → ℕ → List Token → Option Operand
+unfoldable pub area_pointer : List ℕ → AddressKind → ℕ → List Token → Option Operand
 area_pointer source (address.Area area width.Bit) byte rest =
     option_map (λ bit. operand.Pointer (Some area) byte bit) (bit_of source rest)
 area_pointer source _ byte rest = None
@@ -200,15 +229,16 @@ area_pointer source _ byte rest = None
 unfoldable pub plain_pointer : List ℕ → List Token → Option Operand
 plain_pointer source [] = None
 plain_pointer source (n ∷ rest) =
-    option_and_then (λ byte. option_map (λ bit. operand.Pointer None byte bit) (bit_of source rest)) (number_of source n)
+    option_and_then (λ byte. option_map (λ bit. operand.Pointer None byte bit) (bit_of source rest))
+    (number_of source n)
 
--- a pointer constant, behind `P#`
+-- the pointer constant that stands behind `P#`
 unfoldable pub pointer_constant_operand : List ℕ → List Token → Option Operand
 pointer_constant_operand source tokens =
     option_or (plain_pointer source tokens)
     (option_and_then (λ r. area_pointer source r.0 r.1 r.2) (address_at source tokens))
 
--- a condition of the status word
+-- the operand that is a condition of the status word
 unfoldable pub condition_of : List ℕ → Token → Option Operand
 condition_of source t = option_map operand.OfStatus (look_up flags (text_of source t))
 
@@ -220,7 +250,8 @@ register_name_operand_if name None = None
 
 -- a register that an instruction has as an operand
 unfoldable pub register_name_operand : List ℕ → Token → Option Operand
-register_name_operand source t = register_name_operand_if (text_of source t) (look_up registers (text_of source t))
+register_name_operand source t =
+    register_name_operand_if (text_of source t) (look_up registers (text_of source t))
 
 -- a word that stands alone as an operand: a condition of the status word or a register
 unfoldable pub lone_word_operand : List ℕ → Token → List Token → Option Operand
@@ -230,7 +261,8 @@ lone_word_operand source t (u ∷ rest) = None
 -- a word that means something as an operand, so that no path begins with it
 unfoldable pub is_operand_word : List ℕ → Token → Bool
 is_operand_word source t =
-    is_address_word (text_of source t) || is_some (look_up flags (text_of source t)) || is_some (look_up registers (text_of source t))
+    is_address_word (text_of source t) || is_some (look_up flags (text_of source t))
+    || is_some (look_up registers (text_of source t))
     || is_key source t key.True || is_key source t key.False
 
 -- a path that begins with a word
@@ -247,28 +279,34 @@ sized_by_register source t rest =
 
 -- letters of an address with their number
 unfoldable pub operand_with_number : List ℕ → List Token → Option Operand
-operand_with_number source tokens = option_and_then (λ r. direct_address_operand source r.0 r.1 r.2) (address_at source tokens)
+operand_with_number source tokens =
+    option_and_then (λ r. direct_address_operand source r.0 r.1 r.2) (address_at source tokens)
 
 -- letters of an address with a pointer in brackets
 unfoldable pub operand_with_pointer : List ℕ → Token → List Token → Option Operand
-operand_with_pointer source t rest = option_and_then (λ a. indirect_operand source a rest) (look_up addresses (text_of source t))
+operand_with_pointer source t rest =
+    option_and_then (λ a. indirect_operand source a rest) (look_up addresses (text_of source t))
 
 -- an operand that begins with a word; `tokens` are the word and the rest
 unfoldable pub word_operand : List ℕ → Token → List Token → List Token → Option Operand
 word_operand source t rest tokens =
     option_or (lone_word_operand source t rest)
     (option_or (operand_with_number source tokens)
-    (option_or (operand_with_pointer source t rest) (option_or (sized_by_register source t rest) (plain_path source t rest))))
+    (option_or (operand_with_pointer source t rest)
+    (option_or (sized_by_register source t rest) (plain_path source t rest))))
 
 -- an operand that begins with a quoted name: a symbol, or what stands in a data block
 unfoldable pub quoted_operand : List ℕ → Token → List Token → Option Operand
-quoted_operand source t [] = Some (operand.Named (head.Symbol (text_between_quotes (text_of source t))) [])
-quoted_operand source t (u ∷ rest) = operand_behind_block source (block.Quoted (text_between_quotes (text_of source t))) (u ∷ rest)
+quoted_operand source t [] =
+    Some (operand.Named (head.Symbol (text_between_quotes (text_of source t))) [])
+quoted_operand source t (u ∷ rest) =
+    operand_behind_block source (block.Quoted (text_between_quotes (text_of source t))) (u ∷ rest)
 
 -- an operand that begins with a mark: a pointer constant, or a bit by a register that has the area
 unfoldable pub mark_operand : List ℕ → Token → List Token → List Token → Option Operand
 mark_operand source t rest tokens =
-    if is_mark source t mark.Pointer then pointer_constant_operand source rest else operand_by_register source None width.Bit tokens
+    if is_mark source t mark.Pointer then pointer_constant_operand source rest
+    else operand_by_register source None width.Bit tokens
 
 -- a sign word that stands alone as an operand
 unfoldable pub sign_operand : List ℕ → Token → List Token → Option Operand
@@ -280,7 +318,8 @@ unfoldable pub local_path : List ℕ → Token → List Token → Option Operand
 local_path source t rest = path_of source (head.Local (drop 1 (text_of source t))) rest
 
 -- an operand that is no constant, by the kind of its first token
-unfoldable pub operand_by_kind : List ℕ → Token → List Token → List Token → TokenKind → Option Operand
+unfoldable pub operand_by_kind : List ℕ → Token → List Token → List Token → TokenKind
+    → Option Operand
 operand_by_kind source t rest tokens kind.Word = word_operand source t rest tokens
 operand_by_kind source t rest tokens kind.Quoted = quoted_operand source t rest
 operand_by_kind source t rest tokens kind.Local = local_path source t rest
@@ -292,4 +331,5 @@ operand_by_kind source t rest tokens _ = None
 unfoldable pub operand_of : List ℕ → List Token → Option Operand
 operand_of source [] = Some operand.Nothing
 operand_of source (t ∷ rest) =
-    option_or (option_map operand.Constant (literal_of source (t ∷ rest))) (operand_by_kind source t rest (t ∷ rest) t.kind)
+    option_or (option_map operand.Constant (literal_of source (t ∷ rest)))
+    (operand_by_kind source t rest (t ∷ rest) t.kind)

@@ -3,9 +3,10 @@ use Rattle.std.specs.Prelude.{ℕ, zero, suc, List, [], ◌∷◌, ◌++◌, Opt
 use Rattle.std.specs.Option.{option_map, option_or, option_and_then}
 use Rattle.stl_lexer.specs.declared.kinds.Token.{Token}
 
--- parts that follow one another, up to n of them, behind those that are `read`, until what is left can be read as
--- the end: all the parts, and the end
-unfoldable pub parts_from : {X Y : Type 0} → (List Token → Option Y) → (List Token → Option (X × List Token)) → List X → ℕ → List Token → Option (List X × Y)
+-- parts that follow one another, up to n of them, behind those that are `read`, until what is left
+-- can be read as the end: all the parts, and the end
+unfoldable pub parts_from : {X Y : Type 0} → (List Token → Option Y)
+    → (List Token → Option (X × List Token)) → List X → ℕ → List Token → Option (List X × Y)
 parts_from end part read zero tokens = option_map (λ y. (read, y)) (end tokens)
 parts_from end part read (suc n) tokens =
     option_or (option_map (λ y. (read, y)) (end tokens))

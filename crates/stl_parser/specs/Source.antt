@@ -17,8 +17,8 @@ use Rattle.stl_parser.specs.Frame.{next_place}
 abbrev pub ClauseStep : Type 0
 ClauseStep = Clause × List Token × ClausePlace
 
--- where the clauses behind one of the grammar stand, or the rule that it breaks: rule 11 where its kind
--- may not stand here, else rule 12 where a label is too long
+-- where the clauses behind one of the grammar stand, or the rule that it breaks: rule 11 where its
+-- kind may not stand here, else rule 12 where a label is too long
 abbrev pub place_or_rule : Bool → Option ClausePlace → Result ClausePlace ℕ
 place_or_rule long None = Err 11
 place_or_rule true (Some next) = Err 12
@@ -54,7 +54,7 @@ abbrev pub last_line : ℕ → List Token → ℕ
 last_line line [] = line
 last_line line (t ∷ ts) = last_line t.line ts
 
--- no block is open
+-- a place between blocks, where no block is open
 abbrev pub is_outside : ClausePlace → Bool
 is_outside place.Outside = true
 is_outside _ = false
@@ -64,7 +64,8 @@ is_outside _ = false
 -- last token
 abbrev pub BreaksClauseRule : List ℕ → ClausePlace → List Token → ℕ → ℕ → ℕ → Type 0
 BreaksClauseRule source p [] last line rule = (is_outside p ≡ false) × (line ≡ last) × (rule ≡ 13)
-BreaksClauseRule source p (t ∷ ts) last line rule = (line ≡ t.line) × (step_of source p (t ∷ ts) ≡ Err rule)
+BreaksClauseRule source p (t ∷ ts) last line rule =
+    (line ≡ t.line) × (step_of source p (t ∷ ts) ≡ Err rule)
 
 -- a refusal is right about the clause at the front of the tokens, at the place `p`: that clause
 -- breaks the rule of the refusal in its line; nothing is said of want of memory
@@ -83,7 +84,9 @@ pub record BreaksClauseRuleBehind (source : List ℕ) (p : ClausePlace) (tokens 
   pub at : ClausePlace
   -- the tokens from that clause on
   pub rest : List Token
+  -- the clauses in front are right and lead from the place `p` to that clause
   pub reads : ReadsClauses source p tokens before at rest
+  -- that clause breaks the rule in this line; without a token left, the open block breaks rule 13
   pub breaks : BreaksClauseRule source at rest last line rule
 
 -- a refusal is right about the tokens from the place `p` on: the first clause that breaks a rule
@@ -109,12 +112,15 @@ pub record ReadsKeptClauses (source : List ℕ) (p : ClausePlace) (tokens : List
     (kept : List Clause) (q : ClausePlace) (rest : List Token) : Type 0 where
   -- all the clauses, also those that no tree keeps
   pub clauses : List Clause
+  -- all the clauses are right and lead from the place `p` to the tokens `rest` at the place `q`
   pub reads : ReadsClauses source p tokens clauses q rest
+  -- the kept clauses are those of all the clauses that a tree keeps
   pub those : kept ≡ filter is_kept_by_tree clauses
 
 -- the clauses of the source are right, and `kept` are those of them that a tree keeps
 abbrev pub AreKeptClauses : List ℕ → List Token → List Clause → Type 0
-AreKeptClauses source tokens kept = ReadsKeptClauses source place.Outside tokens kept place.Outside []
+AreKeptClauses source tokens kept =
+    ReadsKeptClauses source place.Outside tokens kept place.Outside []
 
 -- the tree of a source: the clauses that it keeps are those that spell it
 abbrev pub IsTree : List ℕ → List Token → Tree → Type 0

@@ -49,14 +49,16 @@ unspelled_clauses = clause.EndSection ∷ []
 -- data type
 abbrev pub spelled_type : List Bounds → ElementType → List Declaration → List Clause
 spelled_type [] element.Structure components = clause.Structure ∷ map clause.Declares components
-spelled_type [] (element.Udt name) [] = if is_udt name then clause.Based name ∷ [] else unspelled_clauses
+spelled_type [] (element.Udt name) [] =
+    if is_udt name then clause.Based name ∷ [] else unspelled_clauses
 spelled_type _ _ _ = unspelled_clauses
 
 -- the shape of a data block or of a TYPE block with its components, or the function block of an
 -- instance; a quoted name is taken for that of a function block
 abbrev pub spelled_shape : Option TypeTree → Option BlockName → List Declaration → List Clause
 spelled_shape None None [] = []
-spelled_shape None (Some name) [] = if is_udt name then unspelled_clauses else clause.Based name ∷ []
+spelled_shape None (Some name) [] =
+    if is_udt name then unspelled_clauses else clause.Based name ∷ []
 spelled_shape (Some of_) None components = spelled_type of_.arrays of_.of components
 spelled_shape _ _ _ = unspelled_clauses
 

@@ -13,8 +13,8 @@ use Rattle.stl_ast.specs.declared.declarations.Simple.TheVariants as simple
 use Rattle.stl_ast.specs.declared.mnemonics.Mnemonic.{Mnemonic}
 use Rattle.stl_ast.specs.declared.mnemonics.Mnemonic.TheVariants as mnemonic
 use Rattle.stl_ast.specs.declared.operands.Letters.TheVariants as letters
-use Rattle.stl_parser.specs.declared.tables.Address.{Address}
-use Rattle.stl_parser.specs.declared.tables.Address.TheVariants as address
+use Rattle.stl_parser.specs.declared.tables.AddressKind.{AddressKind}
+use Rattle.stl_parser.specs.declared.tables.AddressKind.TheVariants as address
 use Rattle.stl_parser.specs.declared.tables.Keyword.{Keyword}
 use Rattle.stl_parser.specs.declared.tables.Keyword.TheVariants as keyword
 use Rattle.stl_parser.specs.declared.tables.HeadWord.{HeadWord}
@@ -89,7 +89,7 @@ simple_types =
 
 -- the letters of addresses: of an area, with the width that they mean, of timers, of counters, and
 -- of data blocks of the DB register and of the DI register
-unfoldable pub addresses : List (List ℕ × Address)
+unfoldable pub addresses : List (List ℕ × AddressKind)
 addresses =
     (codes "I", address.Area letters.I width.Bit)
     ∷ (codes "IB", address.Area letters.I width.Byte)

@@ -7,11 +7,11 @@ use Rattle.stl_lexer.specs.declared.kinds.TokenKind.TheVariants as kind
 use Rattle.stl_lexer.specs.Marks.{mark_text}
 use Rattle.stl_lexer.specs.Tokens.{text_of}
 use Rattle.stl_lexer.specs.declared.marks.Mark.{Mark}
-use Rattle.stl_parser.specs.declared.keywords.Key.{Key}
-use Rattle.stl_parser.specs.declared.keywords.Key.TheVariants as key
+use Rattle.stl_parser.specs.declared.keywords.ClauseWord.{ClauseWord}
+use Rattle.stl_parser.specs.declared.keywords.ClauseWord.TheVariants as key
 
 -- how a word of the language is written
-unfoldable pub key_text : Key → List ℕ
+unfoldable pub key_text : ClauseWord → List ℕ
 key_text key.True = codes "TRUE"
 key_text key.False = codes "FALSE"
 key_text key.Array = codes "ARRAY"
@@ -41,14 +41,15 @@ kind_rank kind.SignWord = 9
 kind_rank kind.Attribute = 10
 kind_rank kind.Title = 11
 
--- the token is of this kind
+-- a token is of this kind
 unfoldable pub has_kind : Token → TokenKind → Bool
 has_kind t k = nat_eq (kind_rank t.kind) (kind_rank k)
 
--- the token is this mark
+-- a token is this mark
 unfoldable pub is_mark : List ℕ → Token → Mark → Bool
-is_mark source t m = has_kind t kind.Mark && str_eq_ignore_ascii_case (text_of source t) (mark_text m)
+is_mark source t m =
+    has_kind t kind.Mark && str_eq_ignore_ascii_case (text_of source t) (mark_text m)
 
--- the token is this word of the language, without case
-unfoldable pub is_key : List ℕ → Token → Key → Bool
+-- a token is this word of the language, without case
+unfoldable pub is_key : List ℕ → Token → ClauseWord → Bool
 is_key source t k = has_kind t kind.Word && str_eq_ignore_ascii_case (text_of source t) (key_text k)

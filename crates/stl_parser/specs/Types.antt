@@ -15,7 +15,7 @@ use Rattle.stl_ast.specs.declared.literals.Literal.{Literal}
 use Rattle.stl_ast.specs.declared.names.BlockName.{BlockName}
 use Rattle.stl_ast.specs.declared.names.BlockName.TheVariants as block
 use Rattle.stl_lexer.specs.declared.marks.Mark.TheVariants as mark
-use Rattle.stl_parser.specs.declared.keywords.Key.TheVariants as key
+use Rattle.stl_parser.specs.declared.keywords.ClauseWord.TheVariants as key
 use Rattle.stl_parser.specs.Terminals.{has_kind, is_mark, is_key}
 use Rattle.stl_parser.specs.Tables.{look_up, simple_types}
 use Rattle.stl_parser.specs.Numbers.{number_of, int_at}
@@ -26,14 +26,16 @@ use Rattle.stl_parser.specs.Addresses.{block_at}
 -- `] OF` behind the bounds of an array
 unfoldable pub array_end : List ℕ → ℤ → ℤ → List Token → Option (Bounds × List Token)
 array_end source low high (close ∷ of_ ∷ rest) =
-    if is_mark source close mark.CloseBracket && is_key source of_ key.Of then Some (record { low = low; high = high }, rest) else None
+    if is_mark source close mark.CloseBracket && is_key source of_ key.Of
+    then Some (record { low = low; high = high }, rest) else None
 array_end source low high _ = None
 
 -- `.. high ] OF` behind the lower bound
 unfoldable pub array_high : List ℕ → ℤ → List Token → Option (Bounds × List Token)
 array_high source low [] = None
 array_high source low (dots ∷ rest) =
-    if is_mark source dots mark.DotDot then option_and_then (λ r. array_end source low r.0 r.1) (int_at source rest) else None
+    if is_mark source dots mark.DotDot
+    then option_and_then (λ r. array_end source low r.0 r.1) (int_at source rest) else None
 
 -- `ARRAY [ low .. high ] OF`, and what follows
 unfoldable pub array_at : List ℕ → List Token → Option (Bounds × List Token)
@@ -76,7 +78,9 @@ simple_at source t rest =
 
 -- a user-defined data type, and what follows
 unfoldable pub udt_at : List ℕ → List Token → Option (ElementType × List Token)
-udt_at source tokens = option_and_then (λ r. option_map (λ name. (element.Udt name, r.1)) (udt_of r.0)) (block_at source tokens)
+udt_at source tokens =
+    option_and_then (λ r. option_map (λ name. (element.Udt name, r.1)) (udt_of r.0))
+    (block_at source tokens)
 
 -- an element type other than a structure, and what follows
 unfoldable pub element_at : List ℕ → List Token → Option (ElementType × List Token)
@@ -87,27 +91,31 @@ element_at source (t ∷ rest) = option_or (simple_at source t rest) (udt_at sou
 unfoldable pub counted_init_end : List ℕ → ℕ → Literal → List Token → Option (Init × List Token)
 counted_init_end source count value [] = None
 counted_init_end source count value (t ∷ rest) =
-    if is_mark source t mark.CloseParen then Some (record { count = Some count; value = value }, rest) else None
+    if is_mark source t mark.CloseParen
+    then Some (record { count = Some count; value = value }, rest) else None
 
 -- `n (value)`, and what follows
 unfoldable pub counted_init_at : List ℕ → List Token → Option (Init × List Token)
 counted_init_at source (n ∷ open_ ∷ rest) =
     if is_mark source open_ mark.OpenParen
-    then option_and_then (λ count. option_and_then (λ r. counted_init_end source count r.0 r.1) (literal_at source rest)) (number_of source n)
+    then option_and_then
+    (λ count. option_and_then (λ r. counted_init_end source count r.0 r.1) (literal_at source rest))
+    (number_of source n)
     else None
 counted_init_at source _ = None
 
 -- an initial value, `n (value)` or a value, and what follows
 unfoldable pub init_at : List ℕ → List Token → Option (Init × List Token)
 init_at source tokens =
-    option_or (counted_init_at source tokens) (option_map (λ r. (record { count = None; value = r.0 }, r.1)) (literal_at source tokens))
+    option_or (counted_init_at source tokens)
+    (option_map (λ r. (record { count = None; value = r.0 }, r.1)) (literal_at source tokens))
 
 -- a further initial value, behind its comma
 unfoldable pub next_init : List ℕ → List Token → Option (Init × List Token)
 next_init source [] = None
 next_init source (t ∷ rest) = if is_mark source t mark.Comma then init_at source rest else None
 
--- nothing is left
+-- the end of a part: no token is left
 unfoldable pub end_of_tokens : List Token → Option (List Token)
 end_of_tokens [] = Some []
 end_of_tokens (t ∷ rest) = None
@@ -115,11 +123,15 @@ end_of_tokens (t ∷ rest) = None
 -- a list of initial values that is all of the tokens
 unfoldable pub init_list : List ℕ → List Token → Option (List Init)
 init_list source tokens =
-    option_and_then (λ r. complete_reading (parts_from end_of_tokens (next_init source) (r.0 ∷ []) (length r.1) r.1)) (init_at source tokens)
+    option_and_then
+    (λ r. complete_reading
+    (parts_from end_of_tokens (next_init source) (r.0 ∷ []) (length r.1) r.1))
+    (init_at source tokens)
 
 -- the one initial value that is all of the tokens
 unfoldable pub single_init : List ℕ → List Token → Option (List Init)
-single_init source tokens = option_map (λ value. record { count = None; value = value } ∷ []) (literal_of source tokens)
+single_init source tokens =
+    option_map (λ value. record { count = None; value = value } ∷ []) (literal_of source tokens)
 
 -- an array of elementary type has a list of initial values, and every other type one value
 unfoldable pub init_of : List ℕ → List Bounds → ElementType → List Token → Option (List Init)

@@ -10,7 +10,8 @@ use Rattle.stl_lexer.specs.TimeLiteral.{milliseconds, time_units}
 use Rattle.stl_ast.specs.declared.literals.Literal.{Literal}
 use Rattle.stl_ast.specs.declared.literals.Literal.TheVariants as literal
 
--- the value of the digits of a base behind the number n, `_` left out, where it is at most `greatest`
+-- the value of the digits of a base behind the number n, `_` left out, where it is at most
+-- `greatest`
 unfoldable pub value_from : ℕ → ℕ → ℕ → List ℕ → Option ℕ
 value_from greatest base n [] = Some n
 value_from greatest base n (b ∷ bs) =
@@ -41,18 +42,23 @@ long_value (b ∷ bs) =
 -- `C#` or `L#` and a number
 unfoldable pub long_or_count : List ℕ → Option Literal
 long_or_count text =
-    if first_letter text == letter_c then option_map literal.Count (decimal_up_to greatest_count (behind_prefix text))
+    if first_letter text == letter_c
+    then option_map literal.Count (decimal_up_to greatest_count (behind_prefix text))
     else option_map literal.Long (long_value (behind_prefix text))
 
 -- the milliseconds of `T#`, with a sign or none
 unfoldable pub time_value : List ℕ → Option ℤ
 time_value [] = None
 time_value (b ∷ bs) =
-    if b == minus_sign then option_map (λ n. pos 0 -ℤ pos n) (value_up_to (greatest_long true) (milliseconds time_units bs))
+    if b == minus_sign
+    then option_map (λ n. pos 0 -ℤ pos n)
+    (value_up_to (greatest_long true) (milliseconds time_units bs))
     else option_map pos (value_up_to (greatest_long false) (milliseconds time_units (b ∷ bs)))
 
 -- `S5T#` or `T#` and the parts of a time
 unfoldable pub duration_literal : List ℕ → Option Literal
 duration_literal text =
-    if first_letter text == letter_s then option_map literal.S5time (value_up_to greatest_s5time (milliseconds time_units (behind_prefix text)))
+    if first_letter text == letter_s
+    then option_map literal.S5time
+    (value_up_to greatest_s5time (milliseconds time_units (behind_prefix text)))
     else option_map literal.Time (time_value (behind_prefix text))

@@ -18,7 +18,7 @@ use crate::literals::unquoted;
 use crate::lookups::{address_of, look_up};
 use crate::numbers::{decimal, number};
 use crate::parsed::{Parsed, ParsedNumbered};
-use crate::tables::{ADDRESSES, Address, BLOCK_KINDS};
+use crate::tables::{ADDRESSES, AddressKind, BLOCK_KINDS};
 use plc_base::{BlockId, BlockKind, are_digits};
 use std::alloc::{AllocError, Global};
 use stl_ast::{BlockName, Name};
@@ -39,7 +39,8 @@ fn glued<'a, X: Copy + Drop>(
     text: &[u8],
     rest: &'a [Token],
 ) -> Option<ParsedNumbered<'a, X>>
-    ensures { result ≡ glued_letters_and_number (map (λ e. (e.0.now, e.1)) table.now) text.now rest.now }
+    ensures { result
+        ≡ glued_letters_and_number (map (λ e. (e.0.now, e.1)) table.now) text.now rest.now }
 {
     let count = letter_count(text);
     let (letters, digits) = text.split_at(count);
@@ -57,7 +58,8 @@ fn separate<'a, X: Copy + Drop>(
     tokens: &'a [Token],
 ) -> Option<ParsedNumbered<'a, X>>
     ensures { result
-        ≡ separate_letters_and_number (map (λ e. (e.0.now, e.1)) table.now) source.now text.now tokens.now }
+        ≡ separate_letters_and_number
+        (map (λ e. (e.0.now, e.1)) table.now) source.now text.now tokens.now }
 {
     let [token, rest @ ..] = tokens else {
         return None;
@@ -74,7 +76,8 @@ fn numbered<'a, X: Copy + Drop>(
     source: &[u8],
     tokens: &'a [Token],
 ) -> Option<ParsedNumbered<'a, X>>
-    ensures { result ≡ letters_and_number_at (map (λ e. (e.0.now, e.1)) table.now) source.now tokens.now }
+    ensures { result
+        ≡ letters_and_number_at (map (λ e. (e.0.now, e.1)) table.now) source.now tokens.now }
 {
     let [token, rest @ ..] = tokens else {
         return None;
@@ -91,7 +94,10 @@ fn numbered<'a, X: Copy + Drop>(
 
 /// An address, as `MW 2`, with what follows.
 #[tactic(auto, unfolding(crate::specs::Addresses::address_at, crate::specs::Tables::addresses))]
-pub(crate) fn address<'a>(source: &[u8], tokens: &'a [Token]) -> Option<ParsedNumbered<'a, Address>>
+pub(crate) fn address<'a>(
+    source: &[u8],
+    tokens: &'a [Token],
+) -> Option<ParsedNumbered<'a, AddressKind>>
     ensures { result ≡ address_at source.now tokens.now }
 {
     numbered(&ADDRESSES, source, tokens)

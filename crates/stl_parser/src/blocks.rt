@@ -57,7 +57,8 @@ fn is_inside(at: ClausePlace) -> bool
 
 /// Keeps a declaration, where the clause is one.
 fn keep_declaration(items: &mut Vec<Declaration>, clause: Clause) -> Result<(), AllocError>
-    ensures { IfOk result (λ _. items.new.items ≡ items.old.items ++ declarations_of_clause clause) }
+    ensures { IfOk result (λ _. items.new.items
+        ≡ items.old.items ++ declarations_of_clause clause) }
 {
     match clause {
         Clause::Declares { declaration } => {
@@ -70,7 +71,8 @@ fn keep_declaration(items: &mut Vec<Declaration>, clause: Clause) -> Result<(), 
 
 /// Keeps a setting, where the clause is one.
 fn keep_setting(settings: &mut Vec<Setting>, clause: Clause) -> Result<(), AllocError>
-    ensures { IfOk result (λ _. settings.new.items ≡ settings.old.items ++ settings_of_clause clause) }
+    ensures { IfOk result (λ _. settings.new.items
+        ≡ settings.old.items ++ settings_of_clause clause) }
 {
     match clause {
         Clause::Sets { setting } => {
@@ -228,7 +230,8 @@ fn sections<'a>(
 ) -> Result<(Sequence<Part>, Clause, &'a [Token]), SourceFault>
     requires few { length tokens.now ≤ source_limit }
     ensures read { IfOk result (λ r. ReadsKeptClauses source.now (place.Head kind) tokens.now
-        (flat_map spelled_part r.0 ++ filter is_kept_by_tree (r.1 ∷ [])) (opened_place kind r.1) r.2.now) }
+        (flat_map spelled_part r.0 ++ filter is_kept_by_tree (r.1 ∷ []))
+        (opened_place kind r.1) r.2.now) }
     ensures opens { IfOk result (λ r. opens_content r.1 ≡ true) }
     ensures few { IfOk result (λ r. length r.2.now ≤ source_limit) }
     ensures broken { IfErr result (IsBrokenBehind source.now (place.Head kind) tokens.now last) }
@@ -278,7 +281,7 @@ fn no_components(alloc: Global) -> Declarations
 
 /// The shape of a block with its components, or the function block of an instance.
 #[derive(Drop)]
-struct Shape {
+struct ParsedShape {
     shape: Option<TypeTree>,
     instance_of: Option<BlockName>,
     components: Declarations,
@@ -295,20 +298,20 @@ fn is_udt(name: &BlockName) -> bool
 }
 
 /// The shape that a name stands for: a data type, or else the function block of an instance.
-fn based(alloc: Global, name: BlockName) -> Shape
+fn based(alloc: Global, name: BlockName) -> ParsedShape
     ensures { spelled_shape result.shape result.instance_of result.components
         ≡ spelled.Based name ∷ [] }
 {
     let components = no_components(alloc);
     if is_udt(&name) {
         let shape = Some(single_type(alloc, ElementType::Udt { name }));
-        Shape {
+        ParsedShape {
             shape,
             instance_of: None,
             components,
         }
     } else {
-        Shape {
+        ParsedShape {
             shape: None,
             instance_of: Some(name),
             components,
@@ -325,12 +328,12 @@ enum Opened {
 }
 
 /// The shape that is a structure with these components.
-fn structured(alloc: Global, components: Declarations) -> Shape
+fn structured(alloc: Global, components: Declarations) -> ParsedShape
     ensures { spelled_shape result.shape result.instance_of result.components
         ≡ spelled.Structure ∷ map spelled.Declares components }
 {
     let shape = Some(single_type(alloc, ElementType::Structure));
-    Shape {
+    ParsedShape {
         shape,
         instance_of: None,
         components,
@@ -338,10 +341,10 @@ fn structured(alloc: Global, components: Declarations) -> Shape
 }
 
 /// The shape of a block that has a body.
-fn no_shape(alloc: Global) -> Shape
+fn no_shape(alloc: Global) -> ParsedShape
     ensures { spelled_shape result.shape result.instance_of result.components ≡ [] }
 {
-    Shape {
+    ParsedShape {
         shape: None,
         instance_of: None,
         components: no_components(alloc),
@@ -349,7 +352,7 @@ fn no_shape(alloc: Global) -> Shape
 }
 
 /// The shape of what was opened.
-fn shape_of(alloc: Global, opened: Opened) -> Shape
+fn shape_of(alloc: Global, opened: Opened) -> ParsedShape
     ensures { spelled_shape result.shape result.instance_of result.components
         ≡ spelled_opened opened }
 {
@@ -469,7 +472,7 @@ fn opened_content<'a>(
 
 /// The head of a block: what its first clause says.
 #[derive(Drop)]
-struct Head {
+struct HeadClause {
     line: u32,
     kind: BlockKind,
     name: BlockName,
@@ -477,7 +480,7 @@ struct Head {
 }
 
 /// The block with this head, these sections and this content.
-fn assembled(alloc: Global, head: Head, parts: Sequence<Part>, content: Content) -> Block
+fn assembled(alloc: Global, head: HeadClause, parts: Sequence<Part>, content: Content) -> Block
     ensures head { spelled_block result
         ≡ spelled.Head head.line head.kind head.name head.result ∷ spelled_behind_head result }
     ensures behind { spelled_behind_head result
@@ -504,7 +507,7 @@ fn block<'a>(
     alloc: Global,
     source: &[u8],
     last: u32,
-    head: Head,
+    head: HeadClause,
     tokens: &'a [Token],
 ) -> Result<(Block, &'a [Token]), SourceFault>
     requires few { length tokens.now ≤ source_limit }
@@ -546,7 +549,7 @@ pub(crate) fn source_blocks(
         else {
             unreachable!();
         };
-        let head = Head {
+        let head = HeadClause {
             line,
             kind,
             name,

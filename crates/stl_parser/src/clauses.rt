@@ -151,7 +151,7 @@ fn structure_end<'a>(source: &[u8], at: ClausePlace, tokens: &'a [Token]) -> Opt
     }
 }
 
-/// A clause that begins with a keyword, behind it.
+/// The clause that begins with a keyword, read from the tokens behind that keyword.
 #[tactic(auto, unfolding(crate::specs::Clauses::keyword_clause))]
 fn keyword_clause<'a>(
     alloc: Global,

@@ -11,7 +11,7 @@ ghost use Rattle.stl_parser.specs.Declarations.{
   declaration_of,
 };
 
-use crate::keywords::{Key, has_kind, is_key, is_mark};
+use crate::keywords::{ClauseWord, has_kind, is_key, is_mark};
 use crate::parsed::Parsed;
 use crate::types::{arrays, element, inits};
 use std::alloc::{AllocError, Global};
@@ -73,7 +73,7 @@ fn after_struct<'a>(source: &[u8], tokens: &'a [Token]) -> Option<&'a [Token]>
     let [token, rest @ ..] = tokens else {
         return None;
     };
-    if is_key(source, token, Key::Struct) {
+    if is_key(source, token, ClauseWord::Struct) {
         Some(rest)
     } else {
         None
@@ -90,7 +90,8 @@ fn declared(
     of: ElementType,
     init: Sequence<Init>,
 ) -> Result<Declaration, AllocError>
-    ensures { IfOk result (λ d. d ≡ declaration_from_parts source.now level word.now arrays of init) }
+    ensures { IfOk result (λ d. d
+        ≡ declaration_from_parts source.now level word.now arrays of init) }
 {
     let name = Name::new(alloc, word.text(source))?;
     Ok(Declaration {

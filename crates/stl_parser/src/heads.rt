@@ -20,7 +20,7 @@ ghost use Rattle.stl_parser.specs.Clauses.{
 use crate::addresses::block;
 use crate::clauses::{Clause, ReadClause};
 use crate::declarations::after_colon;
-use crate::keywords::{Key, has_kind, is_key, is_mark};
+use crate::keywords::{ClauseWord, has_kind, is_key, is_mark};
 use crate::lookups::simple_type_of;
 use crate::parsed::Parsed;
 use crate::places::{ClausePlace, in_head};
@@ -98,7 +98,7 @@ fn result_type<'a>(source: &[u8], tokens: &'a [Token]) -> Option<Parsed<'a, Opti
     let [token, rest @ ..] = tokens else {
         return None;
     };
-    if is_key(source, token, Key::Void) {
+    if is_key(source, token, ClauseWord::Void) {
         return Some(Parsed(None, rest));
     }
     let kind = simple_type_of(token.text(source))?;
@@ -202,7 +202,7 @@ fn behind_head_word<'a>(source: &[u8], word: HeadWord, tokens: &'a [Token]) -> O
     }
 }
 
-/// A clause that begins with a word of the head, behind it.
+/// The clause that begins with a word of the head, read from the tokens behind that word.
 #[tactic(auto, unfolding(crate::specs::Clauses::head_word_clause))]
 pub(crate) fn head_word_clause<'a>(
     source: &[u8],

@@ -5,7 +5,7 @@ use stl_lexer::{Mark, Token, TokenKind, mark_text};
 
 /// A word of the language that stands inside a clause.
 #[derive(Clone, Copy)]
-pub enum Key {
+pub enum ClauseWord {
     True,
     False,
     Array,
@@ -23,23 +23,23 @@ pub enum Key {
 
 /// How a word of the language is written.
 #[tactic(auto, unfolding(crate::specs::Terminals::key_text))]
-fn key_text(key: Key) -> &'static [u8]
+fn key_text(key: ClauseWord) -> &'static [u8]
     ensures { result.now ≡ key_text key }
 {
     match key {
-        Key::True => b"TRUE",
-        Key::False => b"FALSE",
-        Key::Array => b"ARRAY",
-        Key::Of => b"OF",
-        Key::Struct => b"STRUCT",
-        Key::Void => b"VOID",
-        Key::DateAndTime => b"DATE_AND_TIME",
-        Key::Ar1 => b"AR1",
-        Key::Ar2 => b"AR2",
-        Key::B => b"B",
-        Key::W => b"W",
-        Key::D => b"D",
-        Key::Mcr => b"MCR",
+        ClauseWord::True => b"TRUE",
+        ClauseWord::False => b"FALSE",
+        ClauseWord::Array => b"ARRAY",
+        ClauseWord::Of => b"OF",
+        ClauseWord::Struct => b"STRUCT",
+        ClauseWord::Void => b"VOID",
+        ClauseWord::DateAndTime => b"DATE_AND_TIME",
+        ClauseWord::Ar1 => b"AR1",
+        ClauseWord::Ar2 => b"AR2",
+        ClauseWord::B => b"B",
+        ClauseWord::W => b"W",
+        ClauseWord::D => b"D",
+        ClauseWord::Mcr => b"MCR",
     }
 }
 
@@ -61,7 +61,7 @@ pub(crate) fn is_mark(source: &[u8], token: &Token, mark: Mark) -> bool
 
 /// Whether the token is this word, without case.
 #[tactic(auto, unfolding(crate::specs::Terminals::is_key))]
-pub(crate) fn is_key(source: &[u8], token: &Token, key: Key) -> bool
+pub(crate) fn is_key(source: &[u8], token: &Token, key: ClauseWord) -> bool
     ensures { result ≡ is_key source.now token.now key }
 {
     has_kind(token, TokenKind::Word) && token.text(source).eq_ignore_ascii_case(key_text(key))

@@ -1,5 +1,5 @@
-//! The parser of STL sources: `parse` reads the tokens of a source into its tree, or names the first
-//! clause that breaks a rule of the grammar.
+//! The parser of STL sources: `parse` reads the tokens of a source into its tree, or names the
+//! first clause that breaks a rule of the grammar.
 #![tactic(auto)]
 
 mod addresses;

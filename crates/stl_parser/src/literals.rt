@@ -14,7 +14,7 @@ ghost use Rattle.stl_parser.specs.Literals.{
   literal_of,
 };
 
-use crate::keywords::{Key, is_key, is_mark};
+use crate::keywords::{ClauseWord, is_key, is_mark};
 use crate::numbers::{number, signed};
 use crate::parsed::Parsed;
 use crate::values::{based, duration, long_or_count};
@@ -60,9 +60,9 @@ fn characters(bytes: &[u8]) -> Option<Characters>
 fn truth(source: &[u8], token: &Token) -> Option<Literal>
     ensures { result ≡ truth_of source.now token.now }
 {
-    if is_key(source, token, Key::True) {
+    if is_key(source, token, ClauseWord::True) {
         Some(Literal::Truth { value: true })
-    } else if is_key(source, token, Key::False) {
+    } else if is_key(source, token, ClauseWord::False) {
         Some(Literal::Truth { value: false })
     } else {
         None

@@ -14,7 +14,7 @@ ghost use Rattle.stl_parser.specs.Tables.{
 };
 
 use crate::tables::{
-    ADDRESSES, Address, FLAGS, HEAD_WORDS, HeadWord, KEYWORDS, Keyword, MNEMONICS,
+    ADDRESSES, AddressKind, FLAGS, HEAD_WORDS, HeadWord, KEYWORDS, Keyword, MNEMONICS,
     OPENING_MNEMONICS, OperandSyntax, REGISTERS, SIMPLE_TYPES,
 };
 use plc_base::Flag;
@@ -43,7 +43,7 @@ fn entry_of<X: Copy + Drop>(table: &[(&[u8], X)], word: &[u8]) -> Option<X>
         .map(|entry| entry.1)
 }
 
-/// The same, where the table is seen with its texts as bytes.
+/// What stands beside a word in a table, whose texts a contract sees as bytes.
 pub(crate) fn look_up<X: Copy + Drop>(table: &[(&[u8], X)], word: &[u8]) -> Option<X>
     ensures { result ≡ look_up (map (λ e. (e.0.now, e.1)) table.now) word.now }
 {
@@ -76,7 +76,7 @@ pub(crate) fn simple_type_of(word: &[u8]) -> Option<Simple>
 
 /// What these letters of an address name.
 #[tactic(auto, unfolding(crate::specs::Tables::addresses))]
-pub(crate) fn address_of(word: &[u8]) -> Option<Address>
+pub(crate) fn address_of(word: &[u8]) -> Option<AddressKind>
     ensures { result ≡ look_up addresses word.now }
 {
     look_up(&ADDRESSES, word)

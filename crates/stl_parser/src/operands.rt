@@ -29,14 +29,14 @@ ghost use Rattle.stl_parser.specs.Operands.{
 ghost use Rattle.stl_lexer.specs.Tokens.{text_of};
 
 use crate::addresses::{address, bit, is_address_word};
-use crate::keywords::{Key, has_kind, is_key, is_mark};
+use crate::keywords::{ClauseWord, has_kind, is_key, is_mark};
 use crate::literals::{literal, unquoted};
 use crate::lookups::{address_of, flag_of, register_of};
 use crate::numbers::number;
 use crate::parsed::ParsedNumbered;
 use crate::paths::{all_steps, path};
 use crate::pointers::{by_register, indirect, pointer};
-use crate::tables::Address;
+use crate::tables::AddressKind;
 use plc_base::{BlockId, BlockKind, Width};
 use std::alloc::{AllocError, Global};
 use stl_ast::{BlockName, Letters, Name, Numbered, Operand, PathHead, PathStep, Sequence};
@@ -73,11 +73,11 @@ fn area(source: &[u8], area: Letters, width: Width, byte: u16, rest: &[Token]) -
 
 /// Width, byte and bit of an address of a data block, as `DBW 2`.
 #[tactic(auto, unfolding(crate::specs::Operands::place_of_data_address))]
-fn place(source: &[u8], address: Address, byte: u16, rest: &[Token]) -> Option<(Width, u16, u8)>
+fn place(source: &[u8], address: AddressKind, byte: u16, rest: &[Token]) -> Option<(Width, u16, u8)>
     ensures { result ≡ place_of_data_address source.now address byte rest.now }
 {
     match address {
-        Address::Area {
+        AddressKind::Area {
             letters: Letters::Db,
             width,
         } => {
@@ -88,7 +88,7 @@ fn place(source: &[u8], address: Address, byte: u16, rest: &[Token]) -> Option<(
     }
 }
 
-/// The same, behind the block and the `.`.
+/// Width, byte and bit of the address behind a data block and its `.`, as in `DB1.DBW 2`.
 #[tactic(auto, unfolding(crate::specs::Operands::block_place))]
 fn block_place(source: &[u8], tokens: &[Token]) -> Option<(Width, u16, u8)>
     ensures { result ≡ block_place source.now tokens.now }
@@ -204,24 +204,25 @@ fn data_block(
 fn direct(
     alloc: Global,
     source: &[u8],
-    address: Address,
+    address: AddressKind,
     number: u16,
     rest: &[Token],
 ) -> Result<Option<Operand>, AllocError>
-    ensures { IfOk result (λ found. found ≡ direct_address_operand source.now address number rest.now) }
+    ensures { IfOk result (λ found. found
+        ≡ direct_address_operand source.now address number rest.now) }
 {
     match address {
-        Address::Area { letters, width } => Ok(area(source, letters, width, number, rest)),
-        Address::Timer => match rest {
+        AddressKind::Area { letters, width } => Ok(area(source, letters, width, number, rest)),
+        AddressKind::Timer => match rest {
             [] => Ok(Some(Operand::Timer { number })),
             [_, ..] => Ok(None),
         },
-        Address::Counter => match rest {
+        AddressKind::Counter => match rest {
             [] => Ok(Some(Operand::Counter { number })),
             [_, ..] => Ok(None),
         },
-        Address::Block { di: false } => data_block(alloc, source, number, rest),
-        Address::Block { di: true } => match rest {
+        AddressKind::Block { di: false } => data_block(alloc, source, number, rest),
+        AddressKind::Block { di: true } => match rest {
             [] => {
                 let name = data_block_name(number);
                 Ok(Some(Operand::OpenBlock { di: true, name }))
@@ -282,8 +283,8 @@ fn is_operand_word(source: &[u8], token: &Token) -> bool
     is_address_word(word)
         || flag_of(word).is_some()
         || register_of(word).is_some()
-        || is_key(source, token, Key::True)
-        || is_key(source, token, Key::False)
+        || is_key(source, token, ClauseWord::True)
+        || is_key(source, token, ClauseWord::False)
 }
 
 /// A path that begins with a word.
@@ -308,11 +309,11 @@ fn plain_path(
 fn sized_by_register(source: &[u8], token: &Token, rest: &[Token]) -> Option<Operand>
     ensures { result ≡ sized_by_register source.now token.now rest.now }
 {
-    if is_key(source, token, Key::B) {
+    if is_key(source, token, ClauseWord::B) {
         by_register(source, None, Width::Byte, rest)
-    } else if is_key(source, token, Key::W) {
+    } else if is_key(source, token, ClauseWord::W) {
         by_register(source, None, Width::Word, rest)
-    } else if is_key(source, token, Key::D) {
+    } else if is_key(source, token, ClauseWord::D) {
         by_register(source, None, Width::Dword, rest)
     } else {
         None

@@ -112,7 +112,7 @@ fn next_actual<'a>(
     }
 }
 
-/// The last token is `)`; nothing stands behind it.
+/// The end of actual parameters: `)` as the last token.
 #[tactic(auto, unfolding(crate::specs::Statements::actuals_end))]
 fn actuals_end<'a>(source: &[u8], tokens: &'a [Token]) -> Option<&'a [Token]>
     ensures { option_map (λ r. r.now) result ≡ actuals_end source.now tokens.now }

@@ -127,7 +127,8 @@ pub(crate) fn all_steps(
     first: Vec<PathStep>,
     tokens: &[Token],
 ) -> Result<Option<Sequence<PathStep>>, AllocError>
-    ensures { IfOk result (λ found. found ≡ complete_reading (steps_from source.now first.items tokens.now)) }
+    ensures { IfOk result (λ found. found
+        ≡ complete_reading (steps_from source.now first.items tokens.now)) }
 {
     match steps(alloc, source, first, tokens)? {
         Some(Parsed(steps, [])) => Ok(Some(steps)),

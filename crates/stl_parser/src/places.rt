@@ -36,7 +36,7 @@ pub enum ClausePlace {
         kind: BlockKind,
         level: u32,
     },
-    /// Behind it.
+    /// Behind that structure, or behind the name of the block that a data block is like.
     Shaped {
         kind: BlockKind,
     },

@@ -19,10 +19,10 @@ ghost use Rattle.stl_parser.specs.Operands.{
 };
 
 use crate::addresses::{address, bit};
-use crate::keywords::{Key, has_kind, is_key, is_mark};
+use crate::keywords::{ClauseWord, has_kind, is_key, is_mark};
 use crate::numbers::number;
 use crate::parsed::ParsedNumbered;
-use crate::tables::Address;
+use crate::tables::AddressKind;
 use plc_base::Width;
 use stl_ast::{Letters, Numbered, Operand};
 use stl_lexer::{Mark, Token, TokenKind};
@@ -32,9 +32,9 @@ use stl_lexer::{Mark, Token, TokenKind};
 fn register_number(source: &[u8], token: &Token) -> Option<u8>
     ensures { result ≡ register_number source.now token.now }
 {
-    if is_key(source, token, Key::Ar1) {
+    if is_key(source, token, ClauseWord::Ar1) {
         Some(1)
-    } else if is_key(source, token, Key::Ar2) {
+    } else if is_key(source, token, ClauseWord::Ar2) {
         Some(2)
     } else {
         None
@@ -121,19 +121,20 @@ fn pointer_close(
     }
 }
 
-/// The same behind an address, which must have the width of a number or of a pointer.
+/// The area and the byte of a pointer in memory whose address was read, up to its `]`: the address
+/// must have the width of a number or of a pointer.
 #[tactic(auto, unfolding(crate::specs::Operands::pointer_end))]
 fn pointer_end(
     source: &[u8],
     pointer: bool,
-    address: Address,
+    address: AddressKind,
     byte: u16,
     tokens: &[Token],
 ) -> Option<(Letters, u16)>
     ensures { result ≡ pointer_end source.now pointer address byte tokens.now }
 {
     match address {
-        Address::Area {
+        AddressKind::Area {
             letters,
             width: Width::Dword,
         } => {
@@ -143,7 +144,7 @@ fn pointer_end(
                 None
             }
         }
-        Address::Area {
+        AddressKind::Area {
             letters,
             width: Width::Word,
         } => {
@@ -199,25 +200,25 @@ fn area_by(source: &[u8], area: Letters, width: Width, tokens: &[Token]) -> Opti
 
 /// An operand that is letters and a pointer in brackets.
 #[tactic(auto, unfolding(crate::specs::Operands::indirect_operand))]
-pub(crate) fn indirect(source: &[u8], address: Address, tokens: &[Token]) -> Option<Operand>
+pub(crate) fn indirect(source: &[u8], address: AddressKind, tokens: &[Token]) -> Option<Operand>
     ensures { result ≡ indirect_operand source.now address tokens.now }
 {
     match address {
-        Address::Area { letters, width } => area_by(source, letters, width, tokens),
-        Address::Timer => number_by(source, Numbered::Timer, tokens),
-        Address::Counter => number_by(source, Numbered::Counter, tokens),
-        Address::Block { di: false } => number_by(source, Numbered::Db, tokens),
-        Address::Block { di: true } => number_by(source, Numbered::Di, tokens),
+        AddressKind::Area { letters, width } => area_by(source, letters, width, tokens),
+        AddressKind::Timer => number_by(source, Numbered::Timer, tokens),
+        AddressKind::Counter => number_by(source, Numbered::Counter, tokens),
+        AddressKind::Block { di: false } => number_by(source, Numbered::Db, tokens),
+        AddressKind::Block { di: true } => number_by(source, Numbered::Di, tokens),
     }
 }
 
 /// A pointer constant with an area, behind `P#`.
 #[tactic(auto, unfolding(crate::specs::Operands::area_pointer))]
-fn area_pointer(source: &[u8], address: Address, byte: u16, rest: &[Token]) -> Option<Operand>
+fn area_pointer(source: &[u8], address: AddressKind, byte: u16, rest: &[Token]) -> Option<Operand>
     ensures { result ≡ area_pointer source.now address byte rest.now }
 {
     match address {
-        Address::Area {
+        AddressKind::Area {
             letters,
             width: Width::Bit,
         } => {
@@ -255,7 +256,7 @@ fn address_pointer(source: &[u8], tokens: &[Token]) -> Option<Operand>
     area_pointer(source, address, byte, rest)
 }
 
-/// A pointer constant, behind `P#`.
+/// The pointer constant that stands behind `P#`.
 #[tactic(auto, unfolding(crate::specs::Operands::pointer_constant_operand))]
 pub(crate) fn pointer(source: &[u8], tokens: &[Token]) -> Option<Operand>
     ensures { result ≡ pointer_constant_operand source.now tokens.now }

@@ -25,7 +25,7 @@ ghost use Rattle.stl_parser.specs.Statements.{
 };
 
 use crate::addresses::block;
-use crate::keywords::{Key, has_kind, is_key, is_mark};
+use crate::keywords::{ClauseWord, has_kind, is_key, is_mark};
 use crate::literals::unquoted;
 use crate::lookups::{mnemonic_of, opening_mnemonic_of};
 use crate::operands::operand;
@@ -311,9 +311,8 @@ fn zone_end(
 {
     match rest {
         [word, behind @ ..]
-            if is_mark(source, token, Mark::CloseParen) && is_key(source, word, Key::Mcr) => {
-            with_operand(alloc, source, Mnemonic::McrClose, behind)
-        }
+            if is_mark(source, token, Mark::CloseParen) && is_key(source, word, ClauseWord::Mcr) =>
+            { with_operand(alloc, source, Mnemonic::McrClose, behind) }
         _ => Ok(None),
     }
 }
@@ -383,7 +382,8 @@ fn labelled(
     word: &Token,
     tokens: &[Token],
 ) -> Result<Option<(Statement, bool)>, AllocError>
-    ensures { IfOk result (λ found. found ≡ labelled_statement source.now line word.now tokens.now) }
+    ensures { IfOk result (λ found. found
+        ≡ labelled_statement source.now line word.now tokens.now) }
 {
     let Some(instruction) = whole_instruction(alloc, source, tokens)? else {
         return Ok(None);

@@ -3,7 +3,7 @@ use stl_ast::{Letters, Mnemonic, PartKind, Simple};
 
 /// What the letters of an address name.
 #[derive(Clone, Copy)]
-pub enum Address {
+pub enum AddressKind {
     Area { letters: Letters, width: Width },
     Timer,
     Counter,
@@ -176,221 +176,221 @@ pub static SIMPLE_TYPES: [(&[u8], Simple); 9] = [
 ];
 
 /// The letters of addresses.
-pub static ADDRESSES: [(&[u8], Address); 34] = [
+pub static ADDRESSES: [(&[u8], AddressKind); 34] = [
     (
         b"I",
-        Address::Area {
+        AddressKind::Area {
             letters: Letters::I,
             width: Width::Bit,
         },
     ),
     (
         b"IB",
-        Address::Area {
+        AddressKind::Area {
             letters: Letters::I,
             width: Width::Byte,
         },
     ),
     (
         b"IW",
-        Address::Area {
+        AddressKind::Area {
             letters: Letters::I,
             width: Width::Word,
         },
     ),
     (
         b"ID",
-        Address::Area {
+        AddressKind::Area {
             letters: Letters::I,
             width: Width::Dword,
         },
     ),
     (
         b"Q",
-        Address::Area {
+        AddressKind::Area {
             letters: Letters::Q,
             width: Width::Bit,
         },
     ),
     (
         b"QB",
-        Address::Area {
+        AddressKind::Area {
             letters: Letters::Q,
             width: Width::Byte,
         },
     ),
     (
         b"QW",
-        Address::Area {
+        AddressKind::Area {
             letters: Letters::Q,
             width: Width::Word,
         },
     ),
     (
         b"QD",
-        Address::Area {
+        AddressKind::Area {
             letters: Letters::Q,
             width: Width::Dword,
         },
     ),
     (
         b"M",
-        Address::Area {
+        AddressKind::Area {
             letters: Letters::M,
             width: Width::Bit,
         },
     ),
     (
         b"MB",
-        Address::Area {
+        AddressKind::Area {
             letters: Letters::M,
             width: Width::Byte,
         },
     ),
     (
         b"MW",
-        Address::Area {
+        AddressKind::Area {
             letters: Letters::M,
             width: Width::Word,
         },
     ),
     (
         b"MD",
-        Address::Area {
+        AddressKind::Area {
             letters: Letters::M,
             width: Width::Dword,
         },
     ),
     (
         b"L",
-        Address::Area {
+        AddressKind::Area {
             letters: Letters::L,
             width: Width::Bit,
         },
     ),
     (
         b"LB",
-        Address::Area {
+        AddressKind::Area {
             letters: Letters::L,
             width: Width::Byte,
         },
     ),
     (
         b"LW",
-        Address::Area {
+        AddressKind::Area {
             letters: Letters::L,
             width: Width::Word,
         },
     ),
     (
         b"LD",
-        Address::Area {
+        AddressKind::Area {
             letters: Letters::L,
             width: Width::Dword,
         },
     ),
     (
         b"DBX",
-        Address::Area {
+        AddressKind::Area {
             letters: Letters::Db,
             width: Width::Bit,
         },
     ),
     (
         b"DBB",
-        Address::Area {
+        AddressKind::Area {
             letters: Letters::Db,
             width: Width::Byte,
         },
     ),
     (
         b"DBW",
-        Address::Area {
+        AddressKind::Area {
             letters: Letters::Db,
             width: Width::Word,
         },
     ),
     (
         b"DBD",
-        Address::Area {
+        AddressKind::Area {
             letters: Letters::Db,
             width: Width::Dword,
         },
     ),
     (
         b"DIX",
-        Address::Area {
+        AddressKind::Area {
             letters: Letters::Di,
             width: Width::Bit,
         },
     ),
     (
         b"DIB",
-        Address::Area {
+        AddressKind::Area {
             letters: Letters::Di,
             width: Width::Byte,
         },
     ),
     (
         b"DIW",
-        Address::Area {
+        AddressKind::Area {
             letters: Letters::Di,
             width: Width::Word,
         },
     ),
     (
         b"DID",
-        Address::Area {
+        AddressKind::Area {
             letters: Letters::Di,
             width: Width::Dword,
         },
     ),
     (
         b"PIB",
-        Address::Area {
+        AddressKind::Area {
             letters: Letters::Pi,
             width: Width::Byte,
         },
     ),
     (
         b"PIW",
-        Address::Area {
+        AddressKind::Area {
             letters: Letters::Pi,
             width: Width::Word,
         },
     ),
     (
         b"PID",
-        Address::Area {
+        AddressKind::Area {
             letters: Letters::Pi,
             width: Width::Dword,
         },
     ),
     (
         b"PQB",
-        Address::Area {
+        AddressKind::Area {
             letters: Letters::Pq,
             width: Width::Byte,
         },
     ),
     (
         b"PQW",
-        Address::Area {
+        AddressKind::Area {
             letters: Letters::Pq,
             width: Width::Word,
         },
     ),
     (
         b"PQD",
-        Address::Area {
+        AddressKind::Area {
             letters: Letters::Pq,
             width: Width::Dword,
         },
     ),
-    (b"T", Address::Timer),
-    (b"C", Address::Counter),
-    (b"DB", Address::Block { di: false }),
-    (b"DI", Address::Block { di: true }),
+    (b"T", AddressKind::Timer),
+    (b"C", AddressKind::Counter),
+    (b"DB", AddressKind::Block { di: false }),
+    (b"DI", AddressKind::Block { di: true }),
 ];
 
 /// The instruction words, with the marks and sign words that are instructions, and what may stand

@@ -24,7 +24,7 @@ ghost use Rattle.stl_parser.specs.Types.{
 };
 
 use crate::addresses::block;
-use crate::keywords::{Key, has_kind, is_key, is_mark};
+use crate::keywords::{ClauseWord, has_kind, is_key, is_mark};
 use crate::literals::{literal, literal_at};
 use crate::lookups::simple_type_of;
 use crate::numbers::{int, number};
@@ -47,7 +47,7 @@ fn array_end<'a>(
     let [close, of, rest @ ..] = tokens else {
         return None;
     };
-    if is_mark(source, close, Mark::CloseBracket) && is_key(source, of, Key::Of) {
+    if is_mark(source, close, Mark::CloseBracket) && is_key(source, of, ClauseWord::Of) {
         Some(Parsed(Bounds { low, high }, rest))
     } else {
         None
@@ -96,7 +96,7 @@ fn array<'a>(source: &[u8], tokens: &'a [Token]) -> Option<Parsed<'a, Bounds>>
     let [array, open, rest @ ..] = tokens else {
         return None;
     };
-    if is_key(source, array, Key::Array) && is_mark(source, open, Mark::OpenBracket) {
+    if is_key(source, array, ClauseWord::Array) && is_mark(source, open, Mark::OpenBracket) {
         array_bounds(source, rest)
     } else {
         None
@@ -163,7 +163,7 @@ fn simple<'a>(source: &[u8], token: &Token, rest: &'a [Token]) -> Option<Parsed<
     if !has_kind(token, TokenKind::Word) {
         return None;
     }
-    if is_key(source, token, Key::DateAndTime) {
+    if is_key(source, token, ClauseWord::DateAndTime) {
         return Some(Parsed(ElementType::DateAndTime, rest));
     }
     let kind = simple_type_of(token.text(source))?;
@@ -291,7 +291,8 @@ fn further_inits<'a>(
     tokens: &'a [Token],
 ) -> Result<Option<Parsed<'a, Sequence<Init>>>, AllocError>
     ensures { IfOk result (λ found. found
-        ≡ parts_from end_of_tokens (next_init source.now) first.items (length tokens.now) tokens.now) }
+        ≡ parts_from end_of_tokens (next_init source.now) first.items
+        (length tokens.now) tokens.now) }
 {
     let mut read = first;
     let mut rest = tokens;

@@ -18,19 +18,22 @@ use Rattle.stl_print.specs.declared.gaps.Gap.TheVariants as gap
 
 -- the type of a function's return value, behind the name; nothing for other blocks
 unfoldable pub result_pieces : BlockKind → Option Simple → List Piece
-result_pieces kinds.Fc result = mark_piece gap.Blank mark_of.Colon ∷ word_piece gap.Blank (result_word result) ∷ []
+result_pieces kinds.Fc result =
+    mark_piece gap.Blank mark_of.Colon ∷ word_piece gap.Blank (result_word result) ∷ []
 result_pieces _ result = []
 
 -- a clause; attributes, titles and what a head notes are in no tree
 unfoldable pub clause_pieces : Gap → Clause → List Piece
-clause_pieces g (clause.Head line k name result) = word_piece g (head_word k) ∷ (block_name_pieces gap.Blank name ++ result_pieces k result)
+clause_pieces g (clause.Head line k name result) =
+    word_piece g (head_word k) ∷ (block_name_pieces gap.Blank name ++ result_pieces k result)
 clause_pieces g (clause.Ends line k) = word_piece g (end_word k) ∷ []
 clause_pieces g (clause.Section line p) = word_piece g (section_word p) ∷ []
 clause_pieces g clause.EndSection = word_piece g (codes "END_VAR") ∷ []
 clause_pieces g clause.Begins = word_piece g (codes "BEGIN") ∷ []
 clause_pieces g clause.Network = word_piece g (codes "NETWORK") ∷ []
 clause_pieces g clause.Structure = word_piece g (codes "STRUCT") ∷ []
-clause_pieces g clause.EndStructure = word_piece g (codes "END_STRUCT") ∷ mark_piece gap.Nothing mark_of.Semicolon ∷ []
+clause_pieces g clause.EndStructure =
+    word_piece g (codes "END_STRUCT") ∷ mark_piece gap.Nothing mark_of.Semicolon ∷ []
 clause_pieces g (clause.Based name) = block_name_pieces g name
 clause_pieces g clause.Note = []
 clause_pieces g clause.Title = []
@@ -38,7 +41,8 @@ clause_pieces g (clause.Declares d) = declaration_pieces g d
 clause_pieces g (clause.Sets s) = setting_pieces g s
 clause_pieces g (clause.Runs s) = statement_pieces g s
 
--- the line on which a clause is to stand; 0 for one that stands on the line that is reached, since a tree has no line of it
+-- the line on which a clause is to stand; 0 for one that stands on the line that is reached, since
+-- a tree has no line of it
 unfoldable pub line_of : Clause → ℕ
 line_of (clause.Head line k name result) = line
 line_of (clause.Ends line k) = line
@@ -52,11 +56,13 @@ line_of _ = 0
 abbrev pub pieces_from : (reached : ℕ) → List Clause → List Piece
 pieces_from reached [] = []
 pieces_from reached (c ∷ cs) =
-    clause_pieces (clause_gap reached (line_of c)) c ++ pieces_from (line_behind reached (line_of c)) cs
+    clause_pieces (clause_gap reached (line_of c)) c
+    ++ pieces_from (line_behind reached (line_of c)) cs
 
 -- a text and the line that it has reached, with a clause behind it
 unfoldable pub with_clause : (ℕ × List ℕ) → Clause → (ℕ × List ℕ)
-with_clause t c = (line_behind t.0 (line_of c), with_pieces t.1 (clause_pieces (clause_gap t.0 (line_of c)) c))
+with_clause t c =
+    (line_behind t.0 (line_of c), with_pieces t.1 (clause_pieces (clause_gap t.0 (line_of c)) c))
 
 -- a text and the line that it has reached, with clauses behind it
 abbrev pub with_clauses : (ℕ × List ℕ) → List Clause → (ℕ × List ℕ)

@@ -10,8 +10,9 @@ gap_text gap.Nothing = []
 gap_text gap.Blank = blank ∷ []
 gap_text (gap.LineEnds count) = replicate count newline
 
--- the gap before a clause, where the text has reached a line, or 0 where nothing is printed yet: ends of lines up to the
--- clause's own line, or one blank where the text has reached it or is past it
+-- the gap before a clause, where the text has reached a line, or 0 where nothing is printed yet:
+-- ends of lines up to the clause's own line, or one blank where the text has reached it or is past
+-- it
 unfoldable pub clause_gap : (reached line : ℕ) → Gap
 clause_gap reached line =
     if reached == 0 then gap.LineEnds (line - 1)

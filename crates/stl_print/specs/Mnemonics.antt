@@ -42,7 +42,8 @@ zone_end_spelling = two kind.Mark (mark_text mark_of.CloseParen) kind.Word (code
 -- the tokens of an instruction word, the first behind a gap
 abbrev pub spelling_pieces : Gap → Spelling → List Piece
 spelling_pieces g (one k text) = token_piece g k text ∷ []
-spelling_pieces g (two k text j behind) = token_piece g k text ∷ token_piece gap.Nothing j behind ∷ []
+spelling_pieces g (two k text j behind) =
+    token_piece g k text ∷ token_piece gap.Nothing j behind ∷ []
 
 -- the bytes of an instruction word, with nothing between its tokens
 abbrev pub spelling_text : Spelling → List ℕ

@@ -14,16 +14,20 @@ use Rattle.stl_print.specs.declared.gaps.Gap.TheVariants as gap
 
 -- a block by kind and number, `DB 10`, or by its name in quotes
 unfoldable pub block_name_pieces : Gap → BlockName → List Piece
-block_name_pieces g (block.Number id) = word_piece g (block_letters id.kind) ∷ number_piece gap.Blank id.number ∷ []
+block_name_pieces g (block.Number id) =
+    word_piece g (block_letters id.kind) ∷ number_piece gap.Blank id.number ∷ []
 block_name_pieces g (block.Quoted name) = quoted_piece g name ∷ []
 
 -- the index of an element, `[2]`
 abbrev pub index_pieces : Gap → ℤ → List Piece
-index_pieces g at = mark_piece g mark_of.OpenBracket ∷ (signed_number_pieces gap.Nothing at ++ mark_piece gap.Nothing mark_of.CloseBracket ∷ [])
+index_pieces g at =
+    mark_piece g mark_of.OpenBracket
+    ∷ (signed_number_pieces gap.Nothing at ++ mark_piece gap.Nothing mark_of.CloseBracket ∷ [])
 
 -- a step of a path, `.speed` or `[2]`
 unfoldable pub step_pieces : PathStep → List Piece
-step_pieces (step.Named name) = mark_piece gap.Nothing mark_of.Dot ∷ word_piece gap.Nothing name ∷ []
+step_pieces (step.Named name) =
+    mark_piece gap.Nothing mark_of.Dot ∷ word_piece gap.Nothing name ∷ []
 step_pieces (step.Index at) = index_pieces gap.Nothing at
 
 -- the steps of a path, with nothing between them

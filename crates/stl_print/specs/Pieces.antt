@@ -19,28 +19,29 @@ with_piece text p = (text ++ p.gap) ++ p.text
 abbrev pub with_pieces : List ℕ → List Piece → List ℕ
 with_pieces text ps = fold with_piece text ps
 
--- a token behind a gap
+-- the piece that is a token behind a gap
 abbrev pub token_piece : Gap → TokenKind → List ℕ → Piece
 token_piece g k text = record { gap = gap_text g; kind = k; text = text }
 
--- a word
+-- the piece that is a word
 abbrev pub word_piece : Gap → List ℕ → Piece
 word_piece g text = token_piece g kind.Word text
 
--- a mark
+-- the piece that is a mark
 abbrev pub mark_piece : Gap → Mark → Piece
 mark_piece g m = token_piece g kind.Mark (mark_text m)
 
--- a number in decimal digits
+-- the piece that is a number in decimal digits
 abbrev pub number_piece : Gap → ℕ → Piece
 number_piece g n = token_piece g kind.Number (decimal n)
 
 -- a number with a sign where it is below 0: the sign is a token of its own
 abbrev pub signed_number_pieces : Gap → ℤ → List Piece
 signed_number_pieces g (pos n) = number_piece g n ∷ []
-signed_number_pieces g (negsuc n) = mark_piece g mark_of.Minus ∷ number_piece gap.Nothing (suc n) ∷ []
+signed_number_pieces g (negsuc n) =
+    mark_piece g mark_of.Minus ∷ number_piece gap.Nothing (suc n) ∷ []
 
--- a name in double quotes
+-- the piece that is a name in double quotes
 abbrev pub quoted_piece : Gap → List ℕ → Piece
 quoted_piece g name = token_piece g kind.Quoted (double_quote ∷ (name ++ double_quote ∷ []))
 

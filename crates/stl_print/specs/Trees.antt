@@ -22,19 +22,24 @@ use Rattle.stl_print.specs.Clauses.{pieces_from}
 abbrev pub structure_ends : ℕ → List Clause
 structure_ends count = replicate count clause.EndStructure
 
--- declarations, where so many structures are open: each closes those that it doesn't stand in, and the last one all
+-- declarations, where so many structures are open: each closes those that it doesn't stand in, and
+-- the last one all
 abbrev pub declaration_clauses_from : (level : ℕ) → List Declaration → List Clause
 declaration_clauses_from level [] = structure_ends level
 declaration_clauses_from level (d ∷ ds) =
-    structure_ends (level - d.level) ++ (clause.Declares d ∷ declaration_clauses_from (level_behind d.level d.of.of) ds)
+    structure_ends (level - d.level)
+    ++ (clause.Declares d ∷ declaration_clauses_from (level_behind d.level d.of.of) ds)
 
 -- a section, from its word to END_VAR
 unfoldable pub part_clauses : Part → List Clause
-part_clauses p = clause.Section p.line p.kind ∷ (declaration_clauses_from 0 p.items ++ clause.EndSection ∷ [])
+part_clauses p =
+    clause.Section p.line p.kind ∷ (declaration_clauses_from 0 p.items ++ clause.EndSection ∷ [])
 
--- the type of a block: a structure with its components, or a user-defined data type; a block has no other
+-- the type of a block: a structure with its components, or a user-defined data type; a block has no
+-- other
 unfoldable pub type_clauses : ElementType → List Declaration → List Clause
-type_clauses element.Structure components = clause.Structure ∷ (declaration_clauses_from 0 components ++ clause.EndStructure ∷ [])
+type_clauses element.Structure components =
+    clause.Structure ∷ (declaration_clauses_from 0 components ++ clause.EndStructure ∷ [])
 type_clauses (element.Udt name) components = clause.Based name ∷ []
 type_clauses _ components = []
 
@@ -52,12 +57,13 @@ instance_clauses (Some name) = clause.Based name ∷ []
 abbrev pub begin_clauses : BlockKind → List Clause
 begin_clauses k = if is_data_type k then [] else clause.Begins ∷ []
 
--- a block: its head, its sections, its type or the function block of which it is an instance, BEGIN, its settings or its
--- statements, and its END clause
+-- a block: its head, its sections, its type or the function block of which it is an instance,
+-- BEGIN, its settings or its statements, and its END clause
 unfoldable pub block_clauses : Block → List Clause
 block_clauses b =
     clause.Head b.line b.kind b.name b.result
-    ∷ (flat_map part_clauses b.parts ++ (shape_clauses b.shape b.components ++ (instance_clauses b.instance_of
+    ∷ (flat_map part_clauses b.parts
+    ++ (shape_clauses b.shape b.components ++ (instance_clauses b.instance_of
     ++ (begin_clauses b.kind ++ (map clause.Sets b.settings ++ (map clause.Runs b.body
     ++ clause.Ends b.end_line b.kind ∷ []))))))
 

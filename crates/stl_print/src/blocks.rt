@@ -84,7 +84,9 @@ fn append_components(
     out: &mut Vec<u8>,
 ) -> Result<u32, NoMemory>
     ensures { IfOk result (λ behind. (behind, out.new.items)
-        ≡ with_clauses (reached, out.old.items) (clause.Structure ∷ (declaration_clauses_from 0 components.now ++ clause.EndStructure ∷ []))) }
+        ≡ with_clauses (reached, out.old.items)
+        (clause.Structure
+        ∷ (declaration_clauses_from 0 components.now ++ clause.EndStructure ∷ []))) }
 {
     let line = append_structure(reached, out)?;
     let line = append_declarations(components, line, out)?;

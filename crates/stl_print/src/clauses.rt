@@ -1,5 +1,5 @@
-//! Clauses, each on its line. A function takes the line that the text has reached, 0 where nothing is
-//! printed yet, and answers the line that it has reached behind the clause.
+//! Clauses, each on its line. A function takes the line that the text has reached, 0 where nothing
+//! is printed yet, and answers the line that it has reached behind the clause.
 ghost use Rattle.std.specs.Prelude.{◌≡◌, ◌++◌, ◌∷◌, [], IfOk, OnOk};
 ghost use Rattle.stl_parser.specs.declared.clauses.Clause.TheVariants as clause;
 ghost use Rattle.stl_print.specs.Clauses.{result_pieces, with_clauses};
@@ -52,7 +52,8 @@ fn append_return_type(
 #[tactic(auto, unfolding(crate::specs::Clauses::clause_pieces, crate::specs::Clauses::line_of, crate::specs::Clauses::with_clause))]
 pub(crate) fn append_head(block: &Block, reached: u32, out: &mut Vec<u8>) -> Result<u32, NoMemory>
     ensures { IfOk result (λ behind. (behind, out.new.items)
-        ≡ with_clauses (reached, out.old.items) (clause.Head block.now.line block.now.kind block.now.name block.now.result ∷ [])) }
+        ≡ with_clauses (reached, out.old.items)
+        (clause.Head block.now.line block.now.kind block.now.name block.now.result ∷ [])) }
 {
     let line = append_keyword(head_word(block.kind), block.line, reached, out)?;
     append_block_name(Gap::Blank, &block.name, out)?;

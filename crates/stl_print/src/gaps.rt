@@ -32,8 +32,8 @@ pub(crate) fn append_gap(gap: Gap, out: &mut Vec<u8>) -> Result<(), NoMemory>
     }
 }
 
-/// The gap before a clause that is to stand on `line`, where the text has reached a line, or 0 where
-/// nothing is printed yet.
+/// The gap before a clause that is to stand on `line`, where the text has reached a line, or 0
+/// where nothing is printed yet.
 #[tactic(auto, unfolding(crate::specs::Gaps::clause_gap))]
 pub(crate) fn clause_gap(reached: u32, line: u32) -> Gap
     ensures { result ≡ clause_gap reached line }

@@ -7,7 +7,7 @@ use crate::tokens::append_token;
 use plc_base::NoMemory;
 use stl_ast::Mnemonic;
 
-/// An instruction word as it is written.
+/// How an instruction word is written.
 #[tactic(auto, unfolding(crate::specs::Mnemonics::mnemonic_spelling, stl_lexer::specs::Marks::mark_text))]
 fn mnemonic_text(code: Mnemonic) -> &'static [u8]
     ensures { result.now ≡ spelling_text (mnemonic_spelling code) }

@@ -18,7 +18,8 @@ pub(crate) fn append_block_name(
     name: &BlockName,
     out: &mut Vec<u8>,
 ) -> Result<(), NoMemory>
-    ensures { OnOk result (out.new.items ≡ with_pieces out.old.items (block_name_pieces gap name.now)) }
+    ensures { OnOk result
+        (out.new.items ≡ with_pieces out.old.items (block_name_pieces gap name.now)) }
 {
     match name {
         BlockName::Number { id } => {
@@ -64,7 +65,8 @@ pub(crate) fn append_steps(steps: &[PathStep], out: &mut Vec<u8>) -> Result<(), 
 
 #[tactic(auto, unfolding(crate::specs::Names::first_step_pieces))]
 fn append_first_step(gap: Gap, step: &PathStep, out: &mut Vec<u8>) -> Result<(), NoMemory>
-    ensures { OnOk result (out.new.items ≡ with_pieces out.old.items (first_step_pieces gap step.now)) }
+    ensures { OnOk result
+        (out.new.items ≡ with_pieces out.old.items (first_step_pieces gap step.now)) }
 {
     match step {
         PathStep::Named { name } => append_token(gap, name.as_bytes(), out),

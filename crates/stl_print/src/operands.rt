@@ -90,7 +90,8 @@ pub fn append_address(
 
 #[tactic(auto, unfolding(crate::specs::Operands::path_head_pieces))]
 fn append_path_head(gap: Gap, head: &PathHead, out: &mut Vec<u8>) -> Result<(), NoMemory>
-    ensures { OnOk result (out.new.items ≡ with_pieces out.old.items (path_head_pieces gap head.now)) }
+    ensures { OnOk result
+        (out.new.items ≡ with_pieces out.old.items (path_head_pieces gap head.now)) }
 {
     match head {
         PathHead::Local { name } => append_local(gap, name.as_bytes(), out),
@@ -105,7 +106,8 @@ fn append_in_memory(
     byte: u16,
     out: &mut Vec<u8>,
 ) -> Result<(), NoMemory>
-    ensures { OnOk result (out.new.items ≡ with_pieces out.old.items (memory_pointer_pieces from width byte)) }
+    ensures { OnOk result
+        (out.new.items ≡ with_pieces out.old.items (memory_pointer_pieces from width byte)) }
 {
     append_mark(Gap::Blank, Mark::OpenBracket, out)?;
     append_byte_address(Gap::Nothing, from, width, byte, out)?;
@@ -156,7 +158,8 @@ fn append_by_register(
 
 #[tactic(auto, unfolding(crate::specs::Operands::pointer_byte_pieces))]
 fn append_pointer_byte(area: Option<Letters>, byte: u16, out: &mut Vec<u8>) -> Result<(), NoMemory>
-    ensures { OnOk result (out.new.items ≡ with_pieces out.old.items (pointer_byte_pieces area byte)) }
+    ensures { OnOk result
+        (out.new.items ≡ with_pieces out.old.items (pointer_byte_pieces area byte)) }
 {
     match area {
         None => append_number(Gap::Nothing, u32::from(byte), out),
@@ -171,7 +174,8 @@ fn append_pointer(
     bit: u8,
     out: &mut Vec<u8>,
 ) -> Result<(), NoMemory>
-    ensures { OnOk result (out.new.items ≡ with_pieces out.old.items (pointer_pieces gap area byte bit)) }
+    ensures { OnOk result
+        (out.new.items ≡ with_pieces out.old.items (pointer_pieces gap area byte bit)) }
 {
     append_mark(gap, Mark::Pointer, out)?;
     append_pointer_byte(area, byte, out)?;
@@ -204,7 +208,8 @@ fn append_direct(
 
 #[tactic(auto, unfolding(crate::specs::Operands::opened_block_pieces))]
 fn append_opened(gap: Gap, di: bool, name: &BlockName, out: &mut Vec<u8>) -> Result<(), NoMemory>
-    ensures { OnOk result (out.new.items ≡ with_pieces out.old.items (opened_block_pieces gap di name.now)) }
+    ensures { OnOk result
+        (out.new.items ≡ with_pieces out.old.items (opened_block_pieces gap di name.now)) }
 {
     if !di {
         return append_block_name(gap, name, out);
@@ -217,7 +222,8 @@ fn append_opened(gap: Gap, di: bool, name: &BlockName, out: &mut Vec<u8>) -> Res
 
 #[tactic(auto, unfolding(crate::specs::Operands::instance_pieces))]
 fn append_instance(instance: &Option<BlockName>, out: &mut Vec<u8>) -> Result<(), NoMemory>
-    ensures { OnOk result (out.new.items ≡ with_pieces out.old.items (instance_pieces instance.now)) }
+    ensures { OnOk result
+        (out.new.items ≡ with_pieces out.old.items (instance_pieces instance.now)) }
 {
     match instance {
         None => Ok(()),

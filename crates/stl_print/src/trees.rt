@@ -16,9 +16,9 @@ fn append_last_end(blocks: &[Block], out: &mut Vec<u8>) -> Result<(), NoMemory>
     }
 }
 
-/// A tree as text: each clause on its line where the text hasn't reached that yet, and else behind one
-/// blank; other lines are empty, and the last one ends with its line end. A tree without blocks is
-/// the empty text.
+/// A tree as text: each clause on its line where the text hasn't reached that yet, and else behind
+/// one blank; other lines are empty, and the last one ends with its line end. A tree without blocks
+/// is the empty text.
 ///
 /// # Errors
 ///

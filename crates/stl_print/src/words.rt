@@ -76,7 +76,7 @@ pub(crate) fn section_word(kind: PartKind) -> &'static [u8]
     }
 }
 
-/// An elementary type.
+/// How an elementary type is written.
 #[tactic(auto, unfolding(crate::specs::Words::type_word))]
 pub fn type_word(kind: Simple) -> &'static [u8]
     ensures { result.now ≡ type_word kind }
@@ -94,7 +94,7 @@ pub fn type_word(kind: Simple) -> &'static [u8]
     }
 }
 
-/// The type of a return value.
+/// How the type of a return value is written: `VOID` where there is none.
 pub(crate) fn result_word(kind: Option<Simple>) -> &'static [u8]
     ensures { result.now ≡ result_word kind }
 {
@@ -169,7 +169,7 @@ pub(crate) fn numbered_letters(what: Numbered) -> &'static [u8]
     }
 }
 
-/// A condition of the status word.
+/// How a condition of the status word is written.
 #[tactic(auto, unfolding(crate::specs::Words::flag_text))]
 pub(crate) fn flag_text(flag: Flag) -> &'static [u8]
     ensures { result.now ≡ flag_text flag }
@@ -188,7 +188,7 @@ pub(crate) fn flag_text(flag: Flag) -> &'static [u8]
     }
 }
 
-/// A value of a bit.
+/// How the value of a bit is written.
 #[tactic(auto, unfolding(crate::specs::Words::truth_word))]
 pub(crate) fn truth_word(value: bool) -> &'static [u8]
     ensures { result.now ≡ truth_word value }

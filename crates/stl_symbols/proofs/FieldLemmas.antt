@@ -12,30 +12,30 @@ use Rattle.csv.specs.declared.parser.Action.{Action}
 use Rattle.csv.specs.declared.parser.Action.TheVariants as action
 use Rattle.stl_symbols.specs.Line.{lone_record, columns_of}
 use Rattle.stl_symbols.specs.Fields.{is_line_end, machine_step, record_at_start, record_before, record_from, state_of}
-use Rattle.stl_symbols.specs.declared.fields.Spot.{Spot}
-use Rattle.stl_symbols.specs.declared.fields.Spot.TheVariants as spot
+use Rattle.stl_symbols.specs.declared.fields.FieldState.{FieldState}
+use Rattle.stl_symbols.specs.declared.fields.FieldState.TheVariants as field_state
 use Rattle.stl_symbols.specs.declared.fields.Step.{Step}
 use Rattle.stl_symbols.specs.declared.fields.Step.TheVariants as step
 
--- the step that is the machine's at a spot
-abbrev StepOf : Spot → ℕ → Type 0
+-- the step of a field in this state that is the step of the machine
+abbrev StepOf : FieldState → ℕ → Type 0
 StepOf at c = (st : Step) × (csv_step default_config (state_of at) c ≡ machine_step st c)
 
-in_field_step : (c : ℕ) → (c == 44) ≡ false → StepOf spot.Plain c
+in_field_step : (c : ℕ) → (c == 44) ≡ false → StepOf field_state.Plain c
 in_field_step c n =
-    ⊎_elim (λ y. (step.EndsRecord, rw n (rw y refl))) (λ m. (step.Joins spot.Plain, rw n (rw m refl))) (cases_Bool (is_line_end c))
+    ⊎_elim (λ y. (step.EndsRecord, rw n (rw y refl))) (λ m. (step.Joins field_state.Plain, rw n (rw m refl))) (cases_Bool (is_line_end c))
 
-plain_step : (c : ℕ) → StepOf spot.Plain c
+plain_step : (c : ℕ) → StepOf field_state.Plain c
 plain_step c = ⊎_elim (λ y. (step.EndsField, rw y refl)) (λ n. in_field_step c n) (cases_Bool (c == 44))
 
-step_of : (at : Spot) (c : ℕ) → StepOf at c
-step_of spot.Start c =
-    ⊎_elim (λ y. (step.Skips spot.Quoted, rw y refl)) (λ n. let p = plain_step c in (p.0, rw n p.1)) (cases_Bool (c == 34))
-step_of spot.Plain c = plain_step c
-step_of spot.Quoted c =
-    ⊎_elim (λ y. (step.Skips spot.AfterQuote, rw y refl)) (λ n. (step.Joins spot.Quoted, rw n refl)) (cases_Bool (c == 34))
-step_of spot.AfterQuote c =
-    ⊎_elim (λ y. (step.Joins spot.Quoted, rw y refl)) (λ n. let p = plain_step c in (p.0, rw n p.1)) (cases_Bool (c == 34))
+step_of : (at : FieldState) (c : ℕ) → StepOf at c
+step_of field_state.Start c =
+    ⊎_elim (λ y. (step.Skips field_state.Quoted, rw y refl)) (λ n. let p = plain_step c in (p.0, rw n p.1)) (cases_Bool (c == 34))
+step_of field_state.Plain c = plain_step c
+step_of field_state.Quoted c =
+    ⊎_elim (λ y. (step.Skips field_state.AfterQuote, rw y refl)) (λ n. (step.Joins field_state.Quoted, rw n refl)) (cases_Bool (c == 34))
+step_of field_state.AfterQuote c =
+    ⊎_elim (λ y. (step.Joins field_state.Quoted, rw y refl)) (λ n. let p = plain_step c in (p.0, rw n p.1)) (cases_Bool (c == 34))
 
 -- the rest of a record from a step on
 abbrev read_after : State × Action → List (List ℕ) → List ℕ → ℕ → List ℕ → Option Read
@@ -59,24 +59,24 @@ weaker fields more (Some read) within h = omega (arith, h)
 
 -- with what holds behind the step
 longer_after : (st : Step) (fields : List (List ℕ)) (field : List ℕ) (c : ℕ) (rest : List ℕ) →
-    ((a : Spot) (fs : List (List ℕ)) (f : List ℕ) → IsLonger fs (next_record default_config (state_of a) fs f rest)) →
+    ((a : FieldState) (fs : List (List ℕ)) (f : List ℕ) → IsLonger fs (next_record default_config (state_of a) fs f rest)) →
     IsLonger fields (read_after (machine_step st c) fields field c rest)
 unfolding next_record
 longer_after (step.Skips next) fields field c rest behind = behind next fields field
 longer_after (step.Joins next) fields field c rest behind = behind next fields (field ++ c ∷ [])
 longer_after step.EndsField fields field c rest behind =
     weaker fields (fields ++ field ∷ []) (next_record default_config state.StartField (fields ++ field ∷ []) [] rest)
-    (omega (arith, length-append fields (field ∷ []))) (behind spot.Start (fields ++ field ∷ []) [])
+    (omega (arith, length-append fields (field ∷ []))) (behind field_state.Start (fields ++ field ∷ []) [])
 longer_after step.EndsRecord fields field c rest behind = omega (arith, length-append fields (field ∷ []))
 
-longer_at_end : (at : Spot) (fields : List (List ℕ)) (field : List ℕ) → IsLonger fields (next_record default_config (state_of at) fields field [])
+longer_at_end : (at : FieldState) (fields : List (List ℕ)) (field : List ℕ) → IsLonger fields (next_record default_config (state_of at) fields field [])
 unfolding next_record
-longer_at_end spot.Start fields field = omega (arith, length-append fields (field ∷ []))
-longer_at_end spot.Plain fields field = omega (arith, length-append fields (field ∷ []))
-longer_at_end spot.Quoted fields field = omega (arith, length-append fields (field ∷ []))
-longer_at_end spot.AfterQuote fields field = omega (arith, length-append fields (field ∷ []))
+longer_at_end field_state.Start fields field = omega (arith, length-append fields (field ∷ []))
+longer_at_end field_state.Plain fields field = omega (arith, length-append fields (field ∷ []))
+longer_at_end field_state.Quoted fields field = omega (arith, length-append fields (field ∷ []))
+longer_at_end field_state.AfterQuote fields field = omega (arith, length-append fields (field ∷ []))
 
-record_longer : (at : Spot) (fields : List (List ℕ)) (field rest : List ℕ) → IsLonger fields (next_record default_config (state_of at) fields field rest)
+record_longer : (at : FieldState) (fields : List (List ℕ)) (field rest : List ℕ) → IsLonger fields (next_record default_config (state_of at) fields field rest)
 record_longer at fields field [] = longer_at_end at fields field
 record_longer at fields field (c ∷ rest) =
     let st = step_of at c in
@@ -107,7 +107,7 @@ none_behind [] = refl
 none_behind (c ∷ rest) =
     ⊎_elim
     (λ y. ap (λ (o : Option Read). is_some o) (line_end-passed [] [] c rest y) ∙ none_behind rest ∙ rw y refl)
-    (λ n. ap (λ (o : Option Read). is_some o) (record-starts [] [] c rest n) ∙ longer-some [] _ (record_longer spot.Start [] [] (c ∷ rest)) ∙ rw n refl)
+    (λ n. ap (λ (o : Option Read). is_some o) (record-starts [] [] c rest n) ∙ longer-some [] _ (record_longer field_state.Start [] [] (c ∷ rest)) ∙ rw n refl)
     (cases_Bool (is_line_end c))
 
 after_return : (c : ℕ) → csv_step default_config state.AfterCr c ≡ csv_step default_config state.StartRecord c
@@ -129,7 +129,7 @@ alone-is : (fields : List (List ℕ)) (s : State) (rest : List ℕ) → is_some 
 alone-is fields s rest is = either (list_all is_line_end rest) (is_some (next_record default_config s [] [] rest)) fields is
 
 -- the end of a record
-pub record-ends : (at : Spot) (fields : List (List ℕ)) (field : List ℕ) (c : ℕ) (rest : List ℕ) → csv_step default_config (state_of at) c ≡ machine_step step.EndsRecord c →
+pub record-ends : (at : FieldState) (fields : List (List ℕ)) (field : List ℕ) (c : ℕ) (rest : List ℕ) → csv_step default_config (state_of at) c ≡ machine_step step.EndsRecord c →
     record_from (state_of at) fields field (c ∷ rest) ≡ record_before (fields ++ field ∷ []) rest
 record-ends at fields field c rest is =
     ap lone_record (next_record-step (state_of at) fields field c rest (machine_step step.EndsRecord c) is)
@@ -139,12 +139,12 @@ record-ends at fields field c rest is =
     (cases_Bool (c == 13))
 
 -- the end of the line
-pub record-at_end : (at : Spot) (fields : List (List ℕ)) (field : List ℕ) → record_from (state_of at) fields field [] ≡ Some (fields ++ field ∷ [])
+pub record-at_end : (at : FieldState) (fields : List (List ℕ)) (field : List ℕ) → record_from (state_of at) fields field [] ≡ Some (fields ++ field ∷ [])
 unfolding next_record
-record-at_end spot.Start fields field = refl
-record-at_end spot.Plain fields field = refl
-record-at_end spot.Quoted fields field = refl
-record-at_end spot.AfterQuote fields field = refl
+record-at_end field_state.Start fields field = refl
+record-at_end field_state.Plain fields field = refl
+record-at_end field_state.Quoted fields field = refl
+record-at_end field_state.AfterQuote fields field = refl
 
 -- the record of a line begins behind the line ends at its start
 pub record_from_start : (line : List ℕ) → record_from state.StartRecord [] [] line ≡ record_at_start (drop (prefix_len is_line_end line) line)
@@ -180,4 +180,4 @@ columns_of-alone fields (Some read) four longer =
 pub fifth_field : (a b c d rest : List ℕ) → option_and_then columns_of (record_from state.StartField (a ∷ b ∷ c ∷ d ∷ []) [] rest) ≡ None
 fifth_field a b c d rest =
     let fields = a ∷ b ∷ c ∷ d ∷ [] in
-    columns_of-alone fields (next_record default_config state.StartField fields [] rest) refl (record_longer spot.Start fields [] rest)
+    columns_of-alone fields (next_record default_config state.StartField fields [] rest) refl (record_longer field_state.Start fields [] rest)

@@ -29,8 +29,8 @@ use Rattle.stl_symbols.specs.Laws.{SymbolNamesDiffer, AreSymbols, EachBytePasses
 use Rattle.stl_symbols.specs.Line.{Columns, lone_record, columns_of_line, columns_of, only_record}
 use Rattle.stl_symbols.specs.Symbol.{IsFirstBit, IsSymbol, IsSymbolTarget, IsVariable, Symbol, has_symbols, symbol_named}
 use Rattle.stl_symbols.specs.Symbols.{and_then_lines, symbol_declaration, declaration_in_columns, declared_symbol, is_name, most_symbols, symbols_in, with_columns, with_declaration, with_line, with_lines, with_symbol, without_blanks, without_last_blanks}
-use Rattle.stl_symbols.specs.declared.addresses.Letters.{Letters}
-use Rattle.stl_symbols.specs.declared.addresses.Letters.TheVariants as letters
+use Rattle.stl_symbols.specs.declared.addresses.AddressLetters.{AddressLetters}
+use Rattle.stl_symbols.specs.declared.addresses.AddressLetters.TheVariants as letters
 use Rattle.stl_symbols.specs.declared.languages.Language.{Language}
 use Rattle.stl_symbols.proofs.FoundLemmas.{chained, found, mapped, passed}
 
@@ -72,11 +72,11 @@ byte_named name a w text has =
     (λ n low. (refl, record { area = has; number = refl; byte = low; bit = first_bit w }))
 
 -- the area of letters is one of those that have symbols
-abbrev is_right : Letters → Bool
+abbrev is_right : AddressLetters → Bool
 is_right (letters.Variable a w) = has_symbols a
 is_right _ = true
 
-letters_name : (name : List ℕ) (l : Letters) (text : List ℕ) → is_right l ≡ true
+letters_name : (name : List ℕ) (l : AddressLetters) (text : List ℕ) → is_right l ≡ true
     → IfSome (numbered_address l text) (Declares name (declared_symbol name))
 letters_name name (letters.Variable a width.Bit) text right = bit_named name a text right
 letters_name name (letters.Variable a width.Byte) text right = byte_named name a width.Byte text right
@@ -92,7 +92,7 @@ letters_name name letters.NoSymbol text right =
     mapped (number_of_address text) _ (λ n. n ≤ 65535) (Declares name (declared_symbol name)) (number_within text) (λ n low. tt)
 
 -- letters of a table are right where all of them are
-found_right : (language : Language) (table : List (List ℕ × List ℕ × Letters)) (word : List ℕ)
+found_right : (language : Language) (table : List (List ℕ × List ℕ × AddressLetters)) (word : List ℕ)
     → AllByRecursion (λ e. is_right e.2 ≡ true) table
     → IfSome (letters_spelled_as language table word) (λ l. is_right l ≡ true)
 unfolding letters_spelled_as
@@ -102,7 +102,7 @@ found_right language (e ∷ es) word h =
   where
     by : (t : Bool)
         → IfSome (option_map (λ f. f.2) (find (λ f. bytes_eq word (letters_in_language language f.0 f.1)) es)) (λ l. is_right l ≡ true)
-        → IfSome (option_map {T = List ℕ × List ℕ × Letters} (λ f. f.2)
+        → IfSome (option_map {T = List ℕ × List ℕ × AddressLetters} (λ f. f.2)
         (cond t (Some e) (find (λ f. bytes_eq word (letters_in_language language f.0 f.1)) es))) (λ l. is_right l ≡ true)
     by true more = h.0
     by false more = more

@@ -8,15 +8,15 @@ use Rattle.stl_symbols.specs.Address.{address_of, has_type}
 use Rattle.stl_symbols.specs.Line.{Columns}
 use Rattle.stl_symbols.specs.Symbol.{Symbol}
 use Rattle.stl_symbols.specs.Symbols.{and_then_lines, symbol_declaration, declaration_in_columns, declared_symbol, is_name, with_line, with_lines, without_blanks, without_last_blanks}
-use Rattle.stl_symbols.specs.declared.addresses.Address.{Address}
-use Rattle.stl_symbols.specs.declared.addresses.Address.TheVariants.{Names, NoSymbol}
+use Rattle.stl_symbols.specs.declared.addresses.SymbolAddress.{SymbolAddress}
+use Rattle.stl_symbols.specs.declared.addresses.SymbolAddress.TheVariants.{Names, NoSymbol}
 use Rattle.stl_symbols.specs.declared.languages.Language.{Language}
 
-declared_name : (name : List ℕ) (a : Address) (symbol : Symbol) → declared_symbol name a ≡ Some symbol → symbol.name ≡ name
+declared_name : (name : List ℕ) (a : SymbolAddress) (symbol : Symbol) → declared_symbol name a ≡ Some symbol → symbol.name ≡ name
 declared_name name (Names target) symbol is = cc
 declared_name name NoSymbol symbol is = cc
 
-declaration_name : (name kind : List ℕ) (o : Option Address) (symbol : Symbol) →
+declaration_name : (name kind : List ℕ) (o : Option SymbolAddress) (symbol : Symbol) →
     option_and_then (λ a. if has_type a kind then Some (declared_symbol name a) else None) o ≡ Some (Some symbol) → symbol.name ≡ name
 declaration_name name kind None symbol is = cc
 declaration_name name kind (Some a) symbol is =

@@ -10,17 +10,17 @@ use Rattle.plc_base.specs.declared.places.Area.{Area}
 use Rattle.plc_base.specs.declared.places.Area.TheVariants as area
 use Rattle.plc_base.specs.declared.places.Width.{Width}
 use Rattle.plc_base.specs.declared.places.Width.TheVariants.{Bit, Byte, Word, Dword}
-use Rattle.stl_symbols.specs.declared.addresses.Letters.{Letters}
-use Rattle.stl_symbols.specs.declared.addresses.Letters.TheVariants as letters
-use Rattle.stl_symbols.specs.declared.addresses.Address.{Address}
-use Rattle.stl_symbols.specs.declared.addresses.Address.TheVariants.{Names, NoSymbol}
+use Rattle.stl_symbols.specs.declared.addresses.AddressLetters.{AddressLetters}
+use Rattle.stl_symbols.specs.declared.addresses.AddressLetters.TheVariants as letters
+use Rattle.stl_symbols.specs.declared.addresses.SymbolAddress.{SymbolAddress}
+use Rattle.stl_symbols.specs.declared.addresses.SymbolAddress.TheVariants.{Names, NoSymbol}
 use Rattle.stl_symbols.specs.declared.languages.Language.{Language}
 use Rattle.stl_symbols.specs.declared.languages.Language.TheVariants.{English, German}
 use Rattle.stl_symbols.specs.declared.targets.Target.TheVariants.{Variable, Timer, Counter, Block}
 
 -- the letters of addresses in English and in German, with what they stand for. A variable table, a
 -- system function block and a system data block give no symbol
-unfoldable pub address_letters : List (List ℕ × List ℕ × Letters)
+unfoldable pub address_letters : List (List ℕ × List ℕ × AddressLetters)
 address_letters =
     (codes "I", codes "E", letters.Variable area.I Bit)
     ∷ (codes "IB", codes "EB", letters.Variable area.I Byte)
@@ -60,7 +60,8 @@ letters_in_language English english german = english
 letters_in_language German english german = german
 
 -- what stands beside the first letters of a table that a language spells as this word
-unfoldable pub letters_spelled_as : Language → List (List ℕ × List ℕ × Letters) → List ℕ → Option Letters
+unfoldable pub letters_spelled_as : Language → List (List ℕ × List ℕ × AddressLetters) → List ℕ
+    → Option AddressLetters
 letters_spelled_as language table word =
     option_map (λ e. e.2) (find (λ e. bytes_eq word (letters_in_language language e.0 e.1)) table)
 
@@ -69,7 +70,7 @@ abbrev pub number_of_address : List ℕ → Option ℕ
 number_of_address text = decimal_up_to 65535 text
 
 -- a variable of an area, not of a data block
-abbrev pub variable_address : Area → Width → (byte bit : ℕ) → Address
+abbrev pub variable_address : Area → Width → (byte bit : ℕ) → SymbolAddress
 variable_address area width byte bit =
     Names (Variable (record { area = area; number = 0; byte = byte; bit = bit }) width)
 
@@ -79,7 +80,7 @@ bit_behind [] = None
 bit_behind (point ∷ digits) = decimal_up_to 7 digits
 
 -- a bit: the number of its byte, a point, and its own
-unfoldable pub bit_address : Area → List ℕ → Option Address
+unfoldable pub bit_address : Area → List ℕ → Option SymbolAddress
 bit_address area text =
     let point = prefix_len (λ b. not (b == 46)) text in
     option_and_then
@@ -87,7 +88,7 @@ bit_address area text =
     (number_of_address (take point text))
 
 -- the address of letters and what stands behind them
-abbrev pub numbered_address : Letters → List ℕ → Option Address
+abbrev pub numbered_address : AddressLetters → List ℕ → Option SymbolAddress
 numbered_address (letters.Variable area Bit) text = bit_address area text
 numbered_address (letters.Variable area width) text =
     option_map (λ n. variable_address area width n 0) (number_of_address text)
@@ -98,7 +99,7 @@ numbered_address (letters.Block kind) text =
 numbered_address letters.NoSymbol text = option_map (λ n. NoSymbol) (number_of_address text)
 
 -- the address that a text without blanks is in a language
-unfoldable pub address_of : Language → List ℕ → Option Address
+unfoldable pub address_of : Language → List ℕ → Option SymbolAddress
 address_of language text =
     let digits = prefix_len (λ b. not (is_ascii_digit b)) text in
     option_and_then (λ l. numbered_address l (drop digits text))
@@ -117,7 +118,7 @@ abbrev pub names_type_among : List (List ℕ) → List ℕ → Bool
 names_type_among types kind = list_any (λ t. bytes_eq kind t) types
 
 -- whether an address may have the type of this name; a block's is any text
-unfoldable pub has_type : Address → List ℕ → Bool
+unfoldable pub has_type : SymbolAddress → List ℕ → Bool
 has_type (Names (Variable place width)) kind = names_type_among (type_names_of_width width) kind
 has_type (Names (Timer number)) kind = names_type_among (codes "TIMER" ∷ []) kind
 has_type (Names (Counter number)) kind = names_type_among (codes "COUNTER" ∷ []) kind

@@ -10,8 +10,8 @@ use Rattle.csv.specs.declared.parser.Action.{Action}
 use Rattle.csv.specs.declared.parser.Action.TheVariants as action
 use Rattle.csv.specs.declared.parser.Terminator.TheVariants as terminator
 use Rattle.stl_symbols.specs.Line.{lone_record}
-use Rattle.stl_symbols.specs.declared.fields.Spot.{Spot}
-use Rattle.stl_symbols.specs.declared.fields.Spot.TheVariants as spot
+use Rattle.stl_symbols.specs.declared.fields.FieldState.{FieldState}
+use Rattle.stl_symbols.specs.declared.fields.FieldState.TheVariants as field_state
 use Rattle.stl_symbols.specs.declared.fields.Step.{Step}
 use Rattle.stl_symbols.specs.declared.fields.Step.TheVariants as step
 use Rattle.stl_symbols.specs.declared.fields.Ending.{Ending}
@@ -19,12 +19,12 @@ use Rattle.stl_symbols.specs.declared.fields.Ending.TheVariants as ending
 use Rattle.stl_symbols.specs.declared.fields.Behind.{Behind}
 use Rattle.stl_symbols.specs.declared.fields.Behind.TheVariants as behind
 
--- the machine's state at a spot in a field
-abbrev pub state_of : Spot → State
-state_of spot.Start = state.StartField
-state_of spot.Plain = state.InField
-state_of spot.Quoted = state.InQuoted
-state_of spot.AfterQuote = state.AfterQuote
+-- the state of the machine for that of a field
+abbrev pub state_of : FieldState → State
+state_of field_state.Start = state.StartField
+state_of field_state.Plain = state.InField
+state_of field_state.Quoted = state.InQuoted
+state_of field_state.AfterQuote = state.AfterQuote
 
 -- the state and the action of the machine at a step
 abbrev pub machine_step : Step → ℕ → State × Action
@@ -42,11 +42,13 @@ is_line_end byte = byte == 13 || byte == 10
 abbrev pub record_from : State → List (List ℕ) → List ℕ → List ℕ → Option (List (List ℕ))
 record_from s fields field left = lone_record (next_record default_config s fields field left)
 
--- the fields of a line of one record: those that were read, where only line ends are left; else None
+-- the fields of a line of one record: those that were read, where only line ends are left; else
+-- None
 abbrev pub record_before : List (List ℕ) → List ℕ → Option (List (List ℕ))
 record_before fields left = if list_all is_line_end left then Some fields else None
 
--- the fields of a line of one record, read on behind a byte that ended a field, the record or nothing
+-- the fields of a line of one record, read on behind a byte that ended a field, the record or
+-- nothing
 abbrev pub record_at : Option Ending → State → (fields : List (List ℕ)) → (field rest : List ℕ)
     → Option (List (List ℕ))
 record_at None s fields field rest = record_from s fields field rest

@@ -16,15 +16,20 @@ SymbolNamesDiffer (x ∷ xs) =
 abbrev pub EachBytePasses : (ℕ → Bool) → List ℕ → Type 0
 EachBytePasses test text = AllByRecursion (λ b. test b ≡ true) text
 
--- what holds of the symbols of a file: they are at most so many, each as a line declares it, no two of one
--- name, and in their names no byte that the file hasn't
+-- what holds of the symbols of a file: they are at most so many, each as a line declares it, no two
+-- of one name, and in their names no byte that the file hasn't
 pub record AreSymbols (file : List ℕ) (symbols : List Symbol) : Type 0 where
+  -- there are at most 65535 symbols
   pub few : length symbols ≤ most_symbols
+  -- each symbol is one that a line can declare
   pub each : AllByRecursion IsSymbol symbols
+  -- no two symbols have one name, whatever the case of its letters
   pub apart : SymbolNamesDiffer symbols
-  pub bytes : (test : ℕ → Bool) → EachBytePasses test file → AllByRecursion (λ s. EachBytePasses test s.name) symbols
+  -- a test that each byte of the file passes is passed by each byte of the names
+  pub bytes : (test : ℕ → Bool) → EachBytePasses test file
+      → AllByRecursion (λ s. EachBytePasses test s.name) symbols
 
--- the symbols of a file are such
+-- whatever symbols a file is read as, in either language, are right
 abbrev pub SymbolsAreRight : Type 0
 SymbolsAreRight =
     (language : Language) (file : List ℕ) (symbols : List Symbol)

@@ -17,11 +17,14 @@ only_record line = lone_record (next_record default_config state.StartRecord [] 
 
 -- what a symbols file says of a symbol; the fourth field is a comment
 pub record Columns : Type 0 where
+  -- the first field: the name of the symbol
   pub name : List ℕ
+  -- the second field: the address that the symbol names
   pub address : List ℕ
+  -- the third field: the type of the address
   pub kind : List ℕ
 
--- the first three of four fields
+-- the columns of a line, the first three of its four fields; none where it has not four
 abbrev pub columns_of : List (List ℕ) → Option Columns
 columns_of (name ∷ address ∷ kind ∷ comment ∷ []) =
     Some (record { name = name; address = address; kind = kind })

@@ -11,8 +11,8 @@ use Rattle.plc_base.specs.declared.refusals.SourceFault.TheVariants.{Refused, No
 use Rattle.stl_symbols.specs.Address.{address_of, has_type}
 use Rattle.stl_symbols.specs.Line.{Columns, columns_of_line}
 use Rattle.stl_symbols.specs.Symbol.{Symbol, symbol_named}
-use Rattle.stl_symbols.specs.declared.addresses.Address.{Address}
-use Rattle.stl_symbols.specs.declared.addresses.Address.TheVariants.{Names, NoSymbol}
+use Rattle.stl_symbols.specs.declared.addresses.SymbolAddress.{SymbolAddress}
+use Rattle.stl_symbols.specs.declared.addresses.SymbolAddress.TheVariants.{Names, NoSymbol}
 use Rattle.stl_symbols.specs.declared.languages.Language.{Language}
 use Rattle.stl_symbols.specs.declared.languages.Language.TheVariants.{English}
 
@@ -37,7 +37,7 @@ abbrev pub is_name : List ℕ → Bool
 is_name name = nat_le 1 (length name) && nat_le (length name) 24
 
 -- what a line declares: a symbol, or nothing
-abbrev pub declared_symbol : List ℕ → Address → Option Symbol
+abbrev pub declared_symbol : List ℕ → SymbolAddress → Option Symbol
 declared_symbol name (Names target) = Some (record { name = name; target = target })
 declared_symbol name NoSymbol = None
 
@@ -49,8 +49,8 @@ symbol_declaration language name address kind =
     (address_of language address)
     else None
 
--- what the columns of a line declare, None where they are wrong: blanks and tabs at the end of name and type
--- are dropped, and all those of the address
+-- what the columns of a line declare, None where they are wrong: blanks and tabs at the end of name
+-- and type are dropped, and all those of the address
 unfoldable pub declaration_in_columns : Language → Columns → Option (Option Symbol)
 declaration_in_columns language line =
     symbol_declaration language (without_last_blanks line.name) (without_blanks line.address)
@@ -71,8 +71,8 @@ with_declaration symbols None = Err 15
 with_declaration symbols (Some None) = Ok symbols
 with_declaration symbols (Some (Some symbol)) = with_symbol symbols symbol
 
--- the symbols with what the columns of a line declare, or the rule that it breaks: 14 where the line isn't one
--- record of four fields
+-- the symbols with what the columns of a line declare, or the rule that it breaks: 14 where the
+-- line isn't one record of four fields
 abbrev pub with_columns : Language → List Symbol → Option Columns → Result (List Symbol) ℕ
 with_columns language symbols None = Err 14
 with_columns language symbols (Some line) =
@@ -81,7 +81,8 @@ with_columns language symbols (Some line) =
 -- the symbols with what a line declares, or the rule that it breaks; an empty line declares nothing
 unfoldable pub with_line : Language → List Symbol → List ℕ → Result (List Symbol) ℕ
 with_line language symbols [] = Ok symbols
-with_line language symbols (byte ∷ line) = with_columns language symbols (columns_of_line (byte ∷ line))
+with_line language symbols (byte ∷ line) =
+    with_columns language symbols (columns_of_line (byte ∷ line))
 
 -- what the lines behind one with this number make of the symbols up to it, or its refusal
 abbrev pub and_then_lines : (number : ℕ) → (more : List Symbol → Result (List Symbol) Refusal)

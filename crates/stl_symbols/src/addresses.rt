@@ -29,7 +29,7 @@ const LAST_BIT: u32 = 7;
 
 /// What the letters of an address stand for.
 #[derive(Clone, Copy, Debug, PartialEq, Eq)]
-pub(crate) enum Letters {
+pub(crate) enum AddressLetters {
     Variable { area: Area, width: Width },
     Timer,
     Counter,
@@ -40,17 +40,17 @@ pub(crate) enum Letters {
 /// The address of a line: what its symbol names, or that of a variable table, a system function
 /// block or a system data block, which gives no symbol.
 #[derive(Clone, Copy, Debug, PartialEq, Eq)]
-pub(crate) enum Address {
+pub(crate) enum SymbolAddress {
     Names { target: Target },
     NoSymbol,
 }
 
 /// The letters of addresses in English and in German.
-pub static LETTERS: [(&[u8], &[u8], Letters); 29] = [
+pub static LETTERS: [(&[u8], &[u8], AddressLetters); 29] = [
     (
         b"I",
         b"E",
-        Letters::Variable {
+        AddressLetters::Variable {
             area: Area::I,
             width: Width::Bit,
         },
@@ -58,7 +58,7 @@ pub static LETTERS: [(&[u8], &[u8], Letters); 29] = [
     (
         b"IB",
         b"EB",
-        Letters::Variable {
+        AddressLetters::Variable {
             area: Area::I,
             width: Width::Byte,
         },
@@ -66,7 +66,7 @@ pub static LETTERS: [(&[u8], &[u8], Letters); 29] = [
     (
         b"IW",
         b"EW",
-        Letters::Variable {
+        AddressLetters::Variable {
             area: Area::I,
             width: Width::Word,
         },
@@ -74,7 +74,7 @@ pub static LETTERS: [(&[u8], &[u8], Letters); 29] = [
     (
         b"ID",
         b"ED",
-        Letters::Variable {
+        AddressLetters::Variable {
             area: Area::I,
             width: Width::Dword,
         },
@@ -82,7 +82,7 @@ pub static LETTERS: [(&[u8], &[u8], Letters); 29] = [
     (
         b"Q",
         b"A",
-        Letters::Variable {
+        AddressLetters::Variable {
             area: Area::Q,
             width: Width::Bit,
         },
@@ -90,7 +90,7 @@ pub static LETTERS: [(&[u8], &[u8], Letters); 29] = [
     (
         b"QB",
         b"AB",
-        Letters::Variable {
+        AddressLetters::Variable {
             area: Area::Q,
             width: Width::Byte,
         },
@@ -98,7 +98,7 @@ pub static LETTERS: [(&[u8], &[u8], Letters); 29] = [
     (
         b"QW",
         b"AW",
-        Letters::Variable {
+        AddressLetters::Variable {
             area: Area::Q,
             width: Width::Word,
         },
@@ -106,7 +106,7 @@ pub static LETTERS: [(&[u8], &[u8], Letters); 29] = [
     (
         b"QD",
         b"AD",
-        Letters::Variable {
+        AddressLetters::Variable {
             area: Area::Q,
             width: Width::Dword,
         },
@@ -114,7 +114,7 @@ pub static LETTERS: [(&[u8], &[u8], Letters); 29] = [
     (
         b"M",
         b"M",
-        Letters::Variable {
+        AddressLetters::Variable {
             area: Area::M,
             width: Width::Bit,
         },
@@ -122,7 +122,7 @@ pub static LETTERS: [(&[u8], &[u8], Letters); 29] = [
     (
         b"MB",
         b"MB",
-        Letters::Variable {
+        AddressLetters::Variable {
             area: Area::M,
             width: Width::Byte,
         },
@@ -130,7 +130,7 @@ pub static LETTERS: [(&[u8], &[u8], Letters); 29] = [
     (
         b"MW",
         b"MW",
-        Letters::Variable {
+        AddressLetters::Variable {
             area: Area::M,
             width: Width::Word,
         },
@@ -138,7 +138,7 @@ pub static LETTERS: [(&[u8], &[u8], Letters); 29] = [
     (
         b"MD",
         b"MD",
-        Letters::Variable {
+        AddressLetters::Variable {
             area: Area::M,
             width: Width::Dword,
         },
@@ -146,7 +146,7 @@ pub static LETTERS: [(&[u8], &[u8], Letters); 29] = [
     (
         b"PIB",
         b"PEB",
-        Letters::Variable {
+        AddressLetters::Variable {
             area: Area::P,
             width: Width::Byte,
         },
@@ -154,7 +154,7 @@ pub static LETTERS: [(&[u8], &[u8], Letters); 29] = [
     (
         b"PIW",
         b"PEW",
-        Letters::Variable {
+        AddressLetters::Variable {
             area: Area::P,
             width: Width::Word,
         },
@@ -162,7 +162,7 @@ pub static LETTERS: [(&[u8], &[u8], Letters); 29] = [
     (
         b"PID",
         b"PED",
-        Letters::Variable {
+        AddressLetters::Variable {
             area: Area::P,
             width: Width::Dword,
         },
@@ -170,7 +170,7 @@ pub static LETTERS: [(&[u8], &[u8], Letters); 29] = [
     (
         b"PQB",
         b"PAB",
-        Letters::Variable {
+        AddressLetters::Variable {
             area: Area::P,
             width: Width::Byte,
         },
@@ -178,7 +178,7 @@ pub static LETTERS: [(&[u8], &[u8], Letters); 29] = [
     (
         b"PQW",
         b"PAW",
-        Letters::Variable {
+        AddressLetters::Variable {
             area: Area::P,
             width: Width::Word,
         },
@@ -186,61 +186,61 @@ pub static LETTERS: [(&[u8], &[u8], Letters); 29] = [
     (
         b"PQD",
         b"PAD",
-        Letters::Variable {
+        AddressLetters::Variable {
             area: Area::P,
             width: Width::Dword,
         },
     ),
-    (b"T", b"T", Letters::Timer),
-    (b"C", b"Z", Letters::Counter),
+    (b"T", b"T", AddressLetters::Timer),
+    (b"C", b"Z", AddressLetters::Counter),
     (
         b"OB",
         b"OB",
-        Letters::Block {
+        AddressLetters::Block {
             kind: BlockKind::Ob,
         },
     ),
     (
         b"FB",
         b"FB",
-        Letters::Block {
+        AddressLetters::Block {
             kind: BlockKind::Fb,
         },
     ),
     (
         b"FC",
         b"FC",
-        Letters::Block {
+        AddressLetters::Block {
             kind: BlockKind::Fc,
         },
     ),
     (
         b"SFC",
         b"SFC",
-        Letters::Block {
+        AddressLetters::Block {
             kind: BlockKind::Sfc,
         },
     ),
     (
         b"DB",
         b"DB",
-        Letters::Block {
+        AddressLetters::Block {
             kind: BlockKind::Db,
         },
     ),
     (
         b"UDT",
         b"UDT",
-        Letters::Block {
+        AddressLetters::Block {
             kind: BlockKind::Udt,
         },
     ),
-    (b"VAT", b"VAT", Letters::NoSymbol),
-    (b"SFB", b"SFB", Letters::NoSymbol),
-    (b"SDB", b"SDB", Letters::NoSymbol),
+    (b"VAT", b"VAT", AddressLetters::NoSymbol),
+    (b"SFB", b"SFB", AddressLetters::NoSymbol),
+    (b"SDB", b"SDB", AddressLetters::NoSymbol),
 ];
 
-/// The letters as a language spells them.
+/// The letters of an address as a language spells them.
 fn spelled<'a>(language: Language, english: &'a [u8], german: &'a [u8]) -> &'a [u8]
     ensures { result.now ≡ letters_in_language language english.now german.now }
 {
@@ -251,7 +251,11 @@ fn spelled<'a>(language: Language, english: &'a [u8], german: &'a [u8]) -> &'a [
 }
 
 /// What stands beside letters in a table.
-fn entry_of(language: Language, table: &[(&[u8], &[u8], Letters)], word: &[u8]) -> Option<Letters>
+fn entry_of(
+    language: Language,
+    table: &[(&[u8], &[u8], AddressLetters)],
+    word: &[u8],
+) -> Option<AddressLetters>
     ensures { result ≡ option_map (λ e. e.2) (find
         (λ e. bytes_eq word.now (letters_in_language language e.0.now e.1.now)) table.now) }
 {
@@ -261,8 +265,12 @@ fn entry_of(language: Language, table: &[(&[u8], &[u8], Letters)], word: &[u8]) 
         .map(|entry| entry.2)
 }
 
-/// The same, where the table is seen with its letters as bytes.
-fn look_up(language: Language, table: &[(&[u8], &[u8], Letters)], word: &[u8]) -> Option<Letters>
+/// What stands beside letters in a table, whose letters a contract sees as bytes.
+fn look_up(
+    language: Language,
+    table: &[(&[u8], &[u8], AddressLetters)],
+    word: &[u8],
+) -> Option<AddressLetters>
     ensures { result
         ≡ letters_spelled_as language (map (λ e. (e.0.now, e.1.now, e.2)) table.now) word.now }
 {
@@ -271,7 +279,7 @@ fn look_up(language: Language, table: &[(&[u8], &[u8], Letters)], word: &[u8]) -
 
 /// What the letters of an address stand for.
 #[tactic(auto, unfolding(crate::specs::Address::address_letters))]
-fn letters_of(language: Language, word: &[u8]) -> Option<Letters>
+fn letters_of(language: Language, word: &[u8]) -> Option<AddressLetters>
     ensures { result ≡ letters_spelled_as language address_letters word.now }
 {
     look_up(language, &LETTERS, word)
@@ -287,7 +295,7 @@ fn number_of(text: &[u8]) -> Option<u16>
 }
 
 /// The address of a variable that isn't in a data block.
-fn variable(area: Area, width: Width, byte: u16, bit: u8) -> Address
+fn variable(area: Area, width: Width, byte: u16, bit: u8) -> SymbolAddress
     ensures { result ≡ variable_address area width byte bit }
 {
     let place = Place {
@@ -296,7 +304,7 @@ fn variable(area: Area, width: Width, byte: u16, bit: u8) -> Address
         byte,
         bit,
     };
-    Address::Names {
+    SymbolAddress::Names {
         target: Target::Variable { place, width },
     }
 }
@@ -325,7 +333,7 @@ fn bit_behind(text: &[u8]) -> Option<u8>
 
 /// The address of a bit, by what stands behind the letter of its area.
 #[tactic(auto, unfolding(crate::specs::Address::bit_address))]
-fn bit_address(area: Area, text: &[u8]) -> Option<Address>
+fn bit_address(area: Area, text: &[u8]) -> Option<SymbolAddress>
     ensures { result ≡ bit_address area text.now }
 {
     let (number, behind) = text.split_at(point_of(text));
@@ -335,38 +343,38 @@ fn bit_address(area: Area, text: &[u8]) -> Option<Address>
 }
 
 /// The address of letters and what stands behind them.
-fn numbered(letters: Letters, text: &[u8]) -> Option<Address>
+fn numbered(letters: AddressLetters, text: &[u8]) -> Option<SymbolAddress>
     ensures { result ≡ numbered_address letters text.now }
 {
     let target = match letters {
-        Letters::Variable {
+        AddressLetters::Variable {
             area,
             width: Width::Bit,
         } => return bit_address(area, text),
-        Letters::Variable { area, width } => return Some(variable(
+        AddressLetters::Variable { area, width } => return Some(variable(
             area,
             width,
             number_of(text)?,
             0,
         )),
-        Letters::Timer => Target::Timer {
+        AddressLetters::Timer => Target::Timer {
             number: number_of(text)?,
         },
-        Letters::Counter => Target::Counter {
+        AddressLetters::Counter => Target::Counter {
             number: number_of(text)?,
         },
-        Letters::Block { kind } => Target::Block {
+        AddressLetters::Block { kind } => Target::Block {
             id: BlockId {
                 kind,
                 number: number_of(text)?,
             },
         },
-        Letters::NoSymbol => {
+        AddressLetters::NoSymbol => {
             number_of(text)?;
-            return Some(Address::NoSymbol);
+            return Some(SymbolAddress::NoSymbol);
         }
     };
-    Some(Address::Names { target })
+    Some(SymbolAddress::Names { target })
 }
 
 /// How many bytes stand before the first digit.
@@ -381,7 +389,7 @@ fn letters_len(text: &[u8]) -> usize
 
 /// The address that a text without blanks is in a language.
 #[tactic(auto, unfolding(crate::specs::Address::address_of))]
-pub(crate) fn address_of(language: Language, text: &[u8]) -> Option<Address>
+pub(crate) fn address_of(language: Language, text: &[u8]) -> Option<SymbolAddress>
     ensures { result ≡ address_of language text.now }
 {
     let (letters, number) = text.split_at(letters_len(text));
@@ -410,22 +418,22 @@ fn is_variable_type(width: Width, kind: &[u8]) -> bool
 
 /// Whether an address may have the type of this name; a block's is any text.
 #[tactic(auto, unfolding(crate::specs::Address::has_type))]
-pub(crate) fn has_type(address: Address, kind: &[u8]) -> bool
+pub(crate) fn has_type(address: SymbolAddress, kind: &[u8]) -> bool
     ensures { result ≡ has_type address kind.now }
 {
     match address {
-        Address::Names {
+        SymbolAddress::Names {
             target: Target::Variable { width, .. },
         } => is_variable_type(width, kind),
-        Address::Names {
+        SymbolAddress::Names {
             target: Target::Timer { .. },
         } => is_among(&[b"TIMER"], kind),
-        Address::Names {
+        SymbolAddress::Names {
             target: Target::Counter { .. },
         } => is_among(&[b"COUNTER"], kind),
-        Address::Names {
+        SymbolAddress::Names {
             target: Target::Block { .. },
         } => true,
-        Address::NoSymbol => true,
+        SymbolAddress::NoSymbol => true,
     }
 }

@@ -16,7 +16,7 @@ use std::alloc::{AllocError, Global};
 
 /// Where a line stands in one of its fields.
 #[derive(Clone, Copy, Debug, PartialEq, Eq)]
-enum Spot {
+enum FieldState {
     Start,
     Plain,
     Quoted,
@@ -26,8 +26,8 @@ enum Spot {
 /// What a byte does to the field at hand.
 #[derive(Clone, Copy, Debug, PartialEq, Eq)]
 enum Step {
-    Skips { next: Spot },
-    Joins { next: Spot },
+    Skips { next: FieldState },
+    Joins { next: FieldState },
     EndsField,
     EndsRecord,
 }
@@ -56,31 +56,39 @@ fn plain_step(byte: u8) -> Step
     } else if is_line_end(byte) {
         Step::EndsRecord
     } else {
-        Step::Joins { next: Spot::Plain }
+        Step::Joins {
+            next: FieldState::Plain,
+        }
     }
 }
 
 /// What a byte does. Two quotes inside of quotes are one.
-fn step_at(spot: Spot, byte: u8) -> Step
-    ensures { csv_step default_config (state_of spot) byte ≡ machine_step result byte }
+fn step_at(field_state: FieldState, byte: u8) -> Step
+    ensures { csv_step default_config (state_of field_state) byte ≡ machine_step result byte }
 {
     let quotes = byte == b'"';
-    match spot {
-        Spot::Quoted if quotes => Step::Skips {
-            next: Spot::AfterQuote,
+    match field_state {
+        FieldState::Quoted if quotes => Step::Skips {
+            next: FieldState::AfterQuote,
         },
-        Spot::Quoted => Step::Joins { next: Spot::Quoted },
-        Spot::AfterQuote if quotes => Step::Joins { next: Spot::Quoted },
-        Spot::Start if quotes => Step::Skips { next: Spot::Quoted },
+        FieldState::Quoted => Step::Joins {
+            next: FieldState::Quoted,
+        },
+        FieldState::AfterQuote if quotes => Step::Joins {
+            next: FieldState::Quoted,
+        },
+        FieldState::Start if quotes => Step::Skips {
+            next: FieldState::Quoted,
+        },
         _ => plain_step(byte),
     }
 }
 
 /// A field of a line while it is read.
 #[derive(Drop)]
-struct Field {
+struct FieldReader {
     bytes: Vec<u8>,
-    spot: Spot,
+    field_state: FieldState,
 }
 
 /// What a byte ends.
@@ -90,7 +98,7 @@ enum Ending {
     Record,
 }
 
-impl Field {
+impl FieldReader {
     ghost use Rattle.std.specs.Prelude.{◌≡◌, ℕ, List, [], ◌∷◌, ◌++◌, IfOk};
     ghost use Rattle.csv.specs.declared.parser.State.TheVariants as state;
     ghost use Rattle.stl_symbols.specs.Fields.{record_from, state_of, record_at};
@@ -98,11 +106,11 @@ impl Field {
     /// No bytes so far.
     fn new(alloc: Global) -> Self
         ensures bytes { result.bytes.items ≡ [] }
-        ensures spot { state_of result.spot ≡ state.StartField }
+        ensures field_state { state_of result.field_state ≡ state.StartField }
     {
-        Field {
+        FieldReader {
             bytes: Vec::new(alloc),
-            spot: Spot::Start,
+            field_state: FieldState::Start,
         }
     }
 
@@ -110,14 +118,14 @@ impl Field {
     #[tactic(auto, unfolding(csv::specs::Machine::next_record))]
     fn take(&mut self, byte: u8) -> Result<Option<Ending>, AllocError>
         ensures { IfOk result (λ ending. (fields : List (List ℕ)) (rest : List ℕ)
-            → record_from (state_of self.old.spot) fields self.old.bytes.items (byte ∷ rest)
-            ≡ record_at ending (state_of self.new.spot) fields self.new.bytes.items rest) }
+            → record_from (state_of self.old.field_state) fields self.old.bytes.items (byte ∷ rest)
+            ≡ record_at ending (state_of self.new.field_state) fields self.new.bytes.items rest) }
     {
-        match step_at(self.spot, byte) {
-            Step::Skips { next } => self.spot = next,
+        match step_at(self.field_state, byte) {
+            Step::Skips { next } => self.field_state = next,
             Step::Joins { next } => {
                 self.bytes.push(byte)?;
-                self.spot = next;
+                self.field_state = next;
             }
             Step::EndsField => return Ok(Some(Ending::Field)),
             Step::EndsRecord => return Ok(Some(Ending::Record)),
@@ -154,7 +162,7 @@ pub(crate) fn read_field<'a>(
         → record_from state.StartField fields [] text.now
         ≡ record_behind (fields ++ read.0.items ∷ []) read.1) }
 {
-    let mut field = Field::new(alloc);
+    let mut field = FieldReader::new(alloc);
     let mut left = text;
     while let [byte, rest @ ..] = left {
         match field.take(*byte)? {

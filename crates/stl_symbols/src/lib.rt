@@ -14,8 +14,8 @@ mod targets;
 
 pub use languages::Language;
 pub use laws::law_of_symbols;
-pub use names::Names;
-pub use numbers::Numbers;
+pub use names::NameIndex;
+pub use numbers::NumberIndex;
 pub use reading::{SYMBOLS_LIMIT, read_symbols, read_symbols_german};
 pub use symbols::{Symbol, Symbols};
 pub use targets::Target;

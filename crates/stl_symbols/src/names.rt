@@ -8,12 +8,12 @@ use std::marker::Model;
 /// Names in the order in which they came, each with its first place. Contracts see the list of the
 /// names.
 #[derive(Drop)]
-pub struct Names {
+pub struct NameIndex {
     list: Vec<Vec<u8>>,
     places: BTreeMap<Vec<u8>, usize>,
 }
 
-impl Model for Names {
+impl Model for NameIndex {
     ghost use Rattle.std.specs.Prelude.{◌≡◌, ℕ, List, map};
     ghost use Rattle.std.specs.BTreeMap.{get_by};
     ghost use Rattle.std.specs.Cmp.Lexicographic.{slice_cmp};
@@ -29,12 +29,12 @@ impl Model for Names {
         ≡ name_place q (map (λ v. v.items) names.list.items) };
 }
 
-impl Names {
-    /// No names.
+impl NameIndex {
+    /// An index without names.
     pub fn new(alloc: Global) -> Self
         ensures { result ≡ [] }
     {
-        Names {
+        NameIndex {
             list: Vec::new(alloc),
             places: BTreeMap::new(alloc),
         }

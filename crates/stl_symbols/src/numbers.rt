@@ -8,12 +8,12 @@ use std::marker::Model;
 /// Numbers in the order in which they came, each with its first place. Contracts see the list of
 /// the numbers.
 #[derive(Drop)]
-pub struct Numbers {
+pub struct NumberIndex {
     list: Vec<u16>,
     places: BTreeMap<u16, usize>,
 }
 
-impl Model for Numbers {
+impl Model for NumberIndex {
     ghost use Rattle.std.specs.Prelude.{◌≡◌, ℕ, List};
     ghost use Rattle.std.specs.BTreeMap.{get};
     ghost use Rattle.std.specs.Ordering.{nat_cmp};
@@ -27,12 +27,12 @@ impl Model for Numbers {
         → get nat_cmp numbers.places q ≡ number_place q numbers.list.items };
 }
 
-impl Numbers {
-    /// No numbers.
+impl NumberIndex {
+    /// An index without numbers.
     pub fn new(alloc: Global) -> Self
         ensures { result ≡ [] }
     {
-        Numbers {
+        NumberIndex {
             list: Vec::new(alloc),
             places: BTreeMap::new(alloc),
         }

@@ -21,7 +21,7 @@ ghost use Rattle.stl_symbols.specs.Symbols.{
   without_last_blanks,
 };
 
-use crate::addresses::{Address, address_of, has_type};
+use crate::addresses::{SymbolAddress, address_of, has_type};
 use crate::columns::{Columns, read_columns};
 use crate::languages::Language;
 use crate::symbols::{LONGEST_NAME, Symbol, Symbols};
@@ -97,8 +97,8 @@ fn declaration(
         return None;
     }
     match address {
-        Address::Names { target } => Some(Some(Symbol { name, target })),
-        Address::NoSymbol => Some(None),
+        SymbolAddress::Names { target } => Some(Some(Symbol { name, target })),
+        SymbolAddress::NoSymbol => Some(None),
     }
 }
 
@@ -204,11 +204,12 @@ pub fn read_symbols(alloc: Global, bytes: &[u8]) -> Result<Symbols, SourceFault>
     symbols_in(alloc, Language::English, bytes)
 }
 
-/// The same with German addresses, as `E 0.0`.
+/// Reads a symbols file whose addresses are German, as `E 0.0`.
 ///
 /// # Errors
 ///
-/// Those of `read_symbols`.
+/// The first line that breaks rule 14, 15 or 16 and the least that it breaks, exactly where there
+/// is such a line; or want of memory.
 pub fn read_symbols_german(alloc: Global, bytes: &[u8]) -> Result<Symbols, SourceFault>
     requires { length bytes.now ≤ symbols_limit }
     ensures { ReadsSymbols (symbols_in German bytes.now) result }

@@ -3,7 +3,7 @@ ghost use Rattle.std.specs.Option.{option_map};
 ghost use Rattle.plc_base.specs.Folding.{upper_case_name};
 ghost use Rattle.stl_symbols.specs.Symbol.{symbol_named};
 
-use crate::names::Names;
+use crate::names::NameIndex;
 use crate::targets::Target;
 use std::alloc::{AllocError, Global};
 use std::marker::Model;
@@ -44,7 +44,7 @@ fn target_at(list: &[Symbol], place: usize) -> Option<Target>
 
 /// What the symbol of a name names, by the names with the letters a to z as A to Z.
 #[tactic(auto, using(crate::proofs::SymbolLemmas::symbol_placed, crate::proofs::SymbolLemmas::no_long_name))]
-fn target_of(list: &[Symbol], names: &Names, name: &[u8]) -> Option<Target>
+fn target_of(list: &[Symbol], names: &NameIndex, name: &[u8]) -> Option<Target>
     requires names { names.now ≡ map (λ symbol. upper_case_name symbol.name) list.now }
     requires short { All (λ symbol. length symbol.name ≤ 24) list.now }
     ensures { result ≡ option_map (λ symbol. symbol.target) (symbol_named name.now list.now) }
@@ -61,7 +61,7 @@ fn target_of(list: &[Symbol], names: &Names, name: &[u8]) -> Option<Target>
 #[derive(Drop)]
 pub struct Symbols {
     list: Vec<Symbol>,
-    names: Names,
+    names: NameIndex,
 }
 
 impl Model for Symbols {
@@ -82,13 +82,13 @@ impl Symbols {
     ghost use Rattle.std.specs.Option.{option_map};
     ghost use Rattle.stl_symbols.specs.Symbol.{symbol_named};
 
-    /// No symbols.
+    /// A table without symbols.
     pub(crate) fn new(alloc: Global) -> Self
         ensures { result ≡ [] }
     {
         Symbols {
             list: Vec::new(alloc),
-            names: Names::new(alloc),
+            names: NameIndex::new(alloc),
         }
     }
 

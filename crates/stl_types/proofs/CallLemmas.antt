@@ -11,7 +11,7 @@ use Rattle.plc_base.specs.Least.{broken_if, least, lesser}
 use Rattle.plc_base.proofs.LeastLemmas.{least-append, lesser_assoc, lesser_nothing}
 use Rattle.stl_types.specs.Joined.{broken_call, broken_statement, dates_of, in_statements, rules_of_calls, rules_of_jumps, rules_of_zones}
 use Rattle.stl_types.specs.Actuals.{formal_named}
-use Rattle.stl_types.specs.Calls.{by_callee, call_37, calls_unknown, has_wrong_instance, is_bare_call, lacks_actual, misfits_formal, rule_24_of_actuals, rule_34, rule_35, rule_36, rule_37, rule_38, rule_40, rule_46, sees_date, actuals_supplied_twice, actuals_without_formal}
+use Rattle.stl_types.specs.Calls.{by_callee, call_37, calls_unknown, has_wrong_instance, is_bare_call, lacks_actual, misfits_formal, rule_24_of_actuals, rule_34, rule_35, rule_36, rule_37, rule_38, rule_40, rule_46, is_resolved_date, actuals_supplied_twice, actuals_without_formal}
 use Rattle.stl_types.specs.Resolution.{resolution_of}
 use Rattle.stl_types.specs.declared.parameters.Formal.{Formal}
 use Rattle.stl_types.specs.Context.{Context}
@@ -177,13 +177,13 @@ call_joined x callee s formals actuals lacks wrong is_bare one two missing misfi
 -- what a statement breaks
 pub statement_joined : (x : Context) (s : Statement) (o : Option Callee) (actuals : List Actual) (calls : Bool) (called unknown date first whole : Option Refusal) →
     o ≡ callee_of x s.operand → called ≡ least (by_callee (broken_call x) s o) → calls ≡ calls_unknown x s.operand → unknown ≡ least (broken_if calls s.line 46) → actuals ≡ s.actuals →
-    date ≡ least (flat_map (λ a. broken_if (sees_date (resolution_of x a.value)) a.line 24) actuals) → first ≡ lesser called unknown → whole ≡ lesser first date →
+    date ≡ least (flat_map (λ a. broken_if (is_resolved_date (resolution_of x a.value)) a.line 24) actuals) → first ≡ lesser called unknown → whole ≡ lesser first date →
     whole ≡ least (broken_statement x s)
 unfolding broken_statement
 statement_joined x s o actuals calls called unknown date first whole is_o is_called is_calls is_unknown are_actuals is_date is_first is_whole =
     let by : called ≡ least (by_callee (broken_call x) s (callee_of x s.operand)) = is_called ∙ ap (λ (k : Option Callee). least (by_callee (broken_call x) s k)) is_o in
     let none : unknown ≡ least (broken_if (calls_unknown x s.operand) s.line 46) = is_unknown ∙ ap (λ (b : Bool). least (broken_if b s.line 46)) is_calls in
-    let dates : date ≡ least (dates_of x s) = is_date ∙ ap (λ (l : List Actual). least (flat_map (λ a. broken_if (sees_date (resolution_of x a.value)) a.line 24) l)) are_actuals in
+    let dates : date ≡ least (dates_of x s) = is_date ∙ ap (λ (l : List Actual). least (flat_map (λ a. broken_if (is_resolved_date (resolution_of x a.value)) a.line 24) l)) are_actuals in
     let two = two_lists (by_callee (broken_call x) s (callee_of x s.operand)) (broken_if (calls_unknown x s.operand) s.line 46) called unknown first by none is_first in
     two_lists _ (dates_of x s) first date whole two dates is_whole
 

@@ -8,19 +8,19 @@ use Rattle.plc_base.specs.Least.{broken_if, least, lesser}
 use Rattle.plc_base.proofs.LeastLemmas.{least-append, lesser_assoc, lesser_nothing}
 use Rattle.stl_types.specs.Brackets.{brackets_behind, brackets_behind_all}
 use Rattle.stl_types.specs.Labels.{label_of}
-use Rattle.stl_types.specs.Landings.{Landing, Nesting, landing_here, landings_at_labels, nesting_behind}
+use Rattle.stl_types.specs.Landings.{Landing, SourceNesting, landing_here, landings_at_labels, nesting_behind}
 use Rattle.stl_types.specs.Lists.{is_wrong_list, lists_from}
 use Rattle.stl_types.specs.Zones.{zones_behind, zones_behind_all}
-use Rattle.stl_types.specs.declared.brackets.Bracket.{Bracket}
+use Rattle.stl_types.specs.declared.brackets.SourceBracket.{SourceBracket}
 
 -- one statement more
-pub behind_turn : (brackets after whole : List Bracket) (body : List Statement) (i : ℕ) (s : Statement) → i < length body → s ≡ get_or body i s → after ≡ brackets_behind brackets s →
+pub behind_turn : (brackets after whole : List SourceBracket) (body : List Statement) (i : ℕ) (s : Statement) → i < length body → s ≡ get_or body i s → after ≡ brackets_behind brackets s →
     brackets_behind_all brackets (drop i body) ≡ whole → brackets_behind_all after (drop (i + 1) body) ≡ whole
 behind_turn brackets after whole body i s within is_s is_after so_far =
     let split : drop i body ≡ s ∷ drop (i + 1) body = drop_more body i s within ∙ ap (λ (y : Statement). y ∷ drop (i + 1) body) (sym is_s) in
-    ap (λ (b : List Bracket). brackets_behind_all b (drop (i + 1) body)) is_after ∙ ap (λ (l : List Statement). brackets_behind_all brackets l) (sym split) ∙ so_far
+    ap (λ (b : List SourceBracket). brackets_behind_all b (drop (i + 1) body)) is_after ∙ ap (λ (l : List Statement). brackets_behind_all brackets l) (sym split) ∙ so_far
 
-pub behind_end : (brackets whole : List Bracket) (body : List Statement) (i : ℕ) → length body ≤ i → brackets_behind_all brackets (drop i body) ≡ whole → brackets ≡ whole
+pub behind_end : (brackets whole : List SourceBracket) (body : List Statement) (i : ℕ) → length body ≤ i → brackets_behind_all brackets (drop i body) ≡ whole → brackets ≡ whole
 behind_end brackets whole body i over so_far = ap (λ (l : List Statement). brackets_behind_all brackets l) (sym (drop_of_length-le body over)) ∙ so_far
 
 -- the same of zones
@@ -53,17 +53,17 @@ lists_end before body i found whole over so_far =
     sym (lesser_nothing found) ∙ ap (λ (l : List Statement). lesser found (least (lists_from before l))) (sym (drop_of_length-le body over)) ∙ so_far
 
 -- and of what is open at labels
-pub landings_turn : (n after : Nesting) (landings more whole : List Landing) (body : List Statement) (i : ℕ) (s : Statement) → i < length body → s ≡ get_or body i s →
+pub landings_turn : (n after : SourceNesting) (landings more whole : List Landing) (body : List Statement) (i : ℕ) (s : Statement) → i < length body → s ≡ get_or body i s →
     after ≡ nesting_behind n s → more ≡ landings ++ landing_here n s.label → landings ++ landings_at_labels n (drop i body) ≡ whole →
     more ++ landings_at_labels after (drop (i + 1) body) ≡ whole
 landings_turn n after landings more whole body i s within is_s is_after is_more so_far =
     let rest : List Statement = drop (i + 1) body in
     let split : drop i body ≡ s ∷ rest = drop_more body i s within ∙ ap (λ (y : Statement). y ∷ rest) (sym is_s) in
     ap (λ (l : List Landing). l ++ landings_at_labels after rest) is_more
-    ∙ ap (λ (m : Nesting). (landings ++ landing_here n s.label) ++ landings_at_labels m rest) is_after
+    ∙ ap (λ (m : SourceNesting). (landings ++ landing_here n s.label) ++ landings_at_labels m rest) is_after
     ∙ append_assoc landings (landing_here n s.label) (landings_at_labels (nesting_behind n s) rest)
     ∙ ap (λ (l : List Statement). landings ++ landings_at_labels n l) (sym split) ∙ so_far
 
-pub landings_end : (n : Nesting) (landings whole : List Landing) (body : List Statement) (i : ℕ) → length body ≤ i → landings ++ landings_at_labels n (drop i body) ≡ whole → landings ≡ whole
+pub landings_end : (n : SourceNesting) (landings whole : List Landing) (body : List Statement) (i : ℕ) → length body ≤ i → landings ++ landings_at_labels n (drop i body) ≡ whole → landings ≡ whole
 landings_end n landings whole body i over so_far =
     sym (append-nil landings) ∙ ap (λ (l : List Statement). landings ++ landings_at_labels n l) (sym (drop_of_length-le body over)) ∙ so_far

@@ -78,12 +78,13 @@ fits_view f _ = false
 
 -- what an operand comes to fits a parameter; one that isn't there or isn't checked breaks no
 -- further rule
-abbrev pub fits_seen : Formal → Resolution → Bool
-fits_seen f (Resolved v) = fits_view f v
-fits_seen f Unknown = true
-fits_seen f Unjudged = true
+abbrev pub fits_resolution : Formal → Resolution → Bool
+fits_resolution f (Resolved v) = fits_view f v
+fits_resolution f Unknown = true
+fits_resolution f Unjudged = true
 
 -- the operand of an actual parameter fits a parameter: a constant an IN parameter by its type
 unfoldable pub fits_operand : Context → Formal → Operand → Bool
-fits_operand c f (operand.Constant value) = is_input_section f.section && fits_elementary_type value f.kind
-fits_operand c f o = fits_seen f (resolution_of c o)
+fits_operand c f (operand.Constant value) =
+    is_input_section f.section && fits_elementary_type value f.kind
+fits_operand c f o = fits_resolution f (resolution_of c o)

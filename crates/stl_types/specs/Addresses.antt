@@ -35,13 +35,15 @@ side_of _ = side.Both
 abbrev pub area_left : Option Letters → Option Area
 area_left a = option_map area_for_letters a
 
--- an address; `number` is that of the data block before it, else 0
+-- what an address names; `number` is that of the data block before it, else 0
 abbrev pub resolved_address : (number : ℕ) → Letters → Width → (byte bit : ℕ) → ResolvedOperand
 resolved_address number a width byte bit =
-    view.Direct (record { area = area_for_letters a; number = number; byte = byte; bit = bit }) width
+    view.Direct
+    (record { area = area_for_letters a; number = number; byte = byte; bit = bit }) width
     (side_of a) None
 
 -- an address in a data block, where that doesn't break a rule itself
 abbrev pub address_in_block : Option ℕ → Letters → Width → (byte bit : ℕ) → Resolution
 address_in_block None a width byte bit = Unjudged
-address_in_block (Some number) a width byte bit = Resolved (resolved_address number a width byte bit)
+address_in_block (Some number) a width byte bit =
+    Resolved (resolved_address number a width byte bit)

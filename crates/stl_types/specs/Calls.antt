@@ -1,5 +1,6 @@
--- Rules 34 to 38, 40 and 46: calls. Those of an actual parameter have its line, all others that of the statement. A call
--- of a block that breaks a rule itself, or by the declaration of a parameter, isn't checked by them.
+-- Rules 34 to 38, 40 and 46: calls. Those of an actual parameter have its line, all others that of
+-- the statement. A call of a block that breaks a rule itself, or by the declaration of a parameter,
+-- isn't checked by them.
 use Rattle.std.specs.Prelude.{ℕ, nat_eq, Bool, true, false, ◌&&◌, ◌||◌, not, is_some, List, [], ◌∷◌, ◌++◌, map, Option, Some, None}
 use Rattle.std.specs.List.{flat_map, list_all, list_any, slice_get}
 use Rattle.std.specs.Str.{bytes_eq}
@@ -54,9 +55,10 @@ names_no_formal formals a = not (has_formal formals (upper_case_name a.name))
 
 -- rule 34 in a call, for each of its actual parameters
 abbrev pub actuals_without_formal : List Formal → List Actual → List Refusal
-actuals_without_formal formals actuals = flat_map (λ a. broken_if (names_no_formal formals a) a.line 34) actuals
+actuals_without_formal formals actuals =
+    flat_map (λ a. broken_if (names_no_formal formals a) a.line 34) actuals
 
--- rule 34, in all bodies: a call that names no such parameter
+-- rule 34, in all bodies: a call names a parameter that its block does not have
 unfoldable pub rule_34 : Context → List Block → List Refusal
 rule_34 c blocks = in_calls (λ c callee s. actuals_without_formal callee.formals s.actuals) c blocks
 
@@ -66,9 +68,11 @@ is_supplied_twice formals before a =
     not (names_no_formal formals a) && is_some (name_place (upper_case_name a.name) before)
 
 -- rule 35 in a call; `before` are the names supplied before these actual parameters
-abbrev pub actuals_supplied_twice : List Formal → (before : List (List ℕ)) → List Actual → List Refusal
+abbrev pub actuals_supplied_twice : List Formal → (before : List (List ℕ)) → List Actual
+    → List Refusal
 actuals_supplied_twice formals before actuals =
-    refusals_along (λ a. false) (λ before a. broken_if (is_supplied_twice formals before a) a.line 35)
+    refusals_along (λ a. false) (λ before a. broken_if
+    (is_supplied_twice formals before a) a.line 35)
     (λ before a. before ++ upper_case_name a.name ∷ []) before actuals
 
 -- rule 35, in all bodies: a parameter supplied twice
@@ -103,21 +107,24 @@ misfits_formal c a (Some f) = not (fits_operand c f a.value)
 -- rule 37 in a call, for each of its actual parameters
 abbrev pub call_37 : Context → Callee → Statement → List Refusal
 call_37 c callee s =
-    flat_map (λ a. broken_if (misfits_formal c a (formal_named callee.formals a.name)) a.line 37) s.actuals
+    flat_map
+    (λ a. broken_if (misfits_formal c a (formal_named callee.formals a.name)) a.line 37) s.actuals
 
 -- rule 37, in all bodies: an actual parameter that doesn't fit
 unfoldable pub rule_37 : Context → List Block → List Refusal
 rule_37 c blocks = in_calls call_37 c blocks
 
 -- what an operand comes to is a DATE_AND_TIME, which rule 24 forbids as an actual parameter
-abbrev pub sees_date : Resolution → Bool
-sees_date (Resolved v) = is_date v
-sees_date _ = false
+abbrev pub is_resolved_date : Resolution → Bool
+is_resolved_date (Resolved v) = is_date v
+is_resolved_date _ = false
 
 -- rule 24 in a body, for its actual parameters, whatever is called
 abbrev pub dates_in : Context → List Statement → List Refusal
 dates_in c body =
-    flat_map (λ s. flat_map (λ a. broken_if (sees_date (resolution_of c a.value)) a.line 24) s.actuals) body
+    flat_map
+    (λ s. flat_map (λ a. broken_if (is_resolved_date (resolution_of c a.value)) a.line 24) s.actuals)
+    body
 
 -- rule 24 of actual parameters, in all bodies
 unfoldable pub rule_24_of_actuals : Context → List Block → List Refusal

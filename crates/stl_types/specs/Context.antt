@@ -11,11 +11,16 @@ use Rattle.block_layout.specs.Blocks.{found_block, known_block}
 use Rattle.block_layout.specs.Paths.{if_whole, whole_at}
 use Rattle.block_layout.specs.declared.blocks.BlockLayout.{BlockLayout}
 
--- the symbols, the blocks of the source with their layouts, and the place of the block that has the body
+-- the symbols, the blocks of the source with their layouts, and the place of the block that has the
+-- body
 pub record Context : Type 0 where
+  -- the symbols of the source
   pub symbols : List Symbol
+  -- the blocks of the source, in the order of the text
   pub blocks : List Block
+  -- the layouts of the blocks, in the order of `blocks`
   pub layouts : List BlockLayout
+  -- the place of the block that has the body, from 0
   pub block : ℕ
 
 -- the blocks of the source in order, by kind and number
@@ -34,7 +39,7 @@ data_place c name = found_block c.symbols (source_block_ids c) is_data_block nam
 abbrev pub whole_data_place : Context → BlockName → Option ℕ
 whole_data_place c name = option_and_then (if_whole c.layouts) (data_place c name)
 
--- the number of a block
+-- the number of a block id; None for none
 abbrev pub number_of_block : Option BlockId → Option ℕ
 number_of_block id = option_map (λ i. i.number) id
 

@@ -7,7 +7,7 @@ use Rattle.stl_ast.specs.declared.statements.Statement.{Statement}
 use Rattle.plc_base.specs.Least.{broken_if}
 use Rattle.stl_types.specs.Bodies.{in_contexts}
 use Rattle.stl_types.specs.Brackets.{rule_29, rule_30, rule_31}
-use Rattle.stl_types.specs.Calls.{by_callee, call_37, calls_unknown, has_wrong_instance, is_bare_call, lacks_actual, rule_24_of_actuals, rule_34, rule_35, rule_36, rule_37, rule_38, rule_40, rule_46, sees_date, actuals_supplied_twice, actuals_without_formal}
+use Rattle.stl_types.specs.Calls.{by_callee, call_37, calls_unknown, has_wrong_instance, is_bare_call, lacks_actual, rule_24_of_actuals, rule_34, rule_35, rule_36, rule_37, rule_38, rule_40, rule_46, is_resolved_date, actuals_supplied_twice, actuals_without_formal}
 use Rattle.stl_types.specs.Context.{Context}
 use Rattle.stl_types.specs.Labels.{rule_26, rule_27}
 use Rattle.stl_types.specs.Landings.{rule_33}
@@ -24,14 +24,16 @@ in_statements broken c blocks = in_contexts (λ c body. flat_map (broken c) body
 -- what a call breaks by the block that is called
 unfoldable pub broken_call : Context → Callee → Statement → List Refusal
 broken_call c callee s =
-    actuals_without_formal callee.formals s.actuals ++ actuals_supplied_twice callee.formals [] s.actuals
+    actuals_without_formal callee.formals s.actuals
+    ++ actuals_supplied_twice callee.formals [] s.actuals
     ++ broken_if (lacks_actual callee s) s.line 36 ++ call_37 c callee s
     ++ broken_if (has_wrong_instance c callee s.operand) s.line 38
     ++ broken_if (is_bare_call callee s) s.line 40
 
 -- rule 24 of the actual parameters of a statement
 abbrev pub dates_of : Context → Statement → List Refusal
-dates_of c s = flat_map (λ a. broken_if (sees_date (resolution_of c a.value)) a.line 24) s.actuals
+dates_of c s =
+    flat_map (λ a. broken_if (is_resolved_date (resolution_of c a.value)) a.line 24) s.actuals
 
 -- what a statement breaks by rules 34 to 38, 40 and 46, and its actual parameters by rule 24
 unfoldable pub broken_statement : Context → Statement → List Refusal

@@ -12,17 +12,17 @@ use Rattle.stl_types.specs.declared.views.Register.TheVariants as register
 use Rattle.stl_types.specs.declared.views.ResolvedOperand.{ResolvedOperand}
 use Rattle.stl_types.specs.declared.views.ResolvedOperand.TheVariants as view
 
--- no operand
+-- whether there is no operand
 abbrev pub names_nothing : ResolvedOperand → Bool
 names_nothing view.Nothing = true
 names_nothing _ = false
 
--- a place with an address of its own
+-- whether an operand is a place with an address of its own
 abbrev pub is_direct : ResolvedOperand → Bool
 is_direct (view.Direct place width side declared) = true
 is_direct _ = false
 
--- a place in memory: direct, a parameter of a function, or by a pointer
+-- whether an operand is a place in memory: direct, a parameter of a function, or by a pointer
 abbrev pub is_in_memory : ResolvedOperand → Bool
 is_in_memory (view.Direct place width side declared) = true
 is_in_memory (view.Parameter index section declared) = true
@@ -30,69 +30,71 @@ is_in_memory (view.ByMemory a width from byte) = true
 is_in_memory (view.ByRegister a width register bits) = true
 is_in_memory _ = false
 
--- a timer, also one whose number stands in memory
+-- whether an operand is a timer, also one whose number stands in memory
 abbrev pub is_timer : ResolvedOperand → Bool
 is_timer (view.Timer number) = true
 is_timer (view.NumberBy numbered.Timer from byte) = true
 is_timer _ = false
 
--- a counter, also one whose number stands in memory
+-- whether an operand is a counter, also one whose number stands in memory
 abbrev pub is_counter : ResolvedOperand → Bool
 is_counter (view.Counter number) = true
 is_counter (view.NumberBy numbered.Counter from byte) = true
 is_counter _ = false
 
--- a data block that is opened
+-- whether an operand is a data block that is opened, also one whose number stands in memory
 abbrev pub is_opened : ResolvedOperand → Bool
 is_opened (view.OpenBlock di number) = true
 is_opened (view.NumberBy numbered.Db from byte) = true
 is_opened (view.NumberBy numbered.Di from byte) = true
 is_opened _ = false
 
--- a condition of the status word
+-- whether an operand is a condition of the status word
 abbrev pub is_condition : ResolvedOperand → Bool
 is_condition (view.OfStatus flag) = true
 is_condition _ = false
 
--- a pointer constant
+-- whether an operand is a pointer constant
 abbrev pub is_pointer_constant : ResolvedOperand → Bool
 is_pointer_constant (view.Pointer a byte bit) = true
 is_pointer_constant _ = false
 
--- a label
+-- whether an operand is a label
 abbrev pub is_label_operand : ResolvedOperand → Bool
 is_label_operand view.Label = true
 is_label_operand _ = false
 
--- STW
+-- whether an operand is the status word, STW
 abbrev pub is_status_word : ResolvedOperand → Bool
 is_status_word (view.Register register.Stw) = true
 is_status_word _ = false
 
--- AR2
+-- whether an operand is address register 2, AR2
 abbrev pub is_second_register : ResolvedOperand → Bool
 is_second_register (view.Register register.Ar2) = true
 is_second_register _ = false
 
--- a register that can be loaded: the status word, numbers and lengths of the open data blocks
+-- whether an operand is a register that can be loaded: the status word, or the number or length of
+-- an open data block
 abbrev pub is_loadable_register : ResolvedOperand → Bool
 is_loadable_register (view.Register register.Ar2) = false
 is_loadable_register (view.Register which) = true
 is_loadable_register _ = false
 
--- a function, a function block or a system function; only a function block has an instance
+-- whether an operand is a called function, function block or system function; only a function block
+-- has an instance
 abbrev pub is_operand_of_call : ResolvedOperand → Bool
 is_operand_of_call (view.Called id None) = is_callable id.kind
 is_operand_of_call (view.Called id (Some instance)) = is_function_block id.kind
 is_operand_of_call _ = false
 
--- a structure, an array or a DATE_AND_TIME
+-- whether an operand is a structure, an array or a DATE_AND_TIME
 abbrev pub is_composite : ResolvedOperand → Bool
 is_composite view.Composite = true
 is_composite view.Date = true
 is_composite _ = false
 
--- a DATE_AND_TIME
+-- whether an operand is a DATE_AND_TIME
 abbrev pub is_date : ResolvedOperand → Bool
 is_date view.Date = true
 is_date _ = false
@@ -105,22 +107,22 @@ width_in (view.ByMemory a width from byte) = Some width
 width_in (view.ByRegister a width register bits) = Some width
 width_in _ = None
 
--- the width is a bit
+-- whether the width is a bit
 abbrev pub is_bit : Option Width → Bool
 is_bit (Some width.Bit) = true
 is_bit _ = false
 
--- the width is a double word
+-- whether the width is a double word
 abbrev pub is_double_word : Option Width → Bool
 is_double_word (Some width.Dword) = true
 is_double_word _ = false
 
--- the peripheral area
+-- whether an area is the peripheral one
 abbrev pub is_peripheral : Area → Bool
 is_peripheral area.P = true
 is_peripheral _ = false
 
--- a pointer that has the peripheral area
+-- whether a pointer has the peripheral area
 abbrev pub is_peripheral_area : Option Area → Bool
 is_peripheral_area None = false
 is_peripheral_area (Some a) = is_peripheral a

@@ -16,46 +16,51 @@ use Rattle.stl_types.specs.Bodies.{in_bodies}
 use Rattle.stl_types.specs.Brackets.{brackets_behind}
 use Rattle.stl_types.specs.Labels.{labels_of}
 use Rattle.stl_types.specs.Zones.{zones_behind}
-use Rattle.stl_types.specs.declared.brackets.Bracket.{Bracket}
+use Rattle.stl_types.specs.declared.brackets.SourceBracket.{SourceBracket}
 
 -- the brackets and the zones that are open before a statement, the outermost first,
 -- a zone by the line of its MCR(
-pub record Nesting : Type 0 where
-  pub brackets : List Bracket
+pub record SourceNesting : Type 0 where
+  -- the open brackets, the outermost first
+  pub brackets : List SourceBracket
+  -- the lines of the MCR( of the open zones, the outermost first
   pub zones : List ℕ
 
 -- the brackets and the zones that are open behind a statement
-abbrev pub nesting_behind : Nesting → Statement → Nesting
+abbrev pub nesting_behind : SourceNesting → Statement → SourceNesting
 nesting_behind n s = record {
   brackets = brackets_behind n.brackets s;
   zones = zones_behind n.zones s;
 }
 
 -- what is open before the first statement of a body
-abbrev pub empty_nesting : Nesting
+abbrev pub empty_nesting : SourceNesting
 empty_nesting = record { brackets = []; zones = [] }
 
 -- what a jump and its label have alike: the function codes of the open brackets, and how many zones
 -- are open
 pub record Landing : Type 0 where
+  -- the function codes of the open brackets, the outermost first, at most 8
   pub functions : List ℕ
+  -- how many zones are open
   pub zones : ℕ
 
--- the function codes of open brackets. Of more than seven eight are kept: the eighth has broken rule 31
-abbrev pub functions_of : List Bracket → List ℕ
+-- the function codes of open brackets. Of more than seven eight are kept: the eighth has broken
+-- rule 31
+abbrev pub functions_of : List SourceBracket → List ℕ
 functions_of brackets = map (λ b. b.function) (take 8 brackets)
 
 -- what stands open: the functions of the brackets, and how many zones
-abbrev pub landing_of : Nesting → Landing
+abbrev pub landing_of : SourceNesting → Landing
 landing_of n = record { functions = functions_of n.brackets; zones = length n.zones }
 
 -- what is open before a statement, where it has a label
-abbrev pub landing_here : Nesting → Option (List ℕ) → List Landing
+abbrev pub landing_here : SourceNesting → Option (List ℕ) → List Landing
 landing_here n None = []
 landing_here n (Some label) = landing_of n ∷ []
 
 -- what is open before the statements with labels, in their order
-abbrev pub landings_at_labels : Nesting → List Statement → List Landing
+abbrev pub landings_at_labels : SourceNesting → List Statement → List Landing
 landings_at_labels n [] = []
 landings_at_labels n (s ∷ ss) =
     landing_here n s.label ++ landings_at_labels (nesting_behind n s) ss
@@ -69,7 +74,7 @@ abbrev pub are_unequal : (here there : List ℕ) → Bool
 are_unequal here there =
     not (nat_eq (length here) 8 && nat_eq (length there) 8) && not (bytes_eq here there)
 
--- other brackets, or another number of zones
+-- at one of two statements other brackets are open than at the other, or another number of zones
 abbrev pub landings_differ : (here there : Landing) → Bool
 landings_differ here there =
     are_unequal here.functions there.functions || not (nat_eq here.zones there.zones)
@@ -81,7 +86,8 @@ lands_elsewhere here None = false
 lands_elsewhere here (Some there) = landings_differ here there
 
 -- an operand is a label at which other brackets or another number of zones are open
-abbrev pub crosses_nesting : (labels : List (List ℕ)) → List Landing → Nesting → Operand → Bool
+abbrev pub crosses_nesting : (labels : List (List ℕ)) → List Landing → SourceNesting → Operand
+    → Bool
 crosses_nesting labels landings n (operand.Label name) =
     lands_elsewhere (landing_of n) (landing_at labels landings name)
 crosses_nesting labels landings n _ = false
@@ -90,7 +96,8 @@ crosses_nesting labels landings n _ = false
 abbrev pub crossing_jumps : (labels : List (List ℕ)) → List Landing → List Statement
     → List Refusal
 crossing_jumps labels landings body =
-    refusals_along (λ s. false) (λ n s. broken_if (crosses_nesting labels landings n s.operand) s.line 33)
+    refusals_along (λ s. false) (λ n s. broken_if
+    (crosses_nesting labels landings n s.operand) s.line 33)
     nesting_behind empty_nesting body
 
 -- rule 33, in all bodies

@@ -1,5 +1,5 @@
--- Rule 32: the jump list of a JL. Its label comes later, and between the two stand jumps JU alone, at most 255 of them;
--- an empty statement is none. The line is that of the JL.
+-- Rule 32: the jump list of a JL. Its label comes later, and between the two stand jumps JU alone,
+-- at most 255 of them; an empty statement is none. The line is that of the JL.
 use Rattle.std.specs.Prelude.{ℕ, ◌-◌, ◌&&◌, nat_lt, Bool, true, false, not, is_some, List, [], ◌∷◌, ◌++◌, Option, Some, None, if◌then◌else◌}
 use Rattle.std.specs.Str.{bytes_eq}
 use Rattle.plc_base.specs.declared.refusals.Refusal.{Refusal}
@@ -36,7 +36,8 @@ left_behind left m =
     if is_empty_statement m then Some left
     else if is_unconditional_jump m && nat_lt 0 left then Some (left - 1) else None
 
--- the list goes on with so many jumps left
+-- a jump list goes on behind a statement: the statement is of the list, and `next` holds of how
+-- many jumps the list may still have
 abbrev pub list_goes_on : Option ℕ → (ℕ → Bool) → Bool
 list_goes_on None next = false
 list_goes_on (Some left) next = next left

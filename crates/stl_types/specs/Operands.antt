@@ -1,5 +1,6 @@
--- Rules 24, 25 and 39: the operand of an instruction. 24: its width doesn't fit; 25: its form isn't allowed, or the
--- constant that it is; 39: an input parameter of a function is written. The line is that of the statement.
+-- Rules 24, 25 and 39: the operand of an instruction. 24: its width doesn't fit; 25: its form isn't
+-- allowed, or the constant that it is; 39: an input parameter of a function is written. The line is
+-- that of the statement.
 use Rattle.std.specs.Prelude.{ℕ, Bool, true, false, ◌&&◌, ◌||◌, not, List, [], ◌∷◌, Option, Some, None, if◌then◌else◌}
 use Rattle.std.specs.List.{flat_map}
 use Rattle.plc_base.specs.declared.places.Width.{Width}
@@ -32,10 +33,12 @@ takes_operand form.ReadsBitOrBare v =
 takes_operand form.WritesBit v = is_in_memory v
 takes_operand form.Sets v = is_in_memory v || is_counter v
 takes_operand form.Resets v = is_in_memory v || is_timer v || is_counter v
-takes_operand form.Loads v = is_in_memory v || is_timer v || is_counter v || is_pointer_constant v || is_loadable_register v
+takes_operand form.Loads v =
+    is_in_memory v || is_timer v || is_counter v || is_pointer_constant v || is_loadable_register v
 takes_operand form.Transfers v = is_in_memory v || is_status_word v
 takes_operand form.LoadsBcd v = is_timer v || is_counter v
-takes_operand form.LoadsAr1 v = names_nothing v || is_pointer_constant v || is_direct v || is_second_register v
+takes_operand form.LoadsAr1 v =
+    names_nothing v || is_pointer_constant v || is_direct v || is_second_register v
 takes_operand form.LoadsAr2 v = names_nothing v || is_pointer_constant v || is_direct v
 takes_operand form.StoresAr1 v = names_nothing v || is_direct v || is_second_register v
 takes_operand form.StoresAr2 v = names_nothing v || is_direct v
@@ -116,7 +119,8 @@ is_input _ = false
 abbrev pub composite_rule : OperandRule → ResolvedOperand → ℕ
 composite_rule f v = if is_date v || takes_places f then 24 else 25
 
--- the rule that an instruction breaks by its operand: of one that the form takes, the width comes before the side
+-- the rule that an instruction breaks by its operand: of one that the form takes, the width comes
+-- before the side
 unfoldable pub rule_of_resolved_operand : OperandRule → ResolvedOperand → Option ℕ
 rule_of_resolved_operand f v =
     if is_composite v then Some (composite_rule f v)
@@ -128,14 +132,14 @@ rule_of_resolved_operand f v =
 
 -- the rule that an instruction of a form breaks by what its operand comes to; none where the
 -- operand is unknown or isn't checked
-abbrev pub rule_seen : OperandRule → Resolution → Option ℕ
-rule_seen f (Resolved v) = rule_of_resolved_operand f v
-rule_seen f _ = None
+abbrev pub rule_of_resolution : OperandRule → Resolution → Option ℕ
+rule_of_resolution f (Resolved v) = rule_of_resolved_operand f v
+rule_of_resolution f _ = None
 
 -- the rule that an operand breaks with an instruction of a form
 abbrev pub operand_rule : Context → OperandRule → Operand → Option ℕ
 operand_rule c f (operand.Constant value) = if takes_constant f value then None else Some 25
-operand_rule c f o = rule_seen f (resolution_of c o)
+operand_rule c f o = rule_of_resolution f (resolution_of c o)
 
 -- the refusal of a line by the rule that is broken, if one is
 abbrev pub at_line : (line : ℕ) → Option ℕ → List Refusal

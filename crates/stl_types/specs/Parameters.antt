@@ -52,9 +52,11 @@ is_one_of (m ∷ ms) n = if nat_eq n m then true else is_one_of ms n
 -- the parameters of a system function by its number, in their order; none are known but of the nine
 unfoldable pub system_formals : ℕ → Option (List Formal)
 system_formals n =
-    if nat_eq n 32 then Some (ob_nr_formal ∷ dtime_formal ∷ sign_formal ∷ return_value_formal simple.Int ∷ [])
+    if nat_eq n 32
+    then Some (ob_nr_formal ∷ dtime_formal ∷ sign_formal ∷ return_value_formal simple.Int ∷ [])
     else if nat_eq n 33 then Some (ob_nr_formal ∷ return_value_formal simple.Int ∷ [])
-    else if is_one_of (39 ∷ 40 ∷ []) n then Some (mode_formal ∷ ob_nr_formal ∷ return_value_formal simple.Int ∷ [])
+    else if is_one_of (39 ∷ 40 ∷ []) n
+    then Some (mode_formal ∷ ob_nr_formal ∷ return_value_formal simple.Int ∷ [])
     else if is_one_of (41 ∷ 42 ∷ []) n then Some (return_value_formal simple.Int ∷ [])
     else if is_one_of (43 ∷ 46 ∷ []) n then Some []
     else if nat_eq n 64 then Some (return_value_formal simple.Time ∷ [])
@@ -73,19 +75,21 @@ formal_here c = if is_parameter c.section then formal_of c c.of else []
 abbrev pub formals_of : List Cell → List Formal
 formals_of cells = flat_map formal_here cells
 
--- no parameter breaks a rule by its declaration
+-- a cell that is a parameter breaks no rule by its declaration
 abbrev pub is_sound_formal : Cell → Bool
 is_sound_formal c = if is_parameter c.section then c.sound else true
 
--- the parameters, where none of them breaks a rule
+-- the parameters among these cells; none at all where one of them breaks a rule
 abbrev pub sound_formals : List Cell → Option (List Formal)
 sound_formals cells = if list_all is_sound_formal cells then Some (formals_of cells) else None
 
 -- a block that is called, with its parameters; `place` is that of a block of the source
 pub record Callee : Type 0 where
+  -- kind and number of the called block
   pub id : BlockId
   -- the place of the called block in the source; none of a system function
   pub place : Option ℕ
+  -- the parameters of the called block, in their order
   pub formals : List Formal
 
 -- a system function as the block that is called, if it is one of the nine
@@ -113,8 +117,8 @@ callee_by c id k =
     else if is_function_block k then source_callee c id
     else None
 
--- the block that a call is checked by: a system function of the nine, or a function or function block of the source that
--- breaks no rule itself or by a parameter
+-- the block that a call is checked by: a system function of the nine, or a function or function
+-- block of the source that breaks no rule itself or by a parameter
 unfoldable pub callee_of : Context → Operand → Option Callee
 callee_of c (operand.Called name instance) =
     option_and_then (λ id. callee_by c id id.kind) (named_block c.symbols name)

@@ -36,20 +36,23 @@ target_view (target.Counter number) = view.Counter number
 target_view (target.Block id) = view.Block
 
 -- what a quoted name that is the whole operand names; unknown without a symbol
-abbrev pub symbol_seen : Option Symbol → Resolution
-symbol_seen None = Unknown
-symbol_seen (Some s) = Resolved (target_view s.target)
+abbrev pub resolution_of_symbol : Option Symbol → Resolution
+resolution_of_symbol None = Unknown
+resolution_of_symbol (Some s) = Resolved (target_view s.target)
 
 -- what a path names: one into the block's own variables, into a data block, or a symbol
-abbrev pub path_seen : Context → PathHead → List PathStep → Resolution
-path_seen c (head.Local name) steps = own_variable c (upper_case_name name) (folded_path steps)
-path_seen c (head.InBlock name) steps = data_variable c name (folded_path steps)
-path_seen c (head.Symbol name) steps = symbol_seen (symbol_named name c.symbols)
+abbrev pub resolution_of_path : Context → PathHead → List PathStep → Resolution
+resolution_of_path c (head.Local name) steps =
+    own_variable c (upper_case_name name) (folded_path steps)
+resolution_of_path c (head.InBlock name) steps = data_variable c name (folded_path steps)
+resolution_of_path c (head.Symbol name) steps = resolution_of_symbol (symbol_named name c.symbols)
 
 -- what an address names, also one behind a data block
-abbrev pub direct_seen : Context → Option BlockName → Letters → Width → (byte bit : ℕ) → Resolution
-direct_seen c None a width byte bit = Resolved (resolved_address 0 a width byte bit)
-direct_seen c (Some name) a width byte bit = address_in_block (data_number c name) a width byte bit
+abbrev pub resolution_of_address : Context → Option BlockName → Letters → Width
+    → (byte bit : ℕ) → Resolution
+resolution_of_address c None a width byte bit = Resolved (resolved_address 0 a width byte bit)
+resolution_of_address c (Some name) a width byte bit =
+    address_in_block (data_number c name) a width byte bit
 
 -- a register by its word; the grammar has these six
 abbrev pub register_for_word : List ℕ → Register
@@ -62,16 +65,16 @@ register_for_word name =
     else register.Ar2
 
 -- what an operand names that opens the data block of this number; without a number it isn't checked
-abbrev pub opened_seen : (di : Bool) → Option ℕ → Resolution
-opened_seen di None = Unjudged
-opened_seen di (Some number) = Resolved (view.OpenBlock di number)
+abbrev pub resolution_of_opened_block : (di : Bool) → Option ℕ → Resolution
+resolution_of_opened_block di None = Unjudged
+resolution_of_opened_block di (Some number) = Resolved (view.OpenBlock di number)
 
 -- what an operand names that calls a block, with the number of its instance, if one is named
-abbrev pub called_seen : Option BlockId → (named : Option BlockName) → Option ℕ → Resolution
-called_seen None named instance = Unjudged
-called_seen (Some id) None instance = Resolved (view.Called id None)
-called_seen (Some id) (Some name) None = Unjudged
-called_seen (Some id) (Some name) (Some number) = Resolved (view.Called id (Some number))
+abbrev pub resolution_of_call : Option BlockId → (named : Option BlockName) → Option ℕ → Resolution
+resolution_of_call None named instance = Unjudged
+resolution_of_call (Some id) None instance = Resolved (view.Called id None)
+resolution_of_call (Some id) (Some name) None = Unjudged
+resolution_of_call (Some id) (Some name) (Some number) = Resolved (view.Called id (Some number))
 
 -- a block of the source, where it has a place, as one has that doesn't break a rule itself
 abbrev pub id_at : BlockId → Option ℕ → Option BlockId
@@ -91,13 +94,15 @@ instance_number c (Some name) = data_number c name
 -- what an operand names
 unfoldable pub resolution_of : Context → Operand → Resolution
 resolution_of c operand.Nothing = Resolved view.Nothing
-resolution_of c (operand.Direct name a width byte bit) = direct_seen c name a width byte bit
+resolution_of c (operand.Direct name a width byte bit) =
+    resolution_of_address c name a width byte bit
 resolution_of c (operand.Timer number) = Resolved (view.Timer number)
 resolution_of c (operand.Counter number) = Resolved (view.Counter number)
-resolution_of c (operand.Named path steps) = path_seen c path steps
+resolution_of c (operand.Named path steps) = resolution_of_path c path steps
 resolution_of c (operand.ByMemory a width from byte) =
     Resolved (view.ByMemory (area_for_letters a) width (area_for_letters from) byte)
-resolution_of c (operand.NumberBy what from byte) = Resolved (view.NumberBy what (area_for_letters from) byte)
+resolution_of c (operand.NumberBy what from byte) =
+    Resolved (view.NumberBy what (area_for_letters from) byte)
 resolution_of c (operand.ByRegister a width register bits) =
     Resolved (view.ByRegister (area_left a) width register bits)
 resolution_of c (operand.Pointer a byte bit) = Resolved (view.Pointer (area_left a) byte bit)
@@ -105,6 +110,7 @@ resolution_of c (operand.Constant value) = Resolved view.Constant
 resolution_of c (operand.Label name) = Resolved view.Label
 resolution_of c (operand.OfStatus flag) = Resolved (view.OfStatus flag)
 resolution_of c (operand.Other name) = Resolved (view.Register (register_for_word name))
-resolution_of c (operand.OpenBlock di name) = opened_seen di (data_number c name)
+resolution_of c (operand.OpenBlock di name) = resolution_of_opened_block di (data_number c name)
 resolution_of c (operand.Called name instance) =
-    called_seen (whole_called_block c (named_block c.symbols name)) instance (instance_number c instance)
+    resolution_of_call (whole_called_block c (named_block c.symbols name)) instance
+    (instance_number c instance)

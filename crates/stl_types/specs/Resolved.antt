@@ -10,10 +10,11 @@ use Rattle.stl_types.specs.declared.views.Resolution.TheVariants.{Resolved}
 use Rattle.stl_types.specs.declared.views.ResolvedOperand.{ResolvedOperand}
 
 -- what an operand names, where it isn't unknown and is checked
-abbrev pub seen_view : Resolution → Option ResolvedOperand
-seen_view (Resolved v) = Some v
-seen_view _ = None
+abbrev pub resolved_view : Resolution → Option ResolvedOperand
+resolved_view (Resolved v) = Some v
+resolved_view _ = None
 
 -- what the operand of a statement names, where its instruction takes it
 unfoldable pub resolved_operand : Context → Statement → Option ResolvedOperand
-resolved_operand c s = if is_none (statement_rule c s) then seen_view (resolution_of c s.operand) else None
+resolved_operand c s =
+    if is_none (statement_rule c s) then resolved_view (resolution_of c s.operand) else None

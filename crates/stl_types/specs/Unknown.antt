@@ -1,4 +1,5 @@
--- Rule 20: an unknown name or component. The line is that of the setting, of the statement, or of the actual parameter.
+-- Rule 20: an unknown name or component. The line is that of the setting, of the statement, or of
+-- the actual parameter.
 use Rattle.std.specs.Prelude.{ℕ, Bool, true, false, List, ◌++◌}
 use Rattle.plc_base.specs.declared.refusals.Refusal.{Refusal}
 use Rattle.stl_ast.specs.declared.blocks.Block.{Block}

@@ -40,8 +40,8 @@ abbrev pub variable_in_area : Simple → Option (Place × Width) → Resolution
 variable_in_area kind None = Unjudged
 variable_in_area kind (Some p) = Resolved (view.Direct p.0 p.1 side.Both (Some kind))
 
--- the place of a parameter in a call: those declared in their order, and the return value, which is the first of the
--- components, behind them
+-- the place of a parameter in a call: those declared in their order, and the return value, which is
+-- the first of the components, behind them
 abbrev pub behind_others : (count place : ℕ) → Option Simple → ℕ
 behind_others count place None = place
 behind_others count place (Some result) = if nat_eq place 0 then count - 1 else place - 1
@@ -70,8 +70,9 @@ abbrev pub is_temporary_variable : Context → List ℕ → Bool
 is_temporary_variable c name =
     not (is_some (component_of_name 0 0 0 name (cells_at c.layouts c.block false)))
 
--- a variable of the block: a temporary one lies in the local data, a parameter of a function is bound at its call, and
--- each variable of a function block lies in the data block of the DI register
+-- a variable of the block: a temporary one lies in the local data, a parameter of a function is
+-- bound at its call, and each variable of a function block lies in the data block of the DI
+-- register
 abbrev pub own_elementary : Context → (temporary : Bool) → ComponentAt → Simple → Resolution
 own_elementary c temporary spot kind =
     if temporary then variable_in_area kind (elementary_place area.L 0 spot.offset (Some kind))
@@ -79,10 +80,11 @@ own_elementary c temporary spot kind =
     else variable_in_area kind (elementary_place area.Di 0 spot.offset (Some kind))
 
 -- what the component at a spot in the block's own variables is; of what isn't elementary no place
--- is seen
+-- is given
 abbrev pub own_at : Context → (temporary : Bool) → ComponentAt → Option Simple → Resolution
 own_at c temporary spot None =
-    Resolved (composite_operand (slice_get (cells_at c.layouts spot.block spot.temporary) spot.place))
+    Resolved
+    (composite_operand (slice_get (cells_at c.layouts spot.block spot.temporary) spot.place))
 own_at c temporary spot (Some kind) = own_elementary c temporary spot kind
 
 -- what a path into the block's own variables names, by where it leads; it may be unknown or rest on
@@ -98,11 +100,14 @@ abbrev pub own_variable : Context → List ℕ → List PathStep → Resolution
 own_variable c name steps =
     own_walked c (is_temporary_variable c name) (walked_local c.layouts c.block name steps)
 
--- what a component of the data block with this number is; of what isn't elementary no place is seen
+-- what a component of the data block with this number is; of what isn't elementary no place is
+-- given
 abbrev pub data_at : Context → (number : ℕ) → ComponentAt → Option Simple → Resolution
 data_at c number spot None =
-    Resolved (composite_operand (slice_get (cells_at c.layouts spot.block spot.temporary) spot.place))
-data_at c number spot (Some kind) = variable_in_area kind (elementary_place area.Db number spot.offset (Some kind))
+    Resolved
+    (composite_operand (slice_get (cells_at c.layouts spot.block spot.temporary) spot.place))
+data_at c number spot (Some kind) =
+    variable_in_area kind (elementary_place area.Db number spot.offset (Some kind))
 
 -- what a path into the data block with this number names, by where it leads; it may be unknown or
 -- rest on what breaks a rule itself

@@ -21,7 +21,7 @@ use stl_ast::{Block, Mnemonic, Statement};
 /// A bracket that stands open: its function code, 0 to 5 for `A(` `AN(` `O(` `ON(` `X(` `XN(`, and
 /// its line.
 #[derive(Clone, Copy, Debug, PartialEq, Eq)]
-pub struct Bracket {
+pub struct SourceBracket {
     pub function: u8,
     pub line: u32,
 }
@@ -49,11 +49,15 @@ fn closes(code: Mnemonic) -> bool
 }
 
 /// Opens or closes a bracket by a statement.
-pub(crate) fn pass(brackets: &mut Vec<Bracket>, statement: &Statement) -> Result<(), AllocError>
-    ensures { IfOk result (λ _. brackets.new.items ≡ brackets_behind brackets.old.items statement.now) }
+pub(crate) fn pass(
+    brackets: &mut Vec<SourceBracket>,
+    statement: &Statement,
+) -> Result<(), AllocError>
+    ensures { IfOk result (λ _. brackets.new.items
+        ≡ brackets_behind brackets.old.items statement.now) }
 {
     if let Some(function) = opening(statement.code) {
-        brackets.push(Bracket {
+        brackets.push(SourceBracket {
             function,
             line: statement.line,
         })?;
@@ -65,13 +69,13 @@ pub(crate) fn pass(brackets: &mut Vec<Bracket>, statement: &Statement) -> Result
     Ok(())
 }
 
-fn closes_none(brackets: &[Bracket], statement: &Statement) -> bool
+fn closes_none(brackets: &[SourceBracket], statement: &Statement) -> bool
     ensures { result ≡ closes_no_bracket brackets.now statement.now }
 {
     closes(statement.code) && brackets.is_empty()
 }
 
-fn is_eighth(brackets: &[Bracket], statement: &Statement) -> bool
+fn is_eighth(brackets: &[SourceBracket], statement: &Statement) -> bool
     ensures { result ≡ is_eighth_bracket brackets.now statement.now }
 {
     opening(statement.code).is_some() && brackets.len() >= 7
@@ -79,7 +83,8 @@ fn is_eighth(brackets: &[Bracket], statement: &Statement) -> bool
 
 fn closed_without(alloc: Global, body: &[Statement]) -> Result<Option<Refusal>, AllocError>
     ensures { IfOk result (λ found. found ≡ least
-        (with_brackets (λ brackets s. broken_if (closes_no_bracket brackets s) s.line 29) [] body.now)) }
+        (with_brackets
+        (λ brackets s. broken_if (closes_no_bracket brackets s) s.line 29) [] body.now)) }
 {
     let mut brackets = Vec::new(alloc);
     let mut found = None;
@@ -104,7 +109,8 @@ pub(crate) fn least_closed_without(
 
 fn eighth(alloc: Global, body: &[Statement]) -> Result<Option<Refusal>, AllocError>
     ensures { IfOk result (λ found. found ≡ least
-        (with_brackets (λ brackets s. broken_if (is_eighth_bracket brackets s) s.line 31) [] body.now)) }
+        (with_brackets
+        (λ brackets s. broken_if (is_eighth_bracket brackets s) s.line 31) [] body.now)) }
 {
     let mut brackets = Vec::new(alloc);
     let mut found = None;
@@ -124,7 +130,7 @@ pub(crate) fn least_eighth(alloc: Global, blocks: &[Block]) -> Result<Option<Ref
     try_least_of(blocks, |b: &Block| eighth(alloc, b.body.as_slice()))
 }
 
-fn open_at_end(alloc: Global, body: &[Statement]) -> Result<Vec<Bracket>, AllocError>
+fn open_at_end(alloc: Global, body: &[Statement]) -> Result<Vec<SourceBracket>, AllocError>
     ensures { IfOk result (λ brackets. brackets.items ≡ brackets_behind_all [] body.now) }
 {
     let mut brackets = Vec::new(alloc);
@@ -138,7 +144,7 @@ fn left_open(alloc: Global, body: &[Statement]) -> Result<Option<Refusal>, Alloc
     ensures { IfOk result (λ found. found ≡ least (brackets_left_open body.now)) }
 {
     let brackets = open_at_end(alloc, body)?;
-    Ok(least_of(&brackets, |b: &Bracket| broken_if(true, b.line, 30)))
+    Ok(least_of(&brackets, |b: &SourceBracket| broken_if(true, b.line, 30)))
 }
 
 /// The least refusal by rule 30.

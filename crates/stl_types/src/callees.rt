@@ -129,8 +129,8 @@ impl<'a> Context<'a> {
         }
     }
 
-    /// The block that a call is checked by, with its parameters: a system function of the nine, or a
-    /// function or function block of the source that breaks no rule itself or by a parameter.
+    /// The block that a call is checked by, with its parameters: a system function of the nine, or
+    /// a function or function block of the source that breaks no rule itself or by a parameter.
     ///
     /// # Errors
     ///

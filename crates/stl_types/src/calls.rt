@@ -18,7 +18,7 @@ use crate::parameters::{Callee, Formal};
 use plc_base::{BlockKind, Refusal, broken_if, lesser, try_least_of};
 use std::alloc::{AllocError, Global};
 use stl_ast::{Actual, Mnemonic, Statement};
-use stl_symbols::Names;
+use stl_symbols::NameIndex;
 
 pub(crate) fn is_named(upper: &[u8], formal: &Formal) -> bool
     ensures { result ≡ bytes_eq upper.now formal.now.name }
@@ -59,13 +59,14 @@ pub(crate) fn least_unnamed(
     alloc: Global,
     actuals: &[Actual],
 ) -> Result<Option<Refusal>, AllocError>
-    ensures { IfOk result (λ found. found ≡ least (actuals_without_formal formals.now actuals.now)) }
+    ensures { IfOk result (λ found. found
+        ≡ least (actuals_without_formal formals.now actuals.now)) }
 {
     try_least_of(actuals, |a: &Actual| unnamed_here(formals, alloc, a))
 }
 
 /// Adds the name of an actual behind those before it.
-fn add_name(names: &mut Names, alloc: Global, actual: &Actual) -> Result<(), AllocError>
+fn add_name(names: &mut NameIndex, alloc: Global, actual: &Actual) -> Result<(), AllocError>
     ensures { IfOk result (λ _. names.new ≡ names.old ++ upper_case_name actual.now.name ∷ []) }
 {
     let upper = actual.name.as_bytes().to_ascii_uppercase(alloc)?;
@@ -75,7 +76,7 @@ fn add_name(names: &mut Names, alloc: Global, actual: &Actual) -> Result<(), All
 fn is_supplied_twice(
     formals: &[Formal],
     alloc: Global,
-    before: &Names,
+    before: &NameIndex,
     actual: &Actual,
 ) -> Result<bool, AllocError>
     ensures { IfOk result (λ twice. twice
@@ -94,9 +95,10 @@ pub(crate) fn least_supplied_twice(
     alloc: Global,
     actuals: &[Actual],
 ) -> Result<Option<Refusal>, AllocError>
-    ensures { IfOk result (λ found. found ≡ least (actuals_supplied_twice formals.now [] actuals.now)) }
+    ensures { IfOk result (λ found. found
+        ≡ least (actuals_supplied_twice formals.now [] actuals.now)) }
 {
-    let mut before = Names::new(alloc);
+    let mut before = NameIndex::new(alloc);
     let mut found = None;
     for actual in actuals {
         let twice = is_supplied_twice(formals, alloc, &before, actual)?;
@@ -106,23 +108,23 @@ pub(crate) fn least_supplied_twice(
     Ok(found)
 }
 
-fn supplied(alloc: Global, actuals: &[Actual]) -> Result<Names, AllocError>
+fn supplied(alloc: Global, actuals: &[Actual]) -> Result<NameIndex, AllocError>
     ensures { IfOk result (λ names. names ≡ supplied_names actuals.now) }
 {
-    let mut names = Names::new(alloc);
+    let mut names = NameIndex::new(alloc);
     for actual in actuals {
         add_name(&mut names, alloc, actual)?;
     }
     Ok(names)
 }
 
-fn is_supplied(names: &Names, formal: &Formal) -> bool
+fn is_supplied(names: &NameIndex, formal: &Formal) -> bool
     ensures { result ≡ is_supplied names.now formal.now }
 {
     names.place(formal.name.as_bytes()).is_some()
 }
 
-fn are_supplied(names: &Names, formals: &[Formal]) -> bool
+fn are_supplied(names: &NameIndex, formals: &[Formal]) -> bool
     ensures { result ≡ list_all (is_supplied names.now) formals.now }
 {
     formals.iter().all(|f| is_supplied(names, f))

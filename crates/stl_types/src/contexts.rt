@@ -115,7 +115,7 @@ impl<'a> Context<'a> {
         self.layouts.data_block(self.symbols, name)
     }
 
-    /// The same, where it breaks no rule itself.
+    /// The place of the data block that a name means, where the block breaks no rule itself.
     pub(crate) fn whole_data_place(&self, name: &BlockName) -> Option<usize>
         ensures { result ≡ whole_data_place self.now name.now }
     {

@@ -14,11 +14,11 @@ ghost use Rattle.stl_types.specs.Labels.{
 use plc_base::{Refusal, broken_if, least_of, lesser, try_least_of};
 use std::alloc::{AllocError, Global};
 use stl_ast::{Block, Name, Operand, Statement};
-use stl_symbols::Names;
+use stl_symbols::NameIndex;
 
 /// Adds the label of a statement behind those before it.
 pub(crate) fn add_label(
-    labels: &mut Names,
+    labels: &mut NameIndex,
     alloc: Global,
     label: &Option<Name>,
 ) -> Result<(), AllocError>
@@ -31,17 +31,17 @@ pub(crate) fn add_label(
 }
 
 /// The labels of a body.
-fn labels_of(alloc: Global, body: &[Statement]) -> Result<Names, AllocError>
+fn labels_of(alloc: Global, body: &[Statement]) -> Result<NameIndex, AllocError>
     ensures { IfOk result (λ labels. labels ≡ labels_of body.now) }
 {
-    let mut labels = Names::new(alloc);
+    let mut labels = NameIndex::new(alloc);
     for statement in body {
         add_label(&mut labels, alloc, &statement.label)?;
     }
     Ok(labels)
 }
 
-fn is_unknown_label(labels: &Names, operand: &Operand) -> bool
+fn is_unknown_label(labels: &NameIndex, operand: &Operand) -> bool
     ensures { result ≡ is_unknown_label labels.now operand.now }
 {
     match operand {
@@ -71,7 +71,7 @@ pub(crate) fn least_unknown_label(
     try_least_of(blocks, |b: &Block| unknown_labels(alloc, b.body.as_slice()))
 }
 
-fn is_twice(before: &Names, label: &Option<Name>) -> bool
+fn is_twice(before: &NameIndex, label: &Option<Name>) -> bool
     ensures { result ≡ is_repeated_label before.now label.now }
 {
     match label {
@@ -83,7 +83,7 @@ fn is_twice(before: &Names, label: &Option<Name>) -> bool
 fn labels_twice(alloc: Global, body: &[Statement]) -> Result<Option<Refusal>, AllocError>
     ensures { IfOk result (λ found. found ≡ least (labels_twice [] body.now)) }
 {
-    let mut before = Names::new(alloc);
+    let mut before = NameIndex::new(alloc);
     let mut found = None;
     for statement in body {
         let twice = is_twice(&before, &statement.label);

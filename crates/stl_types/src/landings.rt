@@ -17,39 +17,39 @@ ghost use Rattle.stl_types.specs.Landings.{
   rule_33,
 };
 
-use crate::brackets::{Bracket, pass};
+use crate::brackets::{SourceBracket, pass};
 use crate::labels::add_label;
 use crate::zones::pass_zones;
 use plc_base::{Refusal, broken_if, lesser, try_least_of};
 use std::alloc::{AllocError, Global};
 use std::marker::Model;
 use stl_ast::{Block, Name, Operand, Statement};
-use stl_symbols::Names;
+use stl_symbols::NameIndex;
 
 /// Of more open brackets than seven so many are kept: the eighth has broken a rule.
 const MOST_KEPT: usize = 8;
 
 /// The brackets that are open, and the zones by the lines of their `MCR(`.
 #[derive(Drop)]
-struct Nesting {
-    brackets: Vec<Bracket>,
+struct SourceNesting {
+    brackets: Vec<SourceBracket>,
     zones: Vec<u32>,
 }
 
-impl Model for Nesting {
-    ghost use Rattle.stl_types.specs.Landings.{Nesting as NestingData};
+impl Model for SourceNesting {
+    ghost use Rattle.stl_types.specs.Landings.{SourceNesting as NestingData};
 
     ghost Value = { NestingData };
 
     ghost view = { λ n. record { brackets = n.brackets.items; zones = n.zones.items } };
 }
 
-impl Nesting {
+impl SourceNesting {
     /// What is open before the first statement of a body.
-    fn new(alloc: Global) -> Nesting
+    fn new(alloc: Global) -> SourceNesting
         ensures { result ≡ empty_nesting }
     {
-        Nesting {
+        SourceNesting {
             brackets: Vec::new(alloc),
             zones: Vec::new(alloc),
         }
@@ -83,11 +83,11 @@ impl Model for Landing {
 /// The labels of a body, and what is open before the statement of each.
 #[derive(Drop)]
 struct Targets {
-    labels: Names,
+    labels: NameIndex,
     landings: Vec<Landing>,
 }
 
-fn kept(brackets: &[Bracket]) -> &[Bracket]
+fn kept(brackets: &[SourceBracket]) -> &[SourceBracket]
     ensures { result.now ≡ take 8 brackets.now }
 {
     if brackets.len() > MOST_KEPT {
@@ -97,7 +97,7 @@ fn kept(brackets: &[Bracket]) -> &[Bracket]
     }
 }
 
-fn functions_of(alloc: Global, brackets: &[Bracket]) -> Result<Vec<u8>, AllocError>
+fn functions_of(alloc: Global, brackets: &[SourceBracket]) -> Result<Vec<u8>, AllocError>
     ensures { IfOk result (λ functions. functions.items ≡ functions_of brackets.now) }
 {
     let mut functions = Vec::new(alloc);
@@ -107,7 +107,7 @@ fn functions_of(alloc: Global, brackets: &[Bracket]) -> Result<Vec<u8>, AllocErr
     Ok(functions)
 }
 
-fn landing_of(alloc: Global, nesting: &Nesting) -> Result<Landing, AllocError>
+fn landing_of(alloc: Global, nesting: &SourceNesting) -> Result<Landing, AllocError>
     ensures { IfOk result (λ landing. landing ≡ landing_of nesting.now) }
 {
     Ok(Landing {
@@ -119,7 +119,7 @@ fn landing_of(alloc: Global, nesting: &Nesting) -> Result<Landing, AllocError>
 fn add_landing(
     landings: &mut Vec<Landing>,
     alloc: Global,
-    nesting: &Nesting,
+    nesting: &SourceNesting,
     label: &Option<Name>,
 ) -> Result<(), AllocError>
     ensures { IfOk result (λ _. landings.new.items
@@ -133,11 +133,12 @@ fn add_landing(
 
 fn targets_of(alloc: Global, body: &[Statement]) -> Result<Targets, AllocError>
     ensures labels { IfOk result (λ t. t.labels ≡ labels_of body.now) }
-    ensures landings { IfOk result (λ t. t.landings.items ≡ landings_at_labels empty_nesting body.now) }
+    ensures landings { IfOk result (λ t. t.landings.items
+        ≡ landings_at_labels empty_nesting body.now) }
 {
-    let mut labels = Names::new(alloc);
+    let mut labels = NameIndex::new(alloc);
     let mut landings = Vec::new(alloc);
-    let mut nesting = Nesting::new(alloc);
+    let mut nesting = SourceNesting::new(alloc);
     for statement in body {
         add_label(&mut labels, alloc, &statement.label)?;
         add_landing(&mut landings, alloc, &nesting, &statement.label)?;
@@ -163,7 +164,7 @@ fn differ(here: &Landing, there: &Landing) -> bool
 fn lands_elsewhere(
     targets: &Targets,
     alloc: Global,
-    nesting: &Nesting,
+    nesting: &SourceNesting,
     name: &Name,
 ) -> Result<bool, AllocError>
     ensures { IfOk result (λ wrong. wrong ≡ lands_elsewhere (landing_of nesting.now)
@@ -182,10 +183,11 @@ fn lands_elsewhere(
 fn crosses(
     targets: &Targets,
     alloc: Global,
-    nesting: &Nesting,
+    nesting: &SourceNesting,
     operand: &Operand,
 ) -> Result<bool, AllocError>
-    ensures { IfOk result (λ wrong. wrong ≡ crosses_nesting targets.now.labels targets.now.landings.items
+    ensures { IfOk result (λ wrong. wrong
+        ≡ crosses_nesting targets.now.labels targets.now.landings.items
         nesting.now operand.now) }
 {
     match operand {
@@ -202,7 +204,7 @@ fn crossing_jumps(
     ensures { IfOk result (λ found. found ≡ least (crossing_jumps targets.now.labels
         targets.now.landings.items body.now)) }
 {
-    let mut nesting = Nesting::new(alloc);
+    let mut nesting = SourceNesting::new(alloc);
     let mut found = None;
     for statement in body {
         let wrong = crosses(targets, alloc, &nesting, &statement.operand)?;

@@ -19,15 +19,15 @@ mod lists;
 mod misfits;
 mod operands;
 mod parameters;
+mod resolution;
 mod resolving;
-mod seeing;
 mod system_functions;
 mod unknown;
 mod variables;
 mod views;
 mod zones;
 
-pub use brackets::Bracket;
+pub use brackets::SourceBracket;
 pub use checking::{Checked, check};
 pub use contexts::Context;
 pub use forms::OperandRule;

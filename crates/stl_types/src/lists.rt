@@ -18,7 +18,7 @@ use crate::labels::add_label;
 use plc_base::{Refusal, broken_if, lesser, try_least_of};
 use std::alloc::{AllocError, Global};
 use stl_ast::{Block, Mnemonic, Name, Operand, Statement};
-use stl_symbols::Names;
+use stl_symbols::NameIndex;
 
 /// The most jumps of the list of a JL.
 const MOST_JUMPS: u32 = 255;
@@ -80,13 +80,13 @@ fn is_list_to(name: &[u8], body: &[Statement]) -> bool
     false
 }
 
-fn has_list(before: &Names, name: &[u8], behind: &[Statement]) -> bool
+fn has_list(before: &NameIndex, name: &[u8], behind: &[Statement]) -> bool
     ensures { result ≡ has_list before.now name.now behind.now }
 {
     before.place(name).is_none() && is_list_to(name, behind)
 }
 
-fn lacks_list(before: &Names, operand: &Operand, behind: &[Statement]) -> bool
+fn lacks_list(before: &NameIndex, operand: &Operand, behind: &[Statement]) -> bool
     ensures { result ≡ lacks_list before.now operand.now behind.now }
 {
     match operand {
@@ -95,7 +95,7 @@ fn lacks_list(before: &Names, operand: &Operand, behind: &[Statement]) -> bool
     }
 }
 
-fn is_wrong_list(before: &Names, statement: &Statement, behind: &[Statement]) -> bool
+fn is_wrong_list(before: &NameIndex, statement: &Statement, behind: &[Statement]) -> bool
     ensures { result ≡ is_wrong_list before.now statement.now behind.now }
 {
     is_list_jump(statement.code) && lacks_list(before, &statement.operand, behind)
@@ -112,7 +112,7 @@ fn behind(body: &[Statement], place: usize) -> &[Statement]
 fn wrong_lists(alloc: Global, body: &[Statement]) -> Result<Option<Refusal>, AllocError>
     ensures { IfOk result (λ found. found ≡ least (lists_from [] body.now)) }
 {
-    let mut before = Names::new(alloc);
+    let mut before = NameIndex::new(alloc);
     let mut found = None;
     for place in 0..body.len() {
         let statement = &body[place];

@@ -3,8 +3,8 @@ ghost use Rattle.std.specs.List.{flat_map};
 ghost use Rattle.std.specs.Option.{option_copied};
 ghost use Rattle.std.specs.Str.{bytes_eq};
 ghost use Rattle.plc_base.specs.Least.{broken_if, least};
-ghost use Rattle.stl_types.specs.Actuals.{fits_operand, fits_seen, formal_named};
-ghost use Rattle.stl_types.specs.Calls.{misfits_formal, sees_date};
+ghost use Rattle.stl_types.specs.Actuals.{fits_operand, fits_resolution, formal_named};
+ghost use Rattle.stl_types.specs.Calls.{misfits_formal, is_resolved_date};
 ghost use Rattle.stl_types.specs.Resolution.{resolution_of};
 
 use crate::actuals::{fits_view, is_input_section};
@@ -26,10 +26,10 @@ fn formal_named<'f>(formals: &'f [Formal], upper: &[u8]) -> Option<&'f Formal>
 }
 
 /// An operand that isn't there or isn't checked breaks no further rule.
-fn fits_seen(formal: &Formal, seen: Resolution) -> bool
-    ensures { result ≡ fits_seen formal.now seen }
+fn fits_resolution(formal: &Formal, resolution: Resolution) -> bool
+    ensures { result ≡ fits_resolution formal.now resolution }
 {
-    match seen {
+    match resolution {
         Resolution::Resolved { view } => fits_view(formal, view),
         Resolution::Unknown | Resolution::Unjudged => true,
     }
@@ -49,7 +49,7 @@ fn fits_operand(
         Operand::Constant { value } => {
             Ok(is_input_section(formal.section) && fits(value, formal.kind))
         }
-        _ => Ok(fits_seen(formal, scope.seen(alloc, operand)?)),
+        _ => Ok(fits_resolution(formal, scope.resolution(alloc, operand)?)),
     }
 }
 
@@ -98,10 +98,10 @@ pub(crate) fn least_misfit(
     try_least_of(actuals, |a: &Actual| misfit_here(scope, alloc, formals, a))
 }
 
-fn sees_date(seen: Resolution) -> bool
-    ensures { result ≡ sees_date seen }
+fn is_resolved_date(resolution: Resolution) -> bool
+    ensures { result ≡ is_resolved_date resolution }
 {
-    match seen {
+    match resolution {
         Resolution::Resolved { view } => is_date(view),
         _ => false,
     }
@@ -109,9 +109,11 @@ fn sees_date(seen: Resolution) -> bool
 
 fn date_here(scope: &Context, alloc: Global, actual: &Actual) -> Result<Option<Refusal>, AllocError>
     ensures { IfOk result (λ found. found
-        ≡ least (broken_if (sees_date (resolution_of scope.now actual.now.value)) actual.now.line 24)) }
+        ≡ least
+        (broken_if (is_resolved_date (resolution_of scope.now actual.now.value))
+        actual.now.line 24)) }
 {
-    let date = sees_date(scope.seen(alloc, &actual.value)?);
+    let date = is_resolved_date(scope.resolution(alloc, &actual.value)?);
     Ok(broken_if(date, actual.line, 24))
 }
 
@@ -122,7 +124,8 @@ pub(crate) fn least_date(
     actuals: &[Actual],
 ) -> Result<Option<Refusal>, AllocError>
     ensures { IfOk result (λ found. found ≡ least (flat_map
-        (λ a. broken_if (sees_date (resolution_of scope.now a.value)) a.line 24) actuals.now)) }
+        (λ a. broken_if (is_resolved_date (resolution_of scope.now a.value)) a.line 24)
+        actuals.now)) }
 {
     try_least_of(actuals, |a: &Actual| date_here(scope, alloc, a))
 }

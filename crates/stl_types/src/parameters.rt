@@ -10,8 +10,9 @@ pub struct Formal {
     pub kind: Simple,
 }
 
-/// A block that is called, with its parameters; `place` is that of a block of the source. The result
-/// RET_VAL is the first parameter of a function of the source, and the last of a system function.
+/// A block that is called, with its parameters; `place` is that of a block of the source. The
+/// result RET_VAL is the first parameter of a function of the source, and the last of a system
+/// function.
 #[derive(Drop)]
 pub struct Callee {
     pub id: BlockId,

@@ -6,11 +6,11 @@ ghost use Rattle.stl_types.specs.Operands.{
   at_line,
   operand_rule,
   operands_24,
-  rule_seen,
+  rule_of_resolution,
   rules_24_25_39,
   statement_rule,
 };
-ghost use Rattle.stl_types.specs.Resolved.{resolved_operand, seen_view};
+ghost use Rattle.stl_types.specs.Resolved.{resolved_operand, resolved_view};
 ghost use Rattle.stl_types.specs.Resolution.{resolution_of};
 
 use crate::constants::takes_constant;
@@ -25,10 +25,10 @@ use stl_ast::{Block, Operand, Statement, Tree};
 use stl_symbols::Symbols;
 
 /// The rule that an instruction breaks by what its operand comes to.
-fn rule_seen(form: OperandRule, seen: Resolution) -> Option<u16>
-    ensures { result ≡ rule_seen form seen }
+fn rule_of_resolution(form: OperandRule, resolution: Resolution) -> Option<u16>
+    ensures { result ≡ rule_of_resolution form resolution }
 {
-    match seen {
+    match resolution {
         Resolution::Resolved { view } => rule_of(form, view),
         _ => None,
     }
@@ -47,15 +47,15 @@ fn operand_rule(form: OperandRule, operand: &Operand, found: Resolution) -> Opti
                 Some(25)
             }
         }
-        _ => rule_seen(form, found),
+        _ => rule_of_resolution(form, found),
     }
 }
 
-/// What is seen, if something is.
-fn seen_view(seen: Resolution) -> Option<ResolvedOperand>
-    ensures { result ≡ seen_view seen }
+/// What an operand names, where its resolution has that.
+fn resolved_view(resolution: Resolution) -> Option<ResolvedOperand>
+    ensures { result ≡ resolved_view resolution }
 {
-    match seen {
+    match resolution {
         Resolution::Resolved { view } => Some(view),
         _ => None,
     }
@@ -72,8 +72,8 @@ fn at_line(line: u32, rule: Option<u16>) -> Option<Refusal>
 }
 
 impl<'a> Context<'a> {
-    /// What the operand of a statement names; none where its instruction doesn't take it, or where it
-    /// can't be resolved.
+    /// What the operand of a statement names; none where its instruction doesn't take it, or where
+    /// it can't be resolved.
     ///
     /// # Errors
     ///
@@ -86,10 +86,10 @@ impl<'a> Context<'a> {
     ) -> Result<Option<ResolvedOperand>, AllocError>
         ensures { IfOk result (λ v. v ≡ resolved_operand self.now statement.now) }
     {
-        let seen = self.seen(alloc, &statement.operand)?;
-        let rule = operand_rule(form_of(statement.code), &statement.operand, seen);
+        let resolution = self.resolution(alloc, &statement.operand)?;
+        let rule = operand_rule(form_of(statement.code), &statement.operand, resolution);
         if rule.is_none() {
-            Ok(seen_view(seen))
+            Ok(resolved_view(resolution))
         } else {
             Ok(None)
         }
@@ -104,8 +104,8 @@ fn statement_rule(
 ) -> Result<Option<u16>, AllocError>
     ensures { IfOk result (λ rule. rule ≡ statement_rule scope.now statement.now) }
 {
-    let seen = scope.seen(alloc, &statement.operand)?;
-    Ok(operand_rule(form_of(statement.code), &statement.operand, seen))
+    let resolution = scope.resolution(alloc, &statement.operand)?;
+    Ok(operand_rule(form_of(statement.code), &statement.operand, resolution))
 }
 
 fn wrong_operand(

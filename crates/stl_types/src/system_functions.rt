@@ -68,7 +68,7 @@ fn of_start(alloc: Global) -> Result<Vec<Formal>, AllocError>
     Ok(formals)
 }
 
-/// Those of the cancelling of a delay.
+/// The parameters of the cancelling of a delay.
 fn of_cancel(alloc: Global) -> Result<Vec<Formal>, AllocError>
     ensures { IfOk result (λ v. v.items ≡ ob_nr_formal ∷ return_value_formal Simple.Int ∷ []) }
 {
@@ -78,9 +78,10 @@ fn of_cancel(alloc: Global) -> Result<Vec<Formal>, AllocError>
     Ok(formals)
 }
 
-/// Those of the switching off and on of interrupts.
+/// The parameters of the switching off and on of interrupts.
 fn of_switch(alloc: Global) -> Result<Vec<Formal>, AllocError>
-    ensures { IfOk result (λ v. v.items ≡ mode_formal ∷ ob_nr_formal ∷ return_value_formal Simple.Int ∷ []) }
+    ensures { IfOk result (λ v. v.items
+        ≡ mode_formal ∷ ob_nr_formal ∷ return_value_formal Simple.Int ∷ []) }
 {
     let mut formals = Vec::with_capacity(alloc, 3)?;
     formals.push(mode(alloc)?)?;

@@ -20,10 +20,10 @@ use std::alloc::{AllocError, Global};
 use stl_ast::{Actual, Block, Operand, Setting, Statement, Tree};
 use stl_symbols::Symbols;
 
-fn is_unknown(seen: Resolution) -> bool
-    ensures { result ≡ is_unknown seen }
+fn is_unknown(resolution: Resolution) -> bool
+    ensures { result ≡ is_unknown resolution }
 {
-    matches!(seen, Resolution::Unknown)
+    matches!(resolution, Resolution::Unknown)
 }
 
 fn leads_nowhere(walk: PathEnd) -> bool
@@ -87,8 +87,8 @@ fn unknown_operand(
     ensures { IfOk result (λ found. found ≡ least (operand_20 scope.now
         (record { line = line; operand = operand.now }))) }
 {
-    let seen = scope.seen(alloc, operand)?;
-    Ok(broken_if(is_unknown(seen), line, 20))
+    let resolution = scope.resolution(alloc, operand)?;
+    Ok(broken_if(is_unknown(resolution), line, 20))
 }
 
 fn unknown_actuals(

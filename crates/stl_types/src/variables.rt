@@ -51,8 +51,8 @@ fn in_area(kind: Simple, found: Option<(Place, Width)>) -> Resolution
     }
 }
 
-/// The place of a parameter in a call: those declared in their order, and the return value, which is
-/// the first of the components, behind them.
+/// The place of a parameter in a call: those declared in their order, and the return value, which
+/// is the first of the components, behind them.
 fn behind_others(count: usize, place: usize, returned: Option<Simple>) -> usize
     ensures { result ≡ behind_others count place returned }
 {
@@ -116,9 +116,9 @@ impl<'a> Context<'a> {
         !self.layouts().has_component(self.block(), name)
     }
 
-    /// An elementary variable of the block: a temporary one lies in the local data, a parameter of a
-    /// function is bound at its call, and each variable of a function block lies in the data block of
-    /// the DI register.
+    /// An elementary variable of the block: a temporary one lies in the local data, a parameter of
+    /// a function is bound at its call, and each variable of a function block lies in the data
+    /// block of the DI register.
     fn own_elementary(&self, temporary: bool, spot: ComponentAt, kind: Simple) -> Resolution
         ensures { result ≡ own_elementary self.now temporary spot kind }
     {

@@ -3,38 +3,48 @@ use Rattle.std.specs.Prelude.{ℕ, zero, suc, ◌+◌, ◌*◌, ◌/◌, Bool, �
 use Rattle.ob_sched.specs.OrganizationBlock.{is_interrupt}
 use Rattle.ob_sched.specs.Scheduler.{Scheduler, disabled_as}
 
--- the first of its group: of OB 10 to 17, 20 to 23, 30 to 38 or 40 to 47
+-- the first OB number of the group of an interrupt: 10, 20, 30 or 40
 abbrev pub first_of_group : ℕ → ℕ
 first_of_group ob = ob / 10 * 10
 
--- MODE 0 means all interrupts and doesn't look at OB_NR, MODE 1 the group whose first number is OB_NR, MODE 2 the one of OB_NR
+-- MODE and OB_NR of DIS_IRT or EN_IRT mean this OB: MODE 0 means all interrupts and doesn't look
+-- at OB_NR, MODE 1 the group whose first number is OB_NR, MODE 2 the interrupt of OB_NR
 abbrev pub is_interrupt_selected : (mode ob_nr ob : ℕ) → Bool
 is_interrupt_selected mode ob_nr ob =
-    is_interrupt ob && (mode == 0 || (mode == 1 && first_of_group ob == ob_nr) || (mode == 2 && ob == ob_nr))
+    is_interrupt ob
+    && (mode == 0 || (mode == 1 && first_of_group ob == ob_nr) || (mode == 2 && ob == ob_nr))
 
--- OB_NR means interrupts: with MODE 0 always, with MODE 1 where it is the first number of a group,
--- with MODE 2 where it is that of an interrupt; with another MODE none
+-- MODE and OB_NR of DIS_IRT or EN_IRT mean some interrupts: with MODE 0 always, with MODE 1 where
+-- OB_NR is the first number of a group, with MODE 2 where OB_NR is an interrupt; with another MODE
+-- none
 abbrev pub selects_interrupts : (mode ob_nr : ℕ) → Bool
 selects_interrupts mode ob_nr =
-    mode == 0 || (mode == 1 && is_interrupt ob_nr && first_of_group ob_nr == ob_nr) || (mode == 2 && is_interrupt ob_nr)
+    mode == 0
+    || (mode == 1 && is_interrupt ob_nr && first_of_group ob_nr == ob_nr)
+    || (mode == 2 && is_interrupt ob_nr)
 
--- the error code: 16#8091 for another MODE; after that 16#8090 for an OB_NR that means none
+-- the error code of DIS_IRT and EN_IRT: 16#8091 for a MODE other than 0 to 2; after that 16#8090
+-- for an OB_NR that means no interrupt
 abbrev pub selection_error_code : (mode ob_nr : ℕ) → Option ℕ
 selection_error_code mode ob_nr =
     if nat_lt 2 mode then Some 0x8091
     else if selects_interrupts mode ob_nr then None
     else Some 0x8090
 
--- an organization block is disabled, or enabled, if it is meant
+-- the scheduler in which an organization block is disabled or enabled, if it is meant
 abbrev pub disabled_if_selected : Bool → Bool → ℕ → Scheduler → Scheduler
 disabled_if_selected meant disabled ob s = if meant then disabled_as disabled ob s else s
 
--- each organization block that is meant is disabled, or enabled: of so many, from this number on
-abbrev pub selected_disabled_from : (disabled : Bool) (mode ob_nr ob count : ℕ) → Scheduler → Scheduler
+-- the scheduler in which of some OBs with consecutive numbers those that MODE and OB_NR mean are
+-- disabled or enabled
+abbrev pub selected_disabled_from :
+    (disabled : Bool) (mode ob_nr ob count : ℕ) → Scheduler → Scheduler
 selected_disabled_from disabled mode ob_nr ob zero s = s
 selected_disabled_from disabled mode ob_nr ob (suc n) s =
-    selected_disabled_from disabled mode ob_nr (ob + 1) n (disabled_if_selected (is_interrupt_selected mode ob_nr ob) disabled ob s)
+    selected_disabled_from disabled mode ob_nr (ob + 1) n
+    (disabled_if_selected (is_interrupt_selected mode ob_nr ob) disabled ob s)
 
--- the interrupts have the numbers 10 to 47
+-- the scheduler in which the interrupts that MODE and OB_NR mean are disabled or enabled;
+-- interrupts have the numbers 10 to 47
 unfoldable pub selected_disabled : (disabled : Bool) (mode ob_nr : ℕ) → Scheduler → Scheduler
 selected_disabled disabled mode ob_nr s = selected_disabled_from disabled mode ob_nr 10 38 s

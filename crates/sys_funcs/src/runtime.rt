@@ -33,7 +33,8 @@ pub fn stp(s: &mut Sched, a: &mut Activation) -> u8
 /// SFC 64 TIME_TCK: the clock in milliseconds, below 2^31.
 #[tactic(auto, unfolding(crate::specs::Functions::time_tck))]
 pub fn time_tck(s: &mut Sched, a: &mut Activation) -> u32
-    ensures { LeavesSystemFunctionResult (tells (scheduler_of s.old) a.old) (scheduler_of s.new) a.new result }
+    ensures { LeavesSystemFunctionResult (tells (scheduler_of s.old) a.old)
+        (scheduler_of s.new) a.new result }
 {
     set_br(a, true);
     s.clock()

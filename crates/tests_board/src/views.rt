@@ -68,22 +68,22 @@ fn tell_and_view<R: Wait + Abort>(
     ensures publisher { publisher.new.board ≡ publisher.old.board }
     ensures viewer { viewer.new.board ≡ viewer.old.board }
 {
-    same(rt, "nothing told", viewer.view(), opening_item());
+    same(rt, "nothing learned", viewer.view(), opening_item());
     publish_and_tell(rt, publisher, viewer, one_value(1, 1))?;
-    same(rt, "told of 1", viewer.view().length >= 1, true);
-    // two told of, and none viewed between
+    same(rt, "a note of 1", viewer.view().length >= 1, true);
+    // two notes, and no view between
     publish_and_tell(rt, publisher, viewer, one_value(7, 2))?;
     publish_and_tell(rt, publisher, viewer, one_value(u64::MAX, 3))?;
-    same(rt, "told of all", viewer.view(), one_value(u64::MAX, 3));
+    same(rt, "a note of all", viewer.view(), one_value(u64::MAX, 3));
     Ok(())
 }
 
 #[test]
-fn what_was_told_is_viewed_at_least(rt: HostRuntime) -> Result<(), Fail> {
+fn a_view_is_as_new_as_its_notes(rt: HostRuntime) -> Result<(), Fail> {
     let (mut publisher, mut viewer) = Board::new(&rt, rt.alloc())?;
-    let told = tell_and_view(&rt, &mut publisher, &mut viewer);
+    let outcome = tell_and_view(&rt, &mut publisher, &mut viewer);
     publisher.close(&rt, viewer);
-    told?;
+    outcome?;
     Ok(())
 }
 
@@ -102,16 +102,16 @@ fn tell_late<R: Wait + Abort>(
     let new = publisher.publish(rt, one_value(4, 40))?;
     viewer.learn(new);
     viewer.learn(old);
-    same(rt, "the older told last", viewer.view(), one_value(4, 40));
+    same(rt, "the older note last", viewer.view(), one_value(4, 40));
     Ok(())
 }
 
 #[test]
 fn an_older_note_changes_nothing(rt: HostRuntime) -> Result<(), Fail> {
     let (mut publisher, mut viewer) = Board::new(&rt, rt.alloc())?;
-    let told = tell_late(&rt, &mut publisher, &mut viewer);
+    let outcome = tell_late(&rt, &mut publisher, &mut viewer);
     publisher.close(&rt, viewer);
-    told?;
+    outcome?;
     Ok(())
 }
 

@@ -202,36 +202,41 @@ fn show_and_pass(
     Ok(())
 }
 
-/// What ends a row of steps, or stands in front of it.
+/// What ends a row of steps, or stands in front of one.
 #[derive(Clone, Copy)]
-enum Around {
+enum Boundary {
     Waiting,
     Monitoring,
     Showing,
 }
 
-fn go_around(
+fn play_boundary(
     rt: &impl Abort,
     controller: &mut Controller,
     out: &mut String,
-    around: Around,
+    boundary: Boundary,
 ) -> Result<(), Fail> {
-    match around {
-        Around::Waiting => wait_for_a_place(rt, controller, out),
-        Around::Monitoring => monitor_for_a_while(rt, controller, out),
-        Around::Showing => show_and_pass(rt, controller, out),
+    match boundary {
+        Boundary::Waiting => wait_for_a_place(rt, controller, out),
+        Boundary::Monitoring => monitor_for_a_while(rt, controller, out),
+        Boundary::Showing => show_and_pass(rt, controller, out),
     }
 }
 
-fn goes_around(rt: &impl Abort, alloc: Global, program: &str, around: Around) -> Result<(), Fail> {
+fn plays_boundary(
+    rt: &impl Abort,
+    alloc: Global,
+    program: &str,
+    boundary: Boundary,
+) -> Result<(), Fail> {
     let mut controller = controller_of(alloc, program)?;
     let mut out = String::new(alloc);
-    go_around(rt, &mut controller, &mut out, around)
+    play_boundary(rt, &mut controller, &mut out, boundary)
 }
 
 #[test]
-fn around_rows(rt: HostRuntime) -> Result<(), Fail> {
-    goes_around(&rt, rt.alloc(), WAITS, Around::Waiting)?;
-    goes_around(&rt, rt.alloc(), MONITORED, Around::Monitoring)?;
-    goes_around(&rt, rt.alloc(), SHOWN, Around::Showing)
+fn boundaries_of_rows(rt: HostRuntime) -> Result<(), Fail> {
+    plays_boundary(&rt, rt.alloc(), WAITS, Boundary::Waiting)?;
+    plays_boundary(&rt, rt.alloc(), MONITORED, Boundary::Monitoring)?;
+    plays_boundary(&rt, rt.alloc(), SHOWN, Boundary::Showing)
 }

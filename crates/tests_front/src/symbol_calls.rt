@@ -5,7 +5,7 @@ use std::process::Abort;
 use stl_symbols::{Language, SYMBOLS_LIMIT, Symbols, Target, read_symbols, read_symbols_german};
 
 /// The symbols of a file with addresses of this language, or its refusal; a longer file than the limit
-/// is told as want of memory.
+/// is refused for want of memory.
 pub(crate) fn read(alloc: Global, language: Language, file: &[u8]) -> Result<Symbols, SourceFault> {
     if file.len() > SYMBOLS_LIMIT {
         return Err(SourceFault::NoMemory);

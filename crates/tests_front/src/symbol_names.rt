@@ -2,7 +2,7 @@ use crate::compare::same;
 use plc_base::{Refusal, broken_if, least_of, lesser, try_least_of};
 use std::alloc::{AllocError, Global};
 use std::test::Fail;
-use stl_symbols::{Names, Numbers};
+use stl_symbols::{NameIndex, NumberIndex};
 
 /// The line and the rule of a refusal.
 type Broken = Option<(u32, u16)>;
@@ -79,7 +79,7 @@ static NAME_PLACES: [(&[u8], Option<usize>); 6] = [
     (b"ab", None),
 ];
 
-fn add_names(alloc: Global, names: &mut Names) -> Result<(), AllocError> {
+fn add_names(alloc: Global, names: &mut NameIndex) -> Result<(), AllocError> {
     for name in &NAMES {
         names.add(alloc, name)?;
     }
@@ -88,7 +88,7 @@ fn add_names(alloc: Global, names: &mut Names) -> Result<(), AllocError> {
 
 #[test]
 fn names_have_first_places(rt: HostRuntime) -> Result<(), Fail> {
-    let mut names = Names::new(rt.alloc());
+    let mut names = NameIndex::new(rt.alloc());
     add_names(rt.alloc(), &mut names)?;
     for (name, place) in &NAME_PLACES {
         same(&rt, *name, names.place(name), *place);
@@ -106,7 +106,7 @@ static NUMBER_PLACES: [(u16, Option<usize>); 4] = [
     (1, None),
 ];
 
-fn add_numbers(numbers: &mut Numbers) -> Result<(), AllocError> {
+fn add_numbers(numbers: &mut NumberIndex) -> Result<(), AllocError> {
     for number in &NUMBERS {
         numbers.add(*number)?;
     }
@@ -115,7 +115,7 @@ fn add_numbers(numbers: &mut Numbers) -> Result<(), AllocError> {
 
 #[test]
 fn numbers_have_first_places(rt: HostRuntime) -> Result<(), Fail> {
-    let mut numbers = Numbers::new(rt.alloc());
+    let mut numbers = NumberIndex::new(rt.alloc());
     add_numbers(&mut numbers)?;
     for (number, place) in &NUMBER_PLACES {
         same(&rt, *number, numbers.place(*number), *place);

@@ -13,11 +13,11 @@ use stl_lexer::{
 };
 
 /// The kind of a token, its text and its line.
-type Told = (TokenKind, &'static [u8], u32);
+type TokenRow = (TokenKind, &'static [u8], u32);
 
 struct Cut {
     source: &'static [u8],
-    tokens: &'static [Told],
+    tokens: &'static [TokenRow],
 }
 
 // Cut by hand after the table of tokens in docs/LANGUAGE.md.
@@ -139,7 +139,7 @@ static CUTS: [Cut; 12] = [
     },
 ];
 
-/// The tokens of a source, or its refusal; a longer source than the limit is told as want of memory.
+/// The tokens of a source, or its refusal; a longer source than the limit is refused for want of memory.
 fn tokens_of(alloc: Global, source: &[u8]) -> Result<Tokens, SourceFault> {
     if source.len() > SOURCE_LIMIT {
         return Err(SourceFault::NoMemory);
@@ -148,7 +148,7 @@ fn tokens_of(alloc: Global, source: &[u8]) -> Result<Tokens, SourceFault> {
 }
 
 /// The kind of a token, its bytes by the list and by the source, and its line.
-fn told<'a>(
+fn token_at<'a>(
     tokens: &'a Tokens,
     at: usize,
     source: &'a [u8],
@@ -161,11 +161,11 @@ fn told<'a>(
 }
 
 /// The source was cut into these tokens.
-fn all_told(rt: &impl Abort, cut: &Tokens, source: &[u8], tokens: &[Told]) {
+fn are_tokens(rt: &impl Abort, cut: &Tokens, source: &[u8], tokens: &[TokenRow]) {
     same(rt, source, cut.list.len(), tokens.len());
     for (i, (kind, text, line)) in tokens.iter().enumerate() {
         let want = Some((*kind, *text, *text, *line));
-        same(rt, (i, source), told(cut, i, source), want);
+        same(rt, (i, source), token_at(cut, i, source), want);
     }
 }
 
@@ -173,7 +173,7 @@ fn all_told(rt: &impl Abort, cut: &Tokens, source: &[u8], tokens: &[Told]) {
 fn cuts_sources(rt: HostRuntime) -> Result<(), Fail> {
     for Cut { source, tokens } in &CUTS {
         let cut = tokens_of(rt.alloc(), source)?;
-        all_told(&rt, &cut, source, tokens);
+        are_tokens(&rt, &cut, source, tokens);
     }
     law_of_tokens();
     law_of_time_literals();

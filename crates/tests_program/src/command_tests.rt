@@ -21,8 +21,8 @@ fn check_by_itself(rt: HostRuntime) -> Result<(), Fail> {
     let mut files = files_of(rt.alloc(), &FILES)?;
     let mut out = MemSink::new(rt.alloc(), 64);
     let status = check_status(rt.alloc(), &mut files, &mut out);
-    let told = (status, out.taken.as_slice());
-    same(&rt, "check", told, (0, b"OK\n".as_slice()));
+    let answer = (status, out.taken.as_slice());
+    same(&rt, "check", answer, (0, b"OK\n".as_slice()));
     Ok(())
 }
 
@@ -31,8 +31,8 @@ fn go_by_itself(rt: HostRuntime) -> Result<(), Fail> {
     let mut files = files_of(rt.alloc(), &FILES)?;
     let mut out = MemSink::new(rt.alloc(), 64);
     let status = go_status(rt.alloc(), &mut files, &mut out);
-    let told = (status, out.taken.as_slice());
-    same(&rt, "go", told, (0, ONE_RUN_TEXT));
+    let answer = (status, out.taken.as_slice());
+    same(&rt, "go", answer, (0, ONE_RUN_TEXT));
     Ok(())
 }
 

@@ -82,7 +82,7 @@ const NONE: Faults = Faults {
 
 /// What is compared behind a call.
 #[derive(Drop)]
-enum Told {
+enum Expected {
     /// What the sink took.
     Text(&'static [u8]),
     /// How many bytes the sink took.
@@ -95,27 +95,32 @@ enum Told {
     File(&'static str, &'static [u8]),
 }
 
-/// Compares what is told with the files and the sink.
-fn are_told(
+/// Compares the files and the sink with what is expected.
+fn check_expected(
     rt: &impl Abort,
     words: &[&str],
     faults: Faults,
-    told: &[Told],
+    expected: &[Expected],
     files: &MemFiles,
     out: &MemSink,
 ) {
     let what = (words, faults);
     let text = out.taken.as_slice();
-    for one in told {
+    for one in expected {
         match one {
-            Told::Text(wanted) => same(rt, what, text, *wanted),
-            Told::Length(length) => same(rt, what, text.len(), *length),
-            Told::Calls { reads, writes } => {
+            Expected::Text(wanted) => same(rt, what, text, *wanted),
+            Expected::Length(length) => same(rt, what, text.len(), *length),
+            Expected::Calls { reads, writes } => {
                 same(rt, what, files.reads.made, *reads);
                 same(rt, what, files.writes.made, *writes);
             }
-            Told::Image(image) => same(rt, what, files.files.get("image").unwrap_or(b""), *image),
-            Told::File(name, bytes) => same(
+            Expected::Image(image) => same(
+                rt,
+                what,
+                files.files.get("image").unwrap_or(b""),
+                *image,
+            ),
+            Expected::File(name, bytes) => same(
                 rt,
                 what,
                 files.files.get(*name).unwrap_or(b""),
@@ -125,14 +130,14 @@ fn are_told(
     }
 }
 
-/// Calls with these words over devices that fail so, and compares the status and what is told.
+/// Calls with these words over devices that fail so, and compares the status and what else is expected.
 fn ends<R: Abort + Threads + Wait + Sync>(
     rt: &R,
     alloc: Global,
     words: &[&str],
     faults: Faults,
     status: u8,
-    told: &[Told],
+    expected: &[Expected],
 ) -> Result<(), Fail> {
     let mut files = files_of(alloc, &FILES)?;
     files.fail_reads(only(faults.read));
@@ -141,7 +146,7 @@ fn ends<R: Abort + Threads + Wait + Sync>(
     out.fail_pushes(only(faults.push));
     let code = call(rt, alloc, words, &mut files, &mut out, &OpenGate)?;
     same(rt, (words, faults), code, status);
-    are_told(rt, words, faults, told, &files, &out);
+    check_expected(rt, words, faults, expected, &files, &out);
     Ok(())
 }
 
@@ -162,11 +167,11 @@ static MADE: [(Words, u64, u64); 13] = [
     (WATCH, 8, 0),
 ];
 
-/// What is told of a file that can't be read.
-const NOT_READ: &[Told] = &[Told::Text(b"read fault\n"), Told::Image(IMAGE)];
+/// What is expected of a file that can't be read.
+const NOT_READ: &[Expected] = &[Expected::Text(b"read fault\n"), Expected::Image(IMAGE)];
 
 /// Nothing is said, and the file stays.
-const SILENT: &[Told] = &[Told::Text(b""), Told::Image(IMAGE)];
+const SILENT: &[Expected] = &[Expected::Text(b""), Expected::Image(IMAGE)];
 
 /// Each read and each write of a call fails in turn, the last read and then the first push too; the one
 /// behind the last read is none, so all is well.
@@ -194,7 +199,7 @@ fn each_fails<R: Abort + Threads + Wait + Sync>(
         write: writes.wrapping_add(1),
         ..NONE
     };
-    let made = [Told::Calls { reads, writes }];
+    let made = [Expected::Calls { reads, writes }];
     ends(rt, alloc, words, further, 0, &made)
 }
 
@@ -214,141 +219,155 @@ fn each_read_and_write_fails(rt: HostRuntime) -> Result<(), Fail> {
     all_fail(&rt, rt.alloc(), &MADE)
 }
 
-/// Words, how many bytes each push takes, the number of the push that fails, the status, and what is told.
-type Row = (Words, usize, u64, u8, &'static [Told]);
+/// Words, how many bytes each push takes, the number of the push that fails, the status, and what else is expected.
+type Row = (Words, usize, u64, u8, &'static [Expected]);
 
 // The sink fails behind some bytes. Where a file is written, it is written before the first push.
 static CUT_OFF: [Row; 33] = [
-    (GO, 1, 1, 6, &[Told::Text(b"")]),
-    (GO, 1, 2, 6, &[Told::Text(b"@")]),
-    (GO, 9, 2, 6, &[Told::Text(b"@7 PQ 4 =")]),
-    (CHECK, 2, 2, 6, &[Told::Text(b"OK")]),
-    (&["check", "statement"], 6, 2, 6, &[Told::Text(b"source")]),
-    (COMPILE, 1, 1, 6, &[Told::Text(b"")]),
-    (COMPILE, 1, 2, 6, &[Told::Text(b"O")]),
-    (COMPILE, 9, 2, 0, &[Told::Text(b"OK\n")]),
+    (GO, 1, 1, 6, &[Expected::Text(b"")]),
+    (GO, 1, 2, 6, &[Expected::Text(b"@")]),
+    (GO, 9, 2, 6, &[Expected::Text(b"@7 PQ 4 =")]),
+    (CHECK, 2, 2, 6, &[Expected::Text(b"OK")]),
+    (
+        &["check", "statement"],
+        6,
+        2,
+        6,
+        &[Expected::Text(b"source")],
+    ),
+    (COMPILE, 1, 1, 6, &[Expected::Text(b"")]),
+    (COMPILE, 1, 2, 6, &[Expected::Text(b"O")]),
+    (COMPILE, 9, 2, 0, &[Expected::Text(b"OK\n")]),
     (
         &["compile", "nothing", "image"],
         1,
         1,
         6,
-        &[Told::Text(b""), Told::Image(LARGE)],
+        &[Expected::Text(b""), Expected::Image(LARGE)],
     ),
     (
         GERMAN,
         1,
         2,
         6,
-        &[Told::Text(b"O"), Told::Image(b"// nothing\n")],
+        &[Expected::Text(b"O"), Expected::Image(b"// nothing\n")],
     ),
-    (UPGRADE, 1, 1, 6, &[Told::Text(b"")]),
-    (UPGRADE, 1, 2, 6, &[Told::Text(b"O")]),
-    (UPGRADE, 9, 2, 0, &[Told::Text(b"OK\n")]),
+    (UPGRADE, 1, 1, 6, &[Expected::Text(b"")]),
+    (UPGRADE, 1, 2, 6, &[Expected::Text(b"O")]),
+    (UPGRADE, 9, 2, 0, &[Expected::Text(b"OK\n")]),
     // Both files stand before the first byte of `OK`.
     (
         LIST,
         1,
         1,
         6,
-        &[Told::Text(b""), Told::File("text", LISTED)],
+        &[Expected::Text(b""), Expected::File("text", LISTED)],
     ),
     (
         LIST,
         1,
         2,
         6,
-        &[Told::Text(b"O"), Told::File("text", LISTED)],
+        &[Expected::Text(b"O"), Expected::File("text", LISTED)],
     ),
-    (BOUND, 1, 1, 6, &[Told::Text(b"")]),
-    (BOUND, 1, 2, 6, &[Told::Text(b"O")]),
+    (BOUND, 1, 1, 6, &[Expected::Text(b"")]),
+    (BOUND, 1, 2, 6, &[Expected::Text(b"O")]),
     // In the line of a chain; no certificate is written.
     (
         CHAINED,
         11,
         2,
         6,
-        &[Told::Text(b"chain: OB 1"), Told::Image(IMAGE)],
+        &[Expected::Text(b"chain: OB 1"), Expected::Image(IMAGE)],
     ),
-    (RECHECK, 1, 1, 6, &[Told::Text(b"")]),
-    (RECHECK, 9, 2, 0, &[Told::Text(b"OK\n")]),
-    (RUN, 1, 1, 6, &[Told::Text(b"")]),
-    (RUN, 1, 2, 6, &[Told::Text(b"E")]),
-    (RUN, 9, 2, 6, &[Told::Text(b"END 4 RUN")]),
-    (GEN, 1, 1, 6, &[Told::Text(b"")]),
-    (GEN, 1, 2, 6, &[Told::Text(b"G")]),
-    (GEN, 9, 2, 6, &[Told::Text(b"GEN 1 ENT")]),
-    (LIVE, 1, 1, 6, &[Told::Text(b"")]),
-    (LIVE, 1, 2, 6, &[Told::Text(b"s")]),
-    (LIVE, 1, 10, 6, &[Told::Text(b"step 1\n--")]),
+    (RECHECK, 1, 1, 6, &[Expected::Text(b"")]),
+    (RECHECK, 9, 2, 0, &[Expected::Text(b"OK\n")]),
+    (RUN, 1, 1, 6, &[Expected::Text(b"")]),
+    (RUN, 1, 2, 6, &[Expected::Text(b"E")]),
+    (RUN, 9, 2, 6, &[Expected::Text(b"END 4 RUN")]),
+    (GEN, 1, 1, 6, &[Expected::Text(b"")]),
+    (GEN, 1, 2, 6, &[Expected::Text(b"G")]),
+    (GEN, 9, 2, 6, &[Expected::Text(b"GEN 1 ENT")]),
+    (LIVE, 1, 1, 6, &[Expected::Text(b"")]),
+    (LIVE, 1, 2, 6, &[Expected::Text(b"s")]),
+    (LIVE, 1, 10, 6, &[Expected::Text(b"step 1\n--")]),
     // How the text begins goes by who comes first.
-    (WATCH, 1, 1, 6, &[Told::Length(0)]),
-    (WATCH, 1, 2, 6, &[Told::Length(1)]),
-    (WATCH, 1, 10, 6, &[Told::Length(9)]),
-    (WATCH, 1, 1501, 6, &[Told::Length(1500)]),
+    (WATCH, 1, 1, 6, &[Expected::Length(0)]),
+    (WATCH, 1, 2, 6, &[Expected::Length(1)]),
+    (WATCH, 1, 10, 6, &[Expected::Length(9)]),
+    (WATCH, 1, 1501, 6, &[Expected::Length(1500)]),
 ];
 
 // A sink that takes one byte a push takes the whole text.
 static WHOLE: [Row; 18] = [
-    (GO, 1, 0, 0, &[Told::Text(ONE_RUN_TEXT)]),
+    (GO, 1, 0, 0, &[Expected::Text(ONE_RUN_TEXT)]),
     (
         &["go", "source", "stopping"],
         1,
         0,
         0,
-        &[Told::Text(b"@7 PQ 4 = 01\n@8 PQ 4 = 00\n@8 MODE STOP 8 AT OB 1 LINE 3\nEND 8 STOP 8\n")],
+        &[Expected::Text(
+            b"@7 PQ 4 = 01\n@8 PQ 4 = 00\n@8 MODE STOP 8 AT OB 1 LINE 3\nEND 8 STOP 8\n",
+        )],
     ),
     (
         &["go", "source", "source"],
         1,
         0,
         4,
-        &[Told::Text(b"history refused: line 1 rule 1\n")],
+        &[Expected::Text(b"history refused: line 1 rule 1\n")],
     ),
-    (CHECK, 1, 0, 0, &[Told::Text(b"OK\n")]),
+    (CHECK, 1, 0, 0, &[Expected::Text(b"OK\n")]),
     (
         &["check", "statement"],
         1,
         0,
         2,
-        &[Told::Text(b"source refused: line 1 rule 11\n")],
+        &[Expected::Text(b"source refused: line 1 rule 11\n")],
     ),
-    (&["check", "none"], 1, 0, 5, &[Told::Text(b"read fault\n")]),
+    (
+        &["check", "none"],
+        1,
+        0,
+        5,
+        &[Expected::Text(b"read fault\n")],
+    ),
     // What the program tells of itself is asked elsewhere.
-    (&["--help"], 1, 0, 1, &[Told::Text(b"words refused\n")]),
-    (COMPILE, 1, 0, 0, &[Told::Text(b"OK\n")]),
-    (GERMAN, 1, 0, 0, &[Told::Text(b"OK\n")]),
-    (UPGRADE, 1, 0, 0, &[Told::Text(b"OK\n")]),
+    (&["--help"], 1, 0, 1, &[Expected::Text(b"words refused\n")]),
+    (COMPILE, 1, 0, 0, &[Expected::Text(b"OK\n")]),
+    (GERMAN, 1, 0, 0, &[Expected::Text(b"OK\n")]),
+    (UPGRADE, 1, 0, 0, &[Expected::Text(b"OK\n")]),
     (
         LIST,
         1,
         0,
         0,
-        &[Told::Text(b"OK\n"), Told::File("text", LISTED)],
+        &[Expected::Text(b"OK\n"), Expected::File("text", LISTED)],
     ),
-    (BOUND, 1, 0, 0, &[Told::Text(b"OK\n")]),
+    (BOUND, 1, 0, 0, &[Expected::Text(b"OK\n")]),
     (
         CHAINED,
         1,
         0,
         10,
-        &[Told::Text(
+        &[Expected::Text(
             b"chain: OB 1, FC 1, FC 1, FC 1, FC 1, FC 1, FC 1, FC 1, FC 1, FC 1, FC 1, FC 1, FC 1, FC 1, FC 1, FC 1, FC 1\n",
         )],
     ),
-    (RECHECK, 1, 0, 0, &[Told::Text(b"OK\n")]),
+    (RECHECK, 1, 0, 0, &[Expected::Text(b"OK\n")]),
     (
         &["recheck", "image", "nothing"],
         1,
         0,
         10,
-        &[Told::Text(b"certificate says no\n")],
+        &[Expected::Text(b"certificate says no\n")],
     ),
     (
         RUN,
         1,
         0,
         0,
-        &[Told::Text(b"END 4 RUN\nDB 10 0 00000000\n")],
+        &[Expected::Text(b"END 4 RUN\nDB 10 0 00000000\n")],
     ),
     // From a machine that knows nothing of this program.
     (
@@ -356,9 +375,15 @@ static WHOLE: [Row; 18] = [
         1,
         0,
         0,
-        &[Told::Text(b"GEN 1 ENTRIES 200069 MODE RUN SUM 20431\n")],
+        &[Expected::Text(b"GEN 1 ENTRIES 200069 MODE RUN SUM 20431\n")],
     ),
-    (LIVE, 1, 0, 0, &[Told::Text(b"step 1\n---\nEND 1 RUN\n")]),
+    (
+        LIVE,
+        1,
+        0,
+        0,
+        &[Expected::Text(b"step 1\n---\nEND 1 RUN\n")],
+    ),
 ];
 
 /// The write of each of the two files fails: the source isn't written, or stands there whole.
@@ -366,8 +391,8 @@ static WHOLE: [Row; 18] = [
 fn a_listing_is_cut_off(rt: HostRuntime) -> Result<(), Fail> {
     let first = Faults { write: 1, ..NONE };
     let second = Faults { write: 2, ..NONE };
-    let none = [Told::Text(b""), Told::File("text", b"")];
-    let whole = [Told::Text(b""), Told::File("text", LISTED)];
+    let none = [Expected::Text(b""), Expected::File("text", b"")];
+    let whole = [Expected::Text(b""), Expected::File("text", LISTED)];
     ends(&rt, rt.alloc(), LIST, first, 6, &none)?;
     ends(&rt, rt.alloc(), LIST, second, 6, &whole)
 }
@@ -377,13 +402,13 @@ fn are_pushed<R: Abort + Threads + Wait + Sync>(
     alloc: Global,
     rows: &[Row],
 ) -> Result<(), Fail> {
-    for (words, piece, push, status, told) in rows {
+    for (words, piece, push, status, expected) in rows {
         let faults = Faults {
             push: *push,
             piece: *piece,
             ..NONE
         };
-        ends(rt, alloc, *words, faults, *status, *told)?;
+        ends(rt, alloc, *words, faults, *status, *expected)?;
     }
     Ok(())
 }

@@ -4,7 +4,7 @@ use event_text::{TextFault, read_history};
 use flat_code::Names;
 use monitor::Line;
 use plc_base::Refusal;
-use s7_cli::{Failure, File, Status, failure_line};
+use s7_cli::{ExitStatus, Failure, File, failure_line};
 use std::alloc::Global;
 use std::process::Abort;
 use std::test::Fail;
@@ -241,12 +241,12 @@ fn are_spelled(rt: &impl Abort, rows: &[Row]) {
         same(rt, *failure, line.is_none(), text.is_empty());
         let line = line.unwrap_or(Line::new());
         same(rt, *failure, line.as_slice(), text.as_bytes());
-        same(rt, *failure, Status::of(Err(*failure)).code, *code);
+        same(rt, *failure, ExitStatus::of(Err(*failure)).code, *code);
     }
 }
 
 #[test]
 fn lines_of_failures(rt: HostRuntime) {
     are_spelled(&rt, &FAILURES);
-    same(&rt, "done", Status::of(Ok(())).code, 0);
+    same(&rt, "done", ExitStatus::of(Ok(())).code, 0);
 }

@@ -42,8 +42,8 @@ fn questions(rt: HostRuntime) -> Result<(), Fail> {
 fn the_version(rt: HostRuntime) {
     let mut out = MemSink::new(rt.alloc(), 3);
     let status = write_answer(&mut out, Question::Version).code;
-    let told = (status, out.taken.as_slice());
-    same(&rt, "the version", told, (0, b"s7 0.1.0\n".as_slice()));
+    let answer = (status, out.taken.as_slice());
+    same(&rt, "the version", answer, (0, b"s7 0.1.0\n".as_slice()));
 }
 
 // The second push fails.
@@ -52,8 +52,8 @@ fn an_answer_that_fails(rt: HostRuntime) {
     let mut out = MemSink::new(rt.alloc(), 3);
     out.fail_pushes(only(2));
     let status = write_answer(&mut out, Question::Version).code;
-    let told = (status, out.taken.as_slice());
-    same(&rt, "what is cut off", told, (6, b"s7 ".as_slice()));
+    let answer = (status, out.taken.as_slice());
+    same(&rt, "what is cut off", answer, (6, b"s7 ".as_slice()));
 }
 
 #[test]

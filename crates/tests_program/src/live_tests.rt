@@ -136,8 +136,8 @@ fn runs_again<R: Abort + Threads + Wait + Sync>(
     let mut out = MemSink::new(alloc, 1000);
     let words = ["run", "image", "history"];
     let code = call(rt, alloc, &words, files, &mut out, &OpenGate)?;
-    let told = (code, out.taken.as_slice());
-    same(rt, history, told, (0, text.as_bytes()));
+    let answer = (code, out.taken.as_slice());
+    same(rt, history, answer, (0, text.as_bytes()));
     Ok(())
 }
 
@@ -158,7 +158,7 @@ fn is_in_order(rt: &impl Abort, history: &str, waits: Option<(&str, &str)>) {
 }
 
 /// Compares what a live run of the empty program has written.
-fn is_told<R: Abort + Threads + Wait + Sync>(
+fn is_live_text<R: Abort + Threads + Wait + Sync>(
     rt: &R,
     alloc: Global,
     files: &mut MemFiles,
@@ -185,7 +185,7 @@ fn meets<R: Abort + Threads + Wait + Sync>(
     let code = call(rt, alloc, LIVE, &mut files, &mut out, &gate)?;
     let missed = gate.missed.load(Ordering::SeqCst);
     same(rt, waiting, (code, missed), (0, false));
-    is_told(rt, alloc, &mut files, out.taken.as_slice(), waits)
+    is_live_text(rt, alloc, &mut files, out.taken.as_slice(), waits)
 }
 
 // No worker makes its second entry before each has come to it: they work beside each other.

@@ -24,7 +24,7 @@ fn last_in(alloc: Global, scope: &Context<'_>) -> Result<Found, Fail> {
     let blocks = scope.tree().blocks.as_slice();
     let block = blocks.get(scope.block()).ok_or("no such block")?;
     let statement = block.body.as_slice().last().ok_or("no statement")?;
-    let seen = scope.seen(alloc, &statement.operand)?;
+    let seen = scope.resolution(alloc, &statement.operand)?;
     let resolved = scope.resolved(alloc, statement)?;
     let callee = scope.callee(alloc, &statement.operand)?;
     Ok(Found {

@@ -84,7 +84,7 @@ static MONITORED: [(&str, BlockKind, u16); 3] = [
 ];
 
 // Rule 1: not in the grammar. 2: a number out of its range, a value wider or narrower than its
-// variable. 3: an unknown name. Of several rules the least is told.
+// variable. 3: an unknown name. The least of several broken rules counts.
 static REFUSED: [(&str, u16); 69] = [
     ("", 1),
     (" \t", 1),

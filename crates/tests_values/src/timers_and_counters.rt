@@ -124,7 +124,7 @@ static STORIES: [&[(Event, bool, u16)]; 9] = [
 ];
 
 /// What happens to a timer, one after the other.
-fn told(rt: &impl Abort, timers: &mut Timers, number: u16, story: &[(Event, bool, u16)]) {
+fn follow_story(rt: &impl Abort, timers: &mut Timers, number: u16, story: &[(Event, bool, u16)]) {
     for (event, output, value) in story {
         let answer = event.happen(timers, number);
         let got = (answer, timers.output(number), timers.value(number));
@@ -138,7 +138,7 @@ fn stories_of_timers(rt: HostRuntime) {
     let mut timers = Timers::new(Profile::Small);
     let mut number = 0;
     for story in &STORIES {
-        told(&rt, &mut timers, number, story);
+        follow_story(&rt, &mut timers, number, story);
         number = if number < 126 { number + 1 } else { 0 };
     }
 }

@@ -7,7 +7,8 @@ use Rattle.timers_counters.specs.Restart.{counters_retained}
 use Rattle.timers_counters.specs.Timer.{Timer, timer_after_ms}
 use Rattle.timers_counters.specs.declared.faults.TimerFault.{TimerFault}
 
--- a call with the outcome of an instruction leaves as many as there were, with a fault as without
+-- a call with the outcome of an instruction on a timer or counter leaves as many as there were,
+-- also where it answers a fault
 abbrev pub InstructionsKeepSize : Type 0 → Type 0
 InstructionsKeepSize A =
     (effect : A → Option A) (old new : List A) (number : ℕ) (result : Result Unit TimerFault)
@@ -15,7 +16,8 @@ InstructionsKeepSize A =
 
 -- milliseconds that pass, however many, leave as many timers as there were
 abbrev pub TimeKeepsSize : Type 0
-TimeKeepsSize = (n : ℕ) (timers : List Timer) → length (iterate (map timer_after_ms) n timers) ≡ length timers
+TimeKeepsSize =
+    (n : ℕ) (timers : List Timer) → length (iterate (map timer_after_ms) n timers) ≡ length timers
 
 -- a warm restart leaves as many counters as there were
 abbrev pub RestartKeepsSize : Type 0

@@ -11,15 +11,17 @@ use arrayvec::ArrayVec;
 use plc_base::Profile;
 use std::marker::Model;
 
-/// How many counters there are at most.
+/// How many counters a controller has at most.
 const MOST_COUNTERS: usize = 256;
 
 /// How many counters a warm restart retains: C 0 to C 7.
 const RETAINED: usize = 8;
 
-/// The counters. A contract sees the list of them, which has as many as the profile has.
+/// The counters of a controller. A contract sees the list of them by number, as many as the profile
+/// has.
 #[derive(Drop)]
 pub struct Counters {
+    /// Each counter at the index of its number.
     counters: ArrayVec<Counter, MOST_COUNTERS>,
 }
 
@@ -63,7 +65,7 @@ impl Counters {
         Counters { counters }
     }
 
-    /// What a warm restart does: C 0 to C 7 stay, and all others are at rest again.
+    /// What a warm restart does to the counters: C 0 to C 7 stay, and every other one is at rest.
     pub fn clear_unretained(&mut self)
         ensures { self.new ≡ counters_retained self.old }
     {
@@ -73,7 +75,7 @@ impl Counters {
         add_counters(&mut self.counters, count - kept);
     }
 
-    /// The counter of a number.
+    /// The counter with a number.
     fn counter(&self, number: u16) -> Result<Counter, TimerFault>
         ensures found { MatchResult result
             (λ counter. slice_get self.now number ≡ Some counter)
@@ -129,8 +131,8 @@ impl Counters {
     ///
     /// # Errors
     ///
-    /// `NoNumber` exactly for a number that no counter has, else `BadBcd` exactly where the RLO rises
-    /// and a digit is above 9.
+    /// `NoNumber` exactly for a number that no counter has, else `BadBcd` exactly where the RLO
+    /// rises and a digit is above 9.
     pub fn set(&mut self, number: u16, rlo: bool, value: u16) -> Result<(), TimerFault>
         ensures outcome { LeavesTable self.old self.new result
             (change_at_number (set_counter rlo value) self.old number) }

@@ -8,13 +8,18 @@ use std::marker::Model;
 /// The greatest value of a counter.
 const MOST_COUNT: u16 = 999;
 
-/// One counter.
+/// A counter of STEP 7: its value, and the edge bits by which CU, CD, S and FR find a rising RLO.
 #[derive(Clone, Copy, Debug)]
 pub struct Counter {
+    /// The count, 0 to 999.
     value: u16,
+    /// The edge bit of `CU`.
     up_edge: bool,
+    /// The edge bit of `CD`.
     down_edge: bool,
+    /// The edge bit of `S`.
     set_edge: bool,
+    /// The edge bit of `FR`.
     free_edge: bool,
 }
 
@@ -33,14 +38,14 @@ impl Model for Counter {
 }
 
 impl Default for Counter {
-    /// A counter at rest.
+    /// A counter on which no instruction has acted.
     fn default() -> Counter {
         Counter::new()
     }
 }
 
 impl Counter {
-    /// A counter at rest.
+    /// A counter on which no instruction has acted: value 0 and all edge bits 0.
     pub fn new() -> Counter
         ensures { result ≡ counter_at_rest }
     {
@@ -53,7 +58,7 @@ impl Counter {
         }
     }
 
-    /// `CU`.
+    /// `CU`: on a rising RLO counts up by one, up to 999.
     #[tactic(auto, unfolding(crate::specs::Counter::count_up))]
     pub fn up(&mut self, rlo: bool)
         ensures { self.new ≡ count_up rlo self.old }
@@ -64,7 +69,7 @@ impl Counter {
         self.up_edge = rlo;
     }
 
-    /// `CD`.
+    /// `CD`: on a rising RLO counts down by one, down to 0.
     #[tactic(auto, unfolding(crate::specs::Counter::count_down))]
     pub fn down(&mut self, rlo: bool)
         ensures { self.new ≡ count_down rlo self.old }
@@ -75,7 +80,7 @@ impl Counter {
         self.down_edge = rlo;
     }
 
-    /// `S`: loads three BCD digits.
+    /// `S`: on a rising RLO loads the number of the three BCD digits in the low bits of `word`.
     #[tactic(auto, unfolding(crate::specs::Counter::set_counter))]
     pub fn set(&mut self, rlo: bool, word: u16) -> Result<(), BadBcd>
         ensures { ChangesOrStays (set_counter rlo word self.old) self.old self.new result }
@@ -90,7 +95,7 @@ impl Counter {
         Ok(())
     }
 
-    /// `R`.
+    /// `R`: with RLO 1 the value becomes 0.
     #[tactic(auto, unfolding(crate::specs::Counter::reset_counter))]
     pub fn reset(&mut self, rlo: bool)
         ensures { self.new ≡ reset_counter rlo self.old }
@@ -100,7 +105,7 @@ impl Counter {
         }
     }
 
-    /// `FR`.
+    /// `FR`: on a rising RLO clears the edge bits of `CU`, `CD` and `S`.
     #[tactic(auto, unfolding(crate::specs::Counter::free_counter))]
     pub fn free(&mut self, rlo: bool)
         ensures { self.new ≡ free_counter rlo self.old }
@@ -113,21 +118,21 @@ impl Counter {
         self.free_edge = rlo;
     }
 
-    /// Whether the value is above 0.
+    /// Whether the value is above 0, as `A`, `O` and `X` check it.
     pub fn output(&self) -> bool
         ensures { result ≡ is_counting self.now }
     {
         self.value > 0
     }
 
-    /// The value, as `L` loads it.
+    /// The count, 0 to 999, as `L` loads it.
     pub fn value(&self) -> u16
         ensures { result ≡ self.now.value }
     {
         self.value
     }
 
-    /// The three BCD digits of the value, as `LC` loads them.
+    /// The count as three BCD digits, as `LC` loads it.
     pub fn bcd(&self) -> u16
         ensures { result ≡ count_bcd self.now }
     {

@@ -11,12 +11,14 @@ use arrayvec::ArrayVec;
 use plc_base::{Profile, TimerKind};
 use std::marker::Model;
 
-/// How many timers there are at most.
+/// How many timers a controller has at most.
 const MOST_TIMERS: usize = 256;
 
-/// The timers. A contract sees the list of them, which has as many as the profile has.
+/// The timers of a controller. A contract sees the list of them by number, as many as the profile
+/// has.
 #[derive(Drop)]
 pub struct Timers {
+    /// Each timer at the index of its number.
     timers: ArrayVec<Timer, MOST_TIMERS>,
 }
 
@@ -69,7 +71,7 @@ impl Timers {
         Timers { timers }
     }
 
-    /// The timer of a number.
+    /// The timer with a number.
     fn timer(&self, number: u16) -> Result<Timer, TimerFault>
         ensures found { MatchResult result
             (λ timer. slice_get self.now number ≡ Some timer)
@@ -88,13 +90,13 @@ impl Timers {
         self.timers.as_mut_slice()[usize::from(number)] = timer;
     }
 
-    /// A start instruction, `SP`, `SE`, `SD`, `SS` or `SF`. `value` is an S5TIME, which is read only
-    /// where the instruction starts the timer.
+    /// A start instruction, `SP`, `SE`, `SD`, `SS` or `SF`. `value` is an S5TIME, which is read
+    /// only where the instruction starts the timer.
     ///
     /// # Errors
     ///
-    /// `NoNumber` exactly for a number that no timer has, else `BadBcd` exactly where the instruction starts
-    /// the timer and a digit of `value` is above 9.
+    /// `NoNumber` exactly for a number that no timer has, else `BadBcd` exactly where the
+    /// instruction starts the timer and a digit of `value` is above 9.
     pub fn start(
         &mut self,
         number: u16,
@@ -151,7 +153,8 @@ impl Timers {
     ///
     /// `NoNumber` exactly for a number that no timer has.
     pub fn output(&self, number: u16) -> Result<bool, TimerFault>
-        ensures value { result ≡ read_at_number (λ (timer : TimerValue). timer.output) self.now number }
+        ensures value { result ≡ read_at_number (λ (timer : TimerValue). timer.output)
+            self.now number }
         ensures no_number { result ≡ Err NoNumber ↔ (length self.now ≤ number) }
     {
         Ok(self.timer(number)?.output())
@@ -181,7 +184,7 @@ impl Timers {
         Ok(self.timer(number)?.bcd())
     }
 
-    /// Passes `n` milliseconds.
+    /// Lets `n` milliseconds pass for every timer.
     pub fn pass_ms(&mut self, n: u32)
         ensures { self.new ≡ iterate (map timer_after_ms) n self.old }
     {

@@ -6,15 +6,23 @@ ghost use Rattle.timers_counters.specs.Timer.{timer_at_rest, output_at_end, run_
 use plc_base::{BadBcd, MOST_UNITS, TimeBase, TimerKind, ms_of_s5time};
 use std::marker::Model;
 
-/// One timer.
+/// A timer of STEP 7: how it was started, the time left, its output, and the edge bits by which the
+/// start instructions and FR find a rising RLO.
 #[derive(Clone, Copy, Debug)]
 pub struct Timer {
+    /// The start instruction that started it: SP, SE, SD, SS or SF.
     kind: TimerKind,
+    /// The time base of its S5TIME: 10 ms, 100 ms, 1 s or 10 s.
     base: TimeBase,
+    /// The time left, in milliseconds.
     left: u32,
+    /// Whether its time runs.
     running: bool,
+    /// Its output bit, which `A`, `O` and `X` check.
     output: bool,
+    /// The edge bit of the start instructions.
     start_edge: bool,
+    /// The edge bit of `FR`.
     free_edge: bool,
 }
 
@@ -32,7 +40,7 @@ impl Model for Timer {
     ghost inverse = { inside_of };
 }
 
-/// The output of a timer of the kind when its time has ended.
+/// The output bit of a timer when its time has ended, by the kind of its start instruction.
 fn output_at_end(kind: TimerKind) -> bool
     ensures { result ≡ output_at_end kind }
 {
@@ -43,14 +51,15 @@ fn output_at_end(kind: TimerKind) -> bool
 }
 
 impl Default for Timer {
-    /// A timer at rest.
+    /// A timer on which no instruction has acted.
     fn default() -> Timer {
         Timer::new()
     }
 }
 
 impl Timer {
-    /// A timer at rest.
+    /// A timer on which no instruction has acted: it stands still with output 0 and all edge bits
+    /// 0.
     pub fn new() -> Timer
         ensures { result ≡ timer_at_rest }
     {
@@ -65,7 +74,7 @@ impl Timer {
         }
     }
 
-    /// Starts the timer with an S5TIME and the output. With a time of 0 it ends at once.
+    /// Starts the timer with an S5TIME and an output bit. With a time of 0 it ends at once.
     fn run(&mut self, kind: TimerKind, value: u16, output: bool) -> Result<(), BadBcd>
         ensures { ChangesOrStays (run_timer kind value output self.old) self.old self.new result }
     {
@@ -82,7 +91,7 @@ impl Timer {
         Ok(())
     }
 
-    /// Ends the time of the timer.
+    /// Ends the time of the timer: it stands still with the output of its kind.
     fn end(&mut self)
         ensures { self.new ≡ end_timer self.old }
     {
@@ -91,7 +100,7 @@ impl Timer {
         self.output = output_at_end(self.kind);
     }
 
-    /// Stops the timer. The milliseconds left stay.
+    /// Stops the timer with an output bit. The time left stays.
     fn stop(&mut self, output: bool)
         ensures { self.new ≡ stop_timer output self.old }
     {
@@ -99,7 +108,7 @@ impl Timer {
         self.output = output;
     }
 
-    /// A start instruction but for its edge.
+    /// What a start instruction does to the timer, with the edge bit as before.
     fn act(&mut self, kind: TimerKind, rlo: bool, value: u16) -> Result<(), BadBcd>
         ensures { ChangesOrStays (start_effect kind rlo value self.old) self.old self.new result }
     {
@@ -122,7 +131,7 @@ impl Timer {
         }
     }
 
-    /// A start instruction.
+    /// A start instruction, `SP`, `SE`, `SD`, `SS` or `SF`, with an S5TIME.
     #[tactic(auto, unfolding(crate::specs::Timer::start_timer))]
     pub fn start(&mut self, kind: TimerKind, rlo: bool, value: u16) -> Result<(), BadBcd>
         ensures { ChangesOrStays (start_timer kind rlo value self.old) self.old self.new result }
@@ -132,7 +141,7 @@ impl Timer {
         Ok(())
     }
 
-    /// `R`.
+    /// `R`: with RLO 1 the timer stops with output 0 and no time left. Its edge bits stay.
     #[tactic(auto, unfolding(crate::specs::Timer::reset_timer))]
     pub fn reset(&mut self, rlo: bool)
         ensures { self.new ≡ reset_timer rlo self.old }
@@ -145,7 +154,7 @@ impl Timer {
         }
     }
 
-    /// `FR`.
+    /// `FR`: on a rising RLO clears the edge bit of the start instructions.
     #[tactic(auto, unfolding(crate::specs::Timer::free_timer))]
     pub fn free(&mut self, rlo: bool)
         ensures { self.new ≡ free_timer rlo self.old }
@@ -156,14 +165,14 @@ impl Timer {
         self.free_edge = rlo;
     }
 
-    /// The output.
+    /// The output bit of the timer, as `A`, `O` and `X` check it.
     pub fn output(&self) -> bool
         ensures { result ≡ self.now.output }
     {
         self.output
     }
 
-    /// The units of the base that are left, rounded up, as `L` loads them.
+    /// The time left in units of the time base, rounded up, as `L` loads it.
     pub fn value(&self) -> u16
         ensures units { result ≡ units_left self.now }
         ensures bound { result ≤ 999 }
@@ -171,14 +180,14 @@ impl Timer {
         self.left.div_ceil(self.base.unit_ms()) as u16
     }
 
-    /// The S5TIME of the units left, as `LC` loads it.
+    /// The time left as an S5TIME, as `LC` loads it.
     pub fn bcd(&self) -> u16
         ensures { result ≡ time_left self.now }
     {
         self.base.s5time(u32::from(self.value()))
     }
 
-    /// Passes `n` milliseconds.
+    /// Lets `n` milliseconds pass.
     pub fn pass_ms(&mut self, n: u32)
         ensures { self.new ≡ iterate timer_after_ms n self.old }
     {

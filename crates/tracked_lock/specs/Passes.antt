@@ -9,17 +9,25 @@ use Rattle.atomic_table.specs.Table.{Me}
 
 -- which table it is, what its value stems from, as a list of one, and how many passes it has
 pub record LockView (O : Type 0) : Type 0 where
+  -- the table of the lock
   pub table : TableId
+  -- the origin of the value that the lock was made with, as a list of one
   pub origin : List O
+  -- how many passes the lock has, numbered from 1
   pub passes : ℕ
 
 -- what contracts see of a pass: its lock, its number, whether a value is out with it, the list that it has seen,
 -- and the entries under each of its numbers, its own first
 pub record PassView (O E : Type 0) : Type 0 where
+  -- the lock of the pass
   pub lock : LockView O
+  -- the own number of the pass, from 1
   pub number : ℕ
+  -- whether a value is out with the pass
   pub out : Bool
+  -- the list that the pass has seen
   pub seen : List E
+  -- the entries made under each number of the pass, its own number first
   pub made : List (Made E)
 
 -- how many of the numbers from 1 to n aren't among those of the pass
@@ -33,10 +41,12 @@ lock_of table origin passes = record { table = table; origin = origin ∷ []; pa
 
 -- a value that is out, and the pass that it is out with, as the take left it
 pub record LentValue (T O E : Type 0) : Type 0 where
+  -- the value that is out of the lock
   pub value : T
+  -- the pass that the value is out with, as the take left it
   pub pass : PassView O E
 
--- another value in its place
+-- a lent value with another value, and with the same pass
 abbrev pub with_value : {T O E : Type 0} → LentValue T O E → T → LentValue T O E
 with_value lent value = record lent { value = value }
 
@@ -80,20 +90,33 @@ module _ {O E : Type 0} where
 -- what the pass had seen and is made of the entries made under these numbers.
 module _ {T O E : Type 0} (origin_of : T → O) (story_of : T → List E) (maker_of : E → ℕ) where
   pub record IsClosed (lock : LockView O) (p : PassView O E) (value : T) : Type 0 where
+    -- every number from 1 to the number of passes is one of the pass
     pub numbers : missing_number_count lock.passes p.made ≡ 0
+    -- the value has the origin of the lock
     pub origin : origin_of value ∷ [] ≡ lock.origin
+    -- the value's list begins with all that the pass has seen
     pub seen : IsPrefix p.seen (story_of value)
+    -- under each number of the pass stand the entries of the value's list with that maker, in order
     pub made : IsMadeOf maker_of (story_of value) p.made
+    -- the maker of each entry of the value's list is a number of the pass
     pub no_others : HoldsForEach (λ e. 0 < times (maker_of e) p.made) (story_of value)
 
 -- what is true of the parts of a pass between any two calls
 module _ {T O E : Type 0} (maker_of : E → ℕ) where
   pub record IsPass (m : Me (Option T) (View O E)) (number seen numbers : ℕ) : Type 0 where
+    -- a seat with the turn has slot 0, whose value is out; without the turn it has none
     pub slots : m.1 ≡ cond m.0.turn ((0, None) ∷ []) []
+    -- no list of a pass that joined waits for a look
     pub other : m.0.other ≡ []
+    -- `number` is the own number, the first of the numbers
     pub number_is : number ≡ own_number m.0.made
+    -- `seen` is the length of the list that the pass has seen
     pub seen_is : seen ≡ length m.0.seen
+    -- `numbers` counts the numbers of the pass
     pub numbers_is : numbers ≡ length m.0.made
+    -- the pass has one number at least
     pub one_number : 0 < length m.0.made
+    -- under each number of the pass stand the entries seen with that maker, in order
     pub made : IsMadeOf maker_of m.0.seen m.0.made
+    -- the pass has each number from 1 to the number of passes at most once, and no other number
     pub once : (k : ℕ) → times k m.0.made ≤ one_if_number_of_pass m.0.passes k

@@ -13,7 +13,7 @@ use Rattle.stl_lexer.specs.declared.kinds.TokenKind.{TokenKind}
 use Rattle.stl_lexer.specs.declared.kinds.TokenKind.TheVariants as kind
 use Rattle.stl_symbols.specs.declared.languages.Language.TheVariants.{English, German}
 use Rattle.de_mnemonics.specs.declared.classes.TokenClass.{TokenClass}
-use Rattle.de_mnemonics.specs.declared.places.Place.{Place}
+use Rattle.de_mnemonics.specs.declared.places.TokenPlace.{TokenPlace}
 use Rattle.de_mnemonics.specs.declared.roles.Role.{Role}
 use Rattle.de_mnemonics.specs.declared.roles.Role.TheVariants as role
 use Rattle.de_mnemonics.specs.Back.{ComesBack}
@@ -36,7 +36,7 @@ TextBack role.Operand x v = (v ≡ x) ⊎ ((str_eq_ignore_ascii_case x v ≡ tru
 TextBack role.Path x v = (v ≡ x) ⊎ ((v ≡ hash ∷ x) × IsOperandWord x)
 
 -- a token with the text w for x, between the neighbours b' and n' for b and n
-pub record StepBack (p : Place) (b b' : TokenClass) (k : TokenKind) (x w : List ℕ) (n n' : TokenClass) : Type 0 where
+pub record StepBack (p : TokenPlace) (b b' : TokenClass) (k : TokenKind) (x w : List ℕ) (n n' : TokenClass) : Type 0 where
   pub text : List ℕ
   pub back : translated_word English (role_of p b' (class_of (kind_of_rewritten k w) w) w n') w ≡ Some text
   pub kept : TextBack (role_of p b (class_of k x) x n) x text
@@ -87,7 +87,7 @@ plain_text r x w e is = written_stays x w (ap (λ q. translated_word German q x)
 text_stays : (r : Role) (x v : List ℕ) → r ≡ role.Stays → v ≡ x → TextBack r x v
 text_stays r x v e same = subst (λ q. TextBack q x v) (sym e) same
 
-step_other : (p : Place) (b b' : TokenClass) (k : TokenKind) (x w : List ℕ) (n n' : TokenClass) → is_word_kind k ≡ false
+step_other : (p : TokenPlace) (b b' : TokenClass) (k : TokenKind) (x w : List ℕ) (n n' : TokenClass) → is_word_kind k ≡ false
     → translated_word German (role_of p b (class_of k x) x n) x ≡ Some w → StepBack p b b' k x w n n'
 step_other p b b' k x w n n' other is =
     let plain : is_plain_class (class_of k x) ≡ true = kind_plain k x other in
@@ -104,14 +104,14 @@ step_other p b b' k x w n n' other is =
 -- ---- a word
 
 -- the same of a word that stays one
-record WordBack (p : Place) (b b' : TokenClass) (x w : List ℕ) (n n' : TokenClass) (r : Role) : Type 0 where
+record WordBack (p : TokenPlace) (b b' : TokenClass) (x w : List ℕ) (n n' : TokenClass) (r : Role) : Type 0 where
   text : List ℕ
   back : translated_word English (role_of_word p b' w n') w ≡ Some text
   kept : TextBack r x text
   place : place_behind_word p b' w n' ≡ place_behind_word p b x n
   kind_ : kind_of_rewritten kind.Word w ≡ kind.Word
 
-word_back : (p : Place) (b b' : TokenClass) (x w : List ℕ) (n n' : TokenClass) (r : Role) (text : List ℕ) → IsNear b b' → IsNear n n'
+word_back : (p : TokenPlace) (b b' : TokenClass) (x w : List ℕ) (n n' : TokenClass) (r : Role) (text : List ℕ) → IsNear b b' → IsNear n n'
     → Keeps p b x w n → role_of_word p b x n ≡ r → translated_word English r w ≡ Some text → TextBack r x text → kind_of_rewritten kind.Word w ≡ kind.Word
     → WordBack p b b' x w n n' r
 word_back p b b' x w n n' r text h k keeps e is kept kind_ = record {
@@ -122,7 +122,7 @@ word_back p b b' x w n n' r text h k keeps e is kept kind_ = record {
   kind_ = kind_;
 }
 
-step_back : (p : Place) (b b' : TokenClass) (x w : List ℕ) (n n' : TokenClass) (r : Role) → role_of_word p b x n ≡ r → WordBack p b b' x w n n' r
+step_back : (p : TokenPlace) (b b' : TokenClass) (x w : List ℕ) (n n' : TokenClass) (r : Role) → role_of_word p b x n ≡ r → WordBack p b b' x w n n' r
     → StepBack p b b' kind.Word x w n n'
 unfolding role_of place_behind class_of
 step_back p b b' x w n n' r e h = record {
@@ -133,7 +133,7 @@ step_back p b b' x w n n' r e h = record {
 }
 
 -- a name that got its `#`
-step_named : (p : Place) (b b' : TokenClass) (x : List ℕ) (n n' : TokenClass) → role_of_word p b x n ≡ role.Path
+step_named : (p : TokenPlace) (b b' : TokenClass) (x : List ℕ) (n n' : TokenClass) → role_of_word p b x n ≡ role.Path
     → is_some (operand_partner English x) ≡ true → StepBack p b b' kind.Word x (hash ∷ x) n n'
 unfolding role_of place_behind class_of translated_word
 step_named p b b' x n n' e is = record {
@@ -150,7 +150,7 @@ unfolding translated_word
 operand_stays x w (Some f) none e is = absurd (none-some w is)
 operand_stays x w None none e is = rw (e, none) refl
 
-by_stays : (p : Place) (b b' : TokenClass) (x w : List ℕ) (n n' : TokenClass) → IsNear b b' → IsNear n n' → is_word x ≡ true
+by_stays : (p : TokenPlace) (b b' : TokenClass) (x w : List ℕ) (n n' : TokenClass) → IsNear b b' → IsNear n n' → is_word x ≡ true
     → role_of_word p b x n ≡ role.Stays → translated_word German role.Stays x ≡ Some w → StepBack p b b' kind.Word x w n n'
 by_stays p b b' x w n n' h k word e is =
     let same : w ≡ x = written_stays x w is in
@@ -158,7 +158,7 @@ by_stays p b b' x w n n' h k word e is =
     (word_back p b b' x w n n' role.Stays w h k (keeps_same p b x w n same) e (stays_written role.Stays w refl) same
     (word_kind w (ap is_word same ∙ word)))
 
-by_instruction : Spellings → (p : Place) (b b' : TokenClass) (x w : List ℕ) (n n' : TokenClass) → IsNear b b' → IsNear n n' → is_word x ≡ true
+by_instruction : Spellings → (p : TokenPlace) (b b' : TokenClass) (x w : List ℕ) (n n' : TokenClass) → IsNear b b' → IsNear n n' → is_word x ≡ true
     → role_of_word p b x n ≡ role.Instruction → translated_word German role.Instruction x ≡ Some w → StepBack p b b' kind.Word x w n n'
 by_instruction spelled p b b' x w n n' h k word e is =
     let again : ComesBack German role.Instruction x w = instructions_come_back German x w is in
@@ -169,7 +169,7 @@ by_instruction spelled p b b' x w n n' h k word e is =
     step_back p b b' x w n n' role.Instruction e
     (word_back p b b' x w n n' role.Instruction again.0 h k keeps e again.1 again.2 (word_kind w (spelled.instruction x w word is).0))
 
-operand_by : Spellings → (p : Place) (b b' : TokenClass) (x w : List ℕ) (n n' : TokenClass) → IsNear b b' → IsNear n n' → is_word x ≡ true
+operand_by : Spellings → (p : TokenPlace) (b b' : TokenClass) (x w : List ℕ) (n n' : TokenClass) → IsNear b b' → IsNear n n' → is_word x ≡ true
     → role_of_word p b x n ≡ role.Operand → translated_word German role.Operand x ≡ Some w
     → (operand_partner German x ≡ Some w) ⊎ ((operand_partner German x ≡ None) × (w ≡ x)) → StepBack p b b' kind.Word x w n n'
 unfolding translated_word
@@ -195,7 +195,7 @@ unfolding translated_word
 path_back x w true same e = (rw (same, e) refl, inr (refl, inr e))
 path_back x w false same e = (rw (same, e) refl, inl refl)
 
-by_path : (p : Place) (b b' : TokenClass) (x w : List ℕ) (n n' : TokenClass) → IsNear b b' → IsNear n n' → is_word x ≡ true
+by_path : (p : TokenPlace) (b b' : TokenClass) (x w : List ℕ) (n n' : TokenClass) → IsNear b b' → IsNear n n' → is_word x ≡ true
     → role_of_word p b x n ≡ role.Path → (c : Bool) → is_some (operand_partner English x) ≡ c → marked_name c x ≡ w → StepBack p b b' kind.Word x w n n'
 by_path p b b' x w n n' h k word e true is same = subst (λ (y : List ℕ). StepBack p b b' kind.Word x y n n') same (step_named p b b' x n n' e is)
 by_path p b b' x w n n' h k word e false is same =
@@ -208,7 +208,7 @@ path_text : (x w : List ℕ) → translated_word German role.Path x ≡ Some w �
 unfolding translated_word
 path_text x w is = same_Some (marked_name (is_some (operand_partner English x)) x) w is
 
-by_role : Spellings → (p : Place) (b b' : TokenClass) (x w : List ℕ) (n n' : TokenClass) → IsNear b b' → IsNear n n' → is_word x ≡ true
+by_role : Spellings → (p : TokenPlace) (b b' : TokenClass) (x w : List ℕ) (n n' : TokenClass) → IsNear b b' → IsNear n n' → is_word x ≡ true
     → (r : Role) → role_of_word p b x n ≡ r → translated_word German r x ≡ Some w → StepBack p b b' kind.Word x w n n'
 by_role spelled p b b' x w n n' h k word role.Stays e is = by_stays p b b' x w n n' h k word e is
 by_role spelled p b b' x w n n' h k word role.Instruction e is = by_instruction spelled p b b' x w n n' h k word e is
@@ -216,7 +216,7 @@ by_role spelled p b b' x w n n' h k word role.Operand e is = operand_by spelled 
 by_role spelled p b b' x w n n' h k word role.Path e is = by_path p b b' x w n n' h k word e (is_some (operand_partner English x)) refl (path_text x w is)
 
 -- each token of a translation comes back
-pub token_back : Spellings → (p : Place) (b b' : TokenClass) (k : TokenKind) (x w : List ℕ) (n n' : TokenClass) → IsNear b b' → IsNear n n'
+pub token_back : Spellings → (p : TokenPlace) (b b' : TokenClass) (k : TokenKind) (x w : List ℕ) (n n' : TokenClass) → IsNear b b' → IsNear n n'
     → (k ≡ kind.Word → is_word x ≡ true) → translated_word German (role_of p b (class_of k x) x n) x ≡ Some w → StepBack p b b' k x w n n'
 unfolding role_of class_of
 token_back spelled p b b' kind.Word x w n n' h k word is = by_role spelled p b b' x w n n' h k (word refl) (role_of_word p b x n) refl is
@@ -243,13 +243,13 @@ unfolding class_of
 word_near x [] = inl refl
 word_near x (b ∷ w) = anew_near b w x (b == hash) refl
 
-other_near : (p : Place) (b : TokenClass) (k : TokenKind) (x w : List ℕ) (n : TokenClass) → is_word_kind k ≡ false
+other_near : (p : TokenPlace) (b : TokenClass) (k : TokenKind) (x w : List ℕ) (n : TokenClass) → is_word_kind k ≡ false
     → translated_word German (role_of p b (class_of k x) x n) x ≡ Some w → IsNear (class_of k x) (class_of (kind_of_rewritten k w) w)
 other_near p b k x w n other is =
     let same : w ≡ x = plain_text (role_of p b (class_of k x) x n) x w (role_plain p b (class_of k x) x n (kind_plain k x other)) is in
     inl (sym (ap (λ j. class_of j w) (other_kind k w other) ∙ ap (class_of k) same))
 
-pub token_near : (p : Place) (b : TokenClass) (k : TokenKind) (x w : List ℕ) (n : TokenClass)
+pub token_near : (p : TokenPlace) (b : TokenClass) (k : TokenKind) (x w : List ℕ) (n : TokenClass)
     → translated_word German (role_of p b (class_of k x) x n) x ≡ Some w → IsNear (class_of k x) (class_of (kind_of_rewritten k w) w)
 token_near p b kind.Word x w n is = word_near x w
 token_near p b kind.Number x w n is = other_near p b kind.Number x w n refl is

@@ -29,8 +29,8 @@ use Rattle.stl_ast.specs.declared.literals.Literal.TheVariants as literal
 use Rattle.stl_ast.specs.Declarations.{is_elementary}
 use Rattle.stl_parser.specs.declared.clauses.Clause.{Clause}
 use Rattle.stl_parser.specs.declared.clauses.Clause.TheVariants as clause
-use Rattle.stl_parser.specs.declared.keywords.Key.{Key}
-use Rattle.stl_parser.specs.declared.keywords.Key.TheVariants as key
+use Rattle.stl_parser.specs.declared.keywords.ClauseWord.{ClauseWord}
+use Rattle.stl_parser.specs.declared.keywords.ClauseWord.TheVariants as key
 use Rattle.stl_parser.specs.declared.places.ClausePlace.{ClausePlace}
 use Rattle.stl_parser.specs.declared.tables.HeadWord.{HeadWord}
 use Rattle.stl_parser.specs.declared.tables.HeadWord.TheVariants as head_word
@@ -325,7 +325,7 @@ quiet_word s t word free = record {
 same_block_word : (a b : List ℕ) → str_eq_ignore_ascii_case a b ≡ true → is_block_word a ≡ is_block_word b
 same_block_word a b e = rw (same_among code_openings a b e, same_among data_openings a b e, same_among begin_words a b e) refl
 
-key_is_free : (k : Key) → is_block_word (key_text k) ≡ false
+key_is_free : (k : ClauseWord) → is_block_word (key_text k) ≡ false
 unfolding key_text is_word_in_list code_openings data_openings begin_words
 key_is_free key.True = refl
 key_is_free key.False = refl
@@ -341,7 +341,7 @@ key_is_free key.W = refl
 key_is_free key.D = refl
 key_is_free key.Mcr = refl
 
-quiet_key : (s : List ℕ) (t : Token) (k : Key) → is_key s t k ≡ true → IsQuiet s t
+quiet_key : (s : List ℕ) (t : Token) (k : ClauseWord) → is_key s t k ≡ true → IsQuiet s t
 unfolding is_key
 quiet_key s t k e =
     let parts = and_parts (has_kind t kind.Word) (str_eq_ignore_ascii_case (text_of s t) (key_text k)) e in

@@ -16,7 +16,7 @@ use Rattle.stl_ast.specs.declared.names.BlockName.{BlockName}
 use Rattle.stl_symbols.specs.declared.languages.Language.TheVariants.{English, German}
 use Rattle.stl_parser.specs.declared.clauses.Clause.{Clause}
 use Rattle.stl_parser.specs.declared.clauses.Clause.TheVariants as clause
-use Rattle.stl_parser.specs.declared.keywords.Key.TheVariants as key
+use Rattle.stl_parser.specs.declared.keywords.ClauseWord.TheVariants as key
 use Rattle.stl_parser.specs.declared.places.ClausePlace.{ClausePlace}
 use Rattle.stl_parser.specs.declared.tables.HeadWord.{HeadWord}
 use Rattle.stl_parser.specs.declared.tables.HeadWord.TheVariants as head_word

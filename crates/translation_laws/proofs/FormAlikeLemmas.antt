@@ -25,8 +25,8 @@ use Rattle.stl_parser.specs.Tables.{look_up, mnemonics}
 use Rattle.stl_parser.specs.Terminals.{has_kind, is_mark, kind_rank}
 use Rattle.de_mnemonics.specs.declared.classes.TokenClass.{TokenClass}
 use Rattle.de_mnemonics.specs.declared.classes.TokenClass.TheVariants as class
-use Rattle.de_mnemonics.specs.declared.places.Place.{Place}
-use Rattle.de_mnemonics.specs.declared.places.Place.TheVariants as place
+use Rattle.de_mnemonics.specs.declared.places.TokenPlace.{TokenPlace}
+use Rattle.de_mnemonics.specs.declared.places.TokenPlace.TheVariants as place
 use Rattle.de_mnemonics.specs.declared.roles.Role.{Role}
 use Rattle.de_mnemonics.specs.declared.roles.Role.TheVariants as role
 use Rattle.translation_laws.specs.Alike.{ComesBackInRole, IsSameWordButForCase, IsSameToken}
@@ -345,7 +345,7 @@ module _ (s e : List ℕ) where
   open_in _ isnt note = refl
 
   -- behind the first token of an instruction the statement goes on, behind a jump with its label
-  pub record GoesOn (p : Place) (text : List ℕ) (c : TokenClass) : Type 0 where
+  pub record GoesOn (p : TokenPlace) (text : List ℕ) (c : TokenClass) : Type 0 where
     pub inside : in_statement s e p ≡ true
     pub jumps : c ≡ class.Word → is_jump_word text ≡ true → p ≡ place.Jump
 
@@ -410,7 +410,7 @@ module _ (s e : List ℕ) where
   head_label (suc n) before (r ∷ rs) h =
       subst (λ (x : Role). ComesBackInRole s e x r.left r.right) (jump_stays before (class_in s r.left) (text_of s r.left) (next_class s (lefts rs))) h.0
 
-  labels_from : (n : ℕ) (p : Place) (q : Pair s e) (qs : List (Pair s e)) → IsFormed s q.left → GoesOn p (text_of s q.left) (class_in s q.left) → Walk s e p (class_in s q.left) qs
+  labels_from : (n : ℕ) (p : TokenPlace) (q : Pair s e) (qs : List (Pair s e)) → IsFormed s q.left → GoesOn p (text_of s q.left) (class_in s q.left) → Walk s e p (class_in s q.left) qs
       → (m : Mnemonic × OperandSyntax) → look_up mnemonics (text_of s q.left) ≡ Some m → (f : OperandSyntax) → m.1 ≡ f → Labels s e f (take n qs)
   labels_from n p q qs shape on h m found form.Operand is = tt
   labels_from n p q qs shape on h m found form.Open is = tt
@@ -418,9 +418,9 @@ module _ (s e : List ℕ) where
   labels_from n p q qs shape on h m found form.Call is = tt
   labels_from n p q qs shape on h m found form.Jump is =
       let word = jump_word s q.left m shape found (ap is_jump_syntax is) in
-      head_label n (class_in s q.left) qs (subst (λ (x : Place). Walk s e x (class_in s q.left) qs) (on.jumps (word_class q.left word.0) word.1) h)
+      head_label n (class_in s q.left) qs (subst (λ (x : TokenPlace). Walk s e x (class_in s q.left) qs) (on.jumps (word_class q.left word.0) word.1) h)
 
-  pub first_from : (n : ℕ) (p : Place) (q : Pair s e) (qs : List (Pair s e)) → IsFront q → IsFormed s q.left → GoesOn p (text_of s q.left) (class_in s q.left)
+  pub first_from : (n : ℕ) (p : TokenPlace) (q : Pair s e) (qs : List (Pair s e)) → IsFront q → IsFormed s q.left → GoesOn p (text_of s q.left) (class_in s q.left)
       → NoEnd s e n qs → Walk s e p (class_in s q.left) qs → IsFirst s e q (take n qs)
   first_from n p q qs front shape on none h = record {
     text = front_text q front;
@@ -548,7 +548,7 @@ module _ (s e : List ℕ) where
   label_then before q r rs free word colon =
       let first_is = ap (λ (c : TokenClass). place_behind place.Start before c (text_of s q.left) (class_in s r.left)) word
       ∙ ap (λ (c : TokenClass). place_behind place.Start before class.Word (text_of s q.left) c) colon ∙ label_place before (text_of s q.left) free in
-      ap (λ (p : Place). place_behind p (class_in s q.left) (class_in s r.left) (text_of s r.left) (next_class s (lefts rs))) first_is
+      ap (λ (p : TokenPlace). place_behind p (class_in s q.left) (class_in s r.left) (text_of s r.left) (next_class s (lefts rs))) first_is
       ∙ ap (λ (c : TokenClass). place_behind place.Label (class_in s q.left) c (text_of s r.left) (next_class s (lefts rs))) colon
       ∙ colon_place (class_in s q.left) (text_of s r.left) (next_class s (lefts rs))
 
@@ -559,7 +559,7 @@ module _ (s e : List ℕ) where
       let role_is = ap (λ (c : TokenClass). role_of place.Start before c (text_of s q.left) (class_in s r.left)) word
       ∙ ap (λ (c : TokenClass). role_of place.Start before class.Word (text_of s q.left) c) colon ∙ start_label before (text_of s q.left) in (
         subst (λ (x : Role). ComesBackInRole s e x q.left q.right) role_is h.0,
-        labelled_first n (class_in s r.left) rs shape none (subst (λ (p : Place). Walk s e p (class_in s r.left) rs) (label_then before q r rs free word colon) h.1.1),
+        labelled_first n (class_in s r.left) rs shape none (subst (λ (p : TokenPlace). Walk s e p (class_in s r.left) rs) (label_then before q r rs free word colon) h.1.1),
       )
 
   bare_colon : (a b : Bool) → (a && b) ≡ false → a ≡ true → b ≡ false
@@ -613,11 +613,11 @@ module _ (s e : List ℕ) where
   unfolding place_behind place_behind_sign
   labelled_end before text next = refl
 
-  ended : (p : Place) (before : TokenClass) (q : Pair s e) (qs : List (Pair s e)) → is_mark s q.left mark.Semicolon ≡ true
+  ended : (p : TokenPlace) (before : TokenClass) (q : Pair s e) (qs : List (Pair s e)) → is_mark s q.left mark.Semicolon ≡ true
       → place_behind p before class.Semicolon (text_of s q.left) (next_class s (lefts qs)) ≡ place.Start → Walk s e p before (q ∷ qs) → Walk s e place.Start class.Semicolon qs
   ended p before q qs is starts h =
       subst (λ (c : TokenClass). Walk s e place.Start c qs) (end_class q.left is)
-      (subst (λ (x : Place). Walk s e x (class_in s q.left) qs)
+      (subst (λ (x : TokenPlace). Walk s e x (class_in s q.left) qs)
       (ap (λ (c : TokenClass). place_behind p before c (text_of s q.left) (next_class s (lefts qs))) (end_class q.left is) ∙ starts) h.1)
 
   labelled_walked : (n : ℕ) (before : TokenClass) (ps : List (Pair s e)) (q : Pair s e) (qs : List (Pair s e)) → NoEnd s e n ps → Walk s e place.Labelled before ps
@@ -638,7 +638,7 @@ module _ (s e : List ℕ) where
       absurd (false≢true (sym (ap is_colon (end_class u.left (ap (λ (x : Pair s e). is_mark s x.left mark.Semicolon) (ap (first_or q) there) ∙ is))) ∙ colon))
   label_walked (suc n) before r [] q qs none h free word colon there is = absurd cc
   label_walked (suc n) before r (u ∷ us) q qs none h free word colon there is =
-      labelled_walked n (class_in s u.left) us q qs none.1 (subst (λ (p : Place). Walk s e p (class_in s u.left) us) (label_then before r u us free word (colon_is (class_in s u.left) colon)) h.1.1) there is
+      labelled_walked n (class_in s u.left) us q qs none.1 (subst (λ (p : TokenPlace). Walk s e p (class_in s u.left) us) (label_then before r u us free word (colon_is (class_in s u.left) colon)) h.1.1) there is
 
   -- behind the `;` of a statement the next one begins
   pub statement_walked : (n : ℕ) (before : TokenClass) (ps : List (Pair s e)) (q : Pair s e) (qs : List (Pair s e)) → NoEnd s e n ps → Walk s e place.Start before ps → StartsFree ps

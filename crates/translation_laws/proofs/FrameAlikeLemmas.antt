@@ -37,8 +37,8 @@ use Rattle.stl_lexer.specs.declared.marks.Mark.TheVariants as mark
 use Rattle.stl_parser.proofs.OptionLemmas.{both, chained, either, failed, mapped, none_holds, passed, some_holds, weakened}
 use Rattle.de_mnemonics.specs.declared.classes.TokenClass.{TokenClass}
 use Rattle.de_mnemonics.specs.declared.classes.TokenClass.TheVariants as class
-use Rattle.de_mnemonics.specs.declared.places.Place.{Place}
-use Rattle.de_mnemonics.specs.declared.places.Place.TheVariants as place
+use Rattle.de_mnemonics.specs.declared.places.TokenPlace.{TokenPlace}
+use Rattle.de_mnemonics.specs.declared.places.TokenPlace.TheVariants as place
 use Rattle.de_mnemonics.specs.declared.roles.Role.TheVariants as role
 use Rattle.de_mnemonics.specs.Places.{place_behind, place_behind_head, place_behind_outside, place_behind_sign, place_behind_start, place_behind_word, class_of, class_of_mark, is_word_in_list, is_mark_text, may_be_keyword, role_of, role_of_word}
 use Rattle.de_mnemonics.specs.Tables.{begin_words, code_openings, data_openings, block_end_words, network_words}
@@ -49,17 +49,17 @@ use Rattle.translation_laws.proofs.LookUpLemmas.{same_looked_up}
 use Rattle.translation_laws.proofs.RoleLemmas.{behind_plain, is_plain_class, is_word_kind, kind_plain}
 
 -- the walk stands outside of statements
-abbrev pub is_quiet : Place → Bool
+abbrev pub is_quiet : TokenPlace → Bool
 is_quiet place.Outside = true
 is_quiet place.Head = true
 is_quiet _ = false
 
 -- where it stands in the head of a block of this kind
-abbrev pub quiet_place : BlockKind → Place
+abbrev pub quiet_place : BlockKind → TokenPlace
 quiet_place k = if is_code k then place.Head else place.Outside
 
 -- and at a clause at this place
-abbrev pub Stands : ClausePlace → Place → TokenClass → Type 0
+abbrev pub Stands : ClausePlace → TokenPlace → TokenClass → Type 0
 Stands at.Outside pl b = (pl ≡ place.Outside) × (may_be_keyword b ≡ true)
 Stands (at.Head k) pl b = (pl ≡ quiet_place k) × (may_be_keyword b ≡ true)
 Stands (at.Section k p level) pl b = (pl ≡ place.Head) × (may_be_keyword b ≡ true) × (is_code k ≡ true)
@@ -70,7 +70,7 @@ Stands at.Settings pl b = (pl ≡ place.Outside) × (may_be_keyword b ≡ true)
 Stands (at.Body k) pl b = (pl ≡ place.Start) × (is_code k ≡ true)
 
 -- the place behind the first token of a clause
-abbrev pub place_after : Clause → Place → Place
+abbrev pub place_after : Clause → TokenPlace → TokenPlace
 place_after (clause.Head line k name result) pl = quiet_place k
 place_after clause.Begins place.Head = place.Start
 place_after _ pl = pl
@@ -128,7 +128,7 @@ code_parts kinds.Db p e = absurd (false≢true e)
 code_parts kinds.Sfc p e = absurd (false≢true e)
 code_parts kinds.Udt p e = absurd (false≢true e)
 
-pub stands_quiet : (cp : ClausePlace) (pl : Place) (b : TokenClass) → is_body cp ≡ false → Stands cp pl b
+pub stands_quiet : (cp : ClausePlace) (pl : TokenPlace) (b : TokenClass) → is_body cp ≡ false → Stands cp pl b
     → (is_quiet pl ≡ true) × (may_be_keyword b ≡ true)
 stands_quiet at.Outside pl b no_ h = (ap is_quiet h.0, h.1)
 stands_quiet (at.Head k) pl b no_ h = (ap is_quiet h.0 ∙ quiet_is k, h.1)
@@ -139,7 +139,7 @@ stands_quiet (at.Shaped k) pl b no_ h = (ap is_quiet h.0, h.1)
 stands_quiet at.Settings pl b no_ h = (ap is_quiet h.0, h.1)
 stands_quiet (at.Body k) pl b no_ h = absurd (true≢false no_)
 
-stands_at : (x next : ClausePlace) (pl : Place) (b : TokenClass) → Some x ≡ Some next → Stands x pl b → Stands next pl b
+stands_at : (x next : ClausePlace) (pl : TokenPlace) (b : TokenClass) → Some x ≡ Some next → Stands x pl b → Stands next pl b
 stands_at x next pl b e h = subst (λ n. Stands n pl b) (same_Some x next e) h
 
 if_some : {A : Type 0} (b : Bool) (x y : A) → (if b then Some x else None) ≡ Some y → (b ≡ true) × (Some x ≡ Some y)
@@ -150,7 +150,7 @@ if_none : {A : Type 0} (b : Bool) (x y : A) → (if b then None else Some x) ≡
 if_none true x y e = absurd (none-some y e)
 if_none false x y e = e
 
-outside_after : (c : Clause) (next : ClausePlace) (pl : Place) (b : TokenClass) → pl ≡ place.Outside → next_place at.Outside c ≡ Some next → may_be_keyword b ≡ true
+outside_after : (c : Clause) (next : ClausePlace) (pl : TokenPlace) (b : TokenClass) → pl ≡ place.Outside → next_place at.Outside c ≡ Some next → may_be_keyword b ≡ true
     → Stands next (place_after c pl) b
 unfolding next_place next_place_outside next_place_in_head next_place_in_section next_place_between next_place_in_shape next_place_behind_shape next_place_in_settings
 outside_after (clause.Head line e name result) next pl b is h ok = stands_at (at.Head e) next (quiet_place e) b h (refl, ok)
@@ -168,7 +168,7 @@ outside_after (clause.Declares d) next pl b is h ok = absurd (none-some next h)
 outside_after (clause.Sets v) next pl b is h ok = absurd (none-some next h)
 outside_after (clause.Runs y) next pl b is h ok = absurd (none-some next h)
 
-head_after : (k : BlockKind) (c : Clause) (next : ClausePlace) (pl : Place) (b : TokenClass) → pl ≡ quiet_place k → next_place (at.Head k) c ≡ Some next → may_be_keyword b ≡ true
+head_after : (k : BlockKind) (c : Clause) (next : ClausePlace) (pl : TokenPlace) (b : TokenClass) → pl ≡ quiet_place k → next_place (at.Head k) c ≡ Some next → may_be_keyword b ≡ true
     → Stands next (place_after c pl) b
 unfolding next_place next_place_outside next_place_in_head next_place_in_section next_place_between next_place_in_shape next_place_behind_shape next_place_in_settings
 head_after k (clause.Head line e name result) next pl b is h ok = absurd (none-some next h)
@@ -195,12 +195,12 @@ head_after k (clause.Declares d) next pl b is h ok = absurd (none-some next h)
 head_after k (clause.Sets v) next pl b is h ok = absurd (none-some next h)
 head_after k (clause.Runs y) next pl b is h ok = absurd (none-some next h)
 
-section_end : (k : BlockKind) (p : PartKind) (level : ℕ) (next : ClausePlace) (pl : Place) (b : TokenClass) → pl ≡ place.Head → is_code k ≡ true
+section_end : (k : BlockKind) (p : PartKind) (level : ℕ) (next : ClausePlace) (pl : TokenPlace) (b : TokenClass) → pl ≡ place.Head → is_code k ≡ true
     → section_behind k p level ≡ Some next → may_be_keyword b ≡ true → Stands next pl b
 section_end k p zero next pl b is code h ok = absurd (none-some next h)
 section_end k p (suc level) next pl b is code h ok = stands_at (at.Section k p level) next pl b h (is, ok, code)
 
-section_after : (k : BlockKind) (p : PartKind) (level : ℕ) (c : Clause) (next : ClausePlace) (pl : Place) (b : TokenClass) → pl ≡ place.Head → is_code k ≡ true → next_place (at.Section k p level) c ≡ Some next → may_be_keyword b ≡ true
+section_after : (k : BlockKind) (p : PartKind) (level : ℕ) (c : Clause) (next : ClausePlace) (pl : TokenPlace) (b : TokenClass) → pl ≡ place.Head → is_code k ≡ true → next_place (at.Section k p level) c ≡ Some next → may_be_keyword b ≡ true
     → Stands next (place_after c pl) b
 unfolding next_place next_place_outside next_place_in_head next_place_in_section next_place_between next_place_in_shape next_place_behind_shape next_place_in_settings
 section_after k p level (clause.Head line e name result) next pl b is code h ok = absurd (none-some next h)
@@ -220,7 +220,7 @@ section_after k p level (clause.Declares d) next pl b is code h ok =
 section_after k p level (clause.Sets v) next pl b is code h ok = absurd (none-some next h)
 section_after k p level (clause.Runs y) next pl b is code h ok = absurd (none-some next h)
 
-between_after : (k : BlockKind) (p : PartKind) (c : Clause) (next : ClausePlace) (pl : Place) (b : TokenClass) → pl ≡ place.Head → is_code k ≡ true → next_place (at.Between k p) c ≡ Some next → may_be_keyword b ≡ true
+between_after : (k : BlockKind) (p : PartKind) (c : Clause) (next : ClausePlace) (pl : TokenPlace) (b : TokenClass) → pl ≡ place.Head → is_code k ≡ true → next_place (at.Between k p) c ≡ Some next → may_be_keyword b ≡ true
     → Stands next (place_after c pl) b
 unfolding next_place next_place_outside next_place_in_head next_place_in_section next_place_between next_place_in_shape next_place_behind_shape next_place_in_settings
 between_after k p (clause.Head line e name result) next pl b is code h ok = absurd (none-some next h)
@@ -239,12 +239,12 @@ between_after k p (clause.Declares d) next pl b is code h ok = absurd (none-some
 between_after k p (clause.Sets v) next pl b is code h ok = absurd (none-some next h)
 between_after k p (clause.Runs y) next pl b is code h ok = absurd (none-some next h)
 
-shape_end : (k : BlockKind) (level : ℕ) (next : ClausePlace) (pl : Place) (b : TokenClass) → pl ≡ place.Outside → shape_behind k level ≡ Some next
+shape_end : (k : BlockKind) (level : ℕ) (next : ClausePlace) (pl : TokenPlace) (b : TokenClass) → pl ≡ place.Outside → shape_behind k level ≡ Some next
     → may_be_keyword b ≡ true → Stands next pl b
 shape_end k zero next pl b is h ok = stands_at (at.Shaped k) next pl b h (is, ok)
 shape_end k (suc level) next pl b is h ok = stands_at (at.Shape k level) next pl b h (is, ok)
 
-shape_after : (k : BlockKind) (level : ℕ) (c : Clause) (next : ClausePlace) (pl : Place) (b : TokenClass) → pl ≡ place.Outside → next_place (at.Shape k level) c ≡ Some next → may_be_keyword b ≡ true
+shape_after : (k : BlockKind) (level : ℕ) (c : Clause) (next : ClausePlace) (pl : TokenPlace) (b : TokenClass) → pl ≡ place.Outside → next_place (at.Shape k level) c ≡ Some next → may_be_keyword b ≡ true
     → Stands next (place_after c pl) b
 unfolding next_place next_place_outside next_place_in_head next_place_in_section next_place_between next_place_in_shape next_place_behind_shape next_place_in_settings
 shape_after k level (clause.Head line e name result) next pl b is h ok = absurd (none-some next h)
@@ -264,7 +264,7 @@ shape_after k level (clause.Declares d) next pl b is h ok =
 shape_after k level (clause.Sets v) next pl b is h ok = absurd (none-some next h)
 shape_after k level (clause.Runs y) next pl b is h ok = absurd (none-some next h)
 
-shaped_after : (k : BlockKind) (c : Clause) (next : ClausePlace) (pl : Place) (b : TokenClass) → pl ≡ place.Outside → next_place (at.Shaped k) c ≡ Some next
+shaped_after : (k : BlockKind) (c : Clause) (next : ClausePlace) (pl : TokenPlace) (b : TokenClass) → pl ≡ place.Outside → next_place (at.Shaped k) c ≡ Some next
     → may_be_keyword b ≡ true → Stands next (place_after c pl) b
 unfolding next_place next_place_outside next_place_in_head next_place_in_section next_place_between next_place_in_shape next_place_behind_shape next_place_in_settings
 shaped_after kinds.Ob (clause.Head line e name result) next pl b is h ok = absurd (none-some next h)
@@ -357,7 +357,7 @@ shaped_after kinds.Udt (clause.Declares d) next pl b is h ok = absurd (none-some
 shaped_after kinds.Udt (clause.Sets v) next pl b is h ok = absurd (none-some next h)
 shaped_after kinds.Udt (clause.Runs y) next pl b is h ok = absurd (none-some next h)
 
-settings_after : (c : Clause) (next : ClausePlace) (pl : Place) (b : TokenClass) → pl ≡ place.Outside → next_place at.Settings c ≡ Some next
+settings_after : (c : Clause) (next : ClausePlace) (pl : TokenPlace) (b : TokenClass) → pl ≡ place.Outside → next_place at.Settings c ≡ Some next
     → may_be_keyword b ≡ true → Stands next (place_after c pl) b
 unfolding next_place next_place_outside next_place_in_head next_place_in_section next_place_between next_place_in_shape next_place_behind_shape next_place_in_settings
 settings_after (clause.Head line e name result) next pl b is h ok = absurd (none-some next h)
@@ -380,7 +380,7 @@ settings_after (clause.Declares d) next pl b is h ok = absurd (none-some next h)
 settings_after (clause.Sets v) next pl b is h ok = stands_at at.Settings next pl b h (is, ok)
 settings_after (clause.Runs y) next pl b is h ok = absurd (none-some next h)
 
-pub stands_after : (cp : ClausePlace) (c : Clause) (next : ClausePlace) (pl : Place) (before behind : TokenClass) → is_body cp ≡ false → Stands cp pl before
+pub stands_after : (cp : ClausePlace) (c : Clause) (next : ClausePlace) (pl : TokenPlace) (before behind : TokenClass) → is_body cp ≡ false → Stands cp pl before
     → next_place cp c ≡ Some next → may_be_keyword behind ≡ true → Stands next (place_after c pl) behind
 stands_after at.Outside c next pl before behind no_ h e ok = outside_after c next pl behind h.0 e ok
 stands_after (at.Head k) c next pl before behind no_ h e ok = head_after k c next pl behind h.0 e ok
@@ -555,12 +555,12 @@ network_keys = refl
 
 -- ---- the walk at a word
 
-walk_to : Place → (code data_ begin : Bool) → Place
+walk_to : TokenPlace → (code data_ begin : Bool) → TokenPlace
 walk_to place.Outside code data_ begin = if code then place.Head else place.Outside
 walk_to place.Head code data_ begin = if begin then place.Start else (if data_ then place.Outside else place.Head)
 walk_to pl code data_ begin = pl
 
-word_walk : (pl : Place) (b : TokenClass) (x : List ℕ) (n : TokenClass) → is_quiet pl ≡ true → may_be_keyword b ≡ true
+word_walk : (pl : TokenPlace) (b : TokenClass) (x : List ℕ) (n : TokenClass) → is_quiet pl ≡ true → may_be_keyword b ≡ true
     → place_behind pl b class.Word x n ≡ walk_to pl (is_word_in_list code_openings x) (is_word_in_list data_openings x) (is_word_in_list begin_words x)
 unfolding place_behind place_behind_word place_behind_outside place_behind_head walk_to
 word_walk place.Outside b x n quiet may = rw may refl
@@ -577,7 +577,7 @@ word_walk place.Closing b x n quiet may = absurd (false≢true quiet)
 word_walk place.Path b x n quiet may = absurd (false≢true quiet)
 word_walk place.Inside b x n quiet may = absurd (false≢true quiet)
 
-stays_put : (pl : Place) → is_quiet pl ≡ true → walk_to pl false false false ≡ pl
+stays_put : (pl : TokenPlace) → is_quiet pl ≡ true → walk_to pl false false false ≡ pl
 unfolding walk_to
 stays_put place.Outside e = refl
 stays_put place.Head e = refl
@@ -590,7 +590,7 @@ stays_put place.Closing e = absurd (false≢true e)
 stays_put place.Path e = absurd (false≢true e)
 stays_put place.Inside e = absurd (false≢true e)
 
-plain_walk : (pl : Place) (b c : TokenClass) (x : List ℕ) (n : TokenClass) → is_quiet pl ≡ true → is_plain_class c ≡ true → place_behind pl b c x n ≡ pl
+plain_walk : (pl : TokenPlace) (b c : TokenClass) (x : List ℕ) (n : TokenClass) → is_quiet pl ≡ true → is_plain_class c ≡ true → place_behind pl b c x n ≡ pl
 unfolding place_behind_sign
 plain_walk place.Outside b c x n e plain = behind_plain place.Outside b c x n plain
 plain_walk place.Head b c x n e plain = behind_plain place.Head b c x n plain
@@ -603,7 +603,7 @@ plain_walk place.Closing b c x n e plain = absurd (false≢true e)
 plain_walk place.Path b c x n e plain = absurd (false≢true e)
 plain_walk place.Inside b c x n e plain = absurd (false≢true e)
 
-free_walk : (pl : Place) (b : TokenClass) (x : List ℕ) (n : TokenClass) → is_quiet pl ≡ true → may_be_keyword b ≡ true → look_up keywords x ≡ None
+free_walk : (pl : TokenPlace) (b : TokenClass) (x : List ℕ) (n : TokenClass) → is_quiet pl ≡ true → may_be_keyword b ≡ true → look_up keywords x ≡ None
     → place_behind pl b class.Word x n ≡ pl
 free_walk pl b x n quiet may none =
     word_walk pl b x n quiet may
@@ -612,7 +612,7 @@ free_walk pl b x n quiet may none =
     ∙ ap (λ c. walk_to pl false false c) (none_among begin_words x begin_keys none)
     ∙ stays_put pl quiet
 
-key_walk : (pl : Place) (b : TokenClass) (x : List ℕ) (n : TokenClass) (k : Keyword) → is_quiet pl ≡ true → may_be_keyword b ≡ true → KeyFits x k
+key_walk : (pl : TokenPlace) (b : TokenClass) (x : List ℕ) (n : TokenClass) (k : Keyword) → is_quiet pl ≡ true → may_be_keyword b ≡ true → KeyFits x k
     → place_behind pl b class.Word x n ≡ walk_to pl (code_key k) (data_key k) (begin_key k)
 key_walk pl b x n k quiet may h =
     word_walk pl b x n quiet may
@@ -669,7 +669,7 @@ other_plain s cp line tokens =
         chained (block_at s tokens) _ (λ r. Unit {0}) IsPlainRead (none_holds (block_at s tokens))
         (λ r k. passed (is_base_block r.0) (Some (clause.Based r.0, r.1, false)) IsPlainRead (λ is. refl))
 
-plain_after : (c : Clause) (pl : Place) → is_plain c ≡ true → place_after c pl ≡ pl
+plain_after : (c : Clause) (pl : TokenPlace) → is_plain c ≡ true → place_after c pl ≡ pl
 plain_after (clause.Head line e name result) pl h = absurd (false≢true h)
 plain_after (clause.Ends line e) pl h = absurd (false≢true h)
 plain_after (clause.Section line q) pl h = absurd (false≢true h)
@@ -724,7 +724,7 @@ unfolding head_word_clause
 note_read s cp w rest =
     mapped (head_word_at s w rest) (λ behind. (clause.Note, behind_note s cp behind, false)) (λ r. Unit {0}) (λ r. r.0 ≡ clause.Note) (none_holds (head_word_at s w rest)) (λ r k. refl)
 
-module _ (s : List ℕ) (cp : ClausePlace) (pl : Place) (b : TokenClass) (nc : TokenClass) (quiet : is_quiet pl ≡ true) (may : may_be_keyword b ≡ true)
+module _ (s : List ℕ) (cp : ClausePlace) (pl : TokenPlace) (b : TokenClass) (nc : TokenClass) (quiet : is_quiet pl ≡ true) (may : may_be_keyword b ≡ true)
     (t : Token) (ts : List Token) where
   -- the place behind the first token is that of the clause
   abbrev Leads : Clause × List Token × Bool → Type 0
@@ -746,7 +746,7 @@ module _ (s : List ℕ) (cp : ClausePlace) (pl : Place) (b : TokenClass) (nc : T
   free_leads stays (Some w) = both (is_outer cp) (head_word_clause s cp w ts) (other_clause s cp t.line (t ∷ ts)) Leads (note_leads stays w) (other_leads stays)
   free_leads stays None = other_leads stays
 
-  opens_walk : (k : BlockKind) (p : Place) → is_quiet p ≡ true → walk_to p (is_code k) (not (is_code k)) false ≡ quiet_place k
+  opens_walk : (k : BlockKind) (p : TokenPlace) → is_quiet p ≡ true → walk_to p (is_code k) (not (is_code k)) false ≡ quiet_place k
   unfolding walk_to
   opens_walk k place.Outside e = refl
   opens_walk k place.Head e = by (is_code k)
@@ -763,7 +763,7 @@ module _ (s : List ℕ) (cp : ClausePlace) (pl : Place) (b : TokenClass) (nc : T
   opens_walk k place.Path e = absurd (false≢true e)
   opens_walk k place.Inside e = absurd (false≢true e)
 
-  begin_walk : (p : Place) → is_quiet p ≡ true → walk_to p false false true ≡ place_after clause.Begins p
+  begin_walk : (p : TokenPlace) → is_quiet p ≡ true → walk_to p false false true ≡ place_after clause.Begins p
   unfolding walk_to
   begin_walk place.Outside e = refl
   begin_walk place.Head e = refl
@@ -831,7 +831,7 @@ module _ (s : List ℕ) (cp : ClausePlace) (pl : Place) (b : TokenClass) (nc : T
   unfolding clause_at
   clause_leads = kind_leads t.kind refl
 
-pub first_place : (s : List ℕ) (cp : ClausePlace) (t : Token) (ts : List Token) (c : Clause) (rest : List Token) (long : Bool) (pl : Place) (before nc : TokenClass)
+pub first_place : (s : List ℕ) (cp : ClausePlace) (t : Token) (ts : List Token) (c : Clause) (rest : List Token) (long : Bool) (pl : TokenPlace) (before nc : TokenClass)
     → is_quiet pl ≡ true → may_be_keyword before ≡ true → is_statement c ≡ false → clause_at s cp (t ∷ ts) ≡ Some (c, rest, long)
     → place_behind pl before (class_in s t) (text_of s t) nc ≡ place_after c pl
 first_place s cp t ts c rest long pl before nc quiet may isnt e =
@@ -923,7 +923,7 @@ begins_rest s cp t ts rest long e =
 
 -- ---- tokens inside a clause
 
-calm_place_word : (pl : Place) (b : TokenClass) (x : List ℕ) (n : TokenClass) → is_quiet pl ≡ true → (may_be_keyword b && is_block_word x) ≡ false
+calm_place_word : (pl : TokenPlace) (b : TokenClass) (x : List ℕ) (n : TokenClass) → is_quiet pl ≡ true → (may_be_keyword b && is_block_word x) ≡ false
     → place_behind pl b class.Word x n ≡ pl
 unfolding place_behind place_behind_word place_behind_outside place_behind_head
 calm_place_word place.Outside b x n quiet e = by (may_be_keyword b) (is_word_in_list code_openings x) (is_word_in_list data_openings x || is_word_in_list begin_words x) e
@@ -954,7 +954,7 @@ calm_test true true e = absurd (false≢true e)
 calm_test true false e = refl
 calm_test false c e = refl
 
-pub calm_place : (pl : Place) (b c : TokenClass) (text : List ℕ) (nc : TokenClass) → is_quiet pl ≡ true → calm_of b c text ≡ true → place_behind pl b c text nc ≡ pl
+pub calm_place : (pl : TokenPlace) (b c : TokenClass) (text : List ℕ) (nc : TokenClass) → is_quiet pl ≡ true → calm_of b c text ≡ true → place_behind pl b c text nc ≡ pl
 calm_place pl b class.Word text nc quiet calm = calm_place_word pl b text nc quiet (calm_test (may_be_keyword b) (is_block_word text) calm)
 calm_place pl b class.Number text nc quiet calm = plain_walk pl b class.Number text nc quiet refl
 calm_place pl b class.Note text nc quiet calm = plain_walk pl b class.Note text nc quiet refl
@@ -968,7 +968,7 @@ calm_place pl b class.CloseParen text nc quiet calm = plain_walk pl b class.Clos
 calm_place pl b class.Pointer text nc quiet calm = plain_walk pl b class.Pointer text nc quiet refl
 calm_place pl b class.Other text nc quiet calm = plain_walk pl b class.Other text nc quiet refl
 
-quiet_word_role : (pl : Place) (b : TokenClass) (text : List ℕ) (nc : TokenClass) → is_quiet pl ≡ true → role_of_word pl b text nc ≡ role.Stays
+quiet_word_role : (pl : TokenPlace) (b : TokenClass) (text : List ℕ) (nc : TokenClass) → is_quiet pl ≡ true → role_of_word pl b text nc ≡ role.Stays
 unfolding role_of_word
 quiet_word_role place.Outside b text nc e = refl
 quiet_word_role place.Head b text nc e = refl
@@ -981,7 +981,7 @@ quiet_word_role place.Closing b text nc e = absurd (false≢true e)
 quiet_word_role place.Path b text nc e = absurd (false≢true e)
 quiet_word_role place.Inside b text nc e = absurd (false≢true e)
 
-pub quiet_role : (pl : Place) (b c : TokenClass) (text : List ℕ) (nc : TokenClass) → is_quiet pl ≡ true → role_of pl b c text nc ≡ role.Stays
+pub quiet_role : (pl : TokenPlace) (b c : TokenClass) (text : List ℕ) (nc : TokenClass) → is_quiet pl ≡ true → role_of pl b c text nc ≡ role.Stays
 unfolding role_of
 quiet_role pl b class.Word text nc e = quiet_word_role pl b text nc e
 quiet_role pl b class.Number text nc e = refl

@@ -10,8 +10,8 @@ use Rattle.stl_lexer.specs.declared.marks.Mark.{Mark}
 use Rattle.stl_lexer.specs.Tokens.{text_of}
 use Rattle.stl_symbols.specs.declared.languages.Language.{Language}
 use Rattle.stl_symbols.specs.declared.languages.Language.TheVariants.{English, German}
-use Rattle.stl_parser.specs.declared.keywords.Key.{Key}
-use Rattle.stl_parser.specs.declared.keywords.Key.TheVariants as key
+use Rattle.stl_parser.specs.declared.keywords.ClauseWord.{ClauseWord}
+use Rattle.stl_parser.specs.declared.keywords.ClauseWord.TheVariants as key
 use Rattle.stl_parser.specs.Numbers.{number_up_to}
 use Rattle.stl_parser.specs.Terminals.{has_kind, is_key, is_mark, key_text, kind_rank}
 use Rattle.translation_laws.specs.Alike.{IsOperandWordAsLocal, IsSameToken}
@@ -35,12 +35,12 @@ no_number : (most : ℕ) (s : List ℕ) (t : Token) → has_kind t kind.Number �
 unfolding number_up_to
 no_number most s t e = rw e refl
 
-pub no_key : (s : List ℕ) (t : Token) (k : Key) → has_kind t kind.Word ≡ false → is_key s t k ≡ false
+pub no_key : (s : List ℕ) (t : Token) (k : ClauseWord) → has_kind t kind.Word ≡ false → is_key s t k ≡ false
 unfolding is_key
 no_key s t k e = rw e refl
 
 -- a language's operand words are none of the keys
-keys_differ : (language : Language) (k : Key) → is_operand language (key_text k) ≡ false
+keys_differ : (language : Language) (k : ClauseWord) → is_operand language (key_text k) ≡ false
 unfolding operand_partner numbered_partner partner_in_table operand_pairs result_pairs key_text
 keys_differ English key.True = refl
 keys_differ English key.False = refl
@@ -69,7 +69,7 @@ keys_differ German key.W = refl
 keys_differ German key.D = refl
 keys_differ German key.Mcr = refl
 
-operand_no_key : (language : Language) (s : List ℕ) (t : Token) (k : Key) → is_operand language (text_of s t) ≡ true → is_key s t k ≡ false
+operand_no_key : (language : Language) (s : List ℕ) (t : Token) (k : ClauseWord) → is_operand language (text_of s t) ≡ true → is_key s t k ≡ false
 unfolding is_key
 operand_no_key language s t k is = by (has_kind t kind.Word) (str_eq_ignore_ascii_case (text_of s t) (key_text k)) refl
   where
@@ -112,14 +112,14 @@ module _ (s e : List ℕ) where
       by (inr (inl h)) = no_number most s p.left (of_kind p.left kind.Word kind.Number h.word) ∙ sym (no_number most e p.right (of_kind p.right kind.Word kind.Number h.other))
       by (inr (inr h)) = no_number most s p.left (of_kind p.left kind.Word kind.Number h.named.word) ∙ sym (no_number most e p.right (of_kind p.right kind.Local kind.Number h.named.other))
 
-  pub named_no_key : (t u : Token) (k : Key) → IsOperandWordAsLocal s e t u → is_key s t k ≡ false
+  pub named_no_key : (t u : Token) (k : ClauseWord) → IsOperandWordAsLocal s e t u → is_key s t k ≡ false
   named_no_key t u k h = by h.operand
     where
       by : (is_operand English (text_of s t) ≡ true) ⊎ (is_operand German (text_of s t) ≡ true) → is_key s t k ≡ false
       by (inl is) = operand_no_key English s t k is
       by (inr is) = operand_no_key German s t k is
 
-  pub key_like : (p : Pair s e) (k : Key) → is_key s p.left k ≡ is_key e p.right k
+  pub key_like : (p : Pair s e) (k : ClauseWord) → is_key s p.left k ≡ is_key e p.right k
   unfolding is_key
   key_like p k = by p.like
     where

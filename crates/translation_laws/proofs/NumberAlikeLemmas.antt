@@ -14,8 +14,8 @@ use Rattle.stl_lexer.specs.Tokens.{text_of}
 use Rattle.stl_ast.specs.declared.literals.Literal.TheVariants as literal
 use Rattle.stl_ast.specs.declared.names.BlockName.TheVariants as block
 use Rattle.stl_symbols.specs.declared.languages.Language.TheVariants.{English, German}
-use Rattle.stl_parser.specs.declared.keywords.Key.TheVariants as key
-use Rattle.stl_parser.specs.declared.tables.Address.{Address}
+use Rattle.stl_parser.specs.declared.keywords.ClauseWord.TheVariants as key
+use Rattle.stl_parser.specs.declared.tables.AddressKind.{AddressKind}
 use Rattle.stl_parser.specs.Addresses.{address_at, bit_of, block_at, block_number_at, glued_letters_and_number, letter_count, letters_and_number_at, quoted_block_at, separate_letters_and_number}
 use Rattle.stl_parser.specs.Literals.{byte_of, bytes_at, bytes_behind, characters_of, last_bytes, literal_at, literal_of, literal_token, long_literal, truth_of, text_between_quotes}
 use Rattle.stl_parser.specs.Numbers.{int_at, number_of, number_up_to, signed_number_at}
@@ -236,7 +236,7 @@ module _ (s e : List ℕ) (F : List (Pair s e) → Type 0) (closed : (p : Pair s
       let found = named_none p ps h named in
       rw (of_kind p.left kind.Word kind.Word named.named.word, found.0, found.1) refl
 
-  pub address_agrees : (ps : List (Pair s e)) → F ps → Agree (Numbered s e F {X = Address}) (address_at s (lefts ps)) (address_at e (rights ps))
+  pub address_agrees : (ps : List (Pair s e)) → F ps → Agree (Numbered s e F {X = AddressKind}) (address_at s (lefts ps)) (address_at e (rights ps))
   unfolding address_at letters_and_number_at
   address_agrees [] h = nothing
   address_agrees (p ∷ ps) h = numbered_agrees addresses p ps (closed p ps h) (λ named. named_none p ps h named)

@@ -22,9 +22,9 @@ use Rattle.stl_ast.specs.declared.operands.Operand.TheVariants as operand
 use Rattle.stl_ast.specs.declared.operands.PathHead.{PathHead}
 use Rattle.stl_ast.specs.declared.operands.PathHead.TheVariants as head
 use Rattle.stl_symbols.specs.declared.languages.Language.TheVariants.{English, German}
-use Rattle.stl_parser.specs.declared.keywords.Key.TheVariants as key
-use Rattle.stl_parser.specs.declared.tables.Address.{Address}
-use Rattle.stl_parser.specs.declared.tables.Address.TheVariants as address
+use Rattle.stl_parser.specs.declared.keywords.ClauseWord.TheVariants as key
+use Rattle.stl_parser.specs.declared.tables.AddressKind.{AddressKind}
+use Rattle.stl_parser.specs.declared.tables.AddressKind.TheVariants as address
 use Rattle.stl_parser.specs.Addresses.{address_at, bit_of, is_address_word, letter_count}
 use Rattle.stl_parser.specs.Literals.{literal_at, literal_of, literal_token, long_literal, text_between_quotes}
 use Rattle.stl_parser.specs.Numbers.{number_of, signed_number_at}
@@ -84,7 +84,7 @@ module _ (s e : List ℕ) where
   dotted_head p [] h is = tt
   dotted_head p (q ∷ qs) h is = h.1.dotted is
 
-  addressed : (ps : List (Pair s e)) → Fits s e ps → Agree (Numbered s e (Fits s e) {X = Address}) (address_at s (lefts ps)) (address_at e (rights ps))
+  addressed : (ps : List (Pair s e)) → Fits s e ps → Agree (Numbered s e (Fits s e) {X = AddressKind}) (address_at s (lefts ps)) (address_at e (rights ps))
   addressed ps h = address_agrees s e (Fits s e) closed apart ps h
 
   bits : (ps : List (Pair s e)) → bit_of s (lefts ps) ≡ bit_of e (rights ps)
@@ -140,7 +140,7 @@ module _ (s e : List ℕ) where
   unfolding area_operand
   area_same area w byte ps = ap (option_map (λ bit. operand.Direct None area w byte bit)) (bit_at w ps)
 
-  place_same : (a : Address) (byte : ℕ) (ps : List (Pair s e)) → place_of_data_address s a byte (lefts ps) ≡ place_of_data_address e a byte (rights ps)
+  place_same : (a : AddressKind) (byte : ℕ) (ps : List (Pair s e)) → place_of_data_address s a byte (lefts ps) ≡ place_of_data_address e a byte (rights ps)
   unfolding place_of_data_address
   place_same (address.Area letters.Db w) byte ps = ap (option_map (λ bit. (w, byte, bit))) (bit_at w ps)
   place_same _ byte ps = refl
@@ -172,7 +172,7 @@ module _ (s e : List ℕ) where
   data_block_same n [] h = refl
   data_block_same n (p ∷ ps) h = behind_block_same (data_block_name n) (p ∷ ps) h
 
-  direct_same : (a : Address) (n : ℕ) (ps : List (Pair s e)) → Fits s e ps → direct_address_operand s a n (lefts ps) ≡ direct_address_operand e a n (rights ps)
+  direct_same : (a : AddressKind) (n : ℕ) (ps : List (Pair s e)) → Fits s e ps → direct_address_operand s a n (lefts ps) ≡ direct_address_operand e a n (rights ps)
   unfolding direct_address_operand
   direct_same (address.Area area w) n ps h = area_same area w n ps
   direct_same address.Timer n [] h = refl
@@ -208,7 +208,7 @@ module _ (s e : List ℕ) where
   pointer_close_same area byte (p ∷ []) = rw (mark_like s e p mark.CloseBracket) refl
   pointer_close_same area byte _ = refl
 
-  pointer_end_same : (pointer : Bool) (a : Address) (byte : ℕ) (ps : List (Pair s e)) → pointer_end s pointer a byte (lefts ps) ≡ pointer_end e pointer a byte (rights ps)
+  pointer_end_same : (pointer : Bool) (a : AddressKind) (byte : ℕ) (ps : List (Pair s e)) → pointer_end s pointer a byte (lefts ps) ≡ pointer_end e pointer a byte (rights ps)
   unfolding pointer_end
   pointer_end_same pointer (address.Area area width.Dword) byte ps = rw (pointer_close_same area byte ps) refl
   pointer_end_same pointer (address.Area area width.Word) byte ps = rw (pointer_close_same area byte ps) refl
@@ -230,7 +230,7 @@ module _ (s e : List ℕ) where
   unfolding operand_by_pointer
   area_by_same area w ps h = rw (memory_same true ps h, by_register_same (Some area) w ps) refl
 
-  indirect_same : (a : Address) (ps : List (Pair s e)) → Fits s e ps → indirect_operand s a (lefts ps) ≡ indirect_operand e a (rights ps)
+  indirect_same : (a : AddressKind) (ps : List (Pair s e)) → Fits s e ps → indirect_operand s a (lefts ps) ≡ indirect_operand e a (rights ps)
   unfolding indirect_operand
   indirect_same (address.Area area w) ps h = area_by_same area w ps h
   indirect_same address.Timer ps h = number_by_same _ ps h
@@ -238,7 +238,7 @@ module _ (s e : List ℕ) where
   indirect_same (address.Block false) ps h = number_by_same _ ps h
   indirect_same (address.Block true) ps h = number_by_same _ ps h
 
-  area_pointer_same : (a : Address) (byte : ℕ) (ps : List (Pair s e)) → area_pointer s a byte (lefts ps) ≡ area_pointer e a byte (rights ps)
+  area_pointer_same : (a : AddressKind) (byte : ℕ) (ps : List (Pair s e)) → area_pointer s a byte (lefts ps) ≡ area_pointer e a byte (rights ps)
   unfolding area_pointer
   area_pointer_same (address.Area area width.Bit) byte ps = ap (option_map (λ bit. operand.Pointer (Some area) byte bit)) (bits ps)
   area_pointer_same _ byte ps = refl
@@ -432,7 +432,7 @@ module _ (s e : List ℕ) where
   unfolding memory_pointer
   memory_none pointer t ts isnt = rw isnt refl
 
-  indirect_none : (a : Address) (t : Token) (ts : List Token) → is_mark s t mark.OpenBracket ≡ false → indirect_operand s a (t ∷ ts) ≡ None
+  indirect_none : (a : AddressKind) (t : Token) (ts : List Token) → is_mark s t mark.OpenBracket ≡ false → indirect_operand s a (t ∷ ts) ≡ None
   unfolding indirect_operand operand_by_pointer operand_by_memory_number operand_by_register
   indirect_none (address.Area area w) t ts isnt = rw (memory_none true t ts isnt, register_none t ts isnt) refl
   indirect_none address.Timer t ts isnt = rw (memory_none false t ts isnt) refl
@@ -440,7 +440,7 @@ module _ (s e : List ℕ) where
   indirect_none (address.Block false) t ts isnt = rw (memory_none false t ts isnt) refl
   indirect_none (address.Block true) t ts isnt = rw (memory_none false t ts isnt) refl
 
-  indirect_end : (a : Address) → indirect_operand s a [] ≡ None
+  indirect_end : (a : AddressKind) → indirect_operand s a [] ≡ None
   unfolding indirect_operand operand_by_pointer operand_by_memory_number operand_by_register memory_pointer register_pointer
   indirect_end (address.Area area w) = refl
   indirect_end address.Timer = refl

@@ -15,8 +15,8 @@ use Rattle.stl_symbols.specs.declared.languages.Language.{Language}
 use Rattle.stl_symbols.specs.declared.languages.Language.TheVariants.{English, German}
 use Rattle.de_mnemonics.specs.declared.classes.TokenClass.{TokenClass}
 use Rattle.de_mnemonics.specs.declared.classes.TokenClass.TheVariants as class
-use Rattle.de_mnemonics.specs.declared.places.Place.{Place}
-use Rattle.de_mnemonics.specs.declared.places.Place.TheVariants as place
+use Rattle.de_mnemonics.specs.declared.places.TokenPlace.{TokenPlace}
+use Rattle.de_mnemonics.specs.declared.places.TokenPlace.TheVariants as place
 use Rattle.de_mnemonics.specs.declared.roles.Role.{Role}
 use Rattle.de_mnemonics.specs.declared.roles.Role.TheVariants as role
 use Rattle.de_mnemonics.specs.Places.{place_behind, place_behind_closing, place_behind_first, place_behind_head, place_behind_instruction, place_behind_outside, place_behind_sign, place_behind_start, place_behind_word, class_of, class_of_mark, is_word_in_list, is_behind_instruction, is_component, is_word_in_pairs, is_jump_word, is_numbered_operand, is_operand_place, is_pointer, is_mark_text, opens_path, role_at_start, role_first, role_in, role_of, role_of_word}
@@ -36,7 +36,7 @@ near_by : {X : Type 0} (f : TokenClass → X) → f class.Word ≡ f class.Other
 near_by f e c d (inl same) = ap f same
 near_by f e c d (inr (word, other)) = ap f word ∙ e ∙ sym (ap f other)
 
-word_before : (p : Place) (x : List ℕ) (n : TokenClass) → place_behind_word p class.Word x n ≡ place_behind_word p class.Other x n
+word_before : (p : TokenPlace) (x : List ℕ) (n : TokenClass) → place_behind_word p class.Word x n ≡ place_behind_word p class.Other x n
 unfolding place_behind_word place_behind_outside place_behind_head
 word_before place.Outside x n = refl
 word_before place.Head x n = refl
@@ -49,7 +49,7 @@ word_before place.Closing x n = refl
 word_before place.Path x n = refl
 word_before place.Inside x n = refl
 
-word_next : (p : Place) (b : TokenClass) (x : List ℕ) → place_behind_word p b x class.Word ≡ place_behind_word p b x class.Other
+word_next : (p : TokenPlace) (b : TokenClass) (x : List ℕ) → place_behind_word p b x class.Word ≡ place_behind_word p b x class.Other
 unfolding place_behind_word place_behind_start
 word_next place.Outside b x = refl
 word_next place.Head b x = refl
@@ -62,7 +62,7 @@ word_next place.Closing b x = refl
 word_next place.Path b x = refl
 word_next place.Inside b x = refl
 
-role_before : (p : Place) (x : List ℕ) (n : TokenClass) → role_of_word p class.Word x n ≡ role_of_word p class.Other x n
+role_before : (p : TokenPlace) (x : List ℕ) (n : TokenClass) → role_of_word p class.Word x n ≡ role_of_word p class.Other x n
 unfolding role_of_word role_in is_operand_place
 role_before place.Outside x n = refl
 role_before place.Head x n = refl
@@ -75,7 +75,7 @@ role_before place.Closing x n = refl
 role_before place.Path x n = refl
 role_before place.Inside x n = refl
 
-role_next : (p : Place) (b : TokenClass) (x : List ℕ) → role_of_word p b x class.Word ≡ role_of_word p b x class.Other
+role_next : (p : TokenPlace) (b : TokenClass) (x : List ℕ) → role_of_word p b x class.Word ≡ role_of_word p b x class.Other
 unfolding role_of_word role_at_start role_in is_operand_place is_numbered_operand
 role_next place.Outside b x = refl
 role_next place.Head b x = refl
@@ -89,12 +89,12 @@ role_next place.Path b x = refl
 role_next place.Inside b x = refl
 
 -- the place behind a word, and its role, between neighbours of a translation
-pub same_behind_word : (p : Place) (b b' : TokenClass) (x : List ℕ) (n n' : TokenClass) → IsNear b b' → IsNear n n'
+pub same_behind_word : (p : TokenPlace) (b b' : TokenClass) (x : List ℕ) (n n' : TokenClass) → IsNear b b' → IsNear n n'
     → place_behind_word p b' x n' ≡ place_behind_word p b x n
 same_behind_word p b b' x n n' h k =
     sym (near_by (λ c. place_behind_word p c x n) (word_before p x n) b b' h ∙ near_by (λ c. place_behind_word p b' x c) (word_next p b' x) n n' k)
 
-pub same_role_word : (p : Place) (b b' : TokenClass) (x : List ℕ) (n n' : TokenClass) → IsNear b b' → IsNear n n'
+pub same_role_word : (p : TokenPlace) (b b' : TokenClass) (x : List ℕ) (n n' : TokenClass) → IsNear b b' → IsNear n n'
     → role_of_word p b' x n' ≡ role_of_word p b x n
 same_role_word p b b' x n n' h k =
     sym (near_by (λ c. role_of_word p c x n) (role_before p x n) b b' h ∙ near_by (λ c. role_of_word p b' x c) (role_next p b' x) n n' k)
@@ -105,7 +105,7 @@ abbrev pub is_plain_class : TokenClass → Bool
 is_plain_class class.Word = false
 is_plain_class _ = true
 
-pub role_plain : (p : Place) (b c : TokenClass) (x : List ℕ) (n : TokenClass) → is_plain_class c ≡ true → role_of p b c x n ≡ role.Stays
+pub role_plain : (p : TokenPlace) (b c : TokenClass) (x : List ℕ) (n : TokenClass) → is_plain_class c ≡ true → role_of p b c x n ≡ role.Stays
 unfolding role_of
 role_plain p b class.Word x n e = absurd (false≢true e)
 role_plain p b class.Number x n e = refl
@@ -120,7 +120,7 @@ role_plain p b class.CloseParen x n e = refl
 role_plain p b class.Pointer x n e = refl
 role_plain p b class.Other x n e = refl
 
-pub behind_plain : (p : Place) (b c : TokenClass) (x : List ℕ) (n : TokenClass) → is_plain_class c ≡ true → place_behind p b c x n ≡ place_behind_sign p c
+pub behind_plain : (p : TokenPlace) (b c : TokenClass) (x : List ℕ) (n : TokenClass) → is_plain_class c ≡ true → place_behind p b c x n ≡ place_behind_sign p c
 unfolding place_behind
 behind_plain p b class.Word x n e = absurd (false≢true e)
 behind_plain p b class.Number x n e = refl
@@ -308,11 +308,11 @@ instruction_exchanges x w is =
     ]
 
 -- what holds of a word in a role behind it, in its place
-pub record Keeps (p : Place) (b : TokenClass) (x w : List ℕ) (n : TokenClass) : Type 0 where
+pub record Keeps (p : TokenPlace) (b : TokenClass) (x w : List ℕ) (n : TokenClass) : Type 0 where
   pub role : role_of_word p b w n ≡ role_of_word p b x n
   pub behind : place_behind_word p b w n ≡ place_behind_word p b x n
 
-pub keeps_same : (p : Place) (b : TokenClass) (x w : List ℕ) (n : TokenClass) → w ≡ x → Keeps p b x w n
+pub keeps_same : (p : TokenPlace) (b : TokenClass) (x w : List ℕ) (n : TokenClass) → w ≡ x → Keeps p b x w n
 keeps_same p b x w n e = record { role = ap (λ (y : List ℕ). role_of_word p b y n) e; behind = ap (λ (y : List ℕ). place_behind_word p b y n) e }
 
 in_no_instruction : (c o q : Bool) → (if c then role.Stays else (if o then role.Operand else (if q then role.Path else role.Stays))) ≡ role.Instruction → ⊥
@@ -321,7 +321,7 @@ in_no_instruction false true q e = cc
 in_no_instruction false false true e = cc
 in_no_instruction false false false e = cc
 
-role_in_none : (p : Place) (b : TokenClass) (x : List ℕ) (n : TokenClass) → role_in p b x n ≡ role.Instruction → ⊥
+role_in_none : (p : TokenPlace) (b : TokenClass) (x : List ℕ) (n : TokenClass) → role_in p b x n ≡ role.Instruction → ⊥
 unfolding role_in
 role_in_none p b x n e = in_no_instruction (is_component b n) (is_operand_place b x n) (opens_path p b) e
 
@@ -355,7 +355,7 @@ unfolding role_at_start
 start_role_same x w n h = rw (h.keyword_before, h.keyword_behind) refl
 
 -- an instruction word's place and role are those of the word that it was exchanged for
-pub instruction_keeps : (p : Place) (b : TokenClass) (x w : List ℕ) (n : TokenClass) → role_of_word p b x n ≡ role.Instruction → Exchanges x w
+pub instruction_keeps : (p : TokenPlace) (b : TokenClass) (x w : List ℕ) (n : TokenClass) → role_of_word p b x n ≡ role.Instruction → Exchanges x w
     → Keeps p b x w n
 unfolding role_of_word place_behind_word
 instruction_keeps place.Outside b x w n e h = absurd cc
@@ -621,7 +621,7 @@ in_path false true q e = absurd cc
 in_path false false true e = refl
 in_path false false false e = absurd cc
 
-in_kept : (p : Place) (b : TokenClass) (x w : List ℕ) (n : TokenClass) → role_in p b x n ≡ role.Operand → Reoperands x w
+in_kept : (p : TokenPlace) (b : TokenClass) (x w : List ℕ) (n : TokenClass) → role_in p b x n ≡ role.Operand → Reoperands x w
     → role_in p b w n ≡ role_in p b x n
 unfolding role_in
 in_kept p b x w n e h =
@@ -633,7 +633,7 @@ unfolding place_behind_closing
 closing_kept x w before later = rw (before, later) refl
 
 -- an operand word's place and role are those of the word that it was exchanged for
-pub operand_keeps : (p : Place) (b : TokenClass) (x w : List ℕ) (n : TokenClass) → role_of_word p b x n ≡ role.Operand → operand_partner German x ≡ Some w
+pub operand_keeps : (p : TokenPlace) (b : TokenClass) (x w : List ℕ) (n : TokenClass) → role_of_word p b x n ≡ role.Operand → operand_partner German x ≡ Some w
     → Keeps p b x w n
 unfolding role_of_word place_behind_word
 operand_keeps place.Outside b x w n e is = absurd cc
@@ -658,7 +658,7 @@ unfolding place_behind_closing
 closing_named x e = rw e refl
 
 -- a name with its `#` leads to the same place
-pub name_keeps : (p : Place) (b : TokenClass) (x : List ℕ) (n : TokenClass) → role_of_word p b x n ≡ role.Path
+pub name_keeps : (p : TokenPlace) (b : TokenClass) (x : List ℕ) (n : TokenClass) → role_of_word p b x n ≡ role.Path
     → is_some (operand_partner English x) ≡ true → place_behind_sign p class.Other ≡ place_behind_word p b x n
 unfolding role_of_word place_behind_word place_behind_sign
 name_keeps place.Outside b x n e is = absurd cc
@@ -672,7 +672,7 @@ name_keeps place.Closing b x n e is = closing_named x (operand_no_zone English x
 name_keeps place.Path b x n e is = refl
 name_keeps place.Inside b x n e is = refl
 
-path_opens : (p : Place) (b : TokenClass) (x : List ℕ) (n : TokenClass) → role_of_word p b x n ≡ role.Path → opens_path p b ≡ true
+path_opens : (p : TokenPlace) (b : TokenClass) (x : List ℕ) (n : TokenClass) → role_of_word p b x n ≡ role.Path → opens_path p b ≡ true
 unfolding role_of_word role_in
 path_opens place.Outside b x n e = absurd cc
 path_opens place.Head b x n e = absurd cc
@@ -692,10 +692,10 @@ is_number_class class.Number = true
 is_number_class _ = false
 
 -- behind a number no path begins
-abbrev pub IsFit : Place → TokenClass → Type 0
+abbrev pub IsFit : TokenPlace → TokenClass → Type 0
 IsFit p b = is_behind_instruction p ≡ true → is_number_class b ≡ false
 
-number_inside : (p : Place) → is_behind_instruction (place_behind_sign p class.Number) ≡ false
+number_inside : (p : TokenPlace) → is_behind_instruction (place_behind_sign p class.Number) ≡ false
 unfolding place_behind_sign
 number_inside place.Outside = refl
 number_inside place.Head = refl
@@ -708,7 +708,7 @@ number_inside place.Closing = refl
 number_inside place.Path = refl
 number_inside place.Inside = refl
 
-pub fits_next : (p : Place) (b c : TokenClass) (x : List ℕ) (n : TokenClass) → IsFit (place_behind p b c x n) c
+pub fits_next : (p : TokenPlace) (b c : TokenClass) (x : List ℕ) (n : TokenClass) → IsFit (place_behind p b c x n) c
 unfolding place_behind
 fits_next p b class.Number x n e = absurd (false≢true (sym (number_inside p) ∙ e))
 fits_next p b class.Word x n e = refl
@@ -723,7 +723,7 @@ fits_next p b class.CloseParen x n e = refl
 fits_next p b class.Pointer x n e = refl
 fits_next p b class.Other x n e = refl
 
-no_number : (p : Place) (b : TokenClass) → IsFit p b → opens_path p b ≡ true → is_number_class b ≡ false
+no_number : (p : TokenPlace) (b : TokenClass) → IsFit p b → opens_path p b ≡ true → is_number_class b ≡ false
 no_number p class.Number fit e = elim (or_cases (is_behind_instruction p) false e) [ inl is ↦ fit is | inr no_ ↦ absurd (false≢true no_) ]
 no_number p class.Word fit e = refl
 no_number p class.Note fit e = refl
@@ -737,5 +737,5 @@ no_number p class.CloseParen fit e = refl
 no_number p class.Pointer fit e = refl
 no_number p class.Other fit e = refl
 
-pub path_no_number : (p : Place) (b : TokenClass) (x : List ℕ) (n : TokenClass) → IsFit p b → role_of_word p b x n ≡ role.Path → is_number_class b ≡ false
+pub path_no_number : (p : TokenPlace) (b : TokenClass) (x : List ℕ) (n : TokenClass) → IsFit p b → role_of_word p b x n ≡ role.Path → is_number_class b ≡ false
 path_no_number p b x n fit e = no_number p b fit (path_opens p b x n e)

@@ -16,13 +16,13 @@ use Rattle.stl_symbols.specs.declared.languages.Language.{Language}
 use Rattle.stl_symbols.specs.declared.languages.Language.TheVariants.{English, German}
 use Rattle.de_mnemonics.specs.declared.classes.TokenClass.{TokenClass}
 use Rattle.de_mnemonics.specs.declared.classes.TokenClass.TheVariants as class
-use Rattle.de_mnemonics.specs.declared.places.Place.{Place}
-use Rattle.de_mnemonics.specs.declared.places.Place.TheVariants as place
+use Rattle.de_mnemonics.specs.declared.places.TokenPlace.{TokenPlace}
+use Rattle.de_mnemonics.specs.declared.places.TokenPlace.TheVariants as place
 use Rattle.de_mnemonics.specs.declared.roles.Role.{Role}
 use Rattle.de_mnemonics.specs.declared.roles.Role.TheVariants as role
-use Rattle.de_mnemonics.specs.declared.translation.Spot.{Spot}
+use Rattle.de_mnemonics.specs.declared.translation.TranslationPosition.{TranslationPosition}
 use Rattle.de_mnemonics.specs.Places.{place_behind, class_of, role_of, role_of_word}
-use Rattle.de_mnemonics.specs.Translation.{class_in, front_spot, next_class, with_bytes_before, with_word_before, role_at, spot_behind, translation_of, translation_from}
+use Rattle.de_mnemonics.specs.Translation.{class_in, front_position, next_class, with_bytes_before, with_word_before, role_at, position_behind, translation_of, translation_from}
 use Rattle.de_mnemonics.specs.Words.{marked_name, operand_partner, translated_word}
 use Rattle.translation_laws.specs.Alike.{AreTokensAlike, ComesBackInRole, IsSameWordButForCase, IsOperandWordAsLocal as IsNamedToken, IsSameToken, TreesAlike}
 use Rattle.translation_laws.specs.Rewritten.{AreRewrittenTexts, IsRewrittenText, RewritingKeepsTokens, RewritesSource, ShowRewrittenTexts, kind_of_rewritten, rewritten_source}
@@ -32,56 +32,56 @@ use Rattle.translation_laws.proofs.BackLemmas.{IsOperandWord, Spellings, StepBac
 
 -- ---- the texts that a translation writes
 
--- these texts are written for the tokens from a spot on
-abbrev AreWritten : Language → List ℕ → Spot → List Token → List (List ℕ) → Type 0
-AreWritten language s spot [] [] = Unit {0}
-AreWritten language s spot [] (w ∷ ws) = ⊥
-AreWritten language s spot (t ∷ ts) [] = ⊥
-AreWritten language s spot (t ∷ ts) (w ∷ ws) =
-    (translated_word language (role_at s spot t ts) (text_of s t) ≡ Some w) × AreWritten language s (spot_behind s spot t ts) ts ws
+-- these texts are written for the tokens from a position on
+abbrev AreWritten : Language → List ℕ → TranslationPosition → List Token → List (List ℕ) → Type 0
+AreWritten language s position [] [] = Unit {0}
+AreWritten language s position [] (w ∷ ws) = ⊥
+AreWritten language s position (t ∷ ts) [] = ⊥
+AreWritten language s position (t ∷ ts) (w ∷ ws) =
+    (translated_word language (role_at s position t ts) (text_of s t) ≡ Some w) × AreWritten language s (position_behind s position t ts) ts ws
 
 -- texts that make up a translation
-record Writes (language : Language) (s : List ℕ) (spot : Spot) (ts : List Token) (text : List ℕ) : Type 0 where
+record Writes (language : Language) (s : List ℕ) (position : TranslationPosition) (ts : List Token) (text : List ℕ) : Type 0 where
   words : List (List ℕ)
-  are : AreWritten language s spot ts words
-  make : text ≡ rewritten_source s spot.from ts words
+  are : AreWritten language s position ts words
+  make : text ≡ rewritten_source s position.from ts words
 
 abbrev ok_text : Result (List ℕ) ℕ → List ℕ
 ok_text (Ok text) = text
 ok_text (Err line) = []
 
-writes_put : (language : Language) (s : List ℕ) (spot : Spot) (t : Token) (ts : List Token) (text : List ℕ) (o : Option (List ℕ)) (r : Result (List ℕ) ℕ)
-    → translated_word language (role_at s spot t ts) (text_of s t) ≡ o
-    → ((rest : List ℕ) → r ≡ Ok rest → Writes language s (spot_behind s spot t ts) ts rest)
-    → with_bytes_before (slice_range s spot.from t.start) (with_word_before o t.line r) ≡ Ok text → Writes language s spot (t ∷ ts) text
-writes_put language s spot t ts text None r is more e = absurd cc
-writes_put language s spot t ts text (Some w) (Err line) is more e = absurd cc
-writes_put language s spot t ts text (Some w) (Ok rest) is more e =
-    let behind : Writes language s (spot_behind s spot t ts) ts rest = more rest refl in
+writes_put : (language : Language) (s : List ℕ) (position : TranslationPosition) (t : Token) (ts : List Token) (text : List ℕ) (o : Option (List ℕ)) (r : Result (List ℕ) ℕ)
+    → translated_word language (role_at s position t ts) (text_of s t) ≡ o
+    → ((rest : List ℕ) → r ≡ Ok rest → Writes language s (position_behind s position t ts) ts rest)
+    → with_bytes_before (slice_range s position.from t.start) (with_word_before o t.line r) ≡ Ok text → Writes language s position (t ∷ ts) text
+writes_put language s position t ts text None r is more e = absurd cc
+writes_put language s position t ts text (Some w) (Err line) is more e = absurd cc
+writes_put language s position t ts text (Some w) (Ok rest) is more e =
+    let behind : Writes language s (position_behind s position t ts) ts rest = more rest refl in
     record {
       words = w ∷ behind.words;
       are = (is, behind.are);
-      make = sym (ap ok_text e) ∙ ap (λ (l : List ℕ). slice_range s spot.from t.start ++ (w ++ l)) behind.make;
+      make = sym (ap ok_text e) ∙ ap (λ (l : List ℕ). slice_range s position.from t.start ++ (w ++ l)) behind.make;
     }
 
-writes : (language : Language) (s : List ℕ) (spot : Spot) (ts : List Token) (text : List ℕ) → translation_from language s spot ts ≡ Ok text
-    → Writes language s spot ts text
+writes : (language : Language) (s : List ℕ) (position : TranslationPosition) (ts : List Token) (text : List ℕ) → translation_from language s position ts ≡ Ok text
+    → Writes language s position ts text
 unfolding translation_from
-writes language s spot [] text e = record { words = []; are = tt; make = sym (ap ok_text e) }
-writes language s spot (t ∷ ts) text e =
-    writes_put language s spot t ts text (translated_word language (role_at s spot t ts) (text_of s t)) (translation_from language s (spot_behind s spot t ts) ts) refl
-    (λ rest is. writes language s (spot_behind s spot t ts) ts rest is) e
+writes language s position [] text e = record { words = []; are = tt; make = sym (ap ok_text e) }
+writes language s position (t ∷ ts) text e =
+    writes_put language s position t ts text (translated_word language (role_at s position t ts) (text_of s t)) (translation_from language s (position_behind s position t ts) ts) refl
+    (λ rest is. writes language s (position_behind s position t ts) ts rest is) e
 
 -- and the other way round
-makes : (language : Language) (s : List ℕ) (spot : Spot) (ts : List Token) (words : List (List ℕ)) → AreWritten language s spot ts words
-    → translation_from language s spot ts ≡ Ok (rewritten_source s spot.from ts words)
+makes : (language : Language) (s : List ℕ) (position : TranslationPosition) (ts : List Token) (words : List (List ℕ)) → AreWritten language s position ts words
+    → translation_from language s position ts ≡ Ok (rewritten_source s position.from ts words)
 unfolding translation_from
-makes language s spot [] [] are = refl
-makes language s spot [] (w ∷ ws) are = absurd are
-makes language s spot (t ∷ ts) [] are = absurd are
-makes language s spot (t ∷ ts) (w ∷ ws) are =
-    ap (λ o. with_bytes_before (slice_range s spot.from t.start) (with_word_before o t.line (translation_from language s (spot_behind s spot t ts) ts))) are.0
-    ∙ ap (λ r. with_bytes_before (slice_range s spot.from t.start) (with_word_before (Some w) t.line r)) (makes language s (spot_behind s spot t ts) ts ws are.1)
+makes language s position [] [] are = refl
+makes language s position [] (w ∷ ws) are = absurd are
+makes language s position (t ∷ ts) [] are = absurd are
+makes language s position (t ∷ ts) (w ∷ ws) are =
+    ap (λ o. with_bytes_before (slice_range s position.from t.start) (with_word_before o t.line (translation_from language s (position_behind s position t ts) ts))) are.0
+    ∙ ap (λ r. with_bytes_before (slice_range s position.from t.start) (with_word_before (Some w) t.line r)) (makes language s (position_behind s position t ts) ts ws are.1)
 
 -- ---- words are words
 
@@ -114,7 +114,7 @@ unfolding class_of
 number_class k x e = ap (λ j. is_number_class (class_of j x)) e
 
 -- a word in a role is rewritten as the translation writes it
-word_rewritten : Spellings → (p : Place) (b : TokenClass) (before : TokenKind) (x w : List ℕ) (n : TokenClass) → IsFit p b → IsBefore before b
+word_rewritten : Spellings → (p : TokenPlace) (b : TokenClass) (before : TokenKind) (x w : List ℕ) (n : TokenClass) → IsFit p b → IsBefore before b
     → is_word x ≡ true → (r : Role) → role_of_word p b x n ≡ r → translated_word German r x ≡ Some w → IsRewrittenText before kind.Word x w
 unfolding translated_word
 word_rewritten spelled p b before x w n fit stands word role.Stays e is = inl (same_Some x w is)
@@ -131,17 +131,17 @@ stays_same : (r : Role) (x w : List ℕ) → r ≡ role.Stays → translated_wor
 unfolding translated_word
 stays_same r x w e is = same_Some x w (ap (λ q. translated_word German q x) (sym e) ∙ is)
 
-word_role : Spellings → (p : Place) (b : TokenClass) (before : TokenKind) (x w : List ℕ) (n : TokenClass) → IsFit p b → IsBefore before b → is_word x ≡ true
+word_role : Spellings → (p : TokenPlace) (b : TokenClass) (before : TokenKind) (x w : List ℕ) (n : TokenClass) → IsFit p b → IsBefore before b → is_word x ≡ true
     → translated_word German (role_of p b (class_of kind.Word x) x n) x ≡ Some w → IsRewrittenText before kind.Word x w
 unfolding role_of class_of
 word_role spelled p b before x w n fit stands word is = word_rewritten spelled p b before x w n fit stands word (role_of_word p b x n) refl is
 
-other_rewritten : (p : Place) (b : TokenClass) (before k : TokenKind) (x w : List ℕ) (n : TokenClass) → is_word_kind k ≡ false
+other_rewritten : (p : TokenPlace) (b : TokenClass) (before k : TokenKind) (x w : List ℕ) (n : TokenClass) → is_word_kind k ≡ false
     → translated_word German (role_of p b (class_of k x) x n) x ≡ Some w → IsRewrittenText before k x w
 other_rewritten p b before k x w n other is =
     inl (stays_same (role_of p b (class_of k x) x n) x w (role_plain p b (class_of k x) x n (kind_plain k x other)) is)
 
-token_rewritten : Spellings → (p : Place) (b : TokenClass) (before k : TokenKind) (x w : List ℕ) (n : TokenClass) → IsFit p b → IsBefore before b
+token_rewritten : Spellings → (p : TokenPlace) (b : TokenClass) (before k : TokenKind) (x w : List ℕ) (n : TokenClass) → IsFit p b → IsBefore before b
     → (k ≡ kind.Word → is_word x ≡ true) → translated_word German (role_of p b (class_of k x) x n) x ≡ Some w → IsRewrittenText before k x w
 token_rewritten spelled p b before kind.Word x w n fit stands word is = word_role spelled p b before x w n fit stands (word refl) is
 token_rewritten spelled p b before kind.Number x w n fit stands word is = other_rewritten p b before kind.Number x w n refl is
@@ -156,21 +156,21 @@ token_rewritten spelled p b before kind.SignWord x w n fit stands word is = othe
 token_rewritten spelled p b before kind.Attribute x w n fit stands word is = other_rewritten p b before kind.Attribute x w n refl is
 token_rewritten spelled p b before kind.Title x w n fit stands word is = other_rewritten p b before kind.Title x w n refl is
 
-there_rewritten : Spellings → (s : List ℕ) (spot : Spot) (before : TokenKind) (ts : List Token) (ws : List (List ℕ)) → IsFit spot.place spot.before
-    → IsBefore before spot.before → AreWords s ts → AreWritten German s spot ts ws → AreRewrittenTexts s before ts ws
-there_rewritten spelled s spot before [] [] fit stands words are = tt
-there_rewritten spelled s spot before [] (w ∷ ws) fit stands words are = are
-there_rewritten spelled s spot before (t ∷ ts) [] fit stands words are = are
-there_rewritten spelled s spot before (t ∷ ts) (w ∷ ws) fit stands words are = (
-  token_rewritten spelled spot.place spot.before before t.kind (text_of s t) w (next_class s ts) fit stands words.0 are.0,
-  there_rewritten spelled s (spot_behind s spot t ts) t.kind ts ws
-      (fits_next spot.place spot.before (class_in s t) (text_of s t) (next_class s ts)) (λ number. number_class t.kind (text_of s t) number) words.1 are.1,
+there_rewritten : Spellings → (s : List ℕ) (position : TranslationPosition) (before : TokenKind) (ts : List Token) (ws : List (List ℕ)) → IsFit position.place position.before
+    → IsBefore before position.before → AreWords s ts → AreWritten German s position ts ws → AreRewrittenTexts s before ts ws
+there_rewritten spelled s position before [] [] fit stands words are = tt
+there_rewritten spelled s position before [] (w ∷ ws) fit stands words are = are
+there_rewritten spelled s position before (t ∷ ts) [] fit stands words are = are
+there_rewritten spelled s position before (t ∷ ts) (w ∷ ws) fit stands words are = (
+  token_rewritten spelled position.place position.before before t.kind (text_of s t) w (next_class s ts) fit stands words.0 are.0,
+  there_rewritten spelled s (position_behind s position t ts) t.kind ts ws
+      (fits_next position.place position.before (class_in s t) (text_of s t) (next_class s ts)) (λ number. number_class t.kind (text_of s t) number) words.1 are.1,
 )
 
 -- ---- and is translated back
 
 -- the texts that tokens come back as, from a place on
-abbrev AreBack : List ℕ → Place → TokenClass → List Token → List (List ℕ) → Type 0
+abbrev AreBack : List ℕ → TokenPlace → TokenClass → List Token → List (List ℕ) → Type 0
 AreBack s p b [] [] = Unit {0}
 AreBack s p b [] (v ∷ vs) = ⊥
 AreBack s p b (t ∷ ts) [] = ⊥
@@ -178,77 +178,77 @@ AreBack s p b (t ∷ ts) (v ∷ vs) =
     TextBack (role_of p b (class_in s t) (text_of s t) (next_class s ts)) (text_of s t) v
     × AreBack s (place_behind p b (class_in s t) (text_of s t) (next_class s ts)) (class_in s t) ts vs
 
-record Returns (s g : List ℕ) (spot spot' : Spot) (ts us : List Token) : Type 0 where
+record Returns (s g : List ℕ) (position position' : TranslationPosition) (ts us : List Token) : Type 0 where
   texts : List (List ℕ)
-  are : AreWritten English g spot' us texts
-  kept : AreBack s spot.place spot.before ts texts
+  are : AreWritten English g position' us texts
+  kept : AreBack s position.place position.before ts texts
 
 -- the class of a token in the German text
 class_anew : (g : List ℕ) (t u : Token) (w : List ℕ) → u.kind ≡ kind_of_rewritten t.kind w → text_of g u ≡ w → class_in g u ≡ class_of (kind_of_rewritten t.kind w) w
 class_anew g t u w is text = ap (λ k. class_of k (text_of g u)) is ∙ ap (class_of (kind_of_rewritten t.kind w)) text
 
-next_near : (s g : List ℕ) (spot : Spot) (ts : List Token) (ws : List (List ℕ)) (us : List Token) → AreWritten German s spot ts ws → ShowRewrittenTexts g ts ws us
+next_near : (s g : List ℕ) (position : TranslationPosition) (ts : List Token) (ws : List (List ℕ)) (us : List Token) → AreWritten German s position ts ws → ShowRewrittenTexts g ts ws us
     → IsNear (next_class s ts) (next_class g us)
-next_near s g spot [] [] [] are shows = inl refl
-next_near s g spot [] [] (u ∷ us) are shows = absurd shows
-next_near s g spot [] (w ∷ ws) us are shows = absurd are
-next_near s g spot (t ∷ ts) [] us are shows = absurd are
-next_near s g spot (t ∷ ts) (w ∷ ws) [] are shows = absurd shows
-next_near s g spot (t ∷ ts) (w ∷ ws) (u ∷ us) are shows =
+next_near s g position [] [] [] are shows = inl refl
+next_near s g position [] [] (u ∷ us) are shows = absurd shows
+next_near s g position [] (w ∷ ws) us are shows = absurd are
+next_near s g position (t ∷ ts) [] us are shows = absurd are
+next_near s g position (t ∷ ts) (w ∷ ws) [] are shows = absurd shows
+next_near s g position (t ∷ ts) (w ∷ ws) (u ∷ us) are shows =
     subst (λ c. IsNear (class_in s t) c) (sym (class_anew g t u w shows.0 shows.1))
-    (token_near spot.place spot.before t.kind (text_of s t) w (next_class s ts) are.0)
+    (token_near position.place position.before t.kind (text_of s t) w (next_class s ts) are.0)
 
 -- what is written for a token of the German text, and the place behind it
-role_anew : (g : List ℕ) (spot' : Spot) (p : Place) (t u : Token) (us : List Token) (w v : List ℕ) → spot'.place ≡ p → u.kind ≡ kind_of_rewritten t.kind w → text_of g u ≡ w
-    → translated_word English (role_of p spot'.before (class_of (kind_of_rewritten t.kind w) w) w (next_class g us)) w ≡ Some v
-    → translated_word English (role_at g spot' u us) (text_of g u) ≡ Some v
-role_anew g spot' p t u us w v at is text e =
-    ap (λ (x : List ℕ). translated_word English (role_of spot'.place spot'.before (class_in g u) x (next_class g us)) x) text
-    ∙ ap (λ c. translated_word English (role_of spot'.place spot'.before c w (next_class g us)) w) (class_anew g t u w is text)
-    ∙ ap (λ q. translated_word English (role_of q spot'.before (class_of (kind_of_rewritten t.kind w) w) w (next_class g us)) w) at ∙ e
+role_anew : (g : List ℕ) (position' : TranslationPosition) (p : TokenPlace) (t u : Token) (us : List Token) (w v : List ℕ) → position'.place ≡ p → u.kind ≡ kind_of_rewritten t.kind w → text_of g u ≡ w
+    → translated_word English (role_of p position'.before (class_of (kind_of_rewritten t.kind w) w) w (next_class g us)) w ≡ Some v
+    → translated_word English (role_at g position' u us) (text_of g u) ≡ Some v
+role_anew g position' p t u us w v at is text e =
+    ap (λ (x : List ℕ). translated_word English (role_of position'.place position'.before (class_in g u) x (next_class g us)) x) text
+    ∙ ap (λ c. translated_word English (role_of position'.place position'.before c w (next_class g us)) w) (class_anew g t u w is text)
+    ∙ ap (λ q. translated_word English (role_of q position'.before (class_of (kind_of_rewritten t.kind w) w) w (next_class g us)) w) at ∙ e
 
-place_anew : (g : List ℕ) (spot' : Spot) (p q : Place) (t u : Token) (us : List Token) (w : List ℕ) → spot'.place ≡ p → u.kind ≡ kind_of_rewritten t.kind w → text_of g u ≡ w
-    → place_behind p spot'.before (class_of (kind_of_rewritten t.kind w) w) w (next_class g us) ≡ q
-    → place_behind spot'.place spot'.before (class_in g u) (text_of g u) (next_class g us) ≡ q
-place_anew g spot' p q t u us w at is text e =
-    ap (λ (x : List ℕ). place_behind spot'.place spot'.before (class_in g u) x (next_class g us)) text
-    ∙ ap (λ c. place_behind spot'.place spot'.before c w (next_class g us)) (class_anew g t u w is text)
-    ∙ ap (λ r. place_behind r spot'.before (class_of (kind_of_rewritten t.kind w) w) w (next_class g us)) at ∙ e
+place_anew : (g : List ℕ) (position' : TranslationPosition) (p q : TokenPlace) (t u : Token) (us : List Token) (w : List ℕ) → position'.place ≡ p → u.kind ≡ kind_of_rewritten t.kind w → text_of g u ≡ w
+    → place_behind p position'.before (class_of (kind_of_rewritten t.kind w) w) w (next_class g us) ≡ q
+    → place_behind position'.place position'.before (class_in g u) (text_of g u) (next_class g us) ≡ q
+place_anew g position' p q t u us w at is text e =
+    ap (λ (x : List ℕ). place_behind position'.place position'.before (class_in g u) x (next_class g us)) text
+    ∙ ap (λ c. place_behind position'.place position'.before c w (next_class g us)) (class_anew g t u w is text)
+    ∙ ap (λ r. place_behind r position'.before (class_of (kind_of_rewritten t.kind w) w) w (next_class g us)) at ∙ e
 
 -- the spots of both texts are the same but for what differs by a name
-record IsSpotNear (spot spot' : Spot) : Type 0 where
-  place : spot'.place ≡ spot.place
-  before : IsNear spot.before spot'.before
+record IsPositionNear (position position' : TranslationPosition) : Type 0 where
+  place : position'.place ≡ position.place
+  before : IsNear position.before position'.before
 
-returns : Spellings → (s g : List ℕ) (spot spot' : Spot) (ts : List Token) (ws : List (List ℕ)) (us : List Token) → IsSpotNear spot spot' → AreWords s ts
-    → AreWritten German s spot ts ws → ShowRewrittenTexts g ts ws us → Returns s g spot spot' ts us
-returns spelled s g spot spot' [] [] [] near words are shows = record { texts = []; are = tt; kept = tt }
-returns spelled s g spot spot' [] [] (u ∷ us) near words are shows = absurd shows
-returns spelled s g spot spot' [] (w ∷ ws) us near words are shows = absurd are
-returns spelled s g spot spot' (t ∷ ts) [] us near words are shows = absurd are
-returns spelled s g spot spot' (t ∷ ts) (w ∷ ws) [] near words are shows = absurd shows
-returns spelled s g spot spot' (t ∷ ts) (w ∷ ws) (u ∷ us) near words are shows =
-    let step : StepBack spot.place spot.before spot'.before t.kind (text_of s t) w (next_class s ts) (next_class g us) =
-    token_back spelled spot.place spot.before spot'.before t.kind (text_of s t) w (next_class s ts) (next_class g us) near.before
-    (next_near s g (spot_behind s spot t ts) ts ws us are.1 shows.3) words.0 are.0 in
-    let behind_near : IsSpotNear (spot_behind s spot t ts) (spot_behind g spot' u us) =
+returns : Spellings → (s g : List ℕ) (position position' : TranslationPosition) (ts : List Token) (ws : List (List ℕ)) (us : List Token) → IsPositionNear position position' → AreWords s ts
+    → AreWritten German s position ts ws → ShowRewrittenTexts g ts ws us → Returns s g position position' ts us
+returns spelled s g position position' [] [] [] near words are shows = record { texts = []; are = tt; kept = tt }
+returns spelled s g position position' [] [] (u ∷ us) near words are shows = absurd shows
+returns spelled s g position position' [] (w ∷ ws) us near words are shows = absurd are
+returns spelled s g position position' (t ∷ ts) [] us near words are shows = absurd are
+returns spelled s g position position' (t ∷ ts) (w ∷ ws) [] near words are shows = absurd shows
+returns spelled s g position position' (t ∷ ts) (w ∷ ws) (u ∷ us) near words are shows =
+    let step : StepBack position.place position.before position'.before t.kind (text_of s t) w (next_class s ts) (next_class g us) =
+    token_back spelled position.place position.before position'.before t.kind (text_of s t) w (next_class s ts) (next_class g us) near.before
+    (next_near s g (position_behind s position t ts) ts ws us are.1 shows.3) words.0 are.0 in
+    let behind_near : IsPositionNear (position_behind s position t ts) (position_behind g position' u us) =
     record {
-      place = place_anew g spot' spot.place (place_behind spot.place spot.before (class_in s t) (text_of s t) (next_class s ts)) t u us w near.place shows.0 shows.1 step.place;
+      place = place_anew g position' position.place (place_behind position.place position.before (class_in s t) (text_of s t) (next_class s ts)) t u us w near.place shows.0 shows.1 step.place;
       before = subst (λ c. IsNear (class_in s t) c) (sym (class_anew g t u w shows.0 shows.1))
-          (token_near spot.place spot.before t.kind (text_of s t) w (next_class s ts) are.0);
+          (token_near position.place position.before t.kind (text_of s t) w (next_class s ts) are.0);
     } in
-    let rest : Returns s g (spot_behind s spot t ts) (spot_behind g spot' u us) ts us =
-    returns spelled s g (spot_behind s spot t ts) (spot_behind g spot' u us) ts ws us behind_near words.1 are.1 shows.3 in
+    let rest : Returns s g (position_behind s position t ts) (position_behind g position' u us) ts us =
+    returns spelled s g (position_behind s position t ts) (position_behind g position' u us) ts ws us behind_near words.1 are.1 shows.3 in
     record {
       texts = step.text ∷ rest.texts;
-      are = (role_anew g spot' spot.place t u us w step.text near.place shows.0 shows.1 step.back, rest.are);
+      are = (role_anew g position' position.place t u us w step.text near.place shows.0 shows.1 step.back, rest.are);
       kept = (step.kept, rest.kept);
     }
 
 -- ---- the English text has the tokens of the source
 
 -- a token in a role is a word, or stays
-role_word : (p : Place) (b : TokenClass) (k : TokenKind) (x : List ℕ) (n : TokenClass) (c : Bool) → is_word_kind k ≡ c
+role_word : (p : TokenPlace) (b : TokenClass) (k : TokenKind) (x : List ℕ) (n : TokenClass) (c : Bool) → is_word_kind k ≡ c
     → (k ≡ kind.Word) ⊎ (role_of p b (class_of k x) x n ≡ role.Stays)
 role_word p b k x n false other = inr (role_plain p b (class_of k x) x n (kind_plain k x other))
 role_word p b kind.Word x n true other = inl refl
@@ -271,7 +271,7 @@ word_again : (before k : TokenKind) (x v : List ℕ) → k ≡ kind.Word → str
     → IsRewrittenText before k x v
 word_again before k x v is same word = inr (is, inl (same_is_word x v same word, inl same))
 
-back_rewritten : (p : Place) (b : TokenClass) (before k : TokenKind) (x v : List ℕ) (n : TokenClass) → IsFit p b → IsBefore before b → k ≡ kind.Word → is_word x ≡ true
+back_rewritten : (p : TokenPlace) (b : TokenClass) (before k : TokenKind) (x v : List ℕ) (n : TokenClass) → IsFit p b → IsBefore before b → k ≡ kind.Word → is_word x ≡ true
     → (r : Role) → role_of_word p b x n ≡ r → TextBack r x v → IsRewrittenText before k x v
 back_rewritten p b before k x v n fit stands is word role.Stays e back = inl (sym back)
 back_rewritten p b before k x v n fit stands is word role.Instruction e back = word_again before k x v is back word
@@ -281,12 +281,12 @@ back_rewritten p b before k x v n fit stands is word role.Path e (inl same) = in
 back_rewritten p b before k x v n fit stands is word role.Path e (inr named_) =
     inr (is, inr ((λ number. true≢false (sym (stands number) ∙ path_no_number p b x n fit e)), named_.0))
 
-word_role_of : (p : Place) (b : TokenClass) (k : TokenKind) (x : List ℕ) (n : TokenClass) → k ≡ kind.Word
+word_role_of : (p : TokenPlace) (b : TokenClass) (k : TokenKind) (x : List ℕ) (n : TokenClass) → k ≡ kind.Word
     → role_of p b (class_of k x) x n ≡ role_of_word p b x n
 unfolding role_of class_of
 word_role_of p b k x n is = ap (λ j. role_of p b (class_of j x) x n) is
 
-token_again : (p : Place) (b : TokenClass) (before k : TokenKind) (x v : List ℕ) (n : TokenClass) → IsFit p b → IsBefore before b
+token_again : (p : TokenPlace) (b : TokenClass) (before k : TokenKind) (x v : List ℕ) (n : TokenClass) → IsFit p b → IsBefore before b
     → (k ≡ kind.Word → is_word x ≡ true) → TextBack (role_of p b (class_of k x) x n) x v → IsRewrittenText before k x v
 token_again p b before k x v n fit stands word back =
     elim (role_word p b k x n (is_word_kind k) refl) [
@@ -294,7 +294,7 @@ token_again p b before k x v n fit stands word back =
       | inr stays ↦ inl (sym (back_stays (role_of p b (class_of k x) x n) x v stays back))
     ]
 
-back_again : (s : List ℕ) (p : Place) (b : TokenClass) (before : TokenKind) (ts : List Token) (vs : List (List ℕ)) → IsFit p b → IsBefore before b → AreWords s ts
+back_again : (s : List ℕ) (p : TokenPlace) (b : TokenClass) (before : TokenKind) (ts : List Token) (vs : List (List ℕ)) → IsFit p b → IsBefore before b → AreWords s ts
     → AreBack s p b ts vs → AreRewrittenTexts s before ts vs
 back_again s p b before [] [] fit stands words back = tt
 back_again s p b before [] (v ∷ vs) fit stands words back = back
@@ -305,7 +305,7 @@ back_again s p b before (t ∷ ts) (v ∷ vs) fit stands words back = (
       (fits_next p b (class_in s t) (text_of s t) (next_class s ts)) (λ number. number_class t.kind (text_of s t) number) words.1 back.1,
 )
 
-as_many : (s : List ℕ) (p : Place) (b : TokenClass) (ts : List Token) (vs : List (List ℕ)) → AreBack s p b ts vs → length vs ≡ length ts
+as_many : (s : List ℕ) (p : TokenPlace) (b : TokenClass) (ts : List Token) (vs : List (List ℕ)) → AreBack s p b ts vs → length vs ≡ length ts
 as_many s p b [] [] back = refl
 as_many s p b [] (v ∷ vs) back = absurd back
 as_many s p b (t ∷ ts) [] back = absurd back
@@ -373,7 +373,7 @@ comes s e t u v role.Path (inl is) word shows (inl same) = inl (same_token s e t
 comes s e t u v role.Path (inl is) word shows (inr named_) = inr (named_token s e t u v is shows named_.0 named_.1)
 comes s e t u v role.Path (inr other) word shows back = absurd cc
 
-alike : (s e : List ℕ) (p : Place) (b : TokenClass) (ts : List Token) (vs : List (List ℕ)) (us : List Token) → AreWords s ts → AreBack s p b ts vs → ShowRewrittenTexts e ts vs us
+alike : (s e : List ℕ) (p : TokenPlace) (b : TokenClass) (ts : List Token) (vs : List (List ℕ)) (us : List Token) → AreWords s ts → AreBack s p b ts vs → ShowRewrittenTexts e ts vs us
     → AreTokensAlike s e p b ts us
 alike s e p b [] [] [] words back shows = tt
 alike s e p b [] [] (u ∷ us) words back shows = absurd shows
@@ -402,21 +402,21 @@ front_stands : IsBefore kind.Mark class.Other
 front_stands = λ e. absurd cc
 
 -- from the German text, its tokens and what is written for each of them
-comes_back : Laws → (s : List ℕ) (ts : List Token) (tree : Tree) (ws : List (List ℕ)) → AreTokens s ts → IsTree s ts tree → AreWritten German s front_spot ts ws
+comes_back : Laws → (s : List ℕ) (ts : List Token) (tree : Tree) (ws : List (List ℕ)) → AreTokens s ts → IsTree s ts tree → AreWritten German s front_position ts ws
     → ComesBackWithTree (rewritten_source s 0 ts ws) tree
 unfolding translation_of
 comes_back laws s ts tree ws are is there =
     let words : AreWords s ts = words_of s ts are in
-    let german : RewritesSource s ts ws = laws.keeps s ts ws are (there_rewritten laws.spelled s front_spot kind.Mark ts ws front_fits front_stands words there) in
-    let back : Returns s (rewritten_source s 0 ts ws) front_spot front_spot ts german.us =
-    returns laws.spelled s (rewritten_source s 0 ts ws) front_spot front_spot ts ws german.us (record { place = refl; before = inl refl }) words there german.shows in
+    let german : RewritesSource s ts ws = laws.keeps s ts ws are (there_rewritten laws.spelled s front_position kind.Mark ts ws front_fits front_stands words there) in
+    let back : Returns s (rewritten_source s 0 ts ws) front_position front_position ts german.us =
+    returns laws.spelled s (rewritten_source s 0 ts ws) front_position front_position ts ws german.us (record { place = refl; before = inl refl }) words there german.shows in
     let again : rewritten_source (rewritten_source s 0 ts ws) 0 german.us back.texts ≡ rewritten_source s 0 ts back.texts =
     german.again back.texts (as_many s place.Outside class.Other ts back.texts back.kept) in
     let english : RewritesSource s ts back.texts =
     laws.keeps s ts back.texts are (back_again s place.Outside class.Other kind.Mark ts back.texts front_fits front_stands words back.kept) in
     record {
       english = rewritten_source s 0 ts back.texts;
-      translation = (german.us, german.tokens, makes English (rewritten_source s 0 ts ws) front_spot german.us back.texts back.are ∙ ap Ok again);
+      translation = (german.us, german.tokens, makes English (rewritten_source s 0 ts ws) front_position german.us back.texts back.are ∙ ap Ok again);
       same = record {
         tokens = english.us;
         are = english.tokens;
@@ -429,6 +429,6 @@ pub round_trips : Laws → RoundTrips
 unfolding translation_of
 round_trips laws s german tree has (ts, are, is) =
     let same : ts ≡ has.tokens = laws.one_list s ts has.tokens are has.are in
-    let wrote : Writes German s front_spot ts german = writes German s front_spot ts german is in
+    let wrote : Writes German s front_position ts german = writes German s front_position ts german is in
     subst (λ (g : List ℕ). ComesBackWithTree g tree) (sym wrote.make)
     (comes_back laws s ts tree wrote.words are (subst (λ (l : List Token). IsTree s l tree) (sym same) has.is) wrote.are)

@@ -21,12 +21,12 @@ use Rattle.stl_ast.specs.declared.operands.Operand.TheVariants as operand
 use Rattle.stl_ast.specs.declared.operands.PathHead.{PathHead}
 use Rattle.stl_ast.specs.declared.operands.PathHead.TheVariants as head
 use Rattle.stl_ast.specs.declared.statements.Actual.{Actual}
-use Rattle.stl_parser.specs.declared.keywords.Key.TheVariants as key
+use Rattle.stl_parser.specs.declared.keywords.ClauseWord.TheVariants as key
 use Rattle.stl_parser.specs.declared.statements.BareStatement.{BareStatement}
-use Rattle.stl_parser.specs.declared.tables.Address.{Address}
+use Rattle.stl_parser.specs.declared.tables.AddressKind.{AddressKind}
 use Rattle.stl_parser.specs.declared.tables.OperandSyntax.{OperandSyntax}
 use Rattle.stl_parser.specs.declared.tables.OperandSyntax.TheVariants as form
-use Rattle.stl_parser.specs.declared.keywords.Key.{Key}
+use Rattle.stl_parser.specs.declared.keywords.ClauseWord.{ClauseWord}
 use Rattle.stl_parser.specs.Addresses.{address_at, block_at, block_number_at, glued_letters_and_number, letter_count, letters_and_number_at, quoted_block_at, separate_letters_and_number}
 use Rattle.stl_parser.specs.Literals.{literal_at, literal_of, literal_token, long_literal, truth_of, text_between_quotes}
 use Rattle.stl_parser.specs.Numbers.{signed_number_at}
@@ -409,7 +409,7 @@ module _ (s e : List ℕ) where
       rw (no_mark s u mark.Assign (of_kind u kind.Word kind.Mark is), no_mark s u mark.Dot (of_kind u kind.Word kind.Mark is), no_mark s u mark.OpenBracket (of_kind u kind.Word kind.Mark is)) refl
 
   -- a word that is one key isn't another
-  other_key : (t : Token) (k l : Key) → is_key s t k ≡ true → str_eq_ignore_ascii_case (key_text k) (key_text l) ≡ false → is_key s t l ≡ false
+  other_key : (t : Token) (k l : ClauseWord) → is_key s t k ≡ true → str_eq_ignore_ascii_case (key_text k) (key_text l) ≡ false → is_key s t l ≡ false
   unfolding is_key
   other_key t k l is differ =
       rw (same_text (text_of s t) (key_text k) (key_text l) (second (has_kind t kind.Word) (str_eq_ignore_ascii_case (text_of s t) (key_text k)) is), differ) (by (has_kind t kind.Word))
@@ -434,12 +434,12 @@ module _ (s e : List ℕ) where
   unfolding operand_with_number address_at letters_and_number_at glued_letters_and_number separate_letters_and_number
   zone_address w [] is = rw (zone_letters w is) (by (has_kind w kind.Word))
     where
-      by : (b : Bool) → option_and_then (λ (r : Address × ℕ × List Token). direct_address_operand s r.0 r.1 r.2) (if b then None else None) ≡ None
+      by : (b : Bool) → option_and_then (λ (r : AddressKind × ℕ × List Token). direct_address_operand s r.0 r.1 r.2) (if b then None else None) ≡ None
       by true = refl
       by false = refl
   zone_address w (t ∷ ts) is = rw (zone_letters w is, zone_whole w is) (by (has_kind w kind.Word))
     where
-      by : (b : Bool) → option_and_then (λ (r : Address × ℕ × List Token). direct_address_operand s r.0 r.1 r.2) (if b then None else None) ≡ None
+      by : (b : Bool) → option_and_then (λ (r : AddressKind × ℕ × List Token). direct_address_operand s r.0 r.1 r.2) (if b then None else None) ≡ None
       by true = refl
       by false = refl
 
@@ -456,7 +456,7 @@ module _ (s e : List ℕ) where
   zone_rest w u us is word =
       rw (zone_address w (u ∷ us) is, zone_whole w is, other_key w key.Mcr key.B is refl, other_key w key.Mcr key.W is refl, other_key w key.Mcr key.D is refl, zone_plain w u us word) refl
 
-  is_word : (t : Token) (k : Key) → is_key s t k ≡ true → t.kind ≡ kind.Word
+  is_word : (t : Token) (k : ClauseWord) → is_key s t k ≡ true → t.kind ≡ kind.Word
   unfolding is_key has_kind
   is_word t k is = by t.kind (first (nat_eq (kind_rank t.kind) 0) (str_eq_ignore_ascii_case (text_of s t) (key_text k)) is)
     where

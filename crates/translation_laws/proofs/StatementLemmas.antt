@@ -5,8 +5,8 @@ use Rattle.stl_lexer.specs.Tokens.{text_of}
 use Rattle.stl_lexer.specs.declared.kinds.Token.{Token}
 use Rattle.de_mnemonics.specs.declared.classes.TokenClass.{TokenClass}
 use Rattle.de_mnemonics.specs.declared.classes.TokenClass.TheVariants as class
-use Rattle.de_mnemonics.specs.declared.places.Place.{Place}
-use Rattle.de_mnemonics.specs.declared.places.Place.TheVariants as place
+use Rattle.de_mnemonics.specs.declared.places.TokenPlace.{TokenPlace}
+use Rattle.de_mnemonics.specs.declared.places.TokenPlace.TheVariants as place
 use Rattle.de_mnemonics.specs.declared.roles.Role.{Role}
 use Rattle.de_mnemonics.specs.declared.roles.Role.TheVariants as role
 use Rattle.de_mnemonics.specs.Places.{place_behind, place_behind_closing, place_behind_head, place_behind_instruction, place_behind_outside, place_behind_sign, place_behind_start, place_behind_word, is_word_in_list, is_jump_word, may_be_keyword, role_at_start, role_in, role_of, role_of_word}
@@ -52,7 +52,7 @@ path_place b class.Pointer x n e = refl
 path_place b class.Other x n e = refl
 
 -- `;` leads to the next statement from each place of a statement
-abbrev is_in_statement : Place → Bool
+abbrev is_in_statement : TokenPlace → Bool
 is_in_statement place.Outside = false
 is_in_statement place.Head = false
 is_in_statement place.Label = false
@@ -72,7 +72,7 @@ semicolon_class class.CloseParen e = absurd (false≢true e)
 semicolon_class class.Pointer e = absurd (false≢true e)
 semicolon_class class.Other e = absurd (false≢true e)
 
-semicolon_place : (p : Place) (b : TokenClass) (x : List ℕ) (n : TokenClass) → is_in_statement p ≡ true
+semicolon_place : (p : TokenPlace) (b : TokenClass) (x : List ℕ) (n : TokenClass) → is_in_statement p ≡ true
     → (role_of p b class.Semicolon x n ≡ role.Stays) × (place_behind p b class.Semicolon x n ≡ place.Start)
 unfolding role_of place_behind place_behind_sign
 semicolon_place place.Outside b x n e = absurd (false≢true e)
@@ -90,7 +90,7 @@ cons_same : {A : Type 0} (x y : A) (xs ys : List A) → x ≡ y → xs ≡ ys �
 cons_same x y xs ys e h = ap (λ z. z ∷ xs) e ∙ ap (λ zs. y ∷ zs) h
 
 -- one token, and what is behind it
-step : (s : List ℕ) (p q : Place) (b : TokenClass) (t : Token) (rest : List Token) (r : Role) (behind_ : List Role)
+step : (s : List ℕ) (p q : TokenPlace) (b : TokenClass) (t : Token) (rest : List Token) (r : Role) (behind_ : List Role)
     → role_of p b (class_in s t) (text_of s t) (next_class s rest) ≡ r → place_behind p b (class_in s t) (text_of s t) (next_class s rest) ≡ q
     → roles_from s q (class_in s t) rest ≡ behind_ → roles_from s p b (t ∷ rest) ≡ r ∷ behind_
 step s p q b t rest r behind_ e f h =
@@ -98,7 +98,7 @@ step s p q b t rest r behind_ e f h =
     (roles_from s (place_behind p b (class_in s t) (text_of s t) (next_class s rest)) (class_in s t) rest) behind_ e
     (ap (λ z. roles_from s z (class_in s t) rest) f ∙ h)
 
-semicolon_step : (s : List ℕ) (p : Place) (b : TokenClass) (t : Token) (rest : List Token) → is_in_statement p ≡ true
+semicolon_step : (s : List ℕ) (p : TokenPlace) (b : TokenClass) (t : Token) (rest : List Token) → is_in_statement p ≡ true
     → is_semicolon_class (class_in s t) ≡ true → roles_from s p b (t ∷ rest) ≡ role.Stays ∷ roles_from s place.Start class.Semicolon rest
 semicolon_step s p b t rest in_ e =
     let is : class_in s t ≡ class.Semicolon = semicolon_class (class_in s t) e in
@@ -131,13 +131,13 @@ inside_role b class.Pointer x n = refl
 inside_role b class.Other x n = refl
 
 -- the places where a path may begin
-abbrev is_open_place : Place → Bool
+abbrev is_open_place : TokenPlace → Bool
 is_open_place place.Instruction = true
 is_open_place place.Closing = true
 is_open_place place.Path = true
 is_open_place _ = false
 
-open_role : (p : Place) (b c : TokenClass) (x : List ℕ) (n : TokenClass) → is_open_place p ≡ true → role_of p b c x n ≡ token_role true b c x n
+open_role : (p : TokenPlace) (b c : TokenClass) (x : List ℕ) (n : TokenClass) → is_open_place p ≡ true → role_of p b c x n ≡ token_role true b c x n
 unfolding role_of role_of_word role_in
 open_role place.Instruction b class.Word x n e = refl
 open_role place.Closing b class.Word x n e = refl
@@ -173,7 +173,7 @@ one_less s t inside semicolon h = record { none = h.none.1; is = h.is }
 abbrev Next : List ℕ → List Token → List Role
 Next s rest = roles_from s place.Start class.Semicolon rest
 
-end_roles : (s : List ℕ) (p : Place) (opens : Bool) (b c : TokenClass) (semicolon : Token) (rest : List Token) → is_in_statement p ≡ true
+end_roles : (s : List ℕ) (p : TokenPlace) (opens : Bool) (b c : TokenClass) (semicolon : Token) (rest : List Token) → is_in_statement p ≡ true
     → is_semicolon_class (class_in s semicolon) ≡ true
     → roles_from s p b (semicolon ∷ rest) ≡ roles_beside s opens c (semicolon ∷ []) ++ Next s rest
 end_roles s p opens b c semicolon rest in_ is =
@@ -193,7 +193,7 @@ inside_roles s b (t ∷ inside) semicolon rest h =
     (inside_roles s (class_in s t) inside semicolon rest (one_less s t inside semicolon h))
 
 -- where a path may begin, and the place behind the first token is known
-open_roles : (s : List ℕ) (p q : Place) (opens : Bool) (b : TokenClass) (t : Token) (inside : List Token) (semicolon : Token) (rest : List Token)
+open_roles : (s : List ℕ) (p q : TokenPlace) (opens : Bool) (b : TokenClass) (t : Token) (inside : List Token) (semicolon : Token) (rest : List Token)
     → is_open_place p ≡ true
     → place_behind p b (class_in s t) (text_of s t) (next_class s (inside ++ semicolon ∷ rest)) ≡ q
     → roles_from s q (class_in s t) (inside ++ semicolon ∷ rest) ≡ roles_beside s opens (class_in s t) (inside ++ semicolon ∷ []) ++ Next s rest
@@ -368,7 +368,7 @@ closing_rest s (t ∷ inside) semicolon rest h =
 -- ---- an instruction
 
 -- the place behind a token at the front of an instruction
-front_place : TokenClass → Place
+front_place : TokenClass → TokenPlace
 front_place c =
     if is_number_class c then place.Inside
     else (if is_closing_class c then place.Closing else place.Path)
@@ -401,7 +401,7 @@ sign_rest s c inside semicolon rest h = by (is_number_class c) (is_closing_class
         ap (λ k. roles_from s place.Closing k (inside ++ semicolon ∷ rest)) (closing_class c e) ∙ closing_rest s inside semicolon rest h
     by false false e = path_roles s c inside semicolon rest h
 
-word_place : List ℕ → Place
+word_place : List ℕ → TokenPlace
 word_place x = if is_jump_word x then place.Jump else place.Instruction
 
 word_rest : (s : List ℕ) (x : List ℕ) (inside : List Token) (semicolon : Token) (rest : List Token) → Ends s inside semicolon
@@ -415,13 +415,13 @@ word_rest s x inside semicolon rest h = by (is_jump_word x)
     by false = opening_rest s inside semicolon rest h
 
 -- a token of an instruction's front leads there
-record IsFront (s : List ℕ) (p : Place) (b : TokenClass) (t : Token) (n : TokenClass) : Type 0 where
+record IsFront (s : List ℕ) (p : TokenPlace) (b : TokenClass) (t : Token) (n : TokenClass) : Type 0 where
   word_role : is_word_class (class_in s t) ≡ true → role_of p b (class_in s t) (text_of s t) n ≡ role.Instruction
   word_behind : is_word_class (class_in s t) ≡ true → place_behind p b (class_in s t) (text_of s t) n ≡ word_place (text_of s t)
   sign_role : is_word_class (class_in s t) ≡ false → role_of p b (class_in s t) (text_of s t) n ≡ role.Stays
   sign_behind : is_word_class (class_in s t) ≡ false → place_behind p b (class_in s t) (text_of s t) n ≡ front_place (class_in s t)
 
-front_rest : (s : List ℕ) (p : Place) (b : TokenClass) (t : Token) (inside : List Token) (semicolon : Token) (rest : List Token) → Ends s inside semicolon
+front_rest : (s : List ℕ) (p : TokenPlace) (b : TokenClass) (t : Token) (inside : List Token) (semicolon : Token) (rest : List Token) → Ends s inside semicolon
     → IsFront s p b t (next_class s (inside ++ semicolon ∷ rest))
     → roles_from s p b (t ∷ (inside ++ semicolon ∷ rest)) ≡ instruction_roles s (t ∷ (inside ++ semicolon ∷ [])) ++ Next s rest
 front_rest s p b t inside semicolon rest h f = by (is_word_class (class_in s t)) refl
@@ -470,7 +470,7 @@ labelled_front s b t n e = record {
 }
 
 -- a `;` alone
-alone_roles : (s : List ℕ) (p : Place) (b : TokenClass) (semicolon : Token) (rest : List Token) → is_in_statement p ≡ true
+alone_roles : (s : List ℕ) (p : TokenPlace) (b : TokenClass) (semicolon : Token) (rest : List Token) → is_in_statement p ≡ true
     → is_semicolon_class (class_in s semicolon) ≡ true
     → roles_from s p b (semicolon ∷ rest) ≡ instruction_roles s (semicolon ∷ []) ++ Next s rest
 alone_roles s p b semicolon rest in_ is =

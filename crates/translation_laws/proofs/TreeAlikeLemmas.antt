@@ -25,8 +25,8 @@ use Rattle.stl_parser.specs.Terminals.{has_kind}
 use Rattle.stl_parser.proofs.FrameLemmas.{right_clause}
 use Rattle.de_mnemonics.specs.declared.classes.TokenClass.{TokenClass}
 use Rattle.de_mnemonics.specs.declared.classes.TokenClass.TheVariants as class
-use Rattle.de_mnemonics.specs.declared.places.Place.{Place}
-use Rattle.de_mnemonics.specs.declared.places.Place.TheVariants as place
+use Rattle.de_mnemonics.specs.declared.places.TokenPlace.{TokenPlace}
+use Rattle.de_mnemonics.specs.declared.places.TokenPlace.TheVariants as place
 use Rattle.de_mnemonics.specs.declared.roles.Role.{Role}
 use Rattle.de_mnemonics.specs.declared.roles.Role.TheVariants as role
 use Rattle.translation_laws.specs.Alike.{ComesBackInRole, TreesAlike}
@@ -49,17 +49,17 @@ use Rattle.translation_laws.proofs.WalkAlikeLemmas.{Walk, class_mark, colon_clas
 pub record Frame : Type 0 where
   pub calm : (s : List ℕ) (p : ClausePlace) (ts : List Token) (c : Clause) (rest : List Token) (long : Bool) → is_statement c ≡ false
       → clause_at s p ts ≡ Some (c, rest, long) → IsCalmClause s ts rest
-  pub stands_quiet : (p : ClausePlace) (pl : Place) (b : TokenClass) → is_body p ≡ false → Stands p pl b → (is_quiet pl ≡ true) × (may_be_keyword b ≡ true)
-  pub stands_after : (p : ClausePlace) (c : Clause) (next : ClausePlace) (pl : Place) (before after : TokenClass) → is_body p ≡ false → Stands p pl before
+  pub stands_quiet : (p : ClausePlace) (pl : TokenPlace) (b : TokenClass) → is_body p ≡ false → Stands p pl b → (is_quiet pl ≡ true) × (may_be_keyword b ≡ true)
+  pub stands_after : (p : ClausePlace) (c : Clause) (next : ClausePlace) (pl : TokenPlace) (before after : TokenClass) → is_body p ≡ false → Stands p pl before
       → next_place p c ≡ Some next → may_be_keyword after ≡ true → Stands next (place_after c pl) after
   pub no_statement : (p : ClausePlace) (c : Clause) (next : ClausePlace) → is_body p ≡ false → next_place p c ≡ Some next → is_statement c ≡ false
-  pub first_place : (s : List ℕ) (p : ClausePlace) (t : Token) (ts : List Token) (c : Clause) (rest : List Token) (long : Bool) (pl : Place) (before nc : TokenClass)
+  pub first_place : (s : List ℕ) (p : ClausePlace) (t : Token) (ts : List Token) (c : Clause) (rest : List Token) (long : Bool) (pl : TokenPlace) (before nc : TokenClass)
       → is_quiet pl ≡ true → may_be_keyword before ≡ true → is_statement c ≡ false → clause_at s p (t ∷ ts) ≡ Some (c, rest, long)
       → place_behind pl before (class_in s t) (text_of s t) nc ≡ place_after c pl
   pub begins_rest : (s : List ℕ) (p : ClausePlace) (t : Token) (ts rest : List Token) (long : Bool)
       → clause_at s p (t ∷ ts) ≡ Some (clause.Begins, rest, long) → rest ≡ ts
-  pub calm_place : (pl : Place) (b c : TokenClass) (text : List ℕ) (nc : TokenClass) → is_quiet pl ≡ true → calm_of b c text ≡ true → place_behind pl b c text nc ≡ pl
-  pub quiet_role : (pl : Place) (b c : TokenClass) (text : List ℕ) (nc : TokenClass) → is_quiet pl ≡ true → role_of pl b c text nc ≡ role.Stays
+  pub calm_place : (pl : TokenPlace) (b c : TokenClass) (text : List ℕ) (nc : TokenClass) → is_quiet pl ≡ true → calm_of b c text ≡ true → place_behind pl b c text nc ≡ pl
+  pub quiet_role : (pl : TokenPlace) (b c : TokenClass) (text : List ℕ) (nc : TokenClass) → is_quiet pl ≡ true → role_of pl b c text nc ≡ role.Stays
   pub body_step : (s : List ℕ) (k : BlockKind) (t : Token) (ts : List Token) (c : Clause) (rest : List Token) (long : Bool) (next : ClausePlace) (before nc : TokenClass)
       → is_code k ≡ true → is_statement c ≡ false → clause_at s (clause_place.Body k) (t ∷ ts) ≡ Some (c, rest, long) → next_place (clause_place.Body k) c ≡ Some next
       → (rest ≡ ts) × Stands next (place_behind place.Start before (class_in s t) (text_of s t) nc) (class_in s t)
@@ -109,16 +109,16 @@ first_or d (t ∷ ts) = t
 module _ (frame : Frame) (s e : List ℕ) where
   -- ---- the walk through a clause outside of bodies
 
-  same_at : (pl : Place) (b nc : TokenClass) (q : Pair s e) → is_quiet pl ≡ true → ComesBackInRole s e (role_of pl b (class_in s q.left) (text_of s q.left) nc) q.left q.right → IsSamePair q
+  same_at : (pl : TokenPlace) (b nc : TokenClass) (q : Pair s e) → is_quiet pl ≡ true → ComesBackInRole s e (role_of pl b (class_in s q.left) (text_of s q.left) nc) q.left q.right → IsSamePair q
   same_at pl b nc q quiet h = subst (λ (r : Role). ComesBackInRole s e r q.left q.right) (frame.quiet_role pl b (class_in s q.left) (text_of s q.left) nc quiet) h
 
-  calm_pairs : (j : ℕ) (pl : Place) (b : TokenClass) (qs : List (Pair s e)) → is_quiet pl ≡ true → AreCalm s b (lefts (take j qs)) → Walk s e pl b qs
+  calm_pairs : (j : ℕ) (pl : TokenPlace) (b : TokenClass) (qs : List (Pair s e)) → is_quiet pl ≡ true → AreCalm s b (lefts (take j qs)) → Walk s e pl b qs
       → AllSame s e (take j qs) × Walk s e pl (last_class s b (lefts (take j qs))) (drop j qs)
   calm_pairs zero pl b qs quiet calm h = (tt, h)
   calm_pairs (suc j) pl b [] quiet calm h = (tt, tt)
   calm_pairs (suc j) pl b (q ∷ qs) quiet calm h =
       let more = calm_pairs j pl (class_in s q.left) qs quiet calm.1
-      (subst (λ (x : Place). Walk s e x (class_in s q.left) qs) (frame.calm_place pl b (class_in s q.left) (text_of s q.left) (next_class s (lefts qs)) quiet calm.0) h.1) in
+      (subst (λ (x : TokenPlace). Walk s e x (class_in s q.left) qs) (frame.calm_place pl b (class_in s q.left) (text_of s q.left) (next_class s (lefts qs)) quiet calm.0) h.1) in
       ((same_at pl b (next_class s (lefts qs)) q quiet h.0, more.0), more.1)
 
   -- the tokens that a clause has behind its first
@@ -145,7 +145,7 @@ module _ (frame : Frame) (s e : List ℕ) where
 
   -- ---- numbers stand behind no name
 
-  weak_walk : (pl : Place) (b : TokenClass) (ps : List (Pair s e)) → Walk s e pl b ps → Weak s e ps
+  weak_walk : (pl : TokenPlace) (b : TokenClass) (ps : List (Pair s e)) → Walk s e pl b ps → Weak s e ps
   weak_walk pl b [] h = tt
   weak_walk pl b (p ∷ []) h = (tt, tt)
   weak_walk pl b (p ∷ q ∷ ps) h = (
@@ -178,13 +178,13 @@ module _ (frame : Frame) (s e : List ℕ) where
     pub found : clause_at e cp (rights ps) ≡ Some (c, right, false)
     pub count : ℕ
     pub at : drop count ps ≡ pairs
-    pub place : Place
+    pub place : TokenPlace
     pub before : TokenClass
     pub walk : Walk s e place before pairs
     pub stands : Stands next place before
 
   -- what was found, with the walk behind it
-  joined : (cp : ClausePlace) (c : Clause) (next : ClausePlace) (rest : List Token) (ps qs : List (Pair s e)) (n : ℕ) (pl : Place) (b : TokenClass)
+  joined : (cp : ClausePlace) (c : Clause) (next : ClausePlace) (rest : List Token) (ps qs : List (Pair s e)) (n : ℕ) (pl : TokenPlace) (b : TokenClass)
       → Found ps (c, rest, false) (clause_at e cp (rights ps)) → drop n ps ≡ qs → lefts qs ≡ rest → Walk s e pl b qs → Stands next pl b → IsStep cp c next rest ps
   joined cp c next rest ps qs n pl b f at left walk stands =
       let r = f.rests in
@@ -243,7 +243,7 @@ module _ (frame : Frame) (s e : List ℕ) where
   quiet_if kinds.Sfc = refl
   quiet_if kinds.Udt = refl
 
-  after_quiet : (c : Clause) (pl : Place) → is_quiet pl ≡ true → is_begin c ≡ false → is_quiet (place_after c pl) ≡ true
+  after_quiet : (c : Clause) (pl : TokenPlace) → is_quiet pl ≡ true → is_begin c ≡ false → is_quiet (place_after c pl) ≡ true
   after_quiet clause.Begins pl quiet isnt = absurd (false≢true (sym isnt))
   after_quiet (clause.Head line k n r) pl quiet isnt = quiet_if k
   after_quiet (clause.Ends line k) pl quiet isnt = quiet
@@ -260,7 +260,7 @@ module _ (frame : Frame) (s e : List ℕ) where
   after_quiet (clause.Runs y) pl quiet isnt = quiet
 
   -- behind a `:` a word stays
-  note_from : (pl : Place) (b : TokenClass) (ps : List (Pair s e)) (all : List (Pair s e)) → is_quiet pl ≡ true → Walk s e pl b ps → NoteKind s e (IsTail all) (tail_closed all) (tail_apart all) ps
+  note_from : (pl : TokenPlace) (b : TokenClass) (ps : List (Pair s e)) (all : List (Pair s e)) → is_quiet pl ≡ true → Walk s e pl b ps → NoteKind s e (IsTail all) (tail_closed all) (tail_apart all) ps
   note_from pl b [] all quiet h = tt
   note_from pl b (q ∷ []) all quiet h = tt
   note_from pl b (q ∷ r ∷ ps) all quiet h = λ colon.
@@ -268,7 +268,7 @@ module _ (frame : Frame) (s e : List ℕ) where
       let stays = frame.calm_place pl b (class_in s q.left) (text_of s q.left) (class_in s r.left) quiet (ap (λ (x : TokenClass). calm_of b x (text_of s q.left)) c) in
       same_kind s e r.left r.right kind.Word
       (same_at pl (class_in s q.left) (next_class s (lefts ps)) r quiet
-      (subst (λ (x : Place). ComesBackInRole s e (role_of x (class_in s q.left) (class_in s r.left) (text_of s r.left) (next_class s (lefts ps))) r.left r.right) stays h.1.0))
+      (subst (λ (x : TokenPlace). ComesBackInRole s e (role_of x (class_in s q.left) (class_in s r.left) (text_of s r.left) (next_class s (lefts ps))) r.left r.right) stays h.1.0))
 
   abbrev whole : (p : Pair s e) (ps : List (Pair s e)) → Weak s e (p ∷ ps) → IsTail (p ∷ ps) (p ∷ ps)
   whole p ps weak = record { weak = weak; count = 0; at = refl }
@@ -277,7 +277,7 @@ module _ (frame : Frame) (s e : List ℕ) where
   not_note h = cc
 
   -- BEGIN
-  begin_step : (cp : ClausePlace) (next : ClausePlace) (rest : List Token) (pl : Place) (b : TokenClass) (p : Pair s e) (ps : List (Pair s e))
+  begin_step : (cp : ClausePlace) (next : ClausePlace) (rest : List Token) (pl : TokenPlace) (b : TokenClass) (p : Pair s e) (ps : List (Pair s e))
       → is_body cp ≡ false → Stands cp pl b → Walk s e pl b (p ∷ ps) → clause_at s cp (p.left ∷ lefts ps) ≡ Some (clause.Begins, rest, false)
       → next_place cp clause.Begins ≡ Some next → IsStep cp clause.Begins next rest (p ∷ ps)
   begin_step cp next rest pl b p ps outside stands h found may =
@@ -293,11 +293,11 @@ module _ (frame : Frame) (s e : List ℕ) where
       (clause_gives s e (IsTail (p ∷ ps)) (tail_closed (p ∷ ps)) (tail_apart (p ∷ ps)) cp p ps (whole p ps (weak_walk pl b (p ∷ ps) h)) same (clause.Begins, rest, false)
       (λ n cut behind x first at. absurd (inside_no_begin s e (IsTail (p ∷ ps)) (tail_closed (p ∷ ps)) (tail_apart (p ∷ ps)) cp p.left.line (lefts (take n (p ∷ ps))) x at first))
       (λ note. absurd (not_note note)) found)
-      refl (sym rest_is) (subst (λ (x : Place). Walk s e x (class_in s p.left) ps) place_is h.1)
+      refl (sym rest_is) (subst (λ (x : TokenPlace). Walk s e x (class_in s p.left) ps) place_is h.1)
       (frame.stands_after cp clause.Begins next pl b (class_in s p.left) outside stands may ends)
 
   -- any other clause outside of bodies
-  quiet_step : (cp : ClausePlace) (c : Clause) (next : ClausePlace) (rest : List Token) (pl : Place) (b : TokenClass) (p : Pair s e) (ps : List (Pair s e))
+  quiet_step : (cp : ClausePlace) (c : Clause) (next : ClausePlace) (rest : List Token) (pl : TokenPlace) (b : TokenClass) (p : Pair s e) (ps : List (Pair s e))
       → is_body cp ≡ false → is_begin c ≡ false → Stands cp pl b → Walk s e pl b (p ∷ ps) → clause_at s cp (p.left ∷ lefts ps) ≡ Some (c, rest, false)
       → next_place cp c ≡ Some next → IsStep cp c next rest (p ∷ ps)
   quiet_step cp c next rest pl b p ps outside plain stands h found may =
@@ -307,7 +307,7 @@ module _ (frame : Frame) (s e : List ℕ) where
       let pass = passed p ps rest (frame.calm s cp (p.left ∷ lefts ps) c rest false stated found) in
       let place_is = frame.first_place s cp p.left (lefts ps) c rest false pl b (next_class s (lefts ps)) quiet.0 quiet.1 stated found in
       let quiet_after = after_quiet c pl quiet.0 plain in
-      let walk = subst (λ (x : Place). Walk s e x (class_in s p.left) ps) place_is h.1 in
+      let walk = subst (λ (x : TokenPlace). Walk s e x (class_in s p.left) ps) place_is h.1 in
       let pairs = calm_pairs pass.count (place_after c pl) (class_in s p.left) ps quiet_after pass.calm walk in
       joined cp c next rest (p ∷ ps) (drop pass.count ps) (suc pass.count) (place_after c pl) (last_class s (class_in s p.left) (lefts (take pass.count ps)))
       (clause_gives s e (IsTail (p ∷ ps)) (tail_closed (p ∷ ps)) (tail_apart (p ∷ ps)) cp p ps (whole p ps (weak_walk pl b (p ∷ ps) h)) same (c, rest, false)
@@ -356,7 +356,7 @@ module _ (frame : Frame) (s e : List ℕ) where
 
   -- ---- each clause
 
-  outside_step : (cp : ClausePlace) (c : Clause) (next : ClausePlace) (rest : List Token) (pl : Place) (b : TokenClass) (p : Pair s e) (ps : List (Pair s e))
+  outside_step : (cp : ClausePlace) (c : Clause) (next : ClausePlace) (rest : List Token) (pl : TokenPlace) (b : TokenClass) (p : Pair s e) (ps : List (Pair s e))
       → is_body cp ≡ false → Stands cp pl b → Walk s e pl b (p ∷ ps) → clause_at s cp (p.left ∷ lefts ps) ≡ Some (c, rest, false)
       → next_place cp c ≡ Some next → IsStep cp c next rest (p ∷ ps)
   outside_step cp c next rest pl b p ps outside stands h found may = by (is_begin c) refl
@@ -393,11 +393,11 @@ module _ (frame : Frame) (s e : List ℕ) where
   inside_step k (clause.Declares d) next rest b p ps shape code h found may = other_step k (clause.Declares d) next rest b p ps code refl h found may
   inside_step k (clause.Sets z) next rest b p ps shape code h found may = other_step k (clause.Sets z) next rest b p ps code refl h found may
 
-  place_step : (cp : ClausePlace) (c : Clause) (next : ClausePlace) (rest : List Token) (pl : Place) (b : TokenClass) (p : Pair s e) (ps : List (Pair s e))
+  place_step : (cp : ClausePlace) (c : Clause) (next : ClausePlace) (rest : List Token) (pl : TokenPlace) (b : TokenClass) (p : Pair s e) (ps : List (Pair s e))
       → AreFormed s (p.left ∷ lefts ps) → Stands cp pl b → Walk s e pl b (p ∷ ps) → clause_at s cp (p.left ∷ lefts ps) ≡ Some (c, rest, false)
       → next_place cp c ≡ Some next → IsStep cp c next rest (p ∷ ps)
   place_step (clause_place.Body k) c next rest pl b p ps shape stands h found may =
-      inside_step k c next rest b p ps shape stands.1 (subst (λ (x : Place). Walk s e x b (p ∷ ps)) stands.0 h) found may
+      inside_step k c next rest b p ps shape stands.1 (subst (λ (x : TokenPlace). Walk s e x b (p ∷ ps)) stands.0 h) found may
   place_step clause_place.Outside c next rest pl b p ps shape stands h found may = outside_step clause_place.Outside c next rest pl b p ps refl stands h found may
   place_step (clause_place.Head k) c next rest pl b p ps shape stands h found may = outside_step (clause_place.Head k) c next rest pl b p ps refl stands h found may
   place_step (clause_place.Section k j l) c next rest pl b p ps shape stands h found may = outside_step (clause_place.Section k j l) c next rest pl b p ps refl stands h found may
@@ -410,7 +410,7 @@ module _ (frame : Frame) (s e : List ℕ) where
   unfolding clause_at
   no_clause cp c rest found = cc
 
-  one_step : (cp : ClausePlace) (c : Clause) (next : ClausePlace) (rest : List Token) (pl : Place) (b : TokenClass) (ps : List (Pair s e))
+  one_step : (cp : ClausePlace) (c : Clause) (next : ClausePlace) (rest : List Token) (pl : TokenPlace) (b : TokenClass) (ps : List (Pair s e))
       → AreFormed s (lefts ps) → Stands cp pl b → Walk s e pl b ps → clause_at s cp (lefts ps) ≡ Some (c, rest, false) → next_place cp c ≡ Some next
       → IsStep cp c next rest ps
   one_step cp c next rest pl b [] shape stands h found may = absurd (no_clause cp c rest found)
@@ -428,7 +428,7 @@ module _ (frame : Frame) (s e : List ℕ) where
 
   -- ---- all of them
 
-  reads_alike : (cs : List Clause) (cp : ClausePlace) (pl : Place) (b : TokenClass) (ps : List (Pair s e)) → AreFormed s (lefts ps) → Stands cp pl b → Walk s e pl b ps
+  reads_alike : (cs : List Clause) (cp : ClausePlace) (pl : TokenPlace) (b : TokenClass) (ps : List (Pair s e)) → AreFormed s (lefts ps) → Stands cp pl b → Walk s e pl b ps
       → ReadsClauses s cp (lefts ps) cs clause_place.Outside [] → ReadsClauses e cp (rights ps) cs clause_place.Outside []
   reads_alike [] cp pl b [] shape stands h reads = (reads.0, refl)
   reads_alike [] cp pl b (p ∷ ps) shape stands h reads = absurd cc

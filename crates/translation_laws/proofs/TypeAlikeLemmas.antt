@@ -13,7 +13,7 @@ use Rattle.stl_ast.specs.declared.declarations.ElementType.TheVariants as elemen
 use Rattle.stl_ast.specs.declared.declarations.Init.{Init}
 use Rattle.stl_ast.specs.declared.literals.Literal.{Literal}
 use Rattle.stl_symbols.specs.declared.languages.Language.TheVariants.{English, German}
-use Rattle.stl_parser.specs.declared.keywords.Key.TheVariants as key
+use Rattle.stl_parser.specs.declared.keywords.ClauseWord.TheVariants as key
 use Rattle.stl_parser.specs.Declarations.{after_attribute, after_colon, after_struct, declaration_of, declaration_from_parts, declared_name_at, init_behind, structure_at}
 use Rattle.stl_parser.specs.Tables.{look_up, simple_types}
 use Rattle.stl_parser.specs.Terminals.{has_kind}

@@ -22,8 +22,8 @@ use Rattle.stl_parser.specs.Tables.{flags, look_up}
 use Rattle.stl_parser.specs.Terminals.{has_kind, is_mark, kind_rank}
 use Rattle.de_mnemonics.specs.declared.classes.TokenClass.{TokenClass}
 use Rattle.de_mnemonics.specs.declared.classes.TokenClass.TheVariants as class
-use Rattle.de_mnemonics.specs.declared.places.Place.{Place}
-use Rattle.de_mnemonics.specs.declared.places.Place.TheVariants as place
+use Rattle.de_mnemonics.specs.declared.places.TokenPlace.{TokenPlace}
+use Rattle.de_mnemonics.specs.declared.places.TokenPlace.TheVariants as place
 use Rattle.de_mnemonics.specs.declared.roles.Role.{Role}
 use Rattle.de_mnemonics.specs.declared.roles.Role.TheVariants as role
 use Rattle.translation_laws.specs.Alike.{AreTokensAlike, ComesBackInRole, IsSameWordButForCase, IsOperandWordAsLocal, IsSameToken}
@@ -46,7 +46,7 @@ pub record IsPath (before : TokenClass) (text : List ℕ) (next : TokenClass) : 
   pub component : is_component before next ≡ false
   pub place : is_operand_place before text next ≡ false
 
-path_in : (p : Place) (before : TokenClass) (text : List ℕ) (next : TokenClass) → role_in p before text next ≡ role.Path → IsPath before text next
+path_in : (p : TokenPlace) (before : TokenClass) (text : List ℕ) (next : TokenClass) → role_in p before text next ≡ role.Path → IsPath before text next
 unfolding role_in
 path_in p before text next is = by (is_component before next) (is_operand_place before text next) (opens_path p before) refl refl is
   where
@@ -71,7 +71,7 @@ no_path_first false class.CloseParen e = cc
 no_path_first false class.Pointer e = cc
 no_path_first false class.Other e = cc
 
-path_word : (p : Place) (before : TokenClass) (text : List ℕ) (next : TokenClass) → role_of_word p before text next ≡ role.Path → IsPath before text next
+path_word : (p : TokenPlace) (before : TokenClass) (text : List ℕ) (next : TokenClass) → role_of_word p before text next ≡ role.Path → IsPath before text next
 unfolding role_of_word role_at_start
 path_word place.Outside before text next is = absurd cc
 path_word place.Head before text next is = absurd cc
@@ -84,7 +84,7 @@ path_word place.Closing before text next is = path_in place.Closing before text 
 path_word place.Path before text next is = path_in place.Path before text next is
 path_word place.Inside before text next is = path_in place.Inside before text next is
 
-pub path_role : (p : Place) (before c : TokenClass) (text : List ℕ) (next : TokenClass) → role_of p before c text next ≡ role.Path → IsPath before text next
+pub path_role : (p : TokenPlace) (before c : TokenClass) (text : List ℕ) (next : TokenClass) → role_of p before c text next ≡ role.Path → IsPath before text next
 unfolding role_of
 path_role p before class.Word text next is = path_word p before text next is
 path_role p before _ text next is = absurd cc
@@ -205,7 +205,7 @@ module _ (s e : List ℕ) where
       by : kind.Word ≡ kind.Local → ⊥
       by e = cc
 
-  name_on_path : (p : Place) (before c : TokenClass) (next : TokenClass) (t u : Token) → IsOperandWordAsLocal s e t u → role_of p before c (text_of s t) next ≡ role.Path → IsName s e t u
+  name_on_path : (p : TokenPlace) (before c : TokenClass) (next : TokenClass) (t u : Token) → IsOperandWordAsLocal s e t u → role_of p before c (text_of s t) next ≡ role.Path → IsName s e t u
   name_on_path p before c next t u named is = record { named = named; alone = by named.operand }
     where
       by : (is_some (operand_partner English (text_of s t)) ≡ true) ⊎ (is_some (operand_partner German (text_of s t)) ≡ true)
@@ -213,7 +213,7 @@ module _ (s e : List ℕ) where
       by (inl german) = inl german
       by (inr english) = let alone = alone_on_path before (text_of s t) next (path_role p before c (text_of s t) next is) english in inr (alone.bare, alone.flag)
 
-  known_like : (p : Place) (before c next : TokenClass) (t u : Token) → ComesBackInRole s e (role_of p before c (text_of s t) next) t u → Like s e t u
+  known_like : (p : TokenPlace) (before c next : TokenClass) (t u : Token) → ComesBackInRole s e (role_of p before c (text_of s t) next) t u → Like s e t u
   known_like p before c next t u h = by (role_of p before c (text_of s t) next) refl h
     where
       by : (r : Role) → role_of p before c (text_of s t) next ≡ r → ComesBackInRole s e r t u → Like s e t u
@@ -226,19 +226,19 @@ module _ (s e : List ℕ) where
       by role.Stays is k = inl k
 
   -- pairs come back as the walk says
-  abbrev pub Walk : Place → TokenClass → List (Pair s e) → Type 0
+  abbrev pub Walk : TokenPlace → TokenClass → List (Pair s e) → Type 0
   Walk p before [] = Unit {0}
   Walk p before (q ∷ qs) =
       ComesBackInRole s e (role_of p before (class_in s q.left) (text_of s q.left) (next_class s (lefts qs))) q.left q.right
       × Walk (place_behind p before (class_in s q.left) (text_of s q.left) (next_class s (lefts qs))) (class_in s q.left) qs
 
-  pub record IsZipped (p : Place) (before : TokenClass) (ts us : List Token) : Type 0 where
+  pub record IsZipped (p : TokenPlace) (before : TokenClass) (ts us : List Token) : Type 0 where
     pub pairs : List (Pair s e)
     pub left : lefts pairs ≡ ts
     pub right : rights pairs ≡ us
     pub walk : Walk p before pairs
 
-  pub zipped : (p : Place) (before : TokenClass) (ts us : List Token) → AreTokensAlike s e p before ts us → IsZipped p before ts us
+  pub zipped : (p : TokenPlace) (before : TokenClass) (ts us : List Token) → AreTokensAlike s e p before ts us → IsZipped p before ts us
   zipped p before [] [] h = record { pairs = []; left = refl; right = refl; walk = tt }
   zipped p before [] (u ∷ us) h = absurd h
   zipped p before (t ∷ ts) [] h = absurd h
@@ -326,7 +326,7 @@ module _ (s e : List ℕ) where
   no_end t isnt = no_end_kind t t.kind refl isnt
 
   -- behind the instruction word of a statement
-  abbrev pub in_statement : Place → Bool
+  abbrev pub in_statement : TokenPlace → Bool
   in_statement place.Jump = true
   in_statement place.Instruction = true
   in_statement place.Closing = true
@@ -338,11 +338,11 @@ module _ (s e : List ℕ) where
   at_end true = refl
   at_end false = refl
 
-  stays_in : (p : Place) (before : TokenClass) (text : List ℕ) (next : TokenClass) → is_component before next ≡ true → role_in p before text next ≡ role.Stays
+  stays_in : (p : TokenPlace) (before : TokenClass) (text : List ℕ) (next : TokenClass) → is_component before next ≡ true → role_in p before text next ≡ role.Stays
   unfolding role_in
   stays_in p before text next is = rw is refl
 
-  component_stays : (p : Place) (before c : TokenClass) (text : List ℕ) (next : TokenClass) → in_statement p ≡ true → is_component before next ≡ true
+  component_stays : (p : TokenPlace) (before c : TokenClass) (text : List ℕ) (next : TokenClass) → in_statement p ≡ true → is_component before next ≡ true
       → role_of p before c text next ≡ role.Stays
   unfolding role_of role_of_word
   component_stays place.Jump before class.Word text next inside is = refl
@@ -357,7 +357,7 @@ module _ (s e : List ℕ) where
   component_stays place.Labelled before class.Word text next inside is = absurd (false≢true inside)
   component_stays p before _ text next inside is = refl
 
-  no_instruction_in : (p : Place) (before : TokenClass) (text : List ℕ) (next : TokenClass) → role_in p before text next ≡ role.Instruction → ⊥
+  no_instruction_in : (p : TokenPlace) (before : TokenClass) (text : List ℕ) (next : TokenClass) → role_in p before text next ≡ role.Instruction → ⊥
   unfolding role_in
   no_instruction_in p before text next is = by (is_component before next) (is_operand_place before text next) (opens_path p before) is
     where
@@ -367,7 +367,7 @@ module _ (s e : List ℕ) where
       by false false true e = cc
       by false false false e = cc
 
-  no_instruction : (p : Place) (before c : TokenClass) (text : List ℕ) (next : TokenClass) → in_statement p ≡ true → role_of p before c text next ≡ role.Instruction → ⊥
+  no_instruction : (p : TokenPlace) (before c : TokenClass) (text : List ℕ) (next : TokenClass) → in_statement p ≡ true → role_of p before c text next ≡ role.Instruction → ⊥
   unfolding role_of role_of_word
   no_instruction place.Jump before class.Word text next inside is = cc
   no_instruction place.Instruction before class.Word text next inside is = no_instruction_in place.Instruction before text next is
@@ -386,7 +386,7 @@ module _ (s e : List ℕ) where
   opening_stays class.OpenParen e = refl
   opening_stays _ e = refl
 
-  part_stays : (p : Place) (c : TokenClass) → in_statement p ≡ true → is_end c ≡ false → in_statement (place_behind_part p c) ≡ true
+  part_stays : (p : TokenPlace) (c : TokenClass) → in_statement p ≡ true → is_end c ≡ false → in_statement (place_behind_part p c) ≡ true
   part_stays p class.Semicolon h e = absurd (false≢true (sym e))
   part_stays p _ h e = h
 
@@ -398,7 +398,7 @@ module _ (s e : List ℕ) where
       by true = refl
       by false = refl
 
-  sign_stays : (p : Place) (c : TokenClass) → in_statement p ≡ true → is_end c ≡ false → in_statement (place_behind_sign p c) ≡ true
+  sign_stays : (p : TokenPlace) (c : TokenClass) → in_statement p ≡ true → is_end c ≡ false → in_statement (place_behind_sign p c) ≡ true
   unfolding place_behind_sign
   sign_stays place.Jump c inside e = part_stays place.Jump c refl e
   sign_stays place.Instruction c inside e = opening_stays c e
@@ -411,7 +411,7 @@ module _ (s e : List ℕ) where
   sign_stays place.Label c inside e = absurd (false≢true inside)
   sign_stays place.Labelled c inside e = absurd (false≢true inside)
 
-  word_stays : (p : Place) (before : TokenClass) (text : List ℕ) (next : TokenClass) → in_statement p ≡ true → in_statement (place_behind_word p before text next) ≡ true
+  word_stays : (p : TokenPlace) (before : TokenClass) (text : List ℕ) (next : TokenClass) → in_statement p ≡ true → in_statement (place_behind_word p before text next) ≡ true
   unfolding place_behind_word
   word_stays place.Jump before text next inside = refl
   word_stays place.Instruction before text next inside = refl
@@ -424,7 +424,7 @@ module _ (s e : List ℕ) where
   word_stays place.Label before text next inside = absurd (false≢true inside)
   word_stays place.Labelled before text next inside = absurd (false≢true inside)
 
-  pub stays : (p : Place) (before c : TokenClass) (text : List ℕ) (next : TokenClass) → in_statement p ≡ true → is_end c ≡ false
+  pub stays : (p : TokenPlace) (before c : TokenClass) (text : List ℕ) (next : TokenClass) → in_statement p ≡ true → is_end c ≡ false
       → in_statement (place_behind p before c text next) ≡ true
   unfolding place_behind
   stays p before class.Word text next inside e = word_stays p before text next inside
@@ -446,7 +446,7 @@ module _ (s e : List ℕ) where
   NoEnd (suc n) [] = Unit {0}
   NoEnd (suc n) (q ∷ qs) = (is_mark s q.left mark.Semicolon ≡ false) × NoEnd n qs
 
-  known : (p : Place) (before c next : TokenClass) (q : Pair s e) → in_statement p ≡ true → ComesBackInRole s e (role_of p before c (text_of s q.left) next) q.left q.right → IsKnown q
+  known : (p : TokenPlace) (before c next : TokenClass) (q : Pair s e) → in_statement p ≡ true → ComesBackInRole s e (role_of p before c (text_of s q.left) next) q.left q.right → IsKnown q
   known p before c next q inside h = by (role_of p before c (text_of s q.left) next) refl h
     where
       by : (r : Role) → role_of p before c (text_of s q.left) next ≡ r → ComesBackInRole s e r q.left q.right → IsKnown q
@@ -458,7 +458,7 @@ module _ (s e : List ℕ) where
       by role.Stays is k = inl k
 
   -- a name stands where a path begins
-  pub name_opens_none : (p : Place) (before c next : TokenClass) (q : Pair s e) → ComesBackInRole s e (role_of p before c (text_of s q.left) next) q.left q.right
+  pub name_opens_none : (p : TokenPlace) (before c next : TokenClass) (q : Pair s e) → ComesBackInRole s e (role_of p before c (text_of s q.left) next) q.left q.right
       → IsNamedPair q → is_operand English (text_of s q.left) ≡ false → opens_number next ≡ false
   name_opens_none p before c next q h named isnt = by (role_of p before c (text_of s q.left) next) refl h
     where
@@ -480,7 +480,7 @@ module _ (s e : List ℕ) where
   component_assign : (before next : TokenClass) → next ≡ class.Assign → is_component before next ≡ true
   component_assign before next e = ap (λ (c : TokenClass). is_component before c) e ∙ at_end (is_dot before)
 
-  joined : (p : Place) (before : TokenClass) (q r : Pair s e) (rs : List (Pair s e)) → in_statement p ≡ true → is_mark s q.left mark.Semicolon ≡ false → Walk p before (q ∷ r ∷ rs) → Joined q r
+  joined : (p : TokenPlace) (before : TokenClass) (q r : Pair s e) (rs : List (Pair s e)) → in_statement p ≡ true → is_mark s q.left mark.Semicolon ≡ false → Walk p before (q ∷ r ∷ rs) → Joined q r
   joined p before q r rs inside isnt h = record {
     dotted = λ is. subst (λ (x : Role). ComesBackInRole s e x r.left r.right)
         (component_stays (place_behind p before (class_in s q.left) (text_of s q.left) (class_in s r.left)) (class_in s q.left) (class_in s r.left) (text_of s r.left) (next_class s (lefts rs))
@@ -492,7 +492,7 @@ module _ (s e : List ℕ) where
     apart = λ named none. opens_none r (name_opens_none p before (class_in s q.left) (class_in s r.left) q h.0 named none);
   }
 
-  pub fits_until : (n : ℕ) (p : Place) (before : TokenClass) (ps : List (Pair s e)) → in_statement p ≡ true → NoEnd n ps → Walk p before ps → Fits s e (take n ps)
+  pub fits_until : (n : ℕ) (p : TokenPlace) (before : TokenClass) (ps : List (Pair s e)) → in_statement p ≡ true → NoEnd n ps → Walk p before ps → Fits s e (take n ps)
   fits_until zero p before ps inside none h = tt
   fits_until (suc n) p before [] inside none h = tt
   fits_until (suc n) p before (q ∷ qs) inside none h = (
@@ -508,7 +508,7 @@ module _ (s e : List ℕ) where
       beside (suc n) (r ∷ rs) none h = joined p before q r rs inside none.0 h
 
   -- the walk within a statement comes to its `;`, and behind it to the start of the next
-  pub walked : (n : ℕ) (p : Place) (before : TokenClass) (ps : List (Pair s e)) (q : Pair s e) (qs : List (Pair s e)) → in_statement p ≡ true → NoEnd n ps → Walk p before ps
+  pub walked : (n : ℕ) (p : TokenPlace) (before : TokenClass) (ps : List (Pair s e)) (q : Pair s e) (qs : List (Pair s e)) → in_statement p ≡ true → NoEnd n ps → Walk p before ps
       → drop n ps ≡ q ∷ qs → is_mark s q.left mark.Semicolon ≡ true → Walk place.Start class.Semicolon qs
   unfolding place_behind place_behind_sign
   walked zero p before [] q qs inside none h there is = absurd cc
@@ -518,7 +518,7 @@ module _ (s e : List ℕ) where
       here : class_in s q.left ≡ class.Semicolon
       here = class_mark q.left mark.Semicolon is ∙ semicolon_class
 
-      ends : (p : Place) → in_statement p ≡ true → place_behind_sign p class.Semicolon ≡ place.Start
+      ends : (p : TokenPlace) → in_statement p ≡ true → place_behind_sign p class.Semicolon ≡ place.Start
       ends place.Jump inside = refl
       ends place.Instruction inside = refl
       ends place.Closing inside = refl
@@ -532,7 +532,7 @@ module _ (s e : List ℕ) where
 
       ended : Walk p before (q ∷ qs) → Walk place.Start class.Semicolon qs
       ended h = subst (λ (c : TokenClass). Walk place.Start c qs) here
-          (subst (λ (x : Place). Walk x (class_in s q.left) qs)
+          (subst (λ (x : TokenPlace). Walk x (class_in s q.left) qs)
           (ap (λ (c : TokenClass). place_behind p before c (text_of s q.left) (next_class s (lefts qs))) here ∙ ends p inside) h.1)
   walked (suc n) p before [] q qs inside none h there is = absurd cc
   walked (suc n) p before (r ∷ rs) q qs inside none h there is =

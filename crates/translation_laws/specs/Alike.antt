@@ -10,8 +10,8 @@ use Rattle.stl_parser.specs.Source.{IsTree}
 use Rattle.stl_symbols.specs.declared.languages.Language.TheVariants.{English, German}
 use Rattle.de_mnemonics.specs.declared.classes.TokenClass.{TokenClass}
 use Rattle.de_mnemonics.specs.declared.classes.TokenClass.TheVariants as class
-use Rattle.de_mnemonics.specs.declared.places.Place.{Place}
-use Rattle.de_mnemonics.specs.declared.places.Place.TheVariants as place
+use Rattle.de_mnemonics.specs.declared.places.TokenPlace.{TokenPlace}
+use Rattle.de_mnemonics.specs.declared.places.TokenPlace.TheVariants as place
 use Rattle.de_mnemonics.specs.declared.roles.Role.{Role}
 use Rattle.de_mnemonics.specs.declared.roles.Role.TheVariants as role
 use Rattle.de_mnemonics.specs.Places.{place_behind, role_of}
@@ -49,7 +49,7 @@ ComesBackInRole s e role.Path t u = IsSameToken s e t u ⊎ IsOperandWordAsLocal
 ComesBackInRole s e role.Stays t u = IsSameToken s e t u
 
 -- tokens come back one by one, from a place on; `before` is the class of the token in front of it
-abbrev pub AreTokensAlike : (s e : List ℕ) → Place → TokenClass → List Token → List Token → Type 0
+abbrev pub AreTokensAlike : (s e : List ℕ) → TokenPlace → TokenClass → List Token → List Token → Type 0
 AreTokensAlike s e p before [] [] = Unit {0}
 AreTokensAlike s e p before (t ∷ ts) (u ∷ us) =
     ComesBackInRole s e (role_of p before (class_in s t) (text_of s t) (next_class s ts)) t u

@@ -5,8 +5,8 @@ use Rattle.stl_lexer.specs.declared.kinds.Token.{Token}
 use Rattle.stl_lexer.specs.Tokens.{text_of}
 use Rattle.de_mnemonics.specs.declared.classes.TokenClass.{TokenClass}
 use Rattle.de_mnemonics.specs.declared.classes.TokenClass.TheVariants as class
-use Rattle.de_mnemonics.specs.declared.places.Place.{Place}
-use Rattle.de_mnemonics.specs.declared.places.Place.TheVariants as place
+use Rattle.de_mnemonics.specs.declared.places.TokenPlace.{TokenPlace}
+use Rattle.de_mnemonics.specs.declared.places.TokenPlace.TheVariants as place
 use Rattle.de_mnemonics.specs.declared.roles.Role.{Role}
 use Rattle.de_mnemonics.specs.declared.roles.Role.TheVariants as role
 use Rattle.de_mnemonics.specs.Places.{place_behind, is_word_in_list, is_assign, is_component, is_jump_word, is_operand_place, may_be_keyword, role_of}
@@ -150,7 +150,7 @@ is_keyword_of table before c word = false
 -- ---- the roles that a translation goes by
 
 -- the roles of tokens from a place on, behind a token of a class
-abbrev pub roles_from : List ℕ → Place → TokenClass → List Token → List Role
+abbrev pub roles_from : List ℕ → TokenPlace → TokenClass → List Token → List Role
 roles_from s p before [] = []
 roles_from s p before (t ∷ ts) =
     role_of p before (class_in s t) (text_of s t) (next_class s ts)
@@ -175,12 +175,12 @@ pub record BodiesHaveRoles : Type 0 where
 
 -- the place behind a token outside of blocks of statements: a word that opens such a block leads to
 -- its head
-abbrev pub place_outside : TokenClass → TokenClass → List ℕ → Place
+abbrev pub place_outside : TokenClass → TokenClass → List ℕ → TokenPlace
 place_outside before c word = if is_keyword_of code_openings before c word then place.Head else place.Outside
 
 -- the place behind a token of a block's head: a word that opens a body leads into it, and one that
 -- opens a block of data leads out of the head
-abbrev pub place_in_head : TokenClass → TokenClass → List ℕ → Place
+abbrev pub place_in_head : TokenClass → TokenClass → List ℕ → TokenPlace
 place_in_head before c word =
     if is_keyword_of begin_words before c word then place.Start
     else (if is_keyword_of data_openings before c word then place.Outside else place.Head)

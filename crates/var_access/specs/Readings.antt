@@ -10,35 +10,38 @@ use Rattle.plc_base.specs.Texts.{is_blank}
 abbrev pub Reading : Type 0 → Type 0
 Reading A = Result A ℕ
 
--- two parts together: of two rules the lesser is told
+-- what two parts of a line spell together; of two broken rules the lesser is reported
 abbrev pub both_readings : {A B : Type 0} → Reading A → Reading B → Reading (A × B)
 both_readings (Ok a) (Ok b) = Ok (a, b)
 both_readings (Ok a) (Err rule) = Err rule
 both_readings (Err rule) (Ok b) = Err rule
 both_readings (Err rule) (Err other) = Err (min rule other)
 
--- what is made of a part that spells something
+-- a part of a line, with a function of what it spells; a broken rule stays
 abbrev pub reading_map : {A B : Type 0} → (A → B) → Reading A → Reading B
 reading_map f (Ok a) = Ok (f a)
 reading_map f (Err rule) = Err rule
 
--- parts one behind the other: of all rules the least is told
+-- what the parts of a line spell, one behind the other; of all broken rules the least is reported
 abbrev pub all_readings : {A : Type 0} → List (Reading A) → Reading (List A)
 all_readings [] = Ok []
 all_readings (r ∷ rs) = reading_map (λ p. p.0 ∷ p.1) (both_readings r (all_readings rs))
 
--- rule 1: not in the grammar
+-- a part of a line that breaks rule 1: it isn't in the grammar
 abbrev pub no_line : {A : Type 0} → Reading A
 no_line = Err 1
 
--- a number in decimal digits, from `low` to `high`; a number beyond them breaks the rule that is named
+-- a number in decimal digits, from `low` to `high`; a number outside this range breaks `rule`
 unfoldable pub number_in : (low high rule : ℕ) → List ℕ → Reading ℕ
 number_in low high rule word =
     if is_decimal word
-    then (if nat_le low (decimal_value word) && nat_le (decimal_value word) high then Ok (decimal_value word) else Err rule)
+    then
+    (if nat_le low (decimal_value word) && nat_le (decimal_value word) high
+    then Ok (decimal_value word)
+    else Err rule)
     else no_line
 
--- the number of an address or a block: 0 to 65,535, else rule 2
+-- the number of a byte or a block in decimal digits: 0 to 65,535, else it breaks rule 2
 abbrev pub address_number : List ℕ → Reading ℕ
 address_number word = number_in 0 65535 2 word
 
@@ -47,10 +50,12 @@ abbrev pub is_hex : List ℕ → Bool
 is_hex [] = false
 is_hex (b ∷ t) = list_all is_ascii_hexdigit (b ∷ t)
 
--- a value in so many hexadecimal digits; fewer or more of them break rule 2
+-- a value in `digits` hexadecimal digits; fewer or more of them break rule 2
 unfoldable pub hex_of : (digits : ℕ) → List ℕ → Reading ℕ
 hex_of digits word =
-    if is_hex word then (if length word == digits then Ok (digits_value 16 word) else Err 2) else no_line
+    if is_hex word
+    then (if length word == digits then Ok (digits_value 16 word) else Err 2)
+    else no_line
 
 -- a text without the blanks and tabs at its front
 unfoldable pub behind_blanks : List ℕ → List ℕ
@@ -74,13 +79,16 @@ trim text = behind_blanks (before_blanks text)
 abbrev pub leading_word : List ℕ → Option (List ℕ × List ℕ)
 leading_word [] = None
 leading_word (b ∷ t) =
-    Some (take (position_or_len is_blank (b ∷ t)) (b ∷ t), drop (position_or_len is_blank (b ∷ t)) (b ∷ t))
+    Some (
+      take (position_or_len is_blank (b ∷ t)) (b ∷ t),
+      drop (position_or_len is_blank (b ∷ t)) (b ∷ t),
+    )
 
 -- the first word of a text and what follows it; none where no word is left
 unfoldable pub first_word : List ℕ → Option (List ℕ × List ℕ)
 first_word text = leading_word (behind_blanks text)
 
--- an empty part, as between two blanks, is no word
+-- a part of a text between blanks is a word: it isn't empty
 abbrev pub is_nonempty_part : List ℕ → Bool
 is_nonempty_part [] = false
 is_nonempty_part (b ∷ part) = true

@@ -10,16 +10,17 @@ use Rattle.var_access.specs.declared.requests.Request.{Request}
 use Rattle.var_access.specs.declared.requests.Request.TheVariants.{ReadVars, WriteVar, Stop, Restart, MonitorOn, MonitorOff, Diag}
 use Rattle.var_access.specs.declared.requests.Var.{Var}
 
--- commas separate variables
+-- a byte is a comma, which separates variables
 abbrev pub is_comma : ℕ → Bool
 is_comma b = b == 44
 
--- the parts between commas that don't stand between quotes
+-- the parts of a text between the commas that don't stand between quotes
 abbrev pub comma_parts : (quoted : Bool) → List ℕ → List (List ℕ)
 comma_parts quoted [] = [] ∷ []
 comma_parts quoted (b ∷ t) =
     if is_quote b then onto_first b (comma_parts (not quoted) t)
-    else if is_comma b && not quoted then [] ∷ comma_parts quoted t else onto_first b (comma_parts quoted t)
+    else if is_comma b && not quoted then [] ∷ comma_parts quoted t
+    else onto_first b (comma_parts quoted t)
 
 -- how many bytes stand before the first comma that doesn't stand between quotes
 abbrev pub part_len : (quoted : Bool) → List ℕ → ℕ
@@ -28,30 +29,32 @@ part_len quoted (b ∷ t) =
     if is_quote b then suc (part_len (not quoted) t)
     else if is_comma b && not quoted then 0 else suc (part_len quoted t)
 
--- at most eight variables; more are not in the grammar
+-- at most eight variables are read; more are not in the grammar
 abbrev pub few_vars : List (Reading Var) → Reading (List Var)
 few_vars vars = if nat_le (length vars) 8 then all_readings vars else no_line
 
--- the variables of a read, with commas between
+-- the variables of a request that reads, with commas between them
 abbrev pub vars_of : Names → List ℕ → Reading (List Var)
 vars_of names text = few_vars (map (λ part. var_of names (trim part)) (comma_parts false text))
 
--- `read V, V ..`
+-- the request `read V, V ..`, by what stands behind `read`
 unfoldable pub read_request : Names → List ℕ → Reading Request
 read_request names rest = reading_map ReadVars (vars_of names rest)
 
--- the value that a variable is to take; for a variable that breaks a rule it is any hexadecimal number
+-- the request that writes a value to a variable; for a variable that breaks a rule the value is
+-- any hexadecimal number
 abbrev pub write_to : Reading Var → List ℕ → Reading Request
 write_to (Ok var) word = reading_map (WriteVar var) (width_value var.width word)
 write_to (Err rule) word = if is_hex word then Err rule else no_line
 
--- `write V h`, from its last byte to its first: the value is the last word
+-- the request `write V h`, by what stands behind `write`, from the last byte to the first: the
+-- value is the last word
 abbrev pub write_in : Names → (backwards : List ℕ) → Reading Request
 write_in names backwards =
     write_to (var_of names (trim (reverse (drop (position_or_len is_blank backwards) backwards))))
     (reverse (take (position_or_len is_blank backwards) backwards))
 
--- `write V h`
+-- the request `write V h`, by what stands behind `write`
 unfoldable pub write_request : Names → List ℕ → Reading Request
 write_request names rest = write_in names (reverse (trim rest))
 
@@ -62,14 +65,16 @@ kind_of_word word =
     else if bytes_eq word (codes "FC") then Ok Fc
     else if bytes_eq word (codes "FB") then Ok Fb else no_line
 
--- `on KIND n`
+-- the request `monitor on KIND n`, by its last three words
 abbrev pub monitor_on : (how kind number : List ℕ) → Reading Request
 monitor_on how kind number =
     if bytes_eq how (codes "on")
-    then reading_map (λ b. MonitorOn (record { kind = b.0; number = b.1 })) (both_readings (kind_of_word kind) (address_number number))
+    then
+    reading_map (λ b. MonitorOn (record { kind = b.0; number = b.1 }))
+    (both_readings (kind_of_word kind) (address_number number))
     else no_line
 
--- `monitor on KIND n`, `monitor off`
+-- the requests `monitor on KIND n` and `monitor off`, by the words behind `monitor`
 unfoldable pub monitor_request : List (List ℕ) → Reading Request
 monitor_request (how ∷ []) = if bytes_eq how (codes "off") then Ok MonitorOff else no_line
 monitor_request (how ∷ kind ∷ number ∷ []) = monitor_on how kind number
@@ -90,7 +95,7 @@ request_of names word rest =
     else if bytes_eq word (codes "monitor") then monitor_request (words_of rest)
     else if bytes_eq word (codes "diag") then one_word Diag (words_of rest) else no_line
 
--- a request by its words
+-- a request by its first word and the rest, where it has a first word
 abbrev pub request_by : Names → Option (List ℕ × List ℕ) → Reading Request
 request_by names None = no_line
 request_by names (Some w) = request_of names w.0 w.1

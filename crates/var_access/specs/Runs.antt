@@ -6,7 +6,7 @@ use Rattle.var_access.specs.declared.entries.What.{What}
 use Rattle.var_access.specs.declared.entries.What.TheVariants.{Step}
 use Rattle.var_access.specs.declared.runs.Run.{Run}
 
--- the entries of runs, one run behind the other
+-- the entries that runs stand for, one run behind the other
 abbrev pub entries_of_runs : List Run → List Entry
 entries_of_runs [] = []
 entries_of_runs (r ∷ rest) = replicate r.count r.entry ++ entries_of_runs rest
@@ -16,22 +16,24 @@ abbrev pub FollowFrom : (first : ℕ) → List Run → Type 0
 FollowFrom first [] = Unit {0}
 FollowFrom first (r ∷ rest) = (r.first ≡ first) × FollowFrom (first + r.count) rest
 
--- a step
+-- what an entry does is a step
 abbrev pub is_step_what : What → Bool
 is_step_what Step = true
 is_step_what _ = false
 
--- whoever makes it
+-- the entry is a step, whoever makes it
 abbrev pub is_step : Entry → Bool
 is_step e = is_step_what e.what
 
--- steps of one worker
+-- two entries are steps of the same worker
 abbrev pub are_steps_of_one_worker : (one next : Entry) → Bool
 are_steps_of_one_worker one next = is_step one && is_step next && one.who == next.who
 
 -- a run has one entry at least; only steps come in runs of more than one
 pub record IsHistoryRun (r : Run) : Type 0 where
+  -- the run has one entry at least
   pub some : 1 ≤ r.count
+  -- a run of an entry that is no step has exactly one entry
   pub one : is_step r.entry ≡ false → r.count ≡ 1
 
 -- a run of steps isn't followed by a run of steps of the same worker
@@ -46,8 +48,11 @@ StandApart (r ∷ rest) = StandsApart r rest × StandApart rest
 
 -- the runs of a history, whose numbers are counted from 0
 pub record AreRuns (runs : List Run) : Type 0 where
+  -- each run has one entry at least, and only steps come in runs of more than one
   pub each : AllByRecursion IsHistoryRun runs
+  -- the first run begins with entry 0, and each other one with the entry behind the run before it
   pub follow : FollowFrom 0 runs
+  -- no two runs side by side are steps of one worker
   pub apart : StandApart runs
 
 -- the last of some further runs that begins at a number or before it; `best` where none of them does

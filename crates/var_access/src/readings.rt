@@ -10,7 +10,7 @@ ghost use Rattle.var_access.specs.Readings.{address_number, before_blanks, behin
 use crate::text_rules::{NOT_IN_GRAMMAR, OUT_OF_RANGE};
 use plc_base::{are_digits, decimal_up_to, is_blank};
 
-/// Two parts of a line together; of two rules the lesser is told.
+/// Two parts of a line together; of two broken rules the lesser is reported.
 ///
 /// # Errors
 ///

@@ -1,5 +1,5 @@
 //! The rules that a line of a text can break: of a history, of stimuli, of a script, or a request by
-//! itself. Of several the least is told.
+//! itself. Of several the least is reported.
 
 /// The line isn't in the grammar.
 pub const NOT_IN_GRAMMAR: u16 = 1;

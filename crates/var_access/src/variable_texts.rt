@@ -150,7 +150,8 @@ fn block_bit(number: &[u8], byte: &[u8], bit: &[u8]) -> Result<Var, u16>
 
 /// Two parts with a point between.
 fn two_parts(first: &[u8], second: &[u8]) -> Result<Var, u16>
-    ensures { result ≡ two_parts (area_of_letters (leading_letters first.now)) first.now second.now }
+    ensures { result
+        ≡ two_parts (area_of_letters (leading_letters first.now)) first.now second.now }
 {
     let (letters, number) = lettered(first);
     if let Some(area) = area_of_letters(letters) {

@@ -25,9 +25,12 @@ MayFollow list item = IfSome (last_item_of list) (λ last. last.length < item.le
 
 -- of two prefixes of one list the shorter is a prefix of the longer: whether the other one is longer, decides
 abbrev pub ShorterBegins : Bool → (list other : List Shown) → Type 0
-ShorterBegins is_shorter list other = MatchBool is_shorter (IsPrefix list other) (IsPrefix other list)
+ShorterBegins is_shorter list other =
+    MatchBool is_shorter (IsPrefix list other) (IsPrefix other list)
 
 -- What contracts see of a publisher, a viewer and a note: which board, and a list of what was published on it, the opening item first.
 pub record KnownBoard : Type 0 where
+  -- the book that the board is kept in
   pub board : Book
+  -- the items that are known to be published on the board, the opening item first
   pub list : List Shown

@@ -6,7 +6,9 @@ use Rattle.watch_board.specs.BoardList.{HasRisingLengths}
 
 -- the rule: the first word counts the items of the list, whose lengths rise. The second word, which a book has from the start, stays 0
 pub record KeepsListRule (cells : List Cell) (list : List Shown) : Type 0 where
+  -- the first word counts the items of the list, and the second stays 0
   pub words : cells ≡ (length list, true) ∷ (0, true) ∷ []
+  -- the lengths rise from each item to the next
   pub rising : HasRisingLengths list
 
 -- the word of the board that counts the items
@@ -15,4 +17,5 @@ item_count_word b = record { tracked = true; key = 0; book = b }
 
 -- the word was as expected: the item was added to all that had been seen. Else the list was longer
 abbrev pub AppendsItem : Step Shown → View Shown ℕ → ℕ → View Shown ℕ → Type 0
-AppendsItem s v found w = MatchBool (found == s.old) ((w.0 ≡ v.0 ++ s.ask ∷ []) × HasRisingLengths w.0) (Unit {0})
+AppendsItem s v found w =
+    MatchBool (found == s.old) ((w.0 ≡ v.0 ++ s.ask ∷ []) × HasRisingLengths w.0) (Unit {0})

@@ -6,14 +6,15 @@ use Rattle.logbook.specs.Pages.{Book}
 use Rattle.watch_board.specs.declared.last_items.LastItem.{LastItem}
 use Rattle.watch_board.specs.BoardList.{KnownBoard}
 
--- each of these is of the board
+-- each known list is of the board
 abbrev pub AreOfBoard : Book → List KnownBoard → Type 0
 AreOfBoard board [] = Unit {0}
 AreOfBoard board (k ∷ ks) = (k.board ≡ board) × AreOfBoard board ks
 
 -- the rule of the copies: whatever is known, is of the board
 abbrev pub AreAllOfBoard : Book → List (List KnownBoard) → Type 0
-AreAllOfBoard board views = (seat : ℕ) (v : List KnownBoard) → get_elem? views seat ≡ some v → AreOfBoard board v
+AreAllOfBoard board views =
+    (seat : ℕ) (v : List KnownBoard) → get_elem? views seat ≡ some v → AreOfBoard board v
 
 -- a list was read, of the board that was known, and is known now
 abbrev pub ReadsBoardList : List KnownBoard → KnownBoard → List KnownBoard → Type 0

@@ -133,7 +133,8 @@ impl Publisher {
                 requires { HasOnePendingItem copies.desk.shown.value.prefix.board
                     (drop copies.behind copies.log.items) }
                 ensures { (drop result.0.behind result.0.log.items ≡ [])
-                    × (result.0.desk.shown.value.prefix.board ≡ copies.desk.shown.value.prefix.board) }
+                    × (result.0.desk.shown.value.prefix.board
+                    ≡ copies.desk.shown.value.prefix.board) }
             { (show(copies, rt), ()) },
         );
         self.prefix = last.prefix.copied();

@@ -74,7 +74,8 @@ pub fn append(copies: &mut BoardWriter, item: LastItem) -> Result<(), NoMemory>
 /// Shows the one item that was noted. It waits for a reader that still reads the other copy.
 #[tactic(auto, using(crate::proofs::ViewLemmas::last_shown))]
 pub fn show<R: Wait>(copies: BoardWriter, rt: &R) -> BoardWriter
-    requires { HasOnePendingItem copies.desk.shown.value.prefix.board (drop copies.behind copies.log.items) }
+    requires { HasOnePendingItem copies.desk.shown.value.prefix.board
+        (drop copies.behind copies.log.items) }
     ensures clear { drop result.behind result.log.items ≡ [] }
     ensures board { result.desk.shown.value.prefix.board ≡ copies.desk.shown.value.prefix.board }
     ensures knows { view result.desk.place ≡ result.desk.shown.value.prefix ∷ [] }

@@ -7,7 +7,7 @@ ghost use Rattle.block_layout.specs.Paths.{folded_path, leaves_local};
 ghost use Rattle.block_layout.specs.Rule42.{bodies_42, leaves_found, leaves_path, operand_42, operand_is_outside, rule_42};
 
 use crate::alone::{Alone, least_alone};
-use crate::beyond::{leaves_judged, leaves_local};
+use crate::beyond::{leaves_local, leaves_structure};
 use crate::blocks::BlockLayout;
 use crate::paths::Path;
 use crate::routes::structure_of;
@@ -44,7 +44,7 @@ fn leaves_found(
         None => Ok(false),
         Some(block) => {
             let path = Path::new(alloc, steps)?;
-            Ok(leaves_judged(layouts, structure_of(layouts, block), path.steps()))
+            Ok(leaves_structure(layouts, structure_of(layouts, block), path.steps()))
         }
     }
 }

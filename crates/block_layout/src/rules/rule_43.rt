@@ -12,7 +12,8 @@ use stl_ast::Block;
 /// contains itself.
 #[tactic(auto, unfolding(crate::specs::Rule43::rule_43))]
 pub(crate) fn least_in_itself(in_itself: &[bool], blocks: &[Block]) -> Option<Refusal>
-    ensures { (y : Types) → in_itself.now ≡ breach_flags (contains_itself y blocks.now) [] blocks.now
+    ensures { (y : Types)
+        → in_itself.now ≡ breach_flags (contains_itself y blocks.now) [] blocks.now
         → result ≡ least (rule_43 y blocks.now) }
 {
     let mut found = None;

@@ -55,7 +55,7 @@ seen_next profile code history e s continues before =
 
 -- what it shows is what the outputs and the mode were compared for
 seen_is : (code : Code) (s : State) (what : What)
-    → observed_changes (entry_result code s what).seen.mon s.world.memory.peripheral_outputs s.mode (entry_result code s what).state ≡ (entry_result code s what).seen
+    → observed_changes (entry_result code s what).seen.mon s.store.memory.peripheral_outputs s.mode (entry_result code s what).state ≡ (entry_result code s what).seen
 unfolding entry_result entry_shown
 seen_is code s what = refl
 
@@ -67,9 +67,9 @@ observer_next code s t what mon w w' seen before looked recorded after =
     looked
     ∙ ap (λ (v : WatchedState). watched_next v mon t) before
     ∙ ap (λ (o : Observed). watched_state t o)
-    (ap (λ (r : Option MonRecord). observed_changes r s.world.memory.peripheral_outputs s.mode t) recorded
+    (ap (λ (r : Option MonRecord). observed_changes r s.store.memory.peripheral_outputs s.mode t) recorded
     ∙ ap
-    (λ (u : State). observed_changes (entry_result code s what).seen.mon s.world.memory.peripheral_outputs s.mode u)
+    (λ (u : State). observed_changes (entry_result code s what).seen.mon s.store.memory.peripheral_outputs s.mode u)
     after
     ∙ seen_is code s what)
 

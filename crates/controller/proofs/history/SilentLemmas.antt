@@ -91,7 +91,7 @@ seen-behind continues profile code history more s n before steps silent some = s
 -- outputs and mode are as before
 pub observer-behind : (s t : State) (w w' : WatchedState) (seen : Observed) → w ≡ watched_state s seen
     → w' ≡ record w { seen = nothing_shown }
-    → t.world.memory.peripheral_outputs ≡ s.world.memory.peripheral_outputs → t.mode ≡ s.mode
+    → t.store.memory.peripheral_outputs ≡ s.store.memory.peripheral_outputs → t.mode ≡ s.mode
     → w' ≡ watched_state t nothing_shown
 observer-behind s t w w' seen before passed outputs mode =
     passed

@@ -33,10 +33,10 @@ use Rattle.block_layout.specs.declared.cells.Cell.{Cell}
 use Rattle.stl_types.specs.Context.{Context, source_block_ids, in_function, is_of_function, whole_place}
 use Rattle.stl_types.specs.Forms.{form_of}
 use Rattle.stl_types.specs.Kinds.{is_operand_of_call}
-use Rattle.stl_types.specs.Operands.{operand_rule, rule_of_resolved_operand, rule_seen, statement_rule, takes_operand}
+use Rattle.stl_types.specs.Operands.{operand_rule, rule_of_resolved_operand, rule_of_resolution, statement_rule, takes_operand}
 use Rattle.stl_types.specs.Parameters.{Callee, callee_at, callee_by, callee_of, formals_of, is_sound_formal, source_callee, system_callee, system_formals}
-use Rattle.stl_types.specs.Resolution.{called_seen, id_at, instance_number, resolution_of, whole_called_block}
-use Rattle.stl_types.specs.Resolved.{resolved_operand, seen_view}
+use Rattle.stl_types.specs.Resolution.{resolution_of_call, id_at, instance_number, resolution_of, whole_called_block}
+use Rattle.stl_types.specs.Resolved.{resolved_operand, resolved_view}
 use Rattle.stl_types.specs.declared.forms.OperandRule.{OperandRule}
 use Rattle.stl_types.specs.declared.forms.OperandRule.TheVariants as form
 use Rattle.stl_types.specs.declared.parameters.Formal.{Formal}
@@ -49,7 +49,10 @@ use Rattle.stl_codegen.specs.Generated.{code_blocks_of, params_of}
 use Rattle.stl_codegen.specs.Instruction.{in_parameter_order}
 use Rattle.stl_list.specs.Joined.{system_parameters}
 use Rattle.sem_kept.proofs.accepted.Accepted.{AllLaid, IsSound, IsSoundStatement, IsSoundTree, context_at, right_tree}
-use Rattle.sem_kept.proofs.accepted.OperandsCells.{block_unbroken, cells_are, known_there, measured_symbols, place_there}
+use Rattle.block_layout.proofs.SoundnessLemmas.{block_unbroken}
+use Rattle.sem_kept.proofs.accepted.OperandsCells.{cells_are}
+use Rattle.block_layout.proofs.BlockLemmas.{known_there, place_there}
+use Rattle.block_layout.proofs.LayoutLemmas.{measured_symbols}
 use Rattle.sem_kept.proofs.accepted.OperandsFormals.{Distinct, IsFoundIn, Matched, block_formals, found_each, fresh_distinct, return_all, source_matched, system_matched}
 use Rattle.sem_kept.proofs.accepted.OperandsMembers.{code_block_there, one_block}
 use Rattle.sem_kept.proofs.accepted.OperandsOperations.{allowed}
@@ -101,7 +104,7 @@ called_same : (a b : BlockId) (m n : Option ℕ) → Resolved (view.Called a m) 
 called_same a b m n e = cc
 
 seen_id : (x id : BlockId) (inst : Option BlockName) (n instance : Option ℕ)
-    → called_seen (Some x) inst n ≡ Resolved (view.Called id instance) → x ≡ id
+    → resolution_of_call (Some x) inst n ≡ Resolved (view.Called id instance) → x ≡ id
 seen_id x id None n instance e = called_same x id None instance e
 seen_id x id (Some name) None instance e = absurd cc
 seen_id x id (Some name) (Some n) instance e = called_same x id (Some n) instance e
@@ -120,20 +123,20 @@ seen_named c name inst id instance e = by (named_block c.symbols name) e
     made x same whole = (ap (λ (z : BlockId). Some z) same, subst (λ (z : BlockId). is_system_function z.kind ≡ false → (p : ℕ) × (whole_place c z ≡ Some p)) same whole)
 
     placed : (x : BlockId) (o : Option ℕ) → whole_place c x ≡ o
-        → called_seen (id_at x o) inst (instance_number c inst) ≡ Resolved (view.Called id instance) → IsWhole c id (Some x)
+        → resolution_of_call (id_at x o) inst (instance_number c inst) ≡ Resolved (view.Called id instance) → IsWhole c id (Some x)
     placed x None w h = absurd cc
     placed x (Some p) w h = made x (seen_id x id inst (instance_number c inst) instance h) (λ k. (p, w))
 
     whether : (x : BlockId) (t : Bool) → is_system_function x.kind ≡ t
-        → called_seen (if t then Some x else id_at x (whole_place c x)) inst (instance_number c inst) ≡ Resolved (view.Called id instance) → IsWhole c id (Some x)
+        → resolution_of_call (if t then Some x else id_at x (whole_place c x)) inst (instance_number c inst) ≡ Resolved (view.Called id instance) → IsWhole c id (Some x)
     whether x true sys h = made x (seen_id x id inst (instance_number c inst) instance h) (λ k. absurd cc)
     whether x false sys h = placed x (whole_place c x) refl h
 
-    by : (o : Option BlockId) → called_seen (whole_called_block c o) inst (instance_number c inst) ≡ Resolved (view.Called id instance) → IsWhole c id o
+    by : (o : Option BlockId) → resolution_of_call (whole_called_block c o) inst (instance_number c inst) ≡ Resolved (view.Called id instance) → IsWhole c id o
     by None h = absurd cc
     by (Some x) h = whether x (is_system_function x.kind) refl h
 
-view_seen : (r : Resolution) (v : ResolvedOperand) → seen_view r ≡ Some v → r ≡ Resolved v
+view_seen : (r : Resolution) (v : ResolvedOperand) → resolved_view r ≡ Some v → r ≡ Resolved v
 view_seen (Resolved w) v e = ap (λ (z : ResolvedOperand). Resolved z) (same_Some w v e)
 view_seen Unknown v e = absurd cc
 view_seen Unjudged v e = absurd cc
@@ -142,7 +145,7 @@ pub resolved_seen : (c : Context) (s : Statement) (v : ResolvedOperand) → reso
 unfolding resolved_operand
 resolved_seen c s v e = by (is_none (statement_rule c s)) e
   where
-    by : (t : Bool) → (if t then seen_view (resolution_of c s.operand) else None) ≡ Some v → resolution_of c s.operand ≡ Resolved v
+    by : (t : Bool) → (if t then resolved_view (resolution_of c s.operand) else None) ≡ Some v → resolution_of c s.operand ≡ Resolved v
     by true h = view_seen (resolution_of c s.operand) v h
     by false h = absurd cc
 
@@ -150,7 +153,7 @@ pub rule_called : (c : Context) (f : OperandRule) (o : Operand) (id : BlockId) (
     → resolution_of c o ≡ Resolved (view.Called id instance) → operand_rule c f o ≡ None → rule_of_resolved_operand f (view.Called id instance) ≡ None
 unfolding resolution_of
 rule_called c f (operand.Constant value) id instance e h = absurd cc
-rule_called c f _ id instance e h = sym (ap (λ (r : Resolution). rule_seen f r) e) ∙ h
+rule_called c f _ id instance e h = sym (ap (λ (r : Resolution). rule_of_resolution f r) e) ∙ h
 
 -- ---- the block at a place
 

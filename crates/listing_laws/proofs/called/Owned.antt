@@ -36,7 +36,7 @@ use Rattle.block_layout.specs.declared.walks.PathEnd.TheVariants as walk
 use Rattle.stl_types.specs.Addresses.{address_in_block}
 use Rattle.stl_types.specs.Context.{Context, data_number, data_place, in_function}
 use Rattle.stl_types.specs.Parameters.{formal, formal_here, formal_of, formals_of}
-use Rattle.stl_types.specs.Resolution.{called_seen, direct_seen, instance_number, opened_seen, path_seen, resolution_of, symbol_seen, target_view, whole_called_block}
+use Rattle.stl_types.specs.Resolution.{resolution_of_call, resolution_of_address, instance_number, resolution_of_opened_block, resolution_of_path, resolution_of, resolution_of_symbol, target_view, whole_called_block}
 use Rattle.stl_types.specs.Variables.{behind_others, composite_operand, data_at, data_path, data_variable, data_walked, date_or_composite, variable_in_area, own_at, own_variable, own_walked, parameter_resolution, parameter_at, parameter_index}
 use Rattle.stl_types.specs.declared.parameters.Formal.{Formal}
 use Rattle.stl_types.specs.declared.views.Resolution.{Resolution}
@@ -310,16 +310,16 @@ module _ (c : Context) (own : in_function c ≡ true → AllByRecursion IsParame
   target_own (target.Counter n) = tt
   target_own (target.Block id) = tt
 
-  path_own : (p : PathHead) (steps : List PathStep) → SeenOwn (path_seen c p steps)
+  path_own : (p : PathHead) (steps : List PathStep) → SeenOwn (resolution_of_path c p steps)
   path_own (head.Local name) steps = variable_own (upper_case_name name) (folded_path steps)
   path_own (head.InBlock name) steps = data_own name (folded_path steps)
   path_own (head.Symbol name) steps = by (symbol_named name c.symbols)
     where
-      by : (found : Option Symbol) → SeenOwn (symbol_seen found)
+      by : (found : Option Symbol) → SeenOwn (resolution_of_symbol found)
       by None = tt
       by (Some s) = target_own s.target
 
-  direct_own : (name : Option BlockName) (a : Letters) (w : Width) (byte bit : ℕ) → SeenOwn (direct_seen c name a w byte bit)
+  direct_own : (name : Option BlockName) (a : Letters) (w : Width) (byte bit : ℕ) → SeenOwn (resolution_of_address c name a w byte bit)
   direct_own None a w byte bit = tt
   direct_own (Some name) a w byte bit = by (data_number c name)
     where
@@ -327,11 +327,11 @@ module _ (c : Context) (own : in_function c ≡ true → AllByRecursion IsParame
       by None = tt
       by (Some n) = tt
 
-  opened_own : (di : Bool) (n : Option ℕ) → SeenOwn (opened_seen di n)
+  opened_own : (di : Bool) (n : Option ℕ) → SeenOwn (resolution_of_opened_block di n)
   opened_own di None = tt
   opened_own di (Some n) = tt
 
-  called_own : (id : Option BlockId) (name : Option BlockName) (instance : Option ℕ) → SeenOwn (called_seen id name instance)
+  called_own : (id : Option BlockId) (name : Option BlockName) (instance : Option ℕ) → SeenOwn (resolution_of_call id name instance)
   called_own None name instance = tt
   called_own (Some id) None instance = tt
   called_own (Some id) (Some name) None = tt

@@ -21,7 +21,7 @@ use Rattle.stl_ast.specs.declared.operands.Operand.{Operand}
 use Rattle.stl_ast.specs.declared.operands.Operand.TheVariants as operand
 use Rattle.stl_ast.specs.declared.statements.Actual.{Actual}
 use Rattle.stl_ast.specs.declared.statements.Statement.{Statement}
-use Rattle.stl_types.specs.Actuals.{fits_operand, fits_seen, fits_view, formal_named, is_same_type, takes_section, type_number}
+use Rattle.stl_types.specs.Actuals.{fits_operand, fits_resolution, fits_view, formal_named, is_same_type, takes_section, type_number}
 use Rattle.stl_types.specs.Calls.{misfits_formal}
 use Rattle.stl_types.specs.Context.{Context}
 use Rattle.stl_types.specs.Parameters.{Callee, callee_of}
@@ -35,7 +35,7 @@ use Rattle.stl_types.specs.declared.views.Resolution.TheVariants.{Resolved, Unkn
 use Rattle.stl_types.specs.declared.views.ResolvedOperand.{ResolvedOperand}
 use Rattle.stl_types.specs.declared.views.ResolvedOperand.TheVariants as view
 use Rattle.stl_codegen.specs.Operands.{is_in_named_block}
-use Rattle.stl_codegen.specs.Passed.{passed_actual, passed_seen, passed_view, passings_from, actual_of_formal, with_index}
+use Rattle.stl_codegen.specs.Passed.{passed_actual, passed_resolution, passed_view, passings_from, actual_of_formal, with_index}
 use Rattle.listing_laws.specs.HandedOn.{ArePassedOn, AreStatementsHandedOn, HandsTypesOn, CallOwesTypes, IsFoundAmong, IsHandedOn, SeesOwn, formals_by_index}
 
 same_types : (a b : Simple) → is_same_type a b ≡ true → a ≡ b
@@ -74,7 +74,7 @@ own_type : (c : Context) (f : Formal) (o : Operand) (index : ℕ) (section : Par
 unfolding fits_operand fits_view
 own_type c f (operand.Constant value) index section kind e h = absurd (no_parameter index section kind (sym (constant_seen c value) ∙ e))
 own_type c f o index section kind e h =
-    same_types kind f.kind (and_first (is_same_type kind f.kind) (takes_section f.section section) (sym (ap (fits_seen f) e) ∙ h))
+    same_types kind f.kind (and_first (is_same_type kind f.kind) (takes_section f.section section) (sym (ap (fits_resolution f) e) ∙ h))
 
 not_not : (t : Bool) → not t ≡ false → t ≡ true
 not_not true e = refl
@@ -116,7 +116,7 @@ module _ (c : Context) (own : List Simple) (own_seen : SeesOwn c own) (all : Lis
   view_handed f i o _ e h at = tt
 
   seen_handed : (f : Formal) (i : ℕ) (o : Operand) (r : Resolution) → resolution_of c o ≡ r → fits_operand c f o ≡ true
-      → slice_get (map (λ (f : Formal). f.kind) all) i ≡ Some f.kind → AreHanded (with_index i (passed_seen o r))
+      → slice_get (map (λ (f : Formal). f.kind) all) i ≡ Some f.kind → AreHanded (with_index i (passed_resolution o r))
   seen_handed f i o (Resolved v) e h at = view_handed f i o v e h at
   seen_handed f i o Unknown e h at = tt
   seen_handed f i o Unjudged e h at = tt

@@ -27,9 +27,9 @@ use Rattle.stl_ast.specs.declared.statements.Actual.{Actual}
 use Rattle.stl_symbols.specs.Names.{name_place}
 use Rattle.block_layout.specs.Fits.{bits_of, fits_elementary_type}
 use Rattle.block_layout.specs.Offsets.{width_of}
-use Rattle.stl_types.specs.Actuals.{fits_operand, fits_seen, fits_view, formal_named, is_input_section, is_same_type, is_same_width, takes_section, takes_side, type_number}
+use Rattle.stl_types.specs.Actuals.{fits_operand, fits_resolution, fits_view, formal_named, is_input_section, is_same_type, is_same_width, takes_section, takes_side, type_number}
 use Rattle.stl_types.specs.Addresses.{address_in_block, side_of}
-use Rattle.stl_types.specs.Calls.{is_supplied, is_supplied_twice, misfits_formal, names_no_formal, sees_date, supplied_names, actuals_supplied_twice}
+use Rattle.stl_types.specs.Calls.{is_supplied, is_supplied_twice, misfits_formal, names_no_formal, is_resolved_date, supplied_names, actuals_supplied_twice}
 use Rattle.stl_types.specs.Context.{Context, data_number}
 use Rattle.stl_types.specs.Resolution.{resolution_of}
 use Rattle.stl_types.specs.declared.parameters.Formal.{Formal}
@@ -38,7 +38,7 @@ use Rattle.stl_types.specs.declared.views.ResolvedOperand.TheVariants as view
 use Rattle.stl_types.specs.declared.views.Side.TheVariants as side
 use Rattle.stl_codegen.specs.Emitted.{pass_ops}
 use Rattle.stl_codegen.specs.Instruction.{source_block_at, in_parameter_order, return_last}
-use Rattle.stl_codegen.specs.Passed.{passed_actual, passed_seen, passings_from, actual_of_formal, with_index}
+use Rattle.stl_codegen.specs.Passed.{passed_actual, passed_resolution, passings_from, actual_of_formal, with_index}
 use Rattle.stl_list.specs.Actuals.{actual_of_passed, actual_for, actuals_before, is_written, passed_operand}
 use Rattle.stl_list.specs.Constants.{typed_constant}
 use Rattle.stl_list.specs.Operands.{name_of_data_block, direct_operand, letters_for_area, own_parameter}
@@ -107,12 +107,12 @@ literal_kind simple.Dint n e = absurd cc
 -- ---- what a listed actual parameter names
 
 literal_sees : (c : Context) (k : Simple) (n : ℕ)
-    → passed_seen (operand.Constant (typed_constant k n)) (resolution_of c (operand.Constant (typed_constant k n))) ≡ Some (passed.Literal (bits_of (typed_constant k n)))
+    → passed_resolution (operand.Constant (typed_constant k n)) (resolution_of c (operand.Constant (typed_constant k n))) ≡ Some (passed.Literal (bits_of (typed_constant k n)))
 unfolding resolution_of
 literal_sees c k n = refl
 
 direct_sees : (c : Context) (writes : Bool) (a : Area) (w : Width) (byte bit : ℕ)
-    → passed_seen (direct_operand None writes a w byte bit) (resolution_of c (direct_operand None writes a w byte bit)) ≡ Some (passed.Direct a w byte bit)
+    → passed_resolution (direct_operand None writes a w byte bit) (resolution_of c (direct_operand None writes a w byte bit)) ≡ Some (passed.Direct a w byte bit)
 unfolding resolution_of
 direct_sees c writes area.I w byte bit = refl
 direct_sees c writes area.Q w byte bit = refl
@@ -130,22 +130,22 @@ unfolding resolution_of
 in_block_seen c writes number w byte bit e = ap (λ (o : Option ℕ). address_in_block o letters.Db w byte bit) e
 
 in_block_sees : (c : Context) (writes : Bool) (number : ℕ) (w : Width) (byte bit : ℕ) → nat_eq number 0 ≡ false → data_number c (name_of_data_block number) ≡ Some number
-    → passed_seen (direct_operand (Some number) writes area.Db w byte bit) (resolution_of c (direct_operand (Some number) writes area.Db w byte bit))
+    → passed_resolution (direct_operand (Some number) writes area.Db w byte bit) (resolution_of c (direct_operand (Some number) writes area.Db w byte bit))
     ≡ Some (passed.InBlock number area.Db w byte bit)
 in_block_sees c writes number w byte bit some e =
-    ap (passed_seen (direct_operand (Some number) writes area.Db w byte bit)) (in_block_seen c writes number w byte bit e)
+    ap (passed_resolution (direct_operand (Some number) writes area.Db w byte bit)) (in_block_seen c writes number w byte bit e)
     ∙ ap (λ (t : Bool). Some (if true && not t then passed.InBlock number area.Db w byte bit else passed.Direct area.Db w byte bit)) some
 
 -- an actual parameter passes what its op passes
 pub sees : (c : Context) (own : List Formal) (f : Formal) (p : Passed) → FitsListed c own f p
-    → passed_seen (passed_operand own f p) (resolution_of c (passed_operand own f p)) ≡ Some p
+    → passed_resolution (passed_operand own f p) (resolution_of c (passed_operand own f p)) ≡ Some p
 sees c own f (passed.Literal value) h = literal_sees c f.kind value ∙ ap (λ (n : ℕ). Some (passed.Literal n)) (literal_bits f.kind value h.1 h.2 h.3)
 sees c own f (passed.Direct a w byte bit) h = direct_sees c (is_written f.section) a w byte bit
 sees c own f (passed.InBlock number a w byte bit) h =
-    subst (λ (g : Area). passed_seen (direct_operand (Some number) (is_written f.section) g w byte bit) (resolution_of c (direct_operand (Some number) (is_written f.section) g w byte bit)) ≡ Some (passed.InBlock number g w byte bit))
+    subst (λ (g : Area). passed_resolution (direct_operand (Some number) (is_written f.section) g w byte bit) (resolution_of c (direct_operand (Some number) (is_written f.section) g w byte bit)) ≡ Some (passed.InBlock number g w byte bit))
     (sym h.1) (in_block_sees c (is_written f.section) number w byte bit h.2 h.3)
 sees c own f (passed.Parameter index w) h =
-    ap (passed_seen (own_parameter own index)) h.4 ∙ ap (λ (x : Width). Some (passed.Parameter index x)) (sym h.1)
+    ap (passed_resolution (own_parameter own index)) h.4 ∙ ap (λ (x : Width). Some (passed.Parameter index x)) (sym h.1)
 
 -- and fits its parameter
 same_width : (a b : Width) → a ≡ b → is_same_width a b ≡ true
@@ -180,14 +180,14 @@ in_block_fits : (c : Context) (f : Formal) (number : ℕ) (w : Width) (byte bit 
     → fits_operand c f (direct_operand (Some number) (is_written f.section) area.Db w byte bit) ≡ true
 unfolding fits_operand fits_view
 in_block_fits c f number w byte bit e there =
-    ap (fits_seen f) (in_block_seen c (is_written f.section) number w byte bit there)
+    ap (fits_resolution f) (in_block_seen c (is_written f.section) number w byte bit there)
     ∙ both (is_same_width w (width_of f.kind)) true (same_width w (width_of f.kind) e) refl
 
 own_fits : (c : Context) (own : List Formal) (f g : Formal) (index : ℕ) → resolution_of c (own_parameter own index) ≡ Resolved (view.Parameter index g.section g.kind)
     → g.kind ≡ f.kind → takes_section f.section g.section ≡ true → fits_operand c f (own_parameter own index) ≡ true
 unfolding fits_operand fits_view
 own_fits c own f g index there kind section =
-    ap (fits_seen f) there ∙ both (is_same_type g.kind f.kind) (takes_section f.section g.section) (same_type g.kind f.kind kind) section
+    ap (fits_resolution f) there ∙ both (is_same_type g.kind f.kind) (takes_section f.section g.section) (same_type g.kind f.kind kind) section
 
 literal_fitted : (c : Context) (f : Formal) (n : ℕ) → is_input_section f.section ≡ true → is_listed_type f.kind ≡ true
     → fits_operand c f (operand.Constant (typed_constant f.kind n)) ≡ true
@@ -204,21 +204,21 @@ fitted c own f (passed.InBlock number a w byte bit) h =
 fitted c own f (passed.Parameter index w) h = own_fits c own (in_upper_case f) h.0 index h.4 h.2 h.3
 
 -- no DATE_AND_TIME among them
-plain_dated : (c : Context) (k : Simple) (n : ℕ) → sees_date (resolution_of c (operand.Constant (typed_constant k n))) ≡ false
+plain_dated : (c : Context) (k : Simple) (n : ℕ) → is_resolved_date (resolution_of c (operand.Constant (typed_constant k n))) ≡ false
 unfolding resolution_of
 plain_dated c k n = refl
 
-direct_dated : (c : Context) (writes : Bool) (a : Area) (w : Width) (byte bit : ℕ) → sees_date (resolution_of c (direct_operand None writes a w byte bit)) ≡ false
+direct_dated : (c : Context) (writes : Bool) (a : Area) (w : Width) (byte bit : ℕ) → is_resolved_date (resolution_of c (direct_operand None writes a w byte bit)) ≡ false
 unfolding resolution_of
 direct_dated c writes a w byte bit = refl
 
-pub undated : (c : Context) (own : List Formal) (f : Formal) (p : Passed) → FitsListed c own f p → sees_date (resolution_of c (passed_operand own f p)) ≡ false
+pub undated : (c : Context) (own : List Formal) (f : Formal) (p : Passed) → FitsListed c own f p → is_resolved_date (resolution_of c (passed_operand own f p)) ≡ false
 undated c own f (passed.Literal value) h = plain_dated c f.kind value
 undated c own f (passed.Direct a w byte bit) h = direct_dated c (is_written f.section) a w byte bit
 undated c own f (passed.InBlock number a w byte bit) h =
-    subst (λ (g : Area). sees_date (resolution_of c (direct_operand (Some number) (is_written f.section) g w byte bit)) ≡ false)
-    (sym h.1) (ap sees_date (in_block_seen c (is_written f.section) number w byte bit h.3))
-undated c own f (passed.Parameter index w) h = ap sees_date h.4
+    subst (λ (g : Area). is_resolved_date (resolution_of c (direct_operand (Some number) (is_written f.section) g w byte bit)) ≡ false)
+    (sym h.1) (ap is_resolved_date (in_block_seen c (is_written f.section) number w byte bit h.3))
+undated c own f (passed.Parameter index w) h = ap is_resolved_date h.4
 
 -- ---- lists
 
@@ -578,8 +578,8 @@ passings_kept c own called callee ps s h =
 
 pub actuals_right : AreActualsRight
 actuals_right c own called callee ps s h = record {
-  by_24 = subst (λ (xs : List Actual). AllByRecursion (λ (a : Actual). sees_date (resolution_of c a.value) ≡ false) xs) (sym h.actuals)
-      (all_actuals c own called s.line (λ (a : Actual). sees_date (resolution_of c a.value) ≡ false) (λ p f e k. undated c own f p.actual k) ps h.passable);
+  by_24 = subst (λ (xs : List Actual). AllByRecursion (λ (a : Actual). is_resolved_date (resolution_of c a.value) ≡ false) xs) (sym h.actuals)
+      (all_actuals c own called s.line (λ (a : Actual). is_resolved_date (resolution_of c a.value) ≡ false) (λ p f e k. undated c own f p.actual k) ps h.passable);
   by_34 = subst (λ (xs : List Actual). AllByRecursion (λ (a : Actual). names_no_formal callee.formals a ≡ false) xs) (sym h.actuals)
       (all_actuals c own called s.line (λ (a : Actual). names_no_formal callee.formals a ≡ false)
       (λ p f e k. each_named c own called s.line h.named callee.formals (source_block_at c.blocks callee.place) h.order p f e) ps h.passable);

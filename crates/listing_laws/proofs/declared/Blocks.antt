@@ -49,7 +49,7 @@ use Rattle.sem_kept.proofs.accepted.RecordBlocks.{code_blocks_rise}
 use Rattle.sem_kept.proofs.accepted.RecordData.{id_there}
 use Rattle.sem_kept.proofs.accepted.RecordOrder.{Rise, RiseFrom}
 use Rattle.sem_kept.proofs.accepted.RecordParams.{AllBefore, Covers, IsNew, declarations_new, params_right, sections_once}
-use Rattle.sem_kept.proofs.accepted.Shared.{kind_there, same_kind}
+use Rattle.block_layout.proofs.BlockLemmas.{kind_there, same_kind}
 use Rattle.sem_kept.proofs.accepted.Verified.{accepted_verifies}
 use Rattle.listing_laws.specs.Declared.{AreChainsWide, AreDeclaredAgain, AreKindsWide, AreWide, IsDeclaredAgain, signatures_in}
 use Rattle.listing_laws.proofs.declared.Chains.{signatures_wide, widths}

@@ -35,9 +35,8 @@ use Rattle.stl_types.specs.declared.parameters.Formal.{Formal}
 use Rattle.block_layout.specs.Offsets.{width_of}
 use Rattle.stl_list.specs.Joined.{block_links, call_links, called_id, called_kind, first_of, joined_link, joined_links, links, links_from, links_of_runs, passed_parameter, run_links, system_link, system_links, system_parameters, typed_link}
 use Rattle.stl_list.specs.Runs.{Run, runs, runs_from}
-use Rattle.sem_kept.proofs.accepted.Accepted.{none_left, none_right}
+use Rattle.block_layout.proofs.CommonLemmas.{none_left, none_right, or_first, or_second}
 use Rattle.sem_kept.proofs.accepted.OperandsFormals.{Matched, system_matched}
-use Rattle.sem_kept.proofs.accepted.Shared.{or_first, or_second}
 use Rattle.listing_laws.proofs.declared.Chains.{IsGoodLink, widths}
 
 -- ---- what the check says of an op and of the one that ends its statement

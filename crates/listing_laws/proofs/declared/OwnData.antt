@@ -34,7 +34,7 @@ use Rattle.sem_kept.specs.Accepted.{program_in}
 use Rattle.sem_kept.proofs.accepted.Accepted.{IsSound, context_at, right_tree, sound_data_blocks}
 use Rattle.sem_kept.proofs.accepted.RecordData.{length_there}
 use Rattle.sem_kept.proofs.accepted.RecordParams.{end_step}
-use Rattle.sem_kept.proofs.accepted.Shared.{written_length}
+use Rattle.block_layout.proofs.FillLemmas.{written_length}
 use Rattle.sem_kept.proofs.accepted.Verified.{accepted_verifies}
 use Rattle.listing_laws.specs.Declared.{signatures_in}
 use Rattle.listing_laws.specs.OwnData.{AreOwnDataAgain, IsOwnDataAgain}

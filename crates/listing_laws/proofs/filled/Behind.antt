@@ -25,7 +25,7 @@ use Rattle.block_layout.specs.declared.walks.ComponentAt.{ComponentAt}
 use Rattle.block_layout.specs.declared.walks.PathEnd.{PathEnd}
 use Rattle.block_layout.specs.declared.walks.PathEnd.TheVariants as walk
 use Rattle.sem_kept.proofs.accepted.Accepted.{all_mapped}
-use Rattle.sem_kept.proofs.accepted.OperandsWalks.{Grows, step_grows}
+use Rattle.block_layout.proofs.OffsetLemmas.{Grows, step_grows}
 
 -- ---- places that meet an alignment
 

@@ -27,7 +27,7 @@ use Rattle.stl_list.specs.Signatures.{Signature, signatures}
 use Rattle.sem_kept.specs.Accepted.{IsAccepted, program_in}
 use Rattle.sem_kept.proofs.accepted.Accepted.{IsSoundTree, context_at, right_tree, sound_code_blocks, sound_data_blocks}
 use Rattle.sem_kept.proofs.accepted.OperandsMembers.{code_block_there, data_block_there}
-use Rattle.sem_kept.proofs.accepted.OperandsWalks.{structure_even}
+use Rattle.block_layout.proofs.AlignmentLemmas.{structure_even}
 use Rattle.sem_kept.proofs.accepted.RecordBlocks.{code_blocks_rise}
 use Rattle.sem_kept.proofs.accepted.Verified.{accepted_verifies}
 use Rattle.listing_laws.specs.Again.{IsWholeAgain, listed_again}

@@ -31,7 +31,7 @@ use Rattle.sem_kept.proofs.accepted.Accepted.{IsSound, IsSoundTree, context_at, 
 use Rattle.sem_kept.proofs.accepted.Initial.{initial_values_are_whole}
 use Rattle.sem_kept.proofs.accepted.OperandsCells.{IsLaid as LaidBlock, block_of_layout}
 use Rattle.sem_kept.proofs.accepted.OperandsViews.{IsStructured, IsThere, layout_id, structured, whole_is}
-use Rattle.sem_kept.proofs.accepted.Shared.{kind_there}
+use Rattle.block_layout.proofs.BlockLemmas.{kind_there}
 use Rattle.listing_laws.proofs.declared.Blocks.{IsLaidInstance, fb_kind, laid_instance}
 use Rattle.listing_laws.proofs.declared.Own.{whole_writes}
 use Rattle.listing_laws.proofs.declared.OwnData.{initial_long}

@@ -25,7 +25,7 @@ use Rattle.block_layout.specs.declared.members.Member.{Member}
 use Rattle.block_layout.specs.declared.walks.ComponentAt.{ComponentAt}
 use Rattle.block_layout.specs.declared.walks.PathEnd.{PathEnd}
 use Rattle.block_layout.specs.declared.walks.PathEnd.TheVariants as walk
-use Rattle.sem_kept.proofs.accepted.OperandsWalks.{here_within}
+use Rattle.block_layout.proofs.AlignmentLemmas.{here_within}
 use Rattle.sem_kept.proofs.accepted.RecordParams.{end_step, found_here, never_less, passed_by, past_behind}
 use Rattle.listing_laws.proofs.declared.Placed.{AreSame, Finds, align, alignment_is, bits_is, finds_later, next, plain_width, stepped_is}
 use Rattle.listing_laws.proofs.filled.Behind.{Behind, FirstBehind, LeadsBehind, entered_behind, path_behind, rest_component, rest_writes, write_behind}

@@ -14,7 +14,7 @@ use Rattle.stl_ast.specs.declared.declarations.Simple.{Simple}
 use Rattle.stl_ast.specs.declared.declarations.Simple.TheVariants as simple
 use Rattle.block_layout.specs.Listed.{CellNamesDiffer, IsElementary}
 use Rattle.block_layout.specs.Members.{component_of_name}
-use Rattle.block_layout.specs.Paths.{cells_at, elementary_at, path_end_at_member, holds_where_reached, path_end_and_then, path_end_by_index, indexed_behind, is_beyond, is_beyond_in, is_judged, kind_of, leaves_array, leaves_judged, outermost_path_end, setting_structure, path_end_by_step, structure_of, path_end_behind, path_end_in_data_block, path_end_in_block, path_end_or_rests, path_end_of_setting}
+use Rattle.block_layout.specs.Paths.{cells_at, elementary_at, path_end_at_member, holds_where_reached, path_end_and_then, path_end_by_index, indexed_behind, is_beyond, is_beyond_in, is_checkable, kind_of, leaves_array, leaves_structure, outermost_path_end, setting_structure, path_end_by_step, structure_of, path_end_behind, path_end_in_data_block, path_end_in_block, path_end_or_rests, path_end_of_setting}
 use Rattle.block_layout.specs.Sizes.{alignment, capped_size, cell_bits, element_alignment, element_of, components_end, largest_size, next_multiple}
 use Rattle.block_layout.specs.declared.blocks.BlockLayout.{BlockLayout}
 use Rattle.block_layout.specs.declared.cells.Cell.{Cell}
@@ -23,7 +23,7 @@ use Rattle.block_layout.specs.declared.walks.ComponentAt.{ComponentAt}
 use Rattle.block_layout.specs.declared.walks.PathEnd.TheVariants as walk
 use Rattle.stl_types.specs.declared.parameters.Formal.{Formal}
 use Rattle.stl_list.specs.Sections.{static_name}
-use Rattle.sem_kept.proofs.accepted.OperandsWalks.{here_within}
+use Rattle.block_layout.proofs.AlignmentLemmas.{here_within}
 use Rattle.sem_kept.proofs.accepted.RecordParams.{found_here, never_less, not_both, passed_by}
 use Rattle.listing_laws.proofs.declared.Cells.{byte_cell}
 use Rattle.listing_laws.proofs.declared.Kept.{AreCellsOf}
@@ -38,7 +38,7 @@ pub record LeadsTo (l : List BlockLayout) (k : ℕ) (path : List PathStep) (offs
   pub sets : path_end_of_setting l k path ≡ walk.Reaches spot
   pub at : spot.offset ≡ offset
   pub of_kind : elementary_at l spot ≡ Some kind
-  pub inside : leaves_judged l (setting_structure l k) path ≡ false
+  pub inside : leaves_structure l (setting_structure l k) path ≡ false
 
 -- so do the names of parameters
 abbrev pub AllLead : (l : List BlockLayout) → (k : ℕ) → List Formal → List Param → Type 0
@@ -125,7 +125,7 @@ module _ (l : List BlockLayout) (k q : ℕ) (structure : structure_of l k ≡ So
         sets = setting_walk path ∙ walk_is;
         at = refl;
         of_kind = kind_there l (outer_spot q place offset) c kind (ap (λ z. slice_get z place) are ∙ there) is refl;
-        inside = ap (λ o. leaves_judged l o path) setting ∙ (λ i. is_judged (walk_is i) && holds_where_reached (out i) (λ spot. leaves_array l spot []));
+        inside = ap (λ o. leaves_structure l o path) setting ∙ (λ i. is_checkable (walk_is i) && holds_where_reached (out i) (λ spot. leaves_array l spot []));
       }
 
   -- ---- parameters
@@ -192,5 +192,5 @@ module _ (l : List BlockLayout) (k q : ℕ) (structure : structure_of l k ≡ So
         sets = setting_walk path ∙ walk_is;
         at = refl;
         of_kind = ap (kind_of last) here;
-        inside = ap (λ o. leaves_judged l o path) setting ∙ (λ j. is_judged (walk_is j) && holds_where_reached (out j) (λ z. leaves_array l z (step.Index (pos i) ∷ []))) ∙ stays;
+        inside = ap (λ o. leaves_structure l o path) setting ∙ (λ j. is_checkable (walk_is j) && holds_where_reached (out j) (λ z. leaves_array l z (step.Index (pos i) ∷ []))) ∙ stays;
       }

@@ -33,14 +33,15 @@ use Rattle.stl_list.specs.CodeBlocks.{in_lines, line_reached, listed_block, list
 use Rattle.stl_list.specs.DataBlocks.{listed_data, listed_data_blocks}
 use Rattle.stl_list.specs.Lines.{line_of_statement, stands_before}
 use Rattle.stl_list.specs.Signatures.{Signature}
-use Rattle.stl_list.specs.Statements.{body_of, surroundings}
+use Rattle.stl_list.specs.Statements.{body_of, listing_context}
 use Rattle.sem_kept.specs.Accepted.{program_in}
 use Rattle.sem_kept.proofs.accepted.Accepted.{IsSoundTree, right_tree, sound_at}
-use Rattle.sem_kept.proofs.accepted.OperandsCells.{all_there, measured_symbols, origin}
+use Rattle.block_layout.proofs.CommonLemmas.{all_there, origin}
+use Rattle.block_layout.proofs.LayoutLemmas.{measured_symbols}
 use Rattle.sem_kept.proofs.accepted.RecordBlocks.{code_blocks_rise}
 use Rattle.sem_kept.proofs.accepted.RecordData.{id_there}
 use Rattle.sem_kept.proofs.accepted.RecordOrder.{Rise, RiseFrom}
-use Rattle.sem_kept.proofs.accepted.Shared.{kind_there}
+use Rattle.block_layout.proofs.BlockLemmas.{kind_there}
 use Rattle.listing_laws.specs.Again.{IsCodeAt, IsMadeOf, again_at, context_at, listed_again}
 use Rattle.listing_laws.specs.AgainBodies.{AreCodeBlocksKept, IsBodyKept, made_block}
 use Rattle.listing_laws.specs.Declared.{IsDeclaredAgain, signatures_in}
@@ -123,7 +124,7 @@ abbrev returning_by : ℕ → SourceInstruction
 returning_by line = record { instr = Returns ends.Be; line = line }
 
 statements_again : (c listed : Context) (ss : List Signature) (b : Block) (l : BlockLayout) (id : BlockId) (reached : ℕ) → StandsBehind reached (compiled_block (code_block c b l id))
-    → AreKeptFrom listed (body_of ss (lines_in (statements_of c b)) (compiled_block (code_block c b l id))) (surroundings ss (lines_in (statements_of c b)) (compiled_block (code_block c b l id)))
+    → AreKeptFrom listed (body_of ss (lines_in (statements_of c b)) (compiled_block (code_block c b l id))) (listing_context ss (lines_in (statements_of c b)) (compiled_block (code_block c b l id)))
     (statement_offset (statements_of c b)) 0 (stated_from c b.body 0 b.body)
     → statements_of listed (listed_block ss reached (compiled_block (code_block c b l id))) ≡ statements_of c b
 statements_again c listed ss b l id reached stands kept =
@@ -148,7 +149,7 @@ instance_again ss y blocks reached x b l m declared own kind long = by (is_funct
 -- a block of the listing comes to the code block that it was made of
 block_again : (c listed : Context) (ss : List Signature) (y : Types) (blocks : List Block) (b : Block) (l n : BlockLayout) (id : BlockId) (reached : ℕ) → b.kind ≡ id.kind
     → IsDeclaredAgain ss (compiled_block (code_block c b l id)) → StandsBehind reached (compiled_block (code_block c b l id))
-    → AreKeptFrom listed (body_of ss (lines_in (statements_of c b)) (compiled_block (code_block c b l id))) (surroundings ss (lines_in (statements_of c b)) (compiled_block (code_block c b l id)))
+    → AreKeptFrom listed (body_of ss (lines_in (statements_of c b)) (compiled_block (code_block c b l id))) (listing_context ss (lines_in (statements_of c b)) (compiled_block (code_block c b l id)))
     (statement_offset (statements_of c b)) 0 (stated_from c b.body 0 b.body)
     → IsLayoutOf y blocks (listed_block ss reached (compiled_block (code_block c b l id))) n
     → code_block listed (listed_block ss reached (compiled_block (code_block c b l id))) n id ≡ code_block c b l id

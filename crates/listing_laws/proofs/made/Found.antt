@@ -8,7 +8,7 @@ use Rattle.plc_base.specs.declared.blocks.BlockKind.{BlockKind}
 use Rattle.plc_base.specs.declared.blocks.BlockKind.TheVariants as kinds
 use Rattle.stl_ast.specs.declared.blocks.Tree.{Tree}
 use Rattle.stl_symbols.specs.Symbol.{Symbol}
-use Rattle.block_layout.proofs.LayoutLemmas.{ids_laid}
+use Rattle.block_layout.proofs.LayoutLemmas.{ids_laid, measured_symbols}
 use Rattle.block_layout.specs.Blocks.{ids_of, known_block, named_block, of_kind}
 use Rattle.block_layout.specs.Layouts.{layouts_by, layouts_of}
 use Rattle.block_layout.specs.Measures.{types_of_source}
@@ -16,7 +16,8 @@ use Rattle.block_layout.specs.Paths.{if_whole, whole_at, whole_block as whole_la
 use Rattle.block_layout.specs.declared.blocks.BlockLayout.{BlockLayout}
 use Rattle.stl_types.specs.Context.{number_of_block}
 use Rattle.stl_types.specs.Resolution.{id_at}
-use Rattle.sem_kept.proofs.accepted.OperandsCells.{all_there, known_there, measured_symbols, origin}
+use Rattle.block_layout.proofs.CommonLemmas.{all_there, origin}
+use Rattle.block_layout.proofs.BlockLemmas.{known_there}
 use Rattle.listing_laws.specs.Again.{listed_again}
 use Rattle.listing_laws.specs.Found.{AreCalledFound, AreDataFound}
 use Rattle.listing_laws.specs.Ids.{data_id}

@@ -18,7 +18,7 @@ use Rattle.stl_list.specs.Listing.{listed_tree}
 use Rattle.stl_list.specs.Signatures.{Signature}
 use Rattle.sem_kept.specs.Accepted.{program_in}
 use Rattle.sem_kept.proofs.accepted.Accepted.{IsSound, IsSoundTree, right_tree, sound_code_blocks}
-use Rattle.sem_kept.proofs.accepted.OperandsCells.{all_there}
+use Rattle.block_layout.proofs.CommonLemmas.{all_there}
 use Rattle.listing_laws.specs.Again.{AreMadeOfSource, IsCodeAt, IsMadeOf, context_at, listed_again}
 use Rattle.listing_laws.specs.Declared.{signatures_in}
 use Rattle.listing_laws.specs.Lines.{StandBehind, StandsBehind}

@@ -24,8 +24,7 @@ use Rattle.flat_code.specs.declared.operands.Passed.TheVariants as passed
 use Rattle.flat_code.specs.declared.operands.Passed.{Passed}
 use Rattle.stl_ast.specs.Operands.{IsBitOf}
 use Rattle.stl_list.specs.Runs.{Run, runs, runs_from}
-use Rattle.sem_kept.proofs.accepted.Accepted.{none_left, none_right}
-use Rattle.sem_kept.proofs.accepted.Shared.{or_first, or_second}
+use Rattle.block_layout.proofs.CommonLemmas.{none_left, none_right, or_first, or_second}
 use Rattle.listing_laws.proofs.FormLemmas.{IsHead, program_heads}
 use Rattle.listing_laws.proofs.NameLemmas.{either_way}
 

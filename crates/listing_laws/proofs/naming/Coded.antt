@@ -64,8 +64,8 @@ use Rattle.stl_types.specs.Context.{Context, data_number, data_place, in_functio
 use Rattle.stl_types.specs.Kinds.{is_operand_of_call as is_called_view}
 use Rattle.stl_types.specs.Operands.{operand_rule, statement_rule}
 use Rattle.stl_types.specs.Parameters.{Callee, callee_of}
-use Rattle.stl_types.specs.Resolution.{called_seen, direct_seen, instance_number as number_of_instance, opened_seen, path_seen, resolution_of, symbol_seen, target_view, whole_called_block}
-use Rattle.stl_types.specs.Resolved.{resolved_operand, seen_view}
+use Rattle.stl_types.specs.Resolution.{resolution_of_call, resolution_of_address, instance_number as number_of_instance, resolution_of_opened_block, resolution_of_path, resolution_of, resolution_of_symbol, target_view, whole_called_block}
+use Rattle.stl_types.specs.Resolved.{resolved_operand, resolved_view}
 use Rattle.stl_types.specs.Variables.{composite_operand, data_at, data_path, data_variable, data_walked, date_or_composite, variable_in_area, is_temporary_variable, own_at, own_elementary, own_variable, own_walked, parameter_resolution, parameter_at, parameter_index}
 use Rattle.stl_types.specs.declared.forms.OperandRule.TheVariants as form
 use Rattle.stl_types.specs.declared.forms.OperandRule.{OperandRule}
@@ -82,7 +82,7 @@ use Rattle.stl_codegen.specs.Instruction.{source_block_at, call_instr, end_instr
 use Rattle.stl_codegen.specs.Operands.{is_in_named_block, flat_operand_of}
 use Rattle.stl_codegen.specs.Operations.{call_operation_of, end_operation_of, jump_operation_of}
 use Rattle.stl_codegen.specs.Order.{is_code_before}
-use Rattle.stl_codegen.specs.Passed.{passed_actual, passed_place, passed_seen, passed_view, passings_from, actual_of_formal, with_index}
+use Rattle.stl_codegen.specs.Passed.{passed_actual, passed_place, passed_resolution, passed_view, passings_from, actual_of_formal, with_index}
 use Rattle.stl_list.specs.Runs.{Run, runs}
 use Rattle.sem_kept.proofs.accepted.OperandsCalls.{none_passed}
 use Rattle.sem_kept.proofs.accepted.Shared.{call_form, calls_called, no_call_constant, rule_there}
@@ -162,27 +162,27 @@ target_plain (target.Timer n) h = tt
 target_plain (target.Counter n) h = tt
 target_plain (target.Block id) h = tt
 
-symbol_plain : (found : Option Symbol) → IfSome found SymbolIsNoBit → SeenIsNoBit (symbol_seen found)
+symbol_plain : (found : Option Symbol) → IfSome found SymbolIsNoBit → SeenIsNoBit (resolution_of_symbol found)
 symbol_plain None h = tt
 symbol_plain (Some s) h = target_plain s.target h
 
-path_plain : (c : Context) (p : PathHead) (steps : List PathStep) → AreNoBits c.symbols → SeenIsNoBit (path_seen c p steps)
+path_plain : (c : Context) (p : PathHead) (steps : List PathStep) → AreNoBits c.symbols → SeenIsNoBit (resolution_of_path c p steps)
 path_plain c (head.Local name) steps h = own_plain c (upper_case_name name) (folded_path steps)
 path_plain c (head.InBlock name) steps h = data_plain c name (folded_path steps)
 path_plain c (head.Symbol name) steps h = symbol_plain (symbol_named name c.symbols) (named_no_bit name c.symbols h)
 
-direct_plain : (c : Context) (name : Option BlockName) (a : Letters) (w : Width) (byte bit : ℕ) → OperandIsNoBit (operand.Direct name a w byte bit) → SeenIsNoBit (direct_seen c name a w byte bit)
+direct_plain : (c : Context) (name : Option BlockName) (a : Letters) (w : Width) (byte bit : ℕ) → OperandIsNoBit (operand.Direct name a w byte bit) → SeenIsNoBit (resolution_of_address c name a w byte bit)
 direct_plain c None a w byte bit h = h
 direct_plain c (Some name) a w byte bit h = by (data_number c name) where
   by : (n : Option ℕ) → SeenIsNoBit (address_in_block n a w byte bit)
   by None = tt
   by (Some n) = h
 
-opened_plain : (di : Bool) (n : Option ℕ) → SeenIsNoBit (opened_seen di n)
+opened_plain : (di : Bool) (n : Option ℕ) → SeenIsNoBit (resolution_of_opened_block di n)
 opened_plain di None = tt
 opened_plain di (Some n) = tt
 
-called_plain : (id : Option BlockId) (name : Option BlockName) (instance : Option ℕ) → SeenIsNoBit (called_seen id name instance)
+called_plain : (id : Option BlockId) (name : Option BlockName) (instance : Option ℕ) → SeenIsNoBit (resolution_of_call id name instance)
 called_plain None name instance = tt
 called_plain (Some id) None instance = tt
 called_plain (Some id) (Some name) None = tt
@@ -216,7 +216,7 @@ view_passed index o (view.Parameter own section declared) h = (tt, tt)
 view_passed index o view.Constant h = (tt, tt)
 view_passed index o _ h = tt
 
-seen_passed : (index : ℕ) (o : Operand) (r : Resolution) → SeenIsNoBit r → ArePassed (with_index index (passed_seen o r))
+seen_passed : (index : ℕ) (o : Operand) (r : Resolution) → SeenIsNoBit r → ArePassed (with_index index (passed_resolution o r))
 seen_passed index o (Resolved v) h = view_passed index o v h
 seen_passed index o _ h = tt
 
@@ -253,7 +253,7 @@ bare_seen : (c : Context) (o : Operand) → names_called_block o ≡ true → ha
 unfolding resolution_of
 bare_seen c (operand.Called name None) e h = by (whole_called_block c (named_block c.symbols name))
   where
-    by : (id : Option BlockId) → HasNoInstance (called_seen id None None)
+    by : (id : Option BlockId) → HasNoInstance (resolution_of_call id None None)
     by None = tt
     by (Some id) = refl
 bare_seen c (operand.Called name (Some instance)) e h = absurd (false≢true (sym h))
@@ -385,7 +385,7 @@ unfolding resolved_operand
 resolved_named c s h = by (statement_rule c s) refl (resolution_of c s.operand) refl (seen_plain c s.operand h.symbols h.no_bit.0)
   where
     by : (rule : Option ℕ) → statement_rule c s ≡ rule → (r : Resolution) → resolution_of c s.operand ≡ r → SeenIsNoBit r
-        → InstrIsNamed (resolved_instr c s (if is_none rule then seen_view r else None))
+        → InstrIsNamed (resolved_instr c s (if is_none rule then resolved_view r else None))
     by (Some rule) e r f k = tt
     by None e (Resolved v) f k = view_named c s v h f e k
     by None e Unknown f k = tt

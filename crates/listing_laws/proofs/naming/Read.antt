@@ -33,10 +33,10 @@ use Rattle.stl_parser.specs.Parts.{parts_from, complete_reading}
 use Rattle.stl_parser.specs.Statements as stated
 use Rattle.stl_parser.specs.Tables.{addresses, flags, look_up, mnemonics, opening_mnemonics, registers}
 use Rattle.stl_parser.specs.Terminals.{has_kind, is_key, is_mark}
-use Rattle.stl_parser.specs.declared.keywords.Key.TheVariants as key
+use Rattle.stl_parser.specs.declared.keywords.ClauseWord.TheVariants as key
 use Rattle.stl_parser.specs.declared.statements.BareStatement.{BareStatement}
-use Rattle.stl_parser.specs.declared.tables.Address.{Address}
-use Rattle.stl_parser.specs.declared.tables.Address.TheVariants as address
+use Rattle.stl_parser.specs.declared.tables.AddressKind.{AddressKind}
+use Rattle.stl_parser.specs.declared.tables.AddressKind.TheVariants as address
 use Rattle.stl_parser.specs.declared.tables.OperandSyntax.{OperandSyntax}
 use Rattle.stl_parser.specs.declared.tables.OperandSyntax.TheVariants as form
 use Rattle.stl_parser.proofs.OptionLemmas.{all_push, both, chained, either, entry_passes, mapped, none_holds, parts_hold, passed, weakened, whole_holds}
@@ -59,7 +59,7 @@ StatementIsNoBit s = OperandIsNoBit s.operand × AllByRecursion ActualIsNoBit s.
 
 -- ---- addresses
 
-abbrev letters_no_bit : Address → Bool
+abbrev letters_no_bit : AddressKind → Bool
 letters_no_bit (address.Area a w) = no_bit (area_for_letters a) w
 letters_no_bit _ = true
 
@@ -67,7 +67,7 @@ addresses_pass : list_all (λ e. letters_no_bit e.1) addresses ≡ true
 unfolding addresses
 addresses_pass = refl
 
-abbrev FirstIsNoBit : Address × ℕ × List Token → Type 0
+abbrev FirstIsNoBit : AddressKind × ℕ × List Token → Type 0
 FirstIsNoBit r = letters_no_bit r.0 ≡ true
 
 glued_plain : (text : List ℕ) (rest : List Token) → IfSome (glued_letters_and_number addresses text rest) FirstIsNoBit
@@ -121,7 +121,7 @@ unfolding spec.data_block_operand
 data_block_plain source n [] = tt
 data_block_plain source n (t ∷ rest) = behind_block_plain source (spec.data_block_name n) (t ∷ rest)
 
-direct_plain : (source : List ℕ) (a : Address) (n : ℕ) (tokens : List Token) → letters_no_bit a ≡ true → IfSome (spec.direct_address_operand source a n tokens) OperandIsNoBit
+direct_plain : (source : List ℕ) (a : AddressKind) (n : ℕ) (tokens : List Token) → letters_no_bit a ≡ true → IfSome (spec.direct_address_operand source a n tokens) OperandIsNoBit
 unfolding spec.direct_address_operand
 direct_plain source (address.Area a w) n rest h = area_plain source a w n rest (no_bit_is (area_for_letters a) w h)
 direct_plain source address.Timer n [] h = tt
@@ -146,7 +146,7 @@ area_by_plain source a w tokens =
     either (option_map _ (spec.memory_pointer source true tokens)) _ OperandIsNoBit (made (spec.memory_pointer source true tokens) _ OperandIsNoBit (λ p. tt))
     (by_register_plain source (Some a) w tokens)
 
-indirect_plain : (source : List ℕ) (a : Address) (tokens : List Token) → IfSome (spec.indirect_operand source a tokens) OperandIsNoBit
+indirect_plain : (source : List ℕ) (a : AddressKind) (tokens : List Token) → IfSome (spec.indirect_operand source a tokens) OperandIsNoBit
 unfolding spec.indirect_operand
 indirect_plain source (address.Area a w) tokens = area_by_plain source a w tokens
 indirect_plain source address.Timer tokens = number_by_plain source numbered.Timer tokens
@@ -154,7 +154,7 @@ indirect_plain source address.Counter tokens = number_by_plain source numbered.C
 indirect_plain source (address.Block false) tokens = number_by_plain source numbered.Db tokens
 indirect_plain source (address.Block true) tokens = number_by_plain source numbered.Di tokens
 
-area_pointer_plain : (source : List ℕ) (a : Address) (byte : ℕ) (rest : List Token) → letters_no_bit a ≡ true → IfSome (spec.area_pointer source a byte rest) OperandIsNoBit
+area_pointer_plain : (source : List ℕ) (a : AddressKind) (byte : ℕ) (rest : List Token) → letters_no_bit a ≡ true → IfSome (spec.area_pointer source a byte rest) OperandIsNoBit
 unfolding spec.area_pointer
 area_pointer_plain source (address.Area a width.Bit) byte rest h = made (bit_of source rest) _ OperandIsNoBit (λ bit. no_bit_is (area_for_letters a) width.Bit h)
 area_pointer_plain source _ byte rest h = tt

@@ -30,7 +30,7 @@ use Rattle.stl_list.specs.Lines.{stands_before}
 use Rattle.stl_list.specs.Parameters.{name_of, parameter_name, return_name, section_of}
 use Rattle.stl_list.specs.Signatures.{Signature, formals_from, formals_of_block, is_behind}
 use Rattle.sem_kept.specs.Accepted.{IsAccepted, program_in}
-use Rattle.sem_kept.proofs.accepted.OperandsCells.{all_there}
+use Rattle.block_layout.proofs.CommonLemmas.{all_there}
 use Rattle.listing_laws.specs.Again.{IsMadeOf, IsWholeAgain, context_at, listed_again}
 use Rattle.listing_laws.specs.Called.{ReturnsLast}
 use Rattle.listing_laws.specs.Declared.{signatures_in}

@@ -24,7 +24,7 @@ use Rattle.block_layout.specs.Measures.{types_of_source}
 use Rattle.block_layout.specs.declared.blocks.BlockLayout.{BlockLayout}
 use Rattle.stl_types.specs.Context.{Context, data_number}
 use Rattle.stl_types.specs.Forms.{form_of}
-use Rattle.stl_types.specs.Operands.{operand_rule, rule_of_resolved_operand, rule_seen, statement_rule}
+use Rattle.stl_types.specs.Operands.{operand_rule, rule_of_resolved_operand, rule_of_resolution, statement_rule}
 use Rattle.stl_types.specs.Parameters.{callee_of}
 use Rattle.stl_types.specs.Resolution.{resolution_of, whole_called_block}
 use Rattle.stl_types.specs.declared.parameters.Formal.{Formal}
@@ -41,11 +41,11 @@ use Rattle.stl_list.specs.Lines.{line_of_statement}
 use Rattle.stl_list.specs.Operands.{name_of_data_block}
 use Rattle.stl_list.specs.Runs.{number_at}
 use Rattle.stl_list.specs.Signatures.{Signature, called_formals, formals_of_block}
-use Rattle.stl_list.specs.Statements.{Surroundings, listed_statement}
+use Rattle.stl_list.specs.Statements.{ListingContext, listed_statement}
 use Rattle.sem_kept.specs.Accepted.{IsAccepted, program_in}
 use Rattle.sem_kept.specs.Settled.{HasCalled, HasInstruction, HasOperand, IsResolvedStatement}
 use Rattle.sem_kept.proofs.accepted.Accepted.{IsSound, IsSoundStatement, IsSoundTree, right_tree}
-use Rattle.sem_kept.proofs.accepted.OperandsCells.{all_there}
+use Rattle.block_layout.proofs.CommonLemmas.{all_there}
 use Rattle.sem_kept.proofs.accepted.Settled.{statements_settle}
 use Rattle.sem_kept.proofs.accepted.SizesOps.{whole_count}
 use Rattle.listing_laws.specs.Again.{IsMadeOf, IsWholeAgain, again_at, context_at}
@@ -139,7 +139,7 @@ module _ (source file : List ℕ) (symbols : List Symbol) (t : Tree) (accepted :
   abbrev body : List Statement
   body = body_again symbols t sb
 
-  abbrev sur : Surroundings
+  abbrev sur : ListingContext
   sur = around_again symbols t sb
 
   abbrev f : ℕ → ℕ
@@ -268,7 +268,7 @@ module _ (source file : List ℕ) (symbols : List Symbol) (t : Tree) (accepted :
         right_again =
             ap (λ (x : Mnemonic). operand_rule listed (form_of x) listing.operand) made_words.0
             ∙ ap (operand_rule listed (form_of s.code)) operand_is
-            ∙ ap (rule_seen (form_of s.code)) (ap (resolution_of listed) (sym operand_is) ∙ listing_sees) ∙ rule
+            ∙ ap (rule_of_resolution (form_of s.code)) (ap (resolution_of listed) (sym operand_is) ∙ listing_sees) ∙ rule
 
         kept : IsKeptHere n k (Calls how h.id h.instance ps)
         kept = record {

@@ -39,7 +39,7 @@ use Rattle.stl_list.specs.Parameters.{section_of}
 use Rattle.stl_list.specs.Signatures.{Signature, called_formals, formals_of_block}
 use Rattle.sem_kept.specs.Accepted.{IsAccepted, program_in}
 use Rattle.sem_kept.proofs.accepted.Accepted.{IsSoundTree, right_tree}
-use Rattle.sem_kept.proofs.accepted.OperandsCells.{known_there}
+use Rattle.block_layout.proofs.BlockLemmas.{known_there}
 use Rattle.sem_kept.proofs.accepted.OperandsFormals.{IsRecordOf, Matched, system_matched}
 use Rattle.sem_kept.proofs.accepted.OperandsMembers.{called_block}
 use Rattle.listing_laws.specs.AcceptedTypes.{declared_kinds}

@@ -67,7 +67,7 @@ use Rattle.sem_kept.proofs.accepted.CodedOps.{IsGoodStatement, statement_good}
 use Rattle.sem_kept.proofs.accepted.CodedSources.{context_fit, formals_few}
 use Rattle.sem_kept.proofs.accepted.CodedSymbols.{symbols_fit as symbols_coded}
 use Rattle.sem_kept.proofs.accepted.OperandsCalls.{call_fits}
-use Rattle.sem_kept.proofs.accepted.OperandsCells.{all_there}
+use Rattle.block_layout.proofs.CommonLemmas.{all_there}
 use Rattle.sem_kept.proofs.accepted.OperandsOperations.{allowed}
 use Rattle.sem_kept.proofs.accepted.OperandsSymbols.{symbols_fit}
 use Rattle.sem_kept.proofs.accepted.OperandsViews.{EndsBy, Surrounds, ends_by, holds_locals}

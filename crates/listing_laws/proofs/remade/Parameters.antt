@@ -43,7 +43,7 @@ use Rattle.sem_kept.proofs.accepted.Accepted.{IsSound, IsSoundTree, right_tree, 
 use Rattle.sem_kept.proofs.accepted.OperandsCells.{cells_are}
 use Rattle.sem_kept.proofs.accepted.OperandsFormals.{IsRecordOf, Matched, source_matched}
 use Rattle.sem_kept.proofs.accepted.OperandsViews.{layout_id}
-use Rattle.sem_kept.proofs.accepted.Shared.{kind_there}
+use Rattle.block_layout.proofs.BlockLemmas.{kind_there}
 use Rattle.listing_laws.specs.Again.{IsMadeOf, again_at, context_at, listed_again}
 use Rattle.listing_laws.specs.Declared.{AreWide, signatures_in}
 use Rattle.listing_laws.specs.ParametersAgain.{AreParametersAgain}

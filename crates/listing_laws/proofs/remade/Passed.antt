@@ -31,7 +31,7 @@ use Rattle.stl_types.specs.declared.views.ResolvedOperand.TheVariants as view
 use Rattle.flat_code.specs.Instr.{Calls}
 use Rattle.stl_codegen.specs.Emitted.{call_op, ops_of, pass_ops}
 use Rattle.stl_codegen.specs.Operands.{is_in_named_block, opened_by_place}
-use Rattle.stl_codegen.specs.Passed.{passed_actual, passed_place, passed_seen, passed_view, passings_from, actual_of_formal, with_index}
+use Rattle.stl_codegen.specs.Passed.{passed_actual, passed_place, passed_resolution, passed_view, passings_from, actual_of_formal, with_index}
 use Rattle.sem_kept.specs.Operands.{ArePassed}
 use Rattle.sem_kept.proofs.accepted.CodedOps.{IsGoodPart, IsGoodStatement}
 use Rattle.sem_kept.proofs.accepted.CodedViews.{found_holds}
@@ -65,7 +65,7 @@ module _ (c listed : Context) (formals : List Formal) (has : HasAgain c listed f
   view_stored i o view.Constant h = (tt, tt)
   view_stored i o _ h = tt
 
-  seen_stored : (i : ℕ) (o : Operand) → IsRightOperand c.symbols o → (r : Resolution) → resolution_of c o ≡ r → AreStored listed (with_index i (passed_seen o r))
+  seen_stored : (i : ℕ) (o : Operand) → IsRightOperand c.symbols o → (r : Resolution) → resolution_of c o ≡ r → AreStored listed (with_index i (passed_resolution o r))
   seen_stored i o right (Resolved v) e = view_stored i o v (stands c listed formals o v has right e).0
   seen_stored i o right Unknown e = tt
   seen_stored i o right Unjudged e = tt

@@ -20,7 +20,7 @@ use Rattle.block_layout.specs.Types.{Types}
 use Rattle.block_layout.specs.declared.blocks.BlockLayout.{BlockLayout}
 use Rattle.stl_types.specs.Actuals.{formal_named}
 use Rattle.stl_types.specs.Brackets.{closes_no_bracket, is_eighth_bracket, brackets_left_open, with_brackets}
-use Rattle.stl_types.specs.Calls.{by_callee, call_37, calls_unknown, dates_in, has_wrong_instance, is_bare_call, lacks_actual, misfits_formal, names_no_formal, sees_date, actuals_supplied_twice, actuals_without_formal}
+use Rattle.stl_types.specs.Calls.{by_callee, call_37, calls_unknown, dates_in, has_wrong_instance, is_bare_call, lacks_actual, misfits_formal, names_no_formal, is_resolved_date, actuals_supplied_twice, actuals_without_formal}
 use Rattle.stl_types.specs.Context.{Context}
 use Rattle.stl_types.specs.Labels.{labels_of, labels_twice, unknown_labels}
 use Rattle.stl_types.specs.Landings.{crossing_jumps, landings_at_labels, empty_nesting}
@@ -34,7 +34,7 @@ use Rattle.stl_types.specs.declared.parameters.Formal.{Formal}
 use Rattle.stl_codegen.specs.Compiled.{SourceInstruction, StatedBlock, compiled_block, lines_in}
 use Rattle.stl_codegen.specs.Generated.{code_block, statements_of}
 use Rattle.stl_list.specs.Signatures.{Signature, formals_of_block}
-use Rattle.stl_list.specs.Statements.{Surroundings, body_of, surroundings}
+use Rattle.stl_list.specs.Statements.{ListingContext, body_of, listing_context}
 use Rattle.sem_kept.specs.Accepted.{IsAccepted, program_in}
 use Rattle.sem_kept.specs.Settled.{IsResolvedStatement}
 use Rattle.sem_kept.proofs.accepted.Accepted.{IsSoundActual, IsSoundBody, IsSoundCall, IsSoundStatement, IsSoundTree, right_tree}
@@ -176,8 +176,8 @@ module _ (y : Types) (c : Context) (body : List Statement) (h : AreRight y c bod
 
   right_dates : dates_in c body ≡ []
   right_dates =
-      by_each (λ s. flat_map (λ a. broken_if (sees_date (resolution_of c a.value)) a.line 24) s.actuals)
-      (λ s r. actuals_empty (λ a. sees_date (resolution_of c a.value)) 24 s.actuals (all_of (IsSoundActual y c) (λ a. sees_date (resolution_of c a.value) ≡ false) (λ a k. k.undated) s.actuals r.actuals))
+      by_each (λ s. flat_map (λ a. broken_if (is_resolved_date (resolution_of c a.value)) a.line 24) s.actuals)
+      (λ s r. actuals_empty (λ a. is_resolved_date (resolution_of c a.value)) 24 s.actuals (all_of (IsSoundActual y c) (λ a. is_resolved_date (resolution_of c a.value) ≡ false) (λ a k. k.undated) s.actuals r.actuals))
 
   right_46 : flat_map (λ s. broken_if (calls_unknown c s.operand) s.line 46) body ≡ []
   right_46 = by_each (λ s. broken_if (calls_unknown c s.operand) s.line 46) (λ s r. unbroken (calls_unknown c s.operand) s.line 46 r.one_of_nine)
@@ -208,7 +208,7 @@ pub record IsBodyReady (c listed : Context) (signatures : List Signature) (own :
   pub operands : AllByRecursion (λ s. IsRightOperand c.symbols s.operand) body
   pub calls : AllByRecursion (IsCalledAgain c listed signatures own) body
 
-numbered_right : (y y' : Types) (c listed : Context) (sur : Surroundings) (f : ℕ → ℕ) (body : List Statement) (k : ℕ) (ss : List Statement)
+numbered_right : (y y' : Types) (c listed : Context) (sur : ListingContext) (f : ℕ → ℕ) (body : List Statement) (k : ℕ) (ss : List Statement)
     → AreTypesOf y listed → HasAgain c listed sur.formals → AllByRecursion (λ s. IsRightOperand c.symbols s.operand) ss → AllByRecursion (IsCalledAgain c listed sur.signatures sur.formals) ss → AllByRecursion (IsInstanceKept c listed) ss
     → AllByRecursion (IsResolvedStatement c body) ss → AllByRecursion (IsSoundStatement y' c) ss
     → AreRight y listed (numbered_from (listed_as sur f c body) k ss)
@@ -255,8 +255,8 @@ body_right signatures stated y y' c listed b is e few settled sound source types
   by_49 = nested.ninth ∙ source.by_49;
 }
   where
-    sur : Surroundings
-    sur = surroundings signatures (lines_in stated.statements) (compiled_block stated)
+    sur : ListingContext
+    sur = listing_context signatures (lines_in stated.statements) (compiled_block stated)
 
     body : List Statement
     body = body_of signatures (lines_in stated.statements) (compiled_block stated)

@@ -34,7 +34,7 @@ use Rattle.stl_types.specs.Calls.{has_wrong_instance, is_instance, is_no_instanc
 use Rattle.stl_types.specs.Context.{Context, data_number, data_place, source_block_ids, number_of_block, whole_data_place, whole_place}
 use Rattle.stl_types.specs.Forms.{form_of}
 use Rattle.stl_types.specs.Parameters.{Callee, callee_at, callee_by, callee_of, source_callee, system_callee}
-use Rattle.stl_types.specs.Resolution.{called_seen, instance_number, resolution_of, whole_called_block}
+use Rattle.stl_types.specs.Resolution.{resolution_of_call, instance_number, resolution_of, whole_called_block}
 use Rattle.stl_types.specs.Resolved.{resolved_operand}
 use Rattle.stl_types.specs.declared.parameters.Formal.{Formal}
 use Rattle.stl_types.specs.declared.views.Resolution.TheVariants.{Resolved}
@@ -47,10 +47,11 @@ use Rattle.stl_list.specs.Operands.{name_of_data_block}
 use Rattle.stl_list.specs.Signatures.{Signature}
 use Rattle.sem_kept.specs.Accepted.{program_in}
 use Rattle.sem_kept.proofs.accepted.Accepted.{IsSoundStatement, IsSoundTree, context_at}
-use Rattle.sem_kept.proofs.accepted.OperandsCells.{known_there, measured_symbols, origin}
+use Rattle.block_layout.proofs.BlockLemmas.{known_there}
+use Rattle.block_layout.proofs.LayoutLemmas.{measured_symbols}
+use Rattle.block_layout.proofs.CommonLemmas.{origin, or_second}
 use Rattle.sem_kept.proofs.accepted.OperandsMembers.{data_block_there}
 use Rattle.sem_kept.proofs.accepted.OperandsViews.{IsData, data_there, ids_same, whole_is}
-use Rattle.sem_kept.proofs.accepted.Shared.{or_second}
 use Rattle.listing_laws.specs.Again.{listed_again}
 use Rattle.listing_laws.specs.Calls.{IsInstanceAt}
 use Rattle.listing_laws.specs.Declared.{signatures_in}
@@ -206,12 +207,12 @@ found_named : (c : Context) (o : Option BlockId) (callee : Callee) → option_an
 found_named c None callee e = absurd cc
 found_named c (Some id) callee e = (id, e)
 
-names_numbered : (c : Context) (w : Option BlockId) (i : Option BlockName) (id : BlockId) (n : ℕ) → called_seen w i (instance_number c i) ≡ Resolved (view.Called id (Some n)) → (name : BlockName) × (i ≡ Some name) × (data_number c name ≡ Some n)
+names_numbered : (c : Context) (w : Option BlockId) (i : Option BlockName) (id : BlockId) (n : ℕ) → resolution_of_call w i (instance_number c i) ≡ Resolved (view.Called id (Some n)) → (name : BlockName) × (i ≡ Some name) × (data_number c name ≡ Some n)
 names_numbered c None i id n e = absurd cc
 names_numbered c (Some x) None id n e = let no = some_called x id None n e in absurd cc
 names_numbered c (Some x) (Some name) id n e = by (data_number c name) refl e
   where
-    by : (o : Option ℕ) → data_number c name ≡ o → called_seen (Some x) (Some name) o ≡ Resolved (view.Called id (Some n)) → (other : BlockName) × (Some name ≡ Some other) × (data_number c other ≡ Some n)
+    by : (o : Option ℕ) → data_number c name ≡ o → resolution_of_call (Some x) (Some name) o ≡ Resolved (view.Called id (Some n)) → (other : BlockName) × (Some name ≡ Some other) × (data_number c other ≡ Some n)
     by None is e = absurd cc
     by (Some m) is e = (name, refl, is ∙ some_called x id (Some m) n e)
 

@@ -23,7 +23,7 @@ use Rattle.stl_ast.specs.declared.operands.Operand.TheVariants as operand
 use Rattle.stl_ast.specs.declared.operands.PathHead.TheVariants as head
 use Rattle.stl_symbols.specs.Symbol.{Symbol}
 use Rattle.block_layout.specs.Blocks.{found_block, known_block, named_block}
-use Rattle.block_layout.specs.Paths.{folded_path, holds_where_reached, if_whole, in_sections, is_judged, walked_local, whole_at}
+use Rattle.block_layout.specs.Paths.{folded_path, holds_where_reached, if_whole, in_sections, is_checkable, walked_local, whole_at}
 use Rattle.block_layout.specs.Rule23.{is_unknown_called, is_unknown_data, is_unknown_id, is_unknown_instance, names_unknown}
 use Rattle.block_layout.specs.Rule42.{operand_is_outside}
 use Rattle.block_layout.specs.Types.{Types}
@@ -31,7 +31,7 @@ use Rattle.block_layout.specs.declared.walks.PathEnd.{PathEnd}
 use Rattle.block_layout.specs.declared.walks.PathEnd.TheVariants as walk
 use Rattle.stl_types.specs.Addresses.{address_in_block}
 use Rattle.stl_types.specs.Context.{Context, data_number, data_place, source_block_ids, number_of_block, whole_place}
-use Rattle.stl_types.specs.Resolution.{called_seen, id_at, instance_number, opened_seen, resolution_of, whole_called_block}
+use Rattle.stl_types.specs.Resolution.{resolution_of_call, id_at, instance_number, resolution_of_opened_block, resolution_of, whole_called_block}
 use Rattle.stl_types.specs.Variables.{data_path}
 use Rattle.stl_types.specs.declared.parameters.Formal.{Formal}
 use Rattle.stl_types.specs.declared.views.Resolution.TheVariants.{Resolved}
@@ -72,10 +72,10 @@ in_path y c name steps v h = by (data_number c name) refl (data_place c name)
     by None is place e = absurd cc
     by (Some n) is place e = data_is y c name n h is
 
-in_opened : (y : Types) (c : Context) (di : Bool) (name : BlockName) (v : ResolvedOperand) → AreTypesOf y c → opened_seen di (data_number c name) ≡ Resolved v → is_unknown_data y name ≡ false
+in_opened : (y : Types) (c : Context) (di : Bool) (name : BlockName) (v : ResolvedOperand) → AreTypesOf y c → resolution_of_opened_block di (data_number c name) ≡ Resolved v → is_unknown_data y name ≡ false
 in_opened y c di name v h = by (data_number c name) refl
   where
-    by : (n : Option ℕ) → data_number c name ≡ n → opened_seen di n ≡ Resolved v → is_unknown_data y name ≡ false
+    by : (n : Option ℕ) → data_number c name ≡ n → resolution_of_opened_block di n ≡ Resolved v → is_unknown_data y name ≡ false
     by None is e = absurd cc
     by (Some n) is e = data_is y c name n h is
 
@@ -96,16 +96,16 @@ called_is : (y : Types) (c : Context) (name : BlockName) (w : BlockId) → AreTy
 called_is y c name w h e = ap (λ (s : List Symbol). is_unknown_id y (named_block s name)) h.symbols ∙ id_is y c (named_block c.symbols name) w h e
 
 in_called : (y : Types) (c : Context) (name : BlockName) (instance : Option BlockName) (v : ResolvedOperand) → AreTypesOf y c
-    → called_seen (whole_called_block c (named_block c.symbols name)) instance (instance_number c instance) ≡ Resolved v
+    → resolution_of_call (whole_called_block c (named_block c.symbols name)) instance (instance_number c instance) ≡ Resolved v
     → (is_unknown_called y name || is_unknown_instance y instance) ≡ false
 in_called y c name instance v h e = by (whole_called_block c (named_block c.symbols name)) refl instance e
   where
-    numbered : (w : BlockId) (i : BlockName) → whole_called_block c (named_block c.symbols name) ≡ Some w → (n : Option ℕ) → data_number c i ≡ n → called_seen (Some w) (Some i) n ≡ Resolved v
+    numbered : (w : BlockId) (i : BlockName) → whole_called_block c (named_block c.symbols name) ≡ Some w → (n : Option ℕ) → data_number c i ≡ n → resolution_of_call (Some w) (Some i) n ≡ Resolved v
         → (is_unknown_called y name || is_unknown_data y i) ≡ false
     numbered w i is None at e = absurd cc
     numbered w i is (Some n) at e = ap₂ (λ (a b : Bool). a || b) (called_is y c name w h is) (data_is y c i n h at)
 
-    by : (x : Option BlockId) → whole_called_block c (named_block c.symbols name) ≡ x → (i : Option BlockName) → called_seen x i (instance_number c i) ≡ Resolved v
+    by : (x : Option BlockId) → whole_called_block c (named_block c.symbols name) ≡ x → (i : Option BlockName) → resolution_of_call x i (instance_number c i) ≡ Resolved v
         → (is_unknown_called y name || is_unknown_instance y i) ≡ false
     by None is i e = absurd cc
     by (Some w) is None e = ap (λ (b : Bool). b || false) (called_is y c name w h is)
@@ -142,7 +142,7 @@ and_false false b e = refl
 pub bare_inside : (y : Types) (c : Context) (o : Operand) → IsBare o → operand_is_outside y c.layouts c.block o ≡ false
 bare_inside y c (operand.Named (head.Local name) steps) h =
     ap (λ (p : List PathStep). operand_is_outside y c.layouts c.block (operand.Named (head.Local name) p)) h
-    ∙ and_false (is_judged (walked_local c.layouts c.block (upper_case_name name) [])) (holds_where_reached (in_sections c.layouts c.block (upper_case_name name)) (λ spot. false)) (no_further (in_sections c.layouts c.block (upper_case_name name)))
+    ∙ and_false (is_checkable (walked_local c.layouts c.block (upper_case_name name) [])) (holds_where_reached (in_sections c.layouts c.block (upper_case_name name)) (λ spot. false)) (no_further (in_sections c.layouts c.block (upper_case_name name)))
 bare_inside y c (operand.Named (head.InBlock name) steps) h = absurd h
 bare_inside y c (operand.Named (head.Symbol name) steps) h = absurd h
 bare_inside y c _ h = refl

@@ -15,15 +15,15 @@ use Rattle.stl_ast.specs.declared.statements.Statement.{Statement}
 use Rattle.stl_symbols.specs.Names.{name_place}
 use Rattle.stl_types.specs.Brackets.{bracket_function}
 use Rattle.stl_types.specs.Labels.{is_unknown_label, label_of as label_list, labels_of}
-use Rattle.stl_types.specs.Landings.{Landing, Nesting, crosses_nesting, crossing_jumps, landing_at, landing_here, landing_of, landings_at_labels, lands_elsewhere, nesting_behind, empty_nesting}
+use Rattle.stl_types.specs.Landings.{Landing, SourceNesting, crosses_nesting, crossing_jumps, landing_at, landing_here, landing_of, landings_at_labels, lands_elsewhere, nesting_behind, empty_nesting}
 use Rattle.stl_types.specs.Lists.{list_goes_on, has_label, is_list_jump, is_list_to, is_unconditional_jump, is_wrong_list, lacks_list, left_behind, lists_from}
-use Rattle.stl_types.specs.declared.brackets.Bracket.{Bracket}
+use Rattle.stl_types.specs.declared.brackets.SourceBracket.{SourceBracket}
 use Rattle.stl_codegen.specs.Bodies.{count_of_statements}
 use Rattle.stl_codegen.specs.Instruction.{count_of_statement, target_in}
 use Rattle.stl_codegen.specs.Operations.{jump_operation_of}
 use Rattle.stl_list.specs.Labels.{label_of_number}
 use Rattle.stl_list.specs.Statements.{label_at}
-use Rattle.sem_kept.proofs.accepted.Accepted.{none_left, none_right, not_broken}
+use Rattle.block_layout.proofs.CommonLemmas.{none_left, none_right, not_broken}
 use Rattle.sem_kept.proofs.accepted.JumpsRules.{AreRightFrom, by_33, has_list, target_is, target_past}
 use Rattle.listing_laws.proofs.JumpLemmas.{Others, others_later, others_more}
 use Rattle.listing_laws.proofs.LabelLemmas.{here, not_here, same_label}
@@ -195,7 +195,7 @@ lists_kept body targets again right h = lists_from_kept body targets again [] bo
 
 -- ---- what is open
 
-nested_same : (x : Nesting) (s again : Statement) → again.code ≡ s.code → again.line ≡ s.line → nesting_behind x again ≡ nesting_behind x s
+nested_same : (x : SourceNesting) (s again : Statement) → again.code ≡ s.code → again.line ≡ s.line → nesting_behind x again ≡ nesting_behind x s
 nested_same x s again word line =
     as_stub again
     ∙ ap (λ (m : Mnemonic). nesting_behind x (stub (mark m again.line))) word
@@ -206,16 +206,16 @@ nested_same x s again word line =
     mark m n = record { code = m; line = n }
 
     as_stub : (t : Statement) → nesting_behind x t ≡ nesting_behind x (stub (mark t.code t.line))
-    as_stub t = ap (λ (bs : List Bracket). nesting bs) (brackets_alike x.brackets t (bracket_function t.code))
+    as_stub t = ap (λ (bs : List SourceBracket). nesting bs) (brackets_alike x.brackets t (bracket_function t.code))
       where
-        nesting : List Bracket → Nesting
+        nesting : List SourceBracket → SourceNesting
         nesting bs = record { brackets = bs; zones = (nesting_behind x t).zones }
 
-nested_still : (x : Nesting) (s : Statement) → is_empty_statement s.code ≡ true → nesting_behind x s ≡ x
+nested_still : (x : SourceNesting) (s : Statement) → is_empty_statement s.code ≡ true → nesting_behind x s ≡ x
 nested_still x s e =
-    ap (λ (bs : List Bracket). nesting bs (nesting_behind x s).zones) (bracket_still x.brackets s e) ∙ ap (λ (zs : List ℕ). nesting x.brackets zs) (zone_still x.zones s e)
+    ap (λ (bs : List SourceBracket). nesting bs (nesting_behind x s).zones) (bracket_still x.brackets s e) ∙ ap (λ (zs : List ℕ). nesting x.brackets zs) (zone_still x.zones s e)
   where
-    nesting : List Bracket → List ℕ → Nesting
+    nesting : List SourceBracket → List ℕ → SourceNesting
     nesting bs zs = record { brackets = bs; zones = zs }
 
 -- what is open at a label, one statement after the other
@@ -223,7 +223,7 @@ landing_moved : (x : Landing) (xs : List Landing) (place : Option ℕ) → optio
 landing_moved x xs None = refl
 landing_moved x xs (Some place) = refl
 
-landing_next : (x : Nesting) (s : Statement) (ss : List Statement) (name : List ℕ) (label : Option (List ℕ))
+landing_next : (x : SourceNesting) (s : Statement) (ss : List Statement) (name : List ℕ) (label : Option (List ℕ))
     → landing_at (label_list label ++ labels_of ss) (landing_here x label ++ landings_at_labels (nesting_behind x s) ss) name
     ≡ (if has_label name label then Some (landing_of x) else landing_at (labels_of ss) (landings_at_labels (nesting_behind x s) ss) name)
 landing_next x s ss name None = refl
@@ -236,10 +236,10 @@ landing_next x s ss name (Some l) = by (bytes_eq name l)
     by false = landing_moved (landing_of x) (landings_at_labels (nesting_behind x s) ss) (name_place name (labels_of ss))
 
 -- that at a label of a body, behind statements
-abbrev landing_in : Nesting → List Statement → List ℕ → Option Landing
+abbrev landing_in : SourceNesting → List Statement → List ℕ → Option Landing
 landing_in x ss name = landing_at (labels_of ss) (landings_at_labels x ss) name
 
-landing_kept : (body : List Statement) (targets : List Bool) (again : ℕ → Statement → Statement) (n k : ℕ) (name : List ℕ) (y : Landing) (x : Nesting) (ss : List Statement)
+landing_kept : (body : List Statement) (targets : List Bool) (again : ℕ → Statement → Statement) (n k : ℕ) (name : List ℕ) (y : Landing) (x : SourceNesting) (ss : List Statement)
     → ArePlaced body targets again k ss → n ≡ k + target_in name ss → n < 93312 → IsMarked targets n
     → landing_in x ss name ≡ Some y → landing_in x (numbered_from again k ss) (label_of_number n) ≡ Some y
 unfolding target_in
@@ -255,7 +255,7 @@ landing_kept body targets again n k name y x (s ∷ ss) h e few marked there =
         → n ≡ k + (if found then 0 else (if none then 0 else 1) + target_in name ss)
         → (if found then Some (landing_of x) else landing_in (nesting_behind x s) ss name) ≡ Some y
         → ArePlaced body targets again (if none then k else suc k) ss
-        → ((j : ℕ) (z : Nesting) → ArePlaced body targets again j ss → n ≡ j + target_in name ss → landing_in z ss name ≡ Some y → landing_in z (numbered_from again j ss) (label_of_number n) ≡ Some y)
+        → ((j : ℕ) (z : SourceNesting) → ArePlaced body targets again j ss → n ≡ j + target_in name ss → landing_in z ss name ≡ Some y → landing_in z (numbered_from again j ss) (label_of_number n) ≡ Some y)
         → landing_in x (if none then numbered_from again k ss else again k s ∷ numbered_from again (suc k) ss) (label_of_number n) ≡ Some y
     by true g true w size led all more = absurd (no_label name s.label g (h.0.bare w))
     by true g false w size led all more =
@@ -266,22 +266,22 @@ landing_kept body targets again n k name y x (s ∷ ss) h e few marked there =
         (ap (has_label (label_of_number n)) (i.label ∙ ap (label_at targets) (sym same) ∙ here targets n marked) ∙ same_label n)
         ∙ led
     by false g true w size led all more =
-        more k x all (omega (arith, size)) (ap (λ (z : Nesting). landing_in z ss name) (sym (nested_still x s w)) ∙ led)
+        more k x all (omega (arith, size)) (ap (λ (z : SourceNesting). landing_in z ss name) (sym (nested_still x s w)) ∙ led)
     by false g false w size led all more =
         let i = h.0.some w in
         landing_next x (again k s) rest (label_of_number n) (again k s).label
         ∙ ap (λ (b : Bool). if b then Some (landing_of x) else landing_in (nesting_behind x (again k s)) rest (label_of_number n))
         (ap (has_label (label_of_number n)) i.label ∙ not_here targets k n (omega (arith, size)) few)
-        ∙ ap (λ (z : Nesting). landing_in z rest (label_of_number n)) (nested_same x s (again k s) i.word i.line)
+        ∙ ap (λ (z : SourceNesting). landing_in z rest (label_of_number n)) (nested_same x s (again k s) i.word i.line)
         ∙ more (suc k) (nesting_behind x s) all (omega (arith, size)) led
 
 -- ---- jumps and their labels
 
-plain_crosses : (labels : List (List ℕ)) (landings : List Landing) (x : Nesting) (o : Operand) → IsNoLabel o → crosses_nesting labels landings x o ≡ false
+plain_crosses : (labels : List (List ℕ)) (landings : List Landing) (x : SourceNesting) (o : Operand) → IsNoLabel o → crosses_nesting labels landings x o ≡ false
 plain_crosses labels landings x (operand.Label name) h = absurd cc
 plain_crosses labels landings x _ h = refl
 
-jumps_from_kept : (body : List Statement) (targets : List Bool) (again : ℕ → Statement → Statement) (k : ℕ) (x : Nesting) (ss : List Statement)
+jumps_from_kept : (body : List Statement) (targets : List Bool) (again : ℕ → Statement → Statement) (k : ℕ) (x : SourceNesting) (ss : List Statement)
     → ArePlaced body targets again 0 body → ArePlaced body targets again k ss
     → by_33 (labels_of body) (landings_at_labels empty_nesting body) x ss ≡ []
     → by_33 (labels_of (numbered_from again 0 body)) (landings_at_labels empty_nesting (numbered_from again 0 body)) x (numbered_from again k ss) ≡ []
@@ -323,13 +323,13 @@ jumps_from_kept body targets again k x (s ∷ ss) whole h e =
 
     by : (none : Bool) → is_empty_statement s.code ≡ none → ArePlaced body targets again (if none then k else suc k) ss
         → by_33 labels landings (nesting_behind x s) ss ≡ []
-        → ((j : ℕ) (z : Nesting) → ArePlaced body targets again j ss → by_33 labels landings z ss ≡ [] → by_33 (labels_of listed) (landings_at_labels empty_nesting listed) z (numbered_from again j ss) ≡ [])
+        → ((j : ℕ) (z : SourceNesting) → ArePlaced body targets again j ss → by_33 labels landings z ss ≡ [] → by_33 (labels_of listed) (landings_at_labels empty_nesting listed) z (numbered_from again j ss) ≡ [])
         → by_33 (labels_of listed) (landings_at_labels empty_nesting listed) x (if none then numbered_from again k ss else again k s ∷ numbered_from again (suc k) ss) ≡ []
-    by true w all led more = more k x all (ap (λ (z : Nesting). by_33 labels landings z ss) (sym (nested_still x s w)) ∙ led)
+    by true w all led more = more k x all (ap (λ (z : SourceNesting). by_33 labels landings z ss) (sym (nested_still x s w)) ∙ led)
     by false w all led more =
         let i = h.0.some w in
         ap (λ (b : Bool). broken_if b (again k s).line 33 ++ by_33 (labels_of listed) (landings_at_labels empty_nesting listed) (nesting_behind x (again k s)) (numbered_from again (suc k) ss)) (right i)
-        ∙ ap (λ (z : Nesting). by_33 (labels_of listed) (landings_at_labels empty_nesting listed) z (numbered_from again (suc k) ss)) (nested_same x s (again k s) i.word i.line)
+        ∙ ap (λ (z : SourceNesting). by_33 (labels_of listed) (landings_at_labels empty_nesting listed) z (numbered_from again (suc k) ss)) (nested_same x s (again k s) i.word i.line)
         ∙ more (suc k) (nesting_behind x s) all led
 
 -- rule 33

@@ -23,7 +23,7 @@ use Rattle.block_layout.specs.declared.blocks.BlockLayout.{BlockLayout}
 use Rattle.plc_base.specs.declared.blocks.BlockId.{BlockId}
 use Rattle.stl_types.specs.Context.{Context}
 use Rattle.stl_types.specs.Resolution.{resolution_of}
-use Rattle.stl_types.specs.Resolved.{resolved_operand, seen_view}
+use Rattle.stl_types.specs.Resolved.{resolved_operand, resolved_view}
 use Rattle.stl_types.specs.declared.views.Resolution.TheVariants.{Resolved}
 use Rattle.stl_types.specs.declared.views.ResolvedOperand.{ResolvedOperand}
 use Rattle.stl_types.specs.declared.views.ResolvedOperand.TheVariants as view
@@ -37,7 +37,7 @@ use Rattle.stl_list.specs.Labels.{label_of_number}
 use Rattle.stl_list.specs.Lines.{line_of_statement}
 use Rattle.stl_list.specs.Runs.{Run}
 use Rattle.stl_list.specs.Signatures.{Signature}
-use Rattle.stl_list.specs.Statements.{Surroundings, body_of, label_at, label_of_end, listed_statement, statement_at, statements_from, surroundings}
+use Rattle.stl_list.specs.Statements.{ListingContext, body_of, label_at, label_of_end, listed_statement, statement_at, statements_from, listing_context}
 use Rattle.sem_kept.specs.Accepted.{IsAccepted, program_in}
 use Rattle.sem_kept.specs.Settled.{HasInstruction, HasLabel, HasOperand, IsResolvedStatement}
 use Rattle.sem_kept.proofs.accepted.Accepted.{IsSound, IsSoundStatement, right_tree, sound_at}
@@ -62,7 +62,7 @@ pub labels_seen : (c : Context) (name : List ℕ) → resolution_of c (operand.L
 unfolding resolution_of
 labels_seen c name = refl
 
-some_view : (c : Context) (body : List Statement) (s : Statement) → IsResolvedStatement c body s → resolved_operand c s ≡ seen_view (resolution_of c s.operand) → (v : ResolvedOperand) × (resolved_operand c s ≡ Some v)
+some_view : (c : Context) (body : List Statement) (s : Statement) → IsResolvedStatement c body s → resolved_operand c s ≡ resolved_view (resolution_of c s.operand) → (v : ResolvedOperand) × (resolved_operand c s ≡ Some v)
 some_view c body s h e = by (jump_operation_of s.code) h.instruction
   where
     by_call : (how : Option CallOperation) → HasOperand c s how → (v : ResolvedOperand) × (resolved_operand c s ≡ Some v)
@@ -71,7 +71,7 @@ some_view c body s h e = by (jump_operation_of s.code) h.instruction
 
     by : (how : Option JumpOperation) → HasInstruction c body s how → (v : ResolvedOperand) × (resolved_operand c s ≡ Some v)
     by None o = by_call (call_operation_of s.code) o
-    by (Some how) o = (view.Label, e ∙ ap (λ (x : Operand). seen_view (resolution_of c x)) o.is ∙ ap seen_view (labels_seen c o.name))
+    by (Some how) o = (view.Label, e ∙ ap (λ (x : Operand). resolved_view (resolution_of c x)) o.is ∙ ap resolved_view (labels_seen c o.name))
 
 not_none : {A : Type 0} (x : A) → None ≡ Some x → ⊥
 not_none x e = absurd cc
@@ -87,7 +87,7 @@ all_readable y c body (s ∷ ss) h k = (readable y c body s h.0 k.0, all_readabl
 
 -- ---- the statement of a listing in its place
 
-abbrev pub listed_as : Surroundings → (ℕ → ℕ) → Context → (body : List Statement) → (k : ℕ) → Statement → Statement
+abbrev pub listed_as : ListingContext → (ℕ → ℕ) → Context → (body : List Statement) → (k : ℕ) → Statement → Statement
 listed_as sur f c body k s = listed_statement sur k (run_of f (instruction c body k s))
 
 jumps_there : (how : JumpOperation) (k n : ℕ) → jumps_to n (jump_instr how k n) ≡ true
@@ -119,8 +119,8 @@ record IsCounted (body : List Statement) (statements : List SourceInstruction) :
 jump_again : (signatures : List Signature) (b : StatedBlock) (c : Context) (body : List Statement) (k : ℕ) (s : Statement) (how : JumpOperation)
     → IsCounted body b.statements → jump_operation_of s.code ≡ Some how → HasLabel body s
     → ((t : ℕ) → jumps_to t (instruction c body k s) ≡ true → any_to t b.statements ≡ true)
-    → IsJumpAgain body (surroundings signatures (lines_in b.statements) (compiled_block b)).targets s
-    (listed_as (surroundings signatures (lines_in b.statements) (compiled_block b)) (statement_offset b.statements) c body k s)
+    → IsJumpAgain body (listing_context signatures (lines_in b.statements) (compiled_block b)).targets s
+    (listed_as (listing_context signatures (lines_in b.statements) (compiled_block b)) (statement_offset b.statements) c body k s)
 jump_again signatures b c body k s how counted h label into = record {
   name = label.name;
   is = label.is;
@@ -133,8 +133,8 @@ jump_again signatures b c body k s how counted h label into = record {
   few = let few = counted.few in omega (arith, low, few);
 }
   where
-    sur : Surroundings
-    sur = surroundings signatures (lines_in b.statements) (compiled_block b)
+    sur : ListingContext
+    sur = listing_context signatures (lines_in b.statements) (compiled_block b)
 
     f : ℕ → ℕ
     f = statement_offset b.statements
@@ -155,7 +155,7 @@ other_instr c body k s h = ap (instr_by c body k s) h
 other_stays : (c : Context) (body : List Statement) (k : ℕ) (s : Statement) → jump_operation_of s.code ≡ None → Stays (instruction c body k s)
 other_stays c body k s h n = ap (jumps_to n) (other_instr c body k s h) ∙ resolved_stays c s (resolved_operand c s) n
 
-other_again : (sur : Surroundings) (f : ℕ → ℕ) (c : Context) (body : List Statement) (k : ℕ) (s : Statement) → jump_operation_of s.code ≡ None → IsNoLabel (listed_as sur f c body k s).operand
+other_again : (sur : ListingContext) (f : ℕ → ℕ) (c : Context) (body : List Statement) (k : ℕ) (s : Statement) → jump_operation_of s.code ≡ None → IsNoLabel (listed_as sur f c body k s).operand
 other_again sur f c body k s h =
     no_unknown [] sur.formals sur.starts _ _ (run_of f (instruction c body k s)).op.operand
     (one [] sur.starts f (instruction c body k s) (λ t e. absurd (never (sym (other_stays c body k s h t) ∙ e))))
@@ -166,14 +166,14 @@ settled_label c body s how h e = subst (HasInstruction c body s) e h.instruction
 again_here : (signatures : List Signature) (b : StatedBlock) (y : Types) (c : Context) (body : List Statement) (k : ℕ) (s : Statement)
     → IsCounted body b.statements → IsResolvedStatement c body s → IsSoundStatement y c s → is_empty_statement s.code ≡ false → line_of_statement (lines_in b.statements) k ≡ s.line
     → ((t : ℕ) → jumps_to t (instruction c body k s) ≡ true → any_to t b.statements ≡ true)
-    → IsAgain body (surroundings signatures (lines_in b.statements) (compiled_block b)).targets k s
-    (listed_as (surroundings signatures (lines_in b.statements) (compiled_block b)) (statement_offset b.statements) c body k s)
+    → IsAgain body (listing_context signatures (lines_in b.statements) (compiled_block b)).targets k s
+    (listed_as (listing_context signatures (lines_in b.statements) (compiled_block b)) (statement_offset b.statements) c body k s)
 again_here signatures b y c body k s counted h sound some line into = record {
   word = word_is c body k (statement_offset b.statements) s (readable y c body s h sound) some;
   line = line;
   label = refl;
   jump = λ how e. jump_again signatures b c body k s how counted e (settled_label c body s how h e) into;
-  plain = other_again (surroundings signatures (lines_in b.statements) (compiled_block b)) (statement_offset b.statements) c body k s;
+  plain = other_again (listing_context signatures (lines_in b.statements) (compiled_block b)) (statement_offset b.statements) c body k s;
 }
 
 -- ---- all of them
@@ -188,17 +188,17 @@ placed_from : (signatures : List Signature) (b : StatedBlock) (y : Types) (c : C
     → IsCounted body b.statements → AllByRecursion (IsResolvedStatement c body) ss → AllByRecursion (IsSoundStatement y c) ss
     → AreLinesAt (lines_in b.statements) k (stated_from c body k ss ++ last ∷ [])
     → ((t : ℕ) → any_to t (stated_from c body k ss) ≡ true → any_to t b.statements ≡ true)
-    → ArePlaced body (surroundings signatures (lines_in b.statements) (compiled_block b)).targets
-    (listed_as (surroundings signatures (lines_in b.statements) (compiled_block b)) (statement_offset b.statements) c body) k ss
+    → ArePlaced body (listing_context signatures (lines_in b.statements) (compiled_block b)).targets
+    (listed_as (listing_context signatures (lines_in b.statements) (compiled_block b)) (statement_offset b.statements) c body) k ss
 placed_from signatures b y c body k [] last counted h sound lines into = tt
 placed_from signatures b y c body k (s ∷ ss) last counted h sound lines into =
     by (is_empty_statement s.code) refl lines into (λ j l m. placed_from signatures b y c body j ss last counted h.1 sound.1 l m)
   where
     marks : List Bool
-    marks = (surroundings signatures (lines_in b.statements) (compiled_block b)).targets
+    marks = (listing_context signatures (lines_in b.statements) (compiled_block b)).targets
 
     again : ℕ → Statement → Statement
-    again = listed_as (surroundings signatures (lines_in b.statements) (compiled_block b)) (statement_offset b.statements) c body
+    again = listed_as (listing_context signatures (lines_in b.statements) (compiled_block b)) (statement_offset b.statements) c body
 
     here : SourceInstruction
     here = record { instr = instruction c body k s; line = s.line }
@@ -222,19 +222,19 @@ placed_from signatures b y c body k (s ∷ ss) last counted h sound lines into =
 
 -- ---- the body is these statements
 
-end_none : (sur : Surroundings) (n k : ℕ) (r : Run) → length sur.lines ≡ suc n → k ≡ n → label_at sur.targets n ≡ None → statement_at sur k r ++ [] ≡ []
+end_none : (sur : ListingContext) (n k : ℕ) (r : Run) → length sur.lines ≡ suc n → k ≡ n → label_at sur.targets n ≡ None → statement_at sur k r ++ [] ≡ []
 unfolding statement_at
 end_none sur n k r size e free =
     ap (λ (b : Bool). (if b then label_of_end (line_of_statement sur.lines k) (label_at sur.targets k) else listed_statement sur k r ∷ []) ++ []) (eq-eqb (suc k) (length sur.lines) (ap suc e ∙ sym size))
     ∙ append-nil (label_of_end (line_of_statement sur.lines k) (label_at sur.targets k))
     ∙ ap (label_of_end (line_of_statement sur.lines k)) (ap (label_at sur.targets) e ∙ free)
 
-next_one : (sur : Surroundings) (k : ℕ) (r : Run) (rest : List Statement) → suc k < length sur.lines → statement_at sur k r ++ rest ≡ listed_statement sur k r ∷ rest
+next_one : (sur : ListingContext) (k : ℕ) (r : Run) (rest : List Statement) → suc k < length sur.lines → statement_at sur k r ++ rest ≡ listed_statement sur k r ∷ rest
 unfolding statement_at
 next_one sur k r rest more =
     ap (λ (b : Bool). (if b then label_of_end (line_of_statement sur.lines k) (label_at sur.targets k) else listed_statement sur k r ∷ []) ++ rest) (ne_eqb (suc k) (length sur.lines) (λ e. omega (arith, e, more)))
 
-numbered_all : (sur : Surroundings) (f : ℕ → ℕ) (c : Context) (body : List Statement) (n k : ℕ) (ss : List Statement) (last : SourceInstruction)
+numbered_all : (sur : ListingContext) (f : ℕ → ℕ) (c : Context) (body : List Statement) (n k : ℕ) (ss : List Statement) (last : SourceInstruction)
     → length sur.lines ≡ suc n → n ≡ k + count_of_statements ss → label_at sur.targets n ≡ None
     → statements_from sur k (run_all f (stated_from c body k ss ++ last ∷ [])) ≡ numbered_from (listed_as sur f c body) k ss
 numbered_all sur f c body n k [] last size count free = end_none sur n k (run_of f last.instr) size (omega (arith, count)) free
@@ -260,9 +260,9 @@ few_statements b h = ltb-false 65534 (count_by (λ s. not (is_empty_statement s.
 
 -- the body of a listed block: its own statements, each in the place of one of the source
 pub record IsBodyOf (c : Context) (b : Block) (signatures : List Signature) (stated : StatedBlock) (again : List Statement) : Type 0 where
-  pub is : again ≡ numbered_from (listed_as (surroundings signatures (lines_in stated.statements) (compiled_block stated)) (statement_offset stated.statements) c b.body) 0 b.body
-  pub placed : ArePlaced b.body (surroundings signatures (lines_in stated.statements) (compiled_block stated)).targets
-      (listed_as (surroundings signatures (lines_in stated.statements) (compiled_block stated)) (statement_offset stated.statements) c b.body) 0 b.body
+  pub is : again ≡ numbered_from (listed_as (listing_context signatures (lines_in stated.statements) (compiled_block stated)) (statement_offset stated.statements) c b.body) 0 b.body
+  pub placed : ArePlaced b.body (listing_context signatures (lines_in stated.statements) (compiled_block stated)).targets
+      (listed_as (listing_context signatures (lines_in stated.statements) (compiled_block stated)) (statement_offset stated.statements) c b.body) 0 b.body
 
 any_front : (t : ℕ) (xs : List SourceInstruction) (last : SourceInstruction) → any_to t xs ≡ true → any_to t (xs ++ last ∷ []) ≡ true
 any_front t [] last h = absurd cc
@@ -290,8 +290,8 @@ body_by signatures stated y c b e settled sound free few = record {
       (λ t m. ap (any_to t) e ∙ any_front t (stated_from c b.body 0 b.body) (return_statement b) m);
 }
   where
-    sur : Surroundings
-    sur = surroundings signatures (lines_in stated.statements) (compiled_block stated)
+    sur : ListingContext
+    sur = listing_context signatures (lines_in stated.statements) (compiled_block stated)
 
     f : ℕ → ℕ
     f = statement_offset stated.statements

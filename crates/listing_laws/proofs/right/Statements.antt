@@ -32,12 +32,12 @@ use Rattle.block_layout.specs.Blocks.{named_block}
 use Rattle.block_layout.specs.Rule23.{names_unknown}
 use Rattle.block_layout.specs.Rule42.{operand_is_outside}
 use Rattle.block_layout.specs.Types.{Types}
-use Rattle.stl_types.specs.Calls.{calls_unknown, has_no_instance, has_wrong_instance, is_unknown_function, sees_date}
+use Rattle.stl_types.specs.Calls.{calls_unknown, has_no_instance, has_wrong_instance, is_unknown_function, is_resolved_date}
 use Rattle.stl_types.specs.Context.{Context, data_number, whole_place}
 use Rattle.stl_types.specs.Forms.{form_of}
-use Rattle.stl_types.specs.Operands.{operand_rule, rule_of_resolved_operand, rule_seen, statement_rule}
+use Rattle.stl_types.specs.Operands.{operand_rule, rule_of_resolved_operand, rule_of_resolution, statement_rule}
 use Rattle.stl_types.specs.Parameters.{Callee, callee_at, callee_by, callee_of, source_callee, system_callee, system_formals}
-use Rattle.stl_types.specs.Resolution.{called_seen, id_at, instance_number, resolution_of, whole_called_block}
+use Rattle.stl_types.specs.Resolution.{resolution_of_call, id_at, instance_number, resolution_of, whole_called_block}
 use Rattle.stl_types.specs.Resolved.{resolved_operand}
 use Rattle.stl_types.specs.Unknown.{is_unknown}
 use Rattle.stl_types.specs.declared.parameters.Formal.{Formal}
@@ -51,14 +51,14 @@ use Rattle.stl_codegen.specs.Emitted.{pass_ops}
 use Rattle.stl_codegen.specs.Instruction.{instruction, jump_instr, passings_to, target_of}
 use Rattle.stl_codegen.specs.Operands.{flat_operand_of}
 use Rattle.stl_codegen.specs.Operations.{call_operation_of, end_operation_of, jump_operation_of}
-use Rattle.stl_codegen.specs.Passed.{passed_seen}
+use Rattle.stl_codegen.specs.Passed.{passed_resolution}
 use Rattle.stl_list.specs.Actuals.{actual_of_passed, actuals_before, actuals_by, passed_operand}
 use Rattle.stl_list.specs.Constants.{instruction_constant}
 use Rattle.stl_list.specs.Labels.{label_of_number}
 use Rattle.stl_list.specs.Operands.{name_of_data_block, implied_operand, operand_by, plain_operand}
 use Rattle.stl_list.specs.Runs.{number_at}
 use Rattle.stl_list.specs.Signatures.{called_formals}
-use Rattle.stl_list.specs.Statements.{Surroundings, listed_statement}
+use Rattle.stl_list.specs.Statements.{ListingContext, listed_statement}
 use Rattle.sem_kept.specs.Settled.{HasCalled, HasInstruction, HasOperand, IsResolvedStatement}
 use Rattle.sem_kept.proofs.accepted.Accepted.{IsSoundActual, IsSoundCall, IsSoundStatement}
 use Rattle.sem_kept.proofs.accepted.Shared.{callable_by}
@@ -167,7 +167,7 @@ operand_none formals starts opened w (flat.Numbered kind number) h = timer_none 
 operand_none formals starts opened w (flat.Called kind number instance) h = absurd h
 operand_none formals starts opened w _ h = refl
 
-actuals_none : (sur : Surroundings) (line : ℕ) (before : List OpData) (f : FlatOperand) → IsNoCalled f → actuals_by sur.signatures line sur.formals before f ≡ []
+actuals_none : (sur : ListingContext) (line : ℕ) (before : List OpData) (f : FlatOperand) → IsNoCalled f → actuals_by sur.signatures line sur.formals before f ≡ []
 unfolding actuals_by
 actuals_none sur line before (flat.Called kind number instance) h = absurd h
 actuals_none sur line before _ h = refl
@@ -190,10 +190,10 @@ acting_none o (view.Register _) = tt
 acting_none o _ = tt
 
 -- by its instruction
-abbrev IsShownAgain : Types → Context → Surroundings → (ℕ → ℕ) → (k : ℕ) → Instr → Type 0
+abbrev IsShownAgain : Types → Context → ListingContext → (ℕ → ℕ) → (k : ℕ) → Instr → Type 0
 IsShownAgain y listed sur f k i = IsRightAgain y listed (listed_statement sur k (run_of f i))
 
-right_instr : (y : Types) (listed : Context) (sur : Surroundings) (f : ℕ → ℕ) (k : ℕ) (i : Instr) (v : ResolvedOperand) → AreTypesOf y listed → IsNoCall i
+right_instr : (y : Types) (listed : Context) (sur : ListingContext) (f : ℕ → ℕ) (k : ℕ) (i : Instr) (v : ResolvedOperand) → AreTypesOf y listed → IsNoCall i
     → resolution_of listed (listed_statement sur k (run_of f i)).operand ≡ Resolved v → statement_rule listed (listed_statement sur k (run_of f i)) ≡ None → IsShownAgain y listed sur f k i
 right_instr y listed sur f k i v types none sees rule =
     right_plain y listed (listed_statement sur k (run_of f i)) v types sees (operand_bare sur.formals sur.starts _ _ (run_of f i).op.operand) rule
@@ -202,7 +202,7 @@ right_instr y listed sur f k i v types none sees rule =
 
 -- ---- jumps
 
-jump_right : (y : Types) (c listed : Context) (sur : Surroundings) (f : ℕ → ℕ) (body : List Statement) (k : ℕ) (s : Statement) (how : JumpOperation)
+jump_right : (y : Types) (c listed : Context) (sur : ListingContext) (f : ℕ → ℕ) (body : List Statement) (k : ℕ) (s : Statement) (how : JumpOperation)
     → AreTypesOf y listed → jump_operation_of s.code ≡ Some how → (listed_as sur f c body k s).code ≡ s.code → IsRightAgain y listed (listed_as sur f c body k s)
 jump_right y c listed sur f body k s how types h word =
     subst (IsShownAgain y listed sur f k) (sym is)
@@ -231,7 +231,7 @@ jump_right y c listed sur f body k s how types h word =
 
 -- ---- what goes on, and the ends of blocks
 
-does_right : (y : Types) (c listed : Context) (sur : Surroundings) (f : ℕ → ℕ) (k : ℕ) (s : Statement) (v : ResolvedOperand)
+does_right : (y : Types) (c listed : Context) (sur : ListingContext) (f : ℕ → ℕ) (k : ℕ) (s : Statement) (v : ResolvedOperand)
     → AreTypesOf y listed → HasAgain c listed sur.formals → IsRightOperand c.symbols s.operand
     → is_empty_statement s.code ≡ false → jump_operation_of s.code ≡ None → call_operation_of s.code ≡ None → end_operation_of s.code ≡ None → resolved_operand c s ≡ Some v
     → IsShownAgain y listed sur f k (operand_instruction s.code s.operand v)
@@ -242,14 +242,14 @@ does_right y c listed sur f k s v types has right some jumps calls ends e =
     right_instr y listed sur f k (operand_instruction s.code s.operand v) acted.found types (acting_none s.operand v) acted.sees
     (ap (λ (m : Mnemonic). operand_rule listed (form_of m) (listed_statement sur k (run_of f (operand_instruction s.code s.operand v))).operand) (acting_word f s.code s.operand v some jumps calls ends) ∙ acted.right)
 
-end_right : (y : Types) (listed : Context) (sur : Surroundings) (f : ℕ → ℕ) (k : ℕ) (m : Mnemonic) (how : EndOperation)
+end_right : (y : Types) (listed : Context) (sur : ListingContext) (f : ℕ → ℕ) (k : ℕ) (m : Mnemonic) (how : EndOperation)
     → AreTypesOf y listed → end_operation_of m ≡ Some how → (listed_statement sur k (run_of f (Returns how))).code ≡ m → IsShownAgain y listed sur f k (Returns how)
 end_right y listed sur f k m how types ends word =
     right_instr y listed sur f k (Returns how) view.Nothing types tt (ap (resolution_of listed) (end_operand sur k f how) ∙ nothing_seen listed)
     (ap (λ (x : Mnemonic). operand_rule listed (form_of x) (listed_statement sur k (run_of f (Returns how))).operand) word
     ∙ ap (operand_rule listed (form_of m)) (end_operand sur k f how) ∙ end_taken listed m how ends)
 
-other_right : (y : Types) (c listed : Context) (sur : Surroundings) (f : ℕ → ℕ) (body : List Statement) (k : ℕ) (s : Statement) (v : ResolvedOperand)
+other_right : (y : Types) (c listed : Context) (sur : ListingContext) (f : ℕ → ℕ) (body : List Statement) (k : ℕ) (s : Statement) (v : ResolvedOperand)
     → AreTypesOf y listed → HasAgain c listed sur.formals → IsRightOperand c.symbols s.operand
     → is_empty_statement s.code ≡ false → jump_operation_of s.code ≡ None → call_operation_of s.code ≡ None → resolved_operand c s ≡ Some v → (listed_as sur f c body k s).code ≡ s.code
     → IsRightAgain y listed (listed_as sur f c body k s)
@@ -313,7 +313,7 @@ called_views x y i j e = cc
 no_number : (n : ℕ) → None ≡ Some n → ⊥
 no_number n e = absurd cc
 
-names_by : (c : Context) (name : BlockName) (w : Option BlockId) (i : Option BlockName) (id : BlockId) (instance : Option ℕ) → called_seen w i (instance_number c i) ≡ Resolved (view.Called id instance)
+names_by : (c : Context) (name : BlockName) (w : Option BlockId) (i : Option BlockName) (id : BlockId) (instance : Option ℕ) → resolution_of_call w i (instance_number c i) ≡ Resolved (view.Called id instance)
     → NamesInstance c (operand.Called name i) instance
 names_by c name None i id instance e = absurd cc
 names_by c name (Some x) None id instance e =
@@ -321,7 +321,7 @@ names_by c name (Some x) None id instance e =
     record { none = ap is_none is; number = λ n at. absurd (no_number n (is ∙ at)) }
 names_by c name (Some x) (Some i) id instance e = by (data_number c i) refl e
   where
-    by : (n : Option ℕ) → data_number c i ≡ n → called_seen (Some x) (Some i) n ≡ Resolved (view.Called id instance) → NamesInstance c (operand.Called name (Some i)) instance
+    by : (n : Option ℕ) → data_number c i ≡ n → resolution_of_call (Some x) (Some i) n ≡ Resolved (view.Called id instance) → NamesInstance c (operand.Called name (Some i)) instance
     by None is e = absurd cc
     by (Some m) is e =
         let same : Some m ≡ instance = called_views x id (Some m) instance e in
@@ -345,10 +345,10 @@ zero_none listed e = no e
 called_seen_again : (listed : Context) (id : BlockId) (instance : Option ℕ) → whole_called_block listed (Some id) ≡ Some id → IsInstanceThere listed instance
     → resolution_of listed (operand.Called (block.Number id) (option_map name_of_data_block instance)) ≡ Resolved (view.Called id instance)
 unfolding resolution_of
-called_seen_again listed id None h k = ap (λ (x : Option BlockId). called_seen x None None) h
+called_seen_again listed id None h k = ap (λ (x : Option BlockId). resolution_of_call x None None) h
 called_seen_again listed id (Some number) h k =
-    ap (λ (x : Option BlockId). called_seen x (Some (name_of_data_block number)) (data_number listed (name_of_data_block number))) h
-    ∙ ap (called_seen (Some id) (Some (name_of_data_block number))) (k number refl)
+    ap (λ (x : Option BlockId). resolution_of_call x (Some (name_of_data_block number)) (data_number listed (name_of_data_block number))) h
+    ∙ ap (resolution_of_call (Some id) (Some (name_of_data_block number))) (k number refl)
 
 lacks_again : (id : BlockId) (instance : Option ℕ) → has_no_instance (operand.Called (block.Number id) (option_map name_of_data_block instance)) ≡ is_none instance
 lacks_again id None = refl
@@ -356,12 +356,12 @@ lacks_again id (Some n) = refl
 
 -- ---- what is passed
 
-passed_known : (o : Operand) (x : Resolution) (p : Passed) → passed_seen o x ≡ Some p → (v : ResolvedOperand) × (x ≡ Resolved v)
+passed_known : (o : Operand) (x : Resolution) (p : Passed) → passed_resolution o x ≡ Some p → (v : ResolvedOperand) × (x ≡ Resolved v)
 passed_known o (Resolved v) p e = (v, refl)
 passed_known o Unknown p e = absurd cc
 passed_known o Unjudged p e = absurd cc
 
-actual_sound : (y : Types) (c : Context) (own : List Formal) (line : ℕ) (f : Formal) (p : Passed) → AreTypesOf y c → FitsListed c own f p → sees_date (resolution_of c (passed_operand own f p)) ≡ false → IsSoundActual y c (actual_of_passed line own f p)
+actual_sound : (y : Types) (c : Context) (own : List Formal) (line : ℕ) (f : Formal) (p : Passed) → AreTypesOf y c → FitsListed c own f p → is_resolved_date (resolution_of c (passed_operand own f p)) ≡ false → IsSoundActual y c (actual_of_passed line own f p)
 actual_sound y c own line f p types fits undated =
     let found = passed_known (passed_operand own f p) (resolution_of c (passed_operand own f p)) p (sees c own f p fits) in
     record {
@@ -382,7 +382,7 @@ IsInstanceKept c listed s =
     → callee_of listed (operand.Called (block.Number id) (option_map name_of_data_block instance)) ≡ Some found
     → IsInstanceAt listed found.place (option_map name_of_data_block instance)
 
-called_right : (y : Types) (c listed : Context) (sur : Surroundings) (f : ℕ → ℕ) (k : ℕ) (s : Statement) (how : CallOperation) (id : BlockId) (instance : Option ℕ) (callee : Callee)
+called_right : (y : Types) (c listed : Context) (sur : ListingContext) (f : ℕ → ℕ) (k : ℕ) (s : Statement) (how : CallOperation) (id : BlockId) (instance : Option ℕ) (callee : Callee)
     → AreTypesOf y listed → HasAgain c listed sur.formals → call_operation_of s.code ≡ Some how → resolved_operand c s ≡ Some (view.Called id instance) → names_called_block s.operand ≡ true
     → IsSoundCall c callee s → (q : IsFoundAgain c listed sur.formals (called_formals sur.signatures id) s id instance callee)
     → IsInstanceAt listed q.found.place (option_map name_of_data_block instance)
@@ -394,7 +394,7 @@ called_right y c listed sur f k s how id instance callee types has h e is_call s
   allowed =
       ap (λ (m : Mnemonic). operand_rule listed (form_of m) again.operand) word
       ∙ ap (operand_rule listed (form_of s.code)) shown
-      ∙ ap (rule_seen (form_of s.code)) sees_called
+      ∙ ap (rule_of_resolution (form_of s.code)) sees_called
       ∙ rule;
   one_of_nine = ap (calls_unknown listed) shown ∙ there.known;
   actuals =
@@ -451,7 +451,7 @@ called_right y c listed sur f k s how id instance callee types has h e is_call s
     breaks : BreaksNone listed q.found again
     breaks = actuals_right listed sur.formals called q.found ps again is_listed
 
-    undated_in : (p : Passing) (g : Formal) → slice_get called p.index ≡ Some g → FitsListed listed sur.formals g p.actual → sees_date (resolution_of listed (passed_operand sur.formals g p.actual)) ≡ false
+    undated_in : (p : Passing) (g : Formal) → slice_get called p.index ≡ Some g → FitsListed listed sur.formals g p.actual → is_resolved_date (resolution_of listed (passed_operand sur.formals g p.actual)) ≡ false
     undated_in p g at fits = undated listed sur.formals g p.actual fits
 
     sound_call : IsSoundCall listed q.found again
@@ -470,7 +470,7 @@ called_right y c listed sur f k s how id instance callee types has h e is_call s
           (ap has_no_instance shown ∙ lacks_again id instance ∙ sym names.none) q.size sound.bare;
     }
 
-call_right : (y y' : Types) (c listed : Context) (sur : Surroundings) (f : ℕ → ℕ) (body : List Statement) (k : ℕ) (s : Statement) (how : CallOperation)
+call_right : (y y' : Types) (c listed : Context) (sur : ListingContext) (f : ℕ → ℕ) (body : List Statement) (k : ℕ) (s : Statement) (how : CallOperation)
     → AreTypesOf y listed → HasAgain c listed sur.formals → call_operation_of s.code ≡ Some how → HasCalled c s → IsSoundStatement y' c s → IsCalledAgain c listed sur.signatures sur.formals s → IsInstanceKept c listed s
     → IsRightAgain y listed (listed_as sur f c body k s)
 call_right y y' c listed sur f body k s how types has h called sound kept instances =
@@ -491,7 +491,7 @@ call_right y y' c listed sur f body k s how types has h called sound kept instan
 
 -- ---- any statement
 
-pub statement_right : (y y' : Types) (c listed : Context) (sur : Surroundings) (f : ℕ → ℕ) (body : List Statement) (k : ℕ) (s : Statement)
+pub statement_right : (y y' : Types) (c listed : Context) (sur : ListingContext) (f : ℕ → ℕ) (body : List Statement) (k : ℕ) (s : Statement)
     → AreTypesOf y listed → HasAgain c listed sur.formals → IsRightOperand c.symbols s.operand → IsCalledAgain c listed sur.signatures sur.formals s → IsInstanceKept c listed s
     → IsResolvedStatement c body s → IsSoundStatement y' c s → is_empty_statement s.code ≡ false
     → IsRightAgain y listed (listed_as sur f c body k s)

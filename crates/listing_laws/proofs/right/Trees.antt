@@ -36,7 +36,8 @@ use Rattle.stl_list.specs.Listing.{listed_tree}
 use Rattle.stl_list.specs.Signatures.{Signature, formals_of_block}
 use Rattle.sem_kept.specs.Accepted.{IsAccepted, program_in}
 use Rattle.sem_kept.proofs.accepted.Accepted.{AllFrom, context_at}
-use Rattle.sem_kept.proofs.accepted.OperandsCells.{all_there, measured_symbols}
+use Rattle.block_layout.proofs.CommonLemmas.{all_there}
+use Rattle.block_layout.proofs.LayoutLemmas.{measured_symbols}
 use Rattle.sem_kept.proofs.accepted.OperandsViews.{ids_same}
 use Rattle.listing_laws.specs.Again.{IsMadeOf, IsWholeAgain, again_at, context_at as source_at, listed_again}
 use Rattle.listing_laws.specs.CallsAgain.{IsRightStatement}

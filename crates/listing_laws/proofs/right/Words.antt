@@ -15,7 +15,7 @@ use Rattle.stl_types.specs.Lists.{lists_from}
 use Rattle.stl_codegen.specs.Compiled.{compiled_block, lines_in}
 use Rattle.stl_codegen.specs.Generated.{code_block}
 use Rattle.stl_list.specs.CodeBlocks.{listed_block}
-use Rattle.stl_list.specs.Statements.{surroundings}
+use Rattle.stl_list.specs.Statements.{listing_context}
 use Rattle.sem_kept.specs.Accepted.{program_in}
 use Rattle.sem_kept.proofs.accepted.Accepted.{IsSoundBody}
 use Rattle.sem_kept.proofs.accepted.JumpsRules.{AreRightFrom, right_body}
@@ -49,7 +49,7 @@ pub listed_lists : AreListsKept
 listed_lists source file symbols t accepted bytes file_bytes again place b l id made x e =
     let c = context_at symbols t place in
     let stated = code_block c b l id in
-    let sur = surroundings (signatures_in (program_in symbols t)) (lines_in stated.statements) (compiled_block stated) in
+    let sur = listing_context (signatures_in (program_in symbols t)) (lines_in stated.statements) (compiled_block stated) in
     let is = body_is source file symbols t accepted bytes again place b l id made in
     ap (λ (z : Block). lists_from [] z.body) (sym (listed_is symbols t again place b l id made x e))
     ∙ ap (lists_from []) is.is
@@ -63,7 +63,7 @@ pub listed_landings : AreLandingsKept
 listed_landings source file symbols t accepted bytes file_bytes again place b l id made x e =
     let c = context_at symbols t place in
     let stated = code_block c b l id in
-    let sur = surroundings (signatures_in (program_in symbols t)) (lines_in stated.statements) (compiled_block stated) in
+    let sur = listing_context (signatures_in (program_in symbols t)) (lines_in stated.statements) (compiled_block stated) in
     let is = body_is source file symbols t accepted bytes again place b l id made in
     ap (λ (z : Block). crossing z.body) (sym (listed_is symbols t again place b l id made x e))
     ∙ ap crossing is.is

@@ -10,7 +10,7 @@ use Rattle.stl_codegen.specs.Generated.{stated_from}
 use Rattle.stl_codegen.specs.Instruction.{instruction}
 use Rattle.stl_list.specs.Lines.{line_of_statement}
 use Rattle.stl_list.specs.Runs.{Run}
-use Rattle.stl_list.specs.Statements.{Surroundings, body_of, label_at, label_of_end, listed_statement, statement_at, statements_from, surroundings}
+use Rattle.stl_list.specs.Statements.{ListingContext, body_of, label_at, label_of_end, listed_statement, statement_at, statements_from, listing_context}
 use Rattle.listing_laws.specs.ListedBodies.{AreBodiesKept, AreKeptFrom}
 use Rattle.listing_laws.specs.Statements.{statement_offset, run_of}
 use Rattle.listing_laws.proofs.RunLemmas.{runs_found}
@@ -20,21 +20,21 @@ end_stated : (c : Context) (body : List Statement) (n line : ℕ) (label : Optio
 end_stated c body n line None = refl
 end_stated c body n line (Some label) = refl
 
-last_stated : (c : Context) (body : List Statement) (sur : Surroundings) (n k : ℕ) (r : Run) → length sur.lines ≡ suc k → stated_from c body n (statement_at sur k r ++ []) ≡ []
+last_stated : (c : Context) (body : List Statement) (sur : ListingContext) (n k : ℕ) (r : Run) → length sur.lines ≡ suc k → stated_from c body n (statement_at sur k r ++ []) ≡ []
 unfolding statement_at
 last_stated c body sur n k r size =
     ap (λ (b : Bool). stated_from c body n ((if b then label_of_end (line_of_statement sur.lines k) (label_at sur.targets k) else listed_statement sur k r ∷ []) ++ [])) (eq-eqb (suc k) (length sur.lines) (sym size))
     ∙ ap (stated_from c body n) (append-nil (label_of_end (line_of_statement sur.lines k) (label_at sur.targets k)))
     ∙ end_stated c body n (line_of_statement sur.lines k) (label_at sur.targets k)
 
-next_stated : (c : Context) (body : List Statement) (sur : Surroundings) (k : ℕ) (r : Run) (rest : List Statement) → suc k < length sur.lines → is_empty_statement (listed_statement sur k r).code ≡ false
+next_stated : (c : Context) (body : List Statement) (sur : ListingContext) (k : ℕ) (r : Run) (rest : List Statement) → suc k < length sur.lines → is_empty_statement (listed_statement sur k r).code ≡ false
     → stated_from c body k (statement_at sur k r ++ rest) ≡ record { instr = instruction c body k (listed_statement sur k r); line = line_of_statement sur.lines k } ∷ stated_from c body (suc k) rest
 unfolding statement_at
 next_stated c body sur k r rest more some =
     ap (λ (b : Bool). stated_from c body k ((if b then label_of_end (line_of_statement sur.lines k) (label_at sur.targets k) else listed_statement sur k r ∷ []) ++ rest)) (ne_eqb (suc k) (length sur.lines) (λ e. omega (arith, e, more)))
     ∙ ap (λ (b : Bool). if b then stated_from c body k rest else record { instr = instruction c body k (listed_statement sur k r); line = line_of_statement sur.lines k } ∷ stated_from c body (suc k) rest) some
 
-all_stated : (c : Context) (body : List Statement) (sur : Surroundings) (f : ℕ → ℕ) (k : ℕ) (ss : List SourceInstruction) (last : SourceInstruction) → length sur.lines ≡ k + length ss + 1 → AreLinesAt sur.lines k (ss ++ last ∷ [])
+all_stated : (c : Context) (body : List Statement) (sur : ListingContext) (f : ℕ → ℕ) (k : ℕ) (ss : List SourceInstruction) (last : SourceInstruction) → length sur.lines ≡ k + length ss + 1 → AreLinesAt sur.lines k (ss ++ last ∷ [])
     → AreKeptFrom c body sur f k ss → stated_from c body k (statements_from sur k (run_all f (ss ++ last ∷ []))) ≡ ss
 all_stated c body sur f k [] last size lines kept = last_stated c body sur k k (run_of f last.instr) (omega (arith, size))
 all_stated c body sur f k (s ∷ ss) last size lines (some, is, kept) =
@@ -56,7 +56,7 @@ all_stated c body sur f k (s ∷ ss) last size lines (some, is, kept) =
 pub bodies_kept : AreBodiesKept
 unfolding body_of
 bodies_kept c signatures b ss last e kept =
-    let sur = surroundings signatures (lines_in b.statements) (compiled_block b) in
+    let sur = listing_context signatures (lines_in b.statements) (compiled_block b) in
     let f = statement_offset b.statements in
     let body : List Statement = body_of signatures (lines_in b.statements) (compiled_block b) in
     let size : length sur.lines ≡ 0 + length ss + 1 = lines_length b.statements ∙ ap length e ∙ length-append ss (last ∷ []) ∙ behind_start (length ss) in

@@ -20,9 +20,9 @@ use Rattle.block_layout.specs.Blocks.{named_block}
 use Rattle.stl_types.specs.Context.{Context, data_number, whole_place}
 use Rattle.stl_types.specs.Forms.{form_of}
 use Rattle.stl_types.specs.Kinds.{is_operand_of_call as is_called_view}
-use Rattle.stl_types.specs.Operands.{operand_rule, rule_of_resolved_operand, rule_seen, statement_rule, takes_operand}
+use Rattle.stl_types.specs.Operands.{operand_rule, rule_of_resolved_operand, rule_of_resolution, statement_rule, takes_operand}
 use Rattle.stl_types.specs.Parameters.{Callee, callee_of}
-use Rattle.stl_types.specs.Resolution.{called_seen, id_at, instance_number, resolution_of, whole_called_block}
+use Rattle.stl_types.specs.Resolution.{resolution_of_call, id_at, instance_number, resolution_of, whole_called_block}
 use Rattle.stl_types.specs.Resolved.{resolved_operand}
 use Rattle.stl_types.specs.declared.forms.OperandRule.{OperandRule}
 use Rattle.stl_types.specs.declared.parameters.Formal.{Formal}
@@ -36,7 +36,7 @@ use Rattle.stl_codegen.specs.Passed.{passings_from}
 use Rattle.stl_list.specs.Actuals.{actuals_by}
 use Rattle.stl_list.specs.Joined.{called_id}
 use Rattle.stl_list.specs.Operands.{name_of_data_block, instance_name, operand_by, plain_operand}
-use Rattle.stl_list.specs.Statements.{Surroundings, listed_statement}
+use Rattle.stl_list.specs.Statements.{ListingContext, listed_statement}
 use Rattle.listing_laws.specs.Calling.{AreCalledAgain, AreBareCallsKept}
 use Rattle.listing_laws.specs.Instructions.{HasAgain, IsInstructionKept}
 use Rattle.listing_laws.specs.Statements.{run_of}
@@ -135,11 +135,11 @@ named_instance listed (suc n) e = rw (ne_eqb (suc n) 0 (λ h. omega (arith, h)))
 pub called_again : (listed : Context) (id : BlockId) (instance : Option ℕ) → whole_called_block listed (Some id) ≡ Some id → IsInstanceAgain listed instance
     → resolution_of listed (operand.Called (block.Number id) (instance_name (instance_of instance))) ≡ Resolved (view.Called id instance)
 unfolding resolution_of
-called_again listed id None h k = ap (λ (x : Option BlockId). called_seen x None None) h
+called_again listed id None h k = ap (λ (x : Option BlockId). resolution_of_call x None None) h
 called_again listed id (Some number) h k =
-    ap (λ (x : Option BlockName). called_seen (whole_called_block listed (Some id)) x (instance_number listed x)) (named_instance listed number k)
-    ∙ ap (λ (x : Option BlockId). called_seen x (Some (name_of_data_block number)) (data_number listed (name_of_data_block number))) h
-    ∙ ap (called_seen (Some id) (Some (name_of_data_block number))) k
+    ap (λ (x : Option BlockName). resolution_of_call (whole_called_block listed (Some id)) x (instance_number listed x)) (named_instance listed number k)
+    ∙ ap (λ (x : Option BlockId). resolution_of_call x (Some (name_of_data_block number)) (data_number listed (name_of_data_block number))) h
+    ∙ ap (resolution_of_call (Some id) (Some (name_of_data_block number))) k
 
 -- ---- the statement
 
@@ -155,10 +155,10 @@ view_is : (y w : ResolvedOperand) → Resolved y ≡ Resolved w → w ≡ y
 view_is y w e = cc
 
 found_called : (c listed : Context) (formals : List Formal) (x : Option BlockId) (named : Option BlockName) (v : ResolvedOperand) → HasAgain c listed formals → AreCalledAgain c listed
-    → called_seen (whole_called_block c x) named (instance_number c named) ≡ Resolved v → StandsCalled listed v
+    → resolution_of_call (whole_called_block c x) named (instance_number c named) ≡ Resolved v → StandsCalled listed v
 found_called c listed formals x named v has called e = by (whole_called_block c x) named (instance_number c named) refl refl e
   where
-    by : (y : Option BlockId) (i : Option BlockName) (number : Option ℕ) → whole_called_block c x ≡ y → instance_number c i ≡ number → called_seen y i number ≡ Resolved v → StandsCalled listed v
+    by : (y : Option BlockId) (i : Option BlockName) (number : Option ℕ) → whole_called_block c x ≡ y → instance_number c i ≡ number → resolution_of_call y i number ≡ Resolved v → StandsCalled listed v
     by None i number g k e = absurd cc
     by (Some id) None number g k e = record { id = id; instance = None; is = view_is (view.Called id None) v e; whole = λ plain. called id plain (whole_id c x id g); again = tt }
     by (Some id) (Some name) None g k e = absurd cc
@@ -171,19 +171,19 @@ sees_called c listed formals (operand.Called name instance) v has called is e = 
 sees_called c listed formals _ v has called is e = absurd cc
 
 pub rule_called : (c : Context) (f : OperandRule) (o : Operand) (v : ResolvedOperand) → names_called_block o ≡ true → operand_rule c f o ≡ None → resolution_of c o ≡ Resolved v → rule_of_resolved_operand f v ≡ None
-rule_called c f (operand.Called name instance) v is h e = sym (ap (rule_seen f) e) ∙ h
+rule_called c f (operand.Called name instance) v is h e = sym (ap (rule_of_resolution f) e) ∙ h
 rule_called c f _ v is h e = absurd cc
 
-call_operand : (sur : Surroundings) (k : ℕ) (f : ℕ → ℕ) (how : CallOperation) (id : BlockId) (instance : Option ℕ) → is_called_view (view.Called id instance) ≡ true
+call_operand : (sur : ListingContext) (k : ℕ) (f : ℕ → ℕ) (how : CallOperation) (id : BlockId) (instance : Option ℕ) → is_called_view (view.Called id instance) ≡ true
     → (listed_statement sur k (run_of f (Calls how id instance []))).operand ≡ operand.Called (block.Number id) (instance_name (instance_of instance))
 unfolding operand_by plain_operand
 call_operand sur k f how id instance h = ap (λ (i : BlockId). operand.Called (block.Number i) (instance_name (instance_of instance))) (id_again id instance h)
 
-no_actuals : (sur : Surroundings) (k : ℕ) (f : ℕ → ℕ) (how : CallOperation) (id : BlockId) (instance : Option ℕ) → (listed_statement sur k (run_of f (Calls how id instance []))).actuals ≡ []
+no_actuals : (sur : ListingContext) (k : ℕ) (f : ℕ → ℕ) (how : CallOperation) (id : BlockId) (instance : Option ℕ) → (listed_statement sur k (run_of f (Calls how id instance []))).actuals ≡ []
 unfolding actuals_by
 no_actuals sur k f how id instance = refl
 
-calls_again : (listed : Context) (sur : Surroundings) (f : ℕ → ℕ) (again : List Statement) (n k : ℕ) (m : Mnemonic) (how : CallOperation) (id : BlockId) (instance : Option ℕ)
+calls_again : (listed : Context) (sur : ListingContext) (f : ℕ → ℕ) (again : List Statement) (n k : ℕ) (m : Mnemonic) (how : CallOperation) (id : BlockId) (instance : Option ℕ)
     → call_operation_of m ≡ Some how → rule_of_resolved_operand (form_of m) (view.Called id instance) ≡ None → whole_called_block listed (Some id) ≡ Some id → IsInstanceAgain listed instance
     → IsInstructionKept listed again n m (Calls how id instance []) (listed_statement sur k (run_of f (Calls how id instance [])))
 calls_again listed sur f again n k m how id instance h rule whole stands = record {
@@ -205,7 +205,7 @@ calls_again listed sur f again n k m how id instance h rule whole stands = recor
     sees = called_again listed id instance whole stands
 
     right : statement_rule listed listing ≡ None
-    right = ap (λ (x : Mnemonic). operand_rule listed (form_of x) listing.operand) word ∙ ap (operand_rule listed (form_of m)) is ∙ ap (rule_seen (form_of m)) sees ∙ rule
+    right = ap (λ (x : Mnemonic). operand_rule listed (form_of x) listing.operand) word ∙ ap (operand_rule listed (form_of m)) is ∙ ap (rule_of_resolution (form_of m)) sees ∙ rule
 
 pub calls_kept : AreBareCallsKept
 calls_kept c listed sur f body again n k s v how has called is none h e =

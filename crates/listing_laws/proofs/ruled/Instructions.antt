@@ -20,7 +20,7 @@ use Rattle.stl_types.specs.Context.{Context}
 use Rattle.stl_types.specs.Forms.{form_of}
 use Rattle.stl_types.specs.Operands.{operand_rule, rule_of_resolved_operand, statement_rule, takes_operand, takes_width}
 use Rattle.stl_types.specs.Resolution.{resolution_of}
-use Rattle.stl_types.specs.Resolved.{resolved_operand, seen_view}
+use Rattle.stl_types.specs.Resolved.{resolved_operand, resolved_view}
 use Rattle.stl_types.specs.declared.views.Resolution.{Resolution}
 use Rattle.stl_types.specs.declared.views.Resolution.TheVariants.{Resolved, Unjudged, Unknown}
 use Rattle.stl_types.specs.declared.views.ResolvedOperand.{ResolvedOperand}
@@ -32,7 +32,7 @@ use Rattle.stl_list.specs.Labels.{label_of_number}
 use Rattle.stl_list.specs.Mnemonics.{mnemonic_of, word_by}
 use Rattle.stl_list.specs.Operands.{implied_operand, operand_by}
 use Rattle.stl_list.specs.Runs.{number_at}
-use Rattle.stl_list.specs.Statements.{Surroundings, listed_statement}
+use Rattle.stl_list.specs.Statements.{ListingContext, listed_statement}
 use Rattle.listing_laws.specs.Instructions.{AreInstructionsKept, AreJumpsKept, HasAgain, IsInstructionKept, IsRightOperand}
 use Rattle.listing_laws.specs.Operands.{IsActedAgain, operand_instruction}
 use Rattle.listing_laws.specs.Statements.{run_of}
@@ -45,7 +45,7 @@ use Rattle.listing_laws.proofs.ruled.Views.{stands}
 -- ---- what a statement resolves to
 
 abbrev view_if : Option ℕ → Resolution → Option ResolvedOperand
-view_if rule r = if is_none rule then seen_view r else None
+view_if rule r = if is_none rule then resolved_view r else None
 
 no_rule : (rule : Option ℕ) (r : Resolution) (v : ResolvedOperand) → view_if rule r ≡ Some v → rule ≡ None
 no_rule None r v e = refl
@@ -70,7 +70,7 @@ what_seen c s v e = view_seen (statement_rule c s) (resolution_of c s.operand) v
 
 pub resolves : (c : Context) (s : Statement) (v : ResolvedOperand) → statement_rule c s ≡ None → resolution_of c s.operand ≡ Resolved v → resolved_operand c s ≡ Some v
 unfolding resolved_operand
-resolves c s v h e = ap (λ (rule : Option ℕ). view_if rule (resolution_of c s.operand)) h ∙ ap seen_view e
+resolves c s v h e = ap (λ (rule : Option ℕ). view_if rule (resolution_of c s.operand)) h ∙ ap resolved_view e
 
 -- the instruction of a statement that calls nothing and doesn't jump
 pub comes_to : (c : Context) (body : List Statement) (n : ℕ) (s : Statement) (v : ResolvedOperand) (ending : Option EndOperation) → jump_operation_of s.code ≡ None → call_operation_of s.code ≡ None → end_operation_of s.code ≡ ending
@@ -91,7 +91,7 @@ acting_word f m o v some jumps calls ends =
 
 -- ---- a statement that goes on
 
-does_again : (c listed : Context) (sur : Surroundings) (f : ℕ → ℕ) (again : List Statement) (n k : ℕ) (s : Statement) (v : ResolvedOperand)
+does_again : (c listed : Context) (sur : ListingContext) (f : ℕ → ℕ) (again : List Statement) (n k : ℕ) (s : Statement) (v : ResolvedOperand)
     → HasAgain c listed sur.formals → IsRightOperand c.symbols s.operand
     → is_empty_statement s.code ≡ false → jump_operation_of s.code ≡ None → call_operation_of s.code ≡ None → end_operation_of s.code ≡ None → resolved_operand c s ≡ Some v
     → IsInstructionKept listed again n s.code (operand_instruction s.code s.operand v) (listed_statement sur k (run_of f (operand_instruction s.code s.operand v)))
@@ -130,7 +130,7 @@ end_taken listed code.Bec how h = refl
 end_taken listed code.Beu how h = refl
 end_taken listed _ how h = absurd cc
 
-pub end_operand : (sur : Surroundings) (k : ℕ) (f : ℕ → ℕ) (how : EndOperation) → (listed_statement sur k (run_of f (Returns how))).operand ≡ operand.Nothing
+pub end_operand : (sur : ListingContext) (k : ℕ) (f : ℕ → ℕ) (how : EndOperation) → (listed_statement sur k (run_of f (Returns how))).operand ≡ operand.Nothing
 unfolding operand_by
 end_operand sur k f how = ap implied_operand (operation_again (operation.End how))
 
@@ -138,7 +138,7 @@ pub nothing_seen : (c : Context) → resolution_of c operand.Nothing ≡ Resolve
 unfolding resolution_of
 nothing_seen c = refl
 
-ends_again : (listed : Context) (sur : Surroundings) (f : ℕ → ℕ) (again : List Statement) (n k : ℕ) (m : Mnemonic) (how : EndOperation)
+ends_again : (listed : Context) (sur : ListingContext) (f : ℕ → ℕ) (again : List Statement) (n k : ℕ) (m : Mnemonic) (how : EndOperation)
     → jump_operation_of m ≡ None → call_operation_of m ≡ None → end_operation_of m ≡ Some how
     → IsInstructionKept listed again n m (Returns how) (listed_statement sur k (run_of f (Returns how)))
 ends_again listed sur f again n k m how jumps calls ends = record {
@@ -214,7 +214,7 @@ leap_word f m jump.Jmz n target h = jump_words_found m jump.Jmz h
 leap_word f m jump.Juo n target h = jump_words_found m jump.Juo h
 leap_word f m jump.Loop n target h = jump_words_found m jump.Loop h
 
-pub leap_operand : (sur : Surroundings) (k : ℕ) (f : ℕ → ℕ) (how : JumpOperation) (n target : ℕ) → (listed_statement sur k (run_of f (leap how n target))).operand ≡ operand.Label (label_of_number (number_at sur.starts (f target)))
+pub leap_operand : (sur : ListingContext) (k : ℕ) (f : ℕ → ℕ) (how : JumpOperation) (n target : ℕ) → (listed_statement sur k (run_of f (leap how n target))).operand ≡ operand.Label (label_of_number (number_at sur.starts (f target)))
 unfolding operand_by
 leap_operand sur k f jump.Jl n target = refl
 leap_operand sur k f _ n target = refl
@@ -223,7 +223,7 @@ pub jumped : (c : Context) (body : List Statement) (n : ℕ) (s : Statement) (ho
 unfolding instruction
 jumped c body n s how h = ap (instr_by c body n s) h
 
-leaps_again : (listed : Context) (sur : Surroundings) (f : ℕ → ℕ) (again : List Statement) (n k : ℕ) (m : Mnemonic) (how : JumpOperation) (target : ℕ)
+leaps_again : (listed : Context) (sur : ListingContext) (f : ℕ → ℕ) (again : List Statement) (n k : ℕ) (m : Mnemonic) (how : JumpOperation) (target : ℕ)
     → jump_operation_of m ≡ Some how → number_at sur.starts (f target) ≡ target → target_in (label_of_number target) again ≡ target
     → IsInstructionKept listed again n m (leap how n target) (listed_statement sur k (run_of f (leap how n target)))
 leaps_again listed sur f again n k m how target h found reached = record {

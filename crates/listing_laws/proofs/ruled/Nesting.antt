@@ -12,7 +12,7 @@ use Rattle.stl_ast.specs.declared.operands.Operand.TheVariants as operand
 use Rattle.stl_ast.specs.declared.statements.Statement.{Statement}
 use Rattle.stl_types.specs.Brackets.{brackets_behind, brackets_behind_all, brackets_after_closing, is_closing_bracket, closes_no_bracket, is_eighth_bracket, brackets_left_open, brackets_after_opening, bracket_function, with_brackets}
 use Rattle.stl_types.specs.Zones.{ends_no_zone, ends_zone, is_ninth_zone, opens_zone, with_zones, zones_behind, zones_behind_all, zones_ended, zones_left_open}
-use Rattle.stl_types.specs.declared.brackets.Bracket.{Bracket}
+use Rattle.stl_types.specs.declared.brackets.SourceBracket.{SourceBracket}
 use Rattle.listing_laws.specs.Nesting.{AreNestingsKept, NestingMark, nesting_marks}
 
 -- the plainest statement with a word on a line
@@ -56,11 +56,11 @@ walked {S} broken known h x (s ∷ ss) = by (is_empty_statement s.code) refl (λ
 
 -- ---- brackets
 
-pub bracket_still : (x : List Bracket) (s : Statement) → is_empty_statement s.code ≡ true → brackets_behind x s ≡ x
+pub bracket_still : (x : List SourceBracket) (s : Statement) → is_empty_statement s.code ≡ true → brackets_behind x s ≡ x
 unfolding bracket_function is_closing_bracket
 bracket_still x s e = ap (λ (m : Mnemonic). brackets_after_opening x s (bracket_function m)) (empty_code s.code e) ∙ ap (brackets_after_closing x) (empty_code s.code e)
 
-pub brackets_alike : (x : List Bracket) (s : Statement) (found : Option ℕ) → brackets_after_opening x s found ≡ brackets_after_opening x (stub_of s) found
+pub brackets_alike : (x : List SourceBracket) (s : Statement) (found : Option ℕ) → brackets_after_opening x s found ≡ brackets_after_opening x (stub_of s) found
 brackets_alike x s None = refl
 brackets_alike x s (Some function) = refl
 
@@ -82,14 +82,14 @@ eighth_sees = record {
   next = λ x s. brackets_alike x s (bracket_function s.code);
 }
 
-brackets_left : (x : List Bracket) (ss : List Statement) → brackets_behind_all x ss ≡ brackets_behind_all x (stubs ss)
+brackets_left : (x : List SourceBracket) (ss : List Statement) → brackets_behind_all x ss ≡ brackets_behind_all x (stubs ss)
 brackets_left x [] = refl
 brackets_left x (s ∷ ss) = by (is_empty_statement s.code) refl (λ y. brackets_left y ss)
   where
-    by : (b : Bool) → is_empty_statement s.code ≡ b → ((y : List Bracket) → brackets_behind_all y ss ≡ brackets_behind_all y (stubs ss))
+    by : (b : Bool) → is_empty_statement s.code ≡ b → ((y : List SourceBracket) → brackets_behind_all y ss ≡ brackets_behind_all y (stubs ss))
         → brackets_behind_all (brackets_behind x s) ss ≡ brackets_behind_all x (map stub ((if b then [] else record { code = s.code; line = s.line } ∷ []) ++ nesting_marks ss))
-    by true e rest = ap (λ (y : List Bracket). brackets_behind_all y ss) (bracket_still x s e) ∙ rest x
-    by false e rest = rest (brackets_behind x s) ∙ ap (λ (y : List Bracket). brackets_behind_all y (stubs ss)) (brackets_alike x s (bracket_function s.code))
+    by true e rest = ap (λ (y : List SourceBracket). brackets_behind_all y ss) (bracket_still x s e) ∙ rest x
+    by false e rest = rest (brackets_behind x s) ∙ ap (λ (y : List SourceBracket). brackets_behind_all y (stubs ss)) (brackets_alike x s (bracket_function s.code))
 
 -- ---- zones
 
@@ -132,7 +132,7 @@ through of ss ts h e = h ss ∙ ap (λ (ms : List NestingMark). of (map stub ms)
 pub nestings_kept : AreNestingsKept
 nestings_kept ss ts e = record {
   closing = through (λ us. with_brackets (λ brackets s. broken_if (closes_no_bracket brackets s) s.line 29) [] us) ss ts (λ us. walked (λ brackets s. broken_if (closes_no_bracket brackets s) s.line 29) brackets_behind closing_sees [] us) e;
-  left = through brackets_left_open ss ts (λ us. ap (λ (brackets : List Bracket). flat_map (λ b. broken_if true b.line 30) brackets) (brackets_left [] us)) e;
+  left = through brackets_left_open ss ts (λ us. ap (λ (brackets : List SourceBracket). flat_map (λ b. broken_if true b.line 30) brackets) (brackets_left [] us)) e;
   eighth = through (λ us. with_brackets (λ brackets s. broken_if (is_eighth_bracket brackets s) s.line 31) [] us) ss ts (λ us. walked (λ brackets s. broken_if (is_eighth_bracket brackets s) s.line 31) brackets_behind eighth_sees [] us) e;
   ending = through (λ us. with_zones (λ zones s. broken_if (ends_no_zone zones s) s.line 47) [] us) ss ts (λ us. walked (λ zones s. broken_if (ends_no_zone zones s) s.line 47) zones_behind ending_sees [] us) e;
   zones_left = through zones_left_open ss ts (λ us. ap (λ (zones : List ℕ). flat_map (λ line. broken_if true line 48) zones) (zones_left [] us)) e;

@@ -27,8 +27,8 @@ use Rattle.stl_types.specs.Addresses.{address_in_block, area_left, area_for_lett
 use Rattle.stl_types.specs.Constants.{takes_constant}
 use Rattle.stl_types.specs.Context.{Context}
 use Rattle.stl_types.specs.Forms.{form_of}
-use Rattle.stl_types.specs.Operands.{has_width, is_on_wrong_side, operand_rule, rule_of_resolved_operand, rule_seen, takes_operand, form_writes_operand as form_writes}
-use Rattle.stl_types.specs.Resolution.{opened_seen, register_for_word as register_named, resolution_of}
+use Rattle.stl_types.specs.Operands.{has_width, is_on_wrong_side, operand_rule, rule_of_resolved_operand, rule_of_resolution, takes_operand, form_writes_operand as form_writes}
+use Rattle.stl_types.specs.Resolution.{resolution_of_opened_block, register_for_word as register_named, resolution_of}
 use Rattle.stl_types.specs.declared.forms.OperandRule.{OperandRule}
 use Rattle.stl_types.specs.declared.forms.OperandRule.TheVariants as form
 use Rattle.stl_types.specs.declared.parameters.Formal.{Formal}
@@ -150,7 +150,7 @@ place_again c m o place width side declared h k w e = by (opened_by_place place)
         record {
           found = view.Direct (at (area_for_letters (letters_for_area w place.area)) n place) width (side_of (letters_for_area w place.area)) None;
           sees = sees;
-          right = ap (rule_seen (form_of m)) sees ∙ place_right (form_of m) place (at (area_for_letters (letters_for_area w place.area)) n place) place.area w width side declared h e;
+          right = ap (rule_of_resolution (form_of m)) sees ∙ place_right (form_of m) place (at (area_for_letters (letters_for_area w place.area)) n place) place.area w width side declared h e;
           opened = ap (λ (a : Area). opened_by_place (at a n place)) (area_again w place.area) ∙ is_named (is_db place.area) place.number n g ∙ sym g;
           operation = place_operation m o _ place (at (area_for_letters (letters_for_area w place.area)) n place) width side (side_of (letters_for_area w place.area)) declared None h;
           operand = place_operand o _ place n w width side (side_of (letters_for_area w place.area)) declared None;
@@ -184,7 +184,7 @@ parameter_again c m o formals index section kind h k =
       found = view.Parameter index k.section_again k.kind_again;
       sees = sees;
       right =
-          ap (rule_seen (form_of m)) sees
+          ap (rule_of_resolution (form_of m)) sees
           ∙ none_broken (form_of m) (view.Parameter index k.section_again k.kind_again) refl
           (takes_parameter (form_of m) index section k.section_again kind k.kind_again ∙ parts.accepted)
           (ap (λ (w : Width). has_width (form_of m) (Some w)) k.wide ∙ parts.wide)
@@ -284,15 +284,15 @@ number_again c m o formals starts f numbered.Di from byte h = unchanged c m o (o
 opened_again : (c : Context) (m : Mnemonic) (o : Operand) (di : Bool) (number : ℕ) → rule_of_resolved_operand (form_of m) (view.OpenBlock di number) ≡ None → IsOpenedAgain c (Some number)
     → IsActedAgain c m o (operand.OpenBlock di (name_of_data_block number)) (view.OpenBlock di number)
 unfolding resolution_of
-opened_again c m o di number h k = unchanged c m o (operand.OpenBlock di (name_of_data_block number)) (view.OpenBlock di number) tt h refl (ap (opened_seen di) k)
+opened_again c m o di number h k = unchanged c m o (operand.OpenBlock di (name_of_data_block number)) (view.OpenBlock di number) tt h refl (ap (resolution_of_opened_block di) k)
 
 memory_seen : (c : Context) (a from : Area) (width : Width) (byte : ℕ) → resolution_of c (operand.ByMemory (read_letters a) width (read_letters from) byte) ≡ Resolved (view.ByMemory a width from byte)
 unfolding resolution_of
 memory_seen c a from width byte = rw (area_again false a, area_again false from) refl
 
-register_seen : (c : Context) (a : Option Area) (width : Width) (register bits : ℕ) → resolution_of c (operand.ByRegister (option_map read_letters a) width register bits) ≡ Resolved (view.ByRegister a width register bits)
+resolution_of_register : (c : Context) (a : Option Area) (width : Width) (register bits : ℕ) → resolution_of c (operand.ByRegister (option_map read_letters a) width register bits) ≡ Resolved (view.ByRegister a width register bits)
 unfolding resolution_of
-register_seen c a width register bits = ap (λ (x : Option Area). Resolved (view.ByRegister x width register bits)) (any_area_again a)
+resolution_of_register c a width register bits = ap (λ (x : Option Area). Resolved (view.ByRegister x width register bits)) (any_area_again a)
 
 status_seen : (c : Context) (flag : Flag) → resolution_of c (operand.OfStatus (flag_of (condition_number flag))) ≡ Resolved (view.OfStatus flag)
 unfolding resolution_of
@@ -313,7 +313,7 @@ by_view c formals starts f m o view.Date jumps calls h other k = let e = (is_tak
 by_view c formals starts f m o (view.ByMemory a width from byte) jumps calls h other k =
     unchanged c m o (operand.ByMemory (read_letters a) width (read_letters from) byte) (view.ByMemory a width from byte) tt h refl (memory_seen c a from width byte)
 by_view c formals starts f m o (view.ByRegister a width register bits) jumps calls h other k =
-    unchanged c m o (operand.ByRegister (option_map read_letters a) width register bits) (view.ByRegister a width register bits) tt h refl (register_seen c a width register bits)
+    unchanged c m o (operand.ByRegister (option_map read_letters a) width register bits) (view.ByRegister a width register bits) tt h refl (resolution_of_register c a width register bits)
 by_view c formals starts f m o (view.Timer number) jumps calls h other k = unchanged c m o (operand.Timer number) (view.Timer number) tt h refl refl
 by_view c formals starts f m o (view.Counter number) jumps calls h other k = unchanged c m o (operand.Counter number) (view.Counter number) tt h refl refl
 by_view c formals starts f m o (view.NumberBy what from byte) jumps calls h other k = number_again c m o formals starts f what from byte h
@@ -335,7 +335,7 @@ IsNoConstant _ = Unit {0}
 
 pub rule_is : (c : Context) (f : OperandRule) (o : Operand) (v : ResolvedOperand) → IsNoConstant o → resolution_of c o ≡ Resolved v → operand_rule c f o ≡ None → rule_of_resolved_operand f v ≡ None
 rule_is c f (operand.Constant value) v n e h = absurd n
-rule_is c f _ v n e h = sym (ap (rule_seen f) e) ∙ h
+rule_is c f _ v n e h = sym (ap (rule_of_resolution f) e) ∙ h
 
 is_other : (o : Operand) (v : ResolvedOperand) → IsNoConstant o → IsConstantSeen o v → IsOther v
 is_other (operand.Constant value) v n h = absurd n

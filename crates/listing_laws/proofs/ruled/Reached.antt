@@ -28,7 +28,7 @@ use Rattle.stl_list.specs.Labels.{label_of_number}
 use Rattle.stl_list.specs.Lines.{line_of_statement}
 use Rattle.stl_list.specs.Operands.{implied_operand, operand_by, plain_operand}
 use Rattle.stl_list.specs.Runs.{Run, number_at}
-use Rattle.stl_list.specs.Statements.{Surroundings, body_of, label_at, label_of_end, listed_statement, statement_at, statements_from, surroundings}
+use Rattle.stl_list.specs.Statements.{ListingContext, body_of, label_at, label_of_end, listed_statement, statement_at, statements_from, listing_context}
 use Rattle.listing_laws.specs.LabelRules.{AreJumpLabelsKnown, LeadsWithin}
 use Rattle.listing_laws.specs.Statements.{jumps_to, statement_offset, run_of}
 use Rattle.listing_laws.proofs.RunLemmas.{numbers_found, runs_found, targets_found}
@@ -43,7 +43,7 @@ end_labels : (line : ℕ) (label : Option (List ℕ)) (rest : List Statement) �
 end_labels line None rest = refl
 end_labels line (Some label) rest = refl
 
-here_labels : (sur : Surroundings) (k : ℕ) (r : Run) (rest : List Statement) → labels_of (statement_at sur k r ++ rest) ≡ label_list (label_at sur.targets k) ++ labels_of rest
+here_labels : (sur : ListingContext) (k : ℕ) (r : Run) (rest : List Statement) → labels_of (statement_at sur k r ++ rest) ≡ label_list (label_at sur.targets k) ++ labels_of rest
 unfolding statement_at
 here_labels sur k r rest = by (suc k == length sur.lines)
   where
@@ -51,7 +51,7 @@ here_labels sur k r rest = by (suc k == length sur.lines)
     by true = end_labels (line_of_statement sur.lines k) (label_at sur.targets k) rest
     by false = refl
 
-all_labels : (sur : Surroundings) (k : ℕ) (rs : List Run) → labels_of (statements_from sur k rs) ≡ numbered sur.targets k (length rs)
+all_labels : (sur : ListingContext) (k : ℕ) (rs : List Run) → labels_of (statements_from sur k rs) ≡ numbered sur.targets k (length rs)
 all_labels sur k [] = refl
 all_labels sur k (r ∷ rs) = here_labels sur k r (statements_from sur (suc k) rs) ∙ ap (λ (ls : List (List ℕ)). label_list (label_at sur.targets k) ++ ls) (all_labels sur (suc k) rs)
 
@@ -117,7 +117,7 @@ timer_no : (b : Bool) (number : ℕ) → IsNoLabel (if b then operand.Timer numb
 timer_no true number labels = refl
 timer_no false number labels = refl
 
--- what a jump is told by
+-- an operand that is a jump goes to one of these labels
 abbrev pub JumpsIn : (List (List ℕ)) → (starts : List ℕ) → FlatOperand → Type 0
 JumpsIn labels starts (flat.Jump kind target) = is_some (name_place (label_of_number (number_at starts target)) labels) ≡ true
 JumpsIn labels starts _ = Unit {0}
@@ -146,7 +146,7 @@ end_known : (labels : List (List ℕ)) (line : ℕ) (label : Option (List ℕ)) 
 end_known labels line None rest = refl
 end_known labels line (Some label) rest = refl
 
-here_known : (sur : Surroundings) (labels : List (List ℕ)) (k : ℕ) (r : Run) (rest : List Statement) → JumpsIn labels sur.starts r.op.operand → found_in labels (statement_at sur k r ++ rest) ≡ found_in labels rest
+here_known : (sur : ListingContext) (labels : List (List ℕ)) (k : ℕ) (r : Run) (rest : List Statement) → JumpsIn labels sur.starts r.op.operand → found_in labels (statement_at sur k r ++ rest) ≡ found_in labels rest
 unfolding statement_at
 here_known sur labels k r rest h = by (suc k == length sur.lines)
   where
@@ -154,7 +154,7 @@ here_known sur labels k r rest h = by (suc k == length sur.lines)
     by true = end_known labels (line_of_statement sur.lines k) (label_at sur.targets k) rest
     by false = ap (λ (b : Bool). broken_if b (line_of_statement sur.lines k) 26 ++ found_in labels rest) (no_unknown labels sur.formals sur.starts _ _ r.op.operand h)
 
-all_known : (sur : Surroundings) (labels : List (List ℕ)) (k : ℕ) (rs : List Run) → All labels sur.starts rs → found_in labels (statements_from sur k rs) ≡ []
+all_known : (sur : ListingContext) (labels : List (List ℕ)) (k : ℕ) (rs : List Run) → All labels sur.starts rs → found_in labels (statements_from sur k rs) ≡ []
 all_known sur labels k [] h = refl
 all_known sur labels k (r ∷ rs) h = here_known sur labels k r (statements_from sur (suc k) rs) h.0 ∙ all_known sur labels (suc k) rs h.1
 
@@ -208,8 +208,8 @@ labels_known signatures lines b within =
     ∙ ap (λ (ls : List (List ℕ)). unknown_labels ls (statements_from sur 0 rs)) (all_labels sur 0 rs)
     ∙ all_known sur labels 0 rs (all_of labels sur.starts f b.statements b.statements within (λ t h. h) met)
   where
-    sur : Surroundings
-    sur = surroundings signatures lines (compiled_block b)
+    sur : ListingContext
+    sur = listing_context signatures lines (compiled_block b)
 
     f : ℕ → ℕ
     f = statement_offset b.statements

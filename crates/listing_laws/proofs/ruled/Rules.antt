@@ -7,7 +7,7 @@ use Rattle.stl_ast.specs.declared.operands.Operand.{Operand}
 use Rattle.stl_types.specs.Context.{Context}
 use Rattle.stl_types.specs.Forms.{form_of}
 use Rattle.stl_types.specs.Kinds.{is_composite, width_in}
-use Rattle.stl_types.specs.Operands.{composite_rule, has_width, is_input, is_on_wrong_side, operand_rule, rule_of_resolved_operand, rule_seen, takes_operand, form_writes_operand}
+use Rattle.stl_types.specs.Operands.{composite_rule, has_width, is_input, is_on_wrong_side, operand_rule, rule_of_resolved_operand, rule_of_resolution, takes_operand, form_writes_operand}
 use Rattle.stl_types.specs.Resolution.{resolution_of}
 use Rattle.stl_types.specs.declared.forms.OperandRule.{OperandRule}
 use Rattle.stl_types.specs.declared.views.Resolution.TheVariants.{Resolved}
@@ -85,11 +85,11 @@ same_operand o again _ h = refl
 
 -- where a listing's operand names the very same
 pub unchanged : (c : Context) (m : Mnemonic) (o again : Operand) (v : ResolvedOperand) → IsOther v → rule_of_resolved_operand (form_of m) v ≡ None
-    → operand_rule c (form_of m) again ≡ rule_seen (form_of m) (resolution_of c again) → resolution_of c again ≡ Resolved v → IsActedAgain c m o again v
+    → operand_rule c (form_of m) again ≡ rule_of_resolution (form_of m) (resolution_of c again) → resolution_of c again ≡ Resolved v → IsActedAgain c m o again v
 unchanged c m o again v other h e sees = record {
   found = v;
   sees = sees;
-  right = e ∙ ap (rule_seen (form_of m)) sees ∙ h;
+  right = e ∙ ap (rule_of_resolution (form_of m)) sees ∙ h;
   opened = refl;
   operation = same_operation m o again v h;
   operand = same_operand o again v other;

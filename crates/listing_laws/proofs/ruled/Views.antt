@@ -28,7 +28,7 @@ use Rattle.block_layout.specs.declared.walks.PathEnd.{PathEnd}
 use Rattle.block_layout.specs.declared.walks.PathEnd.TheVariants as walk
 use Rattle.stl_types.specs.Addresses.{address_in_block, area_left, area_for_letters}
 use Rattle.stl_types.specs.Context.{Context, data_number, data_place, in_function}
-use Rattle.stl_types.specs.Resolution.{called_seen, instance_number, opened_seen, resolution_of, symbol_seen, target_view, whole_called_block}
+use Rattle.stl_types.specs.Resolution.{resolution_of_call, instance_number, resolution_of_opened_block, resolution_of, resolution_of_symbol, target_view, whole_called_block}
 use Rattle.stl_types.specs.Variables.{composite_operand, data_at, data_path, data_walked, date_or_composite, variable_in_area, is_temporary_variable, own_at, own_elementary, own_variable, own_walked, parameter_resolution, parameter_at, parameter_index}
 use Rattle.stl_types.specs.declared.parameters.Formal.{Formal}
 use Rattle.stl_types.specs.declared.views.Resolution.{Resolution}
@@ -145,10 +145,10 @@ target_seen listed (target.Timer number) h = tt
 target_seen listed (target.Counter number) h = tt
 target_seen listed (target.Block id) h = tt
 
-symbol_is_seen : (listed : Context) (symbols : List Symbol) (name : List ℕ) → ((s : Symbol) → symbol_named name symbols ≡ Some s → IsSymbolTarget s.target) → IfSeen false listed (symbol_seen (symbol_named name symbols))
+symbol_is_seen : (listed : Context) (symbols : List Symbol) (name : List ℕ) → ((s : Symbol) → symbol_named name symbols ≡ Some s → IsSymbolTarget s.target) → IfSeen false listed (resolution_of_symbol (symbol_named name symbols))
 symbol_is_seen listed symbols name h = by (symbol_named name symbols) refl
   where
-    by : (o : Option Symbol) → symbol_named name symbols ≡ o → IfSeen false listed (symbol_seen o)
+    by : (o : Option Symbol) → symbol_named name symbols ≡ o → IfSeen false listed (resolution_of_symbol o)
     by None e = tt
     by (Some s) e = target_seen listed s.target (h s e)
 
@@ -161,11 +161,11 @@ address_seen listed (Some n) a width byte bit h = by (is_db (area_for_letters a)
     by true false = h
     by false z = tt
 
-opened_is_seen : (listed : Context) (di : Bool) (number : Option ℕ) → IsOpenedAgain listed number → IfSeen false listed (opened_seen di number)
+opened_is_seen : (listed : Context) (di : Bool) (number : Option ℕ) → IsOpenedAgain listed number → IfSeen false listed (resolution_of_opened_block di number)
 opened_is_seen listed di None h = tt
 opened_is_seen listed di (Some n) h = h
 
-called_is_seen : (listed : Context) (id : Option BlockId) (named : Option BlockName) (instance : Option ℕ) → IfSeen false listed (called_seen id named instance)
+called_is_seen : (listed : Context) (id : Option BlockId) (named : Option BlockName) (instance : Option ℕ) → IfSeen false listed (resolution_of_call id named instance)
 called_is_seen listed None named instance = tt
 called_is_seen listed (Some id) None instance = tt
 called_is_seen listed (Some id) (Some name) None = tt

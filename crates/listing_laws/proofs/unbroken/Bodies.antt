@@ -14,7 +14,7 @@ use Rattle.stl_list.specs.CodeBlocks.{listed_block}
 use Rattle.stl_list.specs.Lines.{line_of_statement, lines_from}
 use Rattle.stl_list.specs.Runs.{Run, runs}
 use Rattle.stl_list.specs.Signatures.{Signature}
-use Rattle.stl_list.specs.Statements.{Surroundings, body_of, label_at, label_of_end, listed_statement, statement_at, statements_from, surroundings}
+use Rattle.stl_list.specs.Statements.{ListingContext, body_of, label_at, label_of_end, listed_statement, statement_at, statements_from, listing_context}
 use Rattle.listing_laws.specs.Statements.{statement_offset, run_of}
 use Rattle.listing_laws.proofs.RunLemmas.{runs_found}
 
@@ -33,7 +33,7 @@ one_written : (s : Statement) → written (s ∷ []) ≤ 1
 one_written s = count_by-le-length (λ (s : Statement). not (is_empty_statement s.code)) (s ∷ [])
 
 -- the last one is the END clause
-few_from : (s : Surroundings) (n : ℕ) (rs : List Run) → n + length rs ≡ length s.lines → written (statements_from s n rs) ≤ length rs - 1
+few_from : (s : ListingContext) (n : ℕ) (rs : List Run) → n + length rs ≡ length s.lines → written (statements_from s n rs) ≤ length rs - 1
 unfolding statement_at
 few_from s n [] e = omega arith
 few_from s n (r ∷ rs) e = by (suc n == length s.lines) refl (few_from s (suc n) rs (omega (arith, e)))
@@ -76,7 +76,7 @@ not_above n h = grind (arith, nat_tests)
 body_few : (ss : List Signature) (lines : List ℕ) (b : CodeBlock) → length (runs b.code) ≡ length lines → length lines < 65536 → written (body_of ss lines b) < 65535
 unfolding body_of
 body_few ss lines b same few =
-    let most = few_from (surroundings ss lines b) 0 (runs b.code) (omega (arith, same)) in
+    let most = few_from (listing_context ss lines b) 0 (runs b.code) (omega (arith, same)) in
     omega (arith, most, same, few)
 
 -- as many statements as lines

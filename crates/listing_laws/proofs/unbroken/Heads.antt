@@ -25,7 +25,8 @@ use Rattle.block_layout.specs.Rule54.{exceeds_total, rule_54}
 use Rattle.block_layout.specs.Rule55.{has_too_many_statements, rule_55}
 use Rattle.block_layout.specs.Rule56.{broken_56, rule_56}
 use Rattle.block_layout.specs.Types.{Types}
-use Rattle.sem_kept.proofs.accepted.Accepted.{AllHeads, IsSoundHead, all_mapped}
+use Rattle.block_layout.proofs.HeadLemmas.{AllHeads}
+use Rattle.sem_kept.proofs.accepted.Accepted.{IsSoundHead, all_mapped}
 use Rattle.listing_laws.specs.Rules.{AreDeclarationsRight}
 use Rattle.listing_laws.specs.Whole.{AreBlocksRight}
 use Rattle.listing_laws.proofs.IdLemmas.{source_symbols}

@@ -37,7 +37,8 @@ use Rattle.stl_list.specs.Lines.{stands_before}
 use Rattle.sem_kept.specs.Accepted.{program_in}
 use Rattle.sem_kept.proofs.accepted.Accepted.{IsSound, IsSoundTree, context_at, sound_at, sound_data_blocks}
 use Rattle.sem_kept.proofs.accepted.RecordData.{id_there, length_there}
-use Rattle.sem_kept.proofs.accepted.Shared.{kind_there, written_length}
+use Rattle.block_layout.proofs.BlockLemmas.{kind_there}
+use Rattle.block_layout.proofs.FillLemmas.{written_length}
 
 -- ---- what stands in a list
 

@@ -41,7 +41,8 @@ use Rattle.stl_list.specs.Listing.{listed_tree}
 use Rattle.stl_list.specs.Signatures.{Signature, formals_of_block, signatures}
 use Rattle.sem_kept.specs.Accepted.{IsAccepted, program_in}
 use Rattle.sem_kept.specs.Sizes.{IsSmall, IsSmallBlock}
-use Rattle.sem_kept.proofs.accepted.Accepted.{AllHeads, IsSoundHead, IsSoundTree, all_mapped, heads_none, right_tree, sound_code_blocks}
+use Rattle.block_layout.proofs.HeadLemmas.{AllHeads, heads_none}
+use Rattle.sem_kept.proofs.accepted.Accepted.{IsSoundHead, IsSoundTree, all_mapped, right_tree, sound_code_blocks}
 use Rattle.sem_kept.proofs.accepted.Sizes.{accepted_is_small}
 use Rattle.sem_kept.proofs.accepted.SizesSums.{summed_ones}
 use Rattle.listing_laws.specs.Again.{AreWholeAgain, listed_again}

@@ -20,11 +20,12 @@ use Rattle.block_layout.specs.declared.blocks.BlockLayout.{BlockLayout}
 use Rattle.stl_types.specs.Context.{Context}
 use Rattle.stl_codegen.specs.Generated.{generated_data_block, data_block_of, data_blocks_of, each_block}
 use Rattle.stl_codegen.specs.Order.{is_data_before}
-use Rattle.sem_kept.proofs.accepted.Accepted.{AllHeads, IsSound, IsSoundTree, context_at, heads_none}
+use Rattle.block_layout.proofs.HeadLemmas.{AllHeads, heads_none}
+use Rattle.sem_kept.proofs.accepted.Accepted.{IsSound, IsSoundTree, context_at}
 use Rattle.sem_kept.proofs.accepted.RecordData.{id_there}
-use Rattle.sem_kept.proofs.accepted.Shared.{kind_there}
+use Rattle.block_layout.proofs.BlockLemmas.{kind_there}
 use Rattle.sem_kept.proofs.accepted.Sizes.{laid_mapped}
-use Rattle.sem_kept.proofs.accepted.SizesBlocks.{few_data_bytes}
+use Rattle.block_layout.proofs.CountLemmas.{few_data_bytes}
 use Rattle.sem_kept.proofs.accepted.SizesSums.{each_sum, sorted_sum}
 use Rattle.listing_laws.proofs.unbroken.Instances.{bytes_long}
 

@@ -27,7 +27,7 @@ use Rattle.stl_parser.specs.Tables.{keywords, look_up}
 use Rattle.stl_parser.specs.Terminals.{has_kind, is_mark, key_text}
 use Rattle.stl_parser.specs.Types.{array_at, arrays_at, element_at, init_of, simple_at}
 use Rattle.stl_parser.specs.declared.clauses.Clause.TheVariants as clause
-use Rattle.stl_parser.specs.declared.keywords.Key.TheVariants as key
+use Rattle.stl_parser.specs.declared.keywords.ClauseWord.TheVariants as key
 use Rattle.stl_parser.specs.declared.places.ClausePlace.{ClausePlace}
 use Rattle.stl_print.specs.Declarations.{array_pieces, behind_type, declaration_pieces, element_pieces, further_inits, init_pieces, inits_pieces, value_pieces}
 use Rattle.stl_print.specs.Gaps.{gap_text}

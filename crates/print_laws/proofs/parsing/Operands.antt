@@ -28,8 +28,8 @@ use Rattle.stl_ast.specs.declared.operands.Numbered.TheVariants as numbered_kind
 use Rattle.stl_ast.specs.declared.operands.Operand.{Operand}
 use Rattle.stl_ast.specs.declared.operands.Operand.TheVariants as operand
 use Rattle.stl_ast.specs.declared.operands.PathHead.TheVariants as head
-use Rattle.stl_parser.specs.declared.tables.Address.{Address}
-use Rattle.stl_parser.specs.declared.tables.Address.TheVariants as address
+use Rattle.stl_parser.specs.declared.tables.AddressKind.{AddressKind}
+use Rattle.stl_parser.specs.declared.tables.AddressKind.TheVariants as address
 use Rattle.stl_parser.specs.Terminals.{has_kind, is_mark, is_key, key_text}
 use Rattle.stl_parser.specs.Tables.{look_up, addresses, flags}
 use Rattle.stl_parser.specs.Numbers.{number_of, number_up_to, signed_number_at}
@@ -50,7 +50,7 @@ abbrev pub Texts : (source : List ℕ) (from line : ℕ) → List Piece → Type
 Texts source from line ps = ShowPieces source ps (tokens_of from line ps)
 
 -- letters of an address, which are no constant and have no digits
-pub record AreLetters (text : List ℕ) (x : Address) : Type 0 where
+pub record AreLetters (text : List ℕ) (x : AddressKind) : Type 0 where
   pub table : look_up addresses text ≡ Some x
   pub whole : drop (letter_count text) text ≡ []
   pub no_true : str_eq_ignore_ascii_case text (codes "TRUE") ≡ false
@@ -100,7 +100,7 @@ none_chained None = refl
 none_chained (Some x) = refl
 
 -- letters alone are no word of letters and number
-pub no_glue : {text : List ℕ} {x : Address} → AreLetters text x → (rest : List Token) → glued_letters_and_number addresses text rest ≡ None
+pub no_glue : {text : List ℕ} {x : AddressKind} → AreLetters text x → (rest : List Token) → glued_letters_and_number addresses text rest ≡ None
 unfolding glued_letters_and_number
 no_glue {text} l rest = rw (l.whole, no_decimal) (none_chained (look_up addresses (take (letter_count text) text)))
 
@@ -258,7 +258,7 @@ memory_read source from line g area w place byte is holds h (_, x1, (_, x2, (_, 
     rw (x1, l.no_true, l.no_false, no_glue l, l.table, x2, x3, no_glue k, k.table, x4, read_number byte h, holds, x5) refl
 
 -- the letters before a number in memory
-address_by : Numbered → Address
+address_by : Numbered → AddressKind
 address_by numbered_kind.Timer = address.Timer
 address_by numbered_kind.Counter = address.Counter
 address_by numbered_kind.Db = address.Block false

@@ -21,8 +21,8 @@ use Rattle.stl_parser.specs.Tables.{block_kinds, head_words, keywords, look_up}
 use Rattle.stl_parser.specs.Terminals.{has_kind, is_key, is_mark, key_text, kind_rank}
 use Rattle.stl_parser.specs.Types.{array_at, arrays_at, arrays_end, element_at, simple_at, udt_at}
 use Rattle.stl_parser.specs.declared.clauses.Clause.TheVariants as clause
-use Rattle.stl_parser.specs.declared.keywords.Key.{Key}
-use Rattle.stl_parser.specs.declared.keywords.Key.TheVariants as key
+use Rattle.stl_parser.specs.declared.keywords.ClauseWord.{ClauseWord}
+use Rattle.stl_parser.specs.declared.keywords.ClauseWord.TheVariants as key
 use Rattle.stl_parser.specs.declared.places.ClausePlace.{ClausePlace}
 use Rattle.stl_parser.specs.declared.places.ClausePlace.TheVariants as place
 use Rattle.stl_parser.specs.declared.statements.BareStatement.{BareStatement}
@@ -131,7 +131,7 @@ runs_alone source k b ts rest semi i all is calm =
 -- ---- a statement with a label
 
 -- a word that begins an instruction is no keyword inside a clause
-pub no_key : (source : List ℕ) (t : Token) (text : List ℕ) (k : Key) → text_of source t ≡ text → str_eq_ignore_ascii_case text (key_text k) ≡ false
+pub no_key : (source : List ℕ) (t : Token) (text : List ℕ) (k : ClauseWord) → text_of source t ≡ text → str_eq_ignore_ascii_case text (key_text k) ≡ false
     → is_key source t k ≡ false
 unfolding is_key
 no_key source t text k is apart = rw (is, apart) (by (has_kind t kind.Word))

@@ -14,7 +14,8 @@ with_entries r entries =
 
 -- the lines of further entries of a controller, which are counted on from those of its history
 abbrev pub lines_behind : Recording → List Entry → List ℕ
-lines_behind r entries = entry_lines_from (code_of r.program) (length r.history) (final_state r) entries
+lines_behind r entries =
+    entry_lines_from (code_of r.program) (length r.history) (final_state r) entries
 
 -- the lines at the end of a controller's history
 abbrev pub closing_of : Recording → List ℕ

@@ -1,5 +1,5 @@
--- The text of a run: what each entry showed, from state to state, and how the controller stands at the
--- end.
+-- The text of a run: what each entry showed, from state to state, and how the controller stands at
+-- the end.
 use Rattle.std.specs.Prelude.{ℕ, ◌+◌, ◌*◌, List, [], ◌∷◌, ◌++◌, length, take, drop, Option, Some, None}
 use Rattle.std.specs.FinMap as finmap
 use Rattle.std.specs.Int.{div_ceil}
@@ -21,12 +21,12 @@ use Rattle.controller.specs.Replayed.{entry_events}
 use Rattle.monitor.specs.LineText.{end_text, mode_text, mon_text, output_text, row_text}
 use Rattle.event_text.specs.Replies.{reply_text}
 
--- the mode that entry n began, if it began one
+-- the line of the mode that entry n began, if it began one
 abbrev pub changed_mode_text : ℕ → Option Mode → List ℕ
 changed_mode_text n None = []
 changed_mode_text n (Some mode) = mode_text n mode
 
--- the record of the monitored statement, if entry n made one
+-- the line of the record of the monitored statement, if entry n made one
 abbrev pub monitored_text : ℕ → Option MonRecord → List ℕ
 monitored_text n None = []
 monitored_text n (Some one) = mon_text n one
@@ -34,7 +34,8 @@ monitored_text n (Some one) = mon_text n one
 -- what entry n showed: the monitored statement, the outputs that changed, the mode that began
 unfoldable pub shown_text : ℕ → Observed → List ℕ
 shown_text n seen =
-    monitored_text n seen.mon ++ (flat_map (output_text n) seen.outputs ++ changed_mode_text n seen.mode)
+    monitored_text n seen.mon
+    ++ (flat_map (output_text n) seen.outputs ++ changed_mode_text n seen.mode)
 
 -- the reply to a request, which is entry n; the other entries have none
 abbrev pub replied_text : (n who : ℕ) → What → Reply → List ℕ
@@ -53,22 +54,22 @@ entry_lines_from code n s (e ∷ es) =
     entry_text (n + 1) e (entry_result code s e.what)
     ++ entry_lines_from code (n + 1) (entry_result code s e.what).state es
 
--- 32 bytes of a data block stand in a line, and in its last one what is left
+-- the line of one row of a data block: 32 of its bytes, and in the last row what is left
 abbrev pub row_of : (number : ℕ) (bytes : List ℕ) → (row : ℕ) → List ℕ
 row_of number bytes row = row_text number (32 * row) (take 32 (drop (32 * row) bytes))
 
--- a data block by its number; one of no bytes has no line
+-- the lines of a data block, with its number; one of no bytes has none
 unfoldable pub data_block_text : ℕ × List ℕ → List ℕ
 data_block_text block =
     flat_map (row_of block.0 block.1) (range_with_len 0 (div_ceil (length block.1) 32))
 
--- the data blocks by rising number
+-- the lines of the data blocks by rising number
 abbrev pub data_blocks_text : GlobalStore → List ℕ
-data_blocks_text world = flat_map data_block_text (finmap.entries world.memory.data_blocks)
+data_blocks_text store = flat_map data_block_text (finmap.entries store.memory.data_blocks)
 
--- the mode after n entries, and then the data blocks
+-- the end of a run's text: the mode after n entries, and then the data blocks
 abbrev pub closing_text : ℕ → State → List ℕ
-closing_text n s = end_text n s.mode ++ data_blocks_text s.world
+closing_text n s = end_text n s.mode ++ data_blocks_text s.store
 
 -- the text of a program's run along a history, at a profile
 unfoldable pub run_text : Profile → Code → List Entry → List ℕ

@@ -22,7 +22,8 @@ fn row_bytes(bytes: &[u8], at: usize) -> &[u8]
 /// Writes a data block in rows of 32 bytes.
 #[tactic(auto, unfolding(crate::specs::run_text::RunText::data_block_text))]
 fn write_block<K: Sink>(out: &mut K, number: u16, bytes: &[u8]) -> Result<(), IoFault>
-    ensures { WroteText (K.shown out.old) (K.shown out.new) (data_block_text (number, bytes.now)) result }
+    ensures { WroteText (K.shown out.old) (K.shown out.new) (data_block_text (number, bytes.now))
+        result }
 {
     for row in 0..bytes.len().div_ceil(ROW_BYTES) {
         let at = ROW_BYTES * row;

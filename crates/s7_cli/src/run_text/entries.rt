@@ -149,8 +149,8 @@ fn write_applied<K: Sink>(
     push_all(out, text)
 }
 
-/// Applies a step so many times, and writes the lines of each. Those that show nothing are passed in
-/// a row.
+/// Applies a step so many times, and writes the lines of each. Those that show nothing are passed
+/// in a row.
 fn write_steps<K: Sink>(
     controller: &mut Controller,
     step: &Entry,

@@ -15,15 +15,14 @@ use Rattle.stl_ast.specs.declared.operands.Operand.{Operand}
 use Rattle.stl_ast.specs.declared.statements.Actual.{Actual}
 use Rattle.stl_ast.specs.declared.statements.Statement.{Statement}
 use Rattle.stl_parser.proofs.SizeLemmas.{well_formed}
-use Rattle.plc_base.specs.Gathered.{refusals_along}
 use Rattle.plc_base.specs.Least.{broken_if}
 use Rattle.stl_symbols.specs.Symbol.{Symbol}
 use Rattle.plc_base.proofs.LeastLemmas.{least_none}
-use Rattle.plc_base.proofs.ListLemmas.{all_append, nil_parts}
+use Rattle.plc_base.proofs.ListLemmas.{all_append}
 use Rattle.block_layout.specs.Around.{refusals_in_block}
 use Rattle.block_layout.specs.ByPlace.{by_place}
 use Rattle.block_layout.specs.Heads.{on_heads}
-use Rattle.block_layout.specs.Layouts.{block_layout, layouts_by, layouts_from, layouts_of}
+use Rattle.block_layout.specs.Layouts.{block_layout, layouts_from, layouts_of}
 use Rattle.block_layout.specs.Measures.{types_of_source}
 use Rattle.block_layout.specs.Operands.{OperandAtLine, in_body, operands_of}
 use Rattle.block_layout.specs.Rule21.{broken_21, rule_21}
@@ -47,7 +46,7 @@ use Rattle.block_layout.specs.declared.blocks.BlockLayout.{BlockLayout}
 use Rattle.stl_types.specs.Actuals.{formal_named}
 use Rattle.stl_types.specs.Bodies.{first_context, in_contexts}
 use Rattle.stl_types.specs.Brackets.{closes_no_bracket, is_eighth_bracket, brackets_left_open, rule_29, rule_30, rule_31, with_brackets}
-use Rattle.stl_types.specs.Calls.{by_callee, call_37, calls_unknown, dates_in, has_wrong_instance, is_bare_call, lacks_actual, misfits_formal, names_no_formal, rule_24_of_actuals, rule_34, rule_35, rule_36, rule_37, rule_38, rule_40, rule_46, sees_date, actuals_supplied_twice, actuals_without_formal}
+use Rattle.stl_types.specs.Calls.{by_callee, call_37, calls_unknown, dates_in, has_wrong_instance, is_bare_call, lacks_actual, misfits_formal, names_no_formal, rule_24_of_actuals, rule_34, rule_35, rule_36, rule_37, rule_38, rule_40, rule_46, is_resolved_date, actuals_supplied_twice, actuals_without_formal}
 use Rattle.stl_types.specs.Context.{Context}
 use Rattle.stl_types.specs.Labels.{labels_of, labels_twice, rule_26, rule_27, unknown_labels}
 use Rattle.stl_types.specs.Landings.{crossing_jumps, landings_at_labels, empty_nesting, rule_33}
@@ -62,19 +61,13 @@ use Rattle.stl_codegen.specs.Compiled.{StatedBlock}
 use Rattle.stl_codegen.specs.Generated.{code_block, code_block_of, code_blocks_of, generated_data_block, data_block_of, data_blocks_of, each_block}
 use Rattle.stl_codegen.specs.Order.{sorted_insertion, is_code_before, is_data_before, sorted_list}
 use Rattle.flat_code.specs.Programs.{DataBlock}
+use Rattle.block_layout.proofs.CommonLemmas.{none_left, none_right, not_broken}
+use Rattle.block_layout.proofs.HeadLemmas.{AllHeads, heads_none}
+use Rattle.block_layout.proofs.SoundnessLemmas.{AreSoundDeclarations}
+use Rattle.block_layout.proofs.LayoutLemmas.{layouts_are}
 use Rattle.sem_kept.specs.Accepted.{IsAccepted}
 
 -- ---- lists of which nothing is left
-
-pub none_left : {A : Type 0} (xs ys : List A) → xs ++ ys ≡ [] → xs ≡ []
-none_left xs ys e = (nil_parts xs ys e).0
-
-pub none_right : {A : Type 0} (xs ys : List A) → xs ++ ys ≡ [] → ys ≡ []
-none_right xs ys e = (nil_parts xs ys e).1
-
-pub not_broken : (breaks : Bool) (line rule : ℕ) → broken_if breaks line rule ≡ [] → breaks ≡ false
-not_broken true line rule e = absurd cc
-not_broken false line rule e = refl
 
 pub each_none : {A B : Type 0} (f : A → List B) (xs : List A) → flat_map f xs ≡ []
     → AllByRecursion (λ x. f x ≡ []) xs
@@ -261,12 +254,7 @@ abbrev pub AllFrom : (ℕ → Block → Type 0) → ℕ → List Block → Type 
 AllFrom P k [] = Unit {0}
 AllFrom P k (b ∷ bs) = P k b × AllFrom P (suc k) bs
 
--- and with the blocks before it
-abbrev pub AllHeads : (List Block → Block → Type 0) → (before : List Block) → List Block → Type 0
-AllHeads P before [] = Unit {0}
-AllHeads P before (b ∷ bs) = P before b × AllHeads P (b ∷ before) bs
-
--- and with its layout
+-- what holds of each block with its place and its layout, from a place on
 abbrev pub AllLaid : (ℕ → Block → BlockLayout → Type 0) → ℕ → List Block → List BlockLayout → Type 0
 AllLaid P k [] ls = Unit {0}
 AllLaid P k (b ∷ bs) [] = ⊥
@@ -286,11 +274,6 @@ pub from_all : (P : Block → Type 0) (k : ℕ) (bs : List Block) → AllByRecur
     → AllFrom (λ k b. P b) k bs
 from_all P k [] h = tt
 from_all P k (b ∷ bs) h = (h.0, from_all P (suc k) bs h.1)
-
-pub heads_both : (P Q : List Block → Block → Type 0) (before bs : List Block) → AllHeads P before bs
-    → AllHeads Q before bs → AllHeads (λ k b. P k b × Q k b) before bs
-heads_both P Q before [] h g = tt
-heads_both P Q before (b ∷ bs) h g = ((h.0, g.0), heads_both P Q (b ∷ before) bs h.1 g.1)
 
 -- a rule in contexts
 pub contexts_none : (broken : Context → List Statement → List Refusal) (symbols : List Symbol)
@@ -315,23 +298,6 @@ places_none broken k (b ∷ bs) e = (
       ∙ none_right (broken k b) (by_place broken (k + 1) bs) e),
 )
 
--- a rule of heads
-pub heads_none : (breaks : List Block → Block → Bool) (rule : ℕ) (before bs : List Block)
-    → refusals_along (λ b. false) (λ before b. broken_if (breaks before b) b.line rule)
-    (λ before b. b ∷ before) before bs ≡ []
-    → AllHeads (λ before b. breaks before b ≡ false) before bs
-heads_none breaks rule before [] e = tt
-heads_none breaks rule before (b ∷ bs) e = (
-  not_broken (breaks before b) b.line rule
-      (none_left (broken_if (breaks before b) b.line rule)
-      (refusals_along (λ b. false) (λ before b. broken_if (breaks before b) b.line rule)
-      (λ before b. b ∷ before) (b ∷ before) bs) e),
-  heads_none breaks rule (b ∷ before) bs
-      (none_right (broken_if (breaks before b) b.line rule)
-      (refusals_along (λ b. false) (λ before b. broken_if (breaks before b) b.line rule)
-      (λ before b. b ∷ before) (b ∷ before) bs) e),
-)
-
 -- ---- what holds of a statement, of the block at its place
 
 -- an actual parameter
@@ -339,7 +305,7 @@ pub record IsSoundActual (y : Types) (c : Context) (a : Actual) : Type 0 where
   pub known : is_unknown (resolution_of c a.value) ≡ false  -- 20
   pub there : names_unknown y a.value ≡ false  -- 23
   pub inside : operand_is_outside y c.layouts c.block a.value ≡ false  -- 42
-  pub undated : sees_date (resolution_of c a.value) ≡ false  -- 24
+  pub undated : is_resolved_date (resolution_of c a.value) ≡ false  -- 24
 
 -- a call of a block that is checked
 pub record IsSoundCall (c : Context) (callee : Callee) (s : Statement) : Type 0 where
@@ -386,14 +352,6 @@ pub record IsSoundHead (y : Types) (blocks before : List Block) (b : Block) : Ty
   pub by_53 : is_one_too_many before b ≡ false
   pub by_54 : exceeds_total y blocks before b ≡ false
   pub by_55 : has_too_many_statements b ≡ false
-
--- its declarations
-pub record AreSoundDeclarations (y : Types) (b : Block) : Type 0 where
-  pub by_21 : refusals_in_block broken_21 b ≡ []
-  pub by_23 : refusals_in_block (broken_23 y) b ≡ []
-  pub by_41 : refusals_in_block broken_41 b ≡ []
-  pub by_42 : refusals_in_block broken_42 b ≡ []
-  pub by_56 : refusals_in_block (broken_56 y) b ≡ []
 
 -- its settings
 pub record AreSoundSettings (l : List BlockLayout) (k : ℕ) (b : Block) : Type 0 where
@@ -460,7 +418,7 @@ actuals_sound : (y : Types) (c : Context) (actuals : List Actual)
     → AllByRecursion (λ (a : Actual). is_unknown (resolution_of c a.value) ≡ false) actuals
     → AllByRecursion (λ (a : Actual). names_unknown y a.value ≡ false) actuals
     → AllByRecursion (λ (a : Actual). operand_is_outside y c.layouts c.block a.value ≡ false) actuals
-    → AllByRecursion (λ (a : Actual). sees_date (resolution_of c a.value) ≡ false) actuals
+    → AllByRecursion (λ (a : Actual). is_resolved_date (resolution_of c a.value) ≡ false) actuals
     → AllByRecursion (IsSoundActual y c) actuals
 actuals_sound y c [] h20 h23 h42 h24 = tt
 actuals_sound y c (a ∷ more) h20 h23 h42 h24 = (
@@ -499,7 +457,7 @@ record IsClean (y : Types) (c : Context) (s : Statement) : Type 0 where
   by_23 : flat_map (operand_23 y) (operands_of s) ≡ []
   by_42 : flat_map (operand_42 y c.layouts c.block) (operands_of s) ≡ []
   by_24 : at_line s.line (statement_rule c s) ≡ []
-  by_dates : flat_map (λ (a : Actual). broken_if (sees_date (resolution_of c a.value)) a.line 24) s.actuals ≡ []
+  by_dates : flat_map (λ (a : Actual). broken_if (is_resolved_date (resolution_of c a.value)) a.line 24) s.actuals ≡ []
   by_34 : CallsRight calls_34 c s
   by_35 : CallsRight calls_35 c s
   by_36 : CallsRight calls_36 c s
@@ -533,7 +491,7 @@ statement_sound y c s h = record {
   allowed = no_rule s.line (statement_rule c s) h.by_24;
   one_of_nine = not_broken (calls_unknown c s.operand) s.line 46 h.by_46;
   actuals = actuals_sound y c s.actuals pass_20.actuals pass_23.actuals pass_42.actuals
-      (each_passes (λ a. sees_date (resolution_of c a.value)) (λ a. a.line) 24 s.actuals h.by_dates);
+      (each_passes (λ a. is_resolved_date (resolution_of c a.value)) (λ a. a.line) 24 s.actuals h.by_dates);
   calls = call_sound y c s h;
 }
   where
@@ -940,11 +898,6 @@ blocks_clean symbols t well l s = record {
     calls_none broken e =
         contexts_none (λ c body. flat_map (λ s. by_callee (broken c) s (callee_of c s.operand)) body)
         symbols t 0 t.blocks e
-
-layouts_are : (symbols : List Symbol) (t : Tree)
-    → layouts_of t symbols ≡ layouts_from (types_of_source symbols t.blocks) t.blocks [] t.blocks
-unfolding layouts_of layouts_by
-layouts_are symbols t = refl
 
 tree_sound : (symbols : List Symbol) (t : Tree) → IsWellFormed t
     → LaysOutRight (types_of_source symbols t.blocks) (layouts_of t symbols) t.blocks

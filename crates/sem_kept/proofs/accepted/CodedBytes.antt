@@ -29,7 +29,7 @@ use Rattle.stl_ast.specs.declared.declarations.ElementType.{ElementType}
 use Rattle.stl_ast.specs.declared.declarations.Init.{Init}
 use Rattle.stl_ast.specs.declared.blocks.PathStep.{PathStep}
 use Rattle.stl_parser.specs.declared.statements.BareStatement.{BareStatement}
-use Rattle.stl_parser.specs.declared.tables.Address.{Address}
+use Rattle.stl_parser.specs.declared.tables.AddressKind.{AddressKind}
 use Rattle.stl_parser.specs.declared.tables.OperandSyntax.{OperandSyntax}
 use Rattle.stl_parser.specs.declared.clauses.Clause.{Clause}
 use Rattle.stl_parser.specs.declared.clauses.Clause.TheVariants as clause
@@ -149,11 +149,11 @@ module _ (source : List ℕ) (bytes : AreBytes source) where
   unfolding reads.operand_behind_block reads.operand_in_block reads.block_path
   behind_block_has name tokens = grind arith
 
-  direct_has : (a : Address) (n : ℕ) (rest : List Token) → Has (reads.direct_address_operand source a n rest)
+  direct_has : (a : AddressKind) (n : ℕ) (rest : List Token) → Has (reads.direct_address_operand source a n rest)
   unfolding reads.direct_address_operand reads.area_operand reads.data_block_operand
   direct_has a n rest = grind (arith, behind_block_has)
 
-  indirect_has : (a : Address) (tokens : List Token) → Has (reads.indirect_operand source a tokens)
+  indirect_has : (a : AddressKind) (tokens : List Token) → Has (reads.indirect_operand source a tokens)
   unfolding reads.indirect_operand reads.operand_by_pointer reads.operand_by_memory_number
   indirect_has a tokens = grind (arith, register_has)
 

@@ -35,7 +35,7 @@ use Rattle.plc_base.specs.Kinds.{is_callable as is_callable_kind, kind_number}
 use Rattle.stl_types.specs.Constants.{takes_constant}
 use Rattle.stl_types.specs.Context.{Context}
 use Rattle.stl_types.specs.Forms.{form_of}
-use Rattle.stl_types.specs.Operands.{operand_rule, rule_of_resolved_operand, rule_seen, statement_rule}
+use Rattle.stl_types.specs.Operands.{operand_rule, rule_of_resolved_operand, rule_of_resolution, statement_rule}
 use Rattle.stl_types.specs.Parameters.{Callee, callee_of}
 use Rattle.stl_types.specs.Resolved.{resolved_operand}
 use Rattle.stl_types.specs.Resolution.{resolution_of}
@@ -51,7 +51,7 @@ use Rattle.stl_codegen.specs.Compiled.{operand_with_target}
 use Rattle.stl_codegen.specs.Emitted.{call_op, end_op, op_with_end_mark, instance_number_or_zero, jump_op, use_db_ops, ops_of, pass_ops, preparing_op}
 use Rattle.stl_codegen.specs.Instruction.{source_block_at, call_instr, end_instr, filler_instruction, in_parameter_order, instr_by, instruction, jump_instr, passings_to, resolved_instr, target_of, view_instr}
 use Rattle.stl_codegen.specs.Operands.{block_opened_by_operand, flat_operand_of}
-use Rattle.stl_codegen.specs.Passed.{passed_actual, passed_seen, passed_view, passings_from, actual_of_formal, with_index}
+use Rattle.stl_codegen.specs.Passed.{passed_actual, passed_resolution, passed_view, passings_from, actual_of_formal, with_index}
 use Rattle.stl_codegen.specs.Operations.{call_operation_of, end_operation_of, jump_operation_of, operation_for}
 use Rattle.sem_kept.proofs.accepted.CodedBits.{bits_small, constant_taken}
 use Rattle.sem_kept.proofs.accepted.CodedTables.{taken, operation_is_op}
@@ -142,7 +142,7 @@ allowed_by : (c : Context) (f : OperandRule) (o : Operand) (v : ResolvedOperand)
     → resolution_of c o ≡ Resolved v → IsAllowed f o v
 unfolding resolution_of
 allowed_by c f (operand.Constant value) v h e = grind arith
-allowed_by c f o v h e = sym (ap (rule_seen f) e) ∙ h
+allowed_by c f o v h e = sym (ap (rule_of_resolution f) e) ∙ h
 
 -- ---- one that opens a data block first
 
@@ -184,7 +184,7 @@ view_passed : (o : Operand) (v : ResolvedOperand) → ViewFits o v
 view_passed o v fits = grind (arith, nat_tests, direct_fits)
 
 seen_passed : (o : Operand) (s : Resolution) → SeenFits o s
-    → IfSome (passed_seen o s) (λ p. actual_fits p ≡ true)
+    → IfSome (passed_resolution o s) (λ p. actual_fits p ≡ true)
 seen_passed o s fits = grind (arith, view_passed)
 
 -- what a call passes for the parameters from an index on
@@ -212,7 +212,7 @@ passed_one : (c : Context) (index : ℕ) (a : Option Actual) (ps : List Passing)
     → IsGoodPassing (suc n) (passed_actual c index a ++ ps)
 passed_one c index None ps n lt h more = record { parts = more.parts; few = omega (arith, more.few) }
 passed_one c index (Some a) ps n lt h more =
-    by (passed_seen a.value (resolution_of c a.value)) (seen_passed a.value (resolution_of c a.value) h)
+    by (passed_resolution a.value (resolution_of c a.value)) (seen_passed a.value (resolution_of c a.value) h)
   where
     by : (p : Option Passed) → IfSome p (λ p. actual_fits p ≡ true) → IsGoodPassing (suc n) (with_index index p ++ ps)
     by None k = record { parts = more.parts; few = omega (arith, more.few) }

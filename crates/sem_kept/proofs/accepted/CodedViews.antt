@@ -33,7 +33,7 @@ use Rattle.block_layout.specs.declared.walks.ComponentAt.{ComponentAt}
 use Rattle.block_layout.specs.declared.walks.PathEnd.{PathEnd}
 use Rattle.stl_types.specs.Context.{Context, data_number, in_function}
 use Rattle.stl_types.specs.Operands.{is_on_wrong_side}
-use Rattle.stl_types.specs.Resolution.{direct_seen, path_seen, resolution_of, whole_called_block}
+use Rattle.stl_types.specs.Resolution.{resolution_of_address, resolution_of_path, resolution_of, whole_called_block}
 use Rattle.stl_types.specs.Variables.{composite_operand, data_variable, data_walked, variable_in_area, is_temporary_variable, own_elementary, own_walked, parameter_at}
 use Rattle.stl_types.specs.declared.forms.OperandRule.{OperandRule}
 use Rattle.stl_types.specs.declared.views.Resolution.{Resolution}
@@ -179,7 +179,7 @@ data_variable_fits c o name steps fit = grind (arith, data_walk_fits, data_fits 
 -- ---- operands
 
 path_fits : (c : Context) (o : Operand) (p : PathHead) (steps : List PathStep) → IsFit c
-    → SeenFits o (path_seen c p steps)
+    → SeenFits o (resolution_of_path c p steps)
 path_fits c o (head.Local name) steps fit =
     own_fits c o (is_temporary_variable c (upper_case_name name))
     (walked_local c.layouts c.block (upper_case_name name) (folded_path steps)) fit
@@ -188,7 +188,7 @@ path_fits c o (head.Symbol name) steps fit = grind (arith, symbol_fits name c.sy
 
 direct_seen_fits : (c : Context) (o : Operand) (name : Option BlockName) (a : Letters) (w : Width)
     (byte bit : ℕ) → IsFit c → IsWord byte → IsBitOf w bit
-    → SeenFits o (direct_seen c name a w byte bit)
+    → SeenFits o (resolution_of_address c name a w byte bit)
 direct_seen_fits c o name a w byte bit fit k j = grind (arith, (λ (name : BlockName). data_fits c name fit))
 
 block_holds : (c : Context) (id : Option BlockId) → IfSome id (λ id. IsWord id.number)

@@ -38,7 +38,7 @@ use Rattle.block_layout.specs.Fits.{bits_of, fits_elementary_type}
 use Rattle.block_layout.specs.InitialBytes.{Write, component_starts, cell_writes, component_writes, element_starts, filled_starts, in_steps, initial_bytes, length_at, preset_values, bytes_with_write, setting_write, setting_writes, settings_at, structure_writes, type_writes, write_of, writes_at, writes_from}
 use Rattle.block_layout.specs.Layouts.{layouts_of}
 use Rattle.block_layout.specs.Measures.{measuring_rounds, types_of_source}
-use Rattle.block_layout.specs.Paths.{cells_at, cells_in, elementary_at, folded_path, leaves_judged, setting_structure, shape_block, structure_of, path_end_in_data_block, path_end_or_rests, path_end_of_setting}
+use Rattle.block_layout.specs.Paths.{cells_at, cells_in, elementary_at, folded_path, leaves_structure, setting_structure, shape_block, structure_of, path_end_in_data_block, path_end_or_rests, path_end_of_setting}
 use Rattle.block_layout.specs.Rule41.{fits_kind, misfits_component, setting_misfits}
 use Rattle.block_layout.specs.Rule42.{setting_is_outside}
 use Rattle.block_layout.specs.Rule56.{is_too_deep}
@@ -59,12 +59,15 @@ use Rattle.sem_kept.specs.Initial.{HasElements, HasRoom, InitialValuesAreWhole, 
 use Rattle.sem_kept.proofs.accepted.Accepted.{IsSound, IsSoundTree, all_both, each_passes, right_tree}
 use Rattle.sem_kept.proofs.accepted.CodedBits.{value_fits}
 use Rattle.sem_kept.proofs.accepted.CodedBytes.{block_has_bytes}
-use Rattle.sem_kept.proofs.accepted.OperandsCells.{IsUnbroken, Unbroken, are_right, block_of_layout, block_unbroken, cells_are, unbroken_back, unbroken_front}
-use Rattle.sem_kept.proofs.accepted.OperandsPaths.{data_goes, element_parts, element_plain, element_structure, element_udt, structure_fits, udt_fits}
+use Rattle.block_layout.proofs.SoundnessLemmas.{IsUnbroken, Unbroken, block_unbroken, unbroken_back, unbroken_front}
+use Rattle.sem_kept.proofs.accepted.OperandsCells.{are_right, block_of_layout, cells_are}
+use Rattle.block_layout.proofs.ContainmentLemmas.{data_goes, element_parts, element_plain, element_structure, element_udt, structure_fits, udt_fits}
 use Rattle.sem_kept.proofs.accepted.OperandsPlaces.{reached_place}
 use Rattle.sem_kept.proofs.accepted.OperandsViews.{IsStructured, IsThere, layout_id, structured, whole_is}
-use Rattle.sem_kept.proofs.accepted.OperandsWalks.{AreRight, Goes, IsRightCell, IsSettled, Lies, Meets, MeetsKind, UdtEven, element_within, end_step, here_within, index_meets, settled_even, start_meets, step_grows, structure_ends, structure_even}
-use Rattle.sem_kept.proofs.accepted.Shared.{kind_there, or_first, or_second}
+use Rattle.block_layout.proofs.AlignmentLemmas.{AreRight, Goes, IsRightCell, IsSettled, Lies, Meets, MeetsKind, UdtEven, element_within, here_within, index_meets, settled_even, start_meets, structure_ends, structure_even}
+use Rattle.block_layout.proofs.OffsetLemmas.{end_step, step_grows}
+use Rattle.block_layout.proofs.BlockLemmas.{kind_there}
+use Rattle.block_layout.proofs.CommonLemmas.{or_first, or_second}
 
 -- ---- lists
 
@@ -561,7 +564,7 @@ module _ (l : List BlockLayout) (limit k inside : ℕ) (right : AreRight l) (nea
   one_kept s literal has fit stays =
       by (path_end_in_data_block l k (folded_path s.path))
       (data_goes l limit right near k inside (folded_path s.path) is small
-      (ap (λ (o : Option ℕ). leaves_judged l o (folded_path s.path)) (sym same) ∙ stays))
+      (ap (λ (o : Option ℕ). leaves_structure l o (folded_path s.path)) (sym same) ∙ stays))
       (ap (misfits_component l s.value) (sym (walks_as (folded_path s.path))) ∙ fit)
     where
       written : (spot : ComponentAt) → Lies l limit spot → (o : Option Simple) → elementary_at l spot ≡ o
@@ -599,7 +602,7 @@ module _ (l : List BlockLayout) (limit k inside : ℕ) (right : AreRight l) (nea
       let found =
       by (path_end_in_data_block l k (folded_path s.path))
       (data_goes l limit right near k inside (folded_path s.path) is small
-      (ap (λ (o : Option ℕ). leaves_judged l o (folded_path s.path)) (sym same) ∙ stays))
+      (ap (λ (o : Option ℕ). leaves_structure l o (folded_path s.path)) (sym same) ∙ stays))
       (ap (misfits_component l s.value) (sym (walks_as (folded_path s.path))) ∙ fit)
       known in
       record { write = found.0; alone = found.1 }

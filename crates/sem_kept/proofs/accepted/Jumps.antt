@@ -31,7 +31,7 @@ use Rattle.stl_types.specs.Labels.{is_unknown_label, labels_of, unknown_labels}
 use Rattle.stl_types.specs.Landings.{crossing_jumps, landings_at_labels, empty_nesting}
 use Rattle.stl_types.specs.Lists.{list_goes_on, has_label, is_list_jump, is_list_to, is_unconditional_jump, left_behind, lists_from}
 use Rattle.stl_types.specs.Zones.{ends_zone, opens_zone, zones_behind, zones_behind_all, zones_left_open}
-use Rattle.stl_types.specs.declared.brackets.Bracket.{Bracket}
+use Rattle.stl_types.specs.declared.brackets.SourceBracket.{SourceBracket}
 use Rattle.stl_codegen.specs.Bodies.{count_of_statements}
 use Rattle.stl_codegen.specs.Compiled.{SourceInstruction, operand_with_target, op_with_target, code_in}
 use Rattle.stl_codegen.specs.Emitted.{jump_op}
@@ -43,7 +43,8 @@ use Rattle.sem_kept.proofs.compiled.Reading.{aimed_append, aimed_are, aimed_byte
 use Rattle.sem_kept.proofs.compiled.Runs.{Parted, bytes_of, flat as flat_parts, size_aimed, total}
 use Rattle.sem_kept.specs.Jumps.{AllLandRight, LandsRight, jump_fault_of}
 use Rattle.plc_base.proofs.TruthLemmas.{or_met_behind}
-use Rattle.sem_kept.proofs.accepted.JumpsCode.{AreQuiet, IsFound, IsQuiet, codes_after, codes_behind, codes_fault, codes_opened, count_after, count_behind, count_fault, count_is, fault_is, few_codes, few_is, found_by, left_after, no_zones, none_left, open_after, placed_all, spot_there, zone_fault_is}
+use Rattle.sem_kept.proofs.accepted.JumpsCode.{AreQuiet, IsFound, IsQuiet, codes_after, count_after, found_by, left_after, open_after, placed_all, spot_there}
+use Rattle.flat_code.proofs.BracketLemmas.{codes_behind, codes_fault, codes_opened, count_behind, count_fault, count_is, fault_is, few_codes, few_is, no_zones, none_left, zone_fault_is}
 use Rattle.sem_kept.proofs.accepted.JumpsRules.{AreAlike, AreRightFrom, HasList, IsRightAt, IsTarget, behind_more, by_29, by_31, by_47, by_49, few_open, functions, has_list, right_body, same_landings, target_is, target_past, zones_more}
 use Rattle.sem_kept.proofs.accepted.JumpsOperations.{IsLastOf, TakesRight, behind_codes, behind_count, bracket_right, codes_of, front_quiet, jumps_to, last_of, last_op, zone_right}
 
@@ -55,7 +56,7 @@ empty_code code.Empty e = (refl, refl)
 empty_code _ e = absurd cc
 
 -- an empty statement leaves brackets alone
-empty_behind : (bs : List Bracket) (s : Statement) → is_empty_statement s.code ≡ true → brackets_behind bs s ≡ bs
+empty_behind : (bs : List SourceBracket) (s : Statement) → is_empty_statement s.code ≡ true → brackets_behind bs s ≡ bs
 empty_behind bs s e =
     let none = empty_code s.code e in
     rw none.0 (rw none.1 refl)
@@ -90,11 +91,11 @@ no_difference : (xs : List ℕ) (codes : Option (List ℕ)) (zones : ℕ) (there
 no_difference xs codes zones there here same count =
     rw (ap₂ are_other_brackets here same ∙ same_few xs) (rw (eq-eqb zones there.zones (sym count)) refl)
 
-codes_by : (bs : List Bracket) → codes_of bs ≡ map (λ k. 0x18 + k) (functions bs)
+codes_by : (bs : List SourceBracket) → codes_of bs ≡ map (λ k. 0x18 + k) (functions bs)
 codes_by [] = refl
 codes_by (b ∷ bs) = ap (λ (z : List ℕ). (0x18 + b.function) ∷ z) (codes_by bs)
 
-same_functions : (bs ds : List Bracket) → functions bs ≡ functions ds → codes_of bs ≡ codes_of ds
+same_functions : (bs ds : List SourceBracket) → functions bs ≡ functions ds → codes_of bs ≡ codes_of ds
 same_functions bs ds e =
     codes_by bs ∙ ap (λ (z : List ℕ). map (λ k. 0x18 + k) z) e ∙ sym (codes_by ds)
 
@@ -240,7 +241,7 @@ count_more pre s e =
     count_one pre s ∙ ap (λ (t : Bool). count_of_statements pre + (if t then 0 else 1)) e ∙ omega arith
 
 -- the brackets behind statements
-stated_codes : (f : ℕ → ℕ) (c : Context) (body : List Statement) (n : ℕ) (bs : List Bracket)
+stated_codes : (f : ℕ → ℕ) (c : Context) (body : List Statement) (n : ℕ) (bs : List SourceBracket)
     (xs : List Statement) → AllByRecursion TakesRight xs
     → codes_after (aimed_parts f (parts (stated_from c body n xs))) (codes_of bs)
     ≡ codes_of (brackets_behind_all bs xs)
@@ -258,7 +259,7 @@ stated_codes f c body n bs (x ∷ xs) h =
         (if e then stated_from c body n xs else stated c body n x ∷ stated_from c body (suc n) xs))) (codes_of bs)
         ≡ codes_of (brackets_behind_all (brackets_behind bs x) xs)
     by true is same next =
-        ap (λ (z : List Bracket). codes_after (aimed_parts f (parts (stated_from c body n xs))) (codes_of z))
+        ap (λ (z : List SourceBracket). codes_after (aimed_parts f (parts (stated_from c body n xs))) (codes_of z))
         (sym (empty_behind bs x is)) ∙ same
     by false is same next =
         ap (codes_after (aimed_parts f (parts (stated_from c body (suc n) xs))))
@@ -801,7 +802,7 @@ body_lands c body line pre (s ∷ post) at n bs zones all e h takes right =
 
 -- ---- a block
 
-none_open : (bs : List Bracket) → flat_map (λ b. broken_if true b.line 30) bs ≡ [] → bs ≡ []
+none_open : (bs : List SourceBracket) → flat_map (λ b. broken_if true b.line 30) bs ≡ [] → bs ≡ []
 none_open [] e = refl
 none_open (b ∷ bs) e = absurd cc
 

@@ -33,8 +33,8 @@ use Rattle.stl_types.specs.Addresses.{address_in_block}
 use Rattle.stl_types.specs.Brackets.{is_closing_bracket, bracket_function}
 use Rattle.stl_types.specs.Constants.{takes_constant}
 use Rattle.stl_types.specs.Context.{Context, data_number, data_place, in_function}
-use Rattle.stl_types.specs.Operands.{operand_rule, rule_of_resolved_operand, rule_seen, takes_operand}
-use Rattle.stl_types.specs.Resolution.{direct_seen, opened_seen, path_seen, resolution_of, symbol_seen, target_view}
+use Rattle.stl_types.specs.Operands.{operand_rule, rule_of_resolved_operand, rule_of_resolution, takes_operand}
+use Rattle.stl_types.specs.Resolution.{resolution_of_address, resolution_of_opened_block, resolution_of_path, resolution_of, resolution_of_symbol, target_view}
 use Rattle.stl_types.specs.Unknown.{is_unknown}
 use Rattle.stl_types.specs.Variables.{composite_operand, data_at, data_path, data_walked, date_or_composite, variable_in_area, is_temporary_variable, own_at, own_elementary, own_walked, parameter_resolution, parameter_at, parameter_index}
 use Rattle.stl_types.specs.Zones.{ends_zone, opens_zone}
@@ -130,12 +130,12 @@ of_target (target.Timer number) = refl
 of_target (target.Counter number) = refl
 of_target (target.Block id) = refl
 
-of_symbol : (s : Option Symbol) → is_bare (symbol_seen s) ≡ false
+of_symbol : (s : Option Symbol) → is_bare (resolution_of_symbol s) ≡ false
 of_symbol None = refl
 of_symbol (Some s) = of_target s.target
 
 of_path : (c : Context) (h : PathHead) (steps : List PathStep)
-    → is_bare (path_seen c h steps) ≡ false
+    → is_bare (resolution_of_path c h steps) ≡ false
 of_path c (head.Local name) steps =
     of_own c (is_temporary_variable c (upper_case_name name))
     (walked_local c.layouts c.block (upper_case_name name) (folded_path steps))
@@ -149,11 +149,11 @@ of_address None a width byte bit = refl
 of_address (Some number) a width byte bit = refl
 
 of_direct : (c : Context) (name : Option BlockName) (a : Letters) (width : Width) (byte bit : ℕ)
-    → is_bare (direct_seen c name a width byte bit) ≡ false
+    → is_bare (resolution_of_address c name a width byte bit) ≡ false
 of_direct c None a width byte bit = refl
 of_direct c (Some name) a width byte bit = of_address (data_number c name) a width byte bit
 
-of_opened : (di : Bool) (number : Option ℕ) → is_bare (opened_seen di number) ≡ false
+of_opened : (di : Bool) (number : Option ℕ) → is_bare (resolution_of_opened_block di number) ≡ false
 of_opened di None = refl
 of_opened di (Some number) = refl
 
@@ -171,7 +171,7 @@ bare_view _ e = absurd cc
 
 -- what comes to another operand breaks a rule
 none_other : (f : OperandRule) → ((v : ResolvedOperand) → rule_of_resolved_operand f v ≡ None → is_bare (Resolved v) ≡ true)
-    → (x : Resolution) → is_bare x ≡ false → Settles x → is_unknown x ≡ false → rule_seen f x ≡ None → ⊥
+    → (x : Resolution) → is_bare x ≡ false → Settles x → is_unknown x ≡ false → rule_of_resolution f x ≡ None → ⊥
 none_other f takes (Resolved v) other h known e = let bare = takes v e in cc
 none_other f takes Unknown other h known e = cc
 none_other f takes Unjudged other h known e = h
@@ -184,12 +184,12 @@ label_of_jump c (operand.Label name) none h known e = (name, refl)
 label_of_jump c operand.Nothing none h known e = absurd cc
 label_of_jump c (operand.Constant value) none h known e = absurd cc
 label_of_jump c (operand.Direct name a width byte bit) none h known e =
-    absurd (none_other form.Jumps jump_view (direct_seen c name a width byte bit)
+    absurd (none_other form.Jumps jump_view (resolution_of_address c name a width byte bit)
     (of_direct c name a width byte bit) (h none) known e)
 label_of_jump c (operand.Named path steps) none h known e =
-    absurd (none_other form.Jumps jump_view (path_seen c path steps) (of_path c path steps) (h none) known e)
+    absurd (none_other form.Jumps jump_view (resolution_of_path c path steps) (of_path c path steps) (h none) known e)
 label_of_jump c (operand.OpenBlock di name) none h known e =
-    absurd (none_other form.Jumps jump_view (opened_seen di (data_number c name))
+    absurd (none_other form.Jumps jump_view (resolution_of_opened_block di (data_number c name))
     (of_opened di (data_number c name)) (h none) known e)
 label_of_jump c (operand.Called name instance) none h known e = absurd cc
 label_of_jump c _ none h known e = absurd cc
@@ -202,12 +202,12 @@ nothing_of_bare c operand.Nothing none h known e = refl
 nothing_of_bare c (operand.Label name) none h known e = absurd cc
 nothing_of_bare c (operand.Constant value) none h known e = absurd cc
 nothing_of_bare c (operand.Direct name a width byte bit) none h known e =
-    absurd (none_other form.Bare bare_view (direct_seen c name a width byte bit)
+    absurd (none_other form.Bare bare_view (resolution_of_address c name a width byte bit)
     (of_direct c name a width byte bit) (h none) known e)
 nothing_of_bare c (operand.Named path steps) none h known e =
-    absurd (none_other form.Bare bare_view (path_seen c path steps) (of_path c path steps) (h none) known e)
+    absurd (none_other form.Bare bare_view (resolution_of_path c path steps) (of_path c path steps) (h none) known e)
 nothing_of_bare c (operand.OpenBlock di name) none h known e =
-    absurd (none_other form.Bare bare_view (opened_seen di (data_number c name))
+    absurd (none_other form.Bare bare_view (resolution_of_opened_block di (data_number c name))
     (of_opened di (data_number c name)) (h none) known e)
 nothing_of_bare c (operand.Called name instance) none h known e = absurd cc
 nothing_of_bare c _ none h known e = absurd cc

@@ -28,10 +28,10 @@ use Rattle.stl_types.specs.Brackets.{brackets_behind, is_closing_bracket, closes
 use Rattle.stl_types.specs.Context.{Context}
 use Rattle.stl_types.specs.Forms.{form_of}
 use Rattle.stl_types.specs.Operands.{operand_rule, rule_of_resolved_operand, takes_operand}
-use Rattle.stl_types.specs.Resolved.{resolved_operand, seen_view}
+use Rattle.stl_types.specs.Resolved.{resolved_operand, resolved_view}
 use Rattle.stl_types.specs.Resolution.{resolution_of}
 use Rattle.stl_types.specs.Zones.{ends_no_zone, ends_zone, is_ninth_zone, opens_zone, zones_behind}
-use Rattle.stl_types.specs.declared.brackets.Bracket.{Bracket}
+use Rattle.stl_types.specs.declared.brackets.SourceBracket.{SourceBracket}
 use Rattle.stl_types.specs.declared.forms.OperandRule.{OperandRule}
 use Rattle.stl_types.specs.declared.forms.OperandRule.TheVariants as form
 use Rattle.stl_types.specs.declared.views.Register.TheVariants as register
@@ -43,7 +43,8 @@ use Rattle.stl_codegen.specs.Operations.{add_operation, call_operation_of, end_o
 use Rattle.sem_kept.specs.Back.{is_target}
 use Rattle.sem_kept.proofs.compiled.Instructions.{no_target}
 use Rattle.sem_kept.proofs.compiled.Reading.{parted}
-use Rattle.sem_kept.proofs.accepted.JumpsCode.{IsQuiet, codes_behind, codes_fault, count_behind, count_ended, count_fault, count_opened}
+use Rattle.sem_kept.proofs.accepted.JumpsCode.{IsQuiet}
+use Rattle.flat_code.proofs.BracketLemmas.{codes_behind, codes_fault, count_behind, count_ended, count_fault, count_opened}
 
 -- ---- the operands of jumps, of brackets and of zones
 
@@ -239,7 +240,7 @@ nests_form code.McrClose e = refl
 nests_form _ e = absurd cc
 
 abbrev resolved_by : Context → OperandRule → Operand → Option ResolvedOperand
-resolved_by c f o = if is_none (operand_rule c f o) then seen_view (resolution_of c o) else None
+resolved_by c f o = if is_none (operand_rule c f o) then resolved_view (resolution_of c o) else None
 
 bare_resolved : (c : Context) → resolved_by c form.Bare operand.Nothing ≡ Some view.Nothing
 unfolding resolution_of rule_of_resolved_operand takes_operand
@@ -302,28 +303,28 @@ last_of c body n s h =
 -- ---- brackets
 
 -- the codes of brackets
-abbrev pub codes_of : List Bracket → List ℕ
+abbrev pub codes_of : List SourceBracket → List ℕ
 codes_of bs = map (λ b. 0x18 + b.function) bs
 
-codes_one : (bs : List Bracket) (b : Bracket)
+codes_one : (bs : List SourceBracket) (b : SourceBracket)
     → codes_of (bs ++ b ∷ []) ≡ codes_of bs ++ (0x18 + b.function) ∷ []
 codes_one [] b = refl
 codes_one (x ∷ bs) b = ap (λ (z : List ℕ). (0x18 + x.function) ∷ z) (codes_one bs b)
 
-codes_take : (n : ℕ) (bs : List Bracket) → codes_of (take n bs) ≡ take n (codes_of bs)
+codes_take : (n : ℕ) (bs : List SourceBracket) → codes_of (take n bs) ≡ take n (codes_of bs)
 codes_take zero bs = refl
 codes_take (suc n) [] = refl
 codes_take (suc n) (b ∷ bs) = ap (λ (z : List ℕ). (0x18 + b.function) ∷ z) (codes_take n bs)
 
-codes_count : (bs : List Bracket) → length (codes_of bs) ≡ length bs
+codes_count : (bs : List SourceBracket) → length (codes_of bs) ≡ length bs
 codes_count bs = length-map bs (λ b. 0x18 + b.function)
 
 -- the brackets behind a statement, by what it is
-abbrev behind_by : List Bracket → (line : ℕ) → Option ℕ → Bool → List Bracket
+abbrev behind_by : List SourceBracket → (line : ℕ) → Option ℕ → Bool → List SourceBracket
 behind_by bs line None c = if c then take (length bs - 1) bs else bs
 behind_by bs line (Some function) c = bs ++ record { function = function; line = line } ∷ []
 
-behind_is : (bs : List Bracket) (s : Statement)
+behind_is : (bs : List SourceBracket) (s : Statement)
     → brackets_behind bs s ≡ behind_by bs s.line (bracket_function s.code) (is_closing_bracket s.code)
 behind_is bs s = by (bracket_function s.code)
   where
@@ -331,7 +332,7 @@ behind_is bs s = by (bracket_function s.code)
     by None = refl
     by (Some function) = refl
 
-pub behind_codes : (bs : List Bracket) (body : List Statement) (s : Statement) (op : OpData)
+pub behind_codes : (bs : List SourceBracket) (body : List Statement) (s : Statement) (op : OpData)
     → IsLastOf body s op → codes_behind op.code (codes_of bs) ≡ codes_of (brackets_behind bs s)
 behind_codes bs body s op h =
     by (bracket_function s.code) (is_closing_bracket s.code) h.code.0 ∙ ap codes_of (sym (behind_is bs s))
@@ -350,11 +351,11 @@ behind_codes bs body s op h =
         ∙ sym (codes_take (length bs - 1) bs)
     by None false g = rw g.0 (rw g.1 refl)
 
-none_there : (bs : List Bracket) → nat_eq (length bs) 0 ≡ false → is_empty_list (codes_of bs) ≡ false
+none_there : (bs : List SourceBracket) → nat_eq (length bs) 0 ≡ false → is_empty_list (codes_of bs) ≡ false
 none_there [] e = absurd cc
 none_there (b ∷ bs) e = refl
 
-pub bracket_right : (bs : List Bracket) (body : List Statement) (s : Statement) (op : OpData)
+pub bracket_right : (bs : List SourceBracket) (body : List Statement) (s : Statement) (op : OpData)
     → IsLastOf body s op → closes_no_bracket bs s ≡ false → is_eighth_bracket bs s ≡ false
     → codes_fault op.code (codes_of bs) ≡ None
 bracket_right bs body s op h shut eighth = by (bracket_function s.code) (is_closing_bracket s.code) h.code.0 shut eighth

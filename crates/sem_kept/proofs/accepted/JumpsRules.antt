@@ -17,17 +17,17 @@ use Rattle.plc_base.specs.Least.{broken_if}
 use Rattle.stl_symbols.specs.Names.{name_place}
 use Rattle.stl_types.specs.Brackets.{brackets_behind, brackets_behind_all, is_closing_bracket, closes_no_bracket, is_eighth_bracket, brackets_after_opening, bracket_function, with_brackets}
 use Rattle.stl_types.specs.Labels.{is_unknown_label, label_of, labels_of, unknown_labels}
-use Rattle.stl_types.specs.Landings.{Landing, Nesting, are_unequal, crosses_nesting, landings_differ, functions_of, landing_at, landing_here, landing_of, landings_at_labels, lands_elsewhere, nesting_behind, empty_nesting}
+use Rattle.stl_types.specs.Landings.{Landing, SourceNesting, are_unequal, crosses_nesting, landings_differ, functions_of, landing_at, landing_here, landing_of, landings_at_labels, lands_elsewhere, nesting_behind, empty_nesting}
 use Rattle.stl_types.specs.Lists.{has_label, is_list_jump, is_list_to, is_wrong_list, lacks_list, lists_from}
 use Rattle.stl_types.specs.Zones.{ends_no_zone, is_ninth_zone, with_zones, zones_behind, zones_behind_all}
-use Rattle.stl_types.specs.declared.brackets.Bracket.{Bracket}
+use Rattle.stl_types.specs.declared.brackets.SourceBracket.{SourceBracket}
 use Rattle.stl_codegen.specs.Bodies.{count_of_statements}
 use Rattle.stl_codegen.specs.Instruction.{count_of_statement, target_in}
-use Rattle.sem_kept.proofs.accepted.Accepted.{none_left, none_right, not_broken}
+use Rattle.block_layout.proofs.CommonLemmas.{none_left, none_right, not_broken}
 
 -- ---- statements behind others
 
-pub behind_more : (bs : List Bracket) (xs ys : List Statement)
+pub behind_more : (bs : List SourceBracket) (xs ys : List Statement)
     → brackets_behind_all bs (xs ++ ys) ≡ brackets_behind_all (brackets_behind_all bs xs) ys
 behind_more bs [] ys = refl
 behind_more bs (x ∷ xs) ys = behind_more (brackets_behind bs x) xs ys
@@ -38,7 +38,7 @@ zones_more zones [] ys = refl
 zones_more zones (x ∷ xs) ys = zones_more (zones_behind zones x) xs ys
 
 -- what is open behind statements
-abbrev pub nesting_after : Nesting → List Statement → Nesting
+abbrev pub nesting_after : SourceNesting → List Statement → SourceNesting
 nesting_after n ss = record {
   brackets = brackets_behind_all n.brackets ss;
   zones = zones_behind_all n.zones ss;
@@ -47,11 +47,11 @@ nesting_after n ss = record {
 nesting_more : (pre : List Statement) (s : Statement)
     → nesting_behind (nesting_after empty_nesting pre) s ≡ nesting_after empty_nesting (pre ++ s ∷ [])
 nesting_more pre s =
-    ap (λ (z : List Bracket). nested z (zones_behind (zones_behind_all [] pre) s))
+    ap (λ (z : List SourceBracket). nested z (zones_behind (zones_behind_all [] pre) s))
     (sym (behind_more [] pre (s ∷ [])))
     ∙ ap (nested (brackets_behind_all [] (pre ++ s ∷ []))) (sym (zones_more [] pre (s ∷ [])))
   where
-    nested : List Bracket → (zones : List ℕ) → Nesting
+    nested : List SourceBracket → (zones : List ℕ) → SourceNesting
     nested brackets zones = record { brackets = brackets; zones = zones }
 
 pub labels_more : (xs ys : List Statement) → labels_of (xs ++ ys) ≡ labels_of xs ++ labels_of ys
@@ -84,10 +84,10 @@ abbrev pub AreRightFrom : (body pre : List Statement) → List Statement → Typ
 AreRightFrom body pre [] = Unit {0}
 AreRightFrom body pre (s ∷ post) = IsRightAt body pre s post × AreRightFrom body (pre ++ s ∷ []) post
 
-abbrev pub by_29 : List Bracket → List Statement → List Refusal
+abbrev pub by_29 : List SourceBracket → List Statement → List Refusal
 by_29 bs body = with_brackets (λ brackets s. broken_if (closes_no_bracket brackets s) s.line 29) bs body
 
-abbrev pub by_31 : List Bracket → List Statement → List Refusal
+abbrev pub by_31 : List SourceBracket → List Statement → List Refusal
 by_31 bs body = with_brackets (λ brackets s. broken_if (is_eighth_bracket brackets s) s.line 31) bs body
 
 abbrev pub by_47 : (zones : List ℕ) → List Statement → List Refusal
@@ -96,7 +96,7 @@ by_47 zones body = with_zones (λ zones s. broken_if (ends_no_zone zones s) s.li
 abbrev pub by_49 : (zones : List ℕ) → List Statement → List Refusal
 by_49 zones body = with_zones (λ zones s. broken_if (is_ninth_zone zones s) s.line 49) zones body
 
-abbrev pub by_33 : (labels : List (List ℕ)) → List Landing → Nesting → List Statement → List Refusal
+abbrev pub by_33 : (labels : List (List ℕ)) → List Landing → SourceNesting → List Statement → List Refusal
 by_33 labels landings n body =
     refusals_along (λ s. false) (λ n s. broken_if (crosses_nesting labels landings n s.operand) s.line 33)
     nesting_behind n body
@@ -161,14 +161,14 @@ others_right body pre s post h =
     record {
       by_26 = none_right (broken_if (is_unknown_label labels s.operand) s.line 26)
           (unknown_labels labels post) h.by_26;
-      by_29 = ap (λ (z : List Bracket). by_29 z post) behind_s
+      by_29 = ap (λ (z : List SourceBracket). by_29 z post) behind_s
           ∙ none_right (broken_if (closes_no_bracket bs s) s.line 29) (by_29 (brackets_behind bs s) post) h.by_29;
-      by_31 = ap (λ (z : List Bracket). by_31 z post) behind_s
+      by_31 = ap (λ (z : List SourceBracket). by_31 z post) behind_s
           ∙ none_right (broken_if (is_eighth_bracket bs s) s.line 31) (by_31 (brackets_behind bs s) post) h.by_31;
       by_32 = ap (λ (z : List (List ℕ)). lists_from z post) (labels_one pre s)
           ∙ none_right (broken_if (is_wrong_list before s post) s.line 32) (lists_from before post)
           h.by_32;
-      by_33 = ap (λ (z : Nesting). by_33 labels landings z post) (sym (nesting_more pre s))
+      by_33 = ap (λ (z : SourceNesting). by_33 labels landings z post) (sym (nesting_more pre s))
           ∙ none_right (broken_if (crosses_nesting labels landings n s.operand) s.line 33)
           (by_33 labels landings (nesting_behind n s) post) h.by_33;
       by_47 = ap (λ (z : List ℕ). by_47 z post) zones_behind_s
@@ -191,12 +191,12 @@ right_body body h = right_from body [] body h
 
 -- ---- at most seven brackets
 
-few_closed : (bs : List Bracket) → length bs ≤ 7 → length (take (length bs - 1) bs) ≤ 7
+few_closed : (bs : List SourceBracket) → length bs ≤ 7 → length (take (length bs - 1) bs) ≤ 7
 few_closed bs few =
     let same = length-take-le (length bs - 1) bs (omega arith) in
     omega (arith, same, few)
 
-few_behind : (bs : List Bracket) (s : Statement) → length bs ≤ 7 → is_eighth_bracket bs s ≡ false
+few_behind : (bs : List SourceBracket) (s : Statement) → length bs ≤ 7 → is_eighth_bracket bs s ≡ false
     → length (brackets_behind bs s) ≤ 7
 few_behind bs s few e = by (bracket_function s.code) e
   where
@@ -211,7 +211,7 @@ few_behind bs s few e = by (bracket_function s.code) e
         let same = length-append bs (record { function = function; line = s.line } ∷ []) in
         omega (arith, less, same)
 
-few_on : (bs : List Bracket) (xs ys : List Statement) → length bs ≤ 7 → by_31 bs (xs ++ ys) ≡ []
+few_on : (bs : List SourceBracket) (xs ys : List Statement) → length bs ≤ 7 → by_31 bs (xs ++ ys) ≡ []
     → length (brackets_behind_all bs xs) ≤ 7
 few_on bs [] ys few e = few
 few_on bs (x ∷ xs) ys few e =
@@ -228,7 +228,7 @@ few_open body pre post e by =
 -- ---- the statement of a label
 
 -- the first statement that has a label, with those before it
-pub record IsTarget (body : List Statement) (n : Nesting) (name : List ℕ) : Type 0 where
+pub record IsTarget (body : List Statement) (n : SourceNesting) (name : List ℕ) : Type 0 where
   pub before : List Statement
   pub rest : List Statement
   pub whole : body ≡ before ++ rest
@@ -237,7 +237,7 @@ pub record IsTarget (body : List Statement) (n : Nesting) (name : List ℕ) : Ty
       ≡ Some (landing_of (nesting_after n before))
 
 -- the same of statements of which the first has this label
-record IsTargetBy (s : Statement) (ss : List Statement) (n : Nesting) (name : List ℕ)
+record IsTargetBy (s : Statement) (ss : List Statement) (n : SourceNesting) (name : List ℕ)
     (label : Option (List ℕ)) : Type 0 where
   before : List Statement
   rest : List Statement
@@ -263,7 +263,7 @@ no_further None e = refl
 no_further (Some n) e = absurd cc
 
 -- one more statement before
-later : (s : Statement) (ss : List Statement) (n : Nesting) (name : List ℕ)
+later : (s : Statement) (ss : List Statement) (n : SourceNesting) (name : List ℕ)
     → IsTarget ss (nesting_behind n s) name → IsTargetBy s ss n name None
 later s ss n name r = record {
   before = s ∷ r.before;
@@ -274,7 +274,7 @@ later s ss n name r = record {
 }
 
 -- a label that is this one or isn't
-record IsTargetIf (s : Statement) (ss : List Statement) (n : Nesting) (name : List ℕ)
+record IsTargetIf (s : Statement) (ss : List Statement) (n : SourceNesting) (name : List ℕ)
     (same : Bool) : Type 0 where
   before : List Statement
   rest : List Statement
@@ -284,7 +284,7 @@ record IsTargetIf (s : Statement) (ss : List Statement) (n : Nesting) (name : Li
       (if same then Some 0 else option_map (λ k. suc k) (name_place name (labels_of ss)))
       ≡ Some (landing_of (nesting_after n before))
 
-by_label : (s : Statement) (ss : List Statement) (n : Nesting) (name l : List ℕ) (k : ℕ)
+by_label : (s : Statement) (ss : List Statement) (n : SourceNesting) (name l : List ℕ) (k : ℕ)
     → ((j : ℕ) → name_place name (labels_of ss) ≡ Some j → IsTarget ss (nesting_behind n s) name)
     → name_place name (l ∷ labels_of ss) ≡ Some k → IsTargetBy s ss n name (Some l)
 by_label s ss n name l k more e =
@@ -315,7 +315,7 @@ by_label s ss n name l k more e =
               ∙ r.landing;
         }
 
-target_from : (body : List Statement) (n : Nesting) (name : List ℕ) (k : ℕ)
+target_from : (body : List Statement) (n : SourceNesting) (name : List ℕ) (k : ℕ)
     → name_place name (labels_of body) ≡ Some k → IsTarget body n name
 unfolding target_in
 target_from [] n name k e = absurd cc
@@ -412,10 +412,10 @@ equal_lists xs ys few e = by (nat_eq (length xs) 8) refl (nat_eq (length ys) 8) 
     by false is b true same h = (bytes_eq-Decides xs ys).0 same
     by false is b false same h = absurd cc
 
-abbrev pub functions : List Bracket → List ℕ
+abbrev pub functions : List SourceBracket → List ℕ
 functions bs = map (λ b. b.function) bs
 
-functions_few : (bs : List Bracket) → length bs ≤ 7 → functions_of bs ≡ functions bs
+functions_few : (bs : List SourceBracket) → length bs ≤ 7 → functions_of bs ≡ functions bs
 functions_few bs few = ap functions (take_all 8 bs (omega (arith, few)))
 
 -- two landings that don't differ
@@ -451,16 +451,16 @@ same_landings body pre before s post name h label few few' there = record {
   zones = same.1;
 }
   where
-    here : List Bracket
+    here : List SourceBracket
     here = brackets_behind_all [] pre
 
-    there_open : List Bracket
+    there_open : List SourceBracket
     there_open = brackets_behind_all [] before
 
     count : length (functions here) ≡ length here
     count = length-map here (λ b. b.function)
 
-    from : Nesting
+    from : SourceNesting
     from = nesting_after empty_nesting pre
 
     same : (are_unequal (functions_of here) (functions_of there_open) ≡ false)

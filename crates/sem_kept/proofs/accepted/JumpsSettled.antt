@@ -31,8 +31,8 @@ seen_settles : (a : Environment) (x : Resolution) → IsSeen a x → Settles x
 seen_settles a x h = subst Settles (sym h.is) tt
 
 -- no other block has a part in it
-abbrev around_of : Block → BlockLayout → Environment
-around_of b l = record {
+abbrev environment_of : Block → BlockLayout → Environment
+environment_of b l = record {
   kind = kind_number b.kind;
   local_len = l.local_len;
   params = map record_of_param (params_of b l);
@@ -48,8 +48,8 @@ all_settle : (symbols : List Symbol) (t : Tree) → IsSoundTree symbols t
 all_settle symbols t tree fit k b l block is [] h ends = tt
 all_settle symbols t tree fit k b l block is (s ∷ ss) h ends = (
   λ other.
-      seen_settles (around_of b l) (resolution_of (context_at symbols t k) s.operand)
-      (operand_seen symbols t tree fit k b l block is (around_of b l)
+      seen_settles (environment_of b l) (resolution_of (context_at symbols t k) s.operand)
+      (operand_seen symbols t tree fit k b l block is (environment_of b l)
       (record { kind = refl; local = refl; params = refl }) s.operand (record {
         well_formed = h.0.well_formed.value;
         known = h.0.known;

@@ -56,14 +56,14 @@ use Rattle.block_layout.specs.declared.blocks.BlockLayout.{BlockLayout}
 use Rattle.block_layout.specs.declared.blocks.Shape.{Shape}
 use Rattle.block_layout.specs.declared.blocks.Shape.TheVariants as shape
 use Rattle.block_layout.specs.declared.cells.Cell.{Cell}
-use Rattle.stl_types.specs.Actuals.{fits_operand, fits_seen, fits_view, formal_named}
+use Rattle.stl_types.specs.Actuals.{fits_operand, fits_resolution, fits_view, formal_named}
 use Rattle.stl_types.specs.Calls.{calls_unknown, has_formals, has_no_instance, has_wrong_instance, is_instance, is_no_instance, is_of_block, is_supplied, is_unknown_function, misfits_formal, names_no_formal, supplied_names}
 use Rattle.stl_types.specs.Context.{Context, data_number, source_block_ids, whole_data_place, whole_place}
 use Rattle.stl_types.specs.Forms.{form_of}
 use Rattle.stl_types.specs.Kinds.{is_operand_of_call as is_called_view}
-use Rattle.stl_types.specs.Operands.{operand_rule, rule_of_resolved_operand, rule_seen}
+use Rattle.stl_types.specs.Operands.{operand_rule, rule_of_resolved_operand, rule_of_resolution}
 use Rattle.stl_types.specs.Parameters.{Callee, callee_at, callee_by, callee_of, formals_of, is_sound_formal, source_callee, system_callee, system_formals}
-use Rattle.stl_types.specs.Resolution.{called_seen, id_at, instance_number as instance_of_name, resolution_of, whole_called_block}
+use Rattle.stl_types.specs.Resolution.{resolution_of_call, id_at, instance_number as instance_of_name, resolution_of, whole_called_block}
 use Rattle.stl_types.specs.declared.forms.OperandRule.{OperandRule}
 use Rattle.stl_types.specs.declared.forms.OperandRule.TheVariants as form
 use Rattle.stl_types.specs.declared.parameters.Formal.{Formal}
@@ -75,20 +75,24 @@ use Rattle.stl_codegen.specs.Compiled.{compiled_block}
 use Rattle.stl_codegen.specs.Emitted.{instance_number_or_zero, pass_ops, preparing_op}
 use Rattle.stl_codegen.specs.Generated.{code_blocks_of, data_blocks_of, instance_len, params_of}
 use Rattle.stl_codegen.specs.Instruction.{source_block_at, in_parameter_order, passings_to, return_last}
-use Rattle.stl_codegen.specs.Passed.{passed_actual, passed_place, passed_seen, passed_view, passings_from, actual_of_formal, with_index}
+use Rattle.stl_codegen.specs.Passed.{passed_actual, passed_place, passed_resolution, passed_view, passings_from, actual_of_formal, with_index}
 use Rattle.stl_codegen.specs.Operations.{call_operation_of}
 use Rattle.sem_kept.specs.Coded.{OperandHasBytes, StatementHasBytes}
 use Rattle.sem_kept.specs.Operands.{ArePassed, InstrFits, PassesAlone}
 use Rattle.sem_kept.specs.Settled.{NamesWhatIsPassed}
 use Rattle.sem_kept.proofs.accepted.Accepted.{IsSound, IsSoundActual, IsSoundCall, IsSoundStatement, IsSoundTree, context_at}
-use Rattle.sem_kept.proofs.accepted.OperandsCells.{are_right, block_unbroken, cells_are, known_there, layout_of_block, measured_symbols}
+use Rattle.sem_kept.proofs.accepted.OperandsCells.{are_right, cells_are, layout_of_block}
+use Rattle.block_layout.proofs.SoundnessLemmas.{block_unbroken}
+use Rattle.block_layout.proofs.BlockLemmas.{known_there}
+use Rattle.block_layout.proofs.LayoutLemmas.{measured_symbols}
 use Rattle.sem_kept.proofs.accepted.OperandsFormals.{Distinct, IsFoundIn, IsSystem, Matched, block_formals, found_each, fresh_distinct, return_all, source_matched, system_matched}
 use Rattle.sem_kept.proofs.accepted.OperandsInstr.{CallFits}
 use Rattle.sem_kept.proofs.accepted.OperandsMembers.{called_block, instance_found}
 use Rattle.sem_kept.proofs.accepted.OperandsPassed.{IsGoodActual, Passes, passed_from, supplied_passes}
 use Rattle.sem_kept.proofs.accepted.OperandsSymbols.{SymbolFits}
 use Rattle.sem_kept.proofs.accepted.OperandsViews.{EndsBy, IsData, IsThere, Surrounds, block_own, data_block_kind, data_length, data_there, id_there, id_there_is, ids_same, instance_length, layout_id, layout_shape, not_none, operand_seen, whole_is}
-use Rattle.sem_kept.proofs.accepted.Shared.{callable_by, calls_called, or_first, or_second}
+use Rattle.sem_kept.proofs.accepted.Shared.{callable_by, calls_called}
+use Rattle.block_layout.proofs.CommonLemmas.{or_first, or_second}
 
 -- ---- what is passed stands among the ops
 
@@ -220,7 +224,7 @@ unfolding resolution_of
 seen_call c name inst id instance e = by (named_block c.symbols name) refl e
   where
     given : (x : BlockId) (inst : Option BlockName)
-        → called_seen (Some x) inst (instance_of_name c inst) ≡ Resolved (view.Called id instance)
+        → resolution_of_call (Some x) inst (instance_of_name c inst) ≡ Resolved (view.Called id instance)
         → (x ≡ id) × IsInstanceOf c inst instance
     given x None h = (
       called_same x id None instance h,
@@ -229,7 +233,7 @@ seen_call c name inst id instance e = by (named_block c.symbols name) refl e
     given x (Some nm) h = number (data_number c nm) refl h
       where
         number : (o : Option ℕ) → data_number c nm ≡ o
-            → called_seen (Some x) (Some nm) o ≡ Resolved (view.Called id instance)
+            → resolution_of_call (Some x) (Some nm) o ≡ Resolved (view.Called id instance)
             → (x ≡ id) × IsInstanceOf c (Some nm) instance
         number None is h = absurd cc
         number (Some n) is h = (
@@ -239,7 +243,7 @@ seen_call c name inst id instance e = by (named_block c.symbols name) refl e
 
     made : (x : BlockId) → named_block c.symbols name ≡ Some x
         → (is_system_function x.kind ≡ false → (p : ℕ) × (whole_place c x ≡ Some p))
-        → called_seen (Some x) inst (instance_of_name c inst) ≡ Resolved (view.Called id instance)
+        → resolution_of_call (Some x) inst (instance_of_name c inst) ≡ Resolved (view.Called id instance)
         → IsCall c name inst id instance
     made x is whole h =
         let both = given x inst h in
@@ -251,19 +255,19 @@ seen_call c name inst id instance e = by (named_block c.symbols name) refl e
 
     placed : (x : BlockId) → named_block c.symbols name ≡ Some x → is_system_function x.kind ≡ false
         → (o : Option ℕ) → whole_place c x ≡ o
-        → called_seen (id_at x o) inst (instance_of_name c inst) ≡ Resolved (view.Called id instance)
+        → resolution_of_call (id_at x o) inst (instance_of_name c inst) ≡ Resolved (view.Called id instance)
         → IsCall c name inst id instance
     placed x is other None w h = absurd cc
     placed x is other (Some p) w h = made x is (λ k. (p, w)) h
 
     whether : (x : BlockId) → named_block c.symbols name ≡ Some x → (t : Bool) → is_system_function x.kind ≡ t
-        → called_seen (if t then Some x else id_at x (whole_place c x)) inst (instance_of_name c inst) ≡ Resolved (view.Called id instance)
+        → resolution_of_call (if t then Some x else id_at x (whole_place c x)) inst (instance_of_name c inst) ≡ Resolved (view.Called id instance)
         → IsCall c name inst id instance
     whether x is true sys h = made x is (λ k. absurd cc) h
     whether x is false sys h = placed x is sys (whole_place c x) refl h
 
     by : (o : Option BlockId) → named_block c.symbols name ≡ o
-        → called_seen (whole_called_block c o) inst (instance_of_name c inst) ≡ Resolved (view.Called id instance)
+        → resolution_of_call (whole_called_block c o) inst (instance_of_name c inst) ≡ Resolved (view.Called id instance)
         → IsCall c name inst id instance
     by None is h = absurd cc
     by (Some x) is h = whether x is (is_system_function x.kind) refl h
@@ -759,7 +763,7 @@ block_three kinds.Udt e = absurd cc
 
 seen_called : (c : Context) (name : BlockName) (inst : Option BlockName)
     → resolution_of c (operand.Called name inst)
-    ≡ called_seen (whole_called_block c (named_block c.symbols name)) inst (instance_of_name c inst)
+    ≡ resolution_of_call (whole_called_block c (named_block c.symbols name)) inst (instance_of_name c inst)
 unfolding resolution_of
 seen_called c name inst = refl
 
@@ -795,11 +799,11 @@ block_whole symbols t tree k (Some id) e = by (is_system_function id.kind) e
 instance_known : (symbols : List Symbol) (t : Tree) → IsSoundTree symbols t → (k : ℕ) (id : BlockId)
     (inst : Option BlockName) → is_unknown_instance (types_of_source symbols t.blocks) inst ≡ false
     → (n : Option ℕ)
-    × (called_seen (Some id) inst (instance_of_name (context_at symbols t k) inst) ≡ Resolved (view.Called id n))
+    × (resolution_of_call (Some id) inst (instance_of_name (context_at symbols t k) inst) ≡ Resolved (view.Called id n))
 instance_known symbols t tree k id None e = (None, refl)
 instance_known symbols t tree k id (Some name) e =
     let d = data_there symbols t tree k name e in
-    (Some d.block.id.number, ap (λ (o : Option ℕ). called_seen (Some id) (Some name) o) d.number)
+    (Some d.block.id.number, ap (λ (o : Option ℕ). resolution_of_call (Some id) (Some name) o) d.number)
 
 -- ---- an actual parameter names what is passed
 
@@ -824,18 +828,18 @@ view_passed f o (view.Parameter index own declared) e = (passed.Parameter index 
 view_passed f o _ e = absurd cc
 
 constant_passed : (c : Context) (value : Literal)
-    → (p : Passed) × (passed_seen (operand.Constant value) (resolution_of c (operand.Constant value)) ≡ Some p)
+    → (p : Passed) × (passed_resolution (operand.Constant value) (resolution_of c (operand.Constant value)) ≡ Some p)
 unfolding resolution_of
 constant_passed c value = (passed.Literal (bits_of value), refl)
 
 other_passed : (c : Context) (f : Formal) (o : Operand) (v : ResolvedOperand) → resolution_of c o ≡ Resolved v
-    → fits_seen f (resolution_of c o) ≡ true → (p : Passed) × (passed_seen o (resolution_of c o) ≡ Some p)
+    → fits_resolution f (resolution_of c o) ≡ true → (p : Passed) × (passed_resolution o (resolution_of c o) ≡ Some p)
 other_passed c f o v is e =
-    let one = view_passed f o v (ap (fits_seen f) (sym is) ∙ e) in
-    (one.0, ap (passed_seen o) is ∙ one.1)
+    let one = view_passed f o v (ap (fits_resolution f) (sym is) ∙ e) in
+    (one.0, ap (passed_resolution o) is ∙ one.1)
 
 operand_passed : (c : Context) (f : Formal) (o : Operand) (v : ResolvedOperand) → resolution_of c o ≡ Resolved v
-    → fits_operand c f o ≡ true → (p : Passed) × (passed_seen o (resolution_of c o) ≡ Some p)
+    → fits_operand c f o ≡ true → (p : Passed) × (passed_resolution o (resolution_of c o) ≡ Some p)
 unfolding fits_operand
 operand_passed c f (operand.Constant value) v is e = constant_passed c value
 operand_passed c f operand.Nothing v is e = other_passed c f operand.Nothing v is e
@@ -913,7 +917,7 @@ module _ (symbols : List Symbol) (t : Tree) (tree : IsSoundTree symbols t)
       rule : rule_of_resolved_operand form.Calls (view.Called id instance) ≡ None
       rule =
           ap (λ (f : OperandRule). rule_of_resolved_operand f (view.Called id instance)) (sym (calls_form s.code how word))
-          ∙ ap (λ (x : Resolution). rule_seen (form_of s.code) x) (sym seen_is)
+          ∙ ap (λ (x : Resolution). rule_of_resolution (form_of s.code) x) (sym seen_is)
           ∙ ap (λ (x : Operand). operand_rule (context_at symbols t k) (form_of s.code) x) (sym o.2)
           ∙ sound.allowed
 
@@ -1122,7 +1126,7 @@ module _ (symbols : List Symbol) (t : Tree) (tree : IsSoundTree symbols t)
     whole.0,
     given.0,
     ap (resolution_of (context_at symbols t k)) o.2 ∙ seen_called (context_at symbols t k) o.0 o.1
-        ∙ ap (λ (z : Option BlockId). called_seen z o.1 (instance_of_name (context_at symbols t k) o.1)) whole.1
+        ∙ ap (λ (z : Option BlockId). resolution_of_call z o.1 (instance_of_name (context_at symbols t k) o.1)) whole.1
         ∙ given.1,
   )
     where
@@ -1140,7 +1144,7 @@ module _ (symbols : List Symbol) (t : Tree) (tree : IsSoundTree symbols t)
           (is_unknown_instance (types_of_source symbols t.blocks) o.1) there)
 
       given : (n : Option ℕ)
-          × (called_seen (Some whole.0) o.1 (instance_of_name (context_at symbols t k) o.1) ≡ Resolved (view.Called whole.0 n))
+          × (resolution_of_call (Some whole.0) o.1 (instance_of_name (context_at symbols t k) o.1) ≡ Resolved (view.Called whole.0 n))
       given = instance_known symbols t tree k whole.0 o.1
           (or_second (is_unknown_called (types_of_source symbols t.blocks) o.0)
           (is_unknown_instance (types_of_source symbols t.blocks) o.1) there)

@@ -46,8 +46,8 @@ use Rattle.stl_types.specs.declared.parameters.Formal.{Formal}
 use Rattle.stl_codegen.specs.Generated.{param_here, param_of, params_of, section_number}
 use Rattle.stl_codegen.specs.Instruction.{in_parameter_order, return_last}
 use Rattle.sem_kept.proofs.accepted.Accepted.{all_both, all_mapped}
-use Rattle.sem_kept.proofs.accepted.OperandsCells.{IsUnbroken, Unbroken}
-use Rattle.sem_kept.proofs.accepted.Shared.{or_first}
+use Rattle.block_layout.proofs.SoundnessLemmas.{IsUnbroken, Unbroken}
+use Rattle.block_layout.proofs.CommonLemmas.{or_first}
 
 -- ---- as the source has them, and the code
 

@@ -17,9 +17,9 @@ use Rattle.stl_ast.specs.declared.operands.Operand.TheVariants as operand
 use Rattle.stl_ast.specs.declared.statements.Statement.{Statement}
 use Rattle.stl_types.specs.Context.{Context}
 use Rattle.stl_types.specs.Forms.{form_of}
-use Rattle.stl_types.specs.Operands.{operand_rule, rule_of_resolved_operand, rule_seen, statement_rule}
+use Rattle.stl_types.specs.Operands.{operand_rule, rule_of_resolved_operand, rule_of_resolution, statement_rule}
 use Rattle.stl_types.specs.Parameters.{callee_of}
-use Rattle.stl_types.specs.Resolved.{resolved_operand, seen_view}
+use Rattle.stl_types.specs.Resolved.{resolved_operand, resolved_view}
 use Rattle.stl_types.specs.Resolution.{resolution_of}
 use Rattle.stl_types.specs.declared.forms.OperandRule.{OperandRule}
 use Rattle.stl_types.specs.declared.views.Resolution.{Resolution}
@@ -50,8 +50,8 @@ no_call code.Cc e = absurd cc
 no_call _ e = refl
 
 seen_rule : (c : Context) (f : OperandRule) (o : Operand) (v : ResolvedOperand) → resolution_of c o ≡ Resolved v
-    → rule_seen f (resolution_of c o) ≡ None → rule_of_resolved_operand f v ≡ None
-seen_rule c f o v e h = ap (λ (s : Resolution). rule_seen f s) (sym e) ∙ h
+    → rule_of_resolution f (resolution_of c o) ≡ None → rule_of_resolved_operand f v ≡ None
+seen_rule c f o v e h = ap (λ (s : Resolution). rule_of_resolution f s) (sym e) ∙ h
 
 constant_seen : (c : Context) (value : Literal) → resolution_of c (operand.Constant value) ≡ Resolved view.Constant
 unfolding resolution_of
@@ -100,10 +100,10 @@ does_fits a lens c s v e h fits None = (
 does_fits a lens c s v e h fits (Some how) = tt
 
 pub resolved_is : (c : Context) (s : Statement) → statement_rule c s ≡ None
-    → resolved_operand c s ≡ seen_view (resolution_of c s.operand)
+    → resolved_operand c s ≡ resolved_view (resolution_of c s.operand)
 unfolding resolved_operand
 resolved_is c s h =
-    ap (λ (o : Option ℕ). if is_none o then seen_view (resolution_of c s.operand) else None) h
+    ap (λ (o : Option ℕ). if is_none o then resolved_view (resolution_of c s.operand) else None) h
 
 -- what is owed of a call
 abbrev pub CallFits : Environment → List (ℕ × ℕ) → Context → Statement → Type 0
@@ -126,7 +126,7 @@ unfolding instruction
 instr_fits a lens c body n s allowed seen_fits calls = by (jump_operation_of s.code)
   where
     called : (how : CallOperation) → call_operation_of s.code ≡ Some how → (x : Resolution) → resolution_of c s.operand ≡ x
-        → InstrFits a lens (resolved_instr c s (seen_view x))
+        → InstrFits a lens (resolved_instr c s (resolved_view x))
     called how is (Resolved v) e =
         subst (λ (o : Option CallOperation). InstrFits a lens (view_instr c s v o)) (sym is)
         (call_view_fits a lens c s how calls is v e)
@@ -134,9 +134,9 @@ instr_fits a lens c body n s allowed seen_fits calls = by (jump_operation_of s.c
     called how is Unjudged e = filler_fits a lens
 
     whether : (o : Option CallOperation) → call_operation_of s.code ≡ o
-        → InstrFits a lens (resolved_instr c s (seen_view (resolution_of c s.operand)))
+        → InstrFits a lens (resolved_instr c s (resolved_view (resolution_of c s.operand)))
     whether None is =
-        subst (λ (x : Resolution). InstrFits a lens (resolved_instr c s (seen_view x))) (sym found.is)
+        subst (λ (x : Resolution). InstrFits a lens (resolved_instr c s (resolved_view x))) (sym found.is)
         (subst (λ (o : Option CallOperation). InstrFits a lens (view_instr c s found.view o)) (sym is)
         (does_fits a lens c s found.view found.is allowed found.fits (end_operation_of s.code)))
       where

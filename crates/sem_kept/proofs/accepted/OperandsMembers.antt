@@ -1,7 +1,7 @@
 -- The blocks of the program by their numbers: a called block is the one that the source names, and
 -- an instance is as long as its function block.
-use Rattle.std.proofs.Common.{ℕ, zero, suc, ◌≡◌, ◌≤◌, ◌+◌, ◌/◌, ◌%◌, List, [], ◌∷◌, ◌++◌, Option, Some, Bool, true, false, ◌&&◌, nat_eq, nat_lt, refl, sym, ◌∙◌, ap, subst, arith, length, length-set, map, replicate, fold, if◌then◌else◌, eqb-true, ltb-false, eq-eqb, le_antisymm}
-use Rattle.std.specs.Prelude.{◌==◌, slice_get, slice_index, slice_set}
+use Rattle.std.proofs.Common.{ℕ, zero, suc, ◌≡◌, ◌≤◌, ◌+◌, List, [], ◌∷◌, ◌++◌, Option, Some, Bool, true, false, ◌&&◌, nat_eq, nat_lt, refl, sym, ◌∙◌, ap, subst, arith, length, map, replicate, if◌then◌else◌, eqb-true, ltb-false, eq-eqb, le_antisymm}
+use Rattle.std.specs.Prelude.{◌==◌, slice_get}
 use Rattle.std.specs.List.{AllByRecursion}
 use Rattle.std.specs.Option.{option_and_then, option_map}
 use Rattle.plc_base.specs.Kinds.{kind_number, is_code, is_data_block, is_same_block, is_same_kind}
@@ -19,7 +19,7 @@ use Rattle.stl_ast.specs.declared.blocks.Block.{Block}
 use Rattle.stl_ast.specs.declared.blocks.Tree.{Tree}
 use Rattle.stl_symbols.specs.Symbol.{Symbol}
 use Rattle.block_layout.specs.Blocks.{place_of_block, id_of, is_id}
-use Rattle.block_layout.specs.InitialBytes.{Write, big_endian_bytes, initial_bytes, length_at, bytes_with_write, setting_writes, settings_at, structure_writes, with_bit, with_bytes}
+use Rattle.block_layout.specs.InitialBytes.{initial_bytes, length_at, setting_writes, settings_at, structure_writes}
 use Rattle.block_layout.specs.Layouts.{layouts_of}
 use Rattle.block_layout.specs.Measures.{types_of_source}
 use Rattle.block_layout.specs.Paths.{structure_of}
@@ -31,7 +31,8 @@ use Rattle.stl_codegen.specs.Generated.{code_block, code_block_of, code_blocks_o
 use Rattle.stl_codegen.specs.Order.{is_code_before, is_data_before}
 use Rattle.stl_codegen.proofs.ProgramLemmas.{all_before}
 use Rattle.sem_kept.proofs.accepted.Accepted.{IsSound, IsSoundTree, context_at, sound_code_blocks, sound_data_blocks}
-use Rattle.sem_kept.proofs.accepted.OperandsCells.{measured_ids, measured_symbols}
+use Rattle.block_layout.proofs.LayoutLemmas.{measured_ids, measured_symbols}
+use Rattle.block_layout.proofs.FillLemmas.{written_length}
 use Rattle.sem_kept.proofs.accepted.OperandsViews.{layout_id}
 
 -- ---- what holds of all blocks holds of each
@@ -300,23 +301,6 @@ called_block symbols t tree p b l id h is code =
 
 -- ---- the data block of an instance
 
-put_long : (bytes : List ℕ) (at : ℕ) (new : List ℕ) → length (with_bytes bytes at new) ≡ length bytes
-put_long bytes at [] = refl
-put_long bytes at (b ∷ bs) = put_long (slice_set bytes at b) (at + 1) bs ∙ length-set bytes at b
-
-write_long : (bytes : List ℕ) (w : Write) → length (bytes_with_write bytes w) ≡ length bytes
-write_long bytes w = by (nat_eq w.width 1)
-  where
-    by : (t : Bool) → length (if t then slice_set bytes (w.offset / 8)
-        (with_bit (w.offset % 8) w.value (slice_index bytes (w.offset / 8)))
-        else with_bytes bytes (w.offset / 8) (big_endian_bytes (w.width / 8) w.value)) ≡ length bytes
-    by true = length-set bytes (w.offset / 8) (with_bit (w.offset % 8) w.value (slice_index bytes (w.offset / 8)))
-    by false = put_long bytes (w.offset / 8) (big_endian_bytes (w.width / 8) w.value)
-
-written_long : (bytes : List ℕ) (ws : List Write) → length (fold bytes_with_write bytes ws) ≡ length bytes
-written_long bytes [] = refl
-written_long bytes (w ∷ ws) = written_long (bytes_with_write bytes w) ws ∙ write_long bytes w
-
 zeros_long : (n : ℕ) → length {A = ℕ} (replicate n 0) ≡ n
 zeros_long zero = refl
 zeros_long (suc n) = ap suc (zeros_long n)
@@ -325,7 +309,7 @@ initial_long : (l : List BlockLayout) (blocks : List Block) (k : ℕ)
     → length (initial_bytes l blocks k) ≡ length_at (slice_get l k)
 unfolding initial_bytes
 initial_long l blocks k =
-    written_long (replicate (length_at (slice_get l k)) 0)
+    written_length (replicate (length_at (slice_get l k)) 0)
     (structure_writes l (structure_of l k) ++ setting_writes l k (settings_at (slice_get blocks k)))
     ∙ zeros_long (length_at (slice_get l k))
 

@@ -30,7 +30,7 @@ use Rattle.plc_base.specs.Folding.{upper_case_name}
 use Rattle.plc_base.proofs.TruthLemmas.{and_first, and_second}
 use Rattle.block_layout.specs.Fits.{bits_of, fits_elementary_type}
 use Rattle.block_layout.specs.Offsets.{width_of}
-use Rattle.stl_types.specs.Actuals.{fits_operand, fits_seen, fits_type, fits_view, formal_named, is_input_section, is_same_type, is_same_width, takes_section, takes_side, type_number}
+use Rattle.stl_types.specs.Actuals.{fits_operand, fits_resolution, fits_type, fits_view, formal_named, is_input_section, is_same_type, is_same_width, takes_section, takes_side, type_number}
 use Rattle.stl_types.specs.Calls.{misfits_formal}
 use Rattle.stl_types.specs.Constants.{takes_constant}
 use Rattle.stl_types.specs.Context.{Context}
@@ -41,7 +41,7 @@ use Rattle.stl_types.specs.declared.views.Resolution.TheVariants.{Resolved}
 use Rattle.stl_types.specs.declared.views.ResolvedOperand.{ResolvedOperand}
 use Rattle.stl_types.specs.declared.views.ResolvedOperand.TheVariants as view
 use Rattle.stl_codegen.specs.Generated.{section_number}
-use Rattle.stl_codegen.specs.Passed.{passed_actual, passed_place, passed_seen, passings_from, actual_of_formal, with_index}
+use Rattle.stl_codegen.specs.Passed.{passed_actual, passed_place, passed_resolution, passings_from, actual_of_formal, with_index}
 use Rattle.stl_codegen.specs.Operations.{operation_for}
 use Rattle.sem_kept.specs.Coded.{HasBytes, OperandHasBytes}
 use Rattle.sem_kept.specs.Operands.{ArePassed}
@@ -50,7 +50,7 @@ use Rattle.sem_kept.proofs.accepted.CodedBits.{constant_taken}
 use Rattle.sem_kept.proofs.accepted.OperandsFormals.{IsFoundIn, IsRecordOf, Matched}
 use Rattle.sem_kept.proofs.accepted.OperandsViews.{IsSeen}
 use Rattle.sem_kept.proofs.accepted.OperandsOperations.{HasWidth, ViewFits}
-use Rattle.sem_kept.proofs.accepted.Shared.{or_first}
+use Rattle.block_layout.proofs.CommonLemmas.{or_first}
 
 -- ---- literals
 
@@ -126,7 +126,7 @@ literal_width value simple.S5time is has h = time_fits value is has h
 -- an actual parameter that a parameter's record is passed
 pub record Passes (a : Environment) (c : Context) (r : ParameterRecord) (o : Operand) : Type 0 where
   pub actual : Passed
-  pub is : passed_seen o (resolution_of c o) ≡ Some actual
+  pub is : passed_resolution o (resolution_of c o) ≡ Some actual
   pub right : is_bad_actual a actual ≡ false
   pub fits : misfits_parameter a r actual ≡ false
 
@@ -212,7 +212,7 @@ view_passes : (a : Environment) (c : Context) (f : Formal) (r : ParameterRecord)
 unfolding fits_view
 view_passes a c f r o (view.Direct place w side declared) e fits h taken = record {
   actual = passed_place place w;
-  is = ap (passed_seen o) e;
+  is = ap (passed_resolution o) e;
   right = (place_passes a r place.area place.number place.byte place.bit w fits.0 same).0;
   fits = (place_passes a r place.area place.number place.byte place.bit w fits.0 same).1;
 }
@@ -222,7 +222,7 @@ view_passes a c f r o (view.Direct place w side declared) e fits h taken = recor
         (and_first (fits_type f w declared) (takes_side f.section side) taken) fits.1)
 view_passes a c f r o (view.Parameter index own declared) e fits h taken = record {
   actual = passed.Parameter index (width_of declared);
-  is = ap (passed_seen o) e;
+  is = ap (passed_resolution o) e;
   right = fits.0;
   fits = or_from (not (r.width == width_number (width_of declared)))
       (not (r.section == 1) && is_input_parameter (parameter_meant a index))
@@ -236,12 +236,12 @@ view_passes a c f r o (view.Parameter index own declared) e fits h taken = recor
 view_passes a c f r o _ e fits h taken = absurd cc
 
 other_passes : (a : Environment) (c : Context) (f : Formal) (r : ParameterRecord) (o : Operand)
-    → IsSeen a (resolution_of c o) → IsRecordOf f r → fits_seen f (resolution_of c o) ≡ true → Passes a c r o
+    → IsSeen a (resolution_of c o) → IsRecordOf f r → fits_resolution f (resolution_of c o) ≡ true → Passes a c r o
 other_passes a c f r o s h taken =
-    view_passes a c f r o s.view s.is s.fits h (ap (fits_seen f) (sym s.is) ∙ taken)
+    view_passes a c f r o s.view s.is s.fits h (ap (fits_resolution f) (sym s.is) ∙ taken)
 
 constant_is : (c : Context) (value : Literal)
-    → passed_seen (operand.Constant value) (resolution_of c (operand.Constant value))
+    → passed_resolution (operand.Constant value) (resolution_of c (operand.Constant value))
     ≡ Some (passed.Literal (bits_of value))
 unfolding resolution_of
 constant_is c value = refl
@@ -355,7 +355,7 @@ module _ (a : Environment) (c : Context) (formals : List Formal) (actuals : List
       one : (x : Actual) → Passes a c r x.value
           → ((last : Option ℕ) → Under last (suc i) → ArePassed a (Some (kind, il, all)) last (passings_from c actuals (suc i) fs))
           → ArePassed a (Some (kind, il, all)) before
-          (with_index i (passed_seen x.value (resolution_of c x.value)) ++ passings_from c actuals (suc i) fs)
+          (with_index i (passed_resolution x.value (resolution_of c x.value)) ++ passings_from c actuals (suc i) fs)
       one x p more =
           subst (λ (o : Option Passed). ArePassed a (Some (kind, il, all)) before (with_index i o ++ passings_from c actuals (suc i) fs))
           (sym p.is) (

@@ -48,8 +48,8 @@ use Rattle.stl_types.specs.declared.views.Side.TheVariants as side
 use Rattle.stl_types.specs.declared.views.ResolvedOperand.TheVariants as view
 use Rattle.stl_codegen.specs.Instruction.{return_last}
 use Rattle.sem_kept.proofs.accepted.Accepted.{there}
-use Rattle.sem_kept.proofs.accepted.OperandsWalks.{Lies, Meets, MeetsKind}
-use Rattle.sem_kept.proofs.accepted.OperandsPaths.{element_plain}
+use Rattle.block_layout.proofs.AlignmentLemmas.{Lies, Meets, MeetsKind}
+use Rattle.block_layout.proofs.ContainmentLemmas.{element_plain}
 
 -- ---- places
 

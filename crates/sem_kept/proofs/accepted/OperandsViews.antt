@@ -70,7 +70,7 @@ use Rattle.block_layout.specs.declared.walks.PathEnd.TheVariants as walk
 use Rattle.stl_types.specs.Actuals.{is_input_section}
 use Rattle.stl_types.specs.Addresses.{resolved_address, address_in_block, area_left, area_for_letters}
 use Rattle.stl_types.specs.Context.{data_number, data_place, in_function, is_of_function, number_of_block}
-use Rattle.stl_types.specs.Resolution.{opened_seen, path_seen, register_for_word, resolution_of, symbol_seen, target_view}
+use Rattle.stl_types.specs.Resolution.{resolution_of_opened_block, resolution_of_path, register_for_word, resolution_of, resolution_of_symbol, target_view}
 use Rattle.stl_types.specs.Unknown.{is_unknown}
 use Rattle.stl_types.specs.Variables.{composite_operand, data_at, date_or_composite, data_path, data_variable, data_walked, variable_in_area, own_at, own_elementary, own_variable, own_walked, parameter_resolution, parameter_at, parameter_index}
 use Rattle.stl_types.specs.declared.views.Resolution.{Resolution}
@@ -81,13 +81,15 @@ use Rattle.stl_types.specs.declared.views.ResolvedOperand.TheVariants as view
 use Rattle.stl_codegen.specs.Generated.{param_at_bits, param_here, param_of, params_of, section_number}
 use Rattle.stl_codegen.specs.Instruction.{return_last}
 use Rattle.sem_kept.proofs.accepted.Accepted.{IsSound, IsSoundTree, context_at}
-use Rattle.sem_kept.proofs.accepted.OperandsCells.{IsFoundBlock, IsOrigin, all_there, are_right, cells_are, found_there, layout_of_block, measured_ids, measured_symbols, origin}
-use Rattle.sem_kept.proofs.accepted.OperandsPaths.{Moves, data_goes, local_goes, local_moves}
+use Rattle.block_layout.proofs.BlockLemmas.{IsFoundBlock, found_there, kind_there}
+use Rattle.sem_kept.proofs.accepted.OperandsCells.{are_right, cells_are, layout_of_block}
+use Rattle.block_layout.proofs.LayoutLemmas.{measured_ids, measured_symbols}
+use Rattle.block_layout.proofs.CommonLemmas.{IsOrigin, all_there, origin, or_second}
+use Rattle.block_layout.proofs.ContainmentLemmas.{Moves, data_goes, local_goes, local_moves}
 use Rattle.sem_kept.proofs.accepted.OperandsPlaces.{AreParameters, GivesOne, IsElementary, IsParameterCell, IsPlaced, Stays, count_each, data_fits, elementary, function_components, in_its_order, instance_fits, local_fits, local_stays, one_each, placed_sees, reached_place}
 use Rattle.sem_kept.proofs.accepted.OperandsSymbols.{SymbolFits, TargetFits, named_fits}
-use Rattle.sem_kept.proofs.accepted.OperandsWalks.{AreRight, Goes, Lies, structure_even}
+use Rattle.block_layout.proofs.AlignmentLemmas.{AreRight, Goes, Lies, structure_even}
 use Rattle.sem_kept.proofs.accepted.OperandsOperations.{ViewFits}
-use Rattle.sem_kept.proofs.accepted.Shared.{or_second, kind_there}
 
 -- ---- what surrounds a block
 
@@ -972,7 +974,7 @@ module _ (symbols : List Symbol) (t : Tree) (tree : IsSoundTree symbols t)
     (block : IsSound symbols t k b l) (code : is_code b.kind ≡ true)
     (a : Environment) (around : Surrounds symbols t b l a) where
   symbol_fits : (name : List ℕ) (o : Option Symbol) → symbol_named name symbols ≡ o
-      → is_unknown (symbol_seen o) ≡ false → IsSeen a (symbol_seen o)
+      → is_unknown (resolution_of_symbol o) ≡ false → IsSeen a (resolution_of_symbol o)
   symbol_fits name None e known = absurd cc
   symbol_fits name (Some s) e known = record {
     view = target_view s.target;
@@ -981,10 +983,10 @@ module _ (symbols : List Symbol) (t : Tree) (tree : IsSoundTree symbols t)
   }
 
   path_fits : (p : PathHead) (steps : List PathStep)
-      → is_unknown (path_seen (context_at symbols t k) p steps) ≡ false
+      → is_unknown (resolution_of_path (context_at symbols t k) p steps) ≡ false
       → is_unknown_path (types_of_source symbols t.blocks) p ≡ false
       → leaves_path (types_of_source symbols t.blocks) (layouts_of t symbols) k p steps ≡ false
-      → IsSeen a (path_seen (context_at symbols t k) p steps)
+      → IsSeen a (resolution_of_path (context_at symbols t k) p steps)
   path_fits (head.Local name) steps known there inside =
       own_seen symbols t tree k b l block code a around (upper_case_name name) (folded_path steps) known inside
   path_fits (head.InBlock name) steps known there inside =
@@ -1031,7 +1033,7 @@ module _ (symbols : List Symbol) (t : Tree) (tree : IsSoundTree symbols t)
       record { view = view.Register (register_for_word name); is = refl; fits = tt }
   operand_seen (operand.OpenBlock di name) h other ends = record {
     view = view.OpenBlock di d.block.id.number;
-    is = ap (λ (o : Option ℕ). opened_seen di o) d.number;
+    is = ap (λ (o : Option ℕ). resolution_of_opened_block di o) d.number;
     fits = tt;
   }
     where

@@ -49,7 +49,7 @@ use Rattle.sem_kept.proofs.accepted.Accepted.{AllLaid, IsSound, IsSoundTree, con
 use Rattle.sem_kept.proofs.accepted.RecordData.{got, id_there, length_there, types_symbols}
 use Rattle.sem_kept.proofs.accepted.RecordOrder.{AreApart, Differ, Rise, rise_sorted}
 use Rattle.sem_kept.proofs.accepted.RecordParams.{HasParams, params_right}
-use Rattle.sem_kept.proofs.accepted.Shared.{kind_there}
+use Rattle.block_layout.proofs.BlockLemmas.{kind_there}
 
 -- ---- no two blocks are alike
 

@@ -35,10 +35,12 @@ use Rattle.flat_code.specs.Programs.{DataBlock}
 use Rattle.flat_code.proofs.CheckLemmas.{contents_good, zero_word_good}
 use Rattle.stl_codegen.specs.Generated.{generated_data_block, data_block_of, data_blocks_of, each_block, function_block_number, instance_in}
 use Rattle.stl_codegen.specs.Order.{is_data_before}
-use Rattle.sem_kept.proofs.accepted.Accepted.{AllHeads, AllLaid, IsSound, IsSoundTree, context_at, heads_none, sound_data_blocks}
+use Rattle.block_layout.proofs.HeadLemmas.{AllHeads, heads_none}
+use Rattle.sem_kept.proofs.accepted.Accepted.{AllLaid, IsSound, IsSoundTree, context_at, sound_data_blocks}
 use Rattle.sem_kept.proofs.accepted.RecordNames.{IsByte, OfBytes}
 use Rattle.sem_kept.proofs.accepted.RecordOrder.{Rise, RiseFrom, sum_sorted}
-use Rattle.sem_kept.proofs.accepted.Shared.{written_length, kind_there}
+use Rattle.block_layout.proofs.FillLemmas.{written_length}
+use Rattle.block_layout.proofs.BlockLemmas.{kind_there}
 
 -- ---- bytes
 

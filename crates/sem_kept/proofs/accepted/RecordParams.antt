@@ -62,7 +62,8 @@ use Rattle.flat_code.specs.declared.programs.Param.{Param}
 use Rattle.flat_code.proofs.CheckLemmas.{zero_byte_good}
 use Rattle.stl_codegen.specs.Generated.{instance_len, offset_of_member, param_here, param_of, params_of, section_number}
 use Rattle.stl_codegen.specs.Instruction.{return_last}
-use Rattle.sem_kept.proofs.accepted.Accepted.{IsSound, none_left, none_right, not_broken}
+use Rattle.sem_kept.proofs.accepted.Accepted.{IsSound}
+use Rattle.block_layout.proofs.CommonLemmas.{none_left, none_right, not_broken}
 use Rattle.sem_kept.proofs.accepted.RecordNames.{width_good}
 
 -- ---- what holds of each declaration of a list, with those before it

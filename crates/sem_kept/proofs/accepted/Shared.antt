@@ -1,11 +1,10 @@
--- What several parts need: truth values, kinds of blocks, writes, counts of statements, and what the
--- rules leave of an operand.
-use Rattle.std.proofs.Common.{◌≡◌, ℕ, suc, ◌+◌, Bool, true, false, cond, not, ◌||◌, List, [], ◌∷◌, length, length-set, set, get_or, Option, Some, None, refl, sym, ap, ◌∙◌, arith}
-use Rattle.std.specs.Prelude.{◌/◌, ◌%◌, nat_eq, if◌then◌else◌}
-use Rattle.std.specs.List.{count_by, fold}
-use Rattle.std.proofs.lemmas.Bool.{or_parts}
+-- What several parts need: counts of statements, the forms of instructions, and what the rules leave of
+-- an operand.
+use Rattle.std.proofs.Common.{◌≡◌, ℕ, suc, ◌+◌, Bool, true, false, cond, not, List, [], ◌∷◌, length, Option, Some, None, refl, sym, ap, ◌∙◌, arith}
+use Rattle.std.specs.Prelude.{if◌then◌else◌}
+use Rattle.std.specs.List.{count_by}
 use Rattle.std.proofs.lemmas.List.Sums.{sum_by-cons}
-use Rattle.plc_base.specs.Kinds.{is_callable, is_function_block, is_same_kind}
+use Rattle.plc_base.specs.Kinds.{is_callable, is_function_block}
 use Rattle.plc_base.specs.declared.blocks.BlockId.{BlockId}
 use Rattle.plc_base.specs.declared.blocks.BlockKind.{BlockKind}
 use Rattle.plc_base.specs.declared.blocks.BlockKind.TheVariants as kinds
@@ -18,14 +17,11 @@ use Rattle.stl_ast.specs.declared.mnemonics.Mnemonic.TheVariants as code
 use Rattle.stl_ast.specs.declared.operands.Operand.{Operand}
 use Rattle.stl_ast.specs.declared.operands.Operand.TheVariants as operand
 use Rattle.stl_ast.specs.declared.statements.Statement.{Statement}
-use Rattle.stl_ast.specs.declared.blocks.Block.{Block}
-use Rattle.block_layout.specs.InitialBytes.{Write, big_endian_bytes, bytes_with_write, with_bit, with_bytes}
-use Rattle.block_layout.specs.Blocks.{id_of, named_block, of_kind}
 use Rattle.stl_types.specs.Constants.{takes_constant}
 use Rattle.stl_types.specs.Context.{Context}
 use Rattle.stl_types.specs.Forms.{form_of}
 use Rattle.stl_types.specs.Kinds.{is_operand_of_call}
-use Rattle.stl_types.specs.Operands.{operand_rule, rule_of_resolved_operand, rule_seen, takes_operand}
+use Rattle.stl_types.specs.Operands.{operand_rule, rule_of_resolved_operand, rule_of_resolution, takes_operand}
 use Rattle.stl_types.specs.Resolution.{resolution_of}
 use Rattle.stl_types.specs.declared.forms.OperandRule.{OperandRule}
 use Rattle.stl_types.specs.declared.forms.OperandRule.TheVariants as form
@@ -37,56 +33,6 @@ use Rattle.stl_codegen.specs.Generated.{stated_from}
 use Rattle.stl_codegen.specs.Instruction.{instruction}
 use Rattle.stl_codegen.specs.Operations.{call_operation_of, jump_operation_of}
 use Rattle.sem_kept.proofs.accepted.OperandsOperations.{allowed}
-use Rattle.stl_symbols.specs.Symbol.{Symbol}
-
--- ---- truth values
-
-pub or_first : (a b : Bool) → (a || b) ≡ false → a ≡ false
-or_first a b h = (or_parts a b h).0
-
-pub or_second : (a b : Bool) → (a || b) ≡ false → b ≡ false
-or_second a b h = (or_parts a b h).1
-
--- ---- kinds of blocks
-
-pub same_kind : (j k : BlockKind) → is_same_kind j k ≡ true → j ≡ k
-same_kind kinds.Ob kinds.Ob h = refl
-same_kind kinds.Fc kinds.Fc h = refl
-same_kind kinds.Fb kinds.Fb h = refl
-same_kind kinds.Db kinds.Db h = refl
-same_kind kinds.Udt kinds.Udt h = refl
-same_kind kinds.Sfc kinds.Sfc h = refl
-same_kind j k h = absurd cc
-
--- a block has the kind of its head
-pub kind_there : (symbols : List Symbol) (b : Block) (id : BlockId) → id_of symbols b ≡ Some id → b.kind ≡ id.kind
-kind_there symbols b id e = by (named_block symbols b.name) e
-  where
-    whether : (i : BlockId) (t : Bool) → is_same_kind b.kind i.kind ≡ t → (if t then Some i else None) ≡ Some id → b.kind ≡ id.kind
-    whether i true is e = let one : i ≡ id = cc in same_kind b.kind i.kind is ∙ ap (λ (x : BlockId). x.kind) one
-    whether i false is e = absurd cc
-
-    by : (o : Option BlockId) → of_kind (is_same_kind b.kind) o ≡ Some id → b.kind ≡ id.kind
-    by None e = absurd cc
-    by (Some i) e = whether i (is_same_kind b.kind i.kind) refl e
-
--- ---- writes
-
-length_put_bytes : (bytes : List ℕ) (at : ℕ) (new : List ℕ) → length (with_bytes bytes at new) ≡ length bytes
-length_put_bytes bytes at [] = refl
-length_put_bytes bytes at (b ∷ bs) = length_put_bytes (set bytes at b) (at + 1) bs ∙ length-set bytes at b
-
-put_length : (bytes : List ℕ) (w : Write) → length (bytes_with_write bytes w) ≡ length bytes
-put_length bytes w = by (nat_eq w.width 1)
-  where
-    by : (t : Bool) → length (if t then set bytes (w.offset / 8) (with_bit (w.offset % 8) w.value (get_or bytes (w.offset / 8) 0))
-        else with_bytes bytes (w.offset / 8) (big_endian_bytes (w.width / 8) w.value)) ≡ length bytes
-    by true = length-set bytes (w.offset / 8) (with_bit (w.offset % 8) w.value (get_or bytes (w.offset / 8) 0))
-    by false = length_put_bytes bytes (w.offset / 8) (big_endian_bytes (w.width / 8) w.value)
-
-pub written_length : (bytes : List ℕ) (ws : List Write) → length (fold bytes_with_write bytes ws) ≡ length bytes
-written_length bytes [] = refl
-written_length bytes (w ∷ ws) = written_length (bytes_with_write bytes w) ws ∙ put_length bytes w
 
 -- ---- statements
 
@@ -151,7 +97,7 @@ rule_there c f (operand.Constant value) v never h e = by (takes_constant f value
     by : (b : Bool) → b ≡ false → allowed_if b ≡ None → rule_of_resolved_operand f v ≡ None
     by true e h = absurd cc
     by false e h = absurd cc
-rule_there c f _ v never h e = sym (ap (λ (s : Resolution). rule_seen f s) e) ∙ h
+rule_there c f _ v never h e = sym (ap (λ (s : Resolution). rule_of_resolution f s) e) ∙ h
 
 pub no_jump_constant : (value : Literal) → takes_constant form.Jumps value ≡ false
 unfolding takes_constant

@@ -53,14 +53,16 @@ use Rattle.stl_codegen.specs.Generated.{code_block, code_block_of, code_blocks_o
 use Rattle.stl_codegen.specs.Instruction.{return_last}
 use Rattle.stl_codegen.specs.Order.{is_code_before, is_data_before, sorted_list}
 use Rattle.sem_kept.specs.Sizes.{AcceptedIsSmall, IsSmallBlock}
-use Rattle.sem_kept.proofs.accepted.Accepted.{AllHeads, AllLaid, IsSound, IsSoundStatement, IsSoundTree, context_at, each_none, heads_none, right_tree, sound_code_blocks}
-use Rattle.sem_kept.proofs.accepted.SizesBlocks.{bit, coded, counted_data, few_code_blocks, few_data_blocks, few_data_bytes, is_code_id}
+use Rattle.block_layout.proofs.HeadLemmas.{AllHeads, heads_none}
+use Rattle.sem_kept.proofs.accepted.Accepted.{AllLaid, IsSound, IsSoundStatement, IsSoundTree, context_at, each_none, right_tree, sound_code_blocks}
+use Rattle.block_layout.proofs.CountLemmas.{bit, coded, counted_data, few_code_blocks, few_data_blocks, few_data_bytes, is_code_id}
 use Rattle.sem_kept.proofs.accepted.SizesCalls.{AllAreOnce, layouts_once, passes_few}
 use Rattle.sem_kept.proofs.accepted.SizesNames.{IsFine, names_count, names_size, symbols_fine}
 use Rattle.sem_kept.proofs.accepted.SizesOps.{IsTaken, Opens, bytes_in, whole_count, whole_fits}
-use Rattle.sem_kept.proofs.accepted.SizesSums.{each_sum, mapped_sum, sorted_length, sorted_sum, summed_22, summed_8, summed_ones, summed_two}
-use Rattle.sem_kept.proofs.accepted.SizesTokens.{bounded_by_source, declared_size, element_size, part_size, parts_size, whole_size}
-use Rattle.sem_kept.proofs.accepted.Shared.{written_length}
+use Rattle.sem_kept.proofs.accepted.SizesSums.{each_sum, mapped_sum, sorted_length, sorted_sum, summed_22, summed_8, summed_ones}
+use Rattle.block_layout.proofs.CommonLemmas.{summed_two}
+use Rattle.stl_parser.proofs.SizeLemmas.{bounded_by_source, declared_size, element_size, part_size, parts_size, whole_size}
+use Rattle.block_layout.proofs.FillLemmas.{written_length}
 
 -- ---- parameters
 

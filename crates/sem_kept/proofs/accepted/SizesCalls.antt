@@ -49,11 +49,11 @@ use Rattle.stl_types.specs.Resolution.{resolution_of}
 use Rattle.stl_types.specs.declared.parameters.Formal.{Formal}
 use Rattle.stl_parser.proofs.OptionLemmas.{both, chained, mapped, none_holds, passed}
 use Rattle.stl_codegen.specs.Instruction.{source_block_at, in_parameter_order, passings_to, return_last}
-use Rattle.stl_codegen.specs.Passed.{passed_actual, passed_seen, passings_from, actual_of_formal, with_index}
-use Rattle.sem_kept.proofs.accepted.Accepted.{none_left, none_right, not_broken}
-use Rattle.sem_kept.proofs.accepted.SizesBlocks.{bit}
+use Rattle.stl_codegen.specs.Passed.{passed_actual, passed_resolution, passings_from, actual_of_formal, with_index}
+use Rattle.block_layout.proofs.CommonLemmas.{none_left, none_right, not_broken, summed_two}
+use Rattle.block_layout.proofs.CountLemmas.{bit}
 use Rattle.sem_kept.proofs.accepted.SizesOps.{PassesFew}
-use Rattle.sem_kept.proofs.accepted.SizesSums.{every, summed_le, summed_two}
+use Rattle.sem_kept.proofs.accepted.SizesSums.{every, summed_le}
 
 -- ---- of formal parameters with names of their own
 
@@ -100,7 +100,7 @@ index_few index (Some actual) = omega arith
 one_passed : (c : Context) (index : ℕ) (a : Option Actual)
     → length (passed_actual c index a) ≤ bit (is_some a)
 one_passed c index None = omega arith
-one_passed c index (Some a) = index_few index (passed_seen a.value (resolution_of c a.value))
+one_passed c index (Some a) = index_few index (passed_resolution a.value (resolution_of c a.value))
 
 passed_given : (c : Context) (actuals : List Actual) (index : ℕ) (fs : List Formal)
     → length (passings_from c actuals index fs) ≤ sum_by (is_given actuals) fs

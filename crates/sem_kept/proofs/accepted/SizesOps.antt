@@ -57,8 +57,8 @@ use Rattle.stl_types.specs.Context.{Context, data_number, in_function}
 use Rattle.stl_types.specs.Kinds.{is_operand_of_call}
 use Rattle.stl_types.specs.Operands.{operand_rule, rule_of_resolved_operand, statement_rule, takes_operand}
 use Rattle.stl_types.specs.Parameters.{callee_of}
-use Rattle.stl_types.specs.Resolved.{resolved_operand, seen_view}
-use Rattle.stl_types.specs.Resolution.{called_seen, direct_seen, opened_seen, path_seen, register_for_word, resolution_of, symbol_seen, target_view}
+use Rattle.stl_types.specs.Resolved.{resolved_operand, resolved_view}
+use Rattle.stl_types.specs.Resolution.{resolution_of_call, resolution_of_address, resolution_of_opened_block, resolution_of_path, register_for_word, resolution_of, resolution_of_symbol, target_view}
 use Rattle.stl_types.specs.Variables.{composite_operand, data_at, data_path, data_walked, date_or_composite, variable_in_area, own_at, own_elementary, own_walked, parameter_resolution, parameter_at}
 use Rattle.stl_types.specs.declared.forms.OperandRule.{OperandRule}
 use Rattle.stl_types.specs.declared.forms.OperandRule.TheVariants as form
@@ -337,7 +337,7 @@ target_fits o (target.Timer number) h = omega arith
 target_fits o (target.Counter number) h = omega arith
 target_fits o (target.Block id) h = omega arith
 
-symbol_fits : (o : Operand) (s : Option Symbol) → IfSome s IsFine → SeenFits 7 o (symbol_seen s)
+symbol_fits : (o : Operand) (s : Option Symbol) → IfSome s IsFine → SeenFits 7 o (resolution_of_symbol s)
 symbol_fits o None h = tt
 symbol_fits o (Some s) h = target_fits o s.target h.apart
 
@@ -358,14 +358,14 @@ unfolding symbol_named
 named_fine name symbols h = found_has IsFine _ symbols h
 
 path_fits : (c : Context) (o : Operand) (path : PathHead) (steps : List PathStep)
-    → AllByRecursion IsFine c.symbols → SeenFits (path_size path) o (path_seen c path steps)
+    → AllByRecursion IsFine c.symbols → SeenFits (path_size path) o (resolution_of_path c path steps)
 path_fits c o (head.Local name) steps h = own_fits c o _ _
 path_fits c o (head.InBlock name) steps h = data_path_fits c o _ _ _
 path_fits c o (head.Symbol name) steps h =
     symbol_fits o (symbol_named name c.symbols) (named_fine name c.symbols h)
 
 direct_fits : (c : Context) (o : Operand) (name : Option BlockName) (a : Letters) (w : Width)
-    (byte bit : ℕ) → SeenFits (7 + block_size name) o (direct_seen c name a w byte bit)
+    (byte bit : ℕ) → SeenFits (7 + block_size name) o (resolution_of_address c name a w byte bit)
 unfolding flat_operand_of
 direct_fits c o None a w byte bit =
     apart_fits (record { area = area_for_letters a; number = 0; byte = byte; bit = bit }) refl
@@ -391,13 +391,13 @@ register_fits register.Dilg = omega arith
 register_fits register.Dino = omega arith
 register_fits _ = omega arith
 
-opened_fits : (o : Operand) (di : Bool) (number : Option ℕ) → SeenFits 5 o (opened_seen di number)
+opened_fits : (o : Operand) (di : Bool) (number : Option ℕ) → SeenFits 5 o (resolution_of_opened_block di number)
 unfolding flat_operand_of
 opened_fits o di None = tt
 opened_fits o di (Some number) = omega arith
 
 called_fits : (o : Operand) (id : Option BlockId) (name : Option BlockName) (instance : Option ℕ)
-    → SeenFits 7 o (called_seen id name instance)
+    → SeenFits 7 o (resolution_of_call id name instance)
 unfolding flat_operand_of
 called_fits o None name instance = tt
 called_fits o (Some id) None instance = omega arith
@@ -467,7 +467,7 @@ any_wide n (Resolved v) h = λ wide. h
 any_wide n Unknown h = tt
 any_wide n Unjudged h = tt
 
-opened_wide : (n : ℕ) (di : Bool) (number : Option ℕ) → SeenWide n (opened_seen di number)
+opened_wide : (n : ℕ) (di : Bool) (number : Option ℕ) → SeenWide n (resolution_of_opened_block di number)
 opened_wide n di None = tt
 opened_wide n di (Some number) = λ wide. absurd wide
 
@@ -505,7 +505,7 @@ wide_anyway n Unknown h = h
 wide_anyway n Unjudged h = h
 
 opened_seen_there : (n : ℕ) (di : Bool) (number : Option ℕ) → is_some number ≡ true
-    → SeenOrWide n (opened_seen di number)
+    → SeenOrWide n (resolution_of_opened_block di number)
 opened_seen_there n di None h = absurd cc
 opened_seen_there n di (Some number) h = tt
 
@@ -604,7 +604,7 @@ pub record IsTaken (c : Context) (s : Statement) : Type 0 where
   pub few : PassesFew c s
 
 resolved_is : (c : Context) (s : Statement) → statement_rule c s ≡ None
-    → resolved_operand c s ≡ seen_view (resolution_of c s.operand)
+    → resolved_operand c s ≡ resolved_view (resolution_of c s.operand)
 unfolding resolved_operand
 resolved_is c s rule = rw rule refl
 
@@ -615,7 +615,7 @@ filler_sized = one_sized _
 -- an instruction that isn't a jump
 view_fits : (c : Context) (s : Statement) (found : Resolution) → AllByRecursion IsFine c.symbols
     → IsTaken c s → resolution_of c s.operand ≡ found
-    → bytes_in (ops_of (resolved_instr c s (seen_view found)))
+    → bytes_in (ops_of (resolved_instr c s (resolved_view found)))
     ≤ op_size s.operand + 11 * length s.actuals
 view_fits c s (Resolved v) fine is e =
     view_instr_fits c s v (call_operation_of s.code) refl fine is.allowed e is.few

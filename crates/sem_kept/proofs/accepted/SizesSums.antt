@@ -24,18 +24,6 @@ pub every : {X : Type 0} (P : X → Type 0) → ((x : X) → P x) → (xs : List
 every P h [] = tt
 every P h (x ∷ xs) = (h x, every P h xs)
 
-pub summed_two : {X : Type 0} (f g : X → ℕ) (xs : List X)
-    → sum_by (λ x. f x + g x) xs ≡ sum_by f xs + sum_by g xs
-summed_two f g [] = refl
-summed_two {X = X} f g (x ∷ xs) =
-    omega (
-      arith,
-      sum_by-cons (λ (x : X). f x + g x) x xs,
-      sum_by-cons f x xs,
-      sum_by-cons g x xs,
-      summed_two f g xs,
-    )
-
 -- 8 bytes each
 pub summed_8 : {X : Type 0} (f : X → ℕ) (xs : List X)
     → sum_by (λ x. 8 * f x) xs ≡ 8 * sum_by f xs

@@ -46,9 +46,9 @@ use Rattle.block_layout.specs.declared.walks.PathEnd.TheVariants as walk
 use Rattle.stl_types.specs.Addresses.{address_in_block}
 use Rattle.stl_types.specs.Context.{Context, source_block_ids, number_of_block, data_place, data_number, in_function}
 use Rattle.stl_types.specs.Forms.{form_of}
-use Rattle.stl_types.specs.Operands.{rule_of_resolved_operand, rule_seen, operand_rule, statement_rule}
-use Rattle.stl_types.specs.Resolved.{seen_view, resolved_operand}
-use Rattle.stl_types.specs.Resolution.{target_view, symbol_seen, path_seen, direct_seen, opened_seen, called_seen, instance_number, whole_called_block as whole_called, resolution_of}
+use Rattle.stl_types.specs.Operands.{rule_of_resolved_operand, rule_of_resolution, operand_rule, statement_rule}
+use Rattle.stl_types.specs.Resolved.{resolved_view, resolved_operand}
+use Rattle.stl_types.specs.Resolution.{target_view, resolution_of_symbol, resolution_of_path, resolution_of_address, resolution_of_opened_block, resolution_of_call, instance_number, whole_called_block as whole_called, resolution_of}
 use Rattle.stl_types.specs.Variables.{date_or_composite, composite_operand, variable_in_area, parameter_resolution, parameter_index, parameter_at, is_temporary_variable, own_elementary, own_at, own_walked, data_at, data_walked, data_path}
 use Rattle.stl_types.specs.declared.forms.OperandRule.{OperandRule}
 use Rattle.stl_types.specs.declared.forms.OperandRule.TheVariants as form
@@ -134,7 +134,7 @@ no_target o _ = refl
 
 -- what is taken is seen, and breaks no rule
 taken : (r : Option ℕ) (x : Resolution) (v : ResolvedOperand)
-    → (if is_none r then seen_view x else None) ≡ Some v → (r ≡ None) × (x ≡ Resolved v)
+    → (if is_none r then resolved_view x else None) ≡ Some v → (r ≡ None) × (x ≡ Resolved v)
 taken None (Resolved w) v e = (refl, cc)
 taken None Unknown v e = absurd cc
 taken None Unjudged v e = absurd cc
@@ -146,7 +146,7 @@ rule_none : (c : Context) (f : OperandRule) (o : Operand) (id : BlockId) (i : Op
     → rule_of_resolved_operand f (view.Called id i) ≡ None
 unfolding resolution_of
 rule_none c f (operand.Constant value) id i e s = absurd cc
-rule_none c f _ id i e s = ap (rule_seen f) (sym s) ∙ e
+rule_none c f _ id i e s = ap (rule_of_resolution f) (sym s) ∙ e
 
 -- ---- its instance
 
@@ -224,12 +224,12 @@ of_target (target.Timer number) = refl
 of_target (target.Counter number) = refl
 of_target (target.Block id) = refl
 
-of_symbol : (s : Option Symbol) → names_called (symbol_seen s) ≡ false
+of_symbol : (s : Option Symbol) → names_called (resolution_of_symbol s) ≡ false
 of_symbol None = refl
 of_symbol (Some s) = of_target s.target
 
 of_path : (c : Context) (h : PathHead) (steps : List PathStep)
-    → names_called (path_seen c h steps) ≡ false
+    → names_called (resolution_of_path c h steps) ≡ false
 of_path c (head.Local name) steps =
     of_own c (is_temporary_variable c (upper_case_name name))
     (walked_local c.layouts c.block (upper_case_name name) (folded_path steps))
@@ -243,11 +243,11 @@ of_address None a width byte bit = refl
 of_address (Some number) a width byte bit = refl
 
 of_direct : (c : Context) (name : Option BlockName) (a : Letters) (width : Width) (byte bit : ℕ)
-    → names_called (direct_seen c name a width byte bit) ≡ false
+    → names_called (resolution_of_address c name a width byte bit) ≡ false
 of_direct c None a width byte bit = refl
 of_direct c (Some name) a width byte bit = of_address (data_number c name) a width byte bit
 
-of_opened : (di : Bool) (number : Option ℕ) → names_called (opened_seen di number) ≡ false
+of_opened : (di : Bool) (number : Option ℕ) → names_called (resolution_of_opened_block di number) ≡ false
 of_opened di None = refl
 of_opened di (Some number) = refl
 
@@ -354,14 +354,14 @@ least_data_number c name number e =
 
 called_instance : (c : Context) (b : Option BlockId) (named : Option BlockName) (id : BlockId)
     (number : ℕ)
-    → called_seen b named (instance_number c named) ≡ Resolved (view.Called id (Some number))
+    → resolution_of_call b named (instance_number c named) ≡ Resolved (view.Called id (Some number))
     → 1 ≤ number
 called_instance c None named id number e = absurd cc
 called_instance c (Some x) None id number e = absurd cc
 called_instance c (Some x) (Some name) id number e = by (data_number c name) refl e
   where
     by : (i : Option ℕ) → data_number c name ≡ i
-        → called_seen (Some x) (Some name) i ≡ Resolved (view.Called id (Some number)) → 1 ≤ number
+        → resolution_of_call (Some x) (Some name) i ≡ Resolved (view.Called id (Some number)) → 1 ≤ number
     by None is h = absurd cc
     by (Some k) is h =
         let same : k ≡ number = cc in least_data_number c name number (is ∙ ap Some same)
@@ -376,12 +376,12 @@ unfolding resolution_of
 seen_instance c (operand.Called name instance) id number e =
     called_instance c (whole_called c (named_block c.symbols name)) instance id number e
 seen_instance c (operand.Direct name a width byte bit) id number e =
-    absurd (not_called (direct_seen c name a width byte bit) id (Some number)
+    absurd (not_called (resolution_of_address c name a width byte bit) id (Some number)
     (of_direct c name a width byte bit) e)
 seen_instance c (operand.Named h steps) id number e =
-    absurd (not_called (path_seen c h steps) id (Some number) (of_path c h steps) e)
+    absurd (not_called (resolution_of_path c h steps) id (Some number) (of_path c h steps) e)
 seen_instance c (operand.OpenBlock di name) id number e =
-    absurd (not_called (opened_seen di (data_number c name)) id (Some number)
+    absurd (not_called (resolution_of_opened_block di (data_number c name)) id (Some number)
     (of_opened di (data_number c name)) e)
 seen_instance c _ id number e = absurd cc
 

@@ -33,7 +33,8 @@ use Rattle.stl_symbols.specs.Symbol.{Symbol}
 use Rattle.block_layout.specs.declared.blocks.BlockLayout.{BlockLayout}
 use Rattle.plc_base.specs.declared.blocks.BlockId.{BlockId}
 use Rattle.plc_base.proofs.ListLemmas.{all_append}
-use Rattle.sem_kept.proofs.accepted.Accepted.{all_sorted, none_left, none_right}
+use Rattle.sem_kept.proofs.accepted.Accepted.{all_sorted}
+use Rattle.block_layout.proofs.CommonLemmas.{none_left, none_right}
 use Rattle.plc_base.proofs.TruthLemmas.{and_first, and_second}
 use Rattle.stl_types.specs.Bodies.{first_context}
 use Rattle.stl_types.specs.Context.{Context}
@@ -124,11 +125,11 @@ no_fault at None e = refl
 no_fault at (Some code) e = absurd cc
 
 -- ops at an offset, of which none has a fault
-record IsClean (around : Environment) (statements : List StatementSpot) (at : ℕ) (ops : List OpData) : Type 0 where
+record IsClean (environment : Environment) (statements : List StatementSpot) (at : ℕ) (ops : List OpData) : Type 0 where
   brackets : List OpenBracket
   zones : List ℕ
   before : List OpData
-  none : faults_over around statements 0 (ops_placed at brackets zones before ops) ≡ []
+  none : faults_over environment statements 0 (ops_placed at brackets zones before ops) ≡ []
 
 clean_next : (a : Environment) (ss : List StatementSpot) (at : ℕ) (op : OpData) (ops : List OpData)
     → IsClean a ss at (op ∷ ops) → IsClean a ss (at + size_of_op op) ops
@@ -592,17 +593,17 @@ compiled_from a ss whole front (s ∷ behind) line e made clean short = (
 
 -- its code has no fault, and no statement of more than 64 ops
 record IsRightCode (code : List OpData) : Type 0 where
-  around : Environment
+  environment : Environment
   statements : List StatementSpot
-  clean : IsClean around statements 0 code
+  clean : IsClean environment statements 0 code
   short : IsShort code
 
 block_compilable : (b : StatedBlock) → IsMadeBlock b → IsRightCode (code_in b.statements)
     → IsCompilable b
 block_compilable b made right =
     subst (AreCompiled 0) (sym made.whole)
-    (compiled_from right.around right.statements whole [] made.inner made.line refl made.made
-    (subst (λ (z : List OpData). IsClean right.around right.statements 0 z) same right.clean)
+    (compiled_from right.environment right.statements whole [] made.inner made.line refl made.made
+    (subst (λ (z : List OpData). IsClean right.environment right.statements 0 z) same right.clean)
     (subst IsShort same right.short))
   where
     whole : List SourceInstruction
@@ -658,7 +659,7 @@ right_codes : (lens : List (ℕ × ℕ)) (all : List BlockRecord) (bs : List Sta
 right_codes lens all [] clean short = tt
 right_codes lens all (b ∷ bs) clean short = (
   record {
-    around = environment_of_block (Some lens) all (record_of_block (compiled_block b));
+    environment = environment_of_block (Some lens) all (record_of_block (compiled_block b));
     statements = statement_spots (code_in b.statements);
     clean = code_clean (environment_of_block (Some lens) all (record_of_block (compiled_block b)))
         (code_in b.statements) clean.0;

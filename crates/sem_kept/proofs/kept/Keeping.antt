@@ -13,7 +13,7 @@ pub kept_by :
     (profile : Profile) (f : BlockId → ℕ → ℕ) (c d : Code)
     → EntriesMove → HistoriesMove → FollowsCode f c d → BehavesAlike profile c d
 kept_by profile f c d entries histories follows = record {
-  world = λ history. ap (λ (s : State). s.world) (histories profile f c d history follows);
+  store = λ history. ap (λ (s : State). s.store) (histories profile f c d history follows);
   mode = λ history. ap (λ (s : State). s.mode) (histories profile f c d history follows);
   sched = λ history. ap (λ (s : State). s.sched) (histories profile f c d history follows);
   diagnostics = λ history. ap (λ (s : State). s.diagnostics) (histories profile f c d history follows);

@@ -6,8 +6,8 @@ use Rattle.block_layout.proofs.sections.sections.Goals as goal
 pub loop-part-init : goal.loop-part-init
 loop-part-init c = record {
   room = search rules;
-  left = first_left c.args.types.now c.args.block.now _ c.in_ok-first_frame.field-0 c.push.new.self.items (search rules)
-      c.in_ok-first_frame.ensures.names c.in_ok-first_frame.ensures.depth c.in_ok-first_frame.ensures.sound c.in_ok-returned_cells.ensures c.new.ensures.items refl refl;
+  left = first_left c.args.types.now c.args.block.now _ c.in_ok-first_list.field-0 c.push.new.self.items (search rules)
+      c.in_ok-first_list.ensures.names c.in_ok-first_list.ensures.depth c.in_ok-first_list.ensures.sound c.in_ok-returned_cells.ensures c.new.ensures.items refl refl;
 }
 
 pub loop-part-preserved : goal.loop-part-preserved

@@ -15,8 +15,8 @@ returns-in_err-check_program g c src symbols at start read =
     let text = c.args.text.now in
     comes-refused Unit (Check src symbols c.args.german) start at _ (file_contents_of text)
     (RefusedProgram c.args.german text.source.items (symbols_text_of text)) _ _ (fault.1 ∙ ap Err fault.2) read
-    (λ (a : CallAnswer) told. check-said start.contents src symbols c.args.german text.source.items (symbols_file text) a read.hold.1
-    (refused-checks c.args.german text.source.items (symbols_text_of text) a told))
+    (λ (a : CallAnswer) holds. check-said start.contents src symbols c.args.german text.source.items (symbols_file text) a read.hold.1
+    (refused-checks c.args.german text.source.items (symbols_text_of text) a holds))
     c.in_err-check_program.ensures.refused
 
 pub returns : goal.returns

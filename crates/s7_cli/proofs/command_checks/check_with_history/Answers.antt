@@ -18,7 +18,7 @@ returns-in_err-program-clause-refused c =
     let source = c.args.text.now.source.items in
     let symbols = symbols_text_of c.args.text.now in
     refused-more LoadedProgram (LoadedProgram × History) (RefusedProgram c.args.german source symbols) (GoSays c.args.german source symbols c.args.history.now) _ _
-    (fault.1 ∙ ap Err fault.2) (λ (a : CallAnswer) told. refused-goes c.args.german source symbols c.args.history.now a told)
+    (fault.1 ∙ ap Err fault.2) (λ (a : CallAnswer) holds. refused-goes c.args.german source symbols c.args.history.now a holds)
     c.in_err-program.ensures.refused
 
 pub returns-in_err-entries-clause-refused : goal.returns-in_err-entries-clause-refused

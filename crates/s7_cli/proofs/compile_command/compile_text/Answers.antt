@@ -14,9 +14,9 @@ returns-in_err-image g c src symbols start read =
     let text = c.args.text.now in
     comes-refused (Vec ℕ Global) (Compile src symbols c.args.german c.args.img.now) start _ _ (file_contents_of text)
     (RefusedProgram c.args.german text.source.items (symbols_text_of text)) _ _ (fault.1 ∙ ap Err fault.2) read
-    (λ (a : CallAnswer) told.
+    (λ (a : CallAnswer) holds.
     compile-said start.contents src symbols c.args.german c.args.img.now text.source.items (symbols_file text) a read.hold.1
-    (refused-checks c.args.german text.source.items (symbols_text_of text) a told))
+    (refused-checks c.args.german text.source.items (symbols_text_of text) a holds))
     c.in_err-image.ensures.refused
 
 pub returns : goal.returns

@@ -6,7 +6,7 @@ use Rattle.s7_cli.proofs.summaries.bit_memory_sum.Goals as goal
 
 pub loop-part-preserved : goal.loop-part-preserved
 loop-part-preserved c =
-    let bytes : List ℕ = (final_state c.args.controller.now).world.memory.bit_memory in
+    let bytes : List ℕ = (final_state c.args.controller.now).store.memory.bit_memory in
     let part : ℕ = c.loop-part.part in
     let behind : 8 * part + 8 ≡ 8 * (part + 1) = omega arith in (
       omega (arith, c.loop-part.invariant.0, c.sum_of_eight-sum.ensures.value, sum-on bytes (8 * part) 8, ap (λ (n : ℕ). sum_of (take n bytes)) behind),

@@ -15,8 +15,8 @@ returns-in_err-text g c src start read =
     let source : List ℕ = c.args.source.now in
     comes-refused (Vec ℕ Global) (Translate c.args.language src c.args.translation.now) start _ _ (source ∷ [])
     (NotTranslated c.args.language source) _ _ (fault.1 ∙ ap Err fault.2) read
-    (λ (a : CallAnswer) told.
-    translated-weaker c.args.language source (λ text b. ⊥) (λ text b. b ≡ done_answer ok_line) (λ text b none. absurd none) a told)
+    (λ (a : CallAnswer) holds.
+    translated-weaker c.args.language source (λ text b. ⊥) (λ text b. b ≡ done_answer ok_line) (λ text b none. absurd none) a holds)
     c.in_err-text.ensures.refused
 
 pub returns : goal.returns

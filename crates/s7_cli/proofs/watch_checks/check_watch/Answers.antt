@@ -35,11 +35,11 @@ pub returns-in_err-vars-clause-refused : goal.returns-in_err-vars-clause-refused
 returns-in_err-vars-clause-refused c =
     let fault = err_from_is_err_and c.from_residual-in_err-vars.result c.from_residual-in_err-vars.ensures.1 in
     let p = c.in_ok-program.program in
-    let told = c.in_err-vars.ensures.refused in
-    watch-vars-refused _ c.args.text.now p c.in-Ok.entries.items told.0 _ (fault.1 ∙ ap Err (fault.2 ∙ told.2))
+    let refusal = c.in_err-vars.ensures.refused in
+    watch-vars-refused _ c.args.text.now p c.in-Ok.entries.items refusal.0 _ (fault.1 ∙ ap Err (fault.2 ∙ refusal.2))
     (subst (λ (bytes : List ℕ). LoadsAs bytes (Ok p)) c.deref.ensures.value c.in_ok-program.ensures.loads)
     (ap stimuli_of (sym c.deref-2.ensures.value) ∙ c.in-Ok.ensures.spelled)
-    (ap₂ watched_vars_of (sym c.names.ensures) (sym c.deref-3.ensures.value) ∙ told.1)
+    (ap₂ watched_vars_of (sym c.names.ensures) (sym c.deref-3.ensures.value) ∙ refusal.1)
 
 pub returns-in_err-scripts-clause-refused : goal.returns-in_err-scripts-clause-refused
 returns-in_err-scripts-clause-refused c =

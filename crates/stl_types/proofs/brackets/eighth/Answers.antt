@@ -4,12 +4,12 @@ use Rattle.plc_base.specs.Least.{broken_if, least}
 use Rattle.plc_base.proofs.GatheredLemmas.{gathered_done, gathered_next}
 use Rattle.plc_base.proofs.LeastLemmas.{lesser_first}
 use Rattle.stl_types.specs.Brackets.{brackets_behind, is_eighth_bracket, with_brackets}
-use Rattle.stl_types.specs.declared.brackets.Bracket.{Bracket}
+use Rattle.stl_types.specs.declared.brackets.SourceBracket.{SourceBracket}
 use Rattle.stl_types.proofs.brackets.eighth.Goals as goal
 
 pub loop-statement-init : goal.loop-statement-init
 loop-statement-init c =
-    lesser_first _ ∙ ap (λ (l : List Bracket). least (with_brackets (λ brackets s. broken_if (is_eighth_bracket brackets s) s.line 31) l c.args.body.now)) c.new-brackets.ensures.items
+    lesser_first _ ∙ ap (λ (l : List SourceBracket). least (with_brackets (λ brackets s. broken_if (is_eighth_bracket brackets s) s.line 31) l c.args.body.now)) c.new-brackets.ensures.items
 
 pub loop-statement-preserved : goal.loop-statement-preserved
 loop-statement-preserved c =

@@ -1,11 +1,11 @@
 use Rattle.std.proofs.Common.{ap, List}
 use Rattle.stl_types.specs.Brackets.{brackets_behind_all}
-use Rattle.stl_types.specs.declared.brackets.Bracket.{Bracket}
+use Rattle.stl_types.specs.declared.brackets.SourceBracket.{SourceBracket}
 use Rattle.stl_types.proofs.WalkLemmas.{behind_end, behind_turn}
 use Rattle.stl_types.proofs.brackets.open_at_end.Goals as goal
 
 pub loop-statement-init : goal.loop-statement-init
-loop-statement-init c = ap (λ (l : List Bracket). brackets_behind_all l c.args.body.now) c.new-brackets.ensures.items
+loop-statement-init c = ap (λ (l : List SourceBracket). brackets_behind_all l c.args.body.now) c.new-brackets.ensures.items
 
 pub loop-statement-preserved : goal.loop-statement-preserved
 loop-statement-preserved c =

@@ -4,13 +4,13 @@ use Rattle.plc_base.specs.Gathered.{refusals_along}
 use Rattle.plc_base.specs.Least.{broken_if, least}
 use Rattle.plc_base.proofs.GatheredLemmas.{gathered_done, gathered_next}
 use Rattle.plc_base.proofs.LeastLemmas.{lesser_first}
-use Rattle.stl_types.specs.Landings.{Nesting, crosses_nesting, nesting_behind}
+use Rattle.stl_types.specs.Landings.{SourceNesting, crosses_nesting, nesting_behind}
 use Rattle.stl_types.proofs.landings.crossing_jumps.Goals as goal
 
 pub loop-statement-init : goal.loop-statement-init
 loop-statement-init c =
     let at = c.args.targets.now in
-    lesser_first _ ∙ ap (λ (n : Nesting). least (refusals_along (λ s. false) (λ n (s : Statement). broken_if (crosses_nesting at.labels at.landings.items n s.operand) s.line 33) nesting_behind n c.args.body.now)) c.new-nesting.ensures
+    lesser_first _ ∙ ap (λ (n : SourceNesting). least (refusals_along (λ s. false) (λ n (s : Statement). broken_if (crosses_nesting at.labels at.landings.items n s.operand) s.line 33) nesting_behind n c.args.body.now)) c.new-nesting.ensures
 
 pub loop-statement-preserved : goal.loop-statement-preserved
 loop-statement-preserved c =

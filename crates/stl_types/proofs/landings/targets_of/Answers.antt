@@ -1,7 +1,7 @@
 use Rattle.std.proofs.Common.{arith, ◌∙◌, ap, ◌++◌, List, ℕ}
 use Rattle.std.proofs.lemmas.Grind.{common_steps}
 use Rattle.stl_types.specs.Labels.{labels_of}
-use Rattle.stl_types.specs.Landings.{Landing, Nesting, landings_at_labels}
+use Rattle.stl_types.specs.Landings.{Landing, SourceNesting, landings_at_labels}
 use Rattle.stl_types.proofs.WalkLemmas.{landings_end, landings_turn}
 use Rattle.stl_types.proofs.landings.targets_of.Goals as goal
 
@@ -9,7 +9,7 @@ pub loop-statement-init : goal.loop-statement-init
 loop-statement-init c = record {
   labels = ap (λ (l : List (List ℕ)). l ++ labels_of c.args.body.now) c.new-labels.ensures;
   landings = ap (λ (l : List Landing). l ++ landings_at_labels c.new-nesting.result c.args.body.now) c.new-landings.ensures.items
-      ∙ ap (λ (n : Nesting). landings_at_labels n c.args.body.now) c.new-nesting.ensures;
+      ∙ ap (λ (n : SourceNesting). landings_at_labels n c.args.body.now) c.new-nesting.ensures;
 }
 
 pub loop-statement-preserved : goal.loop-statement-preserved

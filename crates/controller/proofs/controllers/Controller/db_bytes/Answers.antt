@@ -9,7 +9,7 @@ use Rattle.controller.proofs.controllers.Controller.db_bytes.Goals as goal
 
 pub returns-clause-loaded : goal.returns-clause-loaded
 returns-clause-loaded c =
-    let m : Areas = (cpu_state c.self.inside.cpu).world.memory in
+    let m : Areas = (cpu_state c.self.inside.cpu).store.memory in
     let program : c.self.inside.program.program ≡ c.args.self.now.program = ap (λ (r : Recording). r.program) c.self.view_is in
     sym (copied_some c.db_bytes.result)
     ∙ ap (λ (o : Option (List ℕ)). is_some o) c.db_bytes.ensures

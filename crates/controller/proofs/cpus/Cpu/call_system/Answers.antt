@@ -8,7 +8,7 @@ use Rattle.controller.proofs.cpus.Cpu.call_system.Goals as goal
 pub returns-in_default-clause-regs : goal.returns-in_default-clause-regs
 returns-in_default-clause-regs c =
     c.unwrap_or-regs.ensures
-    ∙ ap (λ (regs : Option Regs). unwrap_or regs c.args.stand.now.regs) c.regs.ensures
+    ∙ ap (λ (regs : Option Regs). unwrap_or regs c.args.position.now.regs) c.regs.ensures
     ∙ call_regs c.args.number c.args.inputs.now c.args.to c.args.self.now.activations
     c.serve-stop.new.self _ _ (scheduler_of c.args.self.now.sched) _ c.serve-stop.result
-    c.args.stand.now.regs c.serve-stop.ensures
+    c.args.position.now.regs c.serve-stop.ensures

@@ -13,7 +13,7 @@ use Rattle.controller.proofs.cpus.Cpu.step.Goals as goal
 pub finish-regs-requires-clause-stack : goal.finish-regs-requires-clause-stack
 finish-regs-requires-clause-stack c =
     step_stands c.args.self.now.mode (code_of c.args.program.now.program)
-    c.args.self.now.activations c.step-done.new.self (cpu_state c.args.self.now).world
+    c.args.self.now.activations c.step-done.new.self (cpu_state c.args.self.now).store
     (global_store c.step-done.new.m c.step-done.new.t c.step-done.new.n) c.in-Some.done c.in-Some.ensures
     c.requires.stack
 

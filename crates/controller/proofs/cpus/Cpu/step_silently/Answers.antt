@@ -1,7 +1,7 @@
 use Rattle.std.proofs.Common.{refl, sym, ◌∙◌, is_some, not}
 use Rattle.machine.specs.Flat.{code_of}
 use Rattle.machine.specs.Statement.{global_store}
-use Rattle.ob_sched.specs.Request.{best_of}
+use Rattle.ob_sched.specs.StartRequest.{best_of}
 use Rattle.controller.specs.State.{is_stop}
 use Rattle.controller.specs.Views.{cpu_state}
 use Rattle.controller.proofs.SilentLemmas.{fit_goes_on, no_silent_step, none_there, steps_silently, IsSilent}

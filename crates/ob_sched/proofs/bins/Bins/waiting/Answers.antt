@@ -1,5 +1,5 @@
 use Rattle.std.proofs.Common.{◌∙◌, ap, sym, arith}
-use Rattle.ob_sched.specs.Request.{waiting_count}
+use Rattle.ob_sched.specs.StartRequest.{waiting_count}
 use Rattle.ob_sched.proofs.BinLemmas.{waiting-found}
 use Rattle.ob_sched.proofs.bins.Bins.waiting.Goals as goal
 
