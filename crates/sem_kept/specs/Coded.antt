@@ -5,11 +5,17 @@ use Rattle.std.specs.List.{AllByRecursion}
 use Rattle.flat_code.specs.Codes.{are_ops, code_bytes, code_fault, code_layout}
 use Rattle.flat_code.specs.Programs.{CodeBlock}
 use Rattle.stl_ast.specs.Literals.{AreBytes}
+use Rattle.stl_ast.specs.declared.blocks.Block.{Block}
+use Rattle.stl_ast.specs.declared.blocks.Part.{Part}
+use Rattle.stl_ast.specs.declared.blocks.Setting.{Setting}
 use Rattle.stl_ast.specs.declared.blocks.Tree.{Tree}
+use Rattle.stl_ast.specs.declared.declarations.Declaration.{Declaration}
+use Rattle.stl_ast.specs.declared.declarations.Init.{Init}
 use Rattle.stl_ast.specs.declared.literals.Literal.{Literal}
 use Rattle.stl_ast.specs.declared.literals.Literal.TheVariants as literal
 use Rattle.stl_ast.specs.declared.operands.Operand.{Operand}
 use Rattle.stl_ast.specs.declared.operands.Operand.TheVariants as operand
+use Rattle.stl_ast.specs.declared.statements.Actual.{Actual}
 use Rattle.stl_ast.specs.declared.statements.Statement.{Statement}
 use Rattle.stl_symbols.specs.Symbol.{Symbol}
 use Rattle.sem_kept.specs.Accepted.{IsAccepted, program_in}
@@ -24,13 +30,45 @@ abbrev pub OperandHasBytes : Operand → Type 0
 OperandHasBytes (operand.Constant value) = HasBytes value
 OperandHasBytes _ = Unit {0}
 
+-- the characters of the value of an actual parameter are bytes
+abbrev pub ActualHasBytes : Actual → Type 0
+ActualHasBytes a = OperandHasBytes a.value
+
 -- the characters of the constants of a statement are bytes: those of its operand and of its
 -- actual parameters
 pub record StatementHasBytes (s : Statement) : Type 0 where
   -- the characters of its operand are bytes
   pub operand : OperandHasBytes s.operand
   -- those of each actual parameter are bytes
-  pub actuals : AllByRecursion (λ a. OperandHasBytes a.value) s.actuals
+  pub actuals : AllByRecursion ActualHasBytes s.actuals
+
+-- the characters of an initial value are bytes
+abbrev pub InitHasBytes : Init → Type 0
+InitHasBytes i = HasBytes i.value
+
+-- the characters of the initial values of a declaration are bytes
+abbrev pub DeclarationHasBytes : Declaration → Type 0
+DeclarationHasBytes d = AllByRecursion InitHasBytes d.init
+
+-- the characters of the initial values of a section are bytes
+abbrev pub PartHasBytes : Part → Type 0
+PartHasBytes p = AllByRecursion DeclarationHasBytes p.items
+
+-- the characters of the value of a setting are bytes
+abbrev pub SettingHasBytes : Setting → Type 0
+SettingHasBytes s = HasBytes s.value
+
+-- the characters of all constants of a block are bytes: those in its declarations, its settings
+-- and its statements
+pub record BlockHasBytes (b : Block) : Type 0 where
+  -- those of its sections
+  pub parts : AllByRecursion PartHasBytes b.parts
+  -- those of its components
+  pub components : AllByRecursion DeclarationHasBytes b.components
+  -- those of its settings
+  pub settings : AllByRecursion SettingHasBytes b.settings
+  -- those of its statements
+  pub body : AllByRecursion StatementHasBytes b.body
 
 -- the characters of all constants in the statements of a source are bytes
 abbrev pub TreeHasBytes : Tree → Type 0

@@ -1,6 +1,6 @@
 -- The code of each block of an accepted source is made of ops of the table.
-use Rattle.std.proofs.Common.{◌≡◌, ℕ, suc, ◌≤◌, Bool, true, false, eqb, ◌&&◌, List, [], ◌∷◌, length, length-append, map, Option, Some, refl, ap, subst, arith}
-use Rattle.std.specs.Prelude.{IfSome, not, slice_get, if◌then◌else◌}
+use Rattle.std.proofs.Common.{◌≡◌, ℕ, suc, ◌≤◌, Bool, true, false, eqb, ◌&&◌, List, [], ◌∷◌, length, length-append, map, refl, ap, arith}
+use Rattle.std.specs.Prelude.{not, if◌then◌else◌}
 use Rattle.std.specs.List.{AllByRecursion, count_by}
 use Rattle.std.proofs.lemmas.Bool.{and_from, eq-eqb, ltb-false}
 use Rattle.plc_base.specs.declared.blocks.BlockId.{BlockId}
@@ -23,11 +23,11 @@ use Rattle.stl_codegen.specs.Generated.{code_block, code_blocks_of, return_state
 use Rattle.stl_codegen.specs.Instruction.{instruction}
 use Rattle.sem_kept.proofs.accepted.Accepted.{IsSound, IsSoundStatement, IsSoundTree, context_at, right_tree, sound_code_blocks}
 use Rattle.sem_kept.proofs.accepted.CodedBlocks.{AreGood, block_coded}
-use Rattle.sem_kept.proofs.accepted.CodedBytes.{tree_has}
+use Rattle.sem_kept.proofs.accepted.CodedBytes.{block_has_bytes}
 use Rattle.sem_kept.proofs.accepted.CodedOps.{IsGoodSource, IsGoodStatement, end_good, statement_good}
 use Rattle.sem_kept.proofs.accepted.CodedSources.{context_fit, formals_few}
 use Rattle.sem_kept.proofs.accepted.CodedSymbols.{symbols_fit}
-use Rattle.sem_kept.proofs.accepted.CodedViews.{IsFit, SymbolFits, got_holds}
+use Rattle.sem_kept.proofs.accepted.CodedViews.{IsFit, SymbolFits}
 use Rattle.sem_kept.proofs.accepted.Shared.{stated_count}
 use Rattle.sem_kept.specs.Coded.{AreCoded, CodedIsGood, IsBlockCoded, StatementHasBytes}
 
@@ -95,22 +95,16 @@ mapped_coded : (bs : List StatedBlock) → AllByRecursion (λ b. IsBlockCoded (c
 mapped_coded [] h = tt
 mapped_coded (b ∷ bs) h = (h.0, mapped_coded bs h.1)
 
-got_some : {A : Type 0} (P : A → Type 0) (xs : List A) (i : ℕ) (x : A) → AllByRecursion P xs
-    → slice_get xs i ≡ Some x → P x
-got_some P xs i x h e = subst (λ (o : Option _). IfSome o P) e (got_holds P xs i h)
-
 -- THE CODE OF AN ACCEPTED SOURCE
 pub are_coded : AreCoded
 are_coded source file symbols t accepted bytes =
     let fit = symbols_fit accepted.language file symbols accepted.named in
     let tree = right_tree source file symbols t accepted in
-    let has = tree_has source accepted.tokens t bytes accepted.parsed in
     mapped_coded (code_blocks_of t symbols (layouts_of t symbols))
     (sound_code_blocks symbols t (λ b. IsBlockCoded (compiled_block b)) tree
     (λ k b l id sound named is.
     source_coded symbols t k b l id fit tree sound
-    (got_some (λ (b : Block). AllByRecursion StatementHasBytes b.body) t.blocks k b has
-    sound.block_there)))
+    (block_has_bytes source accepted.tokens t bytes accepted.parsed k b sound.block_there).body))
 
 pub coded_is_good : CodedIsGood
 unfolding code_layout

@@ -1,20 +1,19 @@
 -- The code of statements is made of ops of the table.
-use Rattle.std.proofs.Common.{◌≡◌, ℕ, zero, suc, ◌+◌, ◌*◌, ◌<◌, ◌≤◌, Bool, true, false, eqb, List, [], ◌∷◌, ◌++◌, length, length-append, map, Option, Some, None, refl, sym, ap, subst, ◌∙◌, arith}
+use Rattle.std.proofs.Common.{◌≡◌, ℕ, zero, suc, ◌+◌, ◌*◌, ◌<◌, ◌≤◌, Bool, true, false, eqb, List, [], ◌∷◌, ◌++◌, length, length-append, map, None, refl, sym, ap, subst, ◌∙◌, arith}
 use Rattle.std.specs.Prelude.{if◌then◌else◌}
 use Rattle.std.specs.List.{AllByRecursion}
 use Rattle.std.proofs.lemmas.Bool.{and_from, ne_eqb}
 use Rattle.std.proofs.lemmas.List.{map-append}
 use Rattle.plc_base.proofs.ListLemmas.{all_append}
-use Rattle.flat_code.specs.Codes.{are_ops, code_fault, ends_by_be, first_found, last_place, if_checked, overlong_statement, size_of_op}
+use Rattle.flat_code.specs.Codes.{are_ops, code_fault, ends_by_be, overlong_statement, size_of_op}
 use Rattle.flat_code.specs.Forms.{passed_coding, direct_coding}
 use Rattle.flat_code.specs.Instr.{Returns}
 use Rattle.flat_code.specs.Ops.{OpData, is_op, op_bytes}
 use Rattle.flat_code.specs.declared.operands.Operand.{Operand as FlatOperand}
-use Rattle.flat_code.specs.declared.operands.Operand.TheVariants as flat
-use Rattle.flat_code.specs.declared.operands.Passed.TheVariants as passed
 use Rattle.flat_code.specs.declared.operations.EndOperation.TheVariants as end
 use Rattle.stl_codegen.specs.Compiled.{SourceInstruction, StatedBlock, operand_with_target, op_with_target, compiled_block, offset_from, offset_of_statement, ops_in, placed_ops}
 use Rattle.stl_codegen.specs.Emitted.{ops_of}
+use Rattle.sem_kept.proofs.accepted.Accepted.{all_mapped}
 use Rattle.sem_kept.proofs.accepted.CodedOps.{IsGood, IsGoodPart, IsGoodStatement}
 use Rattle.sem_kept.specs.Coded.{IsBlockCoded}
 
@@ -27,14 +26,10 @@ returning_at line = record { instr = Returns end.Be; line = line }
 
 -- ---- each is an op
 
-front_good : (front : List OpData) → AllByRecursion IsGoodPart front → AllByRecursion IsGood front
-front_good [] h = tt
-front_good (op ∷ front) h = (h.0.good, front_good front h.1)
-
 statement_ops : (ops : List OpData) → IsGoodStatement ops → AllByRecursion IsGood ops
 statement_ops ops h =
     subst (AllByRecursion IsGood) (sym h.whole)
-    (all_append IsGood h.front (h.final ∷ []) (front_good h.front h.parts) (h.good, tt))
+    (all_append IsGood h.front (h.final ∷ []) (all_mapped IsGoodPart IsGood (λ op k. k.good) h.front h.parts) (h.good, tt))
 
 all_good : (ss : List SourceInstruction) → AreGood ss → AllByRecursion IsGood (ops_in ss)
 all_good [] h = tt
@@ -62,19 +57,14 @@ overlong_front : (f : ℕ → ℕ) (front : List OpData) (final : OpData) (rest 
     (count at : ℕ) → AllByRecursion IsGoodPart front → final.last ≡ true
     → count + length front ≤ 63 → ((at : ℕ) → overlong_statement 0 at rest ≡ None)
     → overlong_statement count at (map (op_with_target f) front ++ op_with_target f final ∷ rest) ≡ None
+unfolding size_of_op op_bytes
 overlong_front f [] final rest count at parts last few more =
     overlong_step count at (op_with_target f final) rest (omega (arith, few))
-    (subst
-    (λ (b : Bool). overlong_statement (if b then 0 else suc count) (at + size_of_op (op_with_target f final)) rest ≡ None)
-    (sym last) (more (at + size_of_op (op_with_target f final))))
+    (rw last (more (at + size_of_op (op_with_target f final))))
 overlong_front f (x ∷ front) final rest count at parts last few more =
     overlong_step count at (op_with_target f x) (map (op_with_target f) front ++ op_with_target f final ∷ rest)
     (omega (arith, few))
-    (subst
-    (λ (b : Bool).
-    overlong_statement (if b then 0 else suc count) (at + size_of_op (op_with_target f x))
-    (map (op_with_target f) front ++ op_with_target f final ∷ rest) ≡ None)
-    (sym parts.0.inner)
+    (rw parts.0.inner
     (overlong_front f front final rest (suc count) (at + size_of_op (op_with_target f x)) parts.1 last
     (omega (arith, few)) more))
 
@@ -117,9 +107,7 @@ ends_right f (s ∷ ss) line =
     (ends_right f ss line))
 
 no_fault : (ops : List OpData) → overlong_statement 0 0 ops ≡ None → ends_by_be ops ≡ true → code_fault ops ≡ None
-no_fault ops few right =
-    ap (λ (o : Option ℕ). first_found (if_checked true o) (if_checked true (if ends_by_be ops then None else Some (last_place 0 ops)))) few
-    ∙ ap (λ (b : Bool). if_checked true (if b then None else Some (last_place 0 ops))) right
+no_fault ops few right = rw (few, right)
 
 -- ---- offsets are small
 
@@ -130,69 +118,40 @@ total (op ∷ ops) = size_of_op op + total ops
 
 total_append : (xs ys : List OpData) → total (xs ++ ys) ≡ total xs + total ys
 total_append [] ys = omega arith
-total_append (x ∷ xs) ys = let more = total_append xs ys in omega (arith, more)
+total_append (x ∷ xs) ys = omega (arith, total_append xs ys)
 
 offset_within : (at : ℕ) (begins : Bool) (ops : List OpData) (n : ℕ)
     → offset_from at begins ops n ≤ at + total ops
 offset_within at begins [] n = omega arith
 offset_within at true (op ∷ ops) zero = omega arith
-offset_within at true (op ∷ ops) (suc n) =
-    let h = offset_within (at + size_of_op op) op.last ops n in omega (arith, h)
-offset_within at false (op ∷ ops) n =
-    let h = offset_within (at + size_of_op op) op.last ops n in omega (arith, h)
+offset_within at true (op ∷ ops) (suc n) = omega (arith, offset_within (at + size_of_op op) op.last ops n)
+offset_within at false (op ∷ ops) n = omega (arith, offset_within (at + size_of_op op) op.last ops n)
 
 operand_long : (code : ℕ) (last : Bool) (o : FlatOperand)
     → size_of_op (record { code = code; last = last; operand = o }) ≤ 16
 unfolding size_of_op op_bytes direct_coding passed_coding
-operand_long code last (flat.Pass index (passed.Literal value)) = omega arith
-operand_long code last (flat.Pass index (passed.Direct area w byte bit)) = omega arith
-operand_long code last (flat.Pass index (passed.Parameter own w)) = omega arith
-operand_long code last (flat.Pass index (passed.InBlock n area w byte bit)) = omega arith
-operand_long code last flat.Nothing = omega arith
-operand_long code last (flat.Literal value) = omega arith
-operand_long code last (flat.Direct area w byte bit) = omega arith
-operand_long code last (flat.ByMemory area w from byte) = omega arith
-operand_long code last (flat.ByRegister area w register bits) = omega arith
-operand_long code last (flat.Parameter index w) = omega arith
-operand_long code last (flat.Numbered kind number) = omega arith
-operand_long code last (flat.NumberedBy kind from byte) = omega arith
-operand_long code last (flat.Jump kind target) = omega arith
-operand_long code last (flat.OfStatus condition) = omega arith
-operand_long code last (flat.UseDb number) = omega arith
-operand_long code last (flat.Called kind number instance) = omega arith
-operand_long code last (flat.OpenBlock register number) = omega arith
-operand_long code last (flat.OpenBy register from byte) = omega arith
+operand_long code last o = grind arith
 
 op_long : (op : OpData) → size_of_op op ≤ 16
 op_long op = operand_long op.code op.last op.operand
 
 total_long : (ops : List OpData) → total ops ≤ 16 * length ops
 total_long [] = omega arith
-total_long (op ∷ ops) =
-    let one = op_long op in let more = total_long ops in omega (arith, one, more)
+total_long (op ∷ ops) = omega (arith, op_long op, total_long ops)
 
 statement_long : (ops : List OpData) → IsGoodStatement ops → total ops ≤ 1024
 statement_long ops h =
-    let count : length ops ≡ length h.front + 1 =
-    ap length h.whole ∙ length-append h.front (h.final ∷ []) in
-    let bytes = total_long ops in
-    omega (arith, count, bytes, h.few)
+    let count = length-append h.front (h.final ∷ []) in omega (arith, count, ap length h.whole, total_long ops, h.few)
 
 statements_long : (ss : List SourceInstruction) → AreGood ss → total (ops_in ss) ≤ 1024 * length ss
 statements_long [] h = omega arith
 statements_long (s ∷ ss) h =
-    let one = statement_long (ops_of s.instr) h.0 in
-    let more = statements_long ss h.1 in
-    let both = total_append (ops_of s.instr) (ops_in ss) in
-    omega (arith, one, more, both)
+    omega (arith, statement_long (ops_of s.instr) h.0, statements_long ss h.1, total_append (ops_of s.instr) (ops_in ss))
 
 offsets_small : (ss : List SourceInstruction) → AreGood ss → length ss ≤ 65536 → (n : ℕ)
     → offset_of_statement (ops_in ss) n < 4294967296
 unfolding offset_of_statement
-offsets_small ss h few n =
-    let within = offset_within 0 true (ops_in ss) n in
-    let bytes = statements_long ss h in
-    omega (arith, within, bytes, few)
+offsets_small ss h few n = omega (arith, offset_within 0 true (ops_in ss) n, statements_long ss h, few)
 
 -- ---- THE CODE OF A BLOCK
 

@@ -1,16 +1,13 @@
 -- The ops of a statement are ops of the table, wherever its targets lead, and at most 64.
-use Rattle.std.proofs.Common.{◌≡◌, ℕ, suc, ◌+◌, ◌<◌, ◌≤◌, Bool, true, false, ltb, ◌&&◌, List, [], ◌∷◌, ◌++◌, length, length-append, take, drop, take-append-drop, Option, Some, None, refl, sym, ap, subst, ◌∙◌, arith}
-use Rattle.std.specs.Prelude.{IfSome, is_none, if◌then◌else◌}
+use Rattle.std.proofs.Common.{◌≡◌, ℕ, suc, ◌+◌, ◌<◌, ◌≤◌, Bool, true, false, List, [], ◌∷◌, ◌++◌, length, length-append, take, drop, Option, Some, None, refl, sym, ap, subst, ◌∙◌, arith}
+use Rattle.std.specs.Prelude.{IfSome}
 use Rattle.std.specs.List.{AllByRecursion}
 use Rattle.std.specs.Str.{bytes_eq}
-use Rattle.std.proofs.lemmas.Bool.{and_from, lt-ltb}
+use Rattle.std.proofs.lemmas.Bool.Decides.{nat_tests}
+use Rattle.std.proofs.lemmas.Bool.{and_from}
 use Rattle.plc_base.specs.declared.blocks.BlockId.{BlockId}
-use Rattle.plc_base.specs.declared.blocks.BlockKind.{BlockKind}
-use Rattle.plc_base.specs.declared.blocks.BlockKind.TheVariants as kinds
-use Rattle.plc_base.specs.declared.places.Place.{Place}
-use Rattle.plc_base.specs.declared.places.Width.{Width}
-use Rattle.flat_code.specs.Forms.{passed_coding, actual_fits, direct_coding, is_callable_number, payload_fits}
-use Rattle.flat_code.specs.Instr.{Passing, Does, Calls, Returns}
+use Rattle.flat_code.specs.Forms.{passed_coding, actual_fits, payload_fits}
+use Rattle.flat_code.specs.Instr.{Passing, Does, Returns}
 use Rattle.flat_code.specs.Kinds.{jump_number}
 use Rattle.flat_code.specs.OpCodes.{op_code_of}
 use Rattle.flat_code.specs.Ops.{OpData, is_instruction, is_op}
@@ -19,21 +16,16 @@ use Rattle.flat_code.specs.declared.kinds.JumpOperation.{JumpOperation}
 use Rattle.flat_code.specs.declared.operands.Operand.{Operand as FlatOperand}
 use Rattle.flat_code.specs.declared.operands.Operand.TheVariants as flat
 use Rattle.flat_code.specs.declared.operands.Passed.{Passed}
-use Rattle.flat_code.specs.declared.operands.Passed.TheVariants as passed
 use Rattle.flat_code.specs.declared.operations.CallOperation.{CallOperation}
 use Rattle.flat_code.specs.declared.operations.EndOperation.{EndOperation}
-use Rattle.flat_code.specs.declared.operations.EndOperation.TheVariants as ends
 use Rattle.flat_code.specs.declared.operations.Operation.{Operation}
 use Rattle.flat_code.specs.declared.operations.Operation.TheVariants as operation
-use Rattle.block_layout.specs.Fits.{bits_of}
 use Rattle.stl_ast.specs.Literals.{IsLiteral}
 use Rattle.stl_ast.specs.Operands.{IsOperand}
 use Rattle.stl_ast.specs.Statements.{AreActuals, IsStatement, is_empty_statement}
 use Rattle.stl_ast.specs.declared.blocks.Block.{Block}
-use Rattle.stl_ast.specs.declared.declarations.Simple.{Simple}
 use Rattle.stl_ast.specs.declared.literals.Literal.{Literal}
 use Rattle.stl_ast.specs.declared.mnemonics.Mnemonic.{Mnemonic}
-use Rattle.stl_ast.specs.declared.operands.Numbered.TheVariants as numbered
 use Rattle.stl_ast.specs.declared.operands.Operand.{Operand}
 use Rattle.stl_ast.specs.declared.operands.Operand.TheVariants as operand
 use Rattle.stl_ast.specs.declared.statements.Actual.{Actual}
@@ -43,28 +35,27 @@ use Rattle.plc_base.specs.Kinds.{is_callable as is_callable_kind, kind_number}
 use Rattle.stl_types.specs.Constants.{takes_constant}
 use Rattle.stl_types.specs.Context.{Context}
 use Rattle.stl_types.specs.Forms.{form_of}
-use Rattle.stl_types.specs.Operands.{is_on_wrong_side, operand_rule, rule_of_resolved_operand, rule_of_resolution, statement_rule, takes_operand as form_takes}
+use Rattle.stl_types.specs.Operands.{operand_rule, rule_of_resolved_operand, rule_of_resolution, statement_rule}
 use Rattle.stl_types.specs.Parameters.{Callee, callee_of}
-use Rattle.stl_types.specs.Resolved.{resolved_operand, resolved_view}
+use Rattle.stl_types.specs.Resolved.{resolved_operand}
 use Rattle.stl_types.specs.Resolution.{resolution_of}
 use Rattle.stl_types.specs.declared.forms.OperandRule.{OperandRule}
 use Rattle.stl_types.specs.declared.forms.OperandRule.TheVariants as form
 use Rattle.stl_types.specs.declared.parameters.Formal.{Formal}
-use Rattle.stl_types.specs.declared.views.Register.TheVariants as register
 use Rattle.stl_types.specs.declared.views.Resolution.{Resolution}
-use Rattle.stl_types.specs.declared.views.Resolution.TheVariants.{Resolved, Unknown, Unjudged}
+use Rattle.stl_types.specs.declared.views.Resolution.TheVariants.{Resolved}
 use Rattle.stl_types.specs.declared.views.ResolvedOperand.{ResolvedOperand}
 use Rattle.stl_types.specs.declared.views.ResolvedOperand.TheVariants as view
 use Rattle.stl_codegen.proofs.OpLemmas.{jumps, jump_ops}
 use Rattle.stl_codegen.specs.Compiled.{operand_with_target}
 use Rattle.stl_codegen.specs.Emitted.{call_op, end_op, op_with_end_mark, instance_number_or_zero, jump_op, use_db_ops, ops_of, pass_ops, preparing_op}
-use Rattle.stl_codegen.specs.Instruction.{source_block_at, call_instr, end_instr, filler_instruction, in_parameter_order, instr_by, instruction, jump_instr, passings_to, resolved_instr, return_last, target_of, view_instr}
-use Rattle.stl_codegen.specs.Operands.{constant_bits, is_in_named_block, block_opened_by_operand, flat_operand_of}
-use Rattle.stl_codegen.specs.Passed.{passed_actual, passed_place, passed_resolution, passed_view, passings_from, actual_of_formal, with_index}
+use Rattle.stl_codegen.specs.Instruction.{source_block_at, call_instr, end_instr, filler_instruction, in_parameter_order, instr_by, instruction, jump_instr, passings_to, resolved_instr, target_of, view_instr}
+use Rattle.stl_codegen.specs.Operands.{block_opened_by_operand, flat_operand_of}
+use Rattle.stl_codegen.specs.Passed.{passed_actual, passed_resolution, passed_view, passings_from, actual_of_formal, with_index}
 use Rattle.stl_codegen.specs.Operations.{call_operation_of, end_operation_of, jump_operation_of, operation_for}
 use Rattle.sem_kept.proofs.accepted.CodedBits.{bits_small, constant_taken}
 use Rattle.sem_kept.proofs.accepted.CodedTables.{taken, operation_is_op}
-use Rattle.sem_kept.proofs.accepted.CodedViews.{IsFit, IsWord, PlaceFits, SeenFits, ViewFits, direct_fits, found_holds, payload_right, pointer_fits, seen_fits, word_fits}
+use Rattle.sem_kept.proofs.accepted.CodedViews.{IsFit, IsWord, SeenFits, ViewFits, direct_fits, found_holds, payload_right, pointer_fits, seen_fits, word_fits}
 use Rattle.sem_kept.specs.Coded.{HasBytes, OperandHasBytes, StatementHasBytes}
 use Rattle.sem_kept.proofs.accepted.OperandsOperations.{allowed}
 use Rattle.sem_kept.proofs.accepted.Shared.{call_form, no_call_constant, rule_callable, rule_there}
@@ -114,49 +105,27 @@ abbrev IsAllowed : OperandRule → Operand → ResolvedOperand → Type 0
 IsAllowed f (operand.Constant value) v = (takes_constant f value ≡ true) × (v ≡ view.Constant)
 IsAllowed f _ v = rule_of_resolved_operand f v ≡ None
 
-record IsTaken (f : OperandRule) (v : ResolvedOperand) : Type 0 where
-  takes : form_takes f v ≡ true
-  side : is_on_wrong_side f v ≡ false
-
-rule_parts : (f : OperandRule) (v : ResolvedOperand) → rule_of_resolved_operand f v ≡ None → IsTaken f v
-rule_parts f v h = let all = allowed f v h in record { takes = all.taken; side = all.side }
-
 still_view : (o : Operand) (v : ResolvedOperand) (f : ℕ → ℕ) → operand_with_target f (flat_operand_of o v) ≡ flat_operand_of o v
 unfolding flat_operand_of
-still_view o (view.NumberBy numbered.Timer from byte) f = refl
-still_view o (view.NumberBy numbered.Counter from byte) f = refl
-still_view o (view.NumberBy numbered.Db from byte) f = refl
-still_view o (view.NumberBy numbered.Di from byte) f = refl
-still_view o (view.Register register.Dblg) f = refl
-still_view o (view.Register register.Dbno) f = refl
-still_view o (view.Register register.Dilg) f = refl
-still_view o (view.Register register.Dino) f = refl
-still_view o (view.Register _) f = refl
-still_view o _ f = refl
+still_view o v f = grind arith
 
 by_rule : (m : Mnemonic) (o : Operand) (v : ResolvedOperand) → jump_operation_of m ≡ None → call_operation_of m ≡ None
     → end_operation_of m ≡ None → is_empty_statement m ≡ false → ViewFits o v → rule_of_resolved_operand (form_of m) v ≡ None
     → is_instruction (operation_for m o v) (flat_operand_of o v) ≡ true
 unfolding is_instruction
 by_rule m o v j c e n fits rule =
-    let t = rule_parts (form_of m) v rule in
+    let all = allowed (form_of m) v rule in
     and_from (admits (takes_of_operation (operation_for m o v)) (flat_operand_of o v))
     (payload_fits (flat_operand_of o v))
-    (taken m o v j c e n (pointer_fits o v fits) t.takes)
-    (payload_right (form_of m) o v t.side fits)
+    (taken m o v j c e n (pointer_fits o v fits) all.taken)
+    (payload_right (form_of m) o v all.side fits)
 
 by_constant : (m : Mnemonic) (value : Literal) → IsLiteral value → HasBytes value
     → takes_constant (form_of m) value ≡ true
     → is_instruction (operation_for m (operand.Constant value) view.Constant)
     (flat_operand_of (operand.Constant value) view.Constant) ≡ true
 unfolding is_instruction flat_operand_of
-by_constant m value is has h =
-    let small = bits_small value is has in
-    and_from
-    (admits (takes_of_operation (operation_for m (operand.Constant value) view.Constant))
-    (flat.Literal (bits_of value)))
-    (ltb (bits_of value) 4294967296) (constant_taken m value is has h)
-    (lt-ltb (bits_of value) 4294967296 (omega (arith, small)))
+by_constant m value is has h = grind (arith, nat_tests, constant_taken m value is has h, bits_small value is has)
 
 is_taken : (m : Mnemonic) (o : Operand) (v : ResolvedOperand) → jump_operation_of m ≡ None → call_operation_of m ≡ None
     → end_operation_of m ≡ None → is_empty_statement m ≡ false → IsOperand o → OperandHasBytes o → ViewFits o v
@@ -167,87 +136,18 @@ is_taken m (operand.Constant value) v j c e n is has fits allowed =
     is_instruction (operation_for m (operand.Constant value) x) (flat_operand_of (operand.Constant value) x)
     ≡ true)
     (sym allowed.1) (by_constant m value is has allowed.0)
-is_taken m operand.Nothing v j c e n is has fits allowed =
-    by_rule m operand.Nothing v j c e n fits allowed
-is_taken m (operand.Direct name a w byte bit) v j c e n is has fits allowed =
-    by_rule m (operand.Direct name a w byte bit) v j c e n fits allowed
-is_taken m (operand.Timer k) v j c e n is has fits allowed =
-    by_rule m (operand.Timer k) v j c e n fits allowed
-is_taken m (operand.Counter k) v j c e n is has fits allowed =
-    by_rule m (operand.Counter k) v j c e n fits allowed
-is_taken m (operand.Named path steps) v j c e n is has fits allowed =
-    by_rule m (operand.Named path steps) v j c e n fits allowed
-is_taken m (operand.ByMemory a w from byte) v j c e n is has fits allowed =
-    by_rule m (operand.ByMemory a w from byte) v j c e n fits allowed
-is_taken m (operand.NumberBy what from byte) v j c e n is has fits allowed =
-    by_rule m (operand.NumberBy what from byte) v j c e n fits allowed
-is_taken m (operand.ByRegister a w r bits) v j c e n is has fits allowed =
-    by_rule m (operand.ByRegister a w r bits) v j c e n fits allowed
-is_taken m (operand.Pointer a byte bit) v j c e n is has fits allowed =
-    by_rule m (operand.Pointer a byte bit) v j c e n fits allowed
-is_taken m (operand.Label name) v j c e n is has fits allowed =
-    by_rule m (operand.Label name) v j c e n fits allowed
-is_taken m (operand.OfStatus flag) v j c e n is has fits allowed =
-    by_rule m (operand.OfStatus flag) v j c e n fits allowed
-is_taken m (operand.Other name) v j c e n is has fits allowed =
-    by_rule m (operand.Other name) v j c e n fits allowed
-is_taken m (operand.OpenBlock di name) v j c e n is has fits allowed =
-    by_rule m (operand.OpenBlock di name) v j c e n fits allowed
-is_taken m (operand.Called name instance) v j c e n is has fits allowed =
-    by_rule m (operand.Called name instance) v j c e n fits allowed
-
--- what stands in the source
-seen_rule : (f : OperandRule) (s : Resolution) (v : ResolvedOperand) → s ≡ Resolved v → rule_of_resolution f s ≡ None → rule_of_resolved_operand f v ≡ None
-seen_rule f s v e h = subst (λ (x : Resolution). rule_of_resolution f x ≡ None) e h
-
-abbrev constant_by : Bool → Option ℕ
-constant_by b = if b then None else Some 25
-
-constant_rule : (b : Bool) → constant_by b ≡ None → b ≡ true
-constant_rule true h = refl
-constant_rule false h = absurd cc
-
-abbrev the_view : ResolvedOperand → Resolution → ResolvedOperand
-the_view d (Resolved v) = v
-the_view d _ = d
+is_taken m o v j c e n is has fits allowed = by_rule m o v j c e n fits allowed
 
 allowed_by : (c : Context) (f : OperandRule) (o : Operand) (v : ResolvedOperand) → operand_rule c f o ≡ None
     → resolution_of c o ≡ Resolved v → IsAllowed f o v
 unfolding resolution_of
-allowed_by c f (operand.Constant value) v h e =
-    (constant_rule (takes_constant f value) h, sym (ap (the_view view.Constant) e))
-allowed_by c f operand.Nothing v h e = seen_rule f (resolution_of c operand.Nothing) v e h
-allowed_by c f (operand.Direct name a w byte bit) v h e =
-    seen_rule f (resolution_of c (operand.Direct name a w byte bit)) v e h
-allowed_by c f (operand.Timer k) v h e = seen_rule f (resolution_of c (operand.Timer k)) v e h
-allowed_by c f (operand.Counter k) v h e = seen_rule f (resolution_of c (operand.Counter k)) v e h
-allowed_by c f (operand.Named path steps) v h e =
-    seen_rule f (resolution_of c (operand.Named path steps)) v e h
-allowed_by c f (operand.ByMemory a w from byte) v h e =
-    seen_rule f (resolution_of c (operand.ByMemory a w from byte)) v e h
-allowed_by c f (operand.NumberBy what from byte) v h e =
-    seen_rule f (resolution_of c (operand.NumberBy what from byte)) v e h
-allowed_by c f (operand.ByRegister a w r bits) v h e =
-    seen_rule f (resolution_of c (operand.ByRegister a w r bits)) v e h
-allowed_by c f (operand.Pointer a byte bit) v h e =
-    seen_rule f (resolution_of c (operand.Pointer a byte bit)) v e h
-allowed_by c f (operand.Label name) v h e = seen_rule f (resolution_of c (operand.Label name)) v e h
-allowed_by c f (operand.OfStatus flag) v h e = seen_rule f (resolution_of c (operand.OfStatus flag)) v e h
-allowed_by c f (operand.Other name) v h e = seen_rule f (resolution_of c (operand.Other name)) v e h
-allowed_by c f (operand.OpenBlock di name) v h e =
-    seen_rule f (resolution_of c (operand.OpenBlock di name)) v e h
-allowed_by c f (operand.Called name instance) v h e =
-    seen_rule f (resolution_of c (operand.Called name instance)) v e h
+allowed_by c f (operand.Constant value) v h e = grind arith
+allowed_by c f o v h e = sym (ap (rule_of_resolution f) e) ∙ h
 
 -- ---- one that opens a data block first
 
 opened_fits : (o : Operand) (v : ResolvedOperand) → ViewFits o v → IfSome (block_opened_by_operand v) IsWord
-opened_fits o (view.Direct place w side declared) fits = by (is_in_named_block place)
-  where
-    by : (b : Bool) → IfSome (if b then Some place.number else None) IsWord
-    by true = fits.0
-    by false = tt
-opened_fits o _ fits = tt
+opened_fits o v fits = grind arith
 
 opening_good : (n : ℕ) → IsWord n → IsGoodPart (preparing_op operation.UseDb (flat.UseDb n))
 unfolding is_instruction admits
@@ -257,7 +157,8 @@ opening_good n h = record {
 }
 
 opened_good : (use_db : Option ℕ) (w : Operation) (o : FlatOperand) → IfSome use_db IsWord
-    → IsGood (op_with_end_mark w o) → IsGoodStatement (use_db_ops use_db ++ op_with_end_mark w o ∷ [])
+    → IsGood (op_with_end_mark w o) → IsGoodStatement (ops_of (Does use_db w o))
+unfolding ops_of
 opened_good None w o h good = alone (op_with_end_mark w o) good refl
 opened_good (Some n) w o h good = record {
   front = use_db_ops (Some n);
@@ -271,63 +172,20 @@ opened_good (Some n) w o h good = record {
 
 -- ---- calls
 
-kind_called : (k : BlockKind) → is_callable_kind k ≡ true
-    → (ltb (kind_number k) 256 && is_callable_number (kind_number k)) ≡ true
-kind_called kinds.Fc h = refl
-kind_called kinds.Fb h = refl
-kind_called kinds.Sfc h = refl
-kind_called kinds.Ob h = absurd cc
-kind_called kinds.Db h = absurd cc
-kind_called kinds.Udt h = absurd cc
-
-instance_small : (instance : Option ℕ) → IfSome instance IsWord → IsWord (instance_number_or_zero instance)
-instance_small None h = omega arith
-instance_small (Some n) h = h
-
-call_takes : (how : CallOperation) (k n m : ℕ)
-    → (ltb k 256 && is_callable_number k) ≡ true → IsWord n → IsWord m
-    → is_instruction (operation.Call how) (flat.Called k n m) ≡ true
+call_takes : (how : CallOperation) (id : BlockId) (instance : Option ℕ) → is_callable_kind id.kind ≡ true
+    → IsWord id.number → IfSome instance IsWord
+    → is_instruction (operation.Call how) (flat.Called (kind_number id.kind) id.number (instance_number_or_zero instance)) ≡ true
 unfolding is_instruction admits
-call_takes how k n m h i j =
-    and_from (ltb k 256 && is_callable_number k) _ h
-    (and_from (ltb n 65536) (ltb m 65536) (word_fits n i) (word_fits m j))
-
-call_good : (how : CallOperation) (id : BlockId) (instance : Option ℕ) → is_callable_kind id.kind ≡ true
-    → IsWord id.number → IfSome instance IsWord → IsGood (call_op how id instance)
-call_good how id instance c h k =
-    still_good (operation.Call how) true
-    (flat.Called (kind_number id.kind) id.number (instance_number_or_zero instance)) (λ f. refl)
-    (call_takes how (kind_number id.kind) id.number (instance_number_or_zero instance)
-    (kind_called id.kind c) h (instance_small instance k))
+call_takes how id instance c h k = grind (arith, nat_tests)
 
 -- what is passed
-place_passed : (place : Place) (w : Width) → PlaceFits place
-    → actual_fits (passed_place place w) ≡ true
-place_passed place w fits = by (is_in_named_block place)
-  where
-    inside : direct_coding.fits (place.area, (w, (place.byte, place.bit))) ≡ true
-    inside = direct_fits place.area w place.byte place.bit fits.1 fits.2
-
-    by : (b : Bool)
-        → actual_fits (if b then passed.InBlock place.number place.area w place.byte place.bit
-        else passed.Direct place.area w place.byte place.bit) ≡ true
-    by true = and_from (ltb place.number 65536) _ (word_fits place.number fits.0) inside
-    by false = inside
-
 view_passed : (o : Operand) (v : ResolvedOperand) → ViewFits o v
     → IfSome (passed_view o v) (λ p. actual_fits p ≡ true)
-view_passed o (view.Direct place w side declared) fits = place_passed place w fits
-view_passed o (view.Parameter index section declared) fits =
-    and_from (ltb index 256) true (lt-ltb index 256 fits) refl
-view_passed o view.Constant fits =
-    lt-ltb (constant_bits o) 4294967296 (omega (arith, fits))
-view_passed o _ fits = tt
+view_passed o v fits = grind (arith, nat_tests, direct_fits)
 
 seen_passed : (o : Operand) (s : Resolution) → SeenFits o s
     → IfSome (passed_resolution o s) (λ p. actual_fits p ≡ true)
-seen_passed o (Resolved v) fits = view_passed o v fits
-seen_passed o Unknown fits = tt
-seen_passed o Unjudged fits = tt
+seen_passed o s fits = grind (arith, view_passed)
 
 -- what a call passes for the parameters from an index on
 record IsGoodPassing (most : ℕ) (ps : List Passing) : Type 0 where
@@ -337,7 +195,7 @@ record IsGoodPassing (most : ℕ) (ps : List Passing) : Type 0 where
 pass_takes : (index : ℕ) (a : Passed) → index < 256 → actual_fits a ≡ true
     → is_instruction operation.Pass (flat.Pass index a) ≡ true
 unfolding is_instruction admits passed_coding
-pass_takes index a lt fits = and_from (ltb index 256) (actual_fits a) (lt-ltb index 256 lt) fits
+pass_takes index a lt fits = grind (arith, nat_tests)
 
 pass_good : (index : ℕ) (a : Passed) → index < 256 → actual_fits a ≡ true
     → IsGoodPart (preparing_op operation.Pass (flat.Pass index a))
@@ -356,13 +214,9 @@ passed_one c index None ps n lt h more = record { parts = more.parts; few = omeg
 passed_one c index (Some a) ps n lt h more =
     by (passed_resolution a.value (resolution_of c a.value)) (seen_passed a.value (resolution_of c a.value) h)
   where
-    by : (p : Option Passed) → IfSome p (λ p. actual_fits p ≡ true)
-        → IsGoodPassing (suc n) (with_index index p ++ ps)
+    by : (p : Option Passed) → IfSome p (λ p. actual_fits p ≡ true) → IsGoodPassing (suc n) (with_index index p ++ ps)
     by None k = record { parts = more.parts; few = omega (arith, more.few) }
-    by (Some p) k = record {
-      parts = (pass_good index p lt k, more.parts);
-      few = omega (arith, more.few);
-    }
+    by (Some p) k = record { parts = (pass_good index p lt k, more.parts); few = omega (arith, more.few) }
 
 passed_good : (c : Context) (actuals : List Actual) (index : ℕ) (formals : List Formal)
     → AllByRecursion (IsActualOf c) actuals → index + length formals ≤ 256
@@ -376,16 +230,11 @@ passed_good c actuals index (f ∷ fs) all few =
 
 in_order_length : (b : Option Block) (formals : List Formal)
     → length (in_parameter_order b formals) ≡ length formals
-in_order_length None formals = refl
-in_order_length (Some b) formals = by b.result
+in_order_length b formals = grind (arith, turned_length)
   where
-    by : (result : Option Simple) → length (return_last result formals) ≡ length formals
-    by None = refl
-    by (Some kind) =
-        let all = ap length (take-append-drop 1 formals) in
-        let front = length-append (take 1 formals) (drop 1 formals) in
-        let behind = length-append (drop 1 formals) (take 1 formals) in
-        omega (arith, all, front, behind)
+    turned_length : (xs : List Formal) → length (drop 1 xs ++ take 1 xs) ≡ length xs
+    turned_length [] = refl
+    turned_length (x ∷ xs) = rw length-append (omega arith)
 
 abbrev pub HasFewFormals : Context → Statement → Type 0
 HasFewFormals c s = IfSome (callee_of c s.operand) (λ callee. length callee.formals ≤ 60)
@@ -396,25 +245,9 @@ passings_good : (c : Context) (s : Statement) (callee : Option Callee)
 passings_good c s None all few = record { parts = tt; few = omega arith }
 passings_good c s (Some callee) all few =
     let ordered = in_parameter_order (source_block_at c.blocks callee.place) callee.formals in
-    let same : length ordered ≡ length callee.formals =
-    in_order_length (source_block_at c.blocks callee.place) callee.formals in
-    let within : 0 + length ordered ≤ 256 = omega (arith, same, few) in
-    let good = passed_good c s.actuals 0 ordered all within in
+    let same = in_order_length (source_block_at c.blocks callee.place) callee.formals in
+    let good = passed_good c s.actuals 0 ordered all (omega (arith, same, few)) in
     record { parts = good.parts; few = omega (arith, good.few, same, few) }
-
-called_good : (how : CallOperation) (id : BlockId) (instance : Option ℕ) (ps : List Passing)
-    → is_callable_kind id.kind ≡ true → IsWord id.number → IfSome instance IsWord → IsGoodPassing 60 ps
-    → IsGoodStatement (ops_of (Calls how id instance ps))
-unfolding ops_of
-called_good how id instance ps c h k good = record {
-  front = pass_ops ps;
-  final = call_op how id instance;
-  whole = refl;
-  parts = good.parts;
-  few = omega (arith, good.few);
-  good = call_good how id instance c h k;
-  last = refl;
-}
 
 -- ---- statements
 
@@ -433,20 +266,13 @@ jump_good how n target =
 
 end_takes : (how : EndOperation) → is_instruction (operation.End how) flat.Nothing ≡ true
 unfolding is_instruction admits
-end_takes ends.Be = refl
-end_takes ends.Bec = refl
-end_takes ends.Beu = refl
+end_takes how = grind arith
 
 pub end_good : (how : EndOperation) → IsGoodStatement (ops_of (Returns how))
 unfolding ops_of
 end_good how =
     alone (end_op how)
     (still_good (operation.End how) true flat.Nothing (λ f. refl) (end_takes how)) refl
-
-does_good : (use_db : Option ℕ) (w : Operation) (o : FlatOperand) → IfSome use_db IsWord
-    → IsGood (op_with_end_mark w o) → IsGoodStatement (ops_of (Does use_db w o))
-unfolding ops_of
-does_good use_db w o h good = opened_good use_db w o h good
 
 -- what a statement needs of its source
 pub record IsGoodSource (c : Context) (s : Statement) : Type 0 where
@@ -460,23 +286,25 @@ actual_seen c [] fit are has = tt
 actual_seen c (a ∷ actuals) fit are has =
     (seen_fits c a.value fit are.0.value has.0, actual_seen c actuals fit are.1 has.1)
 
--- what is called can be
-abbrev CallsCallable : ResolvedOperand → Type 0
-CallsCallable (view.Called id instance) = is_callable_kind id.kind ≡ true
-CallsCallable _ = Unit {0}
-
-calls_callable : (v : ResolvedOperand) → rule_of_resolved_operand form.Calls v ≡ None → CallsCallable v
-calls_callable (view.Called id instance) h = rule_callable id instance h
-calls_callable _ h = tt
-
 call_view_good : (c : Context) (s : Statement) (how : CallOperation) (v : ResolvedOperand) → IsFit c
-    → IsGoodSource c s → ViewFits s.operand v → CallsCallable v
+    → IsGoodSource c s → ViewFits s.operand v → rule_of_resolved_operand form.Calls v ≡ None
     → IsGoodStatement (ops_of (call_instr c s how v))
-call_view_good c s how (view.Called id instance) fit good fits calls =
-    called_good how id instance (passings_to c s (callee_of c s.operand)) calls fits.0 fits.1
-    (passings_good c s (callee_of c s.operand)
-    (actual_seen c s.actuals fit good.formed.actuals good.has.actuals) good.callee)
-call_view_good c s how _ fit good fits calls = filler_good
+unfolding ops_of
+call_view_good c s how (view.Called id instance) fit good fits rule =
+    let passed = passings_good c s (callee_of c s.operand)
+    (actual_seen c s.actuals fit good.formed.actuals good.has.actuals) good.callee in
+    record {
+      front = pass_ops (passings_to c s (callee_of c s.operand));
+      final = call_op how id instance;
+      whole = refl;
+      parts = passed.parts;
+      few = omega (arith, passed.few);
+      good = still_good (operation.Call how) true
+          (flat.Called (kind_number id.kind) id.number (instance_number_or_zero instance)) (λ f. refl)
+          (call_takes how id instance (rule_callable id instance rule) fits.0 fits.1);
+      last = refl;
+    }
+call_view_good c s how _ fit good fits rule = filler_good
 
 view_good : (c : Context) (s : Statement) (v : ResolvedOperand) → IsFit c → IsGoodSource c s
     → is_empty_statement s.code ≡ false → jump_operation_of s.code ≡ None → statement_rule c s ≡ None
@@ -491,7 +319,7 @@ view_good c s v fit good some no_jump rule e = by (call_operation_of s.code) ref
         → IsGoodStatement (ops_of (end_instr s v end))
     ended (Some how) no_call is = end_good how
     ended None no_call is =
-        does_good (block_opened_by_operand v) (operation_for s.code s.operand v) (flat_operand_of s.operand v)
+        opened_good (block_opened_by_operand v) (operation_for s.code s.operand v) (flat_operand_of s.operand v)
         (opened_fits s.operand v fits)
         (still_good (operation_for s.code s.operand v) true (flat_operand_of s.operand v)
         (still_view s.operand v)
@@ -502,9 +330,8 @@ view_good c s v fit good some no_jump rule e = by (call_operation_of s.code) ref
         → IsGoodStatement (ops_of (view_instr c s v how))
     by (Some how) is =
         call_view_good c s how v fit good fits
-        (calls_callable v
         (rule_there c form.Calls s.operand v no_call_constant
-        (ap (λ (f : OperandRule). operand_rule c f s.operand) (sym (call_form s.code how is)) ∙ rule) e))
+        (ap (λ (f : OperandRule). operand_rule c f s.operand) (sym (call_form s.code how is)) ∙ rule) e)
     by None is = ended (end_operation_of s.code) is refl
 
 record IsResolved (c : Context) (s : Statement) (v : ResolvedOperand) : Type 0 where
@@ -514,18 +341,7 @@ record IsResolved (c : Context) (s : Statement) (v : ResolvedOperand) : Type 0 w
 resolved_parts : (c : Context) (s : Statement) (v : ResolvedOperand) → resolved_operand c s ≡ Some v
     → IsResolved c s v
 unfolding resolved_operand
-resolved_parts c s v e = by (statement_rule c s) (resolution_of c s.operand) refl refl e
-  where
-    by : (rule : Option ℕ) (what : Resolution) → statement_rule c s ≡ rule → resolution_of c s.operand ≡ what
-        → (if is_none rule then resolved_view what else None) ≡ Some v → IsResolved c s v
-    by None (Resolved x) r k h = record { rule = r; seen = k ∙ ap Resolved (ap (view_or x) h) }
-      where
-        view_or : ResolvedOperand → Option ResolvedOperand → ResolvedOperand
-        view_or d None = d
-        view_or d (Some y) = y
-    by None Unknown r k h = absurd cc
-    by None Unjudged r k h = absurd cc
-    by (Some n) what r k h = absurd cc
+resolved_parts c s v e = grind arith
 
 -- THE OPS OF A STATEMENT
 pub statement_good : (c : Context) (body : List Statement) (n : ℕ) (s : Statement) → IsFit c

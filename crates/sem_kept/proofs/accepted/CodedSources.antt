@@ -1,16 +1,17 @@
 -- What surrounds the bodies of an accepted source fits: numbers, and the counts of parameters.
-use Rattle.std.proofs.Common.{◌≡◌, ℕ, suc, ◌+◌, ◌≤◌, Bool, true, false, eqb, List, [], ◌∷◌, ◌++◌, length, length-append, Option, Some, None, refl, sym, ap, subst, ◌∙◌, arith}
-use Rattle.std.specs.Prelude.{IfSome, nat_eq, not, slice_get, sum_by, cond, if◌then◌else◌}
-use Rattle.std.specs.List.{AllByRecursion, count_by, list_all}
-use Rattle.std.proofs.lemmas.Bool.{eq-eqb, ltb-false}
+use Rattle.std.proofs.Common.{◌≡◌, ℕ, suc, ◌+◌, ◌≤◌, Bool, true, false, eqb, List, [], ◌∷◌, ◌++◌, length, length-append, Option, refl, sym, ap, subst, ◌∙◌, arith}
+use Rattle.std.specs.Prelude.{IfSome, nat_eq, not, sum_by, cond}
+use Rattle.std.specs.List.{AllByRecursion, count_by}
+use Rattle.std.proofs.lemmas.Bool.Decides.{nat_tests}
+use Rattle.std.proofs.lemmas.Bool.{eq-eqb}
 use Rattle.std.proofs.lemmas.Grind.{flat_map-append}
 use Rattle.std.proofs.lemmas.List.Sums.{sum_by-cons}
-use Rattle.plc_base.specs.Kinds.{is_function, is_function_block, is_same_kind, is_system_function}
+use Rattle.plc_base.specs.Kinds.{is_function}
 use Rattle.plc_base.specs.declared.blocks.BlockId.{BlockId}
 use Rattle.plc_base.specs.declared.blocks.BlockKind.{BlockKind}
 use Rattle.plc_base.specs.declared.blocks.BlockKind.TheVariants as kinds
 use Rattle.stl_ast.specs.Blocks.{is_parameter, may_have_section}
-use Rattle.stl_ast.specs.Declarations.{is_elementary, is_elementary_type}
+use Rattle.stl_ast.specs.Declarations.{is_elementary}
 use Rattle.stl_ast.specs.Operands.{IsAnyName}
 use Rattle.stl_ast.specs.Outline.{IsOutline, level_behind}
 use Rattle.stl_ast.specs.WellFormed.{AreDeclaredIn, IsBlock, IsHeadName, IsSection, IsShapeOf}
@@ -20,18 +21,13 @@ use Rattle.stl_ast.specs.declared.blocks.PartKind.{PartKind}
 use Rattle.stl_ast.specs.declared.blocks.PartKind.TheVariants as part
 use Rattle.stl_ast.specs.declared.blocks.Tree.{Tree}
 use Rattle.stl_ast.specs.declared.declarations.Declaration.{Declaration}
-use Rattle.stl_ast.specs.declared.declarations.ElementType.{ElementType}
-use Rattle.stl_ast.specs.declared.declarations.ElementType.TheVariants as type
-use Rattle.stl_ast.specs.declared.declarations.Bounds.{Bounds}
 use Rattle.stl_ast.specs.declared.declarations.Simple.{Simple}
 use Rattle.stl_ast.specs.declared.names.BlockName.{BlockName}
-use Rattle.stl_ast.specs.declared.names.BlockName.TheVariants as block_name
 use Rattle.stl_ast.specs.declared.operands.Operand.{Operand}
-use Rattle.stl_ast.specs.declared.operands.Operand.TheVariants as operand
 use Rattle.stl_ast.specs.declared.statements.Statement.{Statement}
 use Rattle.stl_symbols.specs.Symbol.{Symbol}
 use Rattle.block_layout.specs.Around.{Outside, of_sections, of_structure, declarations_before_next}
-use Rattle.block_layout.specs.Blocks.{id_of, named_block, of_kind}
+use Rattle.block_layout.specs.Blocks.{id_of}
 use Rattle.block_layout.specs.Cells.{cell_of, cells_of, components_of, is_temp, with_first_cell_opening, returned_cells, section_cells}
 use Rattle.block_layout.specs.Layouts.{block_layout, layouts_by, layouts_from, layouts_of}
 use Rattle.block_layout.specs.Measures.{types_of_source, with_all_bits, with_all_depths}
@@ -40,28 +36,17 @@ use Rattle.block_layout.specs.Rule52.{parameters_in_section, has_too_many_parame
 use Rattle.block_layout.specs.Types.{Types}
 use Rattle.block_layout.specs.declared.blocks.BlockLayout.{BlockLayout}
 use Rattle.block_layout.specs.declared.cells.Cell.{Cell}
-use Rattle.block_layout.specs.declared.cells.Element.{Element}
-use Rattle.block_layout.specs.declared.cells.Element.TheVariants as element
-use Rattle.stl_types.specs.Context.{Context, in_function, is_of_function, whole_place}
-use Rattle.stl_types.specs.Parameters.{Callee, callee_at, callee_by, callee_of, formal_here, formal_of, formals_of, is_one_of, is_sound_formal, sound_formals, source_callee, system_formals}
+use Rattle.stl_types.specs.Context.{Context, in_function, is_of_function}
+use Rattle.stl_types.specs.Parameters.{Callee, callee_by, callee_of, formal_here, formals_of, source_callee, system_formals}
 use Rattle.stl_types.specs.declared.parameters.Formal.{Formal}
-use Rattle.stl_parser.proofs.OptionLemmas.{both, chained, mapped, none_holds, passed}
-use Rattle.sem_kept.proofs.accepted.Accepted.{AllLaid, IsSound, IsSoundTree, context_at}
+use Rattle.sem_kept.proofs.accepted.Accepted.{AllLaid, IsSound, IsSoundTree, all_mapped, context_at}
 use Rattle.sem_kept.proofs.accepted.CodedOps.{HasFewFormals}
 use Rattle.sem_kept.proofs.accepted.CodedViews.{IsFit, IsWord, LayoutFits, SymbolFits, block_fits, got_holds}
 
 -- ---- parameters stand in no structure
 
 plain_level : (d : Declaration) → is_elementary d ≡ true → level_behind d.level d.of.of ≡ d.level
-plain_level d h = by d.of.arrays d.of.of h
-  where
-    by : (arrays : List Bounds) (t : ElementType) → is_elementary_type arrays t ≡ true
-        → level_behind d.level t ≡ d.level
-    by [] (type.Plain kind) e = refl
-    by [] type.Structure e = absurd cc
-    by [] (type.Udt name) e = absurd cc
-    by [] type.DateAndTime e = absurd cc
-    by (b ∷ bs) t e = absurd cc
+plain_level d h = grind arith
 
 abbrev one_if : Bool → ℕ
 one_if b = cond b 1 0
@@ -89,32 +74,15 @@ formals_append xs ys =
 
 formals_opened : (cells : List Cell) → formals_of (with_first_cell_opening cells) ≡ formals_of cells
 formals_opened [] = refl
-formals_opened (c ∷ cells) = by c.sound (formals_opened cells)
-  where
-    by : (b : Bool) → formals_of (with_first_cell_opening cells) ≡ formals_of cells
-        → formals_of (if b then record c { opens = true } ∷ cells else c ∷ with_first_cell_opening cells)
-        ≡ formals_of (c ∷ cells)
-    by true more = refl
-    by false more = ap (λ (l : List Formal). formal_here c ++ l) more
+formals_opened (c ∷ cells) = grind (arith, formals_opened cells)
 
 one_formal : (c : Cell) → length (formal_here c) ≤ 1
-one_formal c = by (is_parameter c.section)
-  where
-    of : (e : Element) → length (formal_of c e) ≤ 1
-    of (element.Plain kind) = omega arith
-    of _ = omega arith
-
-    by : (b : Bool) → length (if b then formal_of c c.of else []) ≤ 1
-    by true = of c.of
-    by false = omega arith
+one_formal c = grind arith
 
 few_formals : (cells : List Cell) → length (formals_of cells) ≤ length cells
 few_formals [] = omega arith
 few_formals (c ∷ cells) =
-    let one = one_formal c in
-    let more = few_formals cells in
-    let both = length-append (formal_here c) (formals_of cells) in
-    omega (arith, one, more, both)
+    omega (arith, one_formal c, few_formals cells, length-append (formal_here c) (formals_of cells))
 
 cells_count : (y : Types) (o : Outside) (p : PartKind) (before ds : List Declaration)
     → length (cells_of y o p before ds) ≡ length ds
@@ -126,33 +94,21 @@ no_formals : (y : Types) (o : Outside) (p : PartKind) (before ds : List Declarat
     → is_parameter p ≡ false → formals_of (cells_of y o p before ds) ≡ []
 unfolding cell_of
 no_formals y o p before [] h = refl
-no_formals y o p before (d ∷ ds) h =
-    ap
-    (λ (b : Bool).
-    (if b then formal_of (cell_of y o p before d) (cell_of y o p before d).of else [])
-    ++ formals_of (cells_of y o p (d ∷ before) ds)) h
-    ∙ no_formals y o p (d ∷ before) ds h
+no_formals y o p before (d ∷ ds) h = rw (h, no_formals y o p (d ∷ before) ds h)
 
 section_formals : (y : Types) (o : Outside) (k : BlockKind) (before : List Declaration) (p : Part)
     → IsSection k p
     → length (formals_of (with_first_cell_opening (cells_of y o p.kind before p.items))) ≤ parameters_in_section p
-section_formals y o k before p section = by (is_parameter p.kind) refl
-  where
-    cells : List Cell
-    cells = cells_of y o p.kind before p.items
-
-    by : (b : Bool) → is_parameter p.kind ≡ b
-        → length (formals_of (with_first_cell_opening cells))
-        ≤ (if b then count_by (λ d. nat_eq d.level 0) p.items else 0)
-    by true e =
-        let same = ap length (formals_opened cells) in
-        let few = few_formals cells in
-        let count = cells_count y o p.kind before p.items in
-        let all = elementary_count k p.kind p.items e section.1 section.2 in
-        omega (arith, same, few, count, all)
-    by false e =
-        let same = ap length (formals_opened cells ∙ no_formals y o p.kind before p.items e) in
-        omega (arith, same)
+section_formals y o k before p section =
+    let cells = cells_of y o p.kind before p.items in
+    grind (
+      arith,
+      ap length (formals_opened cells),
+      few_formals cells,
+      cells_count y o p.kind before p.items,
+      (λ (is : is_parameter p.kind ≡ true). elementary_count k p.kind p.items is section.1 section.2),
+      (λ (is : is_parameter p.kind ≡ false). ap length (no_formals y o p.kind before p.items is)),
+    )
 
 sections_formals : (y : Types) (o : Outside) (k : BlockKind) (before : List Declaration)
     (parts : List Part) → AllByRecursion (IsSection k) parts
@@ -160,26 +116,12 @@ sections_formals : (y : Types) (o : Outside) (k : BlockKind) (before : List Decl
     ≤ sum_by parameters_in_section parts
 sections_formals y o k before [] h = omega arith
 sections_formals y o k before (p ∷ parts) h =
-    by (not (is_temp p.kind))
-    (sections_formals y o k (declarations_before_next before p.items) parts h.1)
-  where
-    rest : List Cell
-    rest = section_cells y o (λ p. not (is_temp p)) (declarations_before_next before p.items) parts
-
-    by : (b : Bool) → length (formals_of rest) ≤ sum_by parameters_in_section parts
-        → length (formals_of
-        ((if b then with_first_cell_opening (cells_of y o p.kind before p.items) else []) ++ rest))
-        ≤ sum_by parameters_in_section (p ∷ parts)
-    by true more =
-        let one = section_formals y o k before p h.0 in
-        let both = formals_append (with_first_cell_opening (cells_of y o p.kind before p.items)) rest in
-        let all = sum_by-cons parameters_in_section p parts in
-        omega (arith, one, more, both, all)
-    by false more = let all = sum_by-cons parameters_in_section p parts in omega (arith, more, all)
+    let one = section_formals y o k before p h.0 in
+    let more = sections_formals y o k (declarations_before_next before p.items) parts h.1 in
+    grind (arith, one, more, formals_append, sum_by-cons parameters_in_section p parts)
 
 returned_count : (result : Option Simple) → length (returned_cells result) ≡ return_value_count result
-returned_count None = refl
-returned_count (Some kind) = refl
+returned_count result = grind arith
 
 block_formals : (y : Types) (b : Block) → IsBlock b
     → length (formals_of (components_of y b)) ≤ parameter_count b
@@ -187,81 +129,54 @@ block_formals y b is =
     let result = returned_cells b.result in
     let sections = section_cells y (of_sections b) (λ p. not (is_temp p)) [] b.parts in
     let structure = cells_of y of_structure part.Static [] b.components in
-    let first = few_formals result in
-    let count = returned_count b.result in
-    let second = sections_formals y (of_sections b) b.kind [] b.parts is.sections.1 in
-    let third = ap length (no_formals y of_structure part.Static [] b.components refl) in
-    let outer = formals_append (result ++ sections) structure in
-    let inner = formals_append result sections in
-    omega (arith, first, count, second, third, outer, inner)
+    omega (
+      arith,
+      few_formals result,
+      returned_count b.result,
+      sections_formals y (of_sections b) b.kind [] b.parts is.sections.1,
+      ap length (no_formals y of_structure part.Static [] b.components refl),
+      formals_append (result ++ sections) structure,
+      formals_append result sections,
+    )
 
 -- ---- how many components a function has
 
 opened_count : (cells : List Cell) → length (with_first_cell_opening cells) ≡ length cells
 opened_count [] = refl
-opened_count (c ∷ cells) = by c.sound (opened_count cells)
-  where
-    by : (b : Bool) → length (with_first_cell_opening cells) ≡ length cells
-        → length (if b then record c { opens = true } ∷ cells else c ∷ with_first_cell_opening cells)
-        ≡ length (c ∷ cells)
-    by true more = refl
-    by false more = ap suc more
+opened_count (c ∷ cells) = grind (arith, opened_count cells)
 
 -- a section of a function that isn't VAR_TEMP has parameters
 function_section : (p : PartKind) → may_have_section kinds.Fc p ≡ true → is_temp p ≡ false
     → is_parameter p ≡ true
 unfolding may_have_section
-function_section part.Input h e = refl
-function_section part.Output h e = refl
-function_section part.InOut h e = refl
-function_section part.Static h e = absurd cc
-function_section part.Temp h e = absurd cc
+function_section p h e = grind arith
 
 section_count : (y : Types) (o : Outside) (before : List Declaration) (p : Part)
     → IsSection kinds.Fc p → is_temp p.kind ≡ false
     → length (with_first_cell_opening (cells_of y o p.kind before p.items)) ≤ parameters_in_section p
 section_count y o before p section e =
     let is = function_section p.kind section.0 e in
-    let same = opened_count (cells_of y o p.kind before p.items) in
-    let count = cells_count y o p.kind before p.items in
-    let all = elementary_count kinds.Fc p.kind p.items is section.1 section.2 in
-    let here : parameters_in_section p ≡ count_by (λ d. nat_eq d.level 0) p.items =
-    ap (λ (b : Bool). if b then count_by (λ d. nat_eq d.level 0) p.items else 0) is in
-    omega (arith, same, count, all, here)
+    grind (
+      arith,
+      is,
+      opened_count (cells_of y o p.kind before p.items),
+      cells_count y o p.kind before p.items,
+      elementary_count kinds.Fc p.kind p.items is section.1 section.2,
+    )
 
 sections_count : (y : Types) (o : Outside) (before : List Declaration) (parts : List Part)
     → AllByRecursion (IsSection kinds.Fc) parts
     → length (section_cells y o (λ p. not (is_temp p)) before parts) ≤ sum_by parameters_in_section parts
 sections_count y o before [] h = omega arith
 sections_count y o before (p ∷ parts) h =
-    by (is_temp p.kind) refl (sections_count y o (declarations_before_next before p.items) parts h.1)
-  where
-    rest : List Cell
-    rest = section_cells y o (λ p. not (is_temp p)) (declarations_before_next before p.items) parts
-
-    by : (b : Bool) → is_temp p.kind ≡ b → length rest ≤ sum_by parameters_in_section parts
-        → length
-        ((if not b then with_first_cell_opening (cells_of y o p.kind before p.items) else []) ++ rest)
-        ≤ sum_by parameters_in_section (p ∷ parts)
-    by true e more = let all = sum_by-cons parameters_in_section p parts in omega (arith, more, all)
-    by false e more =
-        let one = section_count y o before p h.0 e in
-        let both = length-append (with_first_cell_opening (cells_of y o p.kind before p.items)) rest in
-        let all = sum_by-cons parameters_in_section p parts in
-        omega (arith, one, more, both, all)
-
-is_fc : (k : BlockKind) → is_function k ≡ true → k ≡ kinds.Fc
-is_fc kinds.Fc h = refl
-is_fc kinds.Ob h = absurd cc
-is_fc kinds.Fb h = absurd cc
-is_fc kinds.Db h = absurd cc
-is_fc kinds.Sfc h = absurd cc
-is_fc kinds.Udt h = absurd cc
+    let one = section_count y o before p h.0 in
+    let more = sections_count y o (declarations_before_next before p.items) parts h.1 in
+    grind (arith, one, more, length-append {A = Cell}, sum_by-cons parameters_in_section p parts)
 
 function_count : (y : Types) (b : Block) → IsBlock b → is_function b.kind ≡ true
     → length (components_of y b) ≤ parameter_count b
 function_count y b is function =
-    let kind = is_fc b.kind function in
+    let kind : b.kind ≡ kinds.Fc = grind arith in
     let result = returned_cells b.result in
     let sections = section_cells y (of_sections b) (λ p. not (is_temp p)) [] b.parts in
     let structure = cells_of y of_structure part.Static [] b.components in
@@ -269,38 +184,32 @@ function_count y b is function =
     subst (λ (k : BlockKind). IsShapeOf k b.shape b.instance_of b.components) kind is.shaped in
     let parts : AllByRecursion (IsSection kinds.Fc) b.parts =
     subst (λ (k : BlockKind). AllByRecursion (IsSection k) b.parts) kind is.sections.1 in
-    let first = returned_count b.result in
-    let second = sections_count y (of_sections b) [] b.parts parts in
-    let third = cells_count y of_structure part.Static [] b.components in
-    let none = ap length shaped.2 in
-    let outer = length-append (result ++ sections) structure in
-    let inner = length-append result sections in
-    omega (arith, first, second, third, none, outer, inner)
+    omega (
+      arith,
+      returned_count b.result,
+      sections_count y (of_sections b) [] b.parts parts,
+      cells_count y of_structure part.Static [] b.components,
+      ap length shaped.2,
+      length-append (result ++ sections) structure,
+      length-append result sections,
+    )
 
 -- ---- layouts
 
 few_parameters : (b : Block) → has_too_many_parameters b ≡ false → parameter_count b ≤ 60
-few_parameters b h = let k = ltb-false 60 (parameter_count b) h in omega (arith, k)
+few_parameters b h = grind (arith, nat_tests)
 
 any_head : (k : BlockKind) (name : BlockName) → IsHeadName k name → IsAnyName name
-any_head k (block_name.Number id) h = (tt, h.1)
-any_head k (block_name.Quoted name) h = tt
+any_head k name h = grind arith
 
 measured_symbols : (symbols : List Symbol) (blocks : List Block)
     → (types_of_source symbols blocks).symbols ≡ symbols
 unfolding types_of_source with_all_bits with_all_depths
 measured_symbols symbols blocks = refl
 
-kind_holds : (test : BlockKind → Bool) (id : Option BlockId)
-    → IfSome id (λ id. IsWord id.number) → IfSome (of_kind test id) (λ id. IsWord id.number)
-kind_holds test None h = tt
-kind_holds test (Some id) h = passed (test id.kind) (Some id) (λ id. IsWord id.number) (λ is. h)
-
 id_holds : (symbols : List Symbol) (b : Block) → AllByRecursion SymbolFits symbols → IsBlock b
     → IfSome (id_of symbols b) (λ id. IsWord id.number)
-id_holds symbols b fit is =
-    kind_holds (is_same_kind b.kind) (named_block symbols b.name)
-    (block_fits symbols b.name fit (any_head b.kind b.name is.named))
+id_holds symbols b fit is = grind (arith, block_fits symbols b.name fit (any_head b.kind b.name is.named))
 
 -- the layout of a block that has few parameters
 pub record IsFewLayout (l : BlockLayout) : Type 0 where
@@ -313,10 +222,7 @@ layout_few : (y : Types) (blocks before : List Block) (b : Block)
 unfolding block_layout
 layout_few y blocks before b fit is few = record {
   id = id_holds y.symbols b fit is;
-  formals =
-      let count = block_formals y b is in
-      let least = few_parameters b few in
-      omega (arith, count, least);
+  formals = omega (arith, block_formals y b is, few_parameters b few);
 }
 
 abbrev IsFewBlock : Block → Type 0
@@ -344,11 +250,6 @@ tree_few symbols t fit sound =
     (subst (AllByRecursion SymbolFits) (sym (measured_symbols symbols t.blocks)) fit)
     (blocks_few symbols t 0 t.blocks (layouts_of t symbols) sound.blocks)
 
-layouts_fit : (ls : List BlockLayout) → AllByRecursion IsFewLayout ls
-    → AllByRecursion LayoutFits ls
-layouts_fit [] h = tt
-layouts_fit (l ∷ ls) h = (h.0.id, layouts_fit ls h.1)
-
 laid_components : (y : Types) (blocks before : List Block) (b : Block)
     → (block_layout y blocks before b).components ≡ components_of y b
 unfolding block_layout
@@ -361,14 +262,11 @@ own_few symbols t k b l sound function =
     let y = types_of_source symbols t.blocks in
     let kind : is_function b.kind ≡ true =
     subst (λ (o : Option Block). is_of_function o ≡ true) sound.block_there function in
-    let count = function_count y b sound.well_formed kind in
-    let least = few_parameters b sound.head.by_52 in
     let cells : cells_at (layouts_of t symbols) k false ≡ components_of y b =
     ap (cells_in false) sound.layout_there
     ∙ ap (λ (x : BlockLayout). x.components) sound.layout
     ∙ laid_components y t.blocks sound.before b in
-    let same = ap length cells in
-    omega (arith, count, least, same)
+    omega (arith, function_count y b sound.well_formed kind, few_parameters b sound.head.by_52, ap length cells)
 
 -- ---- WHAT SURROUNDS A BODY FITS
 
@@ -377,7 +275,7 @@ pub context_fit : (symbols : List Symbol) (t : Tree) (k : ℕ) (b : Block) (l : 
     → IsFit (context_at symbols t k)
 context_fit symbols t k b l fit tree sound = record {
   symbols = fit;
-  layouts = layouts_fit (layouts_of t symbols) (tree_few symbols t fit tree);
+  layouts = all_mapped IsFewLayout LayoutFits (λ l h. h.id) (layouts_of t symbols) (tree_few symbols t fit tree);
   own = own_few symbols t k b l sound;
 }
 
@@ -388,52 +286,27 @@ FewFormals formals = length formals ≤ 60
 
 system_few : (n : ℕ) → IfSome (system_formals n) FewFormals
 unfolding system_formals
-system_few n =
-    both (nat_eq n 32) _ _ FewFormals (omega arith)
-    (both (nat_eq n 33) _ _ FewFormals (omega arith)
-    (both (is_one_of (39 ∷ 40 ∷ []) n) _ _ FewFormals (omega arith)
-    (both (is_one_of (41 ∷ 42 ∷ []) n) _ _ FewFormals (omega arith)
-    (both (is_one_of (43 ∷ 46 ∷ []) n) _ _ FewFormals (omega arith)
-    (both (nat_eq n 64) _ _ FewFormals (omega arith) tt)))))
+system_few n = grind arith
 
 abbrev FewCallee : Callee → Type 0
 FewCallee callee = length callee.formals ≤ 60
 
 cells_few : (ls : List BlockLayout) (place : ℕ) → AllByRecursion IsFewLayout ls
     → length (formals_of (cells_at ls place false)) ≤ 60
-cells_few ls place h = by (slice_get ls place) (got_holds IsFewLayout ls place h)
-  where
-    by : (found : Option BlockLayout) → IfSome found IsFewLayout
-        → length (formals_of (cells_in false found)) ≤ 60
-    by None k = omega arith
-    by (Some l) k = k.formals
+cells_few ls place h = grind (arith, got_holds IsFewLayout ls place h)
 
 source_few : (c : Context) (id : BlockId) → AllByRecursion IsFewLayout c.layouts
     → IfSome (source_callee c id) FewCallee
-source_few c id h =
-    chained (whole_place c id) (callee_at c id) (λ k. Unit {0}) FewCallee (none_holds (whole_place c id))
-    (λ place there.
-    mapped (sound_formals (cells_at c.layouts place false)) _ FewFormals FewCallee
-    (passed (list_all is_sound_formal (cells_at c.layouts place false)) _ FewFormals
-    (λ sound. cells_few c.layouts place h))
-    (λ formals few. few))
+source_few c id h = grind (arith, (λ (place : ℕ). cells_few c.layouts place h))
 
 called_few : (c : Context) (id : BlockId) → AllByRecursion IsFewLayout c.layouts
     → IfSome (callee_by c id id.kind) FewCallee
-called_few c id h =
-    both (is_system_function id.kind) _ _ FewCallee
-    (mapped (system_formals id.number) _ FewFormals FewCallee (system_few id.number)
-    (λ formals few. few))
-    (both (is_function id.kind) _ _ FewCallee (source_few c id h)
-    (both (is_function_block id.kind) _ _ FewCallee (source_few c id h) tt))
+called_few c id h = grind (arith, source_few c id h, system_few id.number)
 
 callee_few : (c : Context) (o : Operand) → AllByRecursion IsFewLayout c.layouts
     → IfSome (callee_of c o) FewCallee
 unfolding callee_of
-callee_few c (operand.Called name instance) h =
-    chained (named_block c.symbols name) (λ id. callee_by c id id.kind) (λ id. Unit {0}) FewCallee
-    (none_holds (named_block c.symbols name)) (λ id there. called_few c id h)
-callee_few c _ h = tt
+callee_few c o h = grind (arith, (λ (id : BlockId). called_few c id h))
 
 pub formals_few : (symbols : List Symbol) (t : Tree) (k : ℕ) (s : Statement)
     → AllByRecursion SymbolFits symbols → IsSoundTree symbols t

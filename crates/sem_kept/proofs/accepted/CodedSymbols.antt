@@ -2,28 +2,19 @@
 use Rattle.std.proofs.Common.{◌≡◌, ℕ, ◌≤◌, List, Ok, arith}
 use Rattle.std.specs.List.{AllByRecursion}
 use Rattle.plc_base.specs.declared.places.Width.{Width}
-use Rattle.plc_base.specs.declared.places.Width.TheVariants as width
 use Rattle.stl_symbols.specs.Symbol.{IsFirstBit, IsSymbol, IsSymbolTarget, Symbol}
 use Rattle.stl_symbols.specs.Symbols.{symbols_in}
 use Rattle.stl_symbols.specs.declared.languages.Language.{Language}
 use Rattle.stl_symbols.specs.declared.targets.Target.{Target}
-use Rattle.stl_symbols.specs.declared.targets.Target.TheVariants as target
 use Rattle.stl_symbols.proofs.FileLemmas.{symbols_right}
 use Rattle.sem_kept.proofs.accepted.Accepted.{all_mapped}
 use Rattle.sem_kept.proofs.accepted.CodedViews.{SymbolFits, TargetFits}
 
 bit_fits : (w : Width) (bit : ℕ) → IsFirstBit w bit → bit ≤ 7
-bit_fits width.Bit bit h = h
-bit_fits width.Byte bit h = omega (arith, h)
-bit_fits width.Word bit h = omega (arith, h)
-bit_fits width.Dword bit h = omega (arith, h)
+bit_fits w bit h = grind arith
 
 target_fits : (t : Target) → IsSymbolTarget t → TargetFits t
-target_fits (target.Variable place w) h =
-    let number = h.number in (omega (arith, number), h.byte, bit_fits w place.bit h.bit)
-target_fits (target.Timer n) h = h
-target_fits (target.Counter n) h = h
-target_fits (target.Block id) h = h
+target_fits t h = grind (arith, bit_fits)
 
 pub symbols_fit : (language : Language) (file : List ℕ) (symbols : List Symbol)
     → symbols_in language file ≡ Ok symbols

@@ -54,11 +54,11 @@ use Rattle.block_layout.specs.declared.walks.PathEnd.{PathEnd}
 use Rattle.block_layout.specs.declared.walks.PathEnd.TheVariants as walk
 use Rattle.stl_types.specs.Unknown.{leads_nowhere, sets_unknown}
 use Rattle.sem_kept.specs.Accepted.{IsAccepted}
-use Rattle.sem_kept.specs.Coded.{HasBytes}
+use Rattle.sem_kept.specs.Coded.{BlockHasBytes, DeclarationHasBytes, HasBytes, InitHasBytes, PartHasBytes, SettingHasBytes}
 use Rattle.sem_kept.specs.Initial.{HasElements, HasRoom, InitialValuesAreWhole, IsSettingWritten, IsWhole, IsMadeByWrites, writes_of}
 use Rattle.sem_kept.proofs.accepted.Accepted.{IsSound, IsSoundTree, all_both, each_passes, right_tree}
 use Rattle.sem_kept.proofs.accepted.CodedBits.{value_fits}
-use Rattle.sem_kept.proofs.accepted.CodedBytes.{DeclarationHas, InitsHave, SettingHas, ValuesHaveBytes, values_are_bytes}
+use Rattle.sem_kept.proofs.accepted.CodedBytes.{block_has_bytes}
 use Rattle.block_layout.proofs.SoundnessLemmas.{IsUnbroken, Unbroken, block_unbroken, unbroken_back, unbroken_front}
 use Rattle.sem_kept.proofs.accepted.OperandsCells.{are_right, block_of_layout, cells_are}
 use Rattle.block_layout.proofs.ContainmentLemmas.{data_goes, element_parts, element_plain, element_structure, element_udt, structure_fits, udt_fits}
@@ -588,7 +588,7 @@ module _ (l : List BlockLayout) (limit k inside : ℕ) (right : AreRight l) (nea
       by walk.Rests lies f = tt
 
   settings_kept : (ss : List Setting) → AllByRecursion (λ s. IsLiteral s.value) ss
-      → AllByRecursion SettingHas ss → AllByRecursion (λ s. setting_misfits l k s ≡ false) ss
+      → AllByRecursion SettingHasBytes ss → AllByRecursion (λ s. setting_misfits l k s ≡ false) ss
       → AllByRecursion (λ s. setting_is_outside l k s ≡ false) ss
       → AllByRecursion (IsKept limit) (setting_writes l k ss)
   settings_kept [] a b c d = tt
@@ -628,23 +628,23 @@ module _ (l : List BlockLayout) (limit k inside : ℕ) (right : AreRight l) (nea
 -- ---- a data block of an accepted source
 
 -- literals and their characters, declaration by declaration
-both_values : (init : List Init) → AllByRecursion (λ i. IsLiteral i.value) init → InitsHave init
+both_values : (init : List Init) → AllByRecursion (λ i. IsLiteral i.value) init → AllByRecursion InitHasBytes init
     → AllByRecursion IsValue init
 both_values [] a b = tt
 both_values (i ∷ is) a b = ((a.0, b.0), both_values is a.1 b.1)
 
-declared_values : (d : Declaration) → IsDeclaration d → DeclarationHas d → AreValues d
+declared_values : (d : Declaration) → IsDeclaration d → DeclarationHasBytes d → AreValues d
 declared_values d is has =
     both_values d.init
     (all_held (λ (i : Init). IsInit i) (λ (i : Init). IsLiteral i.value) (λ i k. k.1) d.init is.init) has
 
 listed_values : (ds : List Declaration) → AllByRecursion IsDeclaration ds
-    → AllByRecursion DeclarationHas ds → AllByRecursion AreValues ds
+    → AllByRecursion DeclarationHasBytes ds → AllByRecursion AreValues ds
 listed_values [] a b = tt
 listed_values (d ∷ ds) a b = (declared_values d a.0 b.0, listed_values ds a.1 b.1)
 
 parts_values : (k : BlockKind) (ps : List Part) → AllByRecursion (IsSection k) ps
-    → AllByRecursion (λ p. AllByRecursion DeclarationHas p.items) ps
+    → AllByRecursion PartHasBytes ps
     → AllByRecursion (λ p. AllByRecursion AreValues p.items) ps
 parts_values k [] a b = tt
 parts_values k (p ∷ ps) a b = (
@@ -683,7 +683,7 @@ shape_declared kinds.Fc shape instance components is = none_declared components 
 shape_declared kinds.Fb shape instance components is = none_declared components is.2
 shape_declared kinds.Sfc shape instance components is = none_declared components is.2
 
-declares : (b : Block) → IsBlock b → ValuesHaveBytes b → Declares b
+declares : (b : Block) → IsBlock b → BlockHasBytes b → Declares b
 declares b well has = record {
   sections = parts_values b.kind b.parts well.sections.1 has.parts;
   structure = listed_values b.components
@@ -698,9 +698,9 @@ module _ (source file : List ℕ) (symbols : List Symbol) (t : Tree)
   tree : IsSoundTree symbols t
   tree = right_tree source file symbols t accepted
 
-  has : (k : ℕ) (b : Block) (l : BlockLayout) → IsSound symbols t k b l → ValuesHaveBytes b
+  has : (k : ℕ) (b : Block) (l : BlockLayout) → IsSound symbols t k b l → BlockHasBytes b
   has k b l h =
-      values_are_bytes source accepted.tokens t bytes accepted.parsed k b h.block_there h.well_formed.shaped
+      block_has_bytes source accepted.tokens t bytes accepted.parsed k b h.block_there
 
   all_right : (u : ℕ) → AllByRecursion (IsRightCell ls) (cells_at ls u false)
   all_right u = all_got (IsRightCell ls) (cells_at ls u false) (λ k c e. are_right symbols t tree u k false c e)

@@ -25,9 +25,8 @@ use Rattle.sem_kept.specs.Accepted.{program_in}
 use Rattle.sem_kept.specs.Coded.{StatementHasBytes}
 use Rattle.sem_kept.specs.Operands.{BlockHasNoOperandFault, InstrFits, OperandsAreFine}
 use Rattle.sem_kept.proofs.accepted.Accepted.{IsSound, IsSoundStatement, IsSoundTree, context_at, right_tree, sound_code_blocks}
-use Rattle.sem_kept.proofs.accepted.CodedBytes.{tree_has}
+use Rattle.sem_kept.proofs.accepted.CodedBytes.{block_has_bytes}
 use Rattle.sem_kept.proofs.accepted.OperandsCalls.{call_fits}
-use Rattle.block_layout.proofs.CommonLemmas.{all_there}
 use Rattle.sem_kept.proofs.accepted.OperandsInstr.{instr_fits}
 use Rattle.sem_kept.proofs.accepted.OperandsPlaced.{code_fine}
 use Rattle.sem_kept.proofs.accepted.OperandsSymbols.{SymbolFits, symbols_fit}
@@ -120,10 +119,7 @@ operands_are_fine source file symbols t accepted bytes =
     (sound_code_blocks symbols t (λ b. BlockHasNoOperandFault (program_in symbols t) (compiled_block b)) tree
     (λ k b l id sound named code.
     block_fine symbols t tree (symbols_fit accepted.language file symbols accepted.named) k b l id sound named code
-    (all_there (λ (b : Block). AllByRecursion StatementHasBytes b.body) t.blocks k b has sound.block_there)))
+    (block_has_bytes source accepted.tokens t bytes accepted.parsed k b sound.block_there).body))
   where
     tree : IsSoundTree symbols t
     tree = right_tree source file symbols t accepted
-
-    has : AllByRecursion (λ (b : Block). AllByRecursion StatementHasBytes b.body) t.blocks
-    has = tree_has source accepted.tokens t bytes accepted.parsed

@@ -1,21 +1,19 @@
 -- The names of a program: those of the symbols of a file, in the order of their bytes.
-use Rattle.std.proofs.Common.{◌≡◌, ℕ, zero, suc, ◌+◌, ◌-◌, ◌≤◌, ◌<◌, Bool, true, false, not, eqb, ltb, ◌&&◌, ◌||◌, List, [], ◌∷◌, ◌++◌, length, get_or, flat_map, Ok, refl, sym, ap, subst, ◌∙◌, arith}
+use Rattle.std.proofs.Common.{◌≡◌, ℕ, suc, ◌-◌, ◌≤◌, ◌<◌, Bool, true, false, eqb, ltb, ◌||◌, List, [], ◌∷◌, ◌++◌, length, get_or, flat_map, Ok, refl, ap, ◌∙◌, arith}
 use Rattle.std.specs.Prelude.{if◌then◌else◌}
 use Rattle.std.specs.List.{AllByRecursion}
 use Rattle.std.specs.Char.{to_ascii_uppercase}
 use Rattle.std.specs.Str.{bytes_eq}
-use Rattle.std.proofs.lemmas.Bool.{and_from, eq-eqb, lt-ltb, ltb-true, or_parts}
+use Rattle.std.proofs.lemmas.Bool.{and_from, lt-ltb, ltb-true}
 use Rattle.std.proofs.lemmas.Bool.Decides.{nat_tests}
 use Rattle.std.proofs.lemmas.List.{length-map}
 use Rattle.std.proofs.lemmas.Slice.Eq.{bytes_eq-Decides}
 use Rattle.plc_base.specs.Widths.{width_number}
 use Rattle.plc_base.specs.declared.places.Area.{Area}
-use Rattle.plc_base.specs.declared.places.Area.TheVariants as area
 use Rattle.plc_base.specs.declared.places.Place.{Place}
 use Rattle.plc_base.specs.declared.places.Width.{Width}
-use Rattle.plc_base.specs.declared.places.Width.TheVariants as width
 use Rattle.flat_code.specs.Checking.{good_names}
-use Rattle.flat_code.specs.Faults.{is_earlier_name, is_upper, ends_blank, is_in_range, field_fault, name_fault}
+use Rattle.flat_code.specs.Faults.{is_earlier_name, is_upper, ends_blank, field_fault, name_fault}
 use Rattle.flat_code.specs.Image.{bytes_fit, name_record, name_rows, name_len, name_area, name_bit, width_field, plain_u16, name_of_entry, number_of_area, after_name}
 use Rattle.flat_code.specs.Layout.{is_fine}
 use Rattle.flat_code.specs.Programs.{NameEntry}
@@ -32,7 +30,7 @@ use Rattle.stl_symbols.specs.declared.targets.Target.TheVariants as target
 use Rattle.stl_symbols.proofs.FileLemmas.{symbols_right}
 use Rattle.stl_codegen.specs.Generated.{has_name, name_entry, name_entries_of}
 use Rattle.stl_codegen.specs.Order.{is_name_before}
-use Rattle.sem_kept.proofs.accepted.Accepted.{all_sorted}
+use Rattle.sem_kept.proofs.accepted.Accepted.{all_mapped, all_sorted}
 use Rattle.sem_kept.proofs.accepted.RecordOrder.{AreApart, Differ, rise_sorted, good_all}
 
 -- ---- bytes
@@ -63,7 +61,7 @@ last_blank (x ∷ y ∷ ys) some =
     last_blank (y ∷ ys) (omega arith) ∙ ap (λ (k : ℕ). eqb (get_or (x ∷ y ∷ ys) k 0) 32) {x = suc (length (y ∷ ys) - 1)} (omega arith)
 
 not_blank : (b : ℕ) → is_blank b ≡ false → eqb b 32 ≡ false
-not_blank b h = (or_parts (eqb b 32) (eqb b 9) h).0
+not_blank b h = grind (arith, nat_tests)
 
 -- a symbol whose name and place have an image
 pub record IsNamed (s : Symbol) : Type 0 where
@@ -75,27 +73,16 @@ pub record IsNamed (s : Symbol) : Type 0 where
 
 bit_placed : (w : Width) (bit : ℕ) → IsFirstBit w bit
     → (bit ≤ 7) × ((eqb (width_number w) 1 || eqb bit 0) ≡ true)
-bit_placed width.Bit bit h = (h, refl)
-bit_placed width.Byte bit h = (omega (arith, h), eq-eqb bit 0 h)
-bit_placed width.Word bit h = (omega (arith, h), eq-eqb bit 0 h)
-bit_placed width.Dword bit h = (omega (arith, h), eq-eqb bit 0 h)
+bit_placed w bit h = grind (arith, nat_tests)
 
 target_placed : (t : Target) → IsAddressed t → IsTarget t
-target_placed (target.Variable place w) h =
-    let bit = bit_placed w place.bit h.bit in
-    let low = h.byte in
-    record { number = h.number; byte = omega (arith, low); bit = bit.0; whole = bit.1 }
-target_placed (target.Timer n) h = tt
-target_placed (target.Counter n) h = tt
-target_placed (target.Block id) h = tt
+target_placed t h = grind (arith, bit_placed)
 
 bytes_passed : (name : List ℕ) → EachBytePasses (λ b. ltb b 256) name → OfBytes name
-bytes_passed [] h = tt
-bytes_passed (b ∷ bs) h = (ltb-true b 256 h.0, bytes_passed bs h.1)
+bytes_passed name h = all_mapped (λ b. ltb b 256 ≡ true) IsByte (λ b k. ltb-true b 256 k) name h
 
 passing_bytes : (file : List ℕ) → OfBytes file → EachBytePasses (λ b. ltb b 256) file
-passing_bytes [] h = tt
-passing_bytes (b ∷ bs) h = (lt-ltb b 256 h.0, passing_bytes bs h.1)
+passing_bytes file h = all_mapped IsByte (λ b. ltb b 256 ≡ true) (λ b k. lt-ltb b 256 k) file h
 
 named_by : (s : Symbol) → IsSymbol s → EachBytePasses (λ b. ltb b 256) s.name → IsNamed s
 named_by s is bytes = record {
@@ -136,50 +123,19 @@ record IsEntry (e : NameEntry) : Type 0 where
 
 upper_fits : (name : List ℕ) → OfBytes name → bytes_fit (upper_case_name name) ≡ true
 upper_fits [] h = refl
-upper_fits (b ∷ bs) h = and_from _ _ (here b h.0) (upper_fits bs h.1)
-  where
-    here : (b : ℕ) → b < 256 → ltb (to_ascii_uppercase b) 256 ≡ true
-    here b low = grind (arith, nat_tests)
+upper_fits (b ∷ bs) h = grind (arith, nat_tests, h.0, upper_fits bs h.1)
 
 upper_is : (name : List ℕ) → is_upper (upper_case_name name) ≡ true
 upper_is [] = refl
-upper_is (b ∷ bs) = and_from _ _ (here b) (upper_is bs)
-  where
-    here : (b : ℕ) → not (is_in_range 97 122 (to_ascii_uppercase b)) ≡ true
-    here b = grind (arith, nat_tests)
+upper_is (b ∷ bs) = grind (arith, nat_tests, upper_is bs)
 
 upper_ends : (name : List ℕ) → ends_blank (upper_case_name name) ≡ ends_blank name
 upper_ends [] = refl
-upper_ends (b ∷ []) = here b
-  where
-    here : (b : ℕ) → eqb (to_ascii_uppercase b) 32 ≡ eqb b 32
-    here b = grind (arith, nat_tests)
+upper_ends (b ∷ []) = grind (arith, nat_tests)
 upper_ends (b ∷ c ∷ bs) = upper_ends (c ∷ bs)
 
 entry_of : (s : Symbol) → IsNamed s → AllByRecursion IsEntry (name_entry s.name s.target)
-entry_of s h = by s.target h.place
-  where
-    by : (t : Target) → IsTarget t → AllByRecursion IsEntry (name_entry s.name t)
-    by (target.Variable place w) at = here (has_name place.area) refl
-      where
-        here : (b : Bool) → has_name place.area ≡ b
-            → AllByRecursion IsEntry (if b then record { name = upper_case_name s.name; place = place; width = w } ∷ [] else [])
-        here true e = (
-          record {
-            some = subst (λ (n : ℕ). 1 ≤ n) (sym (length-map s.name to_ascii_uppercase)) h.some;
-            short = subst (λ (n : ℕ). n ≤ 24) (sym (length-map s.name to_ascii_uppercase)) h.short;
-            bytes = upper_fits s.name h.bytes;
-            upper = upper_is s.name;
-            ends = upper_ends s.name ∙ h.ends;
-            named = e;
-            place = at;
-          },
-          tt,
-        )
-        here false e = tt
-    by (target.Timer n) at = tt
-    by (target.Counter n) at = tt
-    by (target.Block id) at = tt
+entry_of s h = grind (arith, length-map s.name to_ascii_uppercase, upper_fits s.name h.bytes, upper_is s.name, upper_ends s.name)
 
 entries_of : (symbols : List Symbol) → AllByRecursion IsNamed symbols
     → AllByRecursion IsEntry (flat_map (λ s. name_entry s.name s.target) symbols)
@@ -197,33 +153,14 @@ alike [] (y ∷ ys) h k = absurd cc
 alike (x ∷ xs) [] h k = absurd cc
 alike (x ∷ xs) (y ∷ ys) h k =
     let same : x ≡ y = grind (arith, nat_tests) in
-    let less : is_earlier_name xs ys ≡ false = behind x y (is_earlier_name xs ys) same h in
-    let more : is_earlier_name ys xs ≡ false = behind y x (is_earlier_name ys xs) (sym same) k in
-    let rest : xs ≡ ys = alike xs ys less more in cc
-  where
-    behind : (x y : ℕ) (t : Bool) → x ≡ y → (ltb x y || eqb x y && t) ≡ false → t ≡ false
-    behind x y t same h = grind (arith, nat_tests)
+    let rest : xs ≡ ys = alike xs ys (grind (arith, nat_tests)) (grind (arith, nat_tests)) in cc
 
 apart_names : (a b : List ℕ) → bytes_eq b a ≡ false → (is_earlier_name a b || is_earlier_name b a) ≡ true
-apart_names a b other = by (is_earlier_name a b) (is_earlier_name b a) refl refl
-  where
-    by : (p q : Bool) → is_earlier_name a b ≡ p → is_earlier_name b a ≡ q → (p || q) ≡ true
-    by true q e f = refl
-    by false true e f = refl
-    by false false e f =
-        let same : bytes_eq b a ≡ true = (bytes_eq-Decides b a).1 (sym (alike a b e f)) in absurd cc
+apart_names a b other = grind (arith, (bytes_eq-Decides b a).1, (λ (p : is_earlier_name a b ≡ false) (q : is_earlier_name b a ≡ false). alike a b p q))
 
 -- an entry with the name of its symbol
 named_so : (name : List ℕ) (t : Target) → AllByRecursion (λ (e : NameEntry). e.name ≡ upper_case_name name) (name_entry name t)
-named_so name (target.Variable place w) = by (has_name place.area)
-  where
-    by : (b : Bool) → AllByRecursion (λ (e : NameEntry). e.name ≡ upper_case_name name)
-        (if b then record { name = upper_case_name name; place = place; width = w } ∷ [] else [])
-    by true = (refl, tt)
-    by false = tt
-named_so name (target.Timer n) = tt
-named_so name (target.Counter n) = tt
-named_so name (target.Block id) = tt
+named_so name t = grind arith
 
 entries : List Symbol → List NameEntry
 entries symbols = flat_map (λ s. name_entry s.name s.target) symbols
@@ -272,40 +209,24 @@ len_good n some few = grind (arith, nat_tests)
 
 area_good : (number : ℕ) (a : Area) → number ≡ 0 → has_name a ≡ true → name_area.good (number_of_area number a) ≡ true
 unfolding name_area field_fault
-area_good zero area.I none h = refl
-area_good zero area.Q none h = refl
-area_good zero area.M none h = refl
-area_good zero area.P none h = absurd cc
-area_good zero area.Db none h = absurd cc
-area_good zero area.Di none h = absurd cc
-area_good zero area.L none h = absurd cc
-area_good (suc n) a none h = absurd (omega (arith, none))
+area_good number a none h = grind (arith, nat_tests)
 
 pub width_good : (w : Width) → width_field.good (width_number w) ≡ true
 unfolding width_field field_fault
-width_good width.Bit = refl
-width_good width.Byte = refl
-width_good width.Word = refl
-width_good width.Dword = refl
+width_good w = grind arith
 
 word_good : (n : ℕ) → n < 65536 → plain_u16.good n ≡ true
 unfolding plain_u16
-word_good n low = and_from _ _ (lt-ltb n 65536 low) refl
+word_good n low = grind (arith, nat_tests)
 
 bit_good : (w n : ℕ) → n ≤ 7 → (eqb w 1 || eqb n 0) ≡ true → (name_bit w).good n ≡ true
 unfolding name_bit field_fault
 bit_good w n few whole = grind (arith, nat_tests)
 
-fine : (a b c : Bool) → a ≡ true → b ≡ true → c ≡ false → (a && b && not c) ≡ true
-fine true true false h k l = refl
-fine true true true h k l = absurd cc
-fine true false c h k l = absurd cc
-fine false b c h k l = absurd cc
-
 text_right : (before : List ℕ) (e : NameEntry) → IsEntry e → is_earlier_name before e.name ≡ true
     → is_fine (name_fault before e.name) ≡ true
 unfolding name_fault
-text_right before e h rises = rw (fine (is_earlier_name before e.name) (is_upper e.name) (ends_blank e.name) rises h.upper h.ends) refl
+text_right before e h rises = grind (arith, h.upper, h.ends)
 
 entry_good : (before : List ℕ) (e : NameEntry) → IsEntry e → is_earlier_name before e.name ≡ true
     → (name_record before).good (name_of_entry e) ≡ true

@@ -29,12 +29,11 @@ use Rattle.stl_codegen.specs.Operations.{call_operation_of, jump_operation_of}
 use Rattle.sem_kept.specs.Coded.{StatementHasBytes}
 use Rattle.sem_kept.specs.Settled.{HasInstruction, HasLabel, HasOperand, NamesWhatIsPassed, IsResolvedStatement, StatementsSettle}
 use Rattle.sem_kept.proofs.accepted.Accepted.{IsSound, IsSoundStatement, IsSoundTree, context_at, each_passes, right_tree}
-use Rattle.sem_kept.proofs.accepted.CodedBytes.{tree_has}
+use Rattle.sem_kept.proofs.accepted.CodedBytes.{block_has_bytes}
 use Rattle.sem_kept.proofs.accepted.JumpsOperands.{takes_right}
 use Rattle.sem_kept.proofs.accepted.JumpsOperations.{TakesRight}
 use Rattle.sem_kept.proofs.accepted.JumpsSettled.{Settle, operands_settle}
 use Rattle.sem_kept.proofs.accepted.OperandsCalls.{actuals_pass, callee_found, called_is}
-use Rattle.block_layout.proofs.CommonLemmas.{all_there}
 use Rattle.sem_kept.proofs.accepted.OperandsCells.{layout_of_block}
 use Rattle.sem_kept.proofs.accepted.OperandsInstr.{no_call, resolved_is}
 use Rattle.sem_kept.proofs.accepted.OperandsSymbols.{SymbolFits, symbols_fit}
@@ -162,6 +161,5 @@ statements_settle source file symbols t accepted bytes k b there =
     let tree = right_tree source file symbols t accepted in
     let laid = layout_of_block symbols t tree k b there in
     block_settles symbols t tree (symbols_fit accepted.language file symbols accepted.named) k b laid.0 laid.2
-    (all_there (λ (b : Block). AllByRecursion StatementHasBytes b.body) t.blocks k b
-    (tree_has source accepted.tokens t bytes accepted.parsed) there)
+    (block_has_bytes source accepted.tokens t bytes accepted.parsed k b there).body
     (operands_settle source file symbols t accepted k b there)
