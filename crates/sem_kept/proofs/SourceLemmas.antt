@@ -12,7 +12,7 @@ use Rattle.stl_symbols.specs.Symbols.{symbols_in, with_lines}
 use Rattle.stl_symbols.specs.declared.languages.Language.{Language}
 use Rattle.sem_kept.specs.Stages.{HaveOutcomeInTurn, NamesRefusalOf, HasOneOutcome, HasOutcome}
 use Rattle.sem_kept.specs.Meaning.{HasSymbolsIn, HasTokens, HasTreeOrRefusal, refusals_of, sound_by, IsSound, stated_code_of_tree, HasCode, IsCheckedWith, RefusedFile, InSymbols, InSource, HasOutcomeOfSourceIn, MeansCodeIn, IsRefusedSourceIn, IsMeaningUnique, ExcludesRefusal, IsRefusalUnique, HasEachSourceOutcome, NoFileHasNone}
-use Rattle.sem_kept.proofs.StageLemmas.{same_refusal, one_by_parts, in_turn_one, in_turn_some, told_one, told_some}
+use Rattle.sem_kept.proofs.StageLemmas.{same_refusal, one_by_parts, in_turn_one, in_turn_some, refusal_one, refusal_some}
 
 -- what is known of tokens and of clauses
 pub record Laws : Type 0 where
@@ -71,31 +71,31 @@ with_one laws source symbols =
 symbols_one : (language : Language) → HasOneOutcome (HasSymbolsIn language)
 symbols_one language bytes x y is_x is_y = is_x ∙ sym is_y
 
-judged_one : Laws → (language : Language) (source symbols : List ℕ) (x y : Result Code RefusedFile)
+outcome_one : Laws → (language : Language) (source symbols : List ℕ) (x y : Result Code RefusedFile)
     → HasOutcomeOfSourceIn language source symbols x → HasOutcomeOfSourceIn language source symbols y → x ≡ y
 unfolding HasOutcomeOfSourceIn
-judged_one laws language source =
+outcome_one laws language source =
     in_turn_one (NamesRefusalOf InSymbols (HasSymbolsIn language)) (NamesRefusalOf InSource (IsCheckedWith source))
-    (told_one InSymbols (HasSymbolsIn language) (symbols_one language))
-    (told_one InSource (IsCheckedWith source) (with_one laws source))
+    (refusal_one InSymbols (HasSymbolsIn language) (symbols_one language))
+    (refusal_one InSource (IsCheckedWith source) (with_one laws source))
 
 pub one_meaning : Laws → IsMeaningUnique
 one_meaning laws language source symbols c d means_c means_d =
-    same c d (judged_one laws language source symbols (Ok c) (Ok d) means_c means_d)
+    same c d (outcome_one laws language source symbols (Ok c) (Ok d) means_c means_d)
   where
     same : (c d : Code) → ◌≡◌ {A = Result Code RefusedFile} (Ok c) (Ok d) → c ≡ d
     same c d e = cc
 
 pub meaning_or_refusal : Laws → ExcludesRefusal
 meaning_or_refusal laws language source symbols c r means refused =
-    other (judged_one laws language source symbols (Ok c) (Err r) means refused)
+    other (outcome_one laws language source symbols (Ok c) (Err r) means refused)
   where
     other : ◌≡◌ {A = Result Code RefusedFile} (Ok c) (Err r) → ⊥
     other e = cc
 
 pub one_refusal : Laws → IsRefusalUnique
 one_refusal laws language source symbols r s refused_r refused_s =
-    same (judged_one laws language source symbols (Err r) (Err s) refused_r refused_s)
+    same (outcome_one laws language source symbols (Err r) (Err s) refused_r refused_s)
   where
     same : ◌≡◌ {A = Result Code RefusedFile} (Err r) (Err s) → r ≡ s
     same e = cc
@@ -138,25 +138,25 @@ with_some laws source symbols =
 symbols_some : (language : Language) → HasOutcome (HasSymbolsIn language)
 symbols_some language bytes = (symbols_in language bytes, refl)
 
-judged_some : Laws → (language : Language) (source symbols : List ℕ)
+outcome_some : Laws → (language : Language) (source symbols : List ℕ)
     → (x : Result Code RefusedFile) × HasOutcomeOfSourceIn language source symbols x
 unfolding HasOutcomeOfSourceIn
-judged_some laws language source =
+outcome_some laws language source =
     in_turn_some (NamesRefusalOf InSymbols (HasSymbolsIn language)) (NamesRefusalOf InSource (IsCheckedWith source))
-    (told_some InSymbols (HasSymbolsIn language) (symbols_some language))
-    (told_some InSource (IsCheckedWith source) (with_some laws source))
+    (refusal_some InSymbols (HasSymbolsIn language) (symbols_some language))
+    (refusal_some InSource (IsCheckedWith source) (with_some laws source))
 
-abbrev Judged : Language → (source symbols : List ℕ) → Type 0
-Judged language source symbols =
+abbrev MeansOrIsRefused : Language → (source symbols : List ℕ) → Type 0
+MeansOrIsRefused language source symbols =
     ((code : Code) × MeansCodeIn language source symbols code)
     ⊎ ((refused : RefusedFile) × IsRefusedSourceIn language source symbols refused)
 
 by_outcome : (language : Language) (source symbols : List ℕ)
     → (x : Result Code RefusedFile) × HasOutcomeOfSourceIn language source symbols x
-    → Judged language source symbols
-by_outcome language source symbols (Ok code, judged) = inl (code, judged)
-by_outcome language source symbols (Err refused, judged) = inr (refused, judged)
+    → MeansOrIsRefused language source symbols
+by_outcome language source symbols (Ok code, outcome) = inl (code, outcome)
+by_outcome language source symbols (Err refused, outcome) = inr (refused, outcome)
 
-pub each_judged : Laws → HasEachSourceOutcome
-each_judged laws language source symbols =
-    by_outcome language source symbols (judged_some laws language source symbols)
+pub each_has_outcome : Laws → HasEachSourceOutcome
+each_has_outcome laws language source symbols =
+    by_outcome language source symbols (outcome_some laws language source symbols)

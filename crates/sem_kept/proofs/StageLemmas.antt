@@ -75,22 +75,22 @@ pub in_turn_some : {A B C E : Type 0} (first : A → Result B E → Type 0) (sec
 in_turn_some first second some_first some_second a = in_turn_at first second a (some_first a) some_second
 
 -- a stage whose refusals are told with what they are of
-pub told_one : {A B E : Type 0} (of : Refusal → E) (stage : A → Result B Refusal → Type 0)
+pub refusal_one : {A B E : Type 0} (of : Refusal → E) (stage : A → Result B Refusal → Type 0)
     → HasOneOutcome stage → HasOneOutcome (NamesRefusalOf of stage)
-told_one of stage one a (Ok b) (Ok c) at_b at_c =
+refusal_one of stage one a (Ok b) (Ok c) at_b at_c =
     ap Ok (ok_same b c (one a (Ok b) (Ok c) at_b at_c))
-told_one of stage one a (Ok b) (Err f) at_b (s, is_s, at_s) =
+refusal_one of stage one a (Ok b) (Err f) at_b (s, is_s, at_s) =
     absurd (ok_no_err b s (one a (Ok b) (Err s) at_b at_s))
-told_one of stage one a (Err e) (Ok c) (r, is_r, at_r) at_c =
+refusal_one of stage one a (Err e) (Ok c) (r, is_r, at_r) at_c =
     absurd (ok_no_err c r (one a (Ok c) (Err r) at_c at_r))
-told_one of stage one a (Err e) (Err f) (r, is_r, at_r) (s, is_s, at_s) =
+refusal_one of stage one a (Err e) (Err f) (r, is_r, at_r) (s, is_s, at_s) =
     ap Err (is_r ∙ ap of (err_same r s (one a (Err r) (Err s) at_r at_s)) ∙ sym is_s)
 
-told_at : {A B E : Type 0} (of : Refusal → E) (stage : A → Result B Refusal → Type 0) (a : A)
+refusal_at : {A B E : Type 0} (of : Refusal → E) (stage : A → Result B Refusal → Type 0) (a : A)
     → (x : Result B Refusal) × stage a x → (y : Result B E) × NamesRefusalOf of stage a y
-told_at of stage a (Ok b, at_b) = (Ok b, at_b)
-told_at of stage a (Err r, at_r) = (Err (of r), (r, refl, at_r))
+refusal_at of stage a (Ok b, at_b) = (Ok b, at_b)
+refusal_at of stage a (Err r, at_r) = (Err (of r), (r, refl, at_r))
 
-pub told_some : {A B E : Type 0} (of : Refusal → E) (stage : A → Result B Refusal → Type 0)
+pub refusal_some : {A B E : Type 0} (of : Refusal → E) (stage : A → Result B Refusal → Type 0)
     → HasOutcome stage → HasOutcome (NamesRefusalOf of stage)
-told_some of stage some a = told_at of stage a (some a)
+refusal_some of stage some a = refusal_at of stage a (some a)

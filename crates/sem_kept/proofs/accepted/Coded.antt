@@ -108,12 +108,12 @@ are_coded source file symbols t accepted bytes =
 
 pub coded_is_good : CodedIsGood
 unfolding code_layout
-coded_is_good judged b coded =
+coded_is_good with_code_faults b coded =
     let n = length (code_bytes b.code) in
-    and_from (are_ops b.code && is_nowhere (stop_at judged b.code [])) (eqb n n)
-    (and_from (are_ops b.code) (is_nowhere (stop_at judged b.code [])) coded.ops (stops judged))
+    and_from (are_ops b.code && is_nowhere (stop_at with_code_faults b.code [])) (eqb n n)
+    (and_from (are_ops b.code) (is_nowhere (stop_at with_code_faults b.code [])) coded.ops (stops with_code_faults))
     (eq-eqb n n refl)
   where
-    stops : (judged : Bool) → is_nowhere (stop_at judged b.code []) ≡ true
+    stops : (with_code_faults : Bool) → is_nowhere (stop_at with_code_faults b.code []) ≡ true
     stops true = ap is_nowhere coded.right
     stops false = refl

@@ -25,7 +25,7 @@ use Rattle.sem_kept.proofs.accepted.Accepted.{IsSoundStatement}
 use Rattle.sem_kept.proofs.accepted.JumpsOperations.{TakesRight, nesting}
 use Rattle.sem_kept.proofs.accepted.Shared.{jump_form}
 
--- an operand is judged: it stands on nothing that breaks a rule itself or is absent
+-- what an operand comes to is settled: it stands on nothing that breaks a rule itself or is absent
 abbrev pub Settles : Resolution → Type 0
 Settles Unjudged = ⊥
 Settles _ = Unit {0}

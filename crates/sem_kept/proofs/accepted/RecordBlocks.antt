@@ -274,17 +274,17 @@ lines_stated last c b h =
     subst (AreRisingLines last 1) (sym (map-append (λ (s : SourceInstruction). s.line) (stated_from c b.body 0 b.body) (return_statement b ∷ [])))
     (stated_rise last 1 c b.body 0 b.body (b.end_line ∷ []) h)
 
-line_good : (judged : Bool) (before line : ℕ) → line < 4294967296 → 1 ≤ line → before ≤ line → (line_field judged before).good line ≡ true
+line_good : (with_code_faults : Bool) (before line : ℕ) → line < 4294967296 → 1 ≤ line → before ≤ line → (line_field with_code_faults before).good line ≡ true
 unfolding line_field field_fault
 line_good true before line near some low = grind (arith, nat_tests)
 line_good false before line near some low = grind (arith, nat_tests)
 
-lines_good : (judged : Bool) (last before low : ℕ) (lines : List ℕ) → last < 4294967296 → before ≤ low → 1 ≤ low → AreRisingLines last low lines
-    → all_good (line_field judged) line_after before lines ≡ true
-lines_good judged last before low [] near le some h = refl
-lines_good judged last before low (x ∷ lines) near le some h =
-    and_from _ _ (line_good judged before x (omega (arith, near, h.1)) (omega (arith, some, h.0)) (omega (arith, le, h.0)))
-    (lines_good judged last x x lines near (omega arith) (omega (arith, some, h.0)) h.2)
+lines_good : (with_code_faults : Bool) (last before low : ℕ) (lines : List ℕ) → last < 4294967296 → before ≤ low → 1 ≤ low → AreRisingLines last low lines
+    → all_good (line_field with_code_faults) line_after before lines ≡ true
+lines_good with_code_faults last before low [] near le some h = refl
+lines_good with_code_faults last before low (x ∷ lines) near le some h =
+    and_from _ _ (line_good with_code_faults before x (omega (arith, near, h.1)) (omega (arith, some, h.0)) (omega (arith, le, h.0)))
+    (lines_good with_code_faults last x x lines near (omega arith) (omega (arith, some, h.0)) h.2)
 
 -- ---- heads
 
@@ -472,30 +472,30 @@ pub counted : {S A : Type 0} (l : S → Layout A) (next : S → A → S) (s : S)
 counted l next s [] = refl
 counted l next s (x ∷ xs) = ap (λ (t : Bool). (l s).good x && t) (counted l next (next s x) xs)
 
-nothing_stops : (judged : Bool) (ops : List OpData) → code_fault ops ≡ None → stop_at judged ops [] ≡ None
+nothing_stops : (with_code_faults : Bool) (ops : List OpData) → code_fault ops ≡ None → stop_at with_code_faults ops [] ≡ None
 nothing_stops true ops h = h
 nothing_stops false ops h = refl
 
-code_good : (judged : Bool) (ops : List OpData) → are_ops ops ≡ true → code_fault ops ≡ None → (code_layout judged (length (code_bytes ops))).good ops ≡ true
+code_good : (with_code_faults : Bool) (ops : List OpData) → are_ops ops ≡ true → code_fault ops ≡ None → (code_layout with_code_faults (length (code_bytes ops))).good ops ≡ true
 unfolding code_layout
-code_good judged ops h ends =
-    and_from _ _ (and_from _ _ h (ap is_nowhere (nothing_stops judged ops ends))) (eq-eqb (length (code_bytes ops)) (length (code_bytes ops)) refl)
+code_good with_code_faults ops h ends =
+    and_from _ _ (and_from _ _ h (ap is_nowhere (nothing_stops with_code_faults ops ends))) (eq-eqb (length (code_bytes ops)) (length (code_bytes ops)) refl)
 
-marks_good : (judged : Bool) (marks count : ℕ) → marks ≡ count → is_fine (if_checked judged (field_fault (field.StatementCount marks count))) ≡ true
+marks_good : (with_code_faults : Bool) (marks count : ℕ) → marks ≡ count → is_fine (if_checked with_code_faults (field_fault (field.StatementCount marks count))) ≡ true
 unfolding field_fault
 marks_good true marks count same = let e = eq-eqb marks count same in rw e refl
 marks_good false marks count same = refl
 
-block_good : (last : ℕ) (judged : Bool) (before : ℕ × ℕ) (b : CodeBlock) → last < 4294967296 → HasFields last b → HasFaultlessCode b → end_marks b.code ≡ length b.lines → before.0 ≤ kind_number b.id.kind
+block_good : (last : ℕ) (with_code_faults : Bool) (before : ℕ × ℕ) (b : CodeBlock) → last < 4294967296 → HasFields last b → HasFaultlessCode b → end_marks b.code ≡ length b.lines → before.0 ≤ kind_number b.id.kind
     → (not (eqb (kind_number b.id.kind) before.0) || ltb before.1 b.id.number) ≡ true
-    → (block_layout_of judged before).good (record_of_block b) ≡ true
+    → (block_layout_of with_code_faults before).good (record_of_block b) ≡ true
 unfolding block_layout_of plain_block block_rows code_and_lines parameters_layout lines_layout
-block_good last judged before b near h c marks low rises =
+block_good last with_code_faults before b near h c marks low rises =
     and_from _ _ (head_good last before b h c low rises)
     (and_from _ _ (counted (λ s. parameter_layout (kind_number b.id.kind) b.instance_len) same_state 0 (map record_of_param b.params) ∙ h.params.good)
-    (and_from _ _ (code_good judged b.code c.ops c.ends)
-    (and_from _ _ (marks_good judged (end_marks b.code) (length b.lines) marks)
-    (counted (line_field judged) line_after 0 b.lines ∙ lines_good judged last 0 1 b.lines near (omega arith) (omega arith) h.lines))))
+    (and_from _ _ (code_good with_code_faults b.code c.ops c.ends)
+    (and_from _ _ (marks_good with_code_faults (end_marks b.code) (length b.lines) marks)
+    (counted (line_field with_code_faults) line_after 0 b.lines ∙ lines_good with_code_faults last 0 1 b.lines near (omega arith) (omega arith) h.lines))))
 
 -- ---- all of them
 
@@ -505,15 +505,15 @@ IsRightBlock last x = HasFields last (compiled_block x) × HasFaultlessCode (com
 pair_low : (r n s m : ℕ) → (ltb r s || eqb r s && ltb n m) ≡ true → (r ≤ s) × ((not (eqb s r) || ltb n m) ≡ true)
 pair_low r n s m h = (grind (arith, nat_tests), grind (arith, nat_tests))
 
-pub first_good : (last : ℕ) (judged : Bool) (x : StatedBlock) → last < 4294967296 → IsRightBlock last x → (block_layout_of judged (0, 0)).good (record_of_block (compiled_block x)) ≡ true
-first_good last judged x near h =
-    block_good last judged (0, 0) (compiled_block x) near h.0 h.1 (marks_there x) (omega arith) (first (kind_number x.id.kind) (kind_within x.id.kind h.0.code).0)
+pub first_good : (last : ℕ) (with_code_faults : Bool) (x : StatedBlock) → last < 4294967296 → IsRightBlock last x → (block_layout_of with_code_faults (0, 0)).good (record_of_block (compiled_block x)) ≡ true
+first_good last with_code_faults x near h =
+    block_good last with_code_faults (0, 0) (compiled_block x) near h.0 h.1 (marks_there x) (omega arith) (first (kind_number x.id.kind) (kind_within x.id.kind h.0.code).0)
   where
     first : (kind : ℕ) → 1 ≤ kind → (not (eqb kind 0) || ltb 0 x.id.number) ≡ true
     first kind some = grind (arith, nat_tests)
 
-pub next_good : (last : ℕ) (judged : Bool) (x y : StatedBlock) → last < 4294967296 → is_code_before x y ≡ true → IsRightBlock last y
-    → (block_layout_of judged (kind_number x.id.kind, x.id.number)).good (record_of_block (compiled_block y)) ≡ true
-next_good last judged x y near rises h =
+pub next_good : (last : ℕ) (with_code_faults : Bool) (x y : StatedBlock) → last < 4294967296 → is_code_before x y ≡ true → IsRightBlock last y
+    → (block_layout_of with_code_faults (kind_number x.id.kind, x.id.number)).good (record_of_block (compiled_block y)) ≡ true
+next_good last with_code_faults x y near rises h =
     let low = pair_low (kind_number x.id.kind) x.id.number (kind_number y.id.kind) y.id.number rises in
-    block_good last judged (kind_number x.id.kind, x.id.number) (compiled_block y) near h.0 h.1 (marks_there y) low.0 low.1
+    block_good last with_code_faults (kind_number x.id.kind, x.id.number) (compiled_block y) near h.0 h.1 (marks_there y) low.0 low.1

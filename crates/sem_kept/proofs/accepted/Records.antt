@@ -34,14 +34,14 @@ counts_good : (codes datas names : ℕ) → good_counts codes datas names ≡ tr
 unfolding counts_layout count_rows plain_u16 data_count zero_u16 field_fault
 counts_good codes datas names h = grind (arith, nat_tests)
 
-body_good : (judged : Bool) (p : Program) → HasCounts p
-    → all_good (code_block_layout judged) after_block (0, 0) (map record_of_block p.code_blocks) ≡ true
-    → good_datas (0, 0) p.data_blocks ≡ true → good_names [] p.names ≡ true → (body_layout judged).good p ≡ true
+body_good : (with_code_faults : Bool) (p : Program) → HasCounts p
+    → all_good (code_block_layout with_code_faults) after_block (0, 0) (map record_of_block p.code_blocks) ≡ true
+    → good_datas (0, 0) p.data_blocks ≡ true → good_names [] p.names ≡ true → (body_layout with_code_faults).good p ≡ true
 unfolding body_layout records_layout body_rows code_blocks_layout data_blocks_layout names_layout
-body_good judged p enough blocks datas entries =
+body_good with_code_faults p enough blocks datas entries =
     and_from _ _
     (rw (length-map p.code_blocks record_of_block, length-map p.names name_of_entry) (counts_good (length p.code_blocks) (length p.data_blocks) (length p.names) enough))
-    (and_from _ _ (counted (code_block_layout judged) after_block (0, 0) (map record_of_block p.code_blocks) ∙ blocks)
+    (and_from _ _ (counted (code_block_layout with_code_faults) after_block (0, 0) (map record_of_block p.code_blocks) ∙ blocks)
     (and_from _ _ (counted data_block_layout after_data (0, 0) p.data_blocks ∙ datas)
     (counted name_record after_name [] (map name_of_entry p.names) ∙ entries)))
 
@@ -55,15 +55,15 @@ unmapped : {A B : Type 0} (P : B → Type 0) (f : A → B) (xs : List A) → All
 unmapped P f [] h = tt
 unmapped P f (x ∷ xs) h = (h.0, unmapped P f xs h.1)
 
-pub code_blocks_right : (symbols : List Symbol) (t : Tree) (last : ℕ) (judged : Bool) → IsSoundTree symbols t → last < 4294967296
+pub code_blocks_right : (symbols : List Symbol) (t : Tree) (last : ℕ) (with_code_faults : Bool) → IsSoundTree symbols t → last < 4294967296
     → AllByRecursion (λ b. AreRisingLines last 1 (statement_lines_of b)) t.blocks
     → AllByRecursion HasFaultlessCode (map compiled_block (code_blocks_of t symbols (layouts_of t symbols)))
-    → all_good (code_block_layout judged) after_block (0, 0) (map record_of_block (map compiled_block (code_blocks_of t symbols (layouts_of t symbols)))) ≡ true
-code_blocks_right symbols t last judged h near rise codes =
+    → all_good (code_block_layout with_code_faults) after_block (0, 0) (map record_of_block (map compiled_block (code_blocks_of t symbols (layouts_of t symbols)))) ≡ true
+code_blocks_right symbols t last with_code_faults h near rise codes =
     let blocks = code_blocks_of t symbols (layouts_of t symbols) in
-    ap (λ z. all_good (code_block_layout judged) after_block (0, 0) z) (map_twice compiled_block record_of_block blocks)
-    ∙ good_all (code_block_layout judged) after_block (λ x. record_of_block (compiled_block x)) (λ x. (kind_number x.id.kind, x.id.number)) is_code_before (IsRightBlock last) (0, 0)
-    (λ s x. refl) (λ x is. first_good last judged x near is) (λ x y there rises is. next_good last judged x y near rises is)
+    ap (λ z. all_good (code_block_layout with_code_faults) after_block (0, 0) z) (map_twice compiled_block record_of_block blocks)
+    ∙ good_all (code_block_layout with_code_faults) after_block (λ x. record_of_block (compiled_block x)) (λ x. (kind_number x.id.kind, x.id.number)) is_code_before (IsRightBlock last) (0, 0)
+    (λ s x. refl) (λ x is. first_good last with_code_faults x near is) (λ x y there rises is. next_good last with_code_faults x y near rises is)
     blocks (code_blocks_rise symbols t h)
     (all_both (λ x. HasFields last (compiled_block x)) (λ x. HasFaultlessCode (compiled_block x)) blocks
     (sound_code_blocks symbols t (λ x. HasFields last (compiled_block x)) h (fields_of last symbols t rise))
@@ -78,11 +78,11 @@ pub file_named : (language : Language) (file : List ℕ) (symbols : List Symbol)
 file_named language file symbols are bytes = symbols_named language file symbols (all_from file bytes) are
 
 pub right_by : LinesRise → RecordsAreRight
-right_by law source file symbols t a bytes codes enough judged =
+right_by law source file symbols t a bytes codes enough with_code_faults =
     let h = right_tree source file symbols t a in
     let short = a.short in
-    body_good judged (program_in symbols t) enough
-    (code_blocks_right symbols t (1 + length source) judged h (omega (arith, short)) (law source a.tokens t a.lexed a.parsed) codes)
+    body_good with_code_faults (program_in symbols t) enough
+    (code_blocks_right symbols t (1 + length source) with_code_faults h (omega (arith, short)) (law source a.tokens t a.lexed a.parsed) codes)
     (data_blocks_right symbols t h (data_blocks_rise symbols t h))
     (names_right symbols (file_named a.language file symbols a.named bytes))
 

@@ -174,7 +174,7 @@ clean_leads : (a : Environment) (ss : List StatementSpot) (at code target : ℕ)
     → leads_to_target 255 target
     (at + size_of_op (record { code = code; last = last; operand = operand.Jump 1 target })) ops ≡ true
 unfolding op_faults
-clean_leads a ss at code target last ops h = leads_by a ss here target judged
+clean_leads a ss at code target last ops h = leads_by a ss here target jump_right
   where
     op : OpData
     op = record { code = code; last = last; operand = operand.Jump 1 target }
@@ -197,8 +197,8 @@ clean_leads a ss at code target last ops h = leads_by a ss here target judged
     five : List (ℕ × ℕ)
     five = at_offset (0 + at) (zone_fault code h.zones)
 
-    judged : jump_fault ss here 1 target ≡ None
-    judged = no_fault (0 + at) (jump_fault ss here 1 target)
+    jump_right : jump_fault ss here 1 target ≡ None
+    jump_right = no_fault (0 + at) (jump_fault ss here 1 target)
         (none_left one two
         (none_left (one ++ two) three
         (none_left ((one ++ two) ++ three) four

@@ -1,4 +1,4 @@
-use Rattle.sem_kept.proofs.SourceLemmas.{Laws, one_meaning, meaning_or_refusal, one_refusal, each_judged, no_file}
+use Rattle.sem_kept.proofs.SourceLemmas.{Laws, one_meaning, meaning_or_refusal, one_refusal, each_has_outcome, no_file}
 use Rattle.sem_kept.proofs.laws.law_of_sources.Goals as goal
 
 pub returns : goal.returns
@@ -14,4 +14,4 @@ returns c =
       tokens_or_violation = c.law_of_tokens.ensures.total;
       tree_or_violation = c.law_of_clauses.ensures.total;
     } in
-    record { no_file = no_file; one_meaning = one_meaning laws; meaning_or_refusal = meaning_or_refusal laws; one_refusal = one_refusal laws; total = each_judged laws }
+    record { no_file = no_file; one_meaning = one_meaning laws; meaning_or_refusal = meaning_or_refusal laws; one_refusal = one_refusal laws; total = each_has_outcome laws }
