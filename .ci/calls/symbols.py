@@ -38,6 +38,9 @@ RUNS = [
 JUDGED = [
     (EXPORTED, "\"Enable\",\"I       0.0\",\"BOOL      \",\"on\"\n", "", 0, "OK\n"),
     ("", "a,I 0.0,BOOL,\nb,I 0.1,BOOL\n", "", 2, "symbols refused: line 2 rule 14\n"),
+    # The symbols file is read before the source, which has a token that is none.
+    ("?\n", "a,I 0.0,BOOL,\nb,I 0.1,BOOL\n", "", 2, "symbols refused: line 2 rule 14\n"),
+    ("?\n", "", "", 2, "source refused: line 1 rule 1\n"),
     # The symbol is a byte, and the instruction takes a bit.
     (
         "ORGANIZATION_BLOCK OB 1\nBEGIN\nA \"speed\";\nEND_ORGANIZATION_BLOCK\n",
