@@ -16,7 +16,7 @@ use Rattle.frames.specs.declared.frame.Frame.{Frame}
 -- the frames of an activation, the innermost one first; no frame stands after the last block was
 -- left
 abbrev pub frames_of : Activation → List Frame
-frames_of a = if a.left then [] else a.running.frame ∷ a.below
+frames_of a = if a.ended then [] else a.running.frame ∷ a.below
 
 -- the frame of an activation with this place, counted from 0 at the outermost frame
 abbrev pub frame_at : Activation → ℕ → Option Frame
@@ -57,7 +57,7 @@ activation_begun profile class ob f = record {
   delay = 0;
   running = record { regs = regs_at_rest; frame = f; locals = open_locals f.local_len no_locals };
   below = [];
-  left = false;
+  ended = false;
 }
 
 -- the local byte with a number of the frame with a place (counted from 0 at the outermost frame),
@@ -78,7 +78,7 @@ abbrev pub block_entered : Frame → Activation → Activation
 block_entered f a = record a {
   running = record a.running { frame = f; locals = open_locals f.local_len a.running.locals };
   below = frames_of a;
-  left = false;
+  ended = false;
 }
 
 -- why a block can't be entered: as many frames stand as the profile has, or 1,024 bytes of local

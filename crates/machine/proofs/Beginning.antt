@@ -65,7 +65,7 @@ ob_begins l profile p m class ob h verifies memory found =
     record {
       memory = memory;
       fits = fits_of (code_of p) (open_codes p) m (activation_begun profile class ob f) (record {
-        left = refl;
+        stands = refl;
         frame = record {
           statement = let s = statement_there l p block 0 nothing_open entry in some_there ((code_of p).fetch block 0) _ s.fetched;
           open_brackets = opens_there p block 0 nothing_open entry;
@@ -118,7 +118,7 @@ local_byte_fits p m a b frame byte value done h =
     rw (sym was.2) (record {
       memory = h.memory;
       fits = fits_of (code_of p) (open_codes p) m (record a { running = record a.running { locals = was.0 } }) (record {
-        left = s.left;
+        stands = s.stands;
         frame = s.frame;
         below = s.below;
         locals = locals_kept (a.running.frame ∷ a.below) a.running.locals was.0 kept.starts kept.len s.locals;
@@ -133,7 +133,7 @@ registers_fit p m a r h =
     record {
       memory = h.memory;
       fits = fits_of (code_of p) (open_codes p) m (record a { running = record a.running { regs = r } })
-          (record { left = s.left; frame = s.frame; below = s.below; locals = s.locals });
+          (record { stands = s.stands; frame = s.frame; below = s.below; locals = s.locals });
     }
 
 pub delay_fits :
@@ -143,7 +143,7 @@ delay_fits p m a n h =
     record {
       memory = h.memory;
       fits = fits_of (code_of p) (open_codes p) m (record a { delay = n })
-          (record { left = s.left; frame = s.frame; below = s.below; locals = s.locals });
+          (record { stands = s.stands; frame = s.frame; below = s.below; locals = s.locals });
     }
 
 -- ---- the result of a system function

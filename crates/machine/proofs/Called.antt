@@ -143,11 +143,11 @@ entered_fits l p m a next block b o bs h found bound instance =
       db = was.frame.db;
       di = open_di o f.di m was.frame.di (instance_open block.kind (block_head_of b) m o instance);
     } in
-    let below_is : frames_of (caller_at next a) ≡ g ∷ a.below = frames_are (caller_at next a) was.left in
+    let below_is : frames_of (caller_at next a) ≡ g ∷ a.below = frames_are (caller_at next a) was.stands in
     record {
       memory = h.fits.memory;
       fits = fits_of c brackets m (block_entered new (caller_at next a)) (record {
-        left = refl;
+        stands = refl;
         frame = rw below_is top;
         below = rw below_is (behind, was.below);
         locals = rw below_is (locals_opened new (g ∷ a.below) a.running.locals (locals_moved f g a.below a.running.locals refl was.locals));

@@ -60,7 +60,7 @@ moved_call f (Stops fault) = Stops fault
 moved_call f (Enters a m) = Enters (moved_activation f a) m
 
 frames_move : (f : BlockId → ℕ → ℕ) (a : Activation) → frames_of (moved_activation f a) ≡ map (moved_frame f) (frames_of a)
-frames_move f a = by a.left
+frames_move f a = by a.ended
   where
     by : (b : Bool) → (if b then [] else moved_frame f a.running.frame ∷ map (moved_frame f) a.below)
         ≡ map (moved_frame f) (if b then [] else a.running.frame ∷ a.below)
@@ -77,13 +77,13 @@ enters_moves :
     (f : BlockId → ℕ → ℕ) (to : CalledBlock) (bindings : List Binding) (next : ℕ) (a : Activation) → f to.block 0 ≡ 0
     → block_entered (called_frame to bindings (moved_activation f a).running.frame) (caller_at (f a.running.frame.block next) (moved_activation f a))
     ≡ moved_activation f (block_entered (called_frame to bindings a.running.frame) (caller_at next a))
-enters_moves f to bindings next a start = by a.left
+enters_moves f to bindings next a start = by a.ended
   where
     caller : Frame
     caller = record a.running.frame { at = next }
 
     new : (at : ℕ) (below : List Frame) → Activation
-    new at below = record (block_entered (record (called_frame to bindings a.running.frame) { at = at }) (caller_at next a)) { below = below; left = false }
+    new at below = record (block_entered (record (called_frame to bindings a.running.frame) { at = at }) (caller_at next a)) { below = below; ended = false }
 
     by : (b : Bool) → new 0 (if b then [] else moved_frame f caller ∷ map (moved_frame f) a.below)
         ≡ new (f to.block 0) (map (moved_frame f) (if b then [] else caller ∷ a.below))

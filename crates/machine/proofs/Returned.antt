@@ -103,7 +103,7 @@ stage_lasts p a w c (caller ∷ rest) is kept h =
         memory = memory_stays code w.memory c.memory h.memory kept.memory;
         fits = fits_of code brackets c.memory
             (activation_of_caller caller rest (record a { running = with_local a.running c.local }))
-            (record { left = was.left; frame = frames.0; below = frames.1; locals = locals });
+            (record { stands = was.stands; frame = frames.0; below = frames.1; locals = locals });
       };
     }
 

@@ -163,7 +163,7 @@ pub record LocalsFit (frames : List Frame) (locals : LocalData) : Type 0 where
 pub record ActivationFits (code : Code) (brackets : OpenCodes) (m : Areas) (a : Activation)
     : Type 0 where
   -- a frame stands
-  pub stands : a.left ≡ false
+  pub stands : a.ended ≡ false
   -- each frame fits
   pub frames : FramesFit code brackets m (frames_of a)
   -- the local data are those of the frames

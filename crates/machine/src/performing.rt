@@ -428,7 +428,7 @@ fn end_loaded(
     m: &mut Memory,
     other: &mut Outcome,
 ) -> bool
-    requires stands { a.old.left ≡ false }
+    requires stands { a.old.ended ≡ false }
     ensures { (next : ℕ) (t : List Timer) (n : List Counter) →
         IsPerformed (return_made (Some (block_head_of code.now)) a.old (global_store m.old t n))
         next
@@ -444,7 +444,7 @@ fn end_loaded(
 
 // A return that is made.
 fn end_any(c: &Loaded, a: &mut Activation, m: &mut Memory, other: &mut Outcome) -> bool
-    requires stands { a.old.left ≡ false }
+    requires stands { a.old.ended ≡ false }
     ensures { (next : ℕ) (t : List Timer) (n : List Counter) →
         IsPerformed (return_made ((code_of c.now.program).head a.old.running.frame.block) a.old
         (global_store m.old t n))
@@ -466,7 +466,7 @@ fn end(
     m: &mut Memory,
     other: &mut Outcome,
 ) -> bool
-    requires stands { a.old.left ≡ false }
+    requires stands { a.old.ended ≡ false }
     ensures { (t : List Timer) (n : List Counter) →
         IsPerformed (instruction_step (code_of c.now.program) (Returns how)
         next a.old (global_store m.old t n))
@@ -497,7 +497,7 @@ fn perform_op(
     spare: &mut Bindings,
     other: &mut Outcome,
 ) -> bool
-    requires stands { a.old.left ≡ false }
+    requires stands { a.old.ended ≡ false }
     requires depth { length a.old.running.locals.starts ≡ length (frames_of a.old) }
     ensures { IsPerformed (instruction_step (code_of c.now.program)
         (instr_of operation operand.now opens (passings_at code.now.code at) next code.now.code)
@@ -550,7 +550,7 @@ fn perform_op_apart(
     spare: &mut Bindings,
     other: &mut Outcome,
 ) -> bool
-    requires stands { a.old.left ≡ false }
+    requires stands { a.old.ended ≡ false }
     requires depth { length a.old.running.locals.starts ≡ length (frames_of a.old) }
     ensures { IsPerformed (instruction_step (code_of c.now.program)
         (instr_of operation operand.now opens (passings_at code.now.code at) next code.now.code)
@@ -576,7 +576,7 @@ pub(crate) fn perform(
     spare: &mut Bindings,
     other: &mut Outcome,
 ) -> bool
-    requires stands { a.old.left ≡ false }
+    requires stands { a.old.ended ≡ false }
     requires depth { length a.old.running.locals.starts ≡ length (frames_of a.old) }
     ensures { IsPerformed (instruction_step (code_of c.now.program) f.now.instr f.now.next a.old
         (global_store m.old t.old n.old)) f.now.next a.old a.new (global_store m.old t.old n.old)
@@ -612,7 +612,7 @@ pub(crate) fn perform_apart(
     spare: &mut Bindings,
     other: &mut Outcome,
 ) -> bool
-    requires stands { a.old.left ≡ false }
+    requires stands { a.old.ended ≡ false }
     requires depth { length a.old.running.locals.starts ≡ length (frames_of a.old) }
     ensures { IsPerformed (instruction_step (code_of c.now.program) f.now.instr f.now.next a.old
         (global_store m.old t.old n.old)) f.now.next a.old a.new (global_store m.old t.old n.old)

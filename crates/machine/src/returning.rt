@@ -25,7 +25,7 @@ fn give_back(params: &[Param], a: &mut Activation, m: &mut Memory)
 
 // The innermost block is left; the answer says whether the caller goes on.
 fn leave(a: &mut Activation) -> bool
-    requires { a.old.left ≡ false }
+    requires { a.old.ended ≡ false }
     ensures { LeavesRunningBlock a.old a.new result }
 {
     at_block(&mut a.running.regs);
@@ -35,7 +35,7 @@ fn leave(a: &mut Activation) -> bool
 /// Returns from the innermost block; the answer says whether the caller goes on.
 #[tactic(auto, unfolding(crate::specs::Returning::block_return))]
 pub(crate) fn return_from_block(params: &[Param], a: &mut Activation, m: &mut Memory) -> bool
-    requires stands { a.old.left ≡ false }
+    requires stands { a.old.ended ≡ false }
     requires params { length params.now ≤ 60 }
     ensures { IsReturnOf (block_return params.now a.old m.old) a.old a.new m.new result }
 {

@@ -88,10 +88,10 @@ not_refused z (Some d) local_len stack a same room own depth bytes =
 
 -- ---- what stands
 
-standing : (a : Activation) → a.left ≡ false → frames_of a ≡ a.running.frame ∷ a.below
+standing : (a : Activation) → a.ended ≡ false → frames_of a ≡ a.running.frame ∷ a.below
 standing a is = rw is refl
 
-stack_is : (a : Activation) → a.left ≡ false → map counted_frame (frames_of a) ≡ stack_of a
+stack_is : (a : Activation) → a.ended ≡ false → map counted_frame (frames_of a) ≡ stack_of a
 stack_is a is = ap (λ (frames : List Frame). map counted_frame frames) (standing a is)
 
 bytes_same : (frames : List Frame) → bytes_below (map counted_frame frames) ≡ bytes_together frames
@@ -135,7 +135,7 @@ supplied_room z c None params b m a room = room
 supplied_room z c (Some instance) params b m a room = room
 
 -- the frame of the called block stands above those that stood
-entered_stack : (to : CalledBlock) (bindings : List Binding) (next : ℕ) (a : Activation) → a.left ≡ false
+entered_stack : (to : CalledBlock) (bindings : List Binding) (next : ℕ) (a : Activation) → a.ended ≡ false
     → stack_of (block_entered (called_frame to bindings a.running.frame) (caller_at next a))
     ≡ (to.block, to.local_len) ∷ stack_of a
 entered_stack to bindings next a is =
@@ -143,7 +143,7 @@ entered_stack to bindings next a is =
     (stack_is (caller_at next a) is)
 
 entered_room : (z : Profile) (c : List Bound) (fault : Option FrameFault) (to : CalledBlock) (bindings : List Binding)
-    (next : ℕ) (a : Activation) (m : Areas) → a.left ≡ false → fault ≡ None
+    (next : ℕ) (a : Activation) (m : Areas) → a.ended ≡ false → fault ≡ None
     → RoomFor z (bound_of to.block c) (stack_of a) → Roomy z c a
     → CallHasRoom z c a (entry_or_stop fault to bindings next a m)
 entered_room z c (Some fault) to bindings next a m stands none more room = absurd cc
@@ -156,7 +156,7 @@ entered_room z c None to bindings next a m stands none more room =
     )
 
 call_by : (z : Profile) (c : List Bound) (r : Result (List Binding) ℕ) (to : CalledBlock) (next : ℕ) (a : Activation)
-    (m : Areas) → a.left ≡ false → entry_fault to.local_len a ≡ None
+    (m : Areas) → a.ended ≡ false → entry_fault to.local_len a ≡ None
     → RoomFor z (bound_of to.block c) (stack_of a) → Roomy z c a
     → CallHasRoom z c a (call_with_bindings r to next a m)
 call_by z c (Err code) to next a m stands none more room = tt
@@ -164,7 +164,7 @@ call_by z c (Ok bindings) to next a m stands none more room =
     entered_room z c (entry_fault to.local_len a) to bindings next a m stands none more room
 
 call_room : (z : Profile) (c : List Bound) (to : CalledBlock) (passings : List Passing) (next : ℕ) (a : Activation)
-    (m : Areas) → a.left ≡ false → entry_fault to.local_len a ≡ None
+    (m : Areas) → a.ended ≡ false → entry_fault to.local_len a ≡ None
     → RoomFor z (bound_of to.block c) (stack_of a) → Roomy z c a
     → CallHasRoom z c a (block_call to passings next a m)
 unfolding block_call
@@ -197,7 +197,7 @@ block_room z p c (Some d) block instance passings next a w holds fits room is us
     (not_refused z (bound_of block c) d.local_len (stack_of a) a room.0 more (holds.own block d is) depth bytes)
     more room)
   where
-    stands : a.left ≡ false
+    stands : a.ended ≡ false
     stands = fits.fits.stands
 
     head_of_running : (h : Option BlockHead) → (code_of p).head a.running.frame.block ≡ h
