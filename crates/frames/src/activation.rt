@@ -13,9 +13,9 @@ ghost use Rattle.plc_base.specs.Changes.{ChangesOrStays};
 ghost use Rattle.status_word.specs.Registers.{regs_at_rest};
 ghost use Rattle.frames.specs.Activations.{
   EntersBlock,
-  LeavesFrame,
-  LeavesBlock,
-  PopsTo,
+  ExitsFrame,
+  ExitsBlock,
+  PopsFrame,
   IsFrame,
   IsFrameIn,
   activation_begun,
@@ -50,7 +50,7 @@ pub enum FrameFault {
 
 /// The frames below the innermost one, 23 at most. A contract sees the list of them, the innermost
 /// one first. They stay where they are: a frame is copied in when a block is entered, and out when
-/// it is left, and of its bindings only those that there are.
+/// it is exited, and of its bindings only those that there are.
 #[derive(Drop)]
 pub struct Below {
     /// Room for the frames; those from `count` on mean nothing.
@@ -102,7 +102,7 @@ impl Below {
     // Copies the innermost frame out and takes it off; false where there is none.
     #[tactic(auto, using(crate::proofs::Stack::count_of, crate::proofs::Stack::popped))]
     fn pop_to(&mut self, frame: &mut Frame) -> bool
-        ensures { PopsTo self.old self.new frame.old frame.new result }
+        ensures { PopsFrame self.old self.new frame.old frame.new result }
     {
         if self.count == 0 {
             return false;
@@ -252,10 +252,10 @@ impl Activation {
         Ok(())
     }
 
-    /// Leaves the innermost block; the answer says whether its caller goes on. One stands.
-    pub fn leave_block(&mut self) -> bool
+    /// Exits the innermost block; the answer says whether its caller goes on. One stands.
+    pub fn exit_block(&mut self) -> bool
         requires { self.old.ended ≡ false }
-        ensures { LeavesBlock self.old.below self.old self.new result }
+        ensures { ExitsBlock self.old.below self.old self.new result }
     {
         self.running.locals.close();
         if self.below.pop_to(&mut self.running.frame) {
@@ -265,16 +265,16 @@ impl Activation {
         false
     }
 
-    /// Leaves the innermost block, and gives its frame; `None` exactly where no frame stands.
-    pub fn leave(&mut self) -> Option<Frame>
-        ensures { LeavesFrame self.old self.new result }
+    /// Exits the innermost block, and gives its frame; `None` exactly where no frame stands.
+    pub fn exit(&mut self) -> Option<Frame>
+        ensures { ExitsFrame self.old self.new result }
     {
         if self.ended {
             return None;
         }
         let mut frame = Frame::default();
         frame.copy_from(&self.running.frame);
-        self.leave_block();
+        self.exit_block();
         Some(frame)
     }
 
