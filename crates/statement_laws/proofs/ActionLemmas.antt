@@ -61,10 +61,10 @@ regs_then : {A : Type 0} (p : ExecState) (r : Result A ℕ) (f : A → Regs)
 regs_then p (Ok x) f = refl
 regs_then p (Err e) f = refl
 
-scene_then : {A : Type 0} (p : ExecState) (r : Result A ℕ) (f : A → Result LocalMemory ℕ)
+local_memory_then : {A : Type 0} (p : ExecState) (r : Result A ℕ) (f : A → Result LocalMemory ℕ)
     → does.on_local_memory p (then_ok r f) ≡ then_ok r (λ x. does.on_local_memory p (f x))
-scene_then p (Ok x) f = refl
-scene_then p (Err e) f = refl
+local_memory_then p (Ok x) f = refl
+local_memory_then p (Err e) f = refl
 
 own_if : (p : ExecState) (b : Bool) (after : Local)
     → does.on_local p (if b then Err 0 else Ok after)
@@ -144,7 +144,7 @@ seek_same : (x : NamedItem) (p : ExecState) (f : Location → Result LocalMemory
     → does.on_local_memory p (then_ok (places.operand_location Writing (flat_of x) p.local p.memory) f)
     ≡ then_ok (reading.place_of_operand Writing x p) g
 seek_same x p f g e h =
-    scene_then p (places.operand_location Writing (flat_of x) p.local p.memory) f
+    local_memory_then p (places.operand_location Writing (flat_of x) p.local p.memory) f
     ∙ then_same (places.operand_location Writing (flat_of x) p.local p.memory) (reading.place_of_operand Writing x p)
     (λ b. does.on_local_memory p (f b)) g (written_place x p e) h
 
@@ -155,7 +155,7 @@ before_same : (b : Location) (p : ExecState) (f : Bool → Result LocalMemory �
     ≡ then_ok (own.bit_there b p) g
 unfolding bit_logic.bit_before
 before_same b p f g h =
-    scene_then p (bit_logic.bit_before b p.local p.memory) f
+    local_memory_then p (bit_logic.bit_before b p.local p.memory) f
     ∙ then_same (bit_logic.bit_before b p.local p.memory) (own.bit_there b p)
     (λ before. does.on_local_memory p (f before)) g
     (ap (λ r. then_ok r (λ n. Ok (n == 1))) (there_same Writing b p)) h
@@ -481,7 +481,7 @@ address_to : (f : ℕ → Regs) (x : NamedItem) (p : ExecState) → is_address x
     (λ n. Ok (pointer.regs_set (f n) p.local p.memory)))
     ≡ then_ok (own.address_to_load x p) (λ n. Ok (own.with_regs (f n) p))
 address_to f x p e =
-    scene_then p (pointer.address_loaded (flat_of x) p.local p.memory)
+    local_memory_then p (pointer.address_loaded (flat_of x) p.local p.memory)
     (λ n. Ok (pointer.regs_set (f n) p.local p.memory))
     ∙ ap (λ r. then_ok r (λ n. Ok (own.with_regs (f n) p))) (address_same x p e)
 
