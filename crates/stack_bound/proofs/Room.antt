@@ -123,10 +123,10 @@ if_room : (z : Profile) (test : Bool) (c : List Bound) (s t : StatementStep) →
 if_room z true c s t one other = one
 if_room z false c s t one other = other
 
-went_room : (z : Profile) (c : List Bound) (r : Result ExecState ℕ) (next : ℕ) (a : Activation) → Roomy z c a
+continue_with_room : (z : Profile) (c : List Bound) (r : Result ExecState ℕ) (next : ℕ) (a : Activation) → Roomy z c a
     → StepHasRoom z c (continue_with r next a)
-went_room z c (Ok p) next a room = room
-went_room z c (Err code) next a room = room
+continue_with_room z c (Ok p) next a room = room
+continue_with_room z c (Err code) next a room = room
 
 supplied_room : (z : Profile) (c : List Bound) (instance : Option ℕ) (params : List Param) (b : Activation)
     (m : Areas) (a : Activation) → Roomy z c b
@@ -270,23 +270,23 @@ returned_room z c None a w room = tt
 returned_room z c (Some h) a w room =
     left_room z c a.below a.running.frame.instance h.params a w.memory w room.0 room.1.1
 
-performed_room : (z : Profile) (p : Program) (c : List Bound) (i : Instr) (next : ℕ) (a : Activation) (w : GlobalStore)
+instruction_step_room : (z : Profile) (p : Program) (c : List Bound) (i : Instr) (next : ℕ) (a : Activation) (w : GlobalStore)
     → Certifies z (code_of p) c → FitsProgram p w.memory a → Roomy z c a
     → ((how : CallOperation) (block : BlockId) (instance : Option ℕ) (passings : List Passing)
     → i ≡ Calls how block instance passings → CallCounts (code_of p) c a block)
     → StepHasRoom z c (instruction_step (code_of p) i next a w)
-performed_room z p c (Does use_db word operand) next a w holds fits room counts =
-    went_room z c (statement_effect use_db word operand (exec_state_of a.running w.memory w.timers w.counters)) next
+instruction_step_room z p c (Does use_db word operand) next a w holds fits room counts =
+    continue_with_room z c (statement_effect use_db word operand (exec_state_of a.running w.memory w.timers w.counters)) next
     a room
-performed_room z p c (Jumps word target) next a w holds fits room counts = room
-performed_room z p c (JumpsByList targets otherwise) next a w holds fits room counts = room
-performed_room z p c (Calls how block instance passings) next a w holds fits room counts =
+instruction_step_room z p c (Jumps word target) next a w holds fits room counts = room
+instruction_step_room z p c (JumpsByList targets otherwise) next a w holds fits room counts = room
+instruction_step_room z p c (Calls how block instance passings) next a w holds fits room counts =
     if_room z (is_call_made how a.running.regs.status.rlo) c
     (call_made (code_of p) block instance passings next a w)
     (Went (activation_continued_at next (regs_after_call_not_made a.running.regs) a) w)
     (calls_room z p c block instance passings next a w holds fits room
     (counts how block instance passings refl)) room
-performed_room z p c (Returns how) next a w holds fits room counts =
+instruction_step_room z p c (Returns how) next a w holds fits room counts =
     if_room z (is_return_made how a.running.regs.status.rlo) c
     (return_made ((code_of p).head a.running.frame.block) a w)
     (Went (activation_continued_at next (rlo_tested a.running.regs) a) w)
@@ -298,7 +298,7 @@ fetched_room : (z : Profile) (p : Program) (c : List Bound) (f : Option Fetched)
     → StepHasRoom z c (step_found (code_of p) f a w)
 fetched_room z p c None a w holds fits room is = tt
 fetched_room z p c (Some f) a w holds fits room is =
-    performed_room z p c f.instr f.next a w holds fits room
+    instruction_step_room z p c f.instr f.next a w holds fits room
     (λ how block instance passings same h d user own there.
     holds.calls a.running.frame.block a.running.frame.at f how block instance passings h d is same user
     own there)
