@@ -22,7 +22,7 @@ use Rattle.flat_code.specs.declared.operands.Operand.TheVariants as operand
 use Rattle.flat_code.specs.declared.table.OperandForms.{OperandForms}
 use Rattle.flat_code.specs.declared.table.OperandForms.TheVariants as takes
 use Rattle.flat_code.specs.declared.operations.AccuOperation.{AccuOperation}
-use Rattle.flat_code.specs.declared.operations.AccuOperation.TheVariants as number_word
+use Rattle.flat_code.specs.declared.operations.AccuOperation.TheVariants as accu_operation
 use Rattle.flat_code.specs.declared.operations.PointerOperation.{PointerOperation}
 use Rattle.flat_code.specs.declared.operations.PointerOperation.TheVariants as pointers
 use Rattle.plc_base.specs.declared.TimerKind.{TimerKind}
@@ -466,8 +466,8 @@ bcd_given None = refl
 
 counted_known : (what : AccuOperation) (r : Regs) → IfKnownError (number_effect what r)
 unfolding number_effect
-counted_known number_word.Bti r = bcd_given _
-counted_known number_word.Btd r = bcd_given _
+counted_known accu_operation.Bti r = bcd_given _
+counted_known accu_operation.Btd r = bcd_given _
 counted_known _ r = tt
 
 -- data blocks
