@@ -169,16 +169,16 @@ local_same : (locals : Option LocalData) (a : Activation)
 local_same None a = (refl, refl)
 local_same (Some locals) a = (refl, refl)
 
-pub told_class : (bytes : List ℕ) (byte : ℕ) (a : Activation)
+pub with_start_bytes_class : (bytes : List ℕ) (byte : ℕ) (a : Activation)
     → (with_start_bytes byte bytes a).class ≡ a.class
-told_class [] byte a = refl
-told_class (value ∷ rest) byte a =
-    told_class rest (byte + 1) (unwrap_or (with_local_byte 0 byte value a) a)
+with_start_bytes_class [] byte a = refl
+with_start_bytes_class (value ∷ rest) byte a =
+    with_start_bytes_class rest (byte + 1) (unwrap_or (with_local_byte 0 byte value a) a)
     ∙ (local_same (local_byte_set a.running.locals 0 byte value) a).0
 
-pub told_ob : (bytes : List ℕ) (byte : ℕ) (a : Activation)
+pub with_start_bytes_ob : (bytes : List ℕ) (byte : ℕ) (a : Activation)
     → (with_start_bytes byte bytes a).ob ≡ a.ob
-told_ob [] byte a = refl
-told_ob (value ∷ rest) byte a =
-    told_ob rest (byte + 1) (unwrap_or (with_local_byte 0 byte value a) a)
+with_start_bytes_ob [] byte a = refl
+with_start_bytes_ob (value ∷ rest) byte a =
+    with_start_bytes_ob rest (byte + 1) (unwrap_or (with_local_byte 0 byte value a) a)
     ∙ (local_same (local_byte_set a.running.locals 0 byte value) a).1
