@@ -18,7 +18,7 @@ mod monitoring_rows;
 #[cfg(test)]
 mod profile_rows;
 #[cfg(test)]
-mod quiet_rows;
+mod silent_rows;
 #[cfg(test)]
 mod reply_lines;
 #[cfg(test)]
