@@ -275,10 +275,10 @@ instruction_step_room : (z : Profile) (p : Program) (c : List Bound) (i : Instr)
     → ((how : CallOperation) (block : BlockId) (instance : Option ℕ) (passings : List Passing)
     → i ≡ Calls how block instance passings → CallCounts (code_of p) c a block)
     → StepHasRoom z c (instruction_step (code_of p) i next a w)
-instruction_step_room z p c (Does use_db word operand) next a w holds fits room counts =
-    continue_with_room z c (statement_effect use_db word operand (exec_state_of a.running w.memory w.timers w.counters)) next
+instruction_step_room z p c (Does use_db operation operand) next a w holds fits room counts =
+    continue_with_room z c (statement_effect use_db operation operand (exec_state_of a.running w.memory w.timers w.counters)) next
     a room
-instruction_step_room z p c (Jumps word target) next a w holds fits room counts = room
+instruction_step_room z p c (Jumps operation target) next a w holds fits room counts = room
 instruction_step_room z p c (JumpsByList targets otherwise) next a w holds fits room counts = room
 instruction_step_room z p c (Calls how block instance passings) next a w holds fits room counts =
     if_room z (is_call_made how a.running.regs.status.rlo) c
