@@ -18,10 +18,10 @@ abbrev pub moved_to : ℕ → Activation → Running → Activation
 moved_to next a s =
     record a { running = record s { frame = record s.frame { at = next } } }
 
-worlds :
+global_stores_equal :
     {m m' : Areas} {t t' : List Timer} {n n' : List Counter}
     → m' ≡ m → t' ≡ t → n' ≡ n → global_store m' t' n' ≡ global_store m t n
-worlds a b c = cc
+global_stores_equal a b c = cc
 
 -- ---- an instruction that touches no position
 
@@ -30,7 +30,7 @@ pub continue_with_goes :
     (other : Outcome) → ChangesExecState e a.running s m m' t t' n n' (Ok tt)
     → IsInstructionOutcome (continue_with e next a) next a (moved_to next a s) (global_store m t n) (global_store m' t' n') true other
 continue_with_goes (Ok p) next a s m m' t t' n n' other h =
-    (ap (moved_to next a) h.0, worlds h.1 h.2 h.3)
+    (ap (moved_to next a) h.0, global_stores_equal h.1 h.2 h.3)
 continue_with_goes (Err e) next a s m m' t t' n n' other h = absurd h
 
 pub continue_with_fails :
@@ -39,7 +39,7 @@ pub continue_with_fails :
     → IsInstructionOutcome (continue_with e next a) next a (record a { running = s }) (global_store m t n) (global_store m' t' n') false (outcome.SyncError code)
 continue_with_fails (Ok p) next a s m m' t t' n n' code h = absurd h
 continue_with_fails (Err e) next a s m m' t t' n n' code h =
-    (h.0, refl, ap (λ (z : Running). let r : Activation = record a { running = z } in r) h.1.0, worlds h.1.1 h.1.2 h.1.3)
+    (h.0, refl, ap (λ (z : Running). let r : Activation = record a { running = z } in r) h.1.0, global_stores_equal h.1.1 h.1.2 h.1.3)
 
 -- ---- calls and returns
 
