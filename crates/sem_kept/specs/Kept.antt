@@ -18,7 +18,7 @@ pub record BehavesAlike (profile : Profile) (c d : Code) : Type 0 where
   pub store : (history : List What) → (replay profile d history).store ≡ (replay profile c history).store
   -- the operating mode
   pub mode : (history : List What) → (replay profile d history).mode ≡ (replay profile c history).mode
-  -- the scheduler
+  -- the scheduler: requests, delays, periods, cycle time
   pub sched : (history : List What) → (replay profile d history).sched ≡ (replay profile c history).sched
   -- the records of the diagnostic buffer
   pub diagnostics : (history : List What)
