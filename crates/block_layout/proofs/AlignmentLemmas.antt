@@ -1,5 +1,5 @@
 -- Where paths lead: each component that they reach lies within its structure, at a place that meets
--- its alignment. Of cells that are all sound, no path rests.
+-- its alignment. Of cells that are all sound, no path is unjudged.
 use Rattle.std.proofs.Common.{ℕ, zero, suc, ◌≡◌, ◌<◌, ◌≤◌, ◌+◌, ◌*◌, ◌/◌, ◌%◌, min, List, [], ◌∷◌, Option, Some, None, Bool, true, false, ◌&&◌, nat_eq, nat_lt, refl, sym, ◌∙◌, ap, subst, arith, length, drop, add-one, drop-drop, if◌then◌else◌, eqb-true, mul-le-mul_right, suc-mul, mul_assoc}
 use Rattle.std.specs.List.{slice_get}
 use Rattle.std.specs.Str.{bytes_eq}
@@ -310,7 +310,7 @@ pub record Lies (l : List BlockLayout) (limit : ℕ) (s : ComponentAt) : Type 0 
 abbrev pub Goes : List BlockLayout → (limit : ℕ) → PathEnd → Type 0
 Goes l limit (walk.Reaches s) = Lies l limit s
 Goes l limit walk.Unknown = Unit {0}
-Goes l limit walk.Rests = ⊥
+Goes l limit walk.Unjudged = ⊥
 
 pub settled_even : (l : List BlockLayout) (of : Element) → IsSettled l of → UdtEven of
 settled_even l (Udt block bits) e = ap (λ (n : ℕ). n % 16) e ∙ structure_even (cells_at l block false)
@@ -403,7 +403,7 @@ found_lies l limit right block temporary level first offset name even near fits 
             }
 
             whether : (sound : Bool) → sound ≡ true
-                → Goes l limit (if sound then walk.Reaches spot else walk.Rests)
+                → Goes l limit (if sound then walk.Reaches spot else walk.Unjudged)
             whether true e = lies
             whether false e = absurd cc
 

@@ -12,7 +12,7 @@ use Rattle.block_layout.specs.Paths.{holds_where_reached, leaves_array, step_is_
 no_further : (w : PathEnd) (next : ComponentAt → Bool) → ((to : ComponentAt) → w ≡ walk.Reaches to → ⊥) → holds_where_reached w next ≡ false
 no_further (walk.Reaches to) next never = absurd (never to refl)
 no_further walk.Unknown next never = refl
-no_further walk.Rests next never = refl
+no_further walk.Unjudged next never = refl
 
 module _ (l : List BlockLayout) (spot : ComponentAt) (path : List PathStep) (i : ℕ) (s : PathStep) (whole : Bool) where
   at_step : i < length path → s ≡ get_or path i s → leaves_array l spot (drop i path) ≡ (step_is_beyond l spot s || holds_where_reached (path_end_by_step l spot s) (λ to. leaves_array l to (drop (i + 1) path)))

@@ -7,7 +7,7 @@ use Rattle.stl_ast.specs.declared.declarations.Bounds.{Bounds}
 use Rattle.stl_ast.specs.declared.declarations.Simple.{Simple}
 use Rattle.block_layout.specs.Declarations.{element_count, is_upside_down}
 use Rattle.block_layout.specs.Members.{component_of_name}
-use Rattle.block_layout.specs.Paths.{cells_at, path_end_at_cell, path_end_at_member, holds_where_reached, path_end_and_then, in_sections, path_end_by_index, indexed_behind, is_beyond, is_beyond_in, is_beyond_left, is_checkable, leaves_array, leaves_from, leaves_structure, leaves_local, leaves_sections, path_end_by_name, named_behind, named_in, outermost_path_end, step_is_beyond, path_end_by_step, structure_of, path_end_behind, path_end_in_data_block, path_end_in_block, walked_local, path_end_or_rests, whole_at, path_end_in_bounds}
+use Rattle.block_layout.specs.Paths.{cells_at, path_end_at_cell, path_end_at_member, holds_where_reached, path_end_and_then, in_sections, path_end_by_index, indexed_behind, is_beyond, is_beyond_in, is_beyond_left, is_checkable, leaves_array, leaves_from, leaves_structure, leaves_local, leaves_sections, path_end_by_name, named_behind, named_in, outermost_path_end, step_is_beyond, path_end_by_step, structure_of, path_end_behind, path_end_in_data_block, path_end_in_block, walked_local, path_end_or_unjudged, whole_at, path_end_in_bounds}
 use Rattle.block_layout.specs.Sizes.{array_bits, capped_size, element_bits, element_of, components_end, plain_bits, structure_bits, next_multiple}
 use Rattle.block_layout.specs.declared.blocks.BlockLayout.{BlockLayout}
 use Rattle.block_layout.specs.declared.cells.Cell.{Cell}
@@ -21,15 +21,15 @@ use Rattle.block_layout.specs.declared.walks.PathEnd.TheVariants as walk
 use Rattle.block_layout.proofs.AlignmentLemmas.{AreRight, Goes, IsSettled, Lies, Meets, element_within, found_lies, index_meets, inner_even, outermost_lies, settled_even, structure_ends}
 use Rattle.block_layout.proofs.CommonLemmas.{or_first, or_second}
 
--- ---- no path rests
+-- ---- no path is unjudged
 
 abbrev pub Moves : PathEnd → Type 0
 Moves (walk.Reaches s) = Unit {0}
 Moves walk.Unknown = Unit {0}
-Moves walk.Rests = ⊥
+Moves walk.Unjudged = ⊥
 
 sound_moves : (sound : Bool) (s : ComponentAt) → sound ≡ true
-    → Moves (if sound then walk.Reaches s else walk.Rests)
+    → Moves (if sound then walk.Reaches s else walk.Unjudged)
 sound_moves true s e = tt
 sound_moves false s e = absurd cc
 
@@ -111,7 +111,7 @@ on_moves : (w : PathEnd) (next : ComponentAt → PathEnd) → Moves w → ((s : 
     → Moves (path_end_and_then w next)
 on_moves (walk.Reaches s) next h k = k s
 on_moves walk.Unknown next h k = tt
-on_moves walk.Rests next h k = h
+on_moves walk.Unjudged next h k = h
 
 pub walked_moves : (l : List BlockLayout) → AreRight l → (s : ComponentAt) (ps : List PathStep)
     → Moves (path_end_behind l s ps)
@@ -143,7 +143,7 @@ local_moves l right block name ps whole =
     by (is_some (whole_at l block)) whole
   where
     by : (t : Bool) → t ≡ true
-        → Moves (if t then path_end_and_then (in_sections l block name) (λ s. path_end_behind l s ps) else walk.Rests)
+        → Moves (if t then path_end_and_then (in_sections l block name) (λ s. path_end_behind l s ps) else walk.Unjudged)
     by true e = on_moves (in_sections l block name) (λ s. path_end_behind l s ps)
         (sections_moves l right block name) (λ s. walked_moves l right s ps)
     by false e = absurd cc
@@ -348,7 +348,7 @@ module _ (l : List BlockLayout) (limit : ℕ) (right : AreRight l) (near : limit
       → Goes l limit (path_end_and_then w next)
   on_goes (walk.Reaches s) next beyond h inside k = k s h inside
   on_goes walk.Unknown next beyond h inside k = tt
-  on_goes walk.Rests next beyond h inside k = h
+  on_goes walk.Unjudged next beyond h inside k = h
 
   pub walked_goes : (ps : List PathStep) (s : ComponentAt) → Lies l limit s → leaves_array l s ps ≡ false
       → Goes l limit (path_end_behind l s ps)
@@ -379,7 +379,7 @@ module _ (l : List BlockLayout) (limit : ℕ) (right : AreRight l) (near : limit
 moves_checkable : (w : PathEnd) → Moves w → is_checkable w ≡ true
 moves_checkable (walk.Reaches s) h = refl
 moves_checkable walk.Unknown h = refl
-moves_checkable walk.Rests h = absurd h
+moves_checkable walk.Unjudged h = absurd h
 
 checkable_stays : (a b : Bool) → a ≡ true → (a && b) ≡ false → b ≡ false
 checkable_stays true b e f = f
@@ -392,7 +392,7 @@ pub data_goes : (l : List BlockLayout) (limit : ℕ) → AreRight l → limit < 
     → leaves_structure l (structure_of l block) ps ≡ false → Goes l limit (path_end_in_data_block l block ps)
 unfolding path_end_in_data_block
 data_goes l limit right near block inside ps is fits stays =
-    subst (λ (o : Option ℕ). Goes l limit (path_end_or_rests l o ps)) (sym is)
+    subst (λ (o : Option ℕ). Goes l limit (path_end_or_unjudged l o ps)) (sym is)
     (from_goes l limit right near inside false ps fits
     (checkable_stays (is_checkable (path_end_in_block l inside false ps)) (leaves_from l inside false ps)
     (moves_checkable (path_end_in_block l inside false ps) (from_moves l right inside false ps))
@@ -408,7 +408,7 @@ pub local_goes : (l : List BlockLayout) (limit : ℕ) → AreRight l → limit <
 unfolding walked_local
 local_goes l limit right near block name ps own is fits whole stays =
     subst (λ (t : Bool). Goes l limit (if t then path_end_and_then (in_sections l block name) (λ s. path_end_behind l s ps)
-    else walk.Rests)) (sym whole) (by own is fits inside)
+    else walk.Unjudged)) (sym whole) (by own is fits inside)
   where
     inside : holds_where_reached (in_sections l block name) (λ s. leaves_array l s ps) ≡ false
     inside = checkable_stays (is_checkable (walked_local l block name ps)) (leaves_sections l block name ps)

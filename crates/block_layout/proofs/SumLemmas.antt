@@ -28,7 +28,7 @@ use Rattle.block_layout.specs.declared.walks.PathEnd.TheVariants as walk
 use Rattle.block_layout.specs.Blocks.{known_block}
 use Rattle.block_layout.specs.Members.{component_of_name}
 use Rattle.block_layout.specs.Offsets.{component_place as data_component, place_in_section, place_of_path, place_at, elementary_place, place_at_path_end, variable_place, width_of}
-use Rattle.block_layout.specs.Paths.{cells_at, elementary_at, path_end_at_cell, path_end_at_member, holds_where_reached, path_end_and_then, if_whole, path_end_by_index, indexed_behind, is_beyond, is_beyond_in, is_beyond_left, is_checkable, leaves_array, leaves_from, leaves_structure, path_end_by_name, named_behind, named_in, outermost_path_end, step_is_beyond, path_end_by_step, structure_of, path_end_behind, path_end_in_data_block, path_end_in_block, path_end_or_rests, path_end_in_bounds}
+use Rattle.block_layout.specs.Paths.{cells_at, elementary_at, path_end_at_cell, path_end_at_member, holds_where_reached, path_end_and_then, if_whole, path_end_by_index, indexed_behind, is_beyond, is_beyond_in, is_beyond_left, is_checkable, leaves_array, leaves_from, leaves_structure, path_end_by_name, named_behind, named_in, outermost_path_end, step_is_beyond, path_end_by_step, structure_of, path_end_behind, path_end_in_data_block, path_end_in_block, path_end_or_unjudged, path_end_in_bounds}
 use Rattle.block_layout.specs.Places.{IsLeastPlace}
 use Rattle.block_layout.specs.Sizes.{alignment, array_bits, capped_size, cell_bits, element_of, largest_size, end_behind_cell, next_multiple}
 use Rattle.block_layout.specs.Sums.{EndsAt, NamesComponent, NamesComponentOf, IndexesElement, IsInside, StepLeadsTo, LeadsFrom, LeadsTo, LeadsToOne, LeadsToPlace, LiesAt, OffsetsAreSums, declaring_block, is_temporary}
@@ -163,7 +163,7 @@ module _ (l : List BlockLayout) where
     leads_entered m is None there e = absurd cc
     leads_entered m is (Some c) there e = by c.sound refl e
       where
-        by : (t : Bool) → c.sound ≡ t → (if t then walk.Reaches (spot m) else walk.Rests) ≡ walk.Reaches to → Leads
+        by : (t : Bool) → c.sound ≡ t → (if t then walk.Reaches (spot m) else walk.Unjudged) ≡ walk.Reaches to → Leads
         by true sound k = leads_there m is c there sound (reaches_same (spot m) to k)
         by false sound k = absurd cc
 
@@ -272,7 +272,7 @@ module _ (l : List BlockLayout) where
           let one = leads_step s p next rest.1 (or_first (step_is_beyond l s p) (holds_where_reached (path_end_by_step l s p) (λ next. leaves_array l next ps)) stays) is in
           ((next, one.0, rest.0), one.1)
       by walk.Unknown is inside k more = absurd cc
-      by walk.Rests is inside k more = absurd cc
+      by walk.Unjudged is inside k more = absurd cc
 
   leads_from : (block : ℕ) (temporary : Bool) (path : List PathStep) (to : ComponentAt) → to.offset < largest_size → leaves_from l block temporary path ≡ false →
       path_end_in_block l block temporary path ≡ walk.Reaches to → LeadsFrom l block temporary path to
@@ -285,7 +285,7 @@ module _ (l : List BlockLayout) where
       by (walk.Reaches first) is inside k =
           let rest = leads_walked ps first to near inside k in (first, (leads_outermost block temporary 0 name first rest.1 is).0, rest.0)
       by walk.Unknown is inside k = absurd cc
-      by walk.Rests is inside k = absurd cc
+      by walk.Unjudged is inside k = absurd cc
 
   -- ---- a place
 
@@ -301,7 +301,7 @@ module _ (l : List BlockLayout) where
 
   spot_at : (a : Area) (number : ℕ) (w : PathEnd) (place : Place) (width : Width) → place_at_path_end l a number w ≡ Some (place, width) → IsSpotAt w place width
   spot_at a number walk.Unknown place width e = absurd cc
-  spot_at a number walk.Rests place width e = absurd cc
+  spot_at a number walk.Unjudged place width e = absurd cc
   spot_at a number (walk.Reaches to) place width e = by (elementary_at l to) refl e
     where
       pair_same : (x y : Place × Width) → Some x ≡ Some y → x ≡ y
@@ -364,7 +364,7 @@ module _ (l : List BlockLayout) where
     checkable_stays : (w : PathEnd) (to : ComponentAt) (b : Bool) → w ≡ walk.Reaches to → (is_checkable w && b) ≡ false → b ≡ false
     checkable_stays (walk.Reaches s) to b is e = e
     checkable_stays walk.Unknown to b is e = e
-    checkable_stays walk.Rests to b is e = absurd cc
+    checkable_stays walk.Unjudged to b is e = absurd cc
 
     led_component : data_component l id.number block path ≡ Some (place, width) → LeadsToPlace l id section.Global path place width
     unfolding path_end_in_data_block
@@ -372,7 +372,7 @@ module _ (l : List BlockLayout) where
         let r = if_let (leaves_structure l (structure_of l block) path) (place_at_path_end l area.Db id.number (path_end_in_data_block l block path)) e in
         by (structure_of l block) refl r.0 r.1
       where
-        by : (o : Option ℕ) → structure_of l block ≡ o → leaves_structure l o path ≡ false → place_at_path_end l area.Db id.number (path_end_or_rests l o path) ≡ Some (place, width) →
+        by : (o : Option ℕ) → structure_of l block ≡ o → leaves_structure l o path ≡ false → place_at_path_end l area.Db id.number (path_end_or_unjudged l o path) ≡ Some (place, width) →
             LeadsToPlace l id section.Global path place width
         by None is stays k = absurd cc
         by (Some inside) is stays k =

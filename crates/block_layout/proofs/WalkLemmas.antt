@@ -19,7 +19,7 @@ use Rattle.block_layout.specs.Members.{component_of_name}
 use Rattle.block_layout.specs.Paths.{IsSoundAt, ReachesSound, cells_at, path_end_at_cell, path_end_at_member, path_end_and_then, path_end_by_index, indexed_behind, is_beyond, path_end_by_name, named_behind, named_in, outermost_path_end, path_end_by_step, path_end_behind, path_end_in_bounds}
 
 if_entered : (l : List BlockLayout) (block : ℕ) (temporary : Bool) (place offset : ℕ) (c : Cell) (sound : Bool) → c.sound ≡ sound → slice_get (cells_at l block temporary) place ≡ Some c →
-    ReachesSound l (if sound then walk.Reaches (record { block = block; temporary = temporary; place = place; depth = 0; offset = offset }) else walk.Rests)
+    ReachesSound l (if sound then walk.Reaches (record { block = block; temporary = temporary; place = place; depth = 0; offset = offset }) else walk.Unjudged)
 if_entered l block temporary place offset c true is there = λ d e. (let same : c ≡ d = cc in subst (λ (x : Cell). x.sound ≡ true) same is)
 if_entered l block temporary place offset c false is there = tt
 
@@ -79,7 +79,7 @@ walk_next l spot next path i s w whole inside is_s is_w reaches so_far =
 not_on : (w : PathEnd) (next : ComponentAt → PathEnd) → ((to : ComponentAt) → w ≡ walk.Reaches to → ⊥) → path_end_and_then w next ≡ w
 not_on (walk.Reaches to) next never = absurd (never to refl)
 not_on walk.Unknown next never = refl
-not_on walk.Rests next never = refl
+not_on walk.Unjudged next never = refl
 
 pub walk_ends : (l : List BlockLayout) (spot : ComponentAt) (path : List PathStep) (i : ℕ) (s : PathStep) (w whole : PathEnd) → i < length path → s ≡ get_or path i s → w ≡ path_end_by_step l spot s → ((to : ComponentAt) → w ≡ walk.Reaches to → ⊥) →
     path_end_behind l spot (drop i path) ≡ whole → w ≡ whole

@@ -53,7 +53,7 @@ path_end_at_cell block temporary place offset (Some c) =
       place = place;
       depth = 0;
       offset = offset;
-    }) else walk.Rests
+    }) else walk.Unjudged
 
 -- where a path to a component leads, whose place counts from `first` on and whose offset from that
 -- of the structure
@@ -131,11 +131,11 @@ unfoldable pub path_end_by_step : List BlockLayout → ComponentAt → PathStep 
 path_end_by_step l spot (step.Named name) = path_end_by_name l spot name
 path_end_by_step l spot (step.Index at) = path_end_by_index l spot at
 
--- a path goes on behind a component that it reaches; what is unknown or rests stays so
+-- a path goes on behind a component that it reaches; what is unknown or unjudged stays so
 abbrev pub path_end_and_then : PathEnd → (ComponentAt → PathEnd) → PathEnd
 path_end_and_then (walk.Reaches spot) next = next spot
 path_end_and_then walk.Unknown next = walk.Unknown
-path_end_and_then walk.Rests next = walk.Rests
+path_end_and_then walk.Unjudged next = walk.Unjudged
 
 -- where the steps behind a component lead
 abbrev pub path_end_behind : List BlockLayout → ComponentAt → List PathStep → PathEnd
@@ -190,7 +190,7 @@ leaves_from l block temporary _ = false
 
 -- a path can be checked by where it leads: it does not go through what breaks a rule itself
 abbrev pub is_checkable : PathEnd → Bool
-is_checkable walk.Rests = false
+is_checkable walk.Unjudged = false
 is_checkable _ = true
 
 -- a block that isn't broken
@@ -216,10 +216,10 @@ shape_block l block shape.Unknown = None
 abbrev pub structure_of : List BlockLayout → ℕ → Option ℕ
 structure_of l block = option_and_then (λ b. shape_block l block b.shape) (whole_at l block)
 
--- where a path in the components that this block declares leads; where none declares them it rests
-abbrev pub path_end_or_rests : List BlockLayout → Option ℕ → List PathStep → PathEnd
-path_end_or_rests l None path = walk.Rests
-path_end_or_rests l (Some block) path = path_end_in_block l block false path
+-- where a path in the components that this block declares leads; unjudged where none declares them
+abbrev pub path_end_or_unjudged : List BlockLayout → Option ℕ → List PathStep → PathEnd
+path_end_or_unjudged l None path = walk.Unjudged
+path_end_or_unjudged l (Some block) path = path_end_in_block l block false path
 
 -- the block that declares the components of a data block, which may itself be broken: its settings
 -- are checked all the same
@@ -229,19 +229,19 @@ setting_structure l block =
 
 -- where the path of a setting leads, also in a data block that is broken
 unfoldable pub path_end_of_setting : List BlockLayout → (block : ℕ) → List PathStep → PathEnd
-path_end_of_setting l block path = path_end_or_rests l (setting_structure l block) path
+path_end_of_setting l block path = path_end_or_unjudged l (setting_structure l block) path
 
--- whether a path leaves an array of the structure that this block declares, unless it rests on what
--- breaks a rule itself
+-- whether a path leaves an array of the structure that this block declares, unless it goes through
+-- what breaks a rule itself
 abbrev pub leaves_structure : List BlockLayout → Option ℕ → List PathStep → Bool
 leaves_structure l None path = false
 leaves_structure l (Some block) path =
     is_checkable (path_end_in_block l block false path) && leaves_from l block false path
 
--- where a path into a data block leads; it rests where that block, or the one that declares its
+-- where a path into a data block leads; unjudged where that block, or the one that declares its
 -- components, is broken
 unfoldable pub path_end_in_data_block : List BlockLayout → (block : ℕ) → List PathStep → PathEnd
-path_end_in_data_block l block path = path_end_or_rests l (structure_of l block) path
+path_end_in_data_block l block path = path_end_or_unjudged l (structure_of l block) path
 
 -- where a name in the sections of a block leads: of two that are the same the first one is meant,
 -- and VAR_TEMP is the last section
@@ -256,14 +256,14 @@ unfoldable pub walked_local : List BlockLayout → (block : ℕ) → List ℕ �
 walked_local l block name path =
     if is_some (whole_at l block)
     then path_end_and_then (in_sections l block name) (λ spot. path_end_behind l spot path)
-    else walk.Rests
+    else walk.Unjudged
 
 -- whether a path in the body of a block leaves an array, in the sections in which its name is
 abbrev pub leaves_sections : List BlockLayout → (block : ℕ) → List ℕ → List PathStep → Bool
 leaves_sections l block name path =
     holds_where_reached (in_sections l block name) (λ spot. leaves_array l spot path)
 
--- whether a path in the body of a block leaves an array, unless it rests on what breaks a rule
+-- whether a path in the body of a block leaves an array, unless it goes through what breaks a rule
 -- itself
 abbrev pub leaves_local : List BlockLayout → (block : ℕ) → List ℕ → List PathStep → Bool
 leaves_local l block name path =

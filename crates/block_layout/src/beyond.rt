@@ -118,11 +118,11 @@ pub(crate) fn leaves_from(
 fn is_checkable(walk: PathEnd) -> bool
     ensures { result ≡ is_checkable walk }
 {
-    !matches!(walk, PathEnd::Rests)
+    !matches!(walk, PathEnd::Unjudged)
 }
 
-/// Whether a path leaves an array of the structure that this block declares, unless it rests on
-/// what breaks a rule itself.
+/// Whether a path leaves an array of the structure that this block declares, unless it goes
+/// through what breaks a rule itself.
 pub(crate) fn leaves_structure(
     layouts: &[BlockLayout],
     structure: Option<usize>,

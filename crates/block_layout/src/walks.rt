@@ -58,14 +58,14 @@ pub struct ComponentAt {
     pub offset: u64,
 }
 
-/// Where a path leads. `Unknown` names a component that isn't there, `Rests` goes through a
+/// Where a path leads. `Unknown` names a component that isn't there, `Unjudged` goes through a
 /// declaration or a block that breaks a rule itself. An index outside its array leads on as the
 /// first element does.
 #[derive(Clone, Copy, Debug, PartialEq, Eq)]
 pub enum PathEnd {
     Reaches { spot: ComponentAt },
     Unknown,
-    Rests,
+    Unjudged,
 }
 
 /// The declarations of a block that a path is in.
@@ -102,7 +102,7 @@ fn entered(layout: &Layout, block: usize, temporary: bool, place: usize, offset:
                     },
                 }
             } else {
-                PathEnd::Rests
+                PathEnd::Unjudged
             }
         }
     }

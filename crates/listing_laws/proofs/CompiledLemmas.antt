@@ -106,7 +106,7 @@ own_short : (c : Context) (name : List ℕ) (steps : List PathStep) → SeenShor
 own_short c name steps = by (walked_local c.layouts c.block name steps) where
   by : (w : PathEnd) → SeenShort (own_walked c (is_temporary_variable c name) w)
   by walk.Unknown = tt
-  by walk.Rests = tt
+  by walk.Unjudged = tt
   by (walk.Reaches spot) = at (elementary_at c.layouts spot) where
     at : (kind : Option Simple) → SeenShort (own_at c (is_temporary_variable c name) spot kind)
     at None = composite_short (slice_get (cells_at c.layouts spot.block spot.temporary) spot.place)
@@ -114,7 +114,7 @@ own_short c name steps = by (walked_local c.layouts c.block name steps) where
 
 data_walk_short : (c : Context) (n : ℕ) (w : PathEnd) → SeenShort (data_walked c n w)
 data_walk_short c n walk.Unknown = tt
-data_walk_short c n walk.Rests = tt
+data_walk_short c n walk.Unjudged = tt
 data_walk_short c n (walk.Reaches spot) = at (elementary_at c.layouts spot) where
   at : (kind : Option Simple) → SeenShort (data_at c n spot kind)
   at None = composite_short (slice_get (cells_at c.layouts spot.block spot.temporary) spot.place)

@@ -71,7 +71,7 @@ parameter_reached P index kind (Some c) = tt
 pub own_reached : (P : ℕ → Type 0) → P 0 → (c : Context) (temporary : Bool) (w : PathEnd)
     → IsReached P (own_walked c temporary w)
 own_reached P h c temporary walk.Unknown = tt
-own_reached P h c temporary walk.Rests = tt
+own_reached P h c temporary walk.Unjudged = tt
 own_reached P h c temporary (walk.Reaches spot) = by (elementary_at c.layouts spot)
   where
     elementary : (temporary function : Bool) (kind : Simple)
@@ -89,7 +89,7 @@ own_reached P h c temporary (walk.Reaches spot) = by (elementary_at c.layouts sp
 data_reached : (P : ℕ → Type 0) (c : Context) (number : ℕ) → P number → (w : PathEnd)
     → IsReached P (data_walked c number w)
 data_reached P c number h walk.Unknown = tt
-data_reached P c number h walk.Rests = tt
+data_reached P c number h walk.Unjudged = tt
 data_reached P c number h (walk.Reaches spot) = by (elementary_at c.layouts spot)
   where
     by : (o : Option Simple) → IsReached P (data_at c number spot o)

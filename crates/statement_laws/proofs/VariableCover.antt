@@ -87,7 +87,7 @@ temporary_end : (c : Context) (end : PathEnd) (v : ResolvedOperand)
 temporary_end c (walk.Reaches spot) v r e =
     temporary_spot c spot (elementary_at c.layouts spot) v r e
 temporary_end c walk.Unknown v r e = absurd cc
-temporary_end c walk.Rests v r e = absurd cc
+temporary_end c walk.Unjudged v r e = absurd cc
 
 static_spot : (c : Context) (spot : ComponentAt) (o : Option Simple)
     (v : ResolvedOperand) → has_no_name v ≡ false → in_function c ≡ false
@@ -105,13 +105,13 @@ static_end : (c : Context) (end : PathEnd) (v : ResolvedOperand)
 static_end c (walk.Reaches spot) v r fc e =
     static_spot c spot (elementary_at c.layouts spot) v r fc e
 static_end c walk.Unknown v r fc e = absurd cc
-static_end c walk.Rests v r fc e = absurd cc
+static_end c walk.Unjudged v r fc e = absurd cc
 
 end_is_checkable : (c : Context) (temporary : Bool) (end : PathEnd) (v : ResolvedOperand)
     → own_walked c temporary end ≡ Resolved v → is_checkable end ≡ true
 end_is_checkable c temporary (walk.Reaches spot) v e = refl
 end_is_checkable c temporary walk.Unknown v e = absurd cc
-end_is_checkable c temporary walk.Rests v e = absurd cc
+end_is_checkable c temporary walk.Unjudged v e = absurd cc
 
 -- a path that is checked, and stays within its arrays, leaves none
 stays : (checkable left : Bool) → checkable ≡ true → not (checkable && left) ≡ true → left ≡ false
@@ -202,7 +202,7 @@ reached_cell : (c : Context) (m : Member) (offset : ℕ) (sound : Bool) (cell : 
       place = 0 + m.place;
       depth = 0;
       offset = offset;
-    }) else walk.Rests) (λ spot. path_end_behind c.layouts spot steps)) ≡ Resolved v
+    }) else walk.Unjudged) (λ spot. path_end_behind c.layouts spot steps)) ≡ Resolved v
     → There (parameter_named c m.place steps)
 reached_cell c m offset false cell steps v there plain e = absurd cc
 reached_cell c m offset true cell [] v there plain e =
@@ -257,13 +257,13 @@ local_there : (c : Context) (name : List ℕ) (steps : List PathStep)
     (if is_some m then outermost_path_end c.layouts c.block false 0 name
     else outermost_path_end c.layouts c.block true 0 name)
     (λ spot. path_end_behind c.layouts spot steps)
-    else walk.Rests) ≡ Resolved v
+    else walk.Unjudged) ≡ Resolved v
     → not (is_checkable (if is_some (whole_at c.layouts c.block)
     then paths.path_end_and_then
     (if is_some m then outermost_path_end c.layouts c.block false 0 name
     else outermost_path_end c.layouts c.block true 0 name)
     (λ spot. path_end_behind c.layouts spot steps)
-    else walk.Rests)
+    else walk.Unjudged)
     && paths.holds_where_reached
     (if is_some m then outermost_path_end c.layouts c.block false 0 name
     else outermost_path_end c.layouts c.block true 0 name)
@@ -319,7 +319,7 @@ data_end_there : (c : Context) (n : ℕ) (end : PathEnd) (v : ResolvedOperand)
 data_end_there c n (walk.Reaches spot) v r e =
     data_spot_there c n spot (elementary_at c.layouts spot) v r e
 data_end_there c n walk.Unknown v r e = absurd cc
-data_end_there c n walk.Rests v r e = absurd cc
+data_end_there c n walk.Unjudged v r e = absurd cc
 
 -- the block that declares the components of a data block, which a path is walked in
 left_structure : (l : List BlockLayout) (structure : Option ℕ) (steps : List PathStep)

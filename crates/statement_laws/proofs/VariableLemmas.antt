@@ -62,7 +62,7 @@ inside false o x n = n
 
 -- a path that resolves was walked in a block that breaks no rule as a whole, to this end
 pub walked_in_whole : (c : Context) (temporary b : Bool) (end : PathEnd) (v : ResolvedOperand)
-    → own_walked c temporary (if b then end else walk.Rests) ≡ Resolved v
+    → own_walked c temporary (if b then end else walk.Unjudged) ≡ Resolved v
     → own_walked c temporary end ≡ Resolved v
 walked_in_whole c temporary true end v e = e
 walked_in_whole c temporary false end v e = absurd cc
@@ -82,7 +82,7 @@ temporary_walked : (c : Context) (end : PathEnd) (v : ResolvedOperand) (x : Name
 temporary_walked c (walk.Reaches spot) v x e n =
     temporary_at c spot (elementary_at c.layouts spot) v x e n
 temporary_walked c walk.Unknown v x e n = absurd cc
-temporary_walked c walk.Rests v x e n = absurd cc
+temporary_walked c walk.Unjudged v x e n = absurd cc
 
 -- ---- variables of a function block
 
@@ -101,7 +101,7 @@ static_walked : (c : Context) (end : PathEnd) (v : ResolvedOperand) (x : NamedIt
 static_walked c (walk.Reaches spot) v x f e n =
     static_at c spot (elementary_at c.layouts spot) v x f e n
 static_walked c walk.Unknown v x f e n = absurd cc
-static_walked c walk.Rests v x f e n = absurd cc
+static_walked c walk.Unjudged v x f e n = absurd cc
 
 -- ---- parameters of a function
 
@@ -156,7 +156,7 @@ cell_found : (c : Context) (m : Member) (offset : ℕ) (sound : Bool) (cell : Ce
       place = 0 + m.place;
       depth = 0;
       offset = offset;
-    }) else walk.Rests) ≡ Resolved v
+    }) else walk.Unjudged) ≡ Resolved v
     → parameter_named c m.place [] ≡ Some x → view_named None v ≡ Some x
 cell_found c m offset false cell v x f there e n = absurd cc
 cell_found c m offset true cell v x f there e n =
@@ -199,8 +199,8 @@ parameter_found c m offset (Some cell) v x f there e n =
     (sym (ap (own_walked c false) (by cell.sound _)) ∙ e) n
   where
     by : (sound : Bool) (spot : ComponentAt)
-        → paths.path_end_and_then (if sound then walk.Reaches spot else walk.Rests) (λ spot. walk.Reaches spot)
-        ≡ (if sound then walk.Reaches spot else walk.Rests)
+        → paths.path_end_and_then (if sound then walk.Reaches spot else walk.Unjudged) (λ spot. walk.Reaches spot)
+        ≡ (if sound then walk.Reaches spot else walk.Unjudged)
     by true spot = refl
     by false spot = refl
 
@@ -234,7 +234,7 @@ local_found : (c : Context) (name : List ℕ) (steps : List PathStep) (m : Optio
     (if is_some m then outermost_path_end c.layouts c.block false 0 name
     else outermost_path_end c.layouts c.block true 0 name)
     (λ spot. path_end_behind c.layouts spot steps)
-    else walk.Rests) ≡ Resolved v
+    else walk.Unjudged) ≡ Resolved v
     → variable_by c name steps m ≡ Some x → view_named None v ≡ Some x
 local_found c name steps None v x there e n =
     temporary_walked c
@@ -289,7 +289,7 @@ data_end : (c : Context) (number : ℕ) (end : PathEnd) (v : ResolvedOperand) (x
 data_end c number (walk.Reaches spot) v x e n =
     data_spot c number spot (elementary_at c.layouts spot) v x e n
 data_end c number walk.Unknown v x e n = absurd cc
-data_end c number walk.Rests v x e n = absurd cc
+data_end c number walk.Unjudged v x e n = absurd cc
 
 -- the data block at a place of the source
 data_placed : (c : Context) (id : BlockId) (steps : List PathStep) (number place : ℕ)

@@ -93,7 +93,7 @@ abbrev pub own_walked : Context → (temporary : Bool) → PathEnd → Resolutio
 own_walked c temporary (walk.Reaches spot) =
     own_at c temporary spot (elementary_at c.layouts spot)
 own_walked c temporary walk.Unknown = Unknown
-own_walked c temporary walk.Rests = Unjudged
+own_walked c temporary walk.Unjudged = Unjudged
 
 -- what a path into the block's own variables names, by its first name and the steps behind it
 abbrev pub own_variable : Context → List ℕ → List PathStep → Resolution
@@ -114,7 +114,7 @@ data_at c number spot (Some kind) =
 abbrev pub data_walked : Context → (number : ℕ) → PathEnd → Resolution
 data_walked c number (walk.Reaches spot) = data_at c number spot (elementary_at c.layouts spot)
 data_walked c number walk.Unknown = Unknown
-data_walked c number walk.Rests = Unjudged
+data_walked c number walk.Unjudged = Unjudged
 
 -- what a path into the data block with this number, at this place, names; without one of the two it
 -- isn't checked

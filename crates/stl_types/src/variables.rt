@@ -149,7 +149,7 @@ impl<'a> Context<'a> {
         match walk {
             PathEnd::Reaches { spot } => self.own_at(temporary, spot),
             PathEnd::Unknown => Resolution::Unknown,
-            PathEnd::Rests => Resolution::Unjudged,
+            PathEnd::Unjudged => Resolution::Unjudged,
         }
     }
 
@@ -179,7 +179,7 @@ impl<'a> Context<'a> {
         match walk {
             PathEnd::Reaches { spot } => self.data_at(number, spot),
             PathEnd::Unknown => Resolution::Unknown,
-            PathEnd::Rests => Resolution::Unjudged,
+            PathEnd::Unjudged => Resolution::Unjudged,
         }
     }
 

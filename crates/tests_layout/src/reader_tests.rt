@@ -494,7 +494,7 @@ fn names_end(rt: &impl Abort, alloc: Global, layouts: &Layouts) -> Result<(), Fa
         layouts.walk_local(0, b"G", &none),
         layouts.walk_local(2, b"A", &none),
     );
-    same(rt, "G and A", ends, (PathEnd::Unknown, PathEnd::Rests));
+    same(rt, "G and A", ends, (PathEnd::Unknown, PathEnd::Unjudged));
     Ok(())
 }
 
@@ -505,7 +505,7 @@ fn data_ends(rt: &impl Abort, alloc: Global, layouts: &Layouts) -> Result<(), Fa
         rt,
         "a in DB 1 and DB 0",
         ends,
-        (PathEnd::Unknown, PathEnd::Rests),
+        (PathEnd::Unknown, PathEnd::Unjudged),
     );
     Ok(())
 }

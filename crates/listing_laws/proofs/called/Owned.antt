@@ -151,7 +151,7 @@ module _ (c : Context) (own : in_function c ≡ true → AllByRecursion IsParame
     where
       at : (place offset : ℕ) (o : Option Cell) → IsHere (path_end_at_cell c.block false place offset o)
       at place offset None = tt
-      at place offset (Some cell) = either_way IsHere cell.sound _ walk.Rests (refl, refl) tt
+      at place offset (Some cell) = either_way IsHere cell.sound _ walk.Unjudged (refl, refl) tt
 
       by : (o : Option Member) → IsHere (path_end_at_member (cells_at c.layouts c.block false) c.block false 0 0 o)
       by None = tt
@@ -201,20 +201,20 @@ module _ (c : Context) (own : in_function c ≡ true → AllByRecursion IsParame
             → IsHere (path_end_and_then w (λ next. path_end_behind c.layouts next ss))
         by (walk.Reaches next) h more = more next h
         by walk.Unknown h more = tt
-        by walk.Rests h more = tt
+        by walk.Unjudged h more = tt
 
     local_here : (name : List ℕ) (steps : List PathStep) → is_some (component_of_name 0 0 0 name (cells_at c.layouts c.block false)) ≡ true
         → IsHere (walked_local c.layouts c.block name steps)
     unfolding walked_local
     local_here name steps found =
-        either_way IsHere (is_some (whole_at c.layouts c.block)) (path_end_and_then (in_sections c.layouts c.block name) (λ spot. path_end_behind c.layouts spot steps)) walk.Rests
+        either_way IsHere (is_some (whole_at c.layouts c.block)) (path_end_and_then (in_sections c.layouts c.block name) (λ spot. path_end_behind c.layouts spot steps)) walk.Unjudged
         (subst (λ (t : Bool). IsHere (path_end_and_then (if t then outermost_path_end c.layouts c.block false 0 name else outermost_path_end c.layouts c.block true 0 name) (λ spot. path_end_behind c.layouts spot steps)))
         (sym found) (by (outermost_path_end c.layouts c.block false 0 name) (outermost_here name))) tt
       where
         by : (w : PathEnd) → IsHere w → IsHere (path_end_and_then w (λ spot. path_end_behind c.layouts spot steps))
         by (walk.Reaches spot) h = walked_here spot steps h
         by walk.Unknown h = tt
-        by walk.Rests h = tt
+        by walk.Unjudged h = tt
 
     parameter_own : (spot : ComponentAt) (kind : Simple) → (spot.block ≡ c.block) × (spot.temporary ≡ false) → elementary_at c.layouts spot ≡ Some kind
         → SeenOwn (parameter_at c spot kind)
@@ -247,7 +247,7 @@ module _ (c : Context) (own : in_function c ≡ true → AllByRecursion IsParame
 
     function_own : (w : PathEnd) → IsHere w → SeenOwn (own_walked c false w)
     function_own walk.Unknown h = tt
-    function_own walk.Rests h = tt
+    function_own walk.Unjudged h = tt
     function_own (walk.Reaches spot) h = by (elementary_at c.layouts spot) refl
       where
         by : (o : Option Simple) → elementary_at c.layouts spot ≡ o → SeenOwn (own_at c false spot o)
@@ -260,7 +260,7 @@ module _ (c : Context) (own : in_function c ≡ true → AllByRecursion IsParame
 
   elsewhere_own : (w : PathEnd) → SeenOwn (own_walked c true w)
   elsewhere_own walk.Unknown = tt
-  elsewhere_own walk.Rests = tt
+  elsewhere_own walk.Unjudged = tt
   elsewhere_own (walk.Reaches spot) = by (elementary_at c.layouts spot)
     where
       by : (o : Option Simple) → SeenOwn (own_at c true spot o)
@@ -269,7 +269,7 @@ module _ (c : Context) (own : in_function c ≡ true → AllByRecursion IsParame
 
   instance_own : in_function c ≡ false → (w : PathEnd) → SeenOwn (own_walked c false w)
   instance_own other walk.Unknown = tt
-  instance_own other walk.Rests = tt
+  instance_own other walk.Unjudged = tt
   instance_own other (walk.Reaches spot) = by (elementary_at c.layouts spot)
     where
       by : (o : Option Simple) → SeenOwn (own_at c false spot o)
@@ -289,7 +289,7 @@ module _ (c : Context) (own : in_function c ≡ true → AllByRecursion IsParame
 
   data_walk_own : (n : ℕ) (w : PathEnd) → SeenOwn (data_walked c n w)
   data_walk_own n walk.Unknown = tt
-  data_walk_own n walk.Rests = tt
+  data_walk_own n walk.Unjudged = tt
   data_walk_own n (walk.Reaches spot) = at (elementary_at c.layouts spot)
     where
       at : (kind : Option Simple) → SeenOwn (data_at c n spot kind)
@@ -383,7 +383,7 @@ no_parameter c other name steps = by (not (is_some (component_of_name 0 0 0 name
     by : (temporary : Bool) (w : PathEnd) → NoParameter (own_walked c temporary w)
     by temporary (walk.Reaches spot) = at temporary spot (elementary_at c.layouts spot)
     by temporary walk.Unknown = tt
-    by temporary walk.Rests = tt
+    by temporary walk.Unjudged = tt
 
 pub own_seen : AreOwnSeen
 own_seen c own o index section kind e =

@@ -195,7 +195,7 @@ module _ (low : ℕ) (near : low ≤ largest_size) where
   entered_behind block temporary place offset None h = tt
   entered_behind block temporary place offset (Some c) h = by c.sound
     where
-      by : (t : Bool) → LeadsBehind low (if t then walk.Reaches (record { block = block; temporary = temporary; place = place; depth = 0; offset = offset }) else walk.Rests)
+      by : (t : Bool) → LeadsBehind low (if t then walk.Reaches (record { block = block; temporary = temporary; place = place; depth = 0; offset = offset }) else walk.Unjudged)
       by true = h
       by false = tt
 
@@ -254,7 +254,7 @@ module _ (low : ℕ) (near : low ≤ largest_size) where
       by : (e : PathEnd) → LeadsBehind low e → ((next : ComponentAt) → low ≤ next.offset → LeadsBehind low (path_end_behind l next ss)) → LeadsBehind low (path_end_and_then e (λ next. path_end_behind l next ss))
       by (walk.Reaches next) k more = more next k
       by walk.Unknown k more = tt
-      by walk.Rests k more = tt
+      by walk.Unjudged k more = tt
 
   pub write_behind : (l : List BlockLayout) (value : Literal) (e : PathEnd) → LeadsBehind low e → Behind low (setting_write l value e)
   write_behind l value (walk.Reaches spot) h = by (elementary_at l spot)
@@ -263,7 +263,7 @@ module _ (low : ℕ) (near : low ≤ largest_size) where
       by None = tt
       by (Some kind) = (h, tt)
   write_behind l value walk.Unknown h = tt
-  write_behind l value walk.Rests h = tt
+  write_behind l value walk.Unjudged h = tt
 
   component_behind : (at place : ℕ) (name : List ℕ) (cells : List Cell) (m : Member) → at ≤ largest_size → low ≤ at → component_of_name 0 at place name cells ≡ Some m → low ≤ m.offset
   unfolding component_of_name

@@ -295,7 +295,7 @@ module _ (l : List BlockLayout) (start : ℕ) (near : 8 * start ≤ largest_size
       behind : (e : PathEnd) → LeadsBehind (8 * start) e → AllByRecursion (IsIn ps start) (setting_write l value (path_end_and_then e (λ spot. path_end_behind l spot ss)))
       behind (walk.Reaches spot) k = all_behind ps start (setting_write l value (path_end_behind l spot ss)) (write_behind (8 * start) near l value (path_end_behind l spot ss) (path_behind (8 * start) near l spot ss k))
       behind walk.Unknown k = tt
-      behind walk.Rests k = tt
+      behind walk.Unjudged k = tt
 
       low : (m : Member) → 8 * start ≤ m.offset → 8 * start ≤ capped_size (0 + capped_size m.offset)
       low m k = omega (arith, near, k)

@@ -40,7 +40,7 @@ entered_sound cells block place m c at there sound few =
     let same : 0 + m.place ≡ place = omega (arith, at) in
     (λ i. path_end_at_cell block false (same i) (uncapped m.offset few i) (slice_get cells (same i)))
     ∙ ap (path_end_at_cell block false place m.offset) there
-    ∙ ap (λ (t : Bool). if t then walk.Reaches (outer_spot block place m.offset) else walk.Rests) sound
+    ∙ ap (λ (t : Bool). if t then walk.Reaches (outer_spot block place m.offset) else walk.Unjudged) sound
 
 module _ (l : List BlockLayout) (spot : ComponentAt) (c : Cell) (kind : Simple) (there : slice_get (cells_at l spot.block spot.temporary) spot.place ≡ Some c) where
   -- no step leads on behind an elementary component

@@ -14,7 +14,7 @@ use Rattle.stl_ast.specs.declared.declarations.Simple.{Simple}
 use Rattle.stl_ast.specs.declared.declarations.Simple.TheVariants as simple
 use Rattle.block_layout.specs.Listed.{CellNamesDiffer, IsElementary}
 use Rattle.block_layout.specs.Members.{component_of_name}
-use Rattle.block_layout.specs.Paths.{cells_at, elementary_at, path_end_at_member, holds_where_reached, path_end_and_then, path_end_by_index, indexed_behind, is_beyond, is_beyond_in, is_checkable, kind_of, leaves_array, leaves_structure, outermost_path_end, setting_structure, path_end_by_step, structure_of, path_end_behind, path_end_in_data_block, path_end_in_block, path_end_or_rests, path_end_of_setting}
+use Rattle.block_layout.specs.Paths.{cells_at, elementary_at, path_end_at_member, holds_where_reached, path_end_and_then, path_end_by_index, indexed_behind, is_beyond, is_beyond_in, is_checkable, kind_of, leaves_array, leaves_structure, outermost_path_end, setting_structure, path_end_by_step, structure_of, path_end_behind, path_end_in_data_block, path_end_in_block, path_end_or_unjudged, path_end_of_setting}
 use Rattle.block_layout.specs.Sizes.{alignment, capped_size, cell_bits, element_alignment, element_of, components_end, largest_size, next_multiple}
 use Rattle.block_layout.specs.declared.blocks.BlockLayout.{BlockLayout}
 use Rattle.block_layout.specs.declared.cells.Cell.{Cell}
@@ -99,11 +99,11 @@ module _ (l : List BlockLayout) (k q : ℕ) (structure : structure_of l k ≡ So
   -- a path is one among the components of the structure
   data_walk : (path : List PathStep) → path_end_in_data_block l k path ≡ path_end_in_block l q false path
   unfolding path_end_in_data_block
-  data_walk path = ap (λ o. path_end_or_rests l o path) structure
+  data_walk path = ap (λ o. path_end_or_unjudged l o path) structure
 
   setting_walk : (path : List PathStep) → path_end_of_setting l k path ≡ path_end_in_block l q false path
   unfolding path_end_of_setting
-  setting_walk path = ap (λ o. path_end_or_rests l o path) setting
+  setting_walk path = ap (λ o. path_end_or_unjudged l o path) setting
 
   name_found : (cells : List Cell) (name : List ℕ) (place offset : ℕ) (c : Cell) → cells_at l q false ≡ cells → component_of_name 0 0 0 name cells ≡ Some (record { place = place; offset = offset })
       → slice_get cells place ≡ Some c → c.sound ≡ true → offset ≤ largest_size → outermost_path_end l q false 0 name ≡ walk.Reaches (outer_spot q place offset)

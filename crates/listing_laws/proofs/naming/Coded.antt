@@ -135,7 +135,7 @@ own_plain : (c : Context) (name : List ℕ) (steps : List PathStep) → SeenIsNo
 own_plain c name steps = by (walked_local c.layouts c.block name steps) where
   by : (w : PathEnd) → SeenIsNoBit (own_walked c (is_temporary_variable c name) w)
   by walk.Unknown = tt
-  by walk.Rests = tt
+  by walk.Unjudged = tt
   by (walk.Reaches spot) = at (elementary_at c.layouts spot) where
     at : (kind : Option Simple) → SeenIsNoBit (own_at c (is_temporary_variable c name) spot kind)
     at None = composite_plain (slice_get (cells_at c.layouts spot.block spot.temporary) spot.place)
@@ -143,7 +143,7 @@ own_plain c name steps = by (walked_local c.layouts c.block name steps) where
 
 data_walk_plain : (c : Context) (n : ℕ) (w : PathEnd) → SeenIsNoBit (data_walked c n w)
 data_walk_plain c n walk.Unknown = tt
-data_walk_plain c n walk.Rests = tt
+data_walk_plain c n walk.Unjudged = tt
 data_walk_plain c n (walk.Reaches spot) = at (elementary_at c.layouts spot) where
   at : (kind : Option Simple) → SeenIsNoBit (data_at c n spot kind)
   at None = composite_plain (slice_get (cells_at c.layouts spot.block spot.temporary) spot.place)

@@ -133,7 +133,7 @@ IsBare _ = Unit {0}
 no_further : (end : PathEnd) → holds_where_reached end (λ spot. false) ≡ false
 no_further (walk.Reaches spot) = refl
 no_further walk.Unknown = refl
-no_further walk.Rests = refl
+no_further walk.Unjudged = refl
 
 and_false : (a b : Bool) → b ≡ false → (a && b) ≡ false
 and_false true b e = e

@@ -84,7 +84,7 @@ entered_at : (block place offset : ℕ) (found : Option Cell) (cell : Cell) → 
     → path_end_at_cell block false place offset found ≡ walk.Reaches (record { block = block; temporary = false; place = place; depth = 0; offset = offset })
 entered_at block place offset found cell e sound =
     ap (path_end_at_cell block false place offset) e
-    ∙ ap (λ (b : Bool). if b then walk.Reaches (record { block = block; temporary = false; place = place; depth = 0; offset = offset }) else walk.Rests) sound
+    ∙ ap (λ (b : Bool). if b then walk.Reaches (record { block = block; temporary = false; place = place; depth = 0; offset = offset }) else walk.Unjudged) sound
 
 is_whole : (l : List BlockLayout) (block : ℕ) (b : BlockLayout) → slice_get l block ≡ Some b → b.broken ≡ false → is_some (whole_at l block) ≡ true
 is_whole l block b e whole = ap (λ (x : Option BlockLayout). is_some (whole_block x)) e ∙ ap (λ (t : Bool). is_some (if t then None else Some b)) whole
@@ -94,7 +94,7 @@ walked_to : (c : Context) (name : List ℕ) (m : Member) (cell : Cell) → compo
     → walked_local c.layouts c.block name [] ≡ walk.Reaches (spot_at c (0 + m.place) (capped_size (0 + capped_size m.offset)))
 unfolding walked_local outermost_path_end
 walked_to c name m cell e there sound whole =
-    ap (λ (b : Bool). if b then path_end_and_then (in_sections c.layouts c.block name) (λ spot. path_end_behind c.layouts spot []) else walk.Rests) whole
+    ap (λ (b : Bool). if b then path_end_and_then (in_sections c.layouts c.block name) (λ spot. path_end_behind c.layouts spot []) else walk.Unjudged) whole
     ∙ ap (λ (x : Option Member). path_end_and_then (if is_some x then path_end_at_member (cells_at c.layouts c.block false) c.block false 0 0 x else outermost_path_end c.layouts c.block true 0 name) (λ spot. path_end_behind c.layouts spot [])) e
     ∙ ap (λ (p : PathEnd). path_end_and_then p (λ spot. path_end_behind c.layouts spot [])) (entered_at c.block (0 + m.place) (capped_size (0 + capped_size m.offset)) (slice_get (cells_at c.layouts c.block false) (0 + m.place)) cell there sound)
 

@@ -105,7 +105,7 @@ own_spot_seen c listed temporary spot (Some kind) = own_seen c listed temporary 
 own_walk_seen : (c listed : Context) (temporary : Bool) (end : PathEnd) → IfSeen true listed (own_walked c temporary end)
 own_walk_seen c listed temporary (walk.Reaches spot) = own_spot_seen c listed temporary spot (elementary_at c.layouts spot)
 own_walk_seen c listed temporary walk.Unknown = tt
-own_walk_seen c listed temporary walk.Rests = tt
+own_walk_seen c listed temporary walk.Unjudged = tt
 
 data_spot_seen : (c listed : Context) (n : ℕ) (spot : ComponentAt) (kind : Option Simple) → IsOpenedAgain listed (Some n) → IfSeen false listed (data_at c n spot kind)
 data_spot_seen c listed n spot None h = composite_seen false listed (slice_get (cells_at c.layouts spot.block spot.temporary) spot.place)
@@ -114,7 +114,7 @@ data_spot_seen c listed n spot (Some kind) h = area_seen false listed area.Db n 
 data_walk_seen : (c listed : Context) (n : ℕ) (end : PathEnd) → IsOpenedAgain listed (Some n) → IfSeen false listed (data_walked c n end)
 data_walk_seen c listed n (walk.Reaches spot) h = data_spot_seen c listed n spot (elementary_at c.layouts spot) h
 data_walk_seen c listed n walk.Unknown h = tt
-data_walk_seen c listed n walk.Rests h = tt
+data_walk_seen c listed n walk.Unjudged h = tt
 
 data_path_seen : (c listed : Context) (steps : List PathStep) (number block : Option ℕ) → IsOpenedAgain listed number → IfSeen false listed (data_path c steps number block)
 data_path_seen c listed steps (Some n) (Some block) h = data_walk_seen c listed n (path_end_in_data_block c.layouts block steps) h

@@ -38,7 +38,7 @@ use Rattle.block_layout.specs.Fits.{bits_of, fits_elementary_type}
 use Rattle.block_layout.specs.InitialBytes.{Write, component_starts, cell_writes, component_writes, element_starts, filled_starts, in_steps, initial_bytes, length_at, preset_values, bytes_with_write, setting_write, setting_writes, settings_at, structure_writes, type_writes, write_of, writes_at, writes_from}
 use Rattle.block_layout.specs.Layouts.{layouts_of}
 use Rattle.block_layout.specs.Measures.{measuring_rounds, types_of_source}
-use Rattle.block_layout.specs.Paths.{cells_at, cells_in, elementary_at, folded_path, leaves_structure, setting_structure, shape_block, structure_of, path_end_in_data_block, path_end_or_rests, path_end_of_setting}
+use Rattle.block_layout.specs.Paths.{cells_at, cells_in, elementary_at, folded_path, leaves_structure, setting_structure, shape_block, structure_of, path_end_in_data_block, path_end_or_unjudged, path_end_of_setting}
 use Rattle.block_layout.specs.Rule41.{fits_kind, misfits_component, setting_misfits}
 use Rattle.block_layout.specs.Rule42.{setting_is_outside}
 use Rattle.block_layout.specs.Rule56.{is_too_deep}
@@ -556,7 +556,7 @@ module _ (l : List BlockLayout) (limit k inside : ℕ) (right : AreRight l) (nea
     (small : structure_bits (cells_at l inside false) ≤ limit) where
   walks_as : (path : List PathStep) → path_end_of_setting l k path ≡ path_end_in_data_block l k path
   unfolding path_end_of_setting path_end_in_data_block
-  walks_as path = ap (λ (o : Option ℕ). path_end_or_rests l o path) same
+  walks_as path = ap (λ (o : Option ℕ). path_end_or_unjudged l o path) same
 
   one_kept : (s : Setting) → IsLiteral s.value → HasBytes s.value → setting_misfits l k s ≡ false
       → setting_is_outside l k s ≡ false
@@ -585,7 +585,7 @@ module _ (l : List BlockLayout) (limit k inside : ℕ) (right : AreRight l) (nea
           → AllByRecursion (IsKept limit) (setting_write l s.value w)
       by (walk.Reaches spot) lies f = written spot lies (elementary_at l spot) refl f
       by walk.Unknown lies f = tt
-      by walk.Rests lies f = tt
+      by walk.Unjudged lies f = tt
 
   settings_kept : (ss : List Setting) → AllByRecursion (λ s. IsLiteral s.value) ss
       → AllByRecursion SettingHasBytes ss → AllByRecursion (λ s. setting_misfits l k s ≡ false) ss
@@ -617,7 +617,7 @@ module _ (l : List BlockLayout) (limit k inside : ℕ) (right : AreRight l) (nea
           → (x : Write) × (setting_write l s.value w ≡ x ∷ [])
       by (walk.Reaches spot) lies f e = written spot.offset (elementary_at l spot) f
       by walk.Unknown lies f e = absurd cc
-      by walk.Rests lies f e = absurd lies
+      by walk.Unjudged lies f e = absurd lies
 
   settings_set : (ss : List Setting) → AllByRecursion (λ s. setting_misfits l k s ≡ false) ss
       → AllByRecursion (λ s. setting_is_outside l k s ≡ false) ss

@@ -300,10 +300,10 @@ count_each f (w ∷ ws) h =
 abbrev pub Stays : ℕ → PathEnd → Type 0
 Stays k (walk.Reaches s) = (s.block ≡ k) × (s.temporary ≡ false)
 Stays k walk.Unknown = Unit {0}
-Stays k walk.Rests = Unit {0}
+Stays k walk.Unjudged = Unit {0}
 
 sound_stays : (k : ℕ) (sound : Bool) (s : ComponentAt) → s.block ≡ k → s.temporary ≡ false
-    → Stays k (if sound then walk.Reaches s else walk.Rests)
+    → Stays k (if sound then walk.Reaches s else walk.Unjudged)
 sound_stays k true s e f = (e, f)
 sound_stays k false s e f = tt
 
@@ -378,7 +378,7 @@ on_stays : (k : ℕ) (w : PathEnd) (next : ComponentAt → PathEnd) → Stays k 
     → Stays k (path_end_and_then w next)
 on_stays k (walk.Reaches s) next h g = g s h.0 h.1
 on_stays k walk.Unknown next h g = tt
-on_stays k walk.Rests next h g = tt
+on_stays k walk.Unjudged next h g = tt
 
 walked_stays : (l : List BlockLayout) (k : ℕ) → ArePlain l k → (ps : List PathStep) (s : ComponentAt)
     → s.block ≡ k → s.temporary ≡ false → Stays k (path_end_behind l s ps)
@@ -398,7 +398,7 @@ pub local_stays : (l : List BlockLayout) (k : ℕ) → ArePlain l k → (name : 
     → is_some (whole_at l k) ≡ true → Stays k (walked_local l k name ps)
 unfolding walked_local
 local_stays l k plain name ps own whole =
-    subst (λ (t : Bool). Stays k (if t then path_end_and_then (in_sections l k name) (λ s. path_end_behind l s ps) else walk.Rests))
+    subst (λ (t : Bool). Stays k (if t then path_end_and_then (in_sections l k name) (λ s. path_end_behind l s ps) else walk.Unjudged))
     (sym whole)
     (subst (λ (t : Bool). Stays k (path_end_and_then (if t then outermost_path_end l k false 0 name else outermost_path_end l k true 0 name)
     (λ s. path_end_behind l s ps))) (sym own)

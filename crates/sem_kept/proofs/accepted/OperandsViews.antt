@@ -512,7 +512,7 @@ module _ (symbols : List Symbol) (t : Tree) (tree : IsSoundTree symbols t) (k : 
           → IsSeen a (own_walked (context_at symbols t k) temporary w)
       reads temporary (walk.Reaches s) f m known = f s refl
       reads temporary walk.Unknown f m known = absurd cc
-      reads temporary walk.Rests f m known = absurd m
+      reads temporary walk.Unjudged f m known = absurd m
 
       temporary : is_some (component_of_name 0 0 0 name cells) ≡ false → IsRead true
       temporary e s reaches =
@@ -828,7 +828,7 @@ data_seen symbols t tree k a name steps there known stays =
         → IsSeen a (data_walked c d.block.id.number w)
     reads (walk.Reaches w) g u = at w g (elementary_at ls w) refl
     reads walk.Unknown g u = absurd cc
-    reads walk.Rests g u = absurd g
+    reads walk.Unjudged g u = absurd g
 
 -- ---- operands
 
