@@ -19,7 +19,7 @@ use Rattle.block_layout.specs.Sizes.{largest_size}
 use Rattle.block_layout.specs.declared.members.Member.{Member}
 use Rattle.block_layout.specs.declared.walks.ComponentAt.{ComponentAt}
 use Rattle.block_layout.specs.declared.walks.PathEnd.{PathEnd}
-use Rattle.block_layout.specs.declared.walks.PathEnd.TheVariants as walk
+use Rattle.block_layout.specs.declared.walks.PathEnd.TheVariants as path_end
 use Rattle.block_layout.proofs.OffsetLemmas.{step_grows, end_step, end_grows, at_place}
 
 -- ---- places that meet an alignment
@@ -308,9 +308,9 @@ pub record Lies (l : List BlockLayout) (limit : ℕ) (s : ComponentAt) : Type 0 
       (element_of cell (drop (suc s.place) (cells_at l s.block s.temporary))) ≤ limit
 
 abbrev pub Goes : List BlockLayout → (limit : ℕ) → PathEnd → Type 0
-Goes l limit (walk.Reaches s) = Lies l limit s
-Goes l limit walk.Unknown = Unit {0}
-Goes l limit walk.Unjudged = ⊥
+Goes l limit (path_end.Reaches s) = Lies l limit s
+Goes l limit path_end.Unknown = Unit {0}
+Goes l limit path_end.Unjudged = ⊥
 
 pub settled_even : (l : List BlockLayout) (of : Element) → IsSettled l of → UdtEven of
 settled_even l (Udt block bits) e = ap (λ (n : ℕ). n % 16) e ∙ structure_even (cells_at l block false)
@@ -403,7 +403,7 @@ found_lies l limit right block temporary level first offset name even near fits 
             }
 
             whether : (sound : Bool) → sound ≡ true
-                → Goes l limit (if sound then walk.Reaches spot else walk.Unjudged)
+                → Goes l limit (if sound then path_end.Reaches spot else path_end.Unjudged)
             whether true e = lies
             whether false e = absurd cc
 

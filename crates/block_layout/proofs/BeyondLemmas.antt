@@ -6,13 +6,13 @@ use Rattle.stl_ast.specs.declared.blocks.PathStep.{PathStep}
 use Rattle.block_layout.specs.declared.blocks.BlockLayout.{BlockLayout}
 use Rattle.block_layout.specs.declared.walks.ComponentAt.{ComponentAt}
 use Rattle.block_layout.specs.declared.walks.PathEnd.{PathEnd}
-use Rattle.block_layout.specs.declared.walks.PathEnd.TheVariants as walk
+use Rattle.block_layout.specs.declared.walks.PathEnd.TheVariants as path_end
 use Rattle.block_layout.specs.Paths.{holds_where_reached, leaves_array, step_is_beyond, path_end_by_step}
 
-no_further : (w : PathEnd) (next : ComponentAt → Bool) → ((to : ComponentAt) → w ≡ walk.Reaches to → ⊥) → holds_where_reached w next ≡ false
-no_further (walk.Reaches to) next never = absurd (never to refl)
-no_further walk.Unknown next never = refl
-no_further walk.Unjudged next never = refl
+no_further : (w : PathEnd) (next : ComponentAt → Bool) → ((to : ComponentAt) → w ≡ path_end.Reaches to → ⊥) → holds_where_reached w next ≡ false
+no_further (path_end.Reaches to) next never = absurd (never to refl)
+no_further path_end.Unknown next never = refl
+no_further path_end.Unjudged next never = refl
 
 module _ (l : List BlockLayout) (spot : ComponentAt) (path : List PathStep) (i : ℕ) (s : PathStep) (whole : Bool) where
   at_step : i < length path → s ≡ get_or path i s → leaves_array l spot (drop i path) ≡ (step_is_beyond l spot s || holds_where_reached (path_end_by_step l spot s) (λ to. leaves_array l to (drop (i + 1) path)))
@@ -24,7 +24,7 @@ module _ (l : List BlockLayout) (spot : ComponentAt) (path : List PathStep) (i :
   at_inside : i < length path → s ≡ get_or path i s → step_is_beyond l spot s ≡ false → leaves_array l spot (drop i path) ≡ holds_where_reached (path_end_by_step l spot s) (λ to. leaves_array l to (drop (i + 1) path))
   at_inside within is_s inside = at_step within is_s ∙ ap (λ (b : Bool). b || holds_where_reached (path_end_by_step l spot s) (λ to. leaves_array l to (drop (i + 1) path))) inside
 
-  pub leaves_next : (next : ComponentAt) (w : PathEnd) → i < length path → s ≡ get_or path i s → step_is_beyond l spot s ≡ false → w ≡ path_end_by_step l spot s → w ≡ walk.Reaches next →
+  pub leaves_next : (next : ComponentAt) (w : PathEnd) → i < length path → s ≡ get_or path i s → step_is_beyond l spot s ≡ false → w ≡ path_end_by_step l spot s → w ≡ path_end.Reaches next →
       leaves_array l spot (drop i path) ≡ whole → leaves_array l next (drop (i + 1) path) ≡ whole
   leaves_next next w within is_s inside is_w reaches so_far =
       ap (λ (x : PathEnd). holds_where_reached x (λ to. leaves_array l to (drop (i + 1) path))) (sym reaches ∙ is_w) ∙ sym (at_inside within is_s inside) ∙ so_far
@@ -33,7 +33,7 @@ module _ (l : List BlockLayout) (spot : ComponentAt) (path : List PathStep) (i :
   leaves_here within is_s beyond so_far =
       ap (λ (b : Bool). b || holds_where_reached (path_end_by_step l spot s) (λ to. leaves_array l to (drop (i + 1) path))) (sym beyond) ∙ sym (at_step within is_s) ∙ so_far
 
-  pub leaves_ends : (w : PathEnd) → i < length path → s ≡ get_or path i s → step_is_beyond l spot s ≡ false → w ≡ path_end_by_step l spot s → ((to : ComponentAt) → w ≡ walk.Reaches to → ⊥) →
+  pub leaves_ends : (w : PathEnd) → i < length path → s ≡ get_or path i s → step_is_beyond l spot s ≡ false → w ≡ path_end_by_step l spot s → ((to : ComponentAt) → w ≡ path_end.Reaches to → ⊥) →
       leaves_array l spot (drop i path) ≡ whole → false ≡ whole
   leaves_ends w within is_s inside is_w never so_far =
       sym (no_further w (λ to. leaves_array l to (drop (i + 1) path)) never) ∙ ap (λ (x : PathEnd). holds_where_reached x (λ to. leaves_array l to (drop (i + 1) path))) is_w

@@ -17,7 +17,7 @@ use Rattle.block_layout.specs.Sizes.{largest_size}
 use Rattle.block_layout.specs.declared.members.Member.{Member}
 use Rattle.block_layout.specs.declared.walks.ComponentAt.{ComponentAt}
 use Rattle.block_layout.specs.declared.walks.PathEnd.{PathEnd}
-use Rattle.block_layout.specs.declared.walks.PathEnd.TheVariants as walk
+use Rattle.block_layout.specs.declared.walks.PathEnd.TheVariants as path_end
 use Rattle.block_layout.specs.Members.{component_of_name}
 use Rattle.block_layout.specs.Sizes.{capped_size, array_bits, element_of}
 
@@ -44,22 +44,22 @@ cells_at l block temporary = cells_in temporary (slice_get l block)
 -- itself isn't gone through
 abbrev pub path_end_at_cell : (block : ℕ) → (temporary : Bool) → (place offset : ℕ) → Option Cell
     → PathEnd
-path_end_at_cell block temporary place offset None = walk.Unknown
+path_end_at_cell block temporary place offset None = path_end.Unknown
 path_end_at_cell block temporary place offset (Some c) =
     if c.sound
-    then walk.Reaches (record {
+    then path_end.Reaches (record {
       block = block;
       temporary = temporary;
       place = place;
       depth = 0;
       offset = offset;
-    }) else walk.Unjudged
+    }) else path_end.Unjudged
 
 -- where a path to a component leads, whose place counts from `first` on and whose offset from that
 -- of the structure
 abbrev pub path_end_at_member : List Cell → (block : ℕ) → (temporary : Bool) → (first offset : ℕ)
     → Option Member → PathEnd
-path_end_at_member cells block temporary first offset None = walk.Unknown
+path_end_at_member cells block temporary first offset None = path_end.Unknown
 path_end_at_member cells block temporary first offset (Some m) =
     path_end_at_cell block temporary (first + m.place) (capped_size (offset + capped_size m.offset))
     (slice_get cells (first + m.place))
@@ -80,13 +80,13 @@ named_in l spot name c Structure =
     (component_of_name (c.level + 1) 0 0 name
     (drop (spot.place + 1) (cells_at l spot.block spot.temporary)))
 named_in l spot name c (Udt block bits) = outermost_path_end l block false spot.offset name
-named_in l spot name c _ = walk.Unknown
+named_in l spot name c _ = path_end.Unknown
 
 -- where a name behind a component leads that has all its indices; behind another one it is unknown
 abbrev pub named_behind : List BlockLayout → ComponentAt → List ℕ → Option Cell → PathEnd
-named_behind l spot name None = walk.Unknown
+named_behind l spot name None = path_end.Unknown
 named_behind l spot name (Some c) =
-    if nat_eq spot.depth (length c.bounds) then named_in l spot name c c.of else walk.Unknown
+    if nat_eq spot.depth (length c.bounds) then named_in l spot name c c.of else path_end.Unknown
 
 -- where a name behind a spot leads; where an index is lacking, or what is there has no components,
 -- it is unknown
@@ -102,10 +102,10 @@ is_beyond b at = int_lt at b.low || int_lt b.high at
 -- first element does, so that a declaration further on that breaks a rule is seen
 abbrev pub path_end_in_bounds : ComponentAt → Cell → (behind : List Cell) → ℤ → Option Bounds
     → PathEnd
-path_end_in_bounds spot c behind at None = walk.Unknown
+path_end_in_bounds spot c behind at None = path_end.Unknown
 path_end_in_bounds spot c behind at (Some b) =
-    if is_beyond b at then walk.Reaches (record spot { depth = spot.depth + 1 })
-    else walk.Reaches (record spot {
+    if is_beyond b at then path_end.Reaches (record spot { depth = spot.depth + 1 })
+    else path_end.Reaches (record spot {
       depth = spot.depth + 1;
       offset = capped_size (spot.offset + capped_size
           (unsigned_abs (at -ℤ b.low) * array_bits (drop (spot.depth + 1) c.bounds)
@@ -115,7 +115,7 @@ path_end_in_bounds spot c behind at (Some b) =
 -- where an index behind a component that stands among `cells` leads, for the first bounds without
 -- an index yet
 abbrev pub indexed_behind : ComponentAt → (cells : List Cell) → ℤ → Option Cell → PathEnd
-indexed_behind spot cells at None = walk.Unknown
+indexed_behind spot cells at None = path_end.Unknown
 indexed_behind spot cells at (Some c) =
     path_end_in_bounds spot c (drop (spot.place + 1) cells) at (slice_get c.bounds spot.depth)
 
@@ -133,13 +133,13 @@ path_end_by_step l spot (step.Index at) = path_end_by_index l spot at
 
 -- a path goes on behind a component that it reaches; what is unknown or unjudged stays so
 abbrev pub path_end_and_then : PathEnd → (ComponentAt → PathEnd) → PathEnd
-path_end_and_then (walk.Reaches spot) next = next spot
-path_end_and_then walk.Unknown next = walk.Unknown
-path_end_and_then walk.Unjudged next = walk.Unjudged
+path_end_and_then (path_end.Reaches spot) next = next spot
+path_end_and_then path_end.Unknown next = path_end.Unknown
+path_end_and_then path_end.Unjudged next = path_end.Unjudged
 
 -- where the steps behind a component lead
 abbrev pub path_end_behind : List BlockLayout → ComponentAt → List PathStep → PathEnd
-path_end_behind l spot [] = walk.Reaches spot
+path_end_behind l spot [] = path_end.Reaches spot
 path_end_behind l spot (s ∷ ss) =
     path_end_and_then (path_end_by_step l spot s) (λ next. path_end_behind l next ss)
 
@@ -149,7 +149,7 @@ abbrev pub path_end_in_block : List BlockLayout → (block : ℕ) → (temporary
 path_end_in_block l block temporary (step.Named name ∷ ss) =
     path_end_and_then (outermost_path_end l block temporary 0 name)
     (λ spot. path_end_behind l spot ss)
-path_end_in_block l block temporary _ = walk.Unknown
+path_end_in_block l block temporary _ = path_end.Unknown
 
 -- an index is outside the bounds that are left; where none are left it isn't
 abbrev pub is_beyond_left : Option Bounds → ℤ → Bool
@@ -170,7 +170,7 @@ step_is_beyond l spot (step.Index at) =
 
 -- whether this holds of the spot that a path reaches; where it reaches none it doesn't
 abbrev pub holds_where_reached : PathEnd → (ComponentAt → Bool) → Bool
-holds_where_reached (walk.Reaches spot) next = next spot
+holds_where_reached (path_end.Reaches spot) next = next spot
 holds_where_reached _ next = false
 
 -- whether one of these steps is an index outside its array, up to the first that reaches nothing
@@ -190,7 +190,7 @@ leaves_from l block temporary _ = false
 
 -- a path can be checked by where it leads: it does not go through what breaks a rule itself
 abbrev pub is_checkable : PathEnd → Bool
-is_checkable walk.Unjudged = false
+is_checkable path_end.Unjudged = false
 is_checkable _ = true
 
 -- a block that isn't broken
@@ -218,7 +218,7 @@ structure_of l block = option_and_then (λ b. shape_block l block b.shape) (whol
 
 -- where a path in the components that this block declares leads; unjudged where none declares them
 abbrev pub path_end_or_unjudged : List BlockLayout → Option ℕ → List PathStep → PathEnd
-path_end_or_unjudged l None path = walk.Unjudged
+path_end_or_unjudged l None path = path_end.Unjudged
 path_end_or_unjudged l (Some block) path = path_end_in_block l block false path
 
 -- the block that declares the components of a data block, which may itself be broken: its settings
@@ -256,7 +256,7 @@ unfoldable pub walked_local : List BlockLayout → (block : ℕ) → List ℕ �
 walked_local l block name path =
     if is_some (whole_at l block)
     then path_end_and_then (in_sections l block name) (λ spot. path_end_behind l spot path)
-    else walk.Unjudged
+    else path_end.Unjudged
 
 -- whether a path in the body of a block leaves an array, in the sections in which its name is
 abbrev pub leaves_sections : List BlockLayout → (block : ℕ) → List ℕ → List PathStep → Bool
@@ -285,7 +285,7 @@ elementary_at l spot = kind_of spot (slice_get (cells_at l spot.block spot.tempo
 
 -- the offset of the component that a path reaches isn't above the cap
 abbrev pub OffsetIsNear : PathEnd → Type 0
-OffsetIsNear (walk.Reaches spot) = spot.offset ≤ largest_size
+OffsetIsNear (path_end.Reaches spot) = spot.offset ≤ largest_size
 OffsetIsNear _ = Unit {0}
 
 -- the component at a spot is sound
@@ -295,5 +295,5 @@ IsSoundAt l spot = (c : Cell)
 
 -- the component that a path reaches is sound; nothing is said where it reaches none
 abbrev pub ReachesSound : List BlockLayout → PathEnd → Type 0
-ReachesSound l (walk.Reaches spot) = IsSoundAt l spot
+ReachesSound l (path_end.Reaches spot) = IsSoundAt l spot
 ReachesSound l _ = Unit {0}

@@ -115,10 +115,10 @@ pub(crate) fn leaves_from(
 
 /// Whether a path can be checked by where it leads: it does not go through what breaks a rule
 /// itself.
-fn is_checkable(walk: PathEnd) -> bool
-    ensures { result ≡ is_checkable walk }
+fn is_checkable(path_end: PathEnd) -> bool
+    ensures { result ≡ is_checkable path_end }
 {
-    !matches!(walk, PathEnd::Unjudged)
+    !matches!(path_end, PathEnd::Unjudged)
 }
 
 /// Whether a path leaves an array of the structure that this block declares, unless it goes

@@ -43,7 +43,7 @@ use Rattle.block_layout.specs.declared.cells.Element.{Element}
 use Rattle.block_layout.specs.declared.cells.Element.TheVariants as element
 use Rattle.block_layout.specs.declared.walks.ComponentAt.{ComponentAt}
 use Rattle.block_layout.specs.declared.walks.PathEnd.{PathEnd}
-use Rattle.block_layout.specs.declared.walks.PathEnd.TheVariants as walk
+use Rattle.block_layout.specs.declared.walks.PathEnd.TheVariants as path_end
 use Rattle.stl_types.specs.Addresses.{address_in_block}
 use Rattle.stl_types.specs.Bodies.{first_context}
 use Rattle.stl_types.specs.Context.{Context, data_number, data_place, in_function}
@@ -105,17 +105,17 @@ own_elementary_short c false spot kind =
 own_short : (c : Context) (name : List ℕ) (steps : List PathStep) → SeenShort (own_variable c name steps)
 own_short c name steps = by (walked_local c.layouts c.block name steps) where
   by : (w : PathEnd) → SeenShort (own_walked c (is_temporary_variable c name) w)
-  by walk.Unknown = tt
-  by walk.Unjudged = tt
-  by (walk.Reaches spot) = at (elementary_at c.layouts spot) where
+  by path_end.Unknown = tt
+  by path_end.Unjudged = tt
+  by (path_end.Reaches spot) = at (elementary_at c.layouts spot) where
     at : (kind : Option Simple) → SeenShort (own_at c (is_temporary_variable c name) spot kind)
     at None = composite_short (slice_get (cells_at c.layouts spot.block spot.temporary) spot.place)
     at (Some kind) = own_elementary_short c (is_temporary_variable c name) spot kind
 
 data_walk_short : (c : Context) (n : ℕ) (w : PathEnd) → SeenShort (data_walked c n w)
-data_walk_short c n walk.Unknown = tt
-data_walk_short c n walk.Unjudged = tt
-data_walk_short c n (walk.Reaches spot) = at (elementary_at c.layouts spot) where
+data_walk_short c n path_end.Unknown = tt
+data_walk_short c n path_end.Unjudged = tt
+data_walk_short c n (path_end.Reaches spot) = at (elementary_at c.layouts spot) where
   at : (kind : Option Simple) → SeenShort (data_at c n spot kind)
   at None = composite_short (slice_get (cells_at c.layouts spot.block spot.temporary) spot.place)
   at (Some kind) = in_area_short kind area.Db n spot.offset

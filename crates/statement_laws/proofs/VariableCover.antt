@@ -33,7 +33,7 @@ use Rattle.block_layout.specs.declared.cells.Element.TheVariants as element
 use Rattle.block_layout.specs.declared.members.Member.{Member}
 use Rattle.block_layout.specs.declared.walks.ComponentAt.{ComponentAt}
 use Rattle.block_layout.specs.declared.walks.PathEnd.{PathEnd}
-use Rattle.block_layout.specs.declared.walks.PathEnd.TheVariants as walk
+use Rattle.block_layout.specs.declared.walks.PathEnd.TheVariants as path_end
 use Rattle.stl_types.specs.Context.{Context, data_number, data_place, in_function, number_of_block}
 use Rattle.stl_types.specs.Forms.{form_of}
 use Rattle.stl_types.specs.Resolution.{resolution_of}
@@ -84,10 +84,10 @@ temporary_spot c spot (Some kind) v r e =
 temporary_end : (c : Context) (end : PathEnd) (v : ResolvedOperand)
     → has_no_name v ≡ false → own_walked c true end ≡ Resolved v
     → There (place_in_layout (place_at_path_end c.layouts area.L 0 end))
-temporary_end c (walk.Reaches spot) v r e =
+temporary_end c (path_end.Reaches spot) v r e =
     temporary_spot c spot (elementary_at c.layouts spot) v r e
-temporary_end c walk.Unknown v r e = absurd cc
-temporary_end c walk.Unjudged v r e = absurd cc
+temporary_end c path_end.Unknown v r e = absurd cc
+temporary_end c path_end.Unjudged v r e = absurd cc
 
 static_spot : (c : Context) (spot : ComponentAt) (o : Option Simple)
     (v : ResolvedOperand) → has_no_name v ≡ false → in_function c ≡ false
@@ -102,16 +102,16 @@ static_spot c spot (Some kind) v r fc e =
 static_end : (c : Context) (end : PathEnd) (v : ResolvedOperand)
     → has_no_name v ≡ false → in_function c ≡ false → own_walked c false end ≡ Resolved v
     → There (place_in_layout (place_at_path_end c.layouts area.Di 0 end))
-static_end c (walk.Reaches spot) v r fc e =
+static_end c (path_end.Reaches spot) v r fc e =
     static_spot c spot (elementary_at c.layouts spot) v r fc e
-static_end c walk.Unknown v r fc e = absurd cc
-static_end c walk.Unjudged v r fc e = absurd cc
+static_end c path_end.Unknown v r fc e = absurd cc
+static_end c path_end.Unjudged v r fc e = absurd cc
 
 end_is_checkable : (c : Context) (temporary : Bool) (end : PathEnd) (v : ResolvedOperand)
     → own_walked c temporary end ≡ Resolved v → is_checkable end ≡ true
-end_is_checkable c temporary (walk.Reaches spot) v e = refl
-end_is_checkable c temporary walk.Unknown v e = absurd cc
-end_is_checkable c temporary walk.Unjudged v e = absurd cc
+end_is_checkable c temporary (path_end.Reaches spot) v e = refl
+end_is_checkable c temporary path_end.Unknown v e = absurd cc
+end_is_checkable c temporary path_end.Unjudged v e = absurd cc
 
 -- a path that is checked, and stays within its arrays, leaves none
 stays : (checkable left : Bool) → checkable ≡ true → not (checkable && left) ≡ true → left ≡ false
@@ -149,21 +149,21 @@ no_bounds (b ∷ bounds) e = absurd (false≢true (sym (grind (arith, nat_tests)
 -- no step leads on from a parameter
 plain_names_none : (l : List BlockLayout) (spot : ComponentAt) (name : List ℕ) (cell : Cell)
     (of : Element) → is_some (plain_kind of) ≡ true
-    → paths.named_in l spot name cell of ≡ walk.Unknown
+    → paths.named_in l spot name cell of ≡ path_end.Unknown
 plain_names_none l spot name cell (element.Plain kind) e = refl
 plain_names_none l spot name cell _ e = absurd (false≢true e)
 
 step_none : (l : List BlockLayout) (spot : ComponentAt) (cell : Cell) (s : PathStep)
     → spot.depth ≡ 0 → is_elementary_component cell ≡ true
     → slice_get (cells_at l spot.block spot.temporary) spot.place ≡ Some cell
-    → path_end_by_step l spot s ≡ walk.Unknown
+    → path_end_by_step l spot s ≡ path_end.Unknown
 unfolding path_end_by_step path_end_by_name path_end_by_index
 step_none l spot cell (step.Named name) d e there =
     ap (paths.named_behind l spot name) there
     ∙ by (nat_eq spot.depth (length cell.bounds))
   where
     by : (b : Bool)
-        → (if b then paths.named_in l spot name cell cell.of else walk.Unknown) ≡ walk.Unknown
+        → (if b then paths.named_in l spot name cell cell.of else path_end.Unknown) ≡ path_end.Unknown
     by true = plain_names_none l spot name cell cell.of ((elementary_parts _ _ e).1)
     by false = refl
 step_none l spot cell (step.Index at) d e there =
@@ -196,13 +196,13 @@ cell_named c place cell there e =
 reached_cell : (c : Context) (m : Member) (offset : ℕ) (sound : Bool) (cell : Cell)
     (steps : List PathStep) (v : ResolvedOperand)
     → slice_get (components_of_block c) (0 + m.place) ≡ Some cell → is_elementary_component cell ≡ true
-    → own_walked c false (paths.path_end_and_then (if sound then walk.Reaches (record {
+    → own_walked c false (paths.path_end_and_then (if sound then path_end.Reaches (record {
       block = c.block;
       temporary = false;
       place = 0 + m.place;
       depth = 0;
       offset = offset;
-    }) else walk.Unjudged) (λ spot. path_end_behind c.layouts spot steps)) ≡ Resolved v
+    }) else path_end.Unjudged) (λ spot. path_end_behind c.layouts spot steps)) ≡ Resolved v
     → There (parameter_named c m.place steps)
 reached_cell c m offset false cell steps v there plain e = absurd cc
 reached_cell c m offset true cell [] v there plain e =
@@ -257,13 +257,13 @@ local_there : (c : Context) (name : List ℕ) (steps : List PathStep)
     (if is_some m then outermost_path_end c.layouts c.block false 0 name
     else outermost_path_end c.layouts c.block true 0 name)
     (λ spot. path_end_behind c.layouts spot steps)
-    else walk.Unjudged) ≡ Resolved v
+    else path_end.Unjudged) ≡ Resolved v
     → not (is_checkable (if is_some (whole_at c.layouts c.block)
     then paths.path_end_and_then
     (if is_some m then outermost_path_end c.layouts c.block false 0 name
     else outermost_path_end c.layouts c.block true 0 name)
     (λ spot. path_end_behind c.layouts spot steps)
-    else walk.Unjudged)
+    else path_end.Unjudged)
     && paths.holds_where_reached
     (if is_some m then outermost_path_end c.layouts c.block false 0 name
     else outermost_path_end c.layouts c.block true 0 name)
@@ -316,10 +316,10 @@ data_spot_there c n spot (Some kind) v r e =
 data_end_there : (c : Context) (n : ℕ) (end : PathEnd) (v : ResolvedOperand)
     → has_no_name v ≡ false → data_walked c n end ≡ Resolved v
     → There (place_in_layout (place_at_path_end c.layouts area.Db n end))
-data_end_there c n (walk.Reaches spot) v r e =
+data_end_there c n (path_end.Reaches spot) v r e =
     data_spot_there c n spot (elementary_at c.layouts spot) v r e
-data_end_there c n walk.Unknown v r e = absurd cc
-data_end_there c n walk.Unjudged v r e = absurd cc
+data_end_there c n path_end.Unknown v r e = absurd cc
+data_end_there c n path_end.Unjudged v r e = absurd cc
 
 -- the block that declares the components of a data block, which a path is walked in
 left_structure : (l : List BlockLayout) (structure : Option ℕ) (steps : List PathStep)

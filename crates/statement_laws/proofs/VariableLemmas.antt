@@ -29,7 +29,7 @@ use Rattle.block_layout.specs.declared.cells.Cell.{Cell}
 use Rattle.block_layout.specs.declared.members.Member.{Member}
 use Rattle.block_layout.specs.declared.walks.ComponentAt.{ComponentAt}
 use Rattle.block_layout.specs.declared.walks.PathEnd.{PathEnd}
-use Rattle.block_layout.specs.declared.walks.PathEnd.TheVariants as walk
+use Rattle.block_layout.specs.declared.walks.PathEnd.TheVariants as path_end
 use Rattle.block_layout.specs.Paths as paths
 use Rattle.stl_types.specs.Addresses.{resolved_address, area_left, area_for_letters}
 use Rattle.stl_types.specs.Context.{Context, data_number, in_function, is_of_function, whole_place}
@@ -62,7 +62,7 @@ inside false o x n = n
 
 -- a path that resolves was walked in a block that breaks no rule as a whole, to this end
 pub walked_in_whole : (c : Context) (temporary b : Bool) (end : PathEnd) (v : ResolvedOperand)
-    → own_walked c temporary (if b then end else walk.Unjudged) ≡ Resolved v
+    → own_walked c temporary (if b then end else path_end.Unjudged) ≡ Resolved v
     → own_walked c temporary end ≡ Resolved v
 walked_in_whole c temporary true end v e = e
 walked_in_whole c temporary false end v e = absurd cc
@@ -79,10 +79,10 @@ temporary_at c spot (Some kind) v x e n =
 temporary_walked : (c : Context) (end : PathEnd) (v : ResolvedOperand) (x : NamedItem)
     → own_walked c true end ≡ Resolved v → place_in_layout (place_at_path_end c.layouts area.L 0 end) ≡ Some x
     → view_named None v ≡ Some x
-temporary_walked c (walk.Reaches spot) v x e n =
+temporary_walked c (path_end.Reaches spot) v x e n =
     temporary_at c spot (elementary_at c.layouts spot) v x e n
-temporary_walked c walk.Unknown v x e n = absurd cc
-temporary_walked c walk.Unjudged v x e n = absurd cc
+temporary_walked c path_end.Unknown v x e n = absurd cc
+temporary_walked c path_end.Unjudged v x e n = absurd cc
 
 -- ---- variables of a function block
 
@@ -98,10 +98,10 @@ static_at c spot (Some kind) v x f e n =
 static_walked : (c : Context) (end : PathEnd) (v : ResolvedOperand) (x : NamedItem)
     → in_function c ≡ false → own_walked c false end ≡ Resolved v
     → place_in_layout (place_at_path_end c.layouts area.Di 0 end) ≡ Some x → view_named None v ≡ Some x
-static_walked c (walk.Reaches spot) v x f e n =
+static_walked c (path_end.Reaches spot) v x f e n =
     static_at c spot (elementary_at c.layouts spot) v x f e n
-static_walked c walk.Unknown v x f e n = absurd cc
-static_walked c walk.Unjudged v x f e n = absurd cc
+static_walked c path_end.Unknown v x f e n = absurd cc
+static_walked c path_end.Unjudged v x f e n = absurd cc
 
 -- ---- parameters of a function
 
@@ -150,13 +150,13 @@ width_same false kind = refl
 -- the cell at the place of a parameter
 cell_found : (c : Context) (m : Member) (offset : ℕ) (sound : Bool) (cell : Cell) (v : ResolvedOperand)
     (x : NamedItem) → in_function c ≡ true → slice_get (components_of_block c) (0 + m.place) ≡ Some cell
-    → own_walked c false (if sound then walk.Reaches (record {
+    → own_walked c false (if sound then path_end.Reaches (record {
       block = c.block;
       temporary = false;
       place = 0 + m.place;
       depth = 0;
       offset = offset;
-    }) else walk.Unjudged) ≡ Resolved v
+    }) else path_end.Unjudged) ≡ Resolved v
     → parameter_named c m.place [] ≡ Some x → view_named None v ≡ Some x
 cell_found c m offset false cell v x f there e n = absurd cc
 cell_found c m offset true cell v x f there e n =
@@ -190,7 +190,7 @@ cell_found c m offset true cell v x f there e n =
 parameter_found : (c : Context) (m : Member) (offset : ℕ) (o : Option Cell) (v : ResolvedOperand)
     (x : NamedItem) → in_function c ≡ true → slice_get (components_of_block c) (0 + m.place) ≡ o
     → own_walked c false
-    (paths.path_end_and_then (paths.path_end_at_cell c.block false (0 + m.place) offset o) (λ spot. walk.Reaches spot))
+    (paths.path_end_and_then (paths.path_end_at_cell c.block false (0 + m.place) offset o) (λ spot. path_end.Reaches spot))
     ≡ Resolved v
     → parameter_named c m.place [] ≡ Some x → view_named None v ≡ Some x
 parameter_found c m offset None v x f there e n = absurd cc
@@ -199,8 +199,8 @@ parameter_found c m offset (Some cell) v x f there e n =
     (sym (ap (own_walked c false) (by cell.sound _)) ∙ e) n
   where
     by : (sound : Bool) (spot : ComponentAt)
-        → paths.path_end_and_then (if sound then walk.Reaches spot else walk.Unjudged) (λ spot. walk.Reaches spot)
-        ≡ (if sound then walk.Reaches spot else walk.Unjudged)
+        → paths.path_end_and_then (if sound then path_end.Reaches spot else path_end.Unjudged) (λ spot. path_end.Reaches spot)
+        ≡ (if sound then path_end.Reaches spot else path_end.Unjudged)
     by true spot = refl
     by false spot = refl
 
@@ -216,7 +216,7 @@ parameter_same c name (s ∷ ss) m v x f there e n = absurd cc
 parameter_same c name [] m v x f there e n =
     parameter_found c m _ (slice_get (components_of_block c) (0 + m.place)) v x f refl
     (sym (ap (λ o. own_walked c false
-    (paths.path_end_and_then (paths.path_end_at_member (components_of_block c) c.block false 0 0 o) (λ spot. walk.Reaches spot)))
+    (paths.path_end_and_then (paths.path_end_at_member (components_of_block c) c.block false 0 0 o) (λ spot. path_end.Reaches spot)))
     there) ∙ e)
     n
 
@@ -234,7 +234,7 @@ local_found : (c : Context) (name : List ℕ) (steps : List PathStep) (m : Optio
     (if is_some m then outermost_path_end c.layouts c.block false 0 name
     else outermost_path_end c.layouts c.block true 0 name)
     (λ spot. path_end_behind c.layouts spot steps)
-    else walk.Unjudged) ≡ Resolved v
+    else path_end.Unjudged) ≡ Resolved v
     → variable_by c name steps m ≡ Some x → view_named None v ≡ Some x
 local_found c name steps None v x there e n =
     temporary_walked c
@@ -286,10 +286,10 @@ data_spot c number spot (Some kind) v x e n =
 data_end : (c : Context) (number : ℕ) (end : PathEnd) (v : ResolvedOperand) (x : NamedItem)
     → data_walked c number end ≡ Resolved v
     → place_in_layout (place_at_path_end c.layouts area.Db number end) ≡ Some x → view_named None v ≡ Some x
-data_end c number (walk.Reaches spot) v x e n =
+data_end c number (path_end.Reaches spot) v x e n =
     data_spot c number spot (elementary_at c.layouts spot) v x e n
-data_end c number walk.Unknown v x e n = absurd cc
-data_end c number walk.Unjudged v x e n = absurd cc
+data_end c number path_end.Unknown v x e n = absurd cc
+data_end c number path_end.Unjudged v x e n = absurd cc
 
 -- the data block at a place of the source
 data_placed : (c : Context) (id : BlockId) (steps : List PathStep) (number place : ℕ)

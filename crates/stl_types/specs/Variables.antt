@@ -16,7 +16,7 @@ use Rattle.block_layout.specs.declared.cells.Element.{Element}
 use Rattle.block_layout.specs.declared.cells.Element.TheVariants as element
 use Rattle.block_layout.specs.declared.walks.ComponentAt.{ComponentAt}
 use Rattle.block_layout.specs.declared.walks.PathEnd.{PathEnd}
-use Rattle.block_layout.specs.declared.walks.PathEnd.TheVariants as walk
+use Rattle.block_layout.specs.declared.walks.PathEnd.TheVariants as path_end
 use Rattle.stl_types.specs.Context.{Context, data_place, data_number, in_function}
 use Rattle.stl_types.specs.declared.views.Resolution.{Resolution}
 use Rattle.stl_types.specs.declared.views.Resolution.TheVariants.{Resolved, Unknown, Unjudged}
@@ -90,10 +90,10 @@ own_at c temporary spot (Some kind) = own_elementary c temporary spot kind
 -- what a path into the block's own variables names, by where it leads; it may be unknown or rest on
 -- what breaks a rule itself
 abbrev pub own_walked : Context → (temporary : Bool) → PathEnd → Resolution
-own_walked c temporary (walk.Reaches spot) =
+own_walked c temporary (path_end.Reaches spot) =
     own_at c temporary spot (elementary_at c.layouts spot)
-own_walked c temporary walk.Unknown = Unknown
-own_walked c temporary walk.Unjudged = Unjudged
+own_walked c temporary path_end.Unknown = Unknown
+own_walked c temporary path_end.Unjudged = Unjudged
 
 -- what a path into the block's own variables names, by its first name and the steps behind it
 abbrev pub own_variable : Context → List ℕ → List PathStep → Resolution
@@ -112,9 +112,9 @@ data_at c number spot (Some kind) =
 -- what a path into the data block with this number names, by where it leads; it may be unknown or
 -- rest on what breaks a rule itself
 abbrev pub data_walked : Context → (number : ℕ) → PathEnd → Resolution
-data_walked c number (walk.Reaches spot) = data_at c number spot (elementary_at c.layouts spot)
-data_walked c number walk.Unknown = Unknown
-data_walked c number walk.Unjudged = Unjudged
+data_walked c number (path_end.Reaches spot) = data_at c number spot (elementary_at c.layouts spot)
+data_walked c number path_end.Unknown = Unknown
+data_walked c number path_end.Unjudged = Unjudged
 
 -- what a path into the data block with this number, at this place, names; without one of the two it
 -- isn't checked

@@ -26,10 +26,10 @@ fn is_unknown(resolution: Resolution) -> bool
     matches!(resolution, Resolution::Unknown)
 }
 
-fn leads_nowhere(walk: PathEnd) -> bool
-    ensures { result ≡ leads_nowhere walk }
+fn leads_nowhere(path_end: PathEnd) -> bool
+    ensures { result ≡ leads_nowhere path_end }
 {
-    matches!(walk, PathEnd::Unknown)
+    matches!(path_end, PathEnd::Unknown)
 }
 
 fn unknown_target(

@@ -143,10 +143,10 @@ impl<'a> Context<'a> {
         }
     }
 
-    fn own_walked(&self, temporary: bool, walk: PathEnd) -> Resolution
-        ensures { result ≡ own_walked self.now temporary walk }
+    fn own_walked(&self, temporary: bool, path_end: PathEnd) -> Resolution
+        ensures { result ≡ own_walked self.now temporary path_end }
     {
-        match walk {
+        match path_end {
             PathEnd::Reaches { spot } => self.own_at(temporary, spot),
             PathEnd::Unknown => Resolution::Unknown,
             PathEnd::Unjudged => Resolution::Unjudged,
@@ -158,8 +158,8 @@ impl<'a> Context<'a> {
     pub(crate) fn own_variable(&self, name: &[u8], path: &Path) -> Resolution
         ensures { result ≡ own_variable self.now name.now path.now }
     {
-        let walk = self.layouts().walk_local(self.block(), name, path);
-        self.own_walked(self.is_temporary(name), walk)
+        let path_end = self.layouts().walk_local(self.block(), name, path);
+        self.own_walked(self.is_temporary(name), path_end)
     }
 
     fn data_at(&self, number: u16, spot: ComponentAt) -> Resolution
@@ -173,10 +173,10 @@ impl<'a> Context<'a> {
         }
     }
 
-    fn data_walked(&self, number: u16, walk: PathEnd) -> Resolution
-        ensures { result ≡ data_walked self.now number walk }
+    fn data_walked(&self, number: u16, path_end: PathEnd) -> Resolution
+        ensures { result ≡ data_walked self.now number path_end }
     {
-        match walk {
+        match path_end {
             PathEnd::Reaches { spot } => self.data_at(number, spot),
             PathEnd::Unknown => Resolution::Unknown,
             PathEnd::Unjudged => Resolution::Unjudged,

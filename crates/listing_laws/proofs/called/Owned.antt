@@ -32,7 +32,7 @@ use Rattle.block_layout.specs.declared.cells.Element.TheVariants as element
 use Rattle.block_layout.specs.declared.members.Member.{Member}
 use Rattle.block_layout.specs.declared.walks.ComponentAt.{ComponentAt}
 use Rattle.block_layout.specs.declared.walks.PathEnd.{PathEnd}
-use Rattle.block_layout.specs.declared.walks.PathEnd.TheVariants as walk
+use Rattle.block_layout.specs.declared.walks.PathEnd.TheVariants as path_end
 use Rattle.stl_types.specs.Addresses.{address_in_block}
 use Rattle.stl_types.specs.Context.{Context, data_number, data_place, in_function}
 use Rattle.stl_types.specs.Parameters.{formal, formal_here, formal_of, formals_of}
@@ -142,7 +142,7 @@ module _ (c : Context) (own : in_function c ≡ true → AllByRecursion IsParame
   -- ---- walks stay in the parameters
 
   abbrev IsHere : PathEnd → Type 0
-  IsHere (walk.Reaches spot) = (spot.block ≡ c.block) × (spot.temporary ≡ false)
+  IsHere (path_end.Reaches spot) = (spot.block ≡ c.block) × (spot.temporary ≡ false)
   IsHere _ = Unit {0}
 
   outermost_here : (name : List ℕ) → IsHere (outermost_path_end c.layouts c.block false 0 name)
@@ -151,7 +151,7 @@ module _ (c : Context) (own : in_function c ≡ true → AllByRecursion IsParame
     where
       at : (place offset : ℕ) (o : Option Cell) → IsHere (path_end_at_cell c.block false place offset o)
       at place offset None = tt
-      at place offset (Some cell) = either_way IsHere cell.sound _ walk.Unjudged (refl, refl) tt
+      at place offset (Some cell) = either_way IsHere cell.sound _ path_end.Unjudged (refl, refl) tt
 
       by : (o : Option Member) → IsHere (path_end_at_member (cells_at c.layouts c.block false) c.block false 0 0 o)
       by None = tt
@@ -181,8 +181,8 @@ module _ (c : Context) (own : in_function c ≡ true → AllByRecursion IsParame
         by None e = tt
         by (Some cell) e =
             let plain = plain_at spot h cell e in
-            subst (λ (x : Element). IsHere (if nat_eq spot.depth (length cell.bounds) then named_in c.layouts spot name cell x else walk.Unknown)) (sym plain.1)
-            (either_way IsHere (nat_eq spot.depth (length cell.bounds)) walk.Unknown walk.Unknown tt tt)
+            subst (λ (x : Element). IsHere (if nat_eq spot.depth (length cell.bounds) then named_in c.layouts spot name cell x else path_end.Unknown)) (sym plain.1)
+            (either_way IsHere (nat_eq spot.depth (length cell.bounds)) path_end.Unknown path_end.Unknown tt tt)
     step_here spot (step.Index i) h = by (slice_get (cells_at c.layouts spot.block spot.temporary) spot.place)
       where
         at : (cell : Cell) (behind : List Cell) (o : Option Bounds) → IsHere (path_end_in_bounds spot cell behind i o)
@@ -199,22 +199,22 @@ module _ (c : Context) (own : in_function c ≡ true → AllByRecursion IsParame
       where
         by : (w : PathEnd) → IsHere w → ((next : ComponentAt) → (next.block ≡ c.block) × (next.temporary ≡ false) → IsHere (path_end_behind c.layouts next ss))
             → IsHere (path_end_and_then w (λ next. path_end_behind c.layouts next ss))
-        by (walk.Reaches next) h more = more next h
-        by walk.Unknown h more = tt
-        by walk.Unjudged h more = tt
+        by (path_end.Reaches next) h more = more next h
+        by path_end.Unknown h more = tt
+        by path_end.Unjudged h more = tt
 
     local_here : (name : List ℕ) (steps : List PathStep) → is_some (component_of_name 0 0 0 name (cells_at c.layouts c.block false)) ≡ true
         → IsHere (walked_local c.layouts c.block name steps)
     unfolding walked_local
     local_here name steps found =
-        either_way IsHere (is_some (whole_at c.layouts c.block)) (path_end_and_then (in_sections c.layouts c.block name) (λ spot. path_end_behind c.layouts spot steps)) walk.Unjudged
+        either_way IsHere (is_some (whole_at c.layouts c.block)) (path_end_and_then (in_sections c.layouts c.block name) (λ spot. path_end_behind c.layouts spot steps)) path_end.Unjudged
         (subst (λ (t : Bool). IsHere (path_end_and_then (if t then outermost_path_end c.layouts c.block false 0 name else outermost_path_end c.layouts c.block true 0 name) (λ spot. path_end_behind c.layouts spot steps)))
         (sym found) (by (outermost_path_end c.layouts c.block false 0 name) (outermost_here name))) tt
       where
         by : (w : PathEnd) → IsHere w → IsHere (path_end_and_then w (λ spot. path_end_behind c.layouts spot steps))
-        by (walk.Reaches spot) h = walked_here spot steps h
-        by walk.Unknown h = tt
-        by walk.Unjudged h = tt
+        by (path_end.Reaches spot) h = walked_here spot steps h
+        by path_end.Unknown h = tt
+        by path_end.Unjudged h = tt
 
     parameter_own : (spot : ComponentAt) (kind : Simple) → (spot.block ≡ c.block) × (spot.temporary ≡ false) → elementary_at c.layouts spot ≡ Some kind
         → SeenOwn (parameter_at c spot kind)
@@ -246,9 +246,9 @@ module _ (c : Context) (own : in_function c ≡ true → AllByRecursion IsParame
             )
 
     function_own : (w : PathEnd) → IsHere w → SeenOwn (own_walked c false w)
-    function_own walk.Unknown h = tt
-    function_own walk.Unjudged h = tt
-    function_own (walk.Reaches spot) h = by (elementary_at c.layouts spot) refl
+    function_own path_end.Unknown h = tt
+    function_own path_end.Unjudged h = tt
+    function_own (path_end.Reaches spot) h = by (elementary_at c.layouts spot) refl
       where
         by : (o : Option Simple) → elementary_at c.layouts spot ≡ o → SeenOwn (own_at c false spot o)
         by None e = composite_own (slice_get (cells_at c.layouts spot.block spot.temporary) spot.place)
@@ -259,18 +259,18 @@ module _ (c : Context) (own : in_function c ≡ true → AllByRecursion IsParame
   -- ---- what is seen
 
   elsewhere_own : (w : PathEnd) → SeenOwn (own_walked c true w)
-  elsewhere_own walk.Unknown = tt
-  elsewhere_own walk.Unjudged = tt
-  elsewhere_own (walk.Reaches spot) = by (elementary_at c.layouts spot)
+  elsewhere_own path_end.Unknown = tt
+  elsewhere_own path_end.Unjudged = tt
+  elsewhere_own (path_end.Reaches spot) = by (elementary_at c.layouts spot)
     where
       by : (o : Option Simple) → SeenOwn (own_at c true spot o)
       by None = composite_own (slice_get (cells_at c.layouts spot.block spot.temporary) spot.place)
       by (Some kind) = in_area_own kind area.L 0 spot.offset
 
   instance_own : in_function c ≡ false → (w : PathEnd) → SeenOwn (own_walked c false w)
-  instance_own other walk.Unknown = tt
-  instance_own other walk.Unjudged = tt
-  instance_own other (walk.Reaches spot) = by (elementary_at c.layouts spot)
+  instance_own other path_end.Unknown = tt
+  instance_own other path_end.Unjudged = tt
+  instance_own other (path_end.Reaches spot) = by (elementary_at c.layouts spot)
     where
       by : (o : Option Simple) → SeenOwn (own_at c false spot o)
       by None = composite_own (slice_get (cells_at c.layouts spot.block spot.temporary) spot.place)
@@ -288,9 +288,9 @@ module _ (c : Context) (own : in_function c ≡ true → AllByRecursion IsParame
       by true found false is = instance_own is (walked_local c.layouts c.block name steps)
 
   data_walk_own : (n : ℕ) (w : PathEnd) → SeenOwn (data_walked c n w)
-  data_walk_own n walk.Unknown = tt
-  data_walk_own n walk.Unjudged = tt
-  data_walk_own n (walk.Reaches spot) = at (elementary_at c.layouts spot)
+  data_walk_own n path_end.Unknown = tt
+  data_walk_own n path_end.Unjudged = tt
+  data_walk_own n (path_end.Reaches spot) = at (elementary_at c.layouts spot)
     where
       at : (kind : Option Simple) → SeenOwn (data_at c n spot kind)
       at None = composite_own (slice_get (cells_at c.layouts spot.block spot.temporary) spot.place)
@@ -381,9 +381,9 @@ no_parameter c other name steps = by (not (is_some (component_of_name 0 0 0 name
         (no_area kind area.Di 0 spot.offset)
 
     by : (temporary : Bool) (w : PathEnd) → NoParameter (own_walked c temporary w)
-    by temporary (walk.Reaches spot) = at temporary spot (elementary_at c.layouts spot)
-    by temporary walk.Unknown = tt
-    by temporary walk.Unjudged = tt
+    by temporary (path_end.Reaches spot) = at temporary spot (elementary_at c.layouts spot)
+    by temporary path_end.Unknown = tt
+    by temporary path_end.Unjudged = tt
 
 pub own_seen : AreOwnSeen
 own_seen c own o index section kind e =

@@ -23,7 +23,7 @@ use Rattle.block_layout.specs.declared.cells.Element.TheVariants.{DateAndTime, P
 use Rattle.block_layout.specs.declared.members.Member.{Member}
 use Rattle.block_layout.specs.declared.walks.ComponentAt.{ComponentAt}
 use Rattle.block_layout.specs.declared.walks.PathEnd.{PathEnd}
-use Rattle.block_layout.specs.declared.walks.PathEnd.TheVariants as walk
+use Rattle.block_layout.specs.declared.walks.PathEnd.TheVariants as path_end
 use Rattle.sem_kept.proofs.accepted.Accepted.{all_mapped}
 use Rattle.block_layout.proofs.OffsetLemmas.{Grows, step_grows}
 
@@ -92,7 +92,7 @@ abbrev pub StartBehind : (low : ℕ) → List ℕ → Type 0
 StartBehind low starts = AllByRecursion (λ s. low ≤ s) starts
 
 abbrev pub LeadsBehind : (low : ℕ) → PathEnd → Type 0
-LeadsBehind low (walk.Reaches spot) = low ≤ spot.offset
+LeadsBehind low (path_end.Reaches spot) = low ≤ spot.offset
 LeadsBehind low _ = Unit {0}
 
 -- cells of which the first begins there
@@ -195,7 +195,7 @@ module _ (low : ℕ) (near : low ≤ largest_size) where
   entered_behind block temporary place offset None h = tt
   entered_behind block temporary place offset (Some c) h = by c.sound
     where
-      by : (t : Bool) → LeadsBehind low (if t then walk.Reaches (record { block = block; temporary = temporary; place = place; depth = 0; offset = offset }) else walk.Unjudged)
+      by : (t : Bool) → LeadsBehind low (if t then path_end.Reaches (record { block = block; temporary = temporary; place = place; depth = 0; offset = offset }) else path_end.Unjudged)
       by true = h
       by false = tt
 
@@ -217,7 +217,7 @@ module _ (low : ℕ) (near : low ≤ largest_size) where
       of_element c DateAndTime = tt
       of_element c Unknown = tt
 
-      whole : (c : Cell) (t : Bool) → LeadsBehind low (if t then named_in l spot name c c.of else walk.Unknown)
+      whole : (c : Cell) (t : Bool) → LeadsBehind low (if t then named_in l spot name c c.of else path_end.Unknown)
       whole c true = of_element c c.of
       whole c false = tt
 
@@ -229,8 +229,8 @@ module _ (low : ℕ) (near : low ≤ largest_size) where
   unfolding path_end_by_index
   index_behind l spot at h = by (slice_get (cells_at l spot.block spot.temporary) spot.place)
     where
-      reaches : (t : Bool) (further : ℕ) → LeadsBehind low (if t then walk.Reaches (record spot { depth = spot.depth + 1 })
-          else walk.Reaches (record spot { depth = spot.depth + 1; offset = capped_size (spot.offset + capped_size further) }))
+      reaches : (t : Bool) (further : ℕ) → LeadsBehind low (if t then path_end.Reaches (record spot { depth = spot.depth + 1 })
+          else path_end.Reaches (record spot { depth = spot.depth + 1; offset = capped_size (spot.offset + capped_size further) }))
       reaches true further = h
       reaches false further = capped_behind (spot.offset + capped_size further) (omega (arith, h))
 
@@ -252,18 +252,18 @@ module _ (low : ℕ) (near : low ≤ largest_size) where
   path_behind l spot (s ∷ ss) h = by (path_end_by_step l spot s) (step_behind l spot s h) (λ next k. path_behind l next ss k)
     where
       by : (e : PathEnd) → LeadsBehind low e → ((next : ComponentAt) → low ≤ next.offset → LeadsBehind low (path_end_behind l next ss)) → LeadsBehind low (path_end_and_then e (λ next. path_end_behind l next ss))
-      by (walk.Reaches next) k more = more next k
-      by walk.Unknown k more = tt
-      by walk.Unjudged k more = tt
+      by (path_end.Reaches next) k more = more next k
+      by path_end.Unknown k more = tt
+      by path_end.Unjudged k more = tt
 
   pub write_behind : (l : List BlockLayout) (value : Literal) (e : PathEnd) → LeadsBehind low e → Behind low (setting_write l value e)
-  write_behind l value (walk.Reaches spot) h = by (elementary_at l spot)
+  write_behind l value (path_end.Reaches spot) h = by (elementary_at l spot)
     where
       by : (o : Option Simple) → Behind low (write_of spot.offset (bits_of value) o)
       by None = tt
       by (Some kind) = (h, tt)
-  write_behind l value walk.Unknown h = tt
-  write_behind l value walk.Unjudged h = tt
+  write_behind l value path_end.Unknown h = tt
+  write_behind l value path_end.Unjudged h = tt
 
   component_behind : (at place : ℕ) (name : List ℕ) (cells : List Cell) (m : Member) → at ≤ largest_size → low ≤ at → component_of_name 0 at place name cells ≡ Some m → low ≤ m.offset
   unfolding component_of_name

@@ -24,7 +24,7 @@ use Rattle.block_layout.specs.declared.cells.Element.TheVariants.{Plain}
 use Rattle.block_layout.specs.declared.members.Member.{Member}
 use Rattle.block_layout.specs.declared.walks.ComponentAt.{ComponentAt}
 use Rattle.block_layout.specs.declared.walks.PathEnd.{PathEnd}
-use Rattle.block_layout.specs.declared.walks.PathEnd.TheVariants as walk
+use Rattle.block_layout.specs.declared.walks.PathEnd.TheVariants as path_end
 use Rattle.block_layout.proofs.AlignmentLemmas.{here_within}
 use Rattle.sem_kept.proofs.accepted.RecordParams.{end_step, found_here, never_less, passed_by, past_behind}
 use Rattle.listing_laws.proofs.declared.Placed.{AreSame, Finds, align, alignment_is, bits_is, finds_later, next, plain_width, stepped_is}
@@ -293,9 +293,9 @@ module _ (l : List BlockLayout) (start : ℕ) (near : 8 * start ≤ largest_size
       cells = cells_at l block false
 
       behind : (e : PathEnd) → LeadsBehind (8 * start) e → AllByRecursion (IsIn ps start) (setting_write l value (path_end_and_then e (λ spot. path_end_behind l spot ss)))
-      behind (walk.Reaches spot) k = all_behind ps start (setting_write l value (path_end_behind l spot ss)) (write_behind (8 * start) near l value (path_end_behind l spot ss) (path_behind (8 * start) near l spot ss k))
-      behind walk.Unknown k = tt
-      behind walk.Unjudged k = tt
+      behind (path_end.Reaches spot) k = all_behind ps start (setting_write l value (path_end_behind l spot ss)) (write_behind (8 * start) near l value (path_end_behind l spot ss) (path_behind (8 * start) near l spot ss k))
+      behind path_end.Unknown k = tt
+      behind path_end.Unjudged k = tt
 
       low : (m : Member) → 8 * start ≤ m.offset → 8 * start ≤ capped_size (0 + capped_size m.offset)
       low m k = omega (arith, near, k)

@@ -13,7 +13,7 @@ use Rattle.block_layout.specs.declared.blocks.BlockLayout.{BlockLayout}
 use Rattle.block_layout.specs.declared.cells.Cell.{Cell}
 use Rattle.block_layout.specs.declared.members.Member.{Member}
 use Rattle.block_layout.specs.declared.walks.ComponentAt.{ComponentAt}
-use Rattle.block_layout.specs.declared.walks.PathEnd.TheVariants as walk
+use Rattle.block_layout.specs.declared.walks.PathEnd.TheVariants as path_end
 use Rattle.sem_kept.proofs.accepted.RecordParams.{never_less}
 
 pub named_here : (at place : ℕ) (name : List ℕ) (c : Cell) (cs : List Cell) → (nat_eq c.level 0 && bytes_eq name c.name) ≡ true
@@ -35,20 +35,20 @@ uncapped : (n : ℕ) → n ≤ largest_size → capped_size (0 + capped_size n) 
 uncapped n h = omega (arith, h)
 
 pub entered_sound : (cells : List Cell) (block place : ℕ) (m : Member) (c : Cell) → m.place ≡ place → slice_get cells place ≡ Some c → c.sound ≡ true → m.offset ≤ largest_size
-    → path_end_at_member cells block false 0 0 (Some m) ≡ walk.Reaches (outer_spot block place m.offset)
+    → path_end_at_member cells block false 0 0 (Some m) ≡ path_end.Reaches (outer_spot block place m.offset)
 entered_sound cells block place m c at there sound few =
     let same : 0 + m.place ≡ place = omega (arith, at) in
     (λ i. path_end_at_cell block false (same i) (uncapped m.offset few i) (slice_get cells (same i)))
     ∙ ap (path_end_at_cell block false place m.offset) there
-    ∙ ap (λ (t : Bool). if t then walk.Reaches (outer_spot block place m.offset) else walk.Unjudged) sound
+    ∙ ap (λ (t : Bool). if t then path_end.Reaches (outer_spot block place m.offset) else path_end.Unjudged) sound
 
 module _ (l : List BlockLayout) (spot : ComponentAt) (c : Cell) (kind : Simple) (there : slice_get (cells_at l spot.block spot.temporary) spot.place ≡ Some c) where
   -- no step leads on behind an elementary component
-  pub no_step : IsElementary c kind → (s : PathStep) → path_end_by_step l spot s ≡ walk.Unknown
+  pub no_step : IsElementary c kind → (s : PathStep) → path_end_by_step l spot s ≡ path_end.Unknown
   unfolding path_end_by_step path_end_by_name path_end_by_index
   no_step h (step.Named name) = ap (named_behind l spot name) there ∙ by (nat_eq spot.depth (length c.bounds))
     where
-      by : (t : Bool) → (if t then named_in l spot name c c.of else walk.Unknown) ≡ walk.Unknown
+      by : (t : Bool) → (if t then named_in l spot name c c.of else path_end.Unknown) ≡ path_end.Unknown
       by true = ap (named_in l spot name c) h.of
       by false = refl
   no_step h (step.Index at) =

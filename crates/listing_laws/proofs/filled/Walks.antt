@@ -20,7 +20,7 @@ use Rattle.block_layout.specs.declared.blocks.BlockLayout.{BlockLayout}
 use Rattle.block_layout.specs.declared.cells.Cell.{Cell}
 use Rattle.block_layout.specs.declared.members.Member.{Member}
 use Rattle.block_layout.specs.declared.walks.ComponentAt.{ComponentAt}
-use Rattle.block_layout.specs.declared.walks.PathEnd.TheVariants as walk
+use Rattle.block_layout.specs.declared.walks.PathEnd.TheVariants as path_end
 use Rattle.stl_types.specs.declared.parameters.Formal.{Formal}
 use Rattle.stl_list.specs.Sections.{static_name}
 use Rattle.block_layout.proofs.AlignmentLemmas.{here_within}
@@ -34,8 +34,8 @@ use Rattle.listing_laws.proofs.filled.Spots.{entered_sound, kind_there, outer_sp
 -- a path of the data block at a place leads to an elementary component so many bits from the start, and leaves no array on the way
 pub record LeadsTo (l : List BlockLayout) (k : ℕ) (path : List PathStep) (offset : ℕ) (kind : Simple) : Type 0 where
   pub spot : ComponentAt
-  pub leads : path_end_in_data_block l k path ≡ walk.Reaches spot
-  pub sets : path_end_of_setting l k path ≡ walk.Reaches spot
+  pub leads : path_end_in_data_block l k path ≡ path_end.Reaches spot
+  pub sets : path_end_of_setting l k path ≡ path_end.Reaches spot
   pub at : spot.offset ≡ offset
   pub of_kind : elementary_at l spot ≡ Some kind
   pub inside : leaves_structure l (setting_structure l k) path ≡ false
@@ -106,7 +106,7 @@ module _ (l : List BlockLayout) (k q : ℕ) (structure : structure_of l k ≡ So
   setting_walk path = ap (λ o. path_end_or_unjudged l o path) setting
 
   name_found : (cells : List Cell) (name : List ℕ) (place offset : ℕ) (c : Cell) → cells_at l q false ≡ cells → component_of_name 0 0 0 name cells ≡ Some (record { place = place; offset = offset })
-      → slice_get cells place ≡ Some c → c.sound ≡ true → offset ≤ largest_size → outermost_path_end l q false 0 name ≡ walk.Reaches (outer_spot q place offset)
+      → slice_get cells place ≡ Some c → c.sound ≡ true → offset ≤ largest_size → outermost_path_end l q false 0 name ≡ path_end.Reaches (outer_spot q place offset)
   unfolding outermost_path_end
   name_found cells name place offset c are found there sound few =
       (λ i. path_end_at_member (are i) q false 0 0 (component_of_name 0 0 0 name (are i))) ∙ ap (path_end_at_member cells q false 0 0) found
@@ -118,7 +118,7 @@ module _ (l : List BlockLayout) (k q : ℕ) (structure : structure_of l k ≡ So
   name_leads cells name place offset c kind are found there is few =
       let out = name_found cells name place offset c are found there is.sound few in
       let path = step.Named name ∷ [] in
-      let walk_is : path_end_in_block l q false path ≡ walk.Reaches (outer_spot q place offset) = ap (λ e. path_end_and_then e (λ spot. path_end_behind l spot [])) out in
+      let walk_is : path_end_in_block l q false path ≡ path_end.Reaches (outer_spot q place offset) = ap (λ e. path_end_and_then e (λ spot. path_end_behind l spot [])) out in
       record {
         spot = outer_spot q place offset;
         leads = data_walk path ∙ walk_is;
@@ -176,14 +176,14 @@ module _ (l : List BlockLayout) (k q : ℕ) (structure : structure_of l k ≡ So
       let here : slice_get own place ≡ Some c = ap (λ z. slice_get z place) are ∙ there in
       let out = name_found cells name place offset c are found there refl (omega (arith, few)) in
       let bounded : is_beyond (record { low = pos 0; high = pos (count - 1) }) (pos i) ≡ false = let low = no_less i in let high = not_above count i less in rw low high in
-      let next : path_end_by_step l spot (step.Index (pos i)) ≡ walk.Reaches (record { block = q; temporary = false; place = place; depth = 1; offset = offset + 8 * i }) =
+      let next : path_end_by_step l spot (step.Index (pos i)) ≡ path_end.Reaches (record { block = q; temporary = false; place = place; depth = 1; offset = offset + 8 * i }) =
       ap (indexed_behind spot own (pos i)) here
-      ∙ ap (λ (t : Bool). if t then walk.Reaches (record spot { depth = spot.depth + 1 })
-      else walk.Reaches (record spot { depth = spot.depth + 1; offset = capped_size (offset + capped_size (unsigned_abs (pos i -ℤ pos 0) * 8)) })) bounded
-      ∙ ap (λ n. walk.Reaches (record { block = q; temporary = false; place = place; depth = 1; offset = capped_size (offset + capped_size (n * 8)) })) (same_index i)
-      ∙ ap (λ n. walk.Reaches (record { block = q; temporary = false; place = place; depth = 1; offset = n })) (index_offset offset i few) in
+      ∙ ap (λ (t : Bool). if t then path_end.Reaches (record spot { depth = spot.depth + 1 })
+      else path_end.Reaches (record spot { depth = spot.depth + 1; offset = capped_size (offset + capped_size (unsigned_abs (pos i -ℤ pos 0) * 8)) })) bounded
+      ∙ ap (λ n. path_end.Reaches (record { block = q; temporary = false; place = place; depth = 1; offset = capped_size (offset + capped_size (n * 8)) })) (same_index i)
+      ∙ ap (λ n. path_end.Reaches (record { block = q; temporary = false; place = place; depth = 1; offset = n })) (index_offset offset i few) in
       let last : ComponentAt = record { block = q; temporary = false; place = place; depth = 1; offset = offset + 8 * i } in
-      let walk_is : path_end_in_block l q false path ≡ walk.Reaches last = ap (λ e. path_end_and_then e (λ z. path_end_behind l z (step.Index (pos i) ∷ []))) out ∙ ap (λ e. path_end_and_then e (λ z. path_end_behind l z [])) next in
+      let walk_is : path_end_in_block l q false path ≡ path_end.Reaches last = ap (λ e. path_end_and_then e (λ z. path_end_behind l z (step.Index (pos i) ∷ []))) out ∙ ap (λ e. path_end_and_then e (λ z. path_end_behind l z [])) next in
       let stays : leaves_array l spot (step.Index (pos i) ∷ []) ≡ false =
       (λ j. (is_beyond_in 0 (here j) (pos i)) || holds_where_reached (next j) (λ z. leaves_array l z [])) ∙ ap (λ (t : Bool). t || false) bounded in
       record {

@@ -57,7 +57,7 @@ use Rattle.block_layout.specs.declared.cells.Element.{Element}
 use Rattle.block_layout.specs.declared.cells.Element.TheVariants as element
 use Rattle.block_layout.specs.declared.walks.ComponentAt.{ComponentAt}
 use Rattle.block_layout.specs.declared.walks.PathEnd.{PathEnd}
-use Rattle.block_layout.specs.declared.walks.PathEnd.TheVariants as walk
+use Rattle.block_layout.specs.declared.walks.PathEnd.TheVariants as path_end
 use Rattle.stl_types.specs.Addresses.{address_in_block}
 use Rattle.stl_types.specs.Bodies.{first_context}
 use Rattle.stl_types.specs.Context.{Context, data_number, data_place, in_function}
@@ -134,17 +134,17 @@ own_elementary_plain c false spot kind =
 own_plain : (c : Context) (name : List ℕ) (steps : List PathStep) → SeenIsNoBit (own_variable c name steps)
 own_plain c name steps = by (walked_local c.layouts c.block name steps) where
   by : (w : PathEnd) → SeenIsNoBit (own_walked c (is_temporary_variable c name) w)
-  by walk.Unknown = tt
-  by walk.Unjudged = tt
-  by (walk.Reaches spot) = at (elementary_at c.layouts spot) where
+  by path_end.Unknown = tt
+  by path_end.Unjudged = tt
+  by (path_end.Reaches spot) = at (elementary_at c.layouts spot) where
     at : (kind : Option Simple) → SeenIsNoBit (own_at c (is_temporary_variable c name) spot kind)
     at None = composite_plain (slice_get (cells_at c.layouts spot.block spot.temporary) spot.place)
     at (Some kind) = own_elementary_plain c (is_temporary_variable c name) spot kind
 
 data_walk_plain : (c : Context) (n : ℕ) (w : PathEnd) → SeenIsNoBit (data_walked c n w)
-data_walk_plain c n walk.Unknown = tt
-data_walk_plain c n walk.Unjudged = tt
-data_walk_plain c n (walk.Reaches spot) = at (elementary_at c.layouts spot) where
+data_walk_plain c n path_end.Unknown = tt
+data_walk_plain c n path_end.Unjudged = tt
+data_walk_plain c n (path_end.Reaches spot) = at (elementary_at c.layouts spot) where
   at : (kind : Option Simple) → SeenIsNoBit (data_at c n spot kind)
   at None = composite_plain (slice_get (cells_at c.layouts spot.block spot.temporary) spot.place)
   at (Some kind) = in_area_plain kind area.Db n spot.offset (λ w. tt)

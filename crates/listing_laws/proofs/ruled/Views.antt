@@ -25,7 +25,7 @@ use Rattle.block_layout.specs.declared.cells.Element.{Element}
 use Rattle.block_layout.specs.declared.cells.Element.TheVariants as element
 use Rattle.block_layout.specs.declared.walks.ComponentAt.{ComponentAt}
 use Rattle.block_layout.specs.declared.walks.PathEnd.{PathEnd}
-use Rattle.block_layout.specs.declared.walks.PathEnd.TheVariants as walk
+use Rattle.block_layout.specs.declared.walks.PathEnd.TheVariants as path_end
 use Rattle.stl_types.specs.Addresses.{address_in_block, area_left, area_for_letters}
 use Rattle.stl_types.specs.Context.{Context, data_number, data_place, in_function}
 use Rattle.stl_types.specs.Resolution.{resolution_of_call, instance_number, resolution_of_opened_block, resolution_of, resolution_of_symbol, target_view, whole_called_block}
@@ -103,18 +103,18 @@ own_spot_seen c listed temporary spot None = composite_seen true listed (slice_g
 own_spot_seen c listed temporary spot (Some kind) = own_seen c listed temporary spot kind
 
 own_walk_seen : (c listed : Context) (temporary : Bool) (end : PathEnd) → IfSeen true listed (own_walked c temporary end)
-own_walk_seen c listed temporary (walk.Reaches spot) = own_spot_seen c listed temporary spot (elementary_at c.layouts spot)
-own_walk_seen c listed temporary walk.Unknown = tt
-own_walk_seen c listed temporary walk.Unjudged = tt
+own_walk_seen c listed temporary (path_end.Reaches spot) = own_spot_seen c listed temporary spot (elementary_at c.layouts spot)
+own_walk_seen c listed temporary path_end.Unknown = tt
+own_walk_seen c listed temporary path_end.Unjudged = tt
 
 data_spot_seen : (c listed : Context) (n : ℕ) (spot : ComponentAt) (kind : Option Simple) → IsOpenedAgain listed (Some n) → IfSeen false listed (data_at c n spot kind)
 data_spot_seen c listed n spot None h = composite_seen false listed (slice_get (cells_at c.layouts spot.block spot.temporary) spot.place)
 data_spot_seen c listed n spot (Some kind) h = area_seen false listed area.Db n spot.offset kind (opened_place listed (not (nat_eq n 0)) n h)
 
 data_walk_seen : (c listed : Context) (n : ℕ) (end : PathEnd) → IsOpenedAgain listed (Some n) → IfSeen false listed (data_walked c n end)
-data_walk_seen c listed n (walk.Reaches spot) h = data_spot_seen c listed n spot (elementary_at c.layouts spot) h
-data_walk_seen c listed n walk.Unknown h = tt
-data_walk_seen c listed n walk.Unjudged h = tt
+data_walk_seen c listed n (path_end.Reaches spot) h = data_spot_seen c listed n spot (elementary_at c.layouts spot) h
+data_walk_seen c listed n path_end.Unknown h = tt
+data_walk_seen c listed n path_end.Unjudged h = tt
 
 data_path_seen : (c listed : Context) (steps : List PathStep) (number block : Option ℕ) → IsOpenedAgain listed number → IfSeen false listed (data_path c steps number block)
 data_path_seen c listed steps (Some n) (Some block) h = data_walk_seen c listed n (path_end_in_data_block c.layouts block steps) h

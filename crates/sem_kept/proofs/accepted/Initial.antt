@@ -51,7 +51,7 @@ use Rattle.block_layout.specs.declared.cells.Element.TheVariants.{Plain, Structu
 use Rattle.block_layout.specs.declared.cells.Preset.{Preset}
 use Rattle.block_layout.specs.declared.walks.ComponentAt.{ComponentAt}
 use Rattle.block_layout.specs.declared.walks.PathEnd.{PathEnd}
-use Rattle.block_layout.specs.declared.walks.PathEnd.TheVariants as walk
+use Rattle.block_layout.specs.declared.walks.PathEnd.TheVariants as path_end
 use Rattle.stl_types.specs.Unknown.{leads_nowhere, sets_unknown}
 use Rattle.sem_kept.specs.Accepted.{IsAccepted}
 use Rattle.sem_kept.specs.Coded.{BlockHasBytes, DeclarationHasBytes, HasBytes, InitHasBytes, PartHasBytes, SettingHasBytes}
@@ -583,9 +583,9 @@ module _ (l : List BlockLayout) (limit k inside : ℕ) (right : AreRight l) (nea
 
       by : (w : PathEnd) → Goes l limit w → misfits_component l s.value w ≡ false
           → AllByRecursion (IsKept limit) (setting_write l s.value w)
-      by (walk.Reaches spot) lies f = written spot lies (elementary_at l spot) refl f
-      by walk.Unknown lies f = tt
-      by walk.Unjudged lies f = tt
+      by (path_end.Reaches spot) lies f = written spot lies (elementary_at l spot) refl f
+      by path_end.Unknown lies f = tt
+      by path_end.Unjudged lies f = tt
 
   settings_kept : (ss : List Setting) → AllByRecursion (λ s. IsLiteral s.value) ss
       → AllByRecursion SettingHasBytes ss → AllByRecursion (λ s. setting_misfits l k s ≡ false) ss
@@ -615,9 +615,9 @@ module _ (l : List BlockLayout) (limit k inside : ℕ) (right : AreRight l) (nea
 
       by : (w : PathEnd) → Goes l limit w → misfits_component l s.value w ≡ false → leads_nowhere w ≡ false
           → (x : Write) × (setting_write l s.value w ≡ x ∷ [])
-      by (walk.Reaches spot) lies f e = written spot.offset (elementary_at l spot) f
-      by walk.Unknown lies f e = absurd cc
-      by walk.Unjudged lies f e = absurd lies
+      by (path_end.Reaches spot) lies f e = written spot.offset (elementary_at l spot) f
+      by path_end.Unknown lies f e = absurd cc
+      by path_end.Unjudged lies f e = absurd lies
 
   settings_set : (ss : List Setting) → AllByRecursion (λ s. setting_misfits l k s ≡ false) ss
       → AllByRecursion (λ s. setting_is_outside l k s ≡ false) ss
