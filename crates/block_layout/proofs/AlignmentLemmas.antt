@@ -284,7 +284,7 @@ component_found all level at p (c ∷ cs) name m e near found =
         here false is h =
             subst (λ (n : ℕ). IsFound all n m) (sym (end_step level at c cs stays)) (more h)
 
--- ---- spots
+-- ---- components that a path reaches
 
 -- each cell is sound, and each data type that one is of takes the bits that its own cells take
 abbrev pub IsSettled : List BlockLayout → Element → Type 0
@@ -299,7 +299,7 @@ abbrev pub AreRight : List BlockLayout → Type 0
 AreRight l = (block place : ℕ) (temporary : Bool) (c : Cell)
     → slice_get (cells_at l block temporary) place ≡ Some c → IsRightCell l c
 
--- what a spot leaves lies within a limit, at a place that meets its alignment
+-- a component with the indices that it has lies within a limit, at a place that meets its alignment
 pub record Lies (l : List BlockLayout) (limit : ℕ) (s : ComponentAt) : Type 0 where
   pub cell : Cell
   pub there : slice_get (cells_at l s.block s.temporary) s.place ≡ Some cell
@@ -380,8 +380,8 @@ found_lies l limit right block temporary level first offset name even near fits 
                     → limit < largest_size → capped_size (offset + capped_size more) ≡ offset + more
                 fit offset more size end limit a b c = omega (arith, a, b, c)
 
-            spot : ComponentAt
-            spot = record {
+            component : ComponentAt
+            component = record {
               block = block;
               temporary = temporary;
               place = first + m.place;
@@ -389,7 +389,7 @@ found_lies l limit right block temporary level first offset name even near fits 
               offset = capped_size (offset + capped_size m.offset);
             }
 
-            lies : Lies l limit spot
+            lies : Lies l limit component
             lies = record {
               cell = f.cell;
               there = there;
@@ -403,7 +403,7 @@ found_lies l limit right block temporary level first offset name even near fits 
             }
 
             whether : (sound : Bool) → sound ≡ true
-                → Goes l limit (if sound then path_end.Reaches spot else path_end.Unjudged)
+                → Goes l limit (if sound then path_end.Reaches component else path_end.Unjudged)
             whether true e = lies
             whether false e = absurd cc
 

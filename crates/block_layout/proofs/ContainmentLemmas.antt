@@ -268,16 +268,16 @@ module _ (l : List BlockLayout) (limit : ℕ) (right : AreRight l) (near : limit
           (drop_of_length-le h.cell.bounds (let least : length h.cell.bounds ≤ s.depth = omega (arith, same) in least))
       by false e = tt
 
-  -- the spot of an element
-  abbrev element_spot : (s : ComponentAt) (c : Cell) (behind : List Cell) (k : ℕ) → ComponentAt
-  element_spot s c behind k = record s {
+  -- an element of an array, as a component that a path reaches
+  abbrev indexed_component : (s : ComponentAt) (c : Cell) (behind : List Cell) (k : ℕ) → ComponentAt
+  indexed_component s c behind k = record s {
     depth = s.depth + 1;
     offset = capped_size (s.offset + capped_size (k * array_bits (drop (s.depth + 1) c.bounds) (element_of c behind)));
   }
 
   element_lies : (s : ComponentAt) (h : Lies l limit s) (b : Bounds) (k : ℕ)
       → slice_get h.cell.bounds s.depth ≡ Some b → k < element_count b
-      → Lies l limit (element_spot s h.cell (drop (s.place + 1) (cells_at l s.block s.temporary)) k)
+      → Lies l limit (indexed_component s h.cell (drop (s.place + 1) (cells_at l s.block s.temporary)) k)
   element_lies s h b k there counts = record {
     cell = h.cell;
     there = h.there;
@@ -322,7 +322,7 @@ module _ (l : List BlockLayout) (limit : ℕ) (right : AreRight l) (near : limit
   within_goes s h at None e inside = tt
   within_goes s h at (Some b) e inside =
       subst (λ (t : Bool). Goes l limit (if t then path_end.Reaches (record s { depth = s.depth + 1 })
-      else path_end.Reaches (element_spot s h.cell (drop (s.place + 1) (cells_at l s.block s.temporary))
+      else path_end.Reaches (indexed_component s h.cell (drop (s.place + 1) (cells_at l s.block s.temporary))
       (unsigned_abs (at -ℤ b.low))))) (sym inside)
       (element_lies s h b (unsigned_abs (at -ℤ b.low)) e (index_counts b at inside))
 

@@ -21,12 +21,12 @@ got [] i c e = refl
 got (x ∷ xs) zero c e = cc
 got (x ∷ xs) (suc i) c e = got xs i c e
 
-pub named_structure : (l : List BlockLayout) (spot : ComponentAt) (name : List ℕ) (c : Cell) (cells : List Cell) (found : Option Member) (r : PathEnd) → cells ≡ cells_at l spot.block spot.temporary →
-    slice_get cells spot.place ≡ Some c → ((d : Cell) → found ≡ component_of_name ((get_or cells spot.place d).level + 1) 0 0 name (drop (spot.place + 1) cells)) →
-    r ≡ path_end_at_member cells spot.block spot.temporary (spot.place + 1) spot.offset found → c.of ≡ Structure → r ≡ named_in l spot name c c.of
-named_structure l spot name c cells found r are there is_found is_r is_structure =
-    let found_is : found ≡ component_of_name (c.level + 1) 0 0 name (drop (spot.place + 1) cells) =
-    is_found c ∙ ap (λ (x : Cell). component_of_name (x.level + 1) 0 0 name (drop (spot.place + 1) cells)) (got cells spot.place c there) in
+pub named_structure : (l : List BlockLayout) (component : ComponentAt) (name : List ℕ) (c : Cell) (cells : List Cell) (found : Option Member) (r : PathEnd) → cells ≡ cells_at l component.block component.temporary →
+    slice_get cells component.place ≡ Some c → ((d : Cell) → found ≡ component_of_name ((get_or cells component.place d).level + 1) 0 0 name (drop (component.place + 1) cells)) →
+    r ≡ path_end_at_member cells component.block component.temporary (component.place + 1) component.offset found → c.of ≡ Structure → r ≡ named_in l component name c c.of
+named_structure l component name c cells found r are there is_found is_r is_structure =
+    let found_is : found ≡ component_of_name (c.level + 1) 0 0 name (drop (component.place + 1) cells) =
+    is_found c ∙ ap (λ (x : Cell). component_of_name (x.level + 1) 0 0 name (drop (component.place + 1) cells)) (got cells component.place c there) in
     rw is_structure
-    (is_r ∙ ap (λ (m : Option Member). path_end_at_member cells spot.block spot.temporary (spot.place + 1) spot.offset m) found_is
-    ∙ ap (λ (l : List Cell). path_end_at_member l spot.block spot.temporary (spot.place + 1) spot.offset (component_of_name (c.level + 1) 0 0 name (drop (spot.place + 1) l))) are)
+    (is_r ∙ ap (λ (m : Option Member). path_end_at_member cells component.block component.temporary (component.place + 1) component.offset m) found_is
+    ∙ ap (λ (l : List Cell). path_end_at_member l component.block component.temporary (component.place + 1) component.offset (component_of_name (c.level + 1) 0 0 name (drop (component.place + 1) l))) are)

@@ -133,13 +133,13 @@ module _ (l : List BlockLayout) where
     abbrev cells : List Cell
     cells = cells_at l block temporary
 
-    abbrev spot : Member → ComponentAt
-    spot m = record { block = block; temporary = temporary; place = first + m.place; depth = 0; offset = capped_size (begin + capped_size m.offset) }
+    abbrev component : Member → ComponentAt
+    component m = record { block = block; temporary = temporary; place = first + m.place; depth = 0; offset = capped_size (begin + capped_size m.offset) }
 
     abbrev Leads : Type 0
     Leads = NamesComponent l block temporary first level begin name to × (begin < largest_size)
 
-    leads_there : (m : Member) → component_of_name level 0 0 name (drop first cells) ≡ Some m → (c : Cell) → slice_get cells (first + m.place) ≡ Some c → c.sound ≡ true → spot m ≡ to → Leads
+    leads_there : (m : Member) → component_of_name level 0 0 name (drop first cells) ≡ Some m → (c : Cell) → slice_get cells (first + m.place) ≡ Some c → c.sound ≡ true → component m ≡ to → Leads
     leads_there m is c there sound e =
         let sum = exact_sum begin m.offset to.offset (ap (λ (s : ComponentAt). s.offset) (sym e)) near in
         let lies = lies_found level 0 0 name (drop first cells) m is sum.small in
@@ -163,8 +163,8 @@ module _ (l : List BlockLayout) where
     leads_entered m is None there e = absurd cc
     leads_entered m is (Some c) there e = by c.sound refl e
       where
-        by : (t : Bool) → c.sound ≡ t → (if t then path_end.Reaches (spot m) else path_end.Unjudged) ≡ path_end.Reaches to → Leads
-        by true sound k = leads_there m is c there sound (reaches_same (spot m) to k)
+        by : (t : Bool) → c.sound ≡ t → (if t then path_end.Reaches (component m) else path_end.Unjudged) ≡ path_end.Reaches to → Leads
+        by true sound k = leads_there m is c there sound (reaches_same (component m) to k)
         by false sound k = absurd cc
 
     leads_found : (o : Option Member) → component_of_name level 0 0 name (drop first cells) ≡ o → path_end_at_member cells block temporary first begin o ≡ path_end.Reaches to → Leads
@@ -290,7 +290,7 @@ module _ (l : List BlockLayout) where
   -- ---- a place
 
   -- what a place is of
-  record IsSpotAt (w : PathEnd) (place : Place) (width : Width) : Type 0 where
+  record IsPlaceOfComponent (w : PathEnd) (place : Place) (width : Width) : Type 0 where
     to : ComponentAt
     there : w ≡ path_end.Reaches to
     near : to.offset < largest_size
@@ -299,10 +299,10 @@ module _ (l : List BlockLayout) where
     elementary : elementary_at l to ≡ Some kind
     wide : width ≡ width_of kind
 
-  spot_at : (a : Area) (number : ℕ) (w : PathEnd) (place : Place) (width : Width) → place_at_path_end l a number w ≡ Some (place, width) → IsSpotAt w place width
-  spot_at a number path_end.Unknown place width e = absurd cc
-  spot_at a number path_end.Unjudged place width e = absurd cc
-  spot_at a number (path_end.Reaches to) place width e = by (elementary_at l to) refl e
+  component_of_place : (a : Area) (number : ℕ) (w : PathEnd) (place : Place) (width : Width) → place_at_path_end l a number w ≡ Some (place, width) → IsPlaceOfComponent w place width
+  component_of_place a number path_end.Unknown place width e = absurd cc
+  component_of_place a number path_end.Unjudged place width e = absurd cc
+  component_of_place a number (path_end.Reaches to) place width e = by (elementary_at l to) refl e
     where
       pair_same : (x y : Place × Width) → Some x ≡ Some y → x ≡ y
       pair_same x y k = cc
@@ -311,7 +311,7 @@ module _ (l : List BlockLayout) where
       here kind = (place_at a number to.offset, width_of kind)
 
       low : (kind : Simple) → elementary_at l to ≡ Some kind → (t : Bool) → nat_le (to.offset / 8) 65535 ≡ t →
-          (if t then Some (here kind) else None) ≡ Some (place, width) → IsSpotAt (path_end.Reaches to) place width
+          (if t then Some (here kind) else None) ≡ Some (place, width) → IsPlaceOfComponent (path_end.Reaches to) place width
       low kind is true near k =
           let same = pair_same (here kind) (place, width) k in
           let bytes : place.byte ≡ to.offset / 8 = ap (λ (p : Place × Width). p.0.byte) (sym same) in
@@ -328,13 +328,13 @@ module _ (l : List BlockLayout) where
           }
       low kind is false near k = absurd cc
 
-      by : (o : Option Simple) → elementary_at l to ≡ o → elementary_place a number to.offset o ≡ Some (place, width) → IsSpotAt (path_end.Reaches to) place width
+      by : (o : Option Simple) → elementary_at l to ≡ o → elementary_place a number to.offset o ≡ Some (place, width) → IsPlaceOfComponent (path_end.Reaches to) place width
       by None is k = absurd cc
       by (Some kind) is k = low kind is (nat_le (to.offset / 8) 65535) refl k
 
   module _ (id : BlockId) (path : List PathStep) (place : Place) (width : Width) (block : ℕ) (known : option_and_then (if_whole l) (known_block id (map (λ b. b.id) l)) ≡ Some block) where
     led : (s : Section) (inside : ℕ) → declaring_block l s block ≡ Some inside → leaves_from l inside (is_temporary s) path ≡ false →
-        IsSpotAt (path_end_in_block l inside (is_temporary s) path) place width → LeadsToPlace l id s path place width
+        IsPlaceOfComponent (path_end_in_block l inside (is_temporary s) path) place width → LeadsToPlace l id s path place width
     led s inside declared stays at = record {
       block = block;
       known = known;
@@ -359,7 +359,7 @@ module _ (l : List BlockLayout) where
     led_variable : (s : Section) (a : Area) → declaring_block l s block ≡ Some block → variable_place l a block (is_temporary s) path ≡ Some (place, width) → LeadsToPlace l id s path place width
     led_variable s a declared e =
         let r = if_let (leaves_from l block (is_temporary s) path) (place_at_path_end l a 0 (path_end_in_block l block (is_temporary s) path)) e in
-        led s block declared r.0 (spot_at a 0 (path_end_in_block l block (is_temporary s) path) place width r.1)
+        led s block declared r.0 (component_of_place a 0 (path_end_in_block l block (is_temporary s) path) place width r.1)
 
     checkable_stays : (w : PathEnd) (to : ComponentAt) (b : Bool) → w ≡ path_end.Reaches to → (is_checkable w && b) ≡ false → b ≡ false
     checkable_stays (path_end.Reaches s) to b is e = e
@@ -376,7 +376,7 @@ module _ (l : List BlockLayout) where
             LeadsToPlace l id section.Global path place width
         by None is stays k = absurd cc
         by (Some inside) is stays k =
-            let at = spot_at area.Db id.number (path_end_in_block l inside false path) place width k in
+            let at = component_of_place area.Db id.number (path_end_in_block l inside false path) place width k in
             led section.Global inside is (checkable_stays (path_end_in_block l inside false path) at.to (leaves_from l inside false path) at.there stays) at
 
     led_in : (s : Section) → place_in_section l id s path block ≡ Some (place, width) → LeadsToPlace l id s path place width

@@ -115,8 +115,8 @@ write_of offset value (Some kind) =
 
 -- the write of a setting, by where its path leads: none where that is no elementary component
 abbrev pub setting_write : List BlockLayout → Literal → PathEnd → List Write
-setting_write l value (path_end.Reaches spot) =
-    write_of spot.offset (bits_of value) (elementary_at l spot)
+setting_write l value (path_end.Reaches component) =
+    write_of component.offset (bits_of value) (elementary_at l component)
 setting_write l value _ = []
 
 -- the writes of the settings of the data block at this place, in the order of the text

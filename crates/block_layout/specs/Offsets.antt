@@ -46,8 +46,8 @@ elementary_place a number bits (Some kind) =
 -- component, or to one of another type
 abbrev pub place_at_path_end : List BlockLayout → Area → (number : ℕ) → PathEnd
     → Option (Place × Width)
-place_at_path_end l a number (path_end.Reaches spot) =
-    elementary_place a number spot.offset (elementary_at l spot)
+place_at_path_end l a number (path_end.Reaches component) =
+    elementary_place a number component.offset (elementary_at l component)
 place_at_path_end l a number _ = None
 
 -- place and width of an elementary component of a data block, in that block; none where an index is

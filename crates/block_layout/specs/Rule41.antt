@@ -29,7 +29,8 @@ fits_kind value (Some kind) = fits_elementary_type value kind
 
 -- only a path that leads to a component is checked by its value
 abbrev pub misfits_component : List BlockLayout → Literal → PathEnd → Bool
-misfits_component l value (path_end.Reaches spot) = not (fits_kind value (elementary_at l spot))
+misfits_component l value (path_end.Reaches component) =
+    not (fits_kind value (elementary_at l component))
 misfits_component l value _ = false
 
 -- the value of a setting doesn't fit the component that its path leads to

@@ -51,9 +51,9 @@ fn reached(
     ensures { result ≡ place_at_path_end layouts.now area number path_end }
 {
     match path_end {
-        PathEnd::Reaches { spot } => {
-            let kind = elementary_at(layouts, spot)?;
-            placed(area, number, spot.offset, kind)
+        PathEnd::Reaches { component } => {
+            let kind = elementary_at(layouts, component)?;
+            placed(area, number, component.offset, kind)
         }
         _ => None,
     }

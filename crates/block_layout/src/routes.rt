@@ -149,10 +149,10 @@ fn plain_kind(of: Element) -> Option<Simple>
     }
 }
 
-fn kind_of(spot: ComponentAt, cell: &Cell) -> Option<Simple>
-    ensures { result ≡ kind_of spot (Some cell.now) }
+fn kind_of(component: ComponentAt, cell: &Cell) -> Option<Simple>
+    ensures { result ≡ kind_of component (Some cell.now) }
 {
-    if is_used_up(cell, spot.depth) {
+    if is_used_up(cell, component.depth) {
         plain_kind(cell.of)
     } else {
         None
@@ -160,10 +160,10 @@ fn kind_of(spot: ComponentAt, cell: &Cell) -> Option<Simple>
 }
 
 /// The elementary type of the component that a path reaches.
-pub(crate) fn elementary_at(layouts: &[BlockLayout], spot: ComponentAt) -> Option<Simple>
-    ensures { result ≡ elementary_at layouts.now spot }
+pub(crate) fn elementary_at(layouts: &[BlockLayout], component: ComponentAt) -> Option<Simple>
+    ensures { result ≡ elementary_at layouts.now component }
 {
-    let layout = layout_at(layouts, spot.block, spot.temporary)?;
-    let cell = layout.cell_at(spot.place)?;
-    kind_of(spot, cell)
+    let layout = layout_at(layouts, component.block, component.temporary)?;
+    let cell = layout.cell_at(component.place)?;
+    kind_of(component, cell)
 }

@@ -72,17 +72,17 @@ pub own_reached : (P : ℕ → Type 0) → P 0 → (c : Context) (temporary : Bo
     → IsReached P (own_walked c temporary w)
 own_reached P h c temporary path_end.Unknown = tt
 own_reached P h c temporary path_end.Unjudged = tt
-own_reached P h c temporary (path_end.Reaches spot) = by (elementary_at c.layouts spot)
+own_reached P h c temporary (path_end.Reaches component) = by (elementary_at c.layouts component)
   where
     elementary : (temporary function : Bool) (kind : Simple)
-        → IsReached P (if temporary then variable_in_area kind (elementary_place area.L 0 spot.offset (Some kind))
-        else if function then parameter_at c spot kind
-        else variable_in_area kind (elementary_place area.Di 0 spot.offset (Some kind)))
-    elementary true function kind = area_reached P area.L 0 spot.offset kind h
+        → IsReached P (if temporary then variable_in_area kind (elementary_place area.L 0 component.offset (Some kind))
+        else if function then parameter_at c component kind
+        else variable_in_area kind (elementary_place area.Di 0 component.offset (Some kind)))
+    elementary true function kind = area_reached P area.L 0 component.offset kind h
     elementary false true kind = parameter_reached P _ kind _
-    elementary false false kind = area_reached P area.Di 0 spot.offset kind h
+    elementary false false kind = area_reached P area.Di 0 component.offset kind h
 
-    by : (o : Option Simple) → IsReached P (own_at c temporary spot o)
+    by : (o : Option Simple) → IsReached P (own_at c temporary component o)
     by None = composite_reached P _
     by (Some kind) = elementary temporary (in_function c) kind
 
@@ -90,11 +90,11 @@ data_reached : (P : ℕ → Type 0) (c : Context) (number : ℕ) → P number �
     → IsReached P (data_walked c number w)
 data_reached P c number h path_end.Unknown = tt
 data_reached P c number h path_end.Unjudged = tt
-data_reached P c number h (path_end.Reaches spot) = by (elementary_at c.layouts spot)
+data_reached P c number h (path_end.Reaches component) = by (elementary_at c.layouts component)
   where
-    by : (o : Option Simple) → IsReached P (data_at c number spot o)
+    by : (o : Option Simple) → IsReached P (data_at c number component o)
     by None = composite_reached P _
-    by (Some kind) = area_reached P area.Db number spot.offset kind h
+    by (Some kind) = area_reached P area.Db number component.offset kind h
 
 pub data_path_reached : (c : Context) (steps : List PathStep) (number place : Option ℕ)
     → IsReached AnyNumber (data_path c steps number place)

@@ -399,8 +399,8 @@ fn path_behind_a_name(rt: HostRuntime) -> Result<(), Fail> {
     is_fourth(&rt, path.steps())
 }
 
-/// A path with the place, the depth and the offset of the spot that it reaches, and the name and the
-/// elementary type of what is there.
+/// A path with the place, the depth and the offset of the component that it reaches, and the name and
+/// the elementary type of its declaration.
 type Row = (
     &'static [Step],
     usize,
@@ -441,16 +441,16 @@ fn reaches(
     row: &Row,
 ) {
     let (path, place, depth, offset, name, kind) = row;
-    let spot = ComponentAt {
+    let component = ComponentAt {
         block,
         temporary,
         place: *place,
         depth: *depth,
         offset: *offset,
     };
-    same(rt, *path, walk, PathEnd::Reaches { spot });
-    same(rt, *path, layouts.elementary_at(spot), *kind);
-    let cell = layouts.cell_at(spot).map(|cell| cell.name.as_bytes());
+    same(rt, *path, walk, PathEnd::Reaches { component });
+    same(rt, *path, layouts.elementary_at(component), *kind);
+    let cell = layouts.cell_at(component).map(|cell| cell.name.as_bytes());
     same(rt, *path, cell, Some(*name));
 }
 

@@ -130,8 +130,8 @@ IsBare (operand.Named (head.Local name) steps) = steps ≡ []
 IsBare (operand.Named _ steps) = ⊥
 IsBare _ = Unit {0}
 
-no_further : (end : PathEnd) → holds_where_reached end (λ spot. false) ≡ false
-no_further (path_end.Reaches spot) = refl
+no_further : (end : PathEnd) → holds_where_reached end (λ component. false) ≡ false
+no_further (path_end.Reaches component) = refl
 no_further path_end.Unknown = refl
 no_further path_end.Unjudged = refl
 
@@ -142,7 +142,7 @@ and_false false b e = refl
 pub bare_inside : (y : Types) (c : Context) (o : Operand) → IsBare o → operand_is_outside y c.layouts c.block o ≡ false
 bare_inside y c (operand.Named (head.Local name) steps) h =
     ap (λ (p : List PathStep). operand_is_outside y c.layouts c.block (operand.Named (head.Local name) p)) h
-    ∙ and_false (is_checkable (walked_local c.layouts c.block (upper_case_name name) [])) (holds_where_reached (in_sections c.layouts c.block (upper_case_name name)) (λ spot. false)) (no_further (in_sections c.layouts c.block (upper_case_name name)))
+    ∙ and_false (is_checkable (walked_local c.layouts c.block (upper_case_name name) [])) (holds_where_reached (in_sections c.layouts c.block (upper_case_name name)) (λ component. false)) (no_further (in_sections c.layouts c.block (upper_case_name name)))
 bare_inside y c (operand.Named (head.InBlock name) steps) h = absurd h
 bare_inside y c (operand.Named (head.Symbol name) steps) h = absurd h
 bare_inside y c _ h = refl

@@ -567,15 +567,15 @@ module _ (l : List BlockLayout) (limit k inside : ℕ) (right : AreRight l) (nea
       (ap (λ (o : Option ℕ). leaves_structure l o (folded_path s.path)) (sym same) ∙ stays))
       (ap (misfits_component l s.value) (sym (walks_as (folded_path s.path))) ∙ fit)
     where
-      written : (spot : ComponentAt) → Lies l limit spot → (o : Option Simple) → elementary_at l spot ≡ o
+      written : (component : ComponentAt) → Lies l limit component → (o : Option Simple) → elementary_at l component ≡ o
           → not (fits_kind s.value o) ≡ false
-          → AllByRecursion (IsKept limit) (write_of spot.offset (bits_of s.value) o)
-      written spot lies None e f = tt
-      written spot lies (Some kind) e f =
-          let place = reached_place l limit spot kind lies e in (
+          → AllByRecursion (IsKept limit) (write_of component.offset (bits_of s.value) o)
+      written component lies None e f = tt
+      written component lies (Some kind) e f =
+          let place = reached_place l limit component kind lies e in (
             record {
               within = place.within;
-              begins = kind_begins spot.offset kind place.even;
+              begins = kind_begins component.offset kind place.even;
               fits = value_fits s.value kind literal has (not_not (fits_elementary_type s.value kind) f);
             },
             tt,
@@ -583,7 +583,7 @@ module _ (l : List BlockLayout) (limit k inside : ℕ) (right : AreRight l) (nea
 
       by : (w : PathEnd) → Goes l limit w → misfits_component l s.value w ≡ false
           → AllByRecursion (IsKept limit) (setting_write l s.value w)
-      by (path_end.Reaches spot) lies f = written spot lies (elementary_at l spot) refl f
+      by (path_end.Reaches component) lies f = written component lies (elementary_at l component) refl f
       by path_end.Unknown lies f = tt
       by path_end.Unjudged lies f = tt
 
@@ -615,7 +615,7 @@ module _ (l : List BlockLayout) (limit k inside : ℕ) (right : AreRight l) (nea
 
       by : (w : PathEnd) → Goes l limit w → misfits_component l s.value w ≡ false → leads_nowhere w ≡ false
           → (x : Write) × (setting_write l s.value w ≡ x ∷ [])
-      by (path_end.Reaches spot) lies f e = written spot.offset (elementary_at l spot) f
+      by (path_end.Reaches component) lies f e = written component.offset (elementary_at l component) f
       by path_end.Unknown lies f e = absurd cc
       by path_end.Unjudged lies f e = absurd lies
 

@@ -62,7 +62,7 @@ plain_of : (e : Element) (kind : Simple) → plain_kind e ≡ Some kind → e �
 plain_of (Plain k) kind e = ap Plain (let same : k ≡ kind = cc in same)
 plain_of _ kind e = absurd cc
 
--- a spot that is an elementary variable: all its indices are there
+-- a component that is elementary: all its indices are there
 pub record IsElementary (s : ComponentAt) (c : Cell) (kind : Simple) : Type 0 where
   pub whole : drop s.depth c.bounds ≡ []
   pub plain : c.of ≡ Plain kind
