@@ -90,8 +90,8 @@ named_behind l component name (Some c) =
     if nat_eq component.depth (length c.bounds) then named_in l component name c c.of
     else path_end.Unknown
 
--- where a name behind a component leads; where an index is lacking, or the component has none of its
--- own, it is unknown
+-- where a name behind a component leads; where an index is lacking, or it has no components of its
+-- own, the name is unknown
 unfoldable pub path_end_by_name : List BlockLayout → ComponentAt → List ℕ → PathEnd
 path_end_by_name l component name =
     named_behind l component name

@@ -399,8 +399,8 @@ fn path_behind_a_name(rt: HostRuntime) -> Result<(), Fail> {
     is_fourth(&rt, path.steps())
 }
 
-/// A path with the place, the depth and the offset of the component that it reaches, and the name and
-/// the elementary type of its declaration.
+/// A path with the place, the depth and the offset of the component that it reaches, and the name
+/// and the elementary type of its declaration.
 type Row = (
     &'static [Step],
     usize,
