@@ -9,12 +9,12 @@ use Rattle.block_layout.specs.declared.cells.Element.TheVariants.{Structure}
 use Rattle.block_layout.specs.declared.walks.ComponentAt.{ComponentAt}
 use Rattle.block_layout.specs.declared.walks.PathEnd.{PathEnd}
 use Rattle.block_layout.specs.Paths.{cells_at, path_end_at_member, named_in}
-use Rattle.block_layout.specs.Scopes.{IsScope}
+use Rattle.block_layout.specs.NameLists.{IsNameList}
 use Rattle.block_layout.specs.declared.members.NameList.{NameList}
 
-pub members_from : (x y : Cell) (d behind : List Cell) (s t : NameList) → IsScope y d t → s ≡ t → x ≡ y → behind ≡ d → s.members.items ≡ members_of (x.level + 1) 0 0 behind
-members_from x y d behind s t scope is_s is_x is_behind =
-    ap (λ (z : NameList). z.members.items) is_s ∙ scope.members ∙ ap (λ (c : Cell). members_of (c.level + 1) 0 0 d) (sym is_x) ∙ ap (λ (l : List Cell). members_of (x.level + 1) 0 0 l) (sym is_behind)
+pub members_from : (x y : Cell) (d behind : List Cell) (s t : NameList) → IsNameList y d t → s ≡ t → x ≡ y → behind ≡ d → s.members.items ≡ members_of (x.level + 1) 0 0 behind
+members_from x y d behind s t name_list is_s is_x is_behind =
+    ap (λ (z : NameList). z.members.items) is_s ∙ name_list.members ∙ ap (λ (c : Cell). members_of (c.level + 1) 0 0 d) (sym is_x) ∙ ap (λ (l : List Cell). members_of (x.level + 1) 0 0 l) (sym is_behind)
 
 pub got : (xs : List Cell) (i : ℕ) (c : Cell) → slice_get xs i ≡ Some c → get_or xs i c ≡ c
 got [] i c e = refl

@@ -4,7 +4,7 @@ ghost use Rattle.std.specs.Option.{option_copied};
 ghost use Rattle.plc_base.specs.Kinds.{is_data_block};
 ghost use Rattle.block_layout.specs.Blocks.{found_block};
 ghost use Rattle.block_layout.specs.Members.{component_of_name};
-ghost use Rattle.block_layout.specs.Scopes.{HaveParameters};
+ghost use Rattle.block_layout.specs.NameLists.{HaveParameters};
 ghost use Rattle.block_layout.specs.Paths.{
   cells_at,
   elementary_at,
