@@ -57,7 +57,8 @@ abbrev pub AreLabelsJoined : Type 0
 AreLabelsJoined =
     (count : ℕ) (ls : List Link) → AllByRecursion (IsLinkBelow count) ls
     → (m n : ℕ) → m < count → n < count
-    → (slice_get (chain_labels count ls) m ≡ slice_get (chain_labels count ls) n) ↔ AreChained ls m n
+    → (slice_get (chain_labels count ls) m ≡ slice_get (chain_labels count ls) n)
+    ↔ AreChained ls m n
 
 -- the label of a parameter is marked exactly where a chain joins the parameter to one of a type
 -- that is meant
@@ -65,7 +66,8 @@ abbrev pub AreMarksHanded : Type 0
 AreMarksHanded =
     (is_meant : Simple → Bool) (count : ℕ) (ls : List Link) → AllByRecursion (IsLinkBelow count) ls
     → (n : ℕ) → n < count
-    → (mark_at (marks_of is_meant (chain_labels count ls) ls) (slice_get (chain_labels count ls) n) ≡ true)
+    → (mark_at (marks_of is_meant (chain_labels count ls) ls)
+    (slice_get (chain_labels count ls) n) ≡ true)
     ↔ IsHandedType is_meant ls n
 
 -- ---- types

@@ -13,9 +13,9 @@ use Rattle.stl_ast.specs.declared.operands.PathHead.{PathHead}
 use Rattle.stl_ast.specs.declared.operands.PathHead.TheVariants as head
 use Rattle.stl_ast.specs.declared.statements.Statement.{Statement}
 
--- an op has its code and its form in a byte each, and then its operand. These are the most bytes of a statement's ops,
--- actual parameters left out: a place takes 7 in all, an op that opens the data block before it 4 more, a place by an
--- address register 9
+-- an op has its code and its form in a byte each, and then its operand. These are the most bytes of
+-- a statement's ops, actual parameters left out: a place takes 7 in all, an op that opens the data
+-- block before it 4 more, a place by an address register 9
 abbrev pub block_size : Option BlockName → ℕ
 block_size None = 0
 block_size (Some name) = 4
@@ -50,8 +50,8 @@ abbrev pub code_size : Mnemonic → Operand → ℕ → ℕ
 code_size code.Empty o count = 0
 code_size _ o count = 4 + op_size o + 11 * count
 
--- a statement: the entry of its line, its ops, and an op of at most 11 bytes for each actual parameter; the empty
--- statement has no code
+-- a statement: the entry of its line, its ops, and an op of at most 11 bytes for each actual
+-- parameter; the empty statement has no code
 abbrev pub statement_size : Statement → ℕ
 statement_size s = code_size s.code s.operand (length s.actuals)
 

@@ -16,8 +16,8 @@ pub record LockView (O : Type 0) : Type 0 where
   -- how many passes the lock has, numbered from 1
   pub passes : ℕ
 
--- what contracts see of a pass: its lock, its number, whether a value is out with it, the list that it has seen,
--- and the entries under each of its numbers, its own first
+-- what contracts see of a pass: its lock, its number, whether a value is out with it, the list that
+-- it has seen, and the entries under each of its numbers, its own first
 pub record PassView (O E : Type 0) : Type 0 where
   -- the lock of the pass
   pub lock : LockView O
@@ -33,7 +33,8 @@ pub record PassView (O E : Type 0) : Type 0 where
 -- how many of the numbers from 1 to n aren't among those of the pass
 abbrev pub missing_number_count : {E : Type 0} → ℕ → List (Made E) → ℕ
 missing_number_count zero made = 0
-missing_number_count (suc n) made = cond (nat_eq (times (suc n) made) 0) 1 0 + missing_number_count n made
+missing_number_count (suc n) made =
+    cond (nat_eq (times (suc n) made) 0) 1 0 + missing_number_count n made
 
 -- a lock by its table, the origin of its first value and its number of passes
 abbrev pub lock_of : {O : Type 0} → TableId → O → (passes : ℕ) → LockView O
@@ -65,9 +66,11 @@ module _ {O E : Type 0} where
     made = v.made;
   }
 
-  -- what a put leaves of the pass: it has seen the list that was given back, and made the entries that are new in it
+  -- what a put leaves of the pass: it has seen the list that was given back, and made the entries
+  -- that are new in it
   abbrev pub given_back : PassView O E → List E → PassView O E
-  given_back p list = record p { out = false; seen = list; made = made_more p.made (drop (length p.seen) list) }
+  given_back p list =
+      record p { out = false; seen = list; made = made_more p.made (drop (length p.seen) list) }
 
   -- a pass that took over the numbers of another
   abbrev pub joined_pass : PassView O E → PassView O E → PassView O E
@@ -79,15 +82,22 @@ module _ {O E : Type 0} where
 
   -- a pass with one number, which has seen and made nothing
   abbrev pub fresh_pass : LockView O → ℕ → PassView O E
-  fresh_pass lock n = record { lock = lock; number = n; out = false; seen = []; made = record { number = n; entries = [] } ∷ [] }
+  fresh_pass lock n = record {
+    lock = lock;
+    number = n;
+    out = false;
+    seen = [];
+    made = record { number = n; entries = [] } ∷ [];
+  }
 
   -- the passes with the numbers after n, up to n + m
   abbrev pub fresh_passes : LockView O → ℕ → ℕ → List (PassView O E)
   fresh_passes lock n zero = []
   fresh_passes lock n (suc m) = fresh_pass lock (suc n) ∷ fresh_passes lock (suc n) m
 
--- The value of a lock that a pass has closed: all numbers were the pass's, the value has the lock's origin, and its list continues
--- what the pass had seen and is made of the entries made under these numbers.
+-- The value of a lock that a pass has closed: all numbers were the pass's, the value has the lock's
+-- origin, and its list continues what the pass had seen and is made of the entries made under these
+-- numbers.
 module _ {T O E : Type 0} (origin_of : T → O) (story_of : T → List E) (maker_of : E → ℕ) where
   pub record IsClosed (lock : LockView O) (p : PassView O E) (value : T) : Type 0 where
     -- every number from 1 to the number of passes is one of the pass

@@ -21,7 +21,9 @@ module _ {E : Type 0} where
   -- under each number stand the entries with this maker of one of the two lists
   abbrev pub IsKnownOf : (E → ℕ) → List E → List E → List (Made E) → Type 0
   IsKnownOf maker xs ys [] = Unit {0}
-  IsKnownOf maker xs ys (m ∷ ms) = ((entries_by maker m.number xs ≡ m.entries) ⊎ (entries_by maker m.number ys ≡ m.entries)) × IsKnownOf maker xs ys ms
+  IsKnownOf maker xs ys (m ∷ ms) =
+      ((entries_by maker m.number xs ≡ m.entries) ⊎ (entries_by maker m.number ys ≡ m.entries))
+      × IsKnownOf maker xs ys ms
 
   -- how often the number stands among them
   abbrev pub times : ℕ → List (Made E) → ℕ
@@ -40,7 +42,8 @@ module _ {E : Type 0} where
 
   -- the list, or the list with more entries of this maker
   abbrev pub IsAdded : (E → ℕ) → ℕ → List E → List E → Type 0
-  IsAdded maker k xs ys = (added : List E) × (ys ≡ xs ++ added) × HoldsForEach (λ e. maker e ≡ k) added
+  IsAdded maker k xs ys =
+      (added : List E) × (ys ≡ xs ++ added) × HoldsForEach (λ e. maker e ≡ k) added
 
   -- the longer list
   abbrev pub longer : List E → List E → List E
@@ -58,7 +61,14 @@ one_if_number_of_pass n k = cond (nat_lt 0 k && nat_lt k (suc n)) 1 0
 module _ {O E : Type 0} where
   -- a view by its parts
   abbrev pub view : List O → ℕ → Bool → List E → List E → List (Made E) → View O E
-  view origin passes turn seen other made = record { origin = origin; passes = passes; turn = turn; seen = seen; other = other; made = made }
+  view origin passes turn seen other made = record {
+    origin = origin;
+    passes = passes;
+    turn = turn;
+    seen = seen;
+    other = other;
+    made = made;
+  }
 
   -- all but the last number
   abbrev pub without_last : View O E → View O E

@@ -1,5 +1,6 @@
-//! The kinds of atomic step on the table, each in a function of its own, and the turn that they make up. The table has three
-//! words, `count`, `busy` and `seats`, and one slot with the value, which is at home where no pass has the turn.
+//! The kinds of atomic step on the table, each in a function of its own, and the turn that they
+//! make up. The table has three words, `count`, `busy` and `seats`, and one slot with the value,
+//! which is at home where no pass has the turn.
 ghost use Rattle.std.specs.Prelude.{◌≡◌, ◌<◌, true, false, None, [], ◌∷◌, length, IfOk};
 ghost use Rattle.tracked_lock.specs.Plays.{
   Took,
