@@ -3,7 +3,7 @@ use Rattle.std.specs.Prelude.{◌≡◌, ◌⊎◌, ℕ, zero, suc, ◌+◌, ◌
 use mathlib.Core.List.{IsPrefix}
 use Rattle.atomic_table.specs.Seated.{TableId}
 use Rattle.tracked_lock.specs.declared.views.Made.{Made}
-use Rattle.tracked_lock.specs.Views.{IsMadeOf, times, one_if_number_of_pass, own_number, made_more, longer, HoldsForEach}
+use Rattle.tracked_lock.specs.Views.{AreEntriesByMaker, times, one_if_number_of_pass, own_number, made_more, longer, HoldsForEach}
 use Rattle.tracked_lock.specs.declared.views.View.{View}
 use Rattle.atomic_table.specs.Table.{Me}
 
@@ -57,8 +57,8 @@ IsOneStep {E} maker k xs ys = (ys ≡ xs) ⊎ ((e : E) × (ys ≡ xs ++ e ∷ []
 
 module _ {O E : Type 0} where
   -- a pass as its seat at the table shows it
-  abbrev pub passed : TableId → View O E → (number : ℕ) → PassView O E
-  passed table v number = record {
+  abbrev pub pass_of_seat : TableId → View O E → (number : ℕ) → PassView O E
+  pass_of_seat table v number = record {
     lock = record { table = table; origin = v.origin; passes = v.passes };
     number = number;
     out = v.turn;
@@ -107,7 +107,7 @@ module _ {T O E : Type 0} (origin_of : T → O) (story_of : T → List E) (maker
     -- the value's list begins with all that the pass has seen
     pub seen : IsPrefix p.seen (story_of value)
     -- under each number of the pass stand the entries of the value's list with that maker, in order
-    pub made : IsMadeOf maker_of (story_of value) p.made
+    pub made : AreEntriesByMaker maker_of (story_of value) p.made
     -- the maker of each entry of the value's list is a number of the pass
     pub no_others : HoldsForEach (λ e. 0 < times (maker_of e) p.made) (story_of value)
 
@@ -127,6 +127,6 @@ module _ {T O E : Type 0} (maker_of : E → ℕ) where
     -- the pass has one number at least
     pub one_number : 0 < length m.0.made
     -- under each number of the pass stand the entries seen with that maker, in order
-    pub made : IsMadeOf maker_of m.0.seen m.0.made
+    pub made : AreEntriesByMaker maker_of m.0.seen m.0.made
     -- the pass has each number from 1 to the number of passes at most once, and no other number
     pub once : (k : ℕ) → times k m.0.made ≤ one_if_number_of_pass m.0.passes k

@@ -6,7 +6,7 @@ use lib.ListN.{get_elem?}
 use Rattle.atomic_table.specs.Table.{State, Me}
 use Rattle.atomic_table.specs.Seated.{TableId}
 use Rattle.tracked_lock.specs.declared.views.View.{View}
-use Rattle.tracked_lock.specs.Views.{sum_of_values, HoldsForEach, IsMadeOf, IsKnownOf, times, one_if_number_of_pass, fresh_to, view, turn_of}
+use Rattle.tracked_lock.specs.Views.{sum_of_values, HoldsForEach, AreEntriesByMaker, IsKnownOf, times, one_if_number_of_pass, fresh_to, view, turn_count}
 
 module _
     {T O E : Type 0} (origin_of : T → O) (story_of : T → List E) (maker_of : E → ℕ)
@@ -24,7 +24,7 @@ module _
     -- a view with the turn has seen the whole list
     pub whole : v.turn ≡ true → v.seen ≡ log
     -- under each number of the view stand the entries of the list with that maker, in order
-    pub made : IsMadeOf maker_of log v.made
+    pub made : AreEntriesByMaker maker_of log v.made
     -- the entries under each number of the view stand in one of the two lists that it has seen
     pub known : IsKnownOf maker_of v.seen v.other v.made
     -- a view with the turn has a number
@@ -45,7 +45,7 @@ module _
         → (x : T) × (get_elem? s.homes 0 ≡ maybe.some (maybe.some (Some x)))
         × (origin_of x ≡ origin) × (story_of x ≡ log)
     -- as many views have the turn as `busy` says
-    pub turns : sum_of_values turn_of s.views ≡ busy
+    pub turns : sum_of_values turn_count s.views ≡ busy
     -- at most one view has the turn
     pub one : busy < 2
     -- each view fits the list

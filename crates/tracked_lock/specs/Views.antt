@@ -14,9 +14,10 @@ module _ {E : Type 0} where
   entries_by maker k es = filter (λ e. nat_eq (maker e) k) es
 
   -- under each number stand the entries of the list with this maker
-  abbrev pub IsMadeOf : (E → ℕ) → List E → List (Made E) → Type 0
-  IsMadeOf maker log [] = Unit {0}
-  IsMadeOf maker log (x ∷ xs) = (entries_by maker x.number log ≡ x.entries) × IsMadeOf maker log xs
+  abbrev pub AreEntriesByMaker : (E → ℕ) → List E → List (Made E) → Type 0
+  AreEntriesByMaker maker log [] = Unit {0}
+  AreEntriesByMaker maker log (x ∷ xs) =
+      (entries_by maker x.number log ≡ x.entries) × AreEntriesByMaker maker log xs
 
   -- under each number stand the entries with this maker of one of the two lists
   abbrev pub IsKnownOf : (E → ℕ) → List E → List E → List (Made E) → Type 0
@@ -79,16 +80,16 @@ module _ {O E : Type 0} where
   only_last v = record v { turn = false; made = drop (length v.made - 1) v.made }
 
   -- both lists, until the next look, and the numbers of both
-  abbrev pub joined : View O E → View O E → View O E
-  joined v w = record v { other = w.seen; made = v.made ++ w.made }
+  abbrev pub joined_view : View O E → View O E → View O E
+  joined_view v w = record v { other = w.seen; made = v.made ++ w.made }
 
   -- what is left of a pass that has joined another
-  abbrev pub spent : View O E
-  spent = view [] 0 false [] [] []
+  abbrev pub spent_view : View O E
+  spent_view = view [] 0 false [] [] []
 
   -- the turns that a view has, to be added up: 1 or 0
-  abbrev pub turn_of : View O E → ℕ
-  turn_of v = cond v.turn 1 0
+  abbrev pub turn_count : View O E → ℕ
+  turn_count v = cond v.turn 1 0
 
 -- the values of a list, added up
 abbrev pub sum_of_values : {A : Type 0} → (A → ℕ) → List A → ℕ

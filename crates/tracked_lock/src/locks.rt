@@ -25,7 +25,7 @@ ghost use Rattle.tracked_lock.specs.Passes.{
   lock_of,
 };
 ghost use Rattle.tracked_lock.specs.Rule.{IsLockTable, IsFirstSeat, IsFreshSeat};
-ghost use Rattle.tracked_lock.specs.Views.{IsMadeOf};
+ghost use Rattle.tracked_lock.specs.Views.{AreEntriesByMaker};
 
 use crate::faults::NoMemory;
 use crate::passes::{Held, Pass};
@@ -146,7 +146,7 @@ impl<V: Storied + Drop> TrackedLock<V> {
         ensures list { V.story result.value ≡ p.new.seen }
         ensures seen { IsPrefix p.old.seen p.new.seen }
         ensures pass { p.new ≡ record p.old { out = true; seen = p.new.seen } }
-        ensures made { IsMadeOf V.maker p.new.seen p.new.made }
+        ensures made { AreEntriesByMaker V.maker p.new.seen p.new.made }
         ensures taken { result.pass ≡ p.new }
     {
         let steps = &self.table.shared;
@@ -164,7 +164,7 @@ impl<V: Storied + Drop> TrackedLock<V> {
         requires list { IsOneStep V.maker p.old.number p.old.seen (V.story held.value) }
         requires room { length (V.story held.value) + 1 < 2 ^ 64 }
         ensures pass { p.new ≡ given_back p.old (V.story held.value) }
-        ensures made { IsMadeOf V.maker p.new.seen p.new.made }
+        ensures made { AreEntriesByMaker V.maker p.new.seen p.new.made }
     {
         let value = held.into_value();
         let len = value.story_len();
@@ -179,7 +179,7 @@ impl<V: Storied + Drop> TrackedLock<V> {
         requires free { (p.old.out ≡ false) × (q.out ≡ false) }
         ensures pass { p.new ≡ joined_pass p.old q }
         ensures seen { IsPrefix p.old.seen p.new.seen × IsPrefix q.seen p.new.seen }
-        ensures made { IsMadeOf V.maker p.new.seen p.new.made }
+        ensures made { AreEntriesByMaker V.maker p.new.seen p.new.made }
     {
         let Pass {
             seat,

@@ -19,11 +19,11 @@ pub struct Pass<V: Storied> {
 }
 
 impl<V: Storied> Model for Pass<V> {
-    ghost use Rattle.tracked_lock.specs.Passes.{PassView, IsPass, passed};
+    ghost use Rattle.tracked_lock.specs.Passes.{PassView, IsPass, pass_of_seat};
 
     ghost Value = { PassView V.Origin V.Entry };
 
-    ghost view = { λ p. passed p.seat.table_id p.seat.me.0 p.number };
+    ghost view = { λ p. pass_of_seat p.seat.table_id p.seat.me.0 p.number };
 
     ghost invariant = { λ p. IsPass V.maker p.seat.me p.number p.seen p.numbers };
 }
