@@ -103,7 +103,7 @@ pub record AreTypesAsDeclared (blocks : List CodeBlock) (declared : ℕ → Simp
   -- a parameter that is TIME in the listing was declared TIME
   pub times : (n : ℕ) → n < total_parameter_count blocks → (w : Width)
       → is_time_kind (kind_at (chains_of blocks) n w) ≡ true → declared n ≡ simple.Time
-  -- widths stay
+  -- the listed type of a parameter is as wide as its declared one
   pub widths : (n : ℕ) → n < total_parameter_count blocks
       → width_of (kind_at (chains_of blocks) n (width_of (declared n))) ≡ width_of (declared n)
   -- both ends of a passing have one type

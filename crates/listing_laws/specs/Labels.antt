@@ -71,7 +71,7 @@ HaveWords = (c : Context) (b : Block) → AllByRecursion (λ s. HasWord s.instr)
 
 -- ---- labels
 
--- labels of different numbers differ
+-- labels of different numbers below 93,312 differ
 abbrev pub AreLabelsApart : Type 0
 AreLabelsApart = (m n : ℕ) → m < 93312 → n < 93312 → label_of_number m ≡ label_of_number n → m ≡ n
 

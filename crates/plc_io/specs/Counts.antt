@@ -12,7 +12,7 @@ last_count = 2 ^ 64 - 1
 abbrev pub CountRose : ℕ → ℕ → Type 0
 CountRose before now = min (before + 1) last_count ≤ now
 
--- no count changed
+-- each name has the count that it had before
 abbrev pub SameCounts : (List ℕ → ℕ) → (List ℕ → ℕ) → Type 0
 SameCounts before now = (name : List ℕ) → now name ≡ before name
 

@@ -8,7 +8,9 @@ use Rattle.s7_cli.specs.Command.{Input, limit_of}
 
 -- the files at the start of a call, and now
 pub record Disk : Type 0 where
+  -- the files at the start of the call
   pub before : FilesAt
+  -- the files now
   pub after : FilesAt
 
 -- the files at these two moments, the start of the call first

@@ -14,19 +14,19 @@ use Rattle.sem_kept.specs.Statements.{stated_code, IsCompilable, program_with}
 -- memory with timers and counters, the scheduler and the diagnostics are the same, and every entry
 -- answers and shows the same
 pub record BehavesAlike (profile : Profile) (c d : Code) : Type 0 where
-  -- memory with timers and counters
+  -- memory with timers and counters is the same after a history
   pub store : (history : List What)
       → (replay profile d history).store ≡ (replay profile c history).store
-  -- the operating mode
+  -- the operating mode after a history is the same
   pub mode : (history : List What)
       → (replay profile d history).mode ≡ (replay profile c history).mode
-  -- the scheduler
+  -- the scheduler's state after a history is the same
   pub sched : (history : List What)
       → (replay profile d history).sched ≡ (replay profile c history).sched
-  -- the records of the diagnostic buffer
+  -- the records of the diagnostic buffer are the same after a history
   pub diagnostics : (history : List What)
       → (replay profile d history).diagnostics ≡ (replay profile c history).diagnostics
-  -- what an entry answers
+  -- an entry answers the same behind a history
   pub reply : (history : List What) (entry : What)
       → (entry_result d (replay profile d history) entry).reply
       ≡ (entry_result c (replay profile c history) entry).reply

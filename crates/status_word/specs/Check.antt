@@ -61,7 +61,8 @@ rlo_after code fc rlo or read =
 abbrev pub or_after : (code : Check) (or : Bool) → Bool
 or_after code or = is_and code && or
 
--- a check of a bit that reads as `read`: RLO and OR as above, STA the bit as it was read, /FC 1
+-- a check of a bit that reads as `read`: RLO by `rlo_after`, OR by `or_after`, STA the bit as it
+-- was read, /FC 1
 unfoldable pub after_check : (code : Check) (read : Bool) → Regs → Regs
 after_check code read r =
     record r {

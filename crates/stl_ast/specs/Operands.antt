@@ -17,7 +17,7 @@ use Rattle.stl_ast.specs.declared.operands.PathHead.{PathHead}
 use Rattle.stl_ast.specs.declared.operands.PathHead.TheVariants as head
 use Rattle.stl_ast.specs.Literals.{IsDecimal, IsLiteral}
 
--- a number of an address or of a block
+-- a number of an address or of a block: 0 to 65,535
 abbrev pub IsNumber : ℕ → Type 0
 IsNumber n = n ≤ 65535
 

@@ -10,11 +10,11 @@ module _ {O E : Type 0} where
   abbrev pub with_turn : View O E → List E → View O E
   with_turn v log = record v { turn = true; seen = log }
 
-  -- a look at the list leaves the longer one
+  -- the view after a look at the list: of its two lists it keeps the longer one
   abbrev pub view_after_look : View O E → View O E
   view_after_look v = record v { seen = longer v.seen v.other; other = [] }
 
-  -- the list has grown to this one
+  -- the view whose list has grown to this one, with what is new under its own number
   abbrev pub view_with_list : View O E → List E → View O E
   view_with_list v log = record v { seen = log; made = made_more v.made (drop (length v.seen) log) }
 

@@ -3,7 +3,7 @@ use Rattle.std.specs.Prelude.{◌≡◌, ◌⊎◌, ℕ, zero, suc, ◌+◌, ◌
 use Rattle.tracked_lock.specs.declared.views.Made.{Made}
 use Rattle.tracked_lock.specs.declared.views.View.{View}
 
--- the fact of each of the list
+-- `P` holds of each member of a list
 abbrev pub HoldsForEach : {A : Type 0} → (A → Type 0) → List A → Type 0
 HoldsForEach P [] = Unit {0}
 HoldsForEach P (x ∷ xs) = P x × HoldsForEach P xs
@@ -60,7 +60,7 @@ abbrev pub one_if_number_of_pass : ℕ → ℕ → ℕ
 one_if_number_of_pass n k = cond (nat_lt 0 k && nat_lt k (suc n)) 1 0
 
 module _ {O E : Type 0} where
-  -- a view by its parts
+  -- the view with these parts
   abbrev pub view : List O → ℕ → Bool → List E → List E → List (Made E) → View O E
   view origin passes turn seen other made = record {
     origin = origin;
@@ -71,23 +71,23 @@ module _ {O E : Type 0} where
     made = made;
   }
 
-  -- all but the last number
+  -- a view without its last number
   abbrev pub without_last : View O E → View O E
   without_last v = record v { made = take (length v.made - 1) v.made }
 
-  -- the last number alone
+  -- a view with its last number alone, without the turn
   abbrev pub only_last : View O E → View O E
   only_last v = record v { turn = false; made = drop (length v.made - 1) v.made }
 
-  -- both lists, until the next look, and the numbers of both
+  -- the view that took over the numbers of another: it keeps both lists until the next look
   abbrev pub joined_view : View O E → View O E → View O E
   joined_view v w = record v { other = w.seen; made = v.made ++ w.made }
 
-  -- what is left of a pass that has joined another
+  -- the view that is left of a pass whose numbers another took over
   abbrev pub spent_view : View O E
   spent_view = view [] 0 false [] [] []
 
-  -- the turns that a view has, to be added up: 1 or 0
+  -- how many turns a view has: 1 or 0, so that they can be added up
   abbrev pub turn_count : View O E → ℕ
   turn_count v = cond v.turn 1 0
 
