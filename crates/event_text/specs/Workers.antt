@@ -9,7 +9,7 @@ use Rattle.var_access.specs.declared.requests.Request.{Request}
 abbrev pub one_step : Entry
 one_step = record { who = 1; what = Step }
 
--- the entry of what worker 2 feeds: an input, an arrival or a tick
+-- inputs, arrivals and ticks are fed by worker 2
 abbrev pub feeder_entry : What → Entry
 feeder_entry what = record { who = 2; what = what }
 

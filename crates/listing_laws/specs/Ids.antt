@@ -30,7 +30,7 @@ AreIdsListed =
     (symbols : List Symbol) (p : Program)
     → ids_of symbols (listed_tree p).blocks ≡ map (λ id. Some id) (program_ids p)
 
--- the program of a source
+-- the program that the tree of a source comes to with its symbols, by the layouts of its blocks
 abbrev pub source_program : Tree → List Symbol → Program
 source_program t symbols = program_of t symbols (layouts_of t symbols)
 

@@ -81,7 +81,8 @@ IsOpenedBlock false name = IsDataBlockName name
 IsOpenedBlock true (block.Number id) = (id.kind ≡ kind.Db) × IsNumber id.number
 IsOpenedBlock true (block.Quoted name) = ⊥
 
--- the numbers of an operand are in their ranges, and its names those of the right blocks
+-- the numbers of an operand are in their ranges, that of an address register is 1 (AR1) or 2 (AR2),
+-- and its names are those of the right blocks
 abbrev pub IsOperand : Operand → Type 0
 IsOperand operand.Nothing = Unit {0}
 IsOperand (operand.Direct name area w byte bit) =
