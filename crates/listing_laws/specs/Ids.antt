@@ -41,8 +41,8 @@ AreBlocksKept =
     → is_some (known_block id (ids_of listed (listed_tree (source_program t symbols)).blocks))
     ≡ is_some (known_block id (ids_of symbols t.blocks))
 
--- where the source has no block twice, and no number beyond the limits, each block of its program is
--- found at its place in the listing
+-- where the source has no block twice, and no number beyond the limits, each block of its program
+-- is found at its place in the listing
 abbrev pub AreBlocksFound : Type 0
 AreBlocksFound =
     (t : Tree) (symbols listed : List Symbol) (k : ℕ) (id : BlockId)
