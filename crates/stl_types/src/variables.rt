@@ -69,13 +69,12 @@ fn behind_others(count: usize, place: usize, returned: Option<Simple>) -> usize
 }
 
 impl<'a> Context<'a> {
-    /// The structure, the array or the DATE_AND_TIME that a component is.
-    fn composite(&self, component: ComponentAt) -> ResolvedOperand
+    /// The structure, the array or the DATE_AND_TIME at a spot.
+    fn composite(&self, spot: ComponentAt) -> ResolvedOperand
         ensures { result ≡ composite_operand
-            (slice_get (cells_at self.now.layouts component.block component.temporary)
-            component.place) }
+            (slice_get (cells_at self.now.layouts spot.block spot.temporary) spot.place) }
     {
-        match self.layouts().cell_at(component) {
+        match self.layouts().cell_at(spot) {
             None => ResolvedOperand::Composite,
             Some(cell) => date_or_composite(cell.of),
         }
@@ -93,12 +92,12 @@ impl<'a> Context<'a> {
     }
 
     /// A parameter of the function that has the body.
-    fn parameter_at(&self, component: ComponentAt, kind: Simple) -> Resolution
-        ensures { result ≡ parameter_at self.now component kind }
+    fn parameter_at(&self, spot: ComponentAt, kind: Simple) -> Resolution
+        ensures { result ≡ parameter_at self.now spot kind }
     {
         let cells = self.layouts().cells(self.block(), false);
-        let index = self.parameter_index(cells.len(), component.place);
-        match cells.get(component.place) {
+        let index = self.parameter_index(cells.len(), spot.place);
+        match cells.get(spot.place) {
             None => Resolution::Unjudged,
             Some(cell) => Resolution::Resolved {
                 view: ResolvedOperand::Parameter {
@@ -120,37 +119,37 @@ impl<'a> Context<'a> {
     /// An elementary variable of the block: a temporary one lies in the local data, a parameter of
     /// a function is bound at its call, and each variable of a function block lies in the data
     /// block of the DI register.
-    fn own_elementary(&self, temporary: bool, component: ComponentAt, kind: Simple) -> Resolution
-        ensures { result ≡ own_elementary self.now temporary component kind }
+    fn own_elementary(&self, temporary: bool, spot: ComponentAt, kind: Simple) -> Resolution
+        ensures { result ≡ own_elementary self.now temporary spot kind }
     {
         if temporary {
-            return in_area(kind, placed(Area::L, 0, component.offset, kind));
+            return in_area(kind, placed(Area::L, 0, spot.offset, kind));
         }
         if self.in_function() {
-            return self.parameter_at(component, kind);
+            return self.parameter_at(spot, kind);
         }
-        in_area(kind, placed(Area::Di, 0, component.offset, kind))
+        in_area(kind, placed(Area::Di, 0, spot.offset, kind))
     }
 
-    fn own_at(&self, temporary: bool, component: ComponentAt) -> Resolution
+    fn own_at(&self, temporary: bool, spot: ComponentAt) -> Resolution
         ensures { result
-            ≡ own_at self.now temporary component (elementary_at self.now.layouts component) }
+            ≡ own_at self.now temporary spot (elementary_at self.now.layouts spot) }
     {
-        match self.layouts().elementary_at(component) {
+        match self.layouts().elementary_at(spot) {
             None => Resolution::Resolved {
-                view: self.composite(component),
+                view: self.composite(spot),
             },
-            Some(kind) => self.own_elementary(temporary, component, kind),
+            Some(kind) => self.own_elementary(temporary, spot, kind),
         }
     }
 
-    fn own_walked(&self, temporary: bool, path_end: PathEnd) -> Resolution
-        ensures { result ≡ own_walked self.now temporary path_end }
+    fn own_walked(&self, temporary: bool, walk: PathEnd) -> Resolution
+        ensures { result ≡ own_walked self.now temporary walk }
     {
-        match path_end {
-            PathEnd::Reaches { component } => self.own_at(temporary, component),
+        match walk {
+            PathEnd::Reaches { spot } => self.own_at(temporary, spot),
             PathEnd::Unknown => Resolution::Unknown,
-            PathEnd::Unjudged => Resolution::Unjudged,
+            PathEnd::Rests => Resolution::Unjudged,
         }
     }
 
@@ -159,29 +158,28 @@ impl<'a> Context<'a> {
     pub(crate) fn own_variable(&self, name: &[u8], path: &Path) -> Resolution
         ensures { result ≡ own_variable self.now name.now path.now }
     {
-        let path_end = self.layouts().walk_local(self.block(), name, path);
-        self.own_walked(self.is_temporary(name), path_end)
+        let walk = self.layouts().walk_local(self.block(), name, path);
+        self.own_walked(self.is_temporary(name), walk)
     }
 
-    fn data_at(&self, number: u16, component: ComponentAt) -> Resolution
-        ensures { result
-            ≡ data_at self.now number component (elementary_at self.now.layouts component) }
+    fn data_at(&self, number: u16, spot: ComponentAt) -> Resolution
+        ensures { result ≡ data_at self.now number spot (elementary_at self.now.layouts spot) }
     {
-        match self.layouts().elementary_at(component) {
+        match self.layouts().elementary_at(spot) {
             None => Resolution::Resolved {
-                view: self.composite(component),
+                view: self.composite(spot),
             },
-            Some(kind) => in_area(kind, placed(Area::Db, number, component.offset, kind)),
+            Some(kind) => in_area(kind, placed(Area::Db, number, spot.offset, kind)),
         }
     }
 
-    fn data_walked(&self, number: u16, path_end: PathEnd) -> Resolution
-        ensures { result ≡ data_walked self.now number path_end }
+    fn data_walked(&self, number: u16, walk: PathEnd) -> Resolution
+        ensures { result ≡ data_walked self.now number walk }
     {
-        match path_end {
-            PathEnd::Reaches { component } => self.data_at(number, component),
+        match walk {
+            PathEnd::Reaches { spot } => self.data_at(number, spot),
             PathEnd::Unknown => Resolution::Unknown,
-            PathEnd::Unjudged => Resolution::Unjudged,
+            PathEnd::Rests => Resolution::Unjudged,
         }
     }
 

@@ -90,9 +90,9 @@ impl<O, E> Split<View<O, E>> for LastNumber {
 pub struct BothNumbers;
 
 impl<O, E> Join<View<O, E>> for BothNumbers {
-    ghost use Rattle.tracked_lock.specs.Views.{joined_view, spent_view};
+    ghost use Rattle.tracked_lock.specs.Views.{joined, spent};
 
-    ghost both = { joined_view };
+    ghost both = { joined };
 
-    ghost spent = { spent_view };
+    ghost spent = { spent };
 }
