@@ -1,5 +1,6 @@
 -- Accumulator instructions TAK, PUSH, POP, CAW, CAD, INC, DEC and + (Add Integer Constant).
--- Siemens, Statement List (STL): Accumulator and Address Register Instructions; Integer Math Instructions, "Add Integer Constant".
+-- Siemens, Statement List (STL): Accumulator and Address Register Instructions; Integer Math
+-- Instructions, "Add Integer Constant".
 use Rattle.std.specs.Prelude.{ℕ, ◌+◌, ◌*◌, ◌/◌, ◌%◌, ◌^◌, pos, ◌-ℤ◌}
 use Rattle.status_word.specs.declared.registers.Regs.{Regs}
 use Rattle.alu.specs.Signed.{modulo}
@@ -26,12 +27,15 @@ accumulator_popped r = record r { a1 = r.a2 }
 
 -- CAW: the bytes of ACCU 1-L in the opposite order
 unfoldable pub with_word_reversed : Regs → Regs
-with_word_reversed r = record r { a1 = with_low 16 r.a1 (accu_byte r.a1 0 * 2 ^ 8 + accu_byte r.a1 1) }
+with_word_reversed r =
+    record r { a1 = with_low 16 r.a1 (accu_byte r.a1 0 * 2 ^ 8 + accu_byte r.a1 1) }
 
 -- CAD: the bytes of accumulator 1 in the opposite order
 unfoldable pub with_bytes_reversed : Regs → Regs
-with_bytes_reversed r =
-    record r { a1 = accu_byte r.a1 0 * 2 ^ 24 + accu_byte r.a1 1 * 2 ^ 16 + accu_byte r.a1 2 * 2 ^ 8 + accu_byte r.a1 3 }
+with_bytes_reversed r = record r {
+  a1 = accu_byte r.a1 0 * 2 ^ 24 + accu_byte r.a1 1 * 2 ^ 16 + accu_byte r.a1 2 * 2 ^ 8
+      + accu_byte r.a1 3;
+}
 
 -- INC and +: n added to the lowest w bits of accumulator 1, modulo 2 ^ w
 unfoldable pub accumulator_increased : (w n : ℕ) → Regs → Regs

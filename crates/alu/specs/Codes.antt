@@ -14,4 +14,5 @@ unordered_codes = record { cc1 = true; cc0 = true; ov = true }
 
 -- the status word that shows them: OS becomes 1 with OV 1, and else it is kept
 unfoldable pub codes_shown : Codes → Status → Status
-codes_shown codes s = record s { cc1 = codes.cc1; cc0 = codes.cc0; ov = codes.ov; os = s.os || codes.ov }
+codes_shown codes s =
+    record s { cc1 = codes.cc1; cc0 = codes.cc0; ov = codes.ov; os = s.os || codes.ov }

@@ -18,7 +18,8 @@ holds_between Lt left right = int_lt left right
 holds_between Ge left right = int_le right left
 holds_between Le left right = int_le left right
 
--- CC 1/CC 0 by the order of the two, whatever is asked: 1/0 where the left is greater, 0/1 where it is less, 0/0 where they are equal
+-- CC 1/CC 0 by the order of the two, whatever is asked: 1/0 where the left is greater, 0/1 where it
+-- is less, 0/0 where they are equal
 abbrev pub order_codes : (left right : ℤ) → Codes
 order_codes left right = record { cc1 = int_lt right left; cc0 = int_lt left right; ov = false }
 
@@ -28,8 +29,10 @@ with_answer answer s = record s { rlo = answer; sta = answer; or = false; fc = t
 
 -- the status word after a comparison of two integers
 unfoldable pub with_comparison : Compare → (left right : ℤ) → Regs → Regs
-with_comparison how left right r =
-    record r { status = with_answer (holds_between how left right) (codes_shown (order_codes left right) r.status) }
+with_comparison how left right r = record r {
+  status = with_answer (holds_between how left right)
+      (codes_shown (order_codes left right) r.status);
+}
 
 -- the comparison of accumulator 2 with accumulator 1 as integers of w bits, 16 or 32
 abbrev pub accumulators_compared : (w : ℕ) → Compare → Regs → Regs

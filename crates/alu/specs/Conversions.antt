@@ -18,9 +18,11 @@ accumulator_widened r = record r { a1 = modulo 32 (signed_value 16 r.a1) }
 -- BTI: the number of the signed BCD word of three digits in ACCU 1-L; none where it is no such word
 unfoldable pub from_bcd_word : Regs → Option Regs
 from_bcd_word r =
-    option_map (λ n. record r { a1 = with_low 16 r.a1 (modulo 16 n) }) (signed_of_bcd 3 (r.a1 % 2 ^ 16))
+    option_map (λ n. record r { a1 = with_low 16 r.a1 (modulo 16 n) })
+    (signed_of_bcd 3 (r.a1 % 2 ^ 16))
 
--- BTD: the number of the signed BCD double word of seven digits in accumulator 1; none where it is no such double word
+-- BTD: the number of the signed BCD double word of seven digits in accumulator 1; none where it is
+-- no such double word
 unfoldable pub from_bcd_dword : Regs → Option Regs
 from_bcd_dword r = option_map (λ n. record r { a1 = modulo 32 n }) (signed_of_bcd 7 r.a1)
 
@@ -28,10 +30,12 @@ from_bcd_dword r = option_map (λ n. record r { a1 = modulo 32 n }) (signed_of_b
 abbrev pub with_overflow : Bool → Status → Status
 with_overflow ov s = record s { ov = ov; os = s.os || ov }
 
--- the BCD form in the lowest w bits of accumulator 1, with OV 0; where there is none accumulator 1 stays, and OV and OS are 1
+-- the BCD form in the lowest w bits of accumulator 1, with OV 0; where there is none accumulator 1
+-- stays, and OV and OS are 1
 abbrev pub with_bcd : (w : ℕ) → Option ℕ → Regs → Regs
 with_bcd w None r = record r { status = with_overflow true r.status }
-with_bcd w (Some bcd) r = record r { a1 = with_low w r.a1 bcd; status = with_overflow false r.status }
+with_bcd w (Some bcd) r =
+    record r { a1 = with_low w r.a1 bcd; status = with_overflow false r.status }
 
 -- ITB: the integer in ACCU 1-L as a signed BCD word of three digits
 unfoldable pub to_bcd_word : Regs → Regs

@@ -11,7 +11,8 @@ use Rattle.alu.specs.Codes.{of_sign, unordered_codes, codes_shown}
 abbrev pub quotient : (dividend divisor : ℤ) → ℤ
 quotient dividend divisor =
     let size = unsigned_abs dividend / unsigned_abs divisor
-    in if exclusive_or (is_below_zero dividend) (is_below_zero divisor) then neg_ℤ (pos size) else pos size
+    in if exclusive_or (is_below_zero dividend) (is_below_zero divisor) then neg_ℤ (pos size)
+    else pos size
 
 -- the remainder: what the quotient leaves of the dividend
 abbrev pub remainder : (dividend divisor : ℤ) → ℤ
@@ -24,7 +25,8 @@ is_zero z = unsigned_abs z == 0
 -- the one pair of integers of w bits whose quotient has more: the least of them by -1
 abbrev pub is_least_by_minus_one : (w : ℕ) → (dividend divisor : ℤ) → Bool
 is_least_by_minus_one w dividend divisor =
-    is_below_zero dividend && unsigned_abs dividend == 2 ^ (w - 1) && is_below_zero divisor && unsigned_abs divisor == 1
+    is_below_zero dividend && unsigned_abs dividend == 2 ^ (w - 1) && is_below_zero divisor
+    && unsigned_abs divisor == 1
 
 -- accumulator 1 and the codes of a division
 abbrev pub with_result : (accumulator : ℕ) → Codes → Regs → Regs
@@ -38,8 +40,8 @@ divided_by_zero r = with_result r.a1 unordered_codes r
 abbrev pub quotient_overflow : Codes
 quotient_overflow = record { cc1 = true; cc0 = false; ov = true }
 
--- the result of /I: the quotient in the low word and the remainder in the high word of accumulator 1, CC by the quotient;
--- -32768 by -1 gives 16#8000 and 0
+-- the result of /I: the quotient in the low word and the remainder in the high word of accumulator
+-- 1, CC by the quotient; -32768 by -1 gives 16#8000 and 0
 unfoldable pub with_words : (dividend divisor : ℤ) → Regs → Regs
 with_words dividend divisor r =
     if is_zero divisor then divided_by_zero r
@@ -54,13 +56,16 @@ unfoldable pub with_quotient : (dividend divisor : ℤ) → Regs → Regs
 with_quotient dividend divisor r =
     if is_zero divisor then divided_by_zero r
     else if is_least_by_minus_one 32 dividend divisor then with_result (2 ^ 31) quotient_overflow r
-    else with_result (modulo 32 (quotient dividend divisor)) (of_sign (quotient dividend divisor) false) r
+    else with_result (modulo 32 (quotient dividend divisor))
+    (of_sign (quotient dividend divisor) false) r
 
--- the result of MOD: the remainder in accumulator 1, CC by it; it is 0 also at -2147483648 by -1, with no overflow
+-- the result of MOD: the remainder in accumulator 1, CC by it; it is 0 also at -2147483648 by -1,
+-- with no overflow
 unfoldable pub with_remainder : (dividend divisor : ℤ) → Regs → Regs
 with_remainder dividend divisor r =
     if is_zero divisor then divided_by_zero r
-    else with_result (modulo 32 (remainder dividend divisor)) (of_sign (remainder dividend divisor) false) r
+    else with_result (modulo 32 (remainder dividend divisor))
+    (of_sign (remainder dividend divisor) false) r
 
 -- /I: the low word of accumulator 2 divided by that of accumulator 1
 abbrev pub divided_i : Regs → Regs

@@ -15,14 +15,16 @@ unfoldable pub rotated_left : (n : ℕ) → Regs → Regs
 rotated_left n r =
     let places = turn_of n
     in if n == 0 then r
-    else with_shifted 32 (r.a1 * 2 ^ places % 2 ^ 32 + r.a1 / 2 ^ (32 - places)) (has_bit r.a1 (32 - places)) r
+    else with_shifted 32 (r.a1 * 2 ^ places % 2 ^ 32 + r.a1 / 2 ^ (32 - places))
+    (has_bit r.a1 (32 - places)) r
 
 -- RRD: what leaves on the right moves in from the left; the last bit to do so is bit places - 1
 unfoldable pub rotated_right : (n : ℕ) → Regs → Regs
 rotated_right n r =
     let places = turn_of n
     in if n == 0 then r
-    else with_shifted 32 (r.a1 / 2 ^ places + r.a1 % 2 ^ places * 2 ^ (32 - places)) (has_bit r.a1 (places - 1)) r
+    else with_shifted 32 (r.a1 / 2 ^ places + r.a1 % 2 ^ places * 2 ^ (32 - places))
+    (has_bit r.a1 (places - 1)) r
 
 -- RLDA: one place left through CC 1, which moves in from the right
 unfoldable pub rotated_left_through : Regs → Regs

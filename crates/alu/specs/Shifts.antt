@@ -12,10 +12,13 @@ use Rattle.alu.specs.Accumulators.{with_low}
 abbrev pub places_of : (literal : Option ℕ) → Regs → ℕ
 places_of literal r = unwrap_or literal (r.a2 % 2 ^ 8)
 
--- the shifted bits in the lowest w bits of accumulator 1; CC 1 is the last bit that was shifted out, CC 0 and OV are 0
+-- the shifted bits in the lowest w bits of accumulator 1; CC 1 is the last bit that was shifted
+-- out, CC 0 and OV are 0
 unfoldable pub with_shifted : (w bits : ℕ) (last : Bool) → Regs → Regs
-with_shifted w bits last r =
-    record r { a1 = with_low w r.a1 bits; status = codes_shown (record { cc1 = last; cc0 = false; ov = false }) r.status }
+with_shifted w bits last r = record r {
+  a1 = with_low w r.a1 bits;
+  status = codes_shown (record { cc1 = last; cc0 = false; ov = false }) r.status;
+}
 
 -- n places left, of w bits: zeros move in from the right; bit w - n is the last one out
 unfoldable pub shifted_left : (w n : ℕ) → Regs → Regs
@@ -33,9 +36,11 @@ shifted_right w n r =
     else if nat_lt w n then with_shifted w 0 false r
     else with_shifted w (bits / 2 ^ n) (has_bit bits (n - 1)) r
 
--- n places right, of an integer of w bits: its sign moves in from the left, so that it is divided by 2 ^ n and rounded down
+-- n places right, of an integer of w bits: its sign moves in from the left, so that it is divided
+-- by 2 ^ n and rounded down
 unfoldable pub shifted_signed : (w n : ℕ) → Regs → Regs
 shifted_signed w n r =
     let places = min n w
     in if n == 0 then r
-    else with_shifted w (modulo w (int_shr (signed_value w r.a1) places)) (has_bit (r.a1 % 2 ^ w) (places - 1)) r
+    else with_shifted w (modulo w (int_shr (signed_value w r.a1) places))
+    (has_bit (r.a1 % 2 ^ w) (places - 1)) r

@@ -7,7 +7,8 @@ use Rattle.alu.specs.Signed.{signed_value, modulo, in_range}
 use Rattle.alu.specs.Codes.{of_sign, codes_shown}
 use Rattle.alu.specs.Accumulators.{with_low}
 
--- CC 1/CC 0 and OV of a true sum z: in range its sign and OV 0; too high 0/1 and OV 1; too low 1/0 and OV 1, but 0/0 at - 2 ^ w
+-- CC 1/CC 0 and OV of a true sum z: in range its sign and OV 0; too high 0/1 and OV 1; too low 1/0
+-- and OV 1, but 0/0 at - 2 ^ w
 unfoldable pub sum_codes : (w : ℕ) → ℤ → Codes
 sum_codes w z =
     if in_range w z then of_sign z false
@@ -16,7 +17,8 @@ sum_codes w z =
 
 -- the true sum z, modulo 2 ^ w, in the lowest w bits of accumulator 1, and its codes
 unfoldable pub with_sum : (w : ℕ) → ℤ → Regs → Regs
-with_sum w z r = record r { a1 = with_low w r.a1 (modulo w z); status = codes_shown (sum_codes w z) r.status }
+with_sum w z r =
+    record r { a1 = with_low w r.a1 (modulo w z); status = codes_shown (sum_codes w z) r.status }
 
 -- +I (w = 16) and +D (w = 32): accumulator 2 plus accumulator 1
 abbrev pub accumulators_added : (w : ℕ) → Regs → Regs

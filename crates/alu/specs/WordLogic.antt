@@ -18,12 +18,15 @@ with_combined w bits r = record r {
 
 -- AW and AD
 abbrev pub accumulator_anded : (w : ℕ) (constant : Option ℕ) → Regs → Regs
-accumulator_anded w constant r = with_combined w (bit_and (r.a1 % 2 ^ w) (logic_operand w constant r)) r
+accumulator_anded w constant r =
+    with_combined w (bit_and (r.a1 % 2 ^ w) (logic_operand w constant r)) r
 
 -- OW and OD
 abbrev pub accumulator_ored : (w : ℕ) (constant : Option ℕ) → Regs → Regs
-accumulator_ored w constant r = with_combined w (bit_or (r.a1 % 2 ^ w) (logic_operand w constant r)) r
+accumulator_ored w constant r =
+    with_combined w (bit_or (r.a1 % 2 ^ w) (logic_operand w constant r)) r
 
 -- XOW and XOD
 abbrev pub accumulator_xored : (w : ℕ) (constant : Option ℕ) → Regs → Regs
-accumulator_xored w constant r = with_combined w (bit_xor (r.a1 % 2 ^ w) (logic_operand w constant r)) r
+accumulator_xored w constant r =
+    with_combined w (bit_xor (r.a1 % 2 ^ w) (logic_operand w constant r)) r

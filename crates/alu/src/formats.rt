@@ -26,7 +26,8 @@ impl Format {
 
     /// The accumulator with the lowest bits of `number` at its lowest bits.
     pub(crate) fn put(self, accumulator: u32, number: i64) -> u32
-        ensures { result ≡ with_low (format_width self) accumulator (modulo (format_width self) number) }
+        ensures { result
+            ≡ with_low (format_width self) accumulator (modulo (format_width self) number) }
     {
         self.replace(accumulator, self.bits(number))
     }

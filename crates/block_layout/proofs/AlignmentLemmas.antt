@@ -1,5 +1,5 @@
 -- Where paths lead: each component that they reach lies within its structure, at a place that meets
--- its alignment. Of cells that are all sound, no path rests.
+-- its alignment. Of cells that are all sound, no path is unjudged.
 use Rattle.std.proofs.Common.{ℕ, zero, suc, ◌≡◌, ◌<◌, ◌≤◌, ◌+◌, ◌*◌, ◌/◌, ◌%◌, min, List, [], ◌∷◌, Option, Some, None, Bool, true, false, ◌&&◌, nat_eq, nat_lt, refl, sym, ◌∙◌, ap, subst, arith, length, drop, add-one, drop-drop, if◌then◌else◌, eqb-true, mul-le-mul_right, suc-mul, mul_assoc}
 use Rattle.std.specs.List.{slice_get}
 use Rattle.std.specs.Str.{bytes_eq}
@@ -19,7 +19,7 @@ use Rattle.block_layout.specs.Sizes.{largest_size}
 use Rattle.block_layout.specs.declared.members.Member.{Member}
 use Rattle.block_layout.specs.declared.walks.ComponentAt.{ComponentAt}
 use Rattle.block_layout.specs.declared.walks.PathEnd.{PathEnd}
-use Rattle.block_layout.specs.declared.walks.PathEnd.TheVariants as walk
+use Rattle.block_layout.specs.declared.walks.PathEnd.TheVariants as path_end
 use Rattle.block_layout.proofs.OffsetLemmas.{step_grows, end_step, end_grows, at_place}
 
 -- ---- places that meet an alignment
@@ -284,7 +284,7 @@ component_found all level at p (c ∷ cs) name m e near found =
         here false is h =
             subst (λ (n : ℕ). IsFound all n m) (sym (end_step level at c cs stays)) (more h)
 
--- ---- spots
+-- ---- components that a path reaches
 
 -- each cell is sound, and each data type that one is of takes the bits that its own cells take
 abbrev pub IsSettled : List BlockLayout → Element → Type 0
@@ -299,7 +299,7 @@ abbrev pub AreRight : List BlockLayout → Type 0
 AreRight l = (block place : ℕ) (temporary : Bool) (c : Cell)
     → slice_get (cells_at l block temporary) place ≡ Some c → IsRightCell l c
 
--- what a spot leaves lies within a limit, at a place that meets its alignment
+-- a component with the indices that it has lies within a limit, at a place that meets its alignment
 pub record Lies (l : List BlockLayout) (limit : ℕ) (s : ComponentAt) : Type 0 where
   pub cell : Cell
   pub there : slice_get (cells_at l s.block s.temporary) s.place ≡ Some cell
@@ -308,9 +308,9 @@ pub record Lies (l : List BlockLayout) (limit : ℕ) (s : ComponentAt) : Type 0 
       (element_of cell (drop (suc s.place) (cells_at l s.block s.temporary))) ≤ limit
 
 abbrev pub Goes : List BlockLayout → (limit : ℕ) → PathEnd → Type 0
-Goes l limit (walk.Reaches s) = Lies l limit s
-Goes l limit walk.Unknown = Unit {0}
-Goes l limit walk.Rests = ⊥
+Goes l limit (path_end.Reaches s) = Lies l limit s
+Goes l limit path_end.Unknown = Unit {0}
+Goes l limit path_end.Unjudged = ⊥
 
 pub settled_even : (l : List BlockLayout) (of : Element) → IsSettled l of → UdtEven of
 settled_even l (Udt block bits) e = ap (λ (n : ℕ). n % 16) e ∙ structure_even (cells_at l block false)
@@ -380,8 +380,8 @@ found_lies l limit right block temporary level first offset name even near fits 
                     → limit < largest_size → capped_size (offset + capped_size more) ≡ offset + more
                 fit offset more size end limit a b c = omega (arith, a, b, c)
 
-            spot : ComponentAt
-            spot = record {
+            component : ComponentAt
+            component = record {
               block = block;
               temporary = temporary;
               place = first + m.place;
@@ -389,7 +389,7 @@ found_lies l limit right block temporary level first offset name even near fits 
               offset = capped_size (offset + capped_size m.offset);
             }
 
-            lies : Lies l limit spot
+            lies : Lies l limit component
             lies = record {
               cell = f.cell;
               there = there;
@@ -403,7 +403,7 @@ found_lies l limit right block temporary level first offset name even near fits 
             }
 
             whether : (sound : Bool) → sound ≡ true
-                → Goes l limit (if sound then walk.Reaches spot else walk.Rests)
+                → Goes l limit (if sound then path_end.Reaches component else path_end.Unjudged)
             whether true e = lies
             whether false e = absurd cc
 

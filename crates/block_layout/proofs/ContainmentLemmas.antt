@@ -7,7 +7,7 @@ use Rattle.stl_ast.specs.declared.declarations.Bounds.{Bounds}
 use Rattle.stl_ast.specs.declared.declarations.Simple.{Simple}
 use Rattle.block_layout.specs.Declarations.{element_count, is_upside_down}
 use Rattle.block_layout.specs.Members.{component_of_name}
-use Rattle.block_layout.specs.Paths.{cells_at, path_end_at_cell, path_end_at_member, holds_where_reached, path_end_and_then, in_sections, path_end_by_index, indexed_behind, is_beyond, is_beyond_in, is_beyond_left, is_checkable, leaves_array, leaves_from, leaves_structure, leaves_local, leaves_sections, path_end_by_name, named_behind, named_in, outermost_path_end, step_is_beyond, path_end_by_step, structure_of, path_end_behind, path_end_in_data_block, path_end_in_block, walked_local, path_end_or_rests, whole_at, path_end_in_bounds}
+use Rattle.block_layout.specs.Paths.{cells_at, path_end_at_cell, path_end_at_member, holds_where_reached, path_end_and_then, in_sections, path_end_by_index, indexed_behind, is_beyond, is_beyond_in, is_beyond_left, is_checkable, leaves_array, leaves_from, leaves_structure, leaves_local, leaves_sections, path_end_by_name, named_behind, named_in, outermost_path_end, step_is_beyond, path_end_by_step, structure_of, path_end_behind, path_end_in_data_block, path_end_in_block, walked_local, path_end_or_unjudged, whole_at, path_end_in_bounds}
 use Rattle.block_layout.specs.Sizes.{array_bits, capped_size, element_bits, element_of, components_end, plain_bits, structure_bits, next_multiple}
 use Rattle.block_layout.specs.declared.blocks.BlockLayout.{BlockLayout}
 use Rattle.block_layout.specs.declared.cells.Cell.{Cell}
@@ -17,19 +17,19 @@ use Rattle.block_layout.specs.Sizes.{largest_size}
 use Rattle.block_layout.specs.declared.members.Member.{Member}
 use Rattle.block_layout.specs.declared.walks.ComponentAt.{ComponentAt}
 use Rattle.block_layout.specs.declared.walks.PathEnd.{PathEnd}
-use Rattle.block_layout.specs.declared.walks.PathEnd.TheVariants as walk
+use Rattle.block_layout.specs.declared.walks.PathEnd.TheVariants as path_end
 use Rattle.block_layout.proofs.AlignmentLemmas.{AreRight, Goes, IsSettled, Lies, Meets, element_within, found_lies, index_meets, inner_even, outermost_lies, settled_even, structure_ends}
 use Rattle.block_layout.proofs.CommonLemmas.{or_first, or_second}
 
--- ---- no path rests
+-- ---- no path is unjudged
 
 abbrev pub Moves : PathEnd → Type 0
-Moves (walk.Reaches s) = Unit {0}
-Moves walk.Unknown = Unit {0}
-Moves walk.Rests = ⊥
+Moves (path_end.Reaches s) = Unit {0}
+Moves path_end.Unknown = Unit {0}
+Moves path_end.Unjudged = ⊥
 
 sound_moves : (sound : Bool) (s : ComponentAt) → sound ≡ true
-    → Moves (if sound then walk.Reaches s else walk.Rests)
+    → Moves (if sound then path_end.Reaches s else path_end.Unjudged)
 sound_moves true s e = tt
 sound_moves false s e = absurd cc
 
@@ -67,7 +67,7 @@ named_in_moves l right s name c (Plain kind) = tt
 named_in_moves l right s name c DateAndTime = tt
 named_in_moves l right s name c Unknown = tt
 
-if_moves : (t : Bool) (w : PathEnd) → Moves w → Moves (if t then w else walk.Unknown)
+if_moves : (t : Bool) (w : PathEnd) → Moves w → Moves (if t then w else path_end.Unknown)
 if_moves true w h = h
 if_moves false w h = tt
 
@@ -83,8 +83,8 @@ within_moves : (s : ComponentAt) (c : Cell) (behind : List Cell) (at : ℤ) (o :
 within_moves s c behind at None = tt
 within_moves s c behind at (Some b) = by (is_beyond b at)
   where
-    by : (t : Bool) → Moves (if t then walk.Reaches (record s { depth = s.depth + 1 })
-        else walk.Reaches (record s {
+    by : (t : Bool) → Moves (if t then path_end.Reaches (record s { depth = s.depth + 1 })
+        else path_end.Reaches (record s {
           depth = s.depth + 1;
           offset = capped_size (s.offset + capped_size
               (unsigned_abs (at -ℤ b.low) * array_bits (drop (s.depth + 1) c.bounds)
@@ -109,9 +109,9 @@ step_moves l right s (step.Index at) =
 
 on_moves : (w : PathEnd) (next : ComponentAt → PathEnd) → Moves w → ((s : ComponentAt) → Moves (next s))
     → Moves (path_end_and_then w next)
-on_moves (walk.Reaches s) next h k = k s
-on_moves walk.Unknown next h k = tt
-on_moves walk.Rests next h k = h
+on_moves (path_end.Reaches s) next h k = k s
+on_moves path_end.Unknown next h k = tt
+on_moves path_end.Unjudged next h k = h
 
 pub walked_moves : (l : List BlockLayout) → AreRight l → (s : ComponentAt) (ps : List PathStep)
     → Moves (path_end_behind l s ps)
@@ -143,7 +143,7 @@ local_moves l right block name ps whole =
     by (is_some (whole_at l block)) whole
   where
     by : (t : Bool) → t ≡ true
-        → Moves (if t then path_end_and_then (in_sections l block name) (λ s. path_end_behind l s ps) else walk.Rests)
+        → Moves (if t then path_end_and_then (in_sections l block name) (λ s. path_end_behind l s ps) else path_end.Unjudged)
     by true e = on_moves (in_sections l block name) (λ s. path_end_behind l s ps)
         (sections_moves l right block name) (λ s. walked_moves l right s ps)
     by false e = absurd cc
@@ -261,23 +261,23 @@ module _ (l : List BlockLayout) (limit : ℕ) (right : AreRight l) (near : limit
       (by (nat_eq s.depth (length h.cell.bounds)) refl)
     where
       by : (t : Bool) → nat_eq s.depth (length h.cell.bounds) ≡ t
-          → Goes l limit (if t then named_in l s name h.cell h.cell.of else walk.Unknown)
+          → Goes l limit (if t then named_in l s name h.cell h.cell.of else path_end.Unknown)
       by true e =
           let same : s.depth ≡ length h.cell.bounds = eqb-true s.depth (length h.cell.bounds) e in
           named_lies s name h h.cell.of refl
           (drop_of_length-le h.cell.bounds (let least : length h.cell.bounds ≤ s.depth = omega (arith, same) in least))
       by false e = tt
 
-  -- the spot of an element
-  abbrev element_spot : (s : ComponentAt) (c : Cell) (behind : List Cell) (k : ℕ) → ComponentAt
-  element_spot s c behind k = record s {
+  -- an element of an array, as a component that a path reaches
+  abbrev indexed_component : (s : ComponentAt) (c : Cell) (behind : List Cell) (k : ℕ) → ComponentAt
+  indexed_component s c behind k = record s {
     depth = s.depth + 1;
     offset = capped_size (s.offset + capped_size (k * array_bits (drop (s.depth + 1) c.bounds) (element_of c behind)));
   }
 
   element_lies : (s : ComponentAt) (h : Lies l limit s) (b : Bounds) (k : ℕ)
       → slice_get h.cell.bounds s.depth ≡ Some b → k < element_count b
-      → Lies l limit (element_spot s h.cell (drop (s.place + 1) (cells_at l s.block s.temporary)) k)
+      → Lies l limit (indexed_component s h.cell (drop (s.place + 1) (cells_at l s.block s.temporary)) k)
   element_lies s h b k there counts = record {
     cell = h.cell;
     there = h.there;
@@ -321,8 +321,8 @@ module _ (l : List BlockLayout) (limit : ℕ) (right : AreRight l) (near : limit
       → Goes l limit (path_end_in_bounds s h.cell (drop (s.place + 1) (cells_at l s.block s.temporary)) at o)
   within_goes s h at None e inside = tt
   within_goes s h at (Some b) e inside =
-      subst (λ (t : Bool). Goes l limit (if t then walk.Reaches (record s { depth = s.depth + 1 })
-      else walk.Reaches (element_spot s h.cell (drop (s.place + 1) (cells_at l s.block s.temporary))
+      subst (λ (t : Bool). Goes l limit (if t then path_end.Reaches (record s { depth = s.depth + 1 })
+      else path_end.Reaches (indexed_component s h.cell (drop (s.place + 1) (cells_at l s.block s.temporary))
       (unsigned_abs (at -ℤ b.low))))) (sym inside)
       (element_lies s h b (unsigned_abs (at -ℤ b.low)) e (index_counts b at inside))
 
@@ -346,9 +346,9 @@ module _ (l : List BlockLayout) (limit : ℕ) (right : AreRight l) (near : limit
       → holds_where_reached w beyond ≡ false
       → ((s : ComponentAt) → Lies l limit s → beyond s ≡ false → Goes l limit (next s))
       → Goes l limit (path_end_and_then w next)
-  on_goes (walk.Reaches s) next beyond h inside k = k s h inside
-  on_goes walk.Unknown next beyond h inside k = tt
-  on_goes walk.Rests next beyond h inside k = h
+  on_goes (path_end.Reaches s) next beyond h inside k = k s h inside
+  on_goes path_end.Unknown next beyond h inside k = tt
+  on_goes path_end.Unjudged next beyond h inside k = h
 
   pub walked_goes : (ps : List PathStep) (s : ComponentAt) → Lies l limit s → leaves_array l s ps ≡ false
       → Goes l limit (path_end_behind l s ps)
@@ -377,9 +377,9 @@ module _ (l : List BlockLayout) (limit : ℕ) (right : AreRight l) (near : limit
       outer_goes block temporary name ps fits inside
 
 moves_checkable : (w : PathEnd) → Moves w → is_checkable w ≡ true
-moves_checkable (walk.Reaches s) h = refl
-moves_checkable walk.Unknown h = refl
-moves_checkable walk.Rests h = absurd h
+moves_checkable (path_end.Reaches s) h = refl
+moves_checkable path_end.Unknown h = refl
+moves_checkable path_end.Unjudged h = absurd h
 
 checkable_stays : (a b : Bool) → a ≡ true → (a && b) ≡ false → b ≡ false
 checkable_stays true b e f = f
@@ -392,7 +392,7 @@ pub data_goes : (l : List BlockLayout) (limit : ℕ) → AreRight l → limit < 
     → leaves_structure l (structure_of l block) ps ≡ false → Goes l limit (path_end_in_data_block l block ps)
 unfolding path_end_in_data_block
 data_goes l limit right near block inside ps is fits stays =
-    subst (λ (o : Option ℕ). Goes l limit (path_end_or_rests l o ps)) (sym is)
+    subst (λ (o : Option ℕ). Goes l limit (path_end_or_unjudged l o ps)) (sym is)
     (from_goes l limit right near inside false ps fits
     (checkable_stays (is_checkable (path_end_in_block l inside false ps)) (leaves_from l inside false ps)
     (moves_checkable (path_end_in_block l inside false ps) (from_moves l right inside false ps))
@@ -408,7 +408,7 @@ pub local_goes : (l : List BlockLayout) (limit : ℕ) → AreRight l → limit <
 unfolding walked_local
 local_goes l limit right near block name ps own is fits whole stays =
     subst (λ (t : Bool). Goes l limit (if t then path_end_and_then (in_sections l block name) (λ s. path_end_behind l s ps)
-    else walk.Rests)) (sym whole) (by own is fits inside)
+    else path_end.Unjudged)) (sym whole) (by own is fits inside)
   where
     inside : holds_where_reached (in_sections l block name) (λ s. leaves_array l s ps) ≡ false
     inside = checkable_stays (is_checkable (walked_local l block name ps)) (leaves_sections l block name ps)

@@ -1,6 +1,6 @@
 pub mod SizeLemmas
 pub mod MemberLemmas
-pub mod ScopeLemmas
+pub mod NameListLemmas
 pub mod PathLemmas
 pub mod DeclarationFactLemmas
 pub mod CellLemmas

@@ -24,11 +24,11 @@ use Rattle.block_layout.specs.declared.cells.Element.TheVariants.{Plain, Structu
 use Rattle.block_layout.specs.declared.members.Member.{Member}
 use Rattle.block_layout.specs.declared.walks.ComponentAt.{ComponentAt}
 use Rattle.block_layout.specs.declared.walks.PathEnd.{PathEnd}
-use Rattle.block_layout.specs.declared.walks.PathEnd.TheVariants as walk
+use Rattle.block_layout.specs.declared.walks.PathEnd.TheVariants as path_end
 use Rattle.block_layout.specs.Blocks.{known_block}
 use Rattle.block_layout.specs.Members.{component_of_name}
 use Rattle.block_layout.specs.Offsets.{component_place as data_component, place_in_section, place_of_path, place_at, elementary_place, place_at_path_end, variable_place, width_of}
-use Rattle.block_layout.specs.Paths.{cells_at, elementary_at, path_end_at_cell, path_end_at_member, holds_where_reached, path_end_and_then, if_whole, path_end_by_index, indexed_behind, is_beyond, is_beyond_in, is_beyond_left, is_checkable, leaves_array, leaves_from, leaves_structure, path_end_by_name, named_behind, named_in, outermost_path_end, step_is_beyond, path_end_by_step, structure_of, path_end_behind, path_end_in_data_block, path_end_in_block, path_end_or_rests, path_end_in_bounds}
+use Rattle.block_layout.specs.Paths.{cells_at, elementary_at, path_end_at_cell, path_end_at_member, holds_where_reached, path_end_and_then, if_whole, path_end_by_index, indexed_behind, is_beyond, is_beyond_in, is_beyond_left, is_checkable, leaves_array, leaves_from, leaves_structure, path_end_by_name, named_behind, named_in, outermost_path_end, step_is_beyond, path_end_by_step, structure_of, path_end_behind, path_end_in_data_block, path_end_in_block, path_end_or_unjudged, path_end_in_bounds}
 use Rattle.block_layout.specs.Places.{IsLeastPlace}
 use Rattle.block_layout.specs.Sizes.{alignment, array_bits, capped_size, cell_bits, element_of, largest_size, end_behind_cell, next_multiple}
 use Rattle.block_layout.specs.Sums.{EndsAt, NamesComponent, NamesComponentOf, IndexesElement, IsInside, StepLeadsTo, LeadsFrom, LeadsTo, LeadsToOne, LeadsToPlace, LiesAt, OffsetsAreSums, declaring_block, is_temporary}
@@ -116,7 +116,7 @@ lies_found level at p name (c ∷ cs) m e near =
 
 -- ---- one step
 
-reaches_same : (x y : ComponentAt) → walk.Reaches x ≡ walk.Reaches y → x ≡ y
+reaches_same : (x y : ComponentAt) → path_end.Reaches x ≡ path_end.Reaches y → x ≡ y
 reaches_same x y e = cc
 
 -- a sum below the cap
@@ -133,13 +133,13 @@ module _ (l : List BlockLayout) where
     abbrev cells : List Cell
     cells = cells_at l block temporary
 
-    abbrev spot : Member → ComponentAt
-    spot m = record { block = block; temporary = temporary; place = first + m.place; depth = 0; offset = capped_size (begin + capped_size m.offset) }
+    abbrev component : Member → ComponentAt
+    component m = record { block = block; temporary = temporary; place = first + m.place; depth = 0; offset = capped_size (begin + capped_size m.offset) }
 
     abbrev Leads : Type 0
     Leads = NamesComponent l block temporary first level begin name to × (begin < largest_size)
 
-    leads_there : (m : Member) → component_of_name level 0 0 name (drop first cells) ≡ Some m → (c : Cell) → slice_get cells (first + m.place) ≡ Some c → c.sound ≡ true → spot m ≡ to → Leads
+    leads_there : (m : Member) → component_of_name level 0 0 name (drop first cells) ≡ Some m → (c : Cell) → slice_get cells (first + m.place) ≡ Some c → c.sound ≡ true → component m ≡ to → Leads
     leads_there m is c there sound e =
         let sum = exact_sum begin m.offset to.offset (ap (λ (s : ComponentAt). s.offset) (sym e)) near in
         let lies = lies_found level 0 0 name (drop first cells) m is sum.small in
@@ -159,25 +159,25 @@ module _ (l : List BlockLayout) where
         )
 
     leads_entered : (m : Member) → component_of_name level 0 0 name (drop first cells) ≡ Some m → (o : Option Cell) → slice_get cells (first + m.place) ≡ o →
-        path_end_at_cell block temporary (first + m.place) (capped_size (begin + capped_size m.offset)) o ≡ walk.Reaches to → Leads
+        path_end_at_cell block temporary (first + m.place) (capped_size (begin + capped_size m.offset)) o ≡ path_end.Reaches to → Leads
     leads_entered m is None there e = absurd cc
     leads_entered m is (Some c) there e = by c.sound refl e
       where
-        by : (t : Bool) → c.sound ≡ t → (if t then walk.Reaches (spot m) else walk.Rests) ≡ walk.Reaches to → Leads
-        by true sound k = leads_there m is c there sound (reaches_same (spot m) to k)
+        by : (t : Bool) → c.sound ≡ t → (if t then path_end.Reaches (component m) else path_end.Unjudged) ≡ path_end.Reaches to → Leads
+        by true sound k = leads_there m is c there sound (reaches_same (component m) to k)
         by false sound k = absurd cc
 
-    leads_found : (o : Option Member) → component_of_name level 0 0 name (drop first cells) ≡ o → path_end_at_member cells block temporary first begin o ≡ walk.Reaches to → Leads
+    leads_found : (o : Option Member) → component_of_name level 0 0 name (drop first cells) ≡ o → path_end_at_member cells block temporary first begin o ≡ path_end.Reaches to → Leads
     leads_found None is e = absurd cc
     leads_found (Some m) is e = leads_entered m is (slice_get cells (first + m.place)) refl e
 
   leads_outermost : (block : ℕ) (temporary : Bool) (begin : ℕ) (name : List ℕ) (to : ComponentAt) → to.offset < largest_size →
-      outermost_path_end l block temporary begin name ≡ walk.Reaches to → NamesComponent l block temporary 0 0 begin name to × (begin < largest_size)
+      outermost_path_end l block temporary begin name ≡ path_end.Reaches to → NamesComponent l block temporary 0 0 begin name to × (begin < largest_size)
   unfolding outermost_path_end
   leads_outermost block temporary begin name to near e =
       leads_found block temporary 0 0 begin name to near (component_of_name 0 0 0 name (cells_at l block temporary)) refl e
 
-  leads_in : (s : ComponentAt) (name : List ℕ) (c : Cell) (of : Element) (to : ComponentAt) → to.offset < largest_size → named_in l s name c of ≡ walk.Reaches to →
+  leads_in : (s : ComponentAt) (name : List ℕ) (c : Cell) (of : Element) (to : ComponentAt) → to.offset < largest_size → named_in l s name c of ≡ path_end.Reaches to →
       NamesComponentOf l s name c of to × (s.offset < largest_size)
   leads_in s name c Structure to near e =
       leads_found s.block s.temporary (s.place + 1) (c.level + 1) s.offset name to near
@@ -187,22 +187,22 @@ module _ (l : List BlockLayout) where
   leads_in s name c DateAndTime to near e = absurd cc
   leads_in s name c Unknown to near e = absurd cc
 
-  leads_named : (s : ComponentAt) (name : List ℕ) (to : ComponentAt) → to.offset < largest_size → path_end_by_name l s name ≡ walk.Reaches to → IsInside l s name to × (s.offset < largest_size)
+  leads_named : (s : ComponentAt) (name : List ℕ) (to : ComponentAt) → to.offset < largest_size → path_end_by_name l s name ≡ path_end.Reaches to → IsInside l s name to × (s.offset < largest_size)
   unfolding path_end_by_name
   leads_named s name to near e = by (slice_get (cells_at l s.block s.temporary) s.place) refl e
     where
       whole : (c : Cell) → slice_get (cells_at l s.block s.temporary) s.place ≡ Some c → (t : Bool) → nat_eq s.depth (length c.bounds) ≡ t →
-          (if t then named_in l s name c c.of else walk.Unknown) ≡ walk.Reaches to → IsInside l s name to × (s.offset < largest_size)
+          (if t then named_in l s name c c.of else path_end.Unknown) ≡ path_end.Reaches to → IsInside l s name to × (s.offset < largest_size)
       whole c there true is k =
           let leads = leads_in s name c c.of to near k in
           (record { cell = c; there = there; indexed = eqb-true s.depth (length c.bounds) is; leads = leads.0 }, leads.1)
       whole c there false is k = absurd cc
 
-      by : (o : Option Cell) → slice_get (cells_at l s.block s.temporary) s.place ≡ o → named_behind l s name o ≡ walk.Reaches to → IsInside l s name to × (s.offset < largest_size)
+      by : (o : Option Cell) → slice_get (cells_at l s.block s.temporary) s.place ≡ o → named_behind l s name o ≡ path_end.Reaches to → IsInside l s name to × (s.offset < largest_size)
       by None there k = absurd cc
       by (Some c) there k = whole c there (nat_eq s.depth (length c.bounds)) refl k
 
-  leads_indexed : (s : ComponentAt) (at : ℤ) (to : ComponentAt) → to.offset < largest_size → step_is_beyond l s (step.Index at) ≡ false → path_end_by_index l s at ≡ walk.Reaches to →
+  leads_indexed : (s : ComponentAt) (at : ℤ) (to : ComponentAt) → to.offset < largest_size → step_is_beyond l s (step.Index at) ≡ false → path_end_by_index l s at ≡ path_end.Reaches to →
       IndexesElement l s at to × (s.offset < largest_size)
   unfolding path_end_by_index
   leads_indexed s at to near stays e = by (slice_get (cells_at l s.block s.temporary) s.place) refl stays e
@@ -229,19 +229,19 @@ module _ (l : List BlockLayout) where
           )
 
       bounded : (c : Cell) → slice_get (cells_at l s.block s.temporary) s.place ≡ Some c → (o : Option Bounds) → slice_get c.bounds s.depth ≡ o → is_beyond_left o at ≡ false →
-          path_end_in_bounds s c (drop (s.place + 1) (cells_at l s.block s.temporary)) at o ≡ walk.Reaches to → IndexesElement l s at to × (s.offset < largest_size)
+          path_end_in_bounds s c (drop (s.place + 1) (cells_at l s.block s.temporary)) at o ≡ path_end.Reaches to → IndexesElement l s at to × (s.offset < largest_size)
       bounded c there None left inside k = absurd cc
       bounded c there (Some b) left inside k =
           there_is c there b left inside
           (reaches_same (element c b) to
-          (ap (λ (t : Bool). if t then walk.Reaches (record s { depth = s.depth + 1 }) else walk.Reaches (element c b)) (sym inside) ∙ k))
+          (ap (λ (t : Bool). if t then path_end.Reaches (record s { depth = s.depth + 1 }) else path_end.Reaches (element c b)) (sym inside) ∙ k))
 
       by : (o : Option Cell) → slice_get (cells_at l s.block s.temporary) s.place ≡ o → is_beyond_in s.depth o at ≡ false →
-          indexed_behind s (cells_at l s.block s.temporary) at o ≡ walk.Reaches to → IndexesElement l s at to × (s.offset < largest_size)
+          indexed_behind s (cells_at l s.block s.temporary) at o ≡ path_end.Reaches to → IndexesElement l s at to × (s.offset < largest_size)
       by None there inside k = absurd cc
       by (Some c) there inside k = bounded c there (slice_get c.bounds s.depth) refl inside k
 
-  leads_step : (s : ComponentAt) (p : PathStep) (to : ComponentAt) → to.offset < largest_size → step_is_beyond l s p ≡ false → path_end_by_step l s p ≡ walk.Reaches to →
+  leads_step : (s : ComponentAt) (p : PathStep) (to : ComponentAt) → to.offset < largest_size → step_is_beyond l s p ≡ false → path_end_by_step l s p ≡ path_end.Reaches to →
       StepLeadsTo l s p to × (s.offset < largest_size)
   unfolding path_end_by_step
   leads_step s (step.Named name) to near stays e = leads_named s name to near e
@@ -257,52 +257,52 @@ module _ (l : List BlockLayout) where
   or_second true b e = absurd cc
   or_second false b e = e
 
-  leads_walked : (ps : List PathStep) (s to : ComponentAt) → to.offset < largest_size → leaves_array l s ps ≡ false → path_end_behind l s ps ≡ walk.Reaches to → LeadsTo l s ps to × (s.offset < largest_size)
+  leads_walked : (ps : List PathStep) (s to : ComponentAt) → to.offset < largest_size → leaves_array l s ps ≡ false → path_end_behind l s ps ≡ path_end.Reaches to → LeadsTo l s ps to × (s.offset < largest_size)
   leads_walked [] s to near stays e =
       let same = reaches_same s to e in (same, subst (λ (x : ComponentAt). x.offset < largest_size) (sym same) near)
   leads_walked (p ∷ ps) s to near stays e =
       by (path_end_by_step l s p) refl (or_second (step_is_beyond l s p) (holds_where_reached (path_end_by_step l s p) (λ next. leaves_array l next ps)) stays) e
       (λ next inside k. leads_walked ps next to near inside k)
     where
-      by : (w : PathEnd) → path_end_by_step l s p ≡ w → holds_where_reached w (λ next. leaves_array l next ps) ≡ false → path_end_and_then w (λ next. path_end_behind l next ps) ≡ walk.Reaches to →
-          ((next : ComponentAt) → leaves_array l next ps ≡ false → path_end_behind l next ps ≡ walk.Reaches to → LeadsTo l next ps to × (next.offset < largest_size)) →
+      by : (w : PathEnd) → path_end_by_step l s p ≡ w → holds_where_reached w (λ next. leaves_array l next ps) ≡ false → path_end_and_then w (λ next. path_end_behind l next ps) ≡ path_end.Reaches to →
+          ((next : ComponentAt) → leaves_array l next ps ≡ false → path_end_behind l next ps ≡ path_end.Reaches to → LeadsTo l next ps to × (next.offset < largest_size)) →
           LeadsTo l s (p ∷ ps) to × (s.offset < largest_size)
-      by (walk.Reaches next) is inside k more =
+      by (path_end.Reaches next) is inside k more =
           let rest = more next inside k in
           let one = leads_step s p next rest.1 (or_first (step_is_beyond l s p) (holds_where_reached (path_end_by_step l s p) (λ next. leaves_array l next ps)) stays) is in
           ((next, one.0, rest.0), one.1)
-      by walk.Unknown is inside k more = absurd cc
-      by walk.Rests is inside k more = absurd cc
+      by path_end.Unknown is inside k more = absurd cc
+      by path_end.Unjudged is inside k more = absurd cc
 
   leads_from : (block : ℕ) (temporary : Bool) (path : List PathStep) (to : ComponentAt) → to.offset < largest_size → leaves_from l block temporary path ≡ false →
-      path_end_in_block l block temporary path ≡ walk.Reaches to → LeadsFrom l block temporary path to
+      path_end_in_block l block temporary path ≡ path_end.Reaches to → LeadsFrom l block temporary path to
   leads_from block temporary [] to near stays e = absurd cc
   leads_from block temporary (step.Index at ∷ ps) to near stays e = absurd cc
   leads_from block temporary (step.Named name ∷ ps) to near stays e = by (outermost_path_end l block temporary 0 name) refl stays e
     where
-      by : (w : PathEnd) → outermost_path_end l block temporary 0 name ≡ w → holds_where_reached w (λ s. leaves_array l s ps) ≡ false → path_end_and_then w (λ s. path_end_behind l s ps) ≡ walk.Reaches to →
+      by : (w : PathEnd) → outermost_path_end l block temporary 0 name ≡ w → holds_where_reached w (λ s. leaves_array l s ps) ≡ false → path_end_and_then w (λ s. path_end_behind l s ps) ≡ path_end.Reaches to →
           LeadsFrom l block temporary (step.Named name ∷ ps) to
-      by (walk.Reaches first) is inside k =
+      by (path_end.Reaches first) is inside k =
           let rest = leads_walked ps first to near inside k in (first, (leads_outermost block temporary 0 name first rest.1 is).0, rest.0)
-      by walk.Unknown is inside k = absurd cc
-      by walk.Rests is inside k = absurd cc
+      by path_end.Unknown is inside k = absurd cc
+      by path_end.Unjudged is inside k = absurd cc
 
   -- ---- a place
 
   -- what a place is of
-  record IsSpotAt (w : PathEnd) (place : Place) (width : Width) : Type 0 where
+  record IsPlaceOfComponent (w : PathEnd) (place : Place) (width : Width) : Type 0 where
     to : ComponentAt
-    there : w ≡ walk.Reaches to
+    there : w ≡ path_end.Reaches to
     near : to.offset < largest_size
     sum : 8 * place.byte + place.bit ≡ to.offset
     kind : Simple
     elementary : elementary_at l to ≡ Some kind
     wide : width ≡ width_of kind
 
-  spot_at : (a : Area) (number : ℕ) (w : PathEnd) (place : Place) (width : Width) → place_at_path_end l a number w ≡ Some (place, width) → IsSpotAt w place width
-  spot_at a number walk.Unknown place width e = absurd cc
-  spot_at a number walk.Rests place width e = absurd cc
-  spot_at a number (walk.Reaches to) place width e = by (elementary_at l to) refl e
+  component_of_place : (a : Area) (number : ℕ) (w : PathEnd) (place : Place) (width : Width) → place_at_path_end l a number w ≡ Some (place, width) → IsPlaceOfComponent w place width
+  component_of_place a number path_end.Unknown place width e = absurd cc
+  component_of_place a number path_end.Unjudged place width e = absurd cc
+  component_of_place a number (path_end.Reaches to) place width e = by (elementary_at l to) refl e
     where
       pair_same : (x y : Place × Width) → Some x ≡ Some y → x ≡ y
       pair_same x y k = cc
@@ -311,7 +311,7 @@ module _ (l : List BlockLayout) where
       here kind = (place_at a number to.offset, width_of kind)
 
       low : (kind : Simple) → elementary_at l to ≡ Some kind → (t : Bool) → nat_le (to.offset / 8) 65535 ≡ t →
-          (if t then Some (here kind) else None) ≡ Some (place, width) → IsSpotAt (walk.Reaches to) place width
+          (if t then Some (here kind) else None) ≡ Some (place, width) → IsPlaceOfComponent (path_end.Reaches to) place width
       low kind is true near k =
           let same = pair_same (here kind) (place, width) k in
           let bytes : place.byte ≡ to.offset / 8 = ap (λ (p : Place × Width). p.0.byte) (sym same) in
@@ -328,13 +328,13 @@ module _ (l : List BlockLayout) where
           }
       low kind is false near k = absurd cc
 
-      by : (o : Option Simple) → elementary_at l to ≡ o → elementary_place a number to.offset o ≡ Some (place, width) → IsSpotAt (walk.Reaches to) place width
+      by : (o : Option Simple) → elementary_at l to ≡ o → elementary_place a number to.offset o ≡ Some (place, width) → IsPlaceOfComponent (path_end.Reaches to) place width
       by None is k = absurd cc
       by (Some kind) is k = low kind is (nat_le (to.offset / 8) 65535) refl k
 
   module _ (id : BlockId) (path : List PathStep) (place : Place) (width : Width) (block : ℕ) (known : option_and_then (if_whole l) (known_block id (map (λ b. b.id) l)) ≡ Some block) where
     led : (s : Section) (inside : ℕ) → declaring_block l s block ≡ Some inside → leaves_from l inside (is_temporary s) path ≡ false →
-        IsSpotAt (path_end_in_block l inside (is_temporary s) path) place width → LeadsToPlace l id s path place width
+        IsPlaceOfComponent (path_end_in_block l inside (is_temporary s) path) place width → LeadsToPlace l id s path place width
     led s inside declared stays at = record {
       block = block;
       known = known;
@@ -359,12 +359,12 @@ module _ (l : List BlockLayout) where
     led_variable : (s : Section) (a : Area) → declaring_block l s block ≡ Some block → variable_place l a block (is_temporary s) path ≡ Some (place, width) → LeadsToPlace l id s path place width
     led_variable s a declared e =
         let r = if_let (leaves_from l block (is_temporary s) path) (place_at_path_end l a 0 (path_end_in_block l block (is_temporary s) path)) e in
-        led s block declared r.0 (spot_at a 0 (path_end_in_block l block (is_temporary s) path) place width r.1)
+        led s block declared r.0 (component_of_place a 0 (path_end_in_block l block (is_temporary s) path) place width r.1)
 
-    checkable_stays : (w : PathEnd) (to : ComponentAt) (b : Bool) → w ≡ walk.Reaches to → (is_checkable w && b) ≡ false → b ≡ false
-    checkable_stays (walk.Reaches s) to b is e = e
-    checkable_stays walk.Unknown to b is e = e
-    checkable_stays walk.Rests to b is e = absurd cc
+    checkable_stays : (w : PathEnd) (to : ComponentAt) (b : Bool) → w ≡ path_end.Reaches to → (is_checkable w && b) ≡ false → b ≡ false
+    checkable_stays (path_end.Reaches s) to b is e = e
+    checkable_stays path_end.Unknown to b is e = e
+    checkable_stays path_end.Unjudged to b is e = absurd cc
 
     led_component : data_component l id.number block path ≡ Some (place, width) → LeadsToPlace l id section.Global path place width
     unfolding path_end_in_data_block
@@ -372,11 +372,11 @@ module _ (l : List BlockLayout) where
         let r = if_let (leaves_structure l (structure_of l block) path) (place_at_path_end l area.Db id.number (path_end_in_data_block l block path)) e in
         by (structure_of l block) refl r.0 r.1
       where
-        by : (o : Option ℕ) → structure_of l block ≡ o → leaves_structure l o path ≡ false → place_at_path_end l area.Db id.number (path_end_or_rests l o path) ≡ Some (place, width) →
+        by : (o : Option ℕ) → structure_of l block ≡ o → leaves_structure l o path ≡ false → place_at_path_end l area.Db id.number (path_end_or_unjudged l o path) ≡ Some (place, width) →
             LeadsToPlace l id section.Global path place width
         by None is stays k = absurd cc
         by (Some inside) is stays k =
-            let at = spot_at area.Db id.number (path_end_in_block l inside false path) place width k in
+            let at = component_of_place area.Db id.number (path_end_in_block l inside false path) place width k in
             led section.Global inside is (checkable_stays (path_end_in_block l inside false path) at.to (leaves_from l inside false path) at.there stays) at
 
     led_in : (s : Section) → place_in_section l id s path block ≡ Some (place, width) → LeadsToPlace l id s path place width

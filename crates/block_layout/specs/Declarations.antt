@@ -11,7 +11,7 @@ use Rattle.stl_ast.specs.declared.declarations.Init.{Init}
 use Rattle.block_layout.specs.Fits.{fits_elementary_type}
 use Rattle.block_layout.specs.Types.{Types, data_type_place}
 
--- rule 23: the source has no such data type
+-- an element's data type is one that the source doesn't have (rule 23)
 abbrev pub is_unknown_type : Types → ElementType → Bool
 is_unknown_type y (element.Udt name) = is_none (data_type_place y name)
 is_unknown_type y _ = false

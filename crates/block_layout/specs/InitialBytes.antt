@@ -13,7 +13,7 @@ use Rattle.block_layout.specs.declared.cells.Element.{Element}
 use Rattle.block_layout.specs.declared.cells.Element.TheVariants.{Plain, Structure, Udt}
 use Rattle.block_layout.specs.declared.cells.Preset.{Preset}
 use Rattle.block_layout.specs.declared.walks.PathEnd.{PathEnd}
-use Rattle.block_layout.specs.declared.walks.PathEnd.TheVariants as walk
+use Rattle.block_layout.specs.declared.walks.PathEnd.TheVariants as path_end
 use Rattle.block_layout.specs.Declarations.{element_count}
 use Rattle.block_layout.specs.Fits.{bits_of}
 use Rattle.block_layout.specs.Measures.{measuring_rounds}
@@ -115,8 +115,8 @@ write_of offset value (Some kind) =
 
 -- the write of a setting, by where its path leads: none where that is no elementary component
 abbrev pub setting_write : List BlockLayout → Literal → PathEnd → List Write
-setting_write l value (walk.Reaches spot) =
-    write_of spot.offset (bits_of value) (elementary_at l spot)
+setting_write l value (path_end.Reaches component) =
+    write_of component.offset (bits_of value) (elementary_at l component)
 setting_write l value _ = []
 
 -- the writes of the settings of the data block at this place, in the order of the text

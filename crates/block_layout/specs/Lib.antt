@@ -11,7 +11,7 @@ pub mod Cells
 pub mod Sizes
 pub mod Members
 pub mod DeclarationFacts
-pub mod Scopes
+pub mod NameLists
 pub mod Measures
 pub mod Lengths
 pub mod Heads

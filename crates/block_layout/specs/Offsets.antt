@@ -15,7 +15,7 @@ use Rattle.block_layout.specs.declared.blocks.BlockLayout.{BlockLayout}
 use Rattle.block_layout.specs.declared.blocks.Section.{Section}
 use Rattle.block_layout.specs.declared.blocks.Section.TheVariants as section
 use Rattle.block_layout.specs.declared.walks.PathEnd.{PathEnd}
-use Rattle.block_layout.specs.declared.walks.PathEnd.TheVariants as walk
+use Rattle.block_layout.specs.declared.walks.PathEnd.TheVariants as path_end
 use Rattle.block_layout.specs.Blocks.{known_block}
 use Rattle.block_layout.specs.Paths.{path_end_in_data_block, path_end_in_block, leaves_from, leaves_structure, structure_of, elementary_at, if_whole}
 
@@ -46,8 +46,8 @@ elementary_place a number bits (Some kind) =
 -- component, or to one of another type
 abbrev pub place_at_path_end : List BlockLayout → Area → (number : ℕ) → PathEnd
     → Option (Place × Width)
-place_at_path_end l a number (walk.Reaches spot) =
-    elementary_place a number spot.offset (elementary_at l spot)
+place_at_path_end l a number (path_end.Reaches component) =
+    elementary_place a number component.offset (elementary_at l component)
 place_at_path_end l a number _ = None
 
 -- place and width of an elementary component of a data block, in that block; none where an index is

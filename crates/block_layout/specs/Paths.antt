@@ -17,7 +17,7 @@ use Rattle.block_layout.specs.Sizes.{largest_size}
 use Rattle.block_layout.specs.declared.members.Member.{Member}
 use Rattle.block_layout.specs.declared.walks.ComponentAt.{ComponentAt}
 use Rattle.block_layout.specs.declared.walks.PathEnd.{PathEnd}
-use Rattle.block_layout.specs.declared.walks.PathEnd.TheVariants as walk
+use Rattle.block_layout.specs.declared.walks.PathEnd.TheVariants as path_end
 use Rattle.block_layout.specs.Members.{component_of_name}
 use Rattle.block_layout.specs.Sizes.{capped_size, array_bits, element_of}
 
@@ -44,22 +44,22 @@ cells_at l block temporary = cells_in temporary (slice_get l block)
 -- itself isn't gone through
 abbrev pub path_end_at_cell : (block : ℕ) → (temporary : Bool) → (place offset : ℕ) → Option Cell
     → PathEnd
-path_end_at_cell block temporary place offset None = walk.Unknown
+path_end_at_cell block temporary place offset None = path_end.Unknown
 path_end_at_cell block temporary place offset (Some c) =
     if c.sound
-    then walk.Reaches (record {
+    then path_end.Reaches (record {
       block = block;
       temporary = temporary;
       place = place;
       depth = 0;
       offset = offset;
-    }) else walk.Rests
+    }) else path_end.Unjudged
 
 -- where a path to a component leads, whose place counts from `first` on and whose offset from that
 -- of the structure
 abbrev pub path_end_at_member : List Cell → (block : ℕ) → (temporary : Bool) → (first offset : ℕ)
     → Option Member → PathEnd
-path_end_at_member cells block temporary first offset None = walk.Unknown
+path_end_at_member cells block temporary first offset None = path_end.Unknown
 path_end_at_member cells block temporary first offset (Some m) =
     path_end_at_cell block temporary (first + m.place) (capped_size (offset + capped_size m.offset))
     (slice_get cells (first + m.place))
@@ -74,25 +74,28 @@ outermost_path_end l block temporary offset name =
 -- where a name behind a component leads: of a structure to its own components, of a data type to
 -- those of the block that declares it
 abbrev pub named_in : List BlockLayout → ComponentAt → List ℕ → Cell → Element → PathEnd
-named_in l spot name c Structure =
-    path_end_at_member (cells_at l spot.block spot.temporary) spot.block spot.temporary
-    (spot.place + 1) spot.offset
+named_in l component name c Structure =
+    path_end_at_member (cells_at l component.block component.temporary) component.block
+    component.temporary (component.place + 1) component.offset
     (component_of_name (c.level + 1) 0 0 name
-    (drop (spot.place + 1) (cells_at l spot.block spot.temporary)))
-named_in l spot name c (Udt block bits) = outermost_path_end l block false spot.offset name
-named_in l spot name c _ = walk.Unknown
+    (drop (component.place + 1) (cells_at l component.block component.temporary)))
+named_in l component name c (Udt block bits) =
+    outermost_path_end l block false component.offset name
+named_in l component name c _ = path_end.Unknown
 
 -- where a name behind a component leads that has all its indices; behind another one it is unknown
 abbrev pub named_behind : List BlockLayout → ComponentAt → List ℕ → Option Cell → PathEnd
-named_behind l spot name None = walk.Unknown
-named_behind l spot name (Some c) =
-    if nat_eq spot.depth (length c.bounds) then named_in l spot name c c.of else walk.Unknown
+named_behind l component name None = path_end.Unknown
+named_behind l component name (Some c) =
+    if nat_eq component.depth (length c.bounds) then named_in l component name c c.of
+    else path_end.Unknown
 
--- where a name behind a spot leads; where an index is lacking, or what is there has no components,
--- it is unknown
+-- where a name behind a component leads; where an index is lacking, or it has no components of its
+-- own, the name is unknown
 unfoldable pub path_end_by_name : List BlockLayout → ComponentAt → List ℕ → PathEnd
-path_end_by_name l spot name =
-    named_behind l spot name (slice_get (cells_at l spot.block spot.temporary) spot.place)
+path_end_by_name l component name =
+    named_behind l component name
+    (slice_get (cells_at l component.block component.temporary) component.place)
 
 -- an index is outside these bounds
 abbrev pub is_beyond : Bounds → ℤ → Bool
@@ -102,54 +105,55 @@ is_beyond b at = int_lt at b.low || int_lt b.high at
 -- first element does, so that a declaration further on that breaks a rule is seen
 abbrev pub path_end_in_bounds : ComponentAt → Cell → (behind : List Cell) → ℤ → Option Bounds
     → PathEnd
-path_end_in_bounds spot c behind at None = walk.Unknown
-path_end_in_bounds spot c behind at (Some b) =
-    if is_beyond b at then walk.Reaches (record spot { depth = spot.depth + 1 })
-    else walk.Reaches (record spot {
-      depth = spot.depth + 1;
-      offset = capped_size (spot.offset + capped_size
-          (unsigned_abs (at -ℤ b.low) * array_bits (drop (spot.depth + 1) c.bounds)
+path_end_in_bounds component c behind at None = path_end.Unknown
+path_end_in_bounds component c behind at (Some b) =
+    if is_beyond b at then path_end.Reaches (record component { depth = component.depth + 1 })
+    else path_end.Reaches (record component {
+      depth = component.depth + 1;
+      offset = capped_size (component.offset + capped_size
+          (unsigned_abs (at -ℤ b.low) * array_bits (drop (component.depth + 1) c.bounds)
           (element_of c behind)));
     })
 
 -- where an index behind a component that stands among `cells` leads, for the first bounds without
 -- an index yet
 abbrev pub indexed_behind : ComponentAt → (cells : List Cell) → ℤ → Option Cell → PathEnd
-indexed_behind spot cells at None = walk.Unknown
-indexed_behind spot cells at (Some c) =
-    path_end_in_bounds spot c (drop (spot.place + 1) cells) at (slice_get c.bounds spot.depth)
+indexed_behind component cells at None = path_end.Unknown
+indexed_behind component cells at (Some c) =
+    path_end_in_bounds component c (drop (component.place + 1) cells) at
+    (slice_get c.bounds component.depth)
 
--- where an index behind a spot leads; behind what is no array, or has all its indices, it is
+-- where an index behind a component leads; behind what is no array, or has all its indices, it is
 -- unknown
 unfoldable pub path_end_by_index : List BlockLayout → ComponentAt → ℤ → PathEnd
-path_end_by_index l spot at =
-    indexed_behind spot (cells_at l spot.block spot.temporary) at
-    (slice_get (cells_at l spot.block spot.temporary) spot.place)
+path_end_by_index l component at =
+    indexed_behind component (cells_at l component.block component.temporary) at
+    (slice_get (cells_at l component.block component.temporary) component.place)
 
--- where one step of a path behind a spot leads
+-- where one step of a path behind a component leads
 unfoldable pub path_end_by_step : List BlockLayout → ComponentAt → PathStep → PathEnd
-path_end_by_step l spot (step.Named name) = path_end_by_name l spot name
-path_end_by_step l spot (step.Index at) = path_end_by_index l spot at
+path_end_by_step l component (step.Named name) = path_end_by_name l component name
+path_end_by_step l component (step.Index at) = path_end_by_index l component at
 
--- a path goes on behind a component that it reaches; what is unknown or rests stays so
+-- a path goes on behind a component that it reaches; what is unknown or unjudged stays so
 abbrev pub path_end_and_then : PathEnd → (ComponentAt → PathEnd) → PathEnd
-path_end_and_then (walk.Reaches spot) next = next spot
-path_end_and_then walk.Unknown next = walk.Unknown
-path_end_and_then walk.Rests next = walk.Rests
+path_end_and_then (path_end.Reaches component) next = next component
+path_end_and_then path_end.Unknown next = path_end.Unknown
+path_end_and_then path_end.Unjudged next = path_end.Unjudged
 
 -- where the steps behind a component lead
 abbrev pub path_end_behind : List BlockLayout → ComponentAt → List PathStep → PathEnd
-path_end_behind l spot [] = walk.Reaches spot
-path_end_behind l spot (s ∷ ss) =
-    path_end_and_then (path_end_by_step l spot s) (λ next. path_end_behind l next ss)
+path_end_behind l component [] = path_end.Reaches component
+path_end_behind l component (s ∷ ss) =
+    path_end_and_then (path_end_by_step l component s) (λ next. path_end_behind l next ss)
 
 -- where a whole path in the outermost declarations of a block leads, which begins with a name
 abbrev pub path_end_in_block : List BlockLayout → (block : ℕ) → (temporary : Bool) → List PathStep
     → PathEnd
 path_end_in_block l block temporary (step.Named name ∷ ss) =
     path_end_and_then (outermost_path_end l block temporary 0 name)
-    (λ spot. path_end_behind l spot ss)
-path_end_in_block l block temporary _ = walk.Unknown
+    (λ component. path_end_behind l component ss)
+path_end_in_block l block temporary _ = path_end.Unknown
 
 -- an index is outside the bounds that are left; where none are left it isn't
 abbrev pub is_beyond_left : Option Bounds → ℤ → Bool
@@ -162,35 +166,36 @@ abbrev pub is_beyond_in : (depth : ℕ) → Option Cell → ℤ → Bool
 is_beyond_in depth None at = false
 is_beyond_in depth (Some c) at = is_beyond_left (slice_get c.bounds depth) at
 
--- a step behind a spot is an index outside its array; a name never is
+-- a step behind a component is an index outside its array; a name never is
 abbrev pub step_is_beyond : List BlockLayout → ComponentAt → PathStep → Bool
-step_is_beyond l spot (step.Named name) = false
-step_is_beyond l spot (step.Index at) =
-    is_beyond_in spot.depth (slice_get (cells_at l spot.block spot.temporary) spot.place) at
+step_is_beyond l component (step.Named name) = false
+step_is_beyond l component (step.Index at) =
+    is_beyond_in component.depth
+    (slice_get (cells_at l component.block component.temporary) component.place) at
 
--- whether this holds of the spot that a path reaches; where it reaches none it doesn't
+-- whether this holds of the component that a path reaches; where it reaches none it doesn't
 abbrev pub holds_where_reached : PathEnd → (ComponentAt → Bool) → Bool
-holds_where_reached (walk.Reaches spot) next = next spot
+holds_where_reached (path_end.Reaches component) next = next component
 holds_where_reached _ next = false
 
 -- whether one of these steps is an index outside its array, up to the first that reaches nothing
 abbrev pub leaves_array : List BlockLayout → ComponentAt → List PathStep → Bool
-leaves_array l spot [] = false
-leaves_array l spot (s ∷ ss) =
-    step_is_beyond l spot s
-    || holds_where_reached (path_end_by_step l spot s) (λ next. leaves_array l next ss)
+leaves_array l component [] = false
+leaves_array l component (s ∷ ss) =
+    step_is_beyond l component s
+    || holds_where_reached (path_end_by_step l component s) (λ next. leaves_array l next ss)
 
 -- whether a whole path in the outermost declarations of a block, which begins with a name, has an
 -- index outside its array
 abbrev pub leaves_from : List BlockLayout → (block : ℕ) → (temporary : Bool) → List PathStep → Bool
 leaves_from l block temporary (step.Named name ∷ ss) =
     holds_where_reached (outermost_path_end l block temporary 0 name)
-    (λ spot. leaves_array l spot ss)
+    (λ component. leaves_array l component ss)
 leaves_from l block temporary _ = false
 
 -- a path can be checked by where it leads: it does not go through what breaks a rule itself
 abbrev pub is_checkable : PathEnd → Bool
-is_checkable walk.Rests = false
+is_checkable path_end.Unjudged = false
 is_checkable _ = true
 
 -- a block that isn't broken
@@ -216,10 +221,10 @@ shape_block l block shape.Unknown = None
 abbrev pub structure_of : List BlockLayout → ℕ → Option ℕ
 structure_of l block = option_and_then (λ b. shape_block l block b.shape) (whole_at l block)
 
--- where a path in the components that this block declares leads; where none declares them it rests
-abbrev pub path_end_or_rests : List BlockLayout → Option ℕ → List PathStep → PathEnd
-path_end_or_rests l None path = walk.Rests
-path_end_or_rests l (Some block) path = path_end_in_block l block false path
+-- where a path in the components that this block declares leads; unjudged where none declares them
+abbrev pub path_end_or_unjudged : List BlockLayout → Option ℕ → List PathStep → PathEnd
+path_end_or_unjudged l None path = path_end.Unjudged
+path_end_or_unjudged l (Some block) path = path_end_in_block l block false path
 
 -- the block that declares the components of a data block, which may itself be broken: its settings
 -- are checked all the same
@@ -229,19 +234,19 @@ setting_structure l block =
 
 -- where the path of a setting leads, also in a data block that is broken
 unfoldable pub path_end_of_setting : List BlockLayout → (block : ℕ) → List PathStep → PathEnd
-path_end_of_setting l block path = path_end_or_rests l (setting_structure l block) path
+path_end_of_setting l block path = path_end_or_unjudged l (setting_structure l block) path
 
--- whether a path leaves an array of the structure that this block declares, unless it rests on what
--- breaks a rule itself
+-- whether a path leaves an array of the structure that this block declares, unless it goes through
+-- what breaks a rule itself
 abbrev pub leaves_structure : List BlockLayout → Option ℕ → List PathStep → Bool
 leaves_structure l None path = false
 leaves_structure l (Some block) path =
     is_checkable (path_end_in_block l block false path) && leaves_from l block false path
 
--- where a path into a data block leads; it rests where that block, or the one that declares its
+-- where a path into a data block leads; unjudged where that block, or the one that declares its
 -- components, is broken
 unfoldable pub path_end_in_data_block : List BlockLayout → (block : ℕ) → List PathStep → PathEnd
-path_end_in_data_block l block path = path_end_or_rests l (structure_of l block) path
+path_end_in_data_block l block path = path_end_or_unjudged l (structure_of l block) path
 
 -- where a name in the sections of a block leads: of two that are the same the first one is meant,
 -- and VAR_TEMP is the last section
@@ -255,15 +260,16 @@ in_sections l block name =
 unfoldable pub walked_local : List BlockLayout → (block : ℕ) → List ℕ → List PathStep → PathEnd
 walked_local l block name path =
     if is_some (whole_at l block)
-    then path_end_and_then (in_sections l block name) (λ spot. path_end_behind l spot path)
-    else walk.Rests
+    then path_end_and_then (in_sections l block name)
+    (λ component. path_end_behind l component path)
+    else path_end.Unjudged
 
 -- whether a path in the body of a block leaves an array, in the sections in which its name is
 abbrev pub leaves_sections : List BlockLayout → (block : ℕ) → List ℕ → List PathStep → Bool
 leaves_sections l block name path =
-    holds_where_reached (in_sections l block name) (λ spot. leaves_array l spot path)
+    holds_where_reached (in_sections l block name) (λ component. leaves_array l component path)
 
--- whether a path in the body of a block leaves an array, unless it rests on what breaks a rule
+-- whether a path in the body of a block leaves an array, unless it goes through what breaks a rule
 -- itself
 abbrev pub leaves_local : List BlockLayout → (block : ℕ) → List ℕ → List PathStep → Bool
 leaves_local l block name path =
@@ -276,24 +282,27 @@ plain_kind _ = None
 
 -- the elementary type of a component once all its indices are there; none of another type
 abbrev pub kind_of : ComponentAt → Option Cell → Option Simple
-kind_of spot None = None
-kind_of spot (Some c) = if nat_eq spot.depth (length c.bounds) then plain_kind c.of else None
+kind_of component None = None
+kind_of component (Some c) =
+    if nat_eq component.depth (length c.bounds) then plain_kind c.of else None
 
--- the elementary type at a spot; none of an array, a structure, a data type or DATE_AND_TIME
+-- the elementary type of a component; none of an array, a structure, a data type or DATE_AND_TIME
 abbrev pub elementary_at : List BlockLayout → ComponentAt → Option Simple
-elementary_at l spot = kind_of spot (slice_get (cells_at l spot.block spot.temporary) spot.place)
+elementary_at l component =
+    kind_of component (slice_get (cells_at l component.block component.temporary) component.place)
 
 -- the offset of the component that a path reaches isn't above the cap
 abbrev pub OffsetIsNear : PathEnd → Type 0
-OffsetIsNear (walk.Reaches spot) = spot.offset ≤ largest_size
+OffsetIsNear (path_end.Reaches component) = component.offset ≤ largest_size
 OffsetIsNear _ = Unit {0}
 
--- the component at a spot is sound
+-- a component that is declared without breaking a rule
 abbrev pub IsSoundAt : List BlockLayout → ComponentAt → Type 0
-IsSoundAt l spot = (c : Cell)
-    → slice_get (cells_at l spot.block spot.temporary) spot.place ≡ Some c → c.sound ≡ true
+IsSoundAt l component = (c : Cell)
+    → slice_get (cells_at l component.block component.temporary) component.place ≡ Some c
+    → c.sound ≡ true
 
 -- the component that a path reaches is sound; nothing is said where it reaches none
 abbrev pub ReachesSound : List BlockLayout → PathEnd → Type 0
-ReachesSound l (walk.Reaches spot) = IsSoundAt l spot
+ReachesSound l (path_end.Reaches component) = IsSoundAt l component
 ReachesSound l _ = Unit {0}

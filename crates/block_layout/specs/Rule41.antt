@@ -16,7 +16,7 @@ use Rattle.block_layout.specs.Paths.{folded_path, path_end_of_setting, elementar
 use Rattle.block_layout.specs.Settings.{on_settings}
 use Rattle.block_layout.specs.declared.blocks.BlockLayout.{BlockLayout}
 use Rattle.block_layout.specs.declared.walks.PathEnd.{PathEnd}
-use Rattle.block_layout.specs.declared.walks.PathEnd.TheVariants as walk
+use Rattle.block_layout.specs.declared.walks.PathEnd.TheVariants as path_end
 
 -- a declaration whose initial values don't fit its type
 abbrev pub broken_41 : Outside → List Declaration → Declaration → List Refusal
@@ -29,7 +29,8 @@ fits_kind value (Some kind) = fits_elementary_type value kind
 
 -- only a path that leads to a component is checked by its value
 abbrev pub misfits_component : List BlockLayout → Literal → PathEnd → Bool
-misfits_component l value (walk.Reaches spot) = not (fits_kind value (elementary_at l spot))
+misfits_component l value (path_end.Reaches component) =
+    not (fits_kind value (elementary_at l component))
 misfits_component l value _ = false
 
 -- the value of a setting doesn't fit the component that its path leads to

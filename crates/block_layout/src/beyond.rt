@@ -40,25 +40,25 @@ fn is_beyond_in(cell: &Cell, depth: usize, at: i32) -> bool
     }
 }
 
-fn index_is_beyond(layouts: &[BlockLayout], spot: ComponentAt, at: i32) -> bool
-    ensures { result ≡ is_beyond_in spot.depth
-        (slice_get (cells_at layouts.now spot.block spot.temporary) spot.place) at }
+fn index_is_beyond(layouts: &[BlockLayout], component: ComponentAt, at: i32) -> bool
+    ensures { result ≡ is_beyond_in component.depth
+        (slice_get (cells_at layouts.now component.block component.temporary) component.place) at }
 {
-    let Some(layout) = layout_at(layouts, spot.block, spot.temporary) else {
+    let Some(layout) = layout_at(layouts, component.block, component.temporary) else {
         return false;
     };
-    match layout.cell_at(spot.place) {
+    match layout.cell_at(component.place) {
         None => false,
-        Some(cell) => is_beyond_in(cell, spot.depth, at),
+        Some(cell) => is_beyond_in(cell, component.depth, at),
     }
 }
 
-fn step_is_beyond(layouts: &[BlockLayout], spot: ComponentAt, step: &PathStep) -> bool
-    ensures { result ≡ step_is_beyond layouts.now spot step.now }
+fn step_is_beyond(layouts: &[BlockLayout], component: ComponentAt, step: &PathStep) -> bool
+    ensures { result ≡ step_is_beyond layouts.now component step.now }
 {
     match step {
         PathStep::Named { .. } => false,
-        PathStep::Index { at } => index_is_beyond(layouts, spot, *at),
+        PathStep::Index { at } => index_is_beyond(layouts, component, *at),
     }
 }
 
@@ -69,13 +69,13 @@ fn leaves(layouts: &[BlockLayout], start: ComponentAt, path: &[PathStep]) -> boo
     requires sound { IsSoundAt layouts.now start }
     ensures { result ≡ leaves_array layouts.now start path.now }
 {
-    let mut spot = start;
+    let mut component = start;
     for next in path {
-        if step_is_beyond(layouts, spot, next) {
+        if step_is_beyond(layouts, component, next) {
             return true;
         }
-        match step(layouts, spot, next) {
-            PathEnd::Reaches { spot: reached } => spot = reached,
+        match step(layouts, component, next) {
+            PathEnd::Reaches { component: reached } => component = reached,
             _ => return false,
         }
     }
@@ -86,10 +86,11 @@ fn leaves(layouts: &[BlockLayout], start: ComponentAt, path: &[PathStep]) -> boo
 fn leaves_behind(layouts: &[BlockLayout], found: PathEnd, path: &[PathStep]) -> bool
     requires near { OffsetIsNear found }
     requires sound { ReachesSound layouts.now found }
-    ensures { result ≡ holds_where_reached found (λ spot. leaves_array layouts.now spot path.now) }
+    ensures { result
+        ≡ holds_where_reached found (λ component. leaves_array layouts.now component path.now) }
 {
     match found {
-        PathEnd::Reaches { spot } => leaves(layouts, spot, path),
+        PathEnd::Reaches { component } => leaves(layouts, component, path),
         _ => false,
     }
 }
@@ -115,14 +116,14 @@ pub(crate) fn leaves_from(
 
 /// Whether a path can be checked by where it leads: it does not go through what breaks a rule
 /// itself.
-fn is_checkable(walk: PathEnd) -> bool
-    ensures { result ≡ is_checkable walk }
+fn is_checkable(path_end: PathEnd) -> bool
+    ensures { result ≡ is_checkable path_end }
 {
-    !matches!(walk, PathEnd::Rests)
+    !matches!(path_end, PathEnd::Unjudged)
 }
 
-/// Whether a path leaves an array of the structure that this block declares, unless it rests on
-/// what breaks a rule itself.
+/// Whether a path leaves an array of the structure that this block declares, unless it goes
+/// through what breaks a rule itself.
 pub(crate) fn leaves_structure(
     layouts: &[BlockLayout],
     structure: Option<usize>,

@@ -220,9 +220,9 @@ fn put_setting(
 {
     let path = Path::new(alloc, setting.path.as_slice())?;
     match walk_data(layouts, block, path.steps()) {
-        PathEnd::Reaches { spot } => {
-            if let Some(kind) = elementary_at(layouts, spot) {
-                put(bytes, kind, spot.offset, bits_of(&setting.value));
+        PathEnd::Reaches { component } => {
+            if let Some(kind) = elementary_at(layouts, component) {
+                put(bytes, kind, component.offset, bits_of(&setting.value));
             }
             Ok(())
         }

@@ -15,7 +15,7 @@ ghost use Rattle.std.specs.List.{slice_get};
 ghost use Rattle.std.specs.Option.{option_copied};
 ghost use Rattle.block_layout.specs.Members.{component_of_name};
 ghost use Rattle.block_layout.specs.Sizes.{element_of, elements_of, structure_bits, largest_size};
-ghost use Rattle.block_layout.specs.Scopes.{AreScopes, EndParameters, HaveParameters, IsScope};
+ghost use Rattle.block_layout.specs.NameLists.{AreNameLists, EndParameters, HaveParameters, IsNameList};
 ghost use Rattle.block_layout.specs.declared.cells.Cell.{Cell};
 
 use crate::cells::Cell;
@@ -31,7 +31,7 @@ pub struct Layout {
     cells: Vec<Cell>,
     elements: Vec<u64>,
     outer: NameList,
-    scopes: Vec<NameList>,
+    name_lists: Vec<NameList>,
     bits: u64,
     parameters: usize,
 }
@@ -40,13 +40,13 @@ impl Model for Layout {
     ghost use Rattle.std.specs.Prelude.{List, ◌≡◌, length};
     ghost use Rattle.block_layout.specs.declared.cells.Cell.{Cell};
     ghost use Rattle.block_layout.specs.Sizes.{elements_of, structure_bits};
-    ghost use Rattle.block_layout.specs.Scopes.{AreScopes, AreCellTables};
+    ghost use Rattle.block_layout.specs.NameLists.{AreNameLists, AreCellTables};
 
     ghost Value = { List Cell };
 
     ghost view = { λ l. l.cells.items };
 
-    ghost invariant = { λ l. AreCellTables l.cells.items l.elements.items l.outer l.scopes.items
+    ghost invariant = { λ l. AreCellTables l.cells.items l.elements.items l.outer l.name_lists.items
         l.bits
         l.parameters };
 }
@@ -67,14 +67,14 @@ pub(crate) fn numbers_behind(numbers: &[u64], from: usize) -> &[u64]
 }
 
 /// The components of a sound cell.
-fn scope_of(
+fn name_list_of(
     alloc: Global,
     cell: &Cell,
     behind: &[Cell],
     elements: &[u64],
 ) -> Result<NameList, AllocError>
     requires { elements.now ≡ elements_of behind.now }
-    ensures { IfOk result (λ s. cell.now.sound ≡ true → IsScope cell.now behind.now s) }
+    ensures { IfOk result (λ s. cell.now.sound ≡ true → IsNameList cell.now behind.now s) }
 {
     if cell.sound {
         members(alloc, behind, elements, cell.level as u64 + 1)
@@ -84,23 +84,23 @@ fn scope_of(
 }
 
 /// The components of each sound cell.
-#[tactic(auto, using(crate::proofs::ScopeLemmas::behind_elements, crate::proofs::ScopeLemmas::scopes_next))]
-fn scopes(alloc: Global, cells: &[Cell], elements: &[u64]) -> Result<Vec<NameList>, AllocError>
+#[tactic(auto, using(crate::proofs::NameListLemmas::behind_elements, crate::proofs::NameListLemmas::name_lists_next))]
+fn name_lists(alloc: Global, cells: &[Cell], elements: &[u64]) -> Result<Vec<NameList>, AllocError>
     requires { elements.now ≡ elements_of cells.now }
     ensures count { IfOk result (λ v. length v.items ≡ length cells.now) }
-    ensures scopes { IfOk result (λ v. AreScopes cells.now v.items) }
+    ensures name_lists { IfOk result (λ v. AreNameLists cells.now v.items) }
 {
-    let mut scopes = Vec::new(alloc);
+    let mut name_lists = Vec::new(alloc);
     for i in 0..cells.len() {
-        let one = scope_of(
+        let one = name_list_of(
             alloc,
             &cells[i],
             behind(cells, i + 1),
             numbers_behind(elements, i + 1),
         )?;
-        scopes.push(one)?;
+        name_lists.push(one)?;
     }
-    Ok(scopes)
+    Ok(name_lists)
 }
 
 /// The place behind the last parameter.
@@ -121,14 +121,14 @@ impl Layout {
     {
         let elements = elements(alloc, cells.as_slice())?;
         let outer = members(alloc, cells.as_slice(), elements.as_slice(), 0)?;
-        let scopes = scopes(alloc, cells.as_slice(), elements.as_slice())?;
+        let name_lists = name_lists(alloc, cells.as_slice(), elements.as_slice())?;
         let bits = structure_bits(cells.as_slice(), elements.as_slice());
         let parameters = parameters_end(cells.as_slice());
         Ok(Layout {
             cells,
             elements,
             outer,
-            scopes,
+            name_lists,
             bits,
             parameters,
         })
@@ -196,7 +196,7 @@ impl Layout {
     {
         let behind = behind(self.cells.as_slice(), place + 1);
         find(
-            &self.scopes[place],
+            &self.name_lists[place],
             name,
             behind,
             self.cells[place].level as u64 + 1,

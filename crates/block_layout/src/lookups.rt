@@ -4,7 +4,7 @@ ghost use Rattle.std.specs.Option.{option_copied};
 ghost use Rattle.plc_base.specs.Kinds.{is_data_block};
 ghost use Rattle.block_layout.specs.Blocks.{found_block};
 ghost use Rattle.block_layout.specs.Members.{component_of_name};
-ghost use Rattle.block_layout.specs.Scopes.{HaveParameters};
+ghost use Rattle.block_layout.specs.NameLists.{HaveParameters};
 ghost use Rattle.block_layout.specs.Paths.{
   cells_at,
   elementary_at,
@@ -75,19 +75,19 @@ impl Layouts {
     }
 
     /// The declaration of a component.
-    pub fn cell_at(&self, spot: ComponentAt) -> Option<&Cell>
+    pub fn cell_at(&self, component: ComponentAt) -> Option<&Cell>
         ensures { option_copied result
-            ≡ slice_get (cells_at self.now spot.block spot.temporary) spot.place }
+            ≡ slice_get (cells_at self.now component.block component.temporary) component.place }
     {
-        let layout = layout_at(self.list(), spot.block, spot.temporary)?;
-        layout.cell_at(spot.place)
+        let layout = layout_at(self.list(), component.block, component.temporary)?;
+        layout.cell_at(component.place)
     }
 
-    /// The elementary type at a spot; none where an array or a structure is there.
-    pub fn elementary_at(&self, spot: ComponentAt) -> Option<Simple>
-        ensures { result ≡ elementary_at self.now spot }
+    /// The elementary type of a component; none of an array or a structure.
+    pub fn elementary_at(&self, component: ComponentAt) -> Option<Simple>
+        ensures { result ≡ elementary_at self.now component }
     {
-        elementary_at(self.list(), spot)
+        elementary_at(self.list(), component)
     }
 
     /// Whether a block has a variable of this name, in upper case, outside VAR_TEMP.

@@ -78,14 +78,14 @@ pub(crate) fn members(
     ensures names { IfOk result (λ s. s.names ≡ component_names level cells.now) }
     ensures members { IfOk result (λ s. s.members.items ≡ members_of level 0 0 cells.now) }
 {
-    let mut scope = NameList::new(alloc);
+    let mut name_list = NameList::new(alloc);
     let mut at = 0;
     for i in 0..cells.len() {
         let cell = &cells[i];
         if (cell.level as u64) < level {
-            return Ok(scope);
+            return Ok(name_list);
         }
-        scope.add(
+        name_list.add(
             alloc,
             cell,
             level,
@@ -97,7 +97,7 @@ pub(crate) fn members(
         let bits = array_bits(cell.bounds.as_slice(), elements[i]);
         at = stepped(at, cell, bits, level);
     }
-    Ok(scope)
+    Ok(name_list)
 }
 
 fn member_at(members: &[Member], place: usize) -> Option<Member>
@@ -111,12 +111,12 @@ fn member_at(members: &[Member], place: usize) -> Option<Member>
 }
 
 /// The component of this name.
-pub(crate) fn find(scope: &NameList, name: &[u8], cells: &[Cell], level: u64) -> Option<Member>
-    requires names { scope.now.names ≡ component_names level cells.now }
-    requires members { scope.now.members.items ≡ members_of level 0 0 cells.now }
+pub(crate) fn find(name_list: &NameList, name: &[u8], cells: &[Cell], level: u64) -> Option<Member>
+    requires names { name_list.now.names ≡ component_names level cells.now }
+    requires members { name_list.now.members.items ≡ members_of level 0 0 cells.now }
     ensures value { result ≡ component_of_name level 0 0 name.now cells.now }
     ensures within { IfSome result (λ m. m.place < length cells.now) }
 {
-    let place = scope.names.place(name)?;
-    member_at(scope.members.as_slice(), place)
+    let place = name_list.names.place(name)?;
+    member_at(name_list.members.as_slice(), place)
 }

@@ -46,14 +46,14 @@ fn reached(
     layouts: &[BlockLayout],
     area: Area,
     number: u16,
-    walk: PathEnd,
+    path_end: PathEnd,
 ) -> Option<(Place, Width)>
-    ensures { result ≡ place_at_path_end layouts.now area number walk }
+    ensures { result ≡ place_at_path_end layouts.now area number path_end }
 {
-    match walk {
-        PathEnd::Reaches { spot } => {
-            let kind = elementary_at(layouts, spot)?;
-            placed(area, number, spot.offset, kind)
+    match path_end {
+        PathEnd::Reaches { component } => {
+            let kind = elementary_at(layouts, component)?;
+            placed(area, number, component.offset, kind)
         }
         _ => None,
     }
@@ -71,8 +71,8 @@ fn component(
     if leaves_structure(layouts, structure_of(layouts, block), path) {
         None
     } else {
-        let walk = walk_data(layouts, block, path);
-        reached(layouts, Area::Db, number, walk)
+        let path_end = walk_data(layouts, block, path);
+        reached(layouts, Area::Db, number, path_end)
     }
 }
 
@@ -89,8 +89,8 @@ fn variable(
     if leaves_from(layouts, block, temporary, path) {
         None
     } else {
-        let walk = walk_from(layouts, block, temporary, path);
-        reached(layouts, area, 0, walk)
+        let path_end = walk_from(layouts, block, temporary, path);
+        reached(layouts, area, 0, path_end)
     }
 }
 

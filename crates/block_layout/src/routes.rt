@@ -16,7 +16,7 @@ ghost use Rattle.block_layout.specs.Paths.{
   structure_of,
   path_end_in_data_block,
   walked_local,
-  path_end_or_rests,
+  path_end_or_unjudged,
   path_end_of_setting,
   whole_at,
 };
@@ -72,12 +72,12 @@ pub(crate) fn setting_structure(layouts: &[BlockLayout], block: usize) -> Option
     shape_block(layouts, block, found.shape)
 }
 
-fn walk_or_rest(layouts: &[BlockLayout], structure: Option<usize>, path: &[PathStep]) -> PathEnd
-    ensures value { result ≡ path_end_or_rests layouts.now structure path.now }
+fn walk_or_unjudged(layouts: &[BlockLayout], structure: Option<usize>, path: &[PathStep]) -> PathEnd
+    ensures value { result ≡ path_end_or_unjudged layouts.now structure path.now }
     ensures near { OffsetIsNear result }
 {
     match structure {
-        None => PathEnd::Rests,
+        None => PathEnd::Unjudged,
         Some(block) => walk_from(layouts, block, false, path),
     }
 }
@@ -88,7 +88,7 @@ pub(crate) fn walk_setting(layouts: &[BlockLayout], block: usize, path: &[PathSt
     ensures value { result ≡ path_end_of_setting layouts.now block path.now }
     ensures near { OffsetIsNear result }
 {
-    walk_or_rest(layouts, setting_structure(layouts, block), path)
+    walk_or_unjudged(layouts, setting_structure(layouts, block), path)
 }
 
 /// Where a path into a data block leads.
@@ -97,7 +97,7 @@ pub(crate) fn walk_data(layouts: &[BlockLayout], block: usize, path: &[PathStep]
     ensures value { result ≡ path_end_in_data_block layouts.now block path.now }
     ensures near { OffsetIsNear result }
 {
-    walk_or_rest(layouts, structure_of(layouts, block), path)
+    walk_or_unjudged(layouts, structure_of(layouts, block), path)
 }
 
 #[tactic(auto, unfolding(crate::specs::Members::component_of_name))]
@@ -134,7 +134,7 @@ pub(crate) fn walk_local(
     ensures near { OffsetIsNear result }
 {
     if whole_at(layouts, block).is_none() {
-        return PathEnd::Rests;
+        return PathEnd::Unjudged;
     }
     let found = in_sections(layouts, block, name);
     walk_on(layouts, found, path)
@@ -149,10 +149,10 @@ fn plain_kind(of: Element) -> Option<Simple>
     }
 }
 
-fn kind_of(spot: ComponentAt, cell: &Cell) -> Option<Simple>
-    ensures { result ≡ kind_of spot (Some cell.now) }
+fn kind_of(component: ComponentAt, cell: &Cell) -> Option<Simple>
+    ensures { result ≡ kind_of component (Some cell.now) }
 {
-    if is_used_up(cell, spot.depth) {
+    if is_used_up(cell, component.depth) {
         plain_kind(cell.of)
     } else {
         None
@@ -160,10 +160,10 @@ fn kind_of(spot: ComponentAt, cell: &Cell) -> Option<Simple>
 }
 
 /// The elementary type of the component that a path reaches.
-pub(crate) fn elementary_at(layouts: &[BlockLayout], spot: ComponentAt) -> Option<Simple>
-    ensures { result ≡ elementary_at layouts.now spot }
+pub(crate) fn elementary_at(layouts: &[BlockLayout], component: ComponentAt) -> Option<Simple>
+    ensures { result ≡ elementary_at layouts.now component }
 {
-    let layout = layout_at(layouts, spot.block, spot.temporary)?;
-    let cell = layout.cell_at(spot.place)?;
-    kind_of(spot, cell)
+    let layout = layout_at(layouts, component.block, component.temporary)?;
+    let cell = layout.cell_at(component.place)?;
+    kind_of(component, cell)
 }

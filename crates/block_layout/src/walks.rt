@@ -58,14 +58,14 @@ pub struct ComponentAt {
     pub offset: u64,
 }
 
-/// Where a path leads. `Unknown` names a component that isn't there, `Rests` goes through a
+/// Where a path leads. `Unknown` names a component that isn't there, `Unjudged` goes through a
 /// declaration or a block that breaks a rule itself. An index outside its array leads on as the
 /// first element does.
 #[derive(Clone, Copy, Debug, PartialEq, Eq)]
 pub enum PathEnd {
-    Reaches { spot: ComponentAt },
+    Reaches { component: ComponentAt },
     Unknown,
-    Rests,
+    Unjudged,
 }
 
 /// The declarations of a block that a path is in.
@@ -93,7 +93,7 @@ fn entered(layout: &Layout, block: usize, temporary: bool, place: usize, offset:
         Some(cell) => {
             if cell.sound {
                 PathEnd::Reaches {
-                    spot: ComponentAt {
+                    component: ComponentAt {
                         block,
                         temporary,
                         place,
@@ -102,7 +102,7 @@ fn entered(layout: &Layout, block: usize, temporary: bool, place: usize, offset:
                     },
                 }
             } else {
-                PathEnd::Rests
+                PathEnd::Unjudged
             }
         }
     }
@@ -165,53 +165,53 @@ pub(crate) fn is_used_up(cell: &Cell, depth: usize) -> bool
 fn named_in(
     layouts: &[BlockLayout],
     layout: &Layout,
-    spot: ComponentAt,
+    component: ComponentAt,
     name: &[u8],
     cell: &Cell,
 ) -> PathEnd
-    requires offset { spot.offset ≤ largest_size }
-    requires layout { layout.now ≡ cells_at layouts.now spot.block spot.temporary }
-    requires cell { slice_get layout.now spot.place ≡ Some cell.now }
-    requires within { spot.place + 1 < 2 ^ 64 }
+    requires offset { component.offset ≤ largest_size }
+    requires layout { layout.now ≡ cells_at layouts.now component.block component.temporary }
+    requires cell { slice_get layout.now component.place ≡ Some cell.now }
+    requires within { component.place + 1 < 2 ^ 64 }
     requires sound { cell.now.sound ≡ true }
-    ensures value { result ≡ named_in layouts.now spot name.now cell.now cell.now.of }
+    ensures value { result ≡ named_in layouts.now component name.now cell.now cell.now.of }
     ensures near { OffsetIsNear result }
 {
     match cell.of {
         Element::Structure => {
-            let found = layout.inner(spot.place, name);
+            let found = layout.inner(component.place, name);
             found_at(
                 layout,
-                spot.block,
-                spot.temporary,
-                spot.place + 1,
-                spot.offset,
+                component.block,
+                component.temporary,
+                component.place + 1,
+                component.offset,
                 found,
             )
         }
-        Element::Udt { block, .. } => outermost(layouts, block, false, spot.offset, name),
+        Element::Udt { block, .. } => outermost(layouts, block, false, component.offset, name),
         _ => PathEnd::Unknown,
     }
 }
 
 /// Where a name leads from a component.
 #[tactic(auto, unfolding(crate::specs::Paths::path_end_by_name))]
-fn named(layouts: &[BlockLayout], spot: ComponentAt, name: &[u8]) -> PathEnd
-    requires offset { spot.offset ≤ largest_size }
-    requires sound { IsSoundAt layouts.now spot }
-    ensures value { result ≡ path_end_by_name layouts.now spot name.now }
+fn named(layouts: &[BlockLayout], component: ComponentAt, name: &[u8]) -> PathEnd
+    requires offset { component.offset ≤ largest_size }
+    requires sound { IsSoundAt layouts.now component }
+    ensures value { result ≡ path_end_by_name layouts.now component name.now }
     ensures near { OffsetIsNear result }
 {
-    let Some(layout) = layout_at(layouts, spot.block, spot.temporary) else {
+    let Some(layout) = layout_at(layouts, component.block, component.temporary) else {
         return PathEnd::Unknown;
     };
-    let Some(cell) = layout.cell_at(spot.place) else {
+    let Some(cell) = layout.cell_at(component.place) else {
         return PathEnd::Unknown;
     };
-    if !is_used_up(cell, spot.depth) {
+    if !is_used_up(cell, component.depth) {
         return PathEnd::Unknown;
     }
-    named_in(layouts, layout, spot, name, cell)
+    named_in(layouts, layout, component, name, cell)
 }
 
 pub(crate) fn bounds_at(bounds: &[Bounds], depth: usize) -> Option<Bounds>
@@ -233,64 +233,67 @@ pub(crate) fn bounds_behind(bounds: &[Bounds], depth: usize) -> &[Bounds]
 }
 
 /// An index behind a component of a block.
-fn indexed_in(layout: &Layout, spot: ComponentAt, at: i32) -> PathEnd
-    requires { spot.offset ≤ largest_size }
+fn indexed_in(layout: &Layout, component: ComponentAt, at: i32) -> PathEnd
+    requires { component.offset ≤ largest_size }
     ensures value { result
-        ≡ indexed_behind spot layout.now at (slice_get layout.now spot.place) }
+        ≡ indexed_behind component layout.now at (slice_get layout.now component.place) }
     ensures near { OffsetIsNear result }
 {
-    let Some(cell) = layout.cell_at(spot.place) else {
+    let Some(cell) = layout.cell_at(component.place) else {
         return PathEnd::Unknown;
     };
-    let Some(bounds) = bounds_at(cell.bounds.as_slice(), spot.depth) else {
+    let Some(bounds) = bounds_at(cell.bounds.as_slice(), component.depth) else {
         return PathEnd::Unknown;
     };
     if at < bounds.low || bounds.high < at {
         return PathEnd::Reaches {
-            spot: ComponentAt {
-                depth: spot.depth + 1,
-                ..spot
+            component: ComponentAt {
+                depth: component.depth + 1,
+                ..component
             },
         };
     }
-    let element = layout.element_at(spot.place);
-    let inner = array_bits(bounds_behind(cell.bounds.as_slice(), spot.depth), element);
+    let element = layout.element_at(component.place);
+    let inner = array_bits(
+        bounds_behind(cell.bounds.as_slice(), component.depth),
+        element,
+    );
     let gone = at.abs_diff(bounds.low) as u64 * inner;
     PathEnd::Reaches {
-        spot: ComponentAt {
-            block: spot.block,
-            temporary: spot.temporary,
-            place: spot.place,
-            depth: spot.depth + 1,
-            offset: capped(spot.offset + capped(gone)),
+        component: ComponentAt {
+            block: component.block,
+            temporary: component.temporary,
+            place: component.place,
+            depth: component.depth + 1,
+            offset: capped(component.offset + capped(gone)),
         },
     }
 }
 
 /// Where an index leads from a component.
 #[tactic(auto, unfolding(crate::specs::Paths::path_end_by_index))]
-fn indexed(layouts: &[BlockLayout], spot: ComponentAt, at: i32) -> PathEnd
-    requires { spot.offset ≤ largest_size }
-    ensures value { result ≡ path_end_by_index layouts.now spot at }
+fn indexed(layouts: &[BlockLayout], component: ComponentAt, at: i32) -> PathEnd
+    requires { component.offset ≤ largest_size }
+    ensures value { result ≡ path_end_by_index layouts.now component at }
     ensures near { OffsetIsNear result }
 {
-    match layout_at(layouts, spot.block, spot.temporary) {
+    match layout_at(layouts, component.block, component.temporary) {
         None => PathEnd::Unknown,
-        Some(layout) => indexed_in(layout, spot, at),
+        Some(layout) => indexed_in(layout, component, at),
     }
 }
 
 /// Where a step of a path leads from a component.
 #[tactic(auto, unfolding(crate::specs::Paths::path_end_by_step))]
-pub(crate) fn step(layouts: &[BlockLayout], spot: ComponentAt, step: &PathStep) -> PathEnd
-    requires offset { spot.offset ≤ largest_size }
-    requires sound { IsSoundAt layouts.now spot }
-    ensures value { result ≡ path_end_by_step layouts.now spot step.now }
+pub(crate) fn step(layouts: &[BlockLayout], component: ComponentAt, step: &PathStep) -> PathEnd
+    requires offset { component.offset ≤ largest_size }
+    requires sound { IsSoundAt layouts.now component }
+    ensures value { result ≡ path_end_by_step layouts.now component step.now }
     ensures near { OffsetIsNear result }
 {
     match step {
-        PathStep::Named { name } => named(layouts, spot, name.as_bytes()),
-        PathStep::Index { at } => indexed(layouts, spot, *at),
+        PathStep::Named { name } => named(layouts, component, name.as_bytes()),
+        PathStep::Index { at } => indexed(layouts, component, *at),
     }
 }
 
@@ -302,14 +305,14 @@ fn walk_behind(layouts: &[BlockLayout], start: ComponentAt, path: &[PathStep]) -
     ensures value { result ≡ path_end_behind layouts.now start path.now }
     ensures near { OffsetIsNear result }
 {
-    let mut spot = start;
+    let mut component = start;
     for next in path {
-        match step(layouts, spot, next) {
-            PathEnd::Reaches { spot: reached } => spot = reached,
+        match step(layouts, component, next) {
+            PathEnd::Reaches { component: reached } => component = reached,
             other => return other,
         }
     }
-    PathEnd::Reaches { spot }
+    PathEnd::Reaches { component }
 }
 
 /// Where a path leads from a component that was looked up.
@@ -318,11 +321,11 @@ pub(crate) fn walk_on(layouts: &[BlockLayout], found: PathEnd, path: &[PathStep]
     requires near { OffsetIsNear found }
     requires sound { ReachesSound layouts.now found }
     ensures value { result
-        ≡ path_end_and_then found (λ spot. path_end_behind layouts.now spot path.now) }
+        ≡ path_end_and_then found (λ component. path_end_behind layouts.now component path.now) }
     ensures near { OffsetIsNear result }
 {
     match found {
-        PathEnd::Reaches { spot } => walk_behind(layouts, spot, path),
+        PathEnd::Reaches { component } => walk_behind(layouts, component, path),
         other => other,
     }
 }

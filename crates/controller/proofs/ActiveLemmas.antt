@@ -12,7 +12,7 @@ use Rattle.controller.specs.Beginning.{ob_begun, ob_block_id, ob_frame, with_sta
 use Rattle.controller.specs.Leaves.{ObBegins}
 use Rattle.controller.specs.Ticking.{active_obs}
 use Rattle.controller.specs.Views.{activations_of}
-use Rattle.controller.proofs.SameLemmas.{told_class, told_ob}
+use Rattle.controller.proofs.SameLemmas.{with_start_bytes_class, with_start_bytes_ob}
 
 pub one_more : (xs : List ℕ) (x : ℕ) (ys : List ℕ) → (xs ++ x ∷ []) ++ ys ≡ xs ++ x ∷ ys
 one_more [] x ys = refl
@@ -72,6 +72,6 @@ pub block_is : (profile : Profile) (found : Option BlockHead) (class ob : ℕ) (
 unfolding ob_begun
 block_is profile None class ob info = tt
 block_is profile (Some head) class ob info = (
-  told_class info.bytes 0 (activation_begun profile class ob (ob_frame ob head)),
-  told_ob info.bytes 0 (activation_begun profile class ob (ob_frame ob head)),
+  with_start_bytes_class info.bytes 0 (activation_begun profile class ob (ob_frame ob head)),
+  with_start_bytes_ob info.bytes 0 (activation_begun profile class ob (ob_frame ob head)),
 )

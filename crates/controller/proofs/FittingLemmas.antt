@@ -110,18 +110,18 @@ FitsIf : Program → Areas → Option Activation → Type 0
 FitsIf p m None = Unit {0}
 FitsIf p m (Some a) = FitsProgram p m a
 
-told_one : (l : MachineLaws) (p : Program) (m : Areas) (byte value : ℕ) (a : Activation)
+with_start_byte_fits : (l : MachineLaws) (p : Program) (m : Areas) (byte value : ℕ) (a : Activation)
     (written : Option Activation) → with_local_byte 0 byte value a ≡ written → FitsProgram p m a
     → FitsProgram p m (unwrap_or written a)
-told_one l p m byte value a None is fit = fit
-told_one l p m byte value a (Some b) is fit = l.local_byte p m a b 0 byte value is fit
+with_start_byte_fits l p m byte value a None is fit = fit
+with_start_byte_fits l p m byte value a (Some b) is fit = l.local_byte p m a b 0 byte value is fit
 
-told_fits : (l : MachineLaws) (p : Program) (m : Areas) (bytes : List ℕ) (byte : ℕ) (a : Activation)
+with_start_bytes_fits : (l : MachineLaws) (p : Program) (m : Areas) (bytes : List ℕ) (byte : ℕ) (a : Activation)
     → FitsProgram p m a → FitsProgram p m (with_start_bytes byte bytes a)
-told_fits l p m [] byte a fit = fit
-told_fits l p m (value ∷ rest) byte a fit =
-    told_fits l p m rest (byte + 1) (unwrap_or (with_local_byte 0 byte value a) a)
-    (told_one l p m byte value a (with_local_byte 0 byte value a) refl fit)
+with_start_bytes_fits l p m [] byte a fit = fit
+with_start_bytes_fits l p m (value ∷ rest) byte a fit =
+    with_start_bytes_fits l p m rest (byte + 1) (unwrap_or (with_local_byte 0 byte value a) a)
+    (with_start_byte_fits l p m byte value a (with_local_byte 0 byte value a) refl fit)
 
 uncut : (n : ℕ) → n ≤ 1024 → min n 1024 ≡ n
 uncut n few = omega arith
@@ -131,7 +131,7 @@ begun_fits : (profile : Profile) (l : MachineLaws) (p : Program) (m : Areas) (cl
     → FitsProgram p m (ob_begun profile class ob info h)
 unfolding ob_begun
 begun_fits profile l p m class ob info h verifies memory found =
-    told_fits l p m info.bytes 0 (activation_begun profile class ob (ob_frame ob h))
+    with_start_bytes_fits l p m info.bytes 0 (activation_begun profile class ob (ob_frame ob h))
     (subst (λ (n : ℕ). FitsProgram p m (activation_begun profile class ob (first_frame ob n)))
     (sym (uncut h.local_len (l.room p ob h verifies found)))
     (l.begins profile p m class ob h verifies memory found))

@@ -63,13 +63,13 @@ byte_moves :
 byte_moves f None a = refl
 byte_moves f (Some l) a = refl
 
-told_moves :
+with_start_bytes_moves :
     (f : Positions) (byte : ℕ) (values : List ℕ) (a : Activation)
     → with_start_bytes byte values (moved_activation f a) ≡ moved_activation f (with_start_bytes byte values a)
-told_moves f byte [] a = refl
-told_moves f byte (value ∷ rest) a =
+with_start_bytes_moves f byte [] a = refl
+with_start_bytes_moves f byte (value ∷ rest) a =
     ap (with_start_bytes (byte + 1) rest) (byte_moves f (local_byte_set a.running.locals 0 byte value) a)
-    ∙ told_moves f (byte + 1) rest (unwrap_or (with_local_byte 0 byte value a) a)
+    ∙ with_start_bytes_moves f (byte + 1) rest (unwrap_or (with_local_byte 0 byte value a) a)
 
 begun_moves :
     (profile : Profile) (f : Positions) (class ob : ℕ) (head : BlockHead) → f (ob_block_id ob) 0 ≡ 0
@@ -83,7 +83,7 @@ ob_moves :
 unfolding ob_begun
 ob_moves profile f class ob info head start =
     ap (with_start_bytes 0 info.bytes) (begun_moves profile f class ob head start)
-    ∙ told_moves f 0 info.bytes (activation_begun profile class ob (ob_frame ob head))
+    ∙ with_start_bytes_moves f 0 info.bytes (activation_begun profile class ob (ob_frame ob head))
 
 head_moves :
     (profile : Profile) (f : Positions) (class ob : ℕ) (info : StartInfo) (o : Option BlockHead) → f (ob_block_id ob) 0 ≡ 0

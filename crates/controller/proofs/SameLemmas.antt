@@ -46,9 +46,9 @@ if_same : (test : Bool) (a : Activation) (s t : StatementStep) → SameStep a s 
 if_same true a s t one other = one
 if_same false a s t one other = other
 
-went_same : (r : Result ExecState ℕ) (next : ℕ) (a : Activation) → SameStep a (continue_with r next a)
-went_same (Ok p) next a = (refl, refl)
-went_same (Err code) next a = (refl, refl)
+continue_with_same : (r : Result ExecState ℕ) (next : ℕ) (a : Activation) → SameStep a (continue_with r next a)
+continue_with_same (Ok p) next a = (refl, refl)
+continue_with_same (Err code) next a = (refl, refl)
 
 supplied_same : (instance : Option ℕ) (params : List Param) (f : Frame) (next : ℕ)
     (a : Activation) (m : Areas) → SameCall a (instance_supplied instance params (block_entered f (caller_at next a)) m)
@@ -135,18 +135,18 @@ returned_same None a w = tt
 returned_same (Some h) a w =
     after_return_same (block_return h.params a w.memory) a w (returning_same h.params a w.memory)
 
-performed_same : (code : Code) (i : Instr) (next : ℕ) (a : Activation) (w : GlobalStore)
+instruction_step_same : (code : Code) (i : Instr) (next : ℕ) (a : Activation) (w : GlobalStore)
     → SameStep a (instruction_step code i next a w)
-performed_same code (Does use_db operation operand) next a w =
-    went_same (statement_effect use_db operation operand (exec_state_of a.running w.memory w.timers w.counters)) next a
-performed_same code (Jumps operation target) next a w = (refl, refl)
-performed_same code (JumpsByList targets otherwise) next a w = (refl, refl)
-performed_same code (Calls how block instance passings) next a w =
+instruction_step_same code (Does use_db operation operand) next a w =
+    continue_with_same (statement_effect use_db operation operand (exec_state_of a.running w.memory w.timers w.counters)) next a
+instruction_step_same code (Jumps operation target) next a w = (refl, refl)
+instruction_step_same code (JumpsByList targets otherwise) next a w = (refl, refl)
+instruction_step_same code (Calls how block instance passings) next a w =
     if_same (is_call_made how a.running.regs.status.rlo) a
     (call_made code block instance passings next a w)
     (Went (activation_continued_at next (regs_after_call_not_made a.running.regs) a) w)
     (calls_same code block instance passings next a w) (refl, refl)
-performed_same code (Returns how) next a w =
+instruction_step_same code (Returns how) next a w =
     if_same (is_return_made how a.running.regs.status.rlo) a
     (return_made (code.head a.running.frame.block) a w)
     (Went (activation_continued_at next (rlo_tested a.running.regs) a) w)
@@ -155,7 +155,7 @@ performed_same code (Returns how) next a w =
 fetched_same : (code : Code) (f : Option Fetched) (a : Activation) (w : GlobalStore)
     → SameStep a (step_found code f a w)
 fetched_same code None a w = tt
-fetched_same code (Some f) a w = performed_same code f.instr f.next a w
+fetched_same code (Some f) a w = instruction_step_same code f.instr f.next a w
 
 pub statement_same : (code : Code) (a : Activation) (w : GlobalStore) → SameStep a (statement_step code a w)
 unfolding statement_step
@@ -169,16 +169,16 @@ local_same : (locals : Option LocalData) (a : Activation)
 local_same None a = (refl, refl)
 local_same (Some locals) a = (refl, refl)
 
-pub told_class : (bytes : List ℕ) (byte : ℕ) (a : Activation)
+pub with_start_bytes_class : (bytes : List ℕ) (byte : ℕ) (a : Activation)
     → (with_start_bytes byte bytes a).class ≡ a.class
-told_class [] byte a = refl
-told_class (value ∷ rest) byte a =
-    told_class rest (byte + 1) (unwrap_or (with_local_byte 0 byte value a) a)
+with_start_bytes_class [] byte a = refl
+with_start_bytes_class (value ∷ rest) byte a =
+    with_start_bytes_class rest (byte + 1) (unwrap_or (with_local_byte 0 byte value a) a)
     ∙ (local_same (local_byte_set a.running.locals 0 byte value) a).0
 
-pub told_ob : (bytes : List ℕ) (byte : ℕ) (a : Activation)
+pub with_start_bytes_ob : (bytes : List ℕ) (byte : ℕ) (a : Activation)
     → (with_start_bytes byte bytes a).ob ≡ a.ob
-told_ob [] byte a = refl
-told_ob (value ∷ rest) byte a =
-    told_ob rest (byte + 1) (unwrap_or (with_local_byte 0 byte value a) a)
+with_start_bytes_ob [] byte a = refl
+with_start_bytes_ob (value ∷ rest) byte a =
+    with_start_bytes_ob rest (byte + 1) (unwrap_or (with_local_byte 0 byte value a) a)
     ∙ (local_same (local_byte_set a.running.locals 0 byte value) a).1

@@ -21,7 +21,7 @@ use Rattle.controller.specs.Settling.{may_start}
 use Rattle.controller.specs.Stack.{IsAbove, IsStarted, StandsOn, IsStack, RunsInStartup, IsActivationStack, MayBegin}
 use Rattle.controller.specs.Start.{state_in_startup, startup_info, startup_ob}
 use Rattle.controller.specs.State.{State, is_stop}
-use Rattle.controller.proofs.SameLemmas.{told_class, told_ob}
+use Rattle.controller.proofs.SameLemmas.{with_start_bytes_class, with_start_bytes_ob}
 use Rattle.controller.proofs.StackLemmas.{at_most_48, no_stack, startup_class}
 
 -- some activation of a class
@@ -163,8 +163,8 @@ ob_is_by : (profile : Profile) (class ob : ℕ) (info : StartInfo) (found : Opti
 unfolding IsOf ob_begun
 ob_is_by profile class ob info None = tt
 ob_is_by profile class ob info (Some h) = (
-  told_class info.bytes 0 (activation_begun profile class ob (ob_frame ob h)),
-  told_ob info.bytes 0 (activation_begun profile class ob (ob_frame ob h)),
+  with_start_bytes_class info.bytes 0 (activation_begun profile class ob (ob_frame ob h)),
+  with_start_bytes_ob info.bytes 0 (activation_begun profile class ob (ob_frame ob h)),
 )
 
 pub ob_is : (profile : Profile) (code : Code) (class ob : ℕ) (info : StartInfo)

@@ -13,7 +13,7 @@ HasStatement code block at = IsSome (code.fetch block at)
 -- a frame stands, each frame has its local data, and nothing that its statement needs is missing
 pub record CanExecute (code : Code) (a : Activation) : Type 0 where
   -- the outermost block hasn't returned yet
-  pub stands : a.left ≡ false
+  pub stands : a.ended ≡ false
   -- each frame has its local data
   pub depth : length a.running.locals.starts ≡ length (frames_of a)
   -- nothing that the statement needs is missing

@@ -15,7 +15,7 @@ ghost use Rattle.controller.specs.Settling.{may_start};
 ghost use Rattle.controller.specs.Stopping.{running_spot, spot_of_frame};
 ghost use Rattle.controller.specs.Ticking.{active_obs};
 
-use crate::beginning::{at_begin, local_len_of, ob_block, tell};
+use crate::beginning::{at_begin, local_len_of, ob_block, set_start_bytes};
 use crate::errors::failure;
 use crate::serving::{Answer, serve};
 use crate::spots::spot_at;
@@ -138,7 +138,7 @@ fn begin_in(
 {
     let a = &mut all[place];
     a.restart(class, ob, ob_block(ob), local_len, profile);
-    tell(a, &info.bytes);
+    set_start_bytes(a, &info.bytes);
 }
 
 impl Activations {

@@ -32,21 +32,21 @@ pub(crate) fn is_loaded(program: &Loaded, block: BlockId) -> bool
 }
 
 // A local byte of the outermost frame, if there is such a byte.
-fn tell_byte(a: &mut Activation, byte: u16, value: u8)
+fn set_start_byte(a: &mut Activation, byte: u16, value: u8)
     ensures { a.new ≡ unwrap_or (with_local_byte 0 byte value a.old) a.old }
 {
     let _ = a.set_local(0, byte, value);
 }
 
 /// Writes the first local bytes of the outermost frame, as far as there are such local bytes.
-pub(crate) fn tell(a: &mut Activation, bytes: &[u8])
+pub(crate) fn set_start_bytes(a: &mut Activation, bytes: &[u8])
     requires { length bytes.now ≤ 1024 }
     ensures { a.new ≡ with_start_bytes 0 bytes.now a.old }
 {
     let mut byte = 0;
     let mut left = bytes;
     while let [value, rest @ ..] = left {
-        tell_byte(a, byte, *value);
+        set_start_byte(a, byte, *value);
         byte += 1;
         left = rest;
     }

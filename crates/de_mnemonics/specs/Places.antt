@@ -22,7 +22,8 @@ use Rattle.de_mnemonics.specs.Words.{partner_in_table, letters_of_word, digits_o
 abbrev pub is_mark_text : List ℕ → Mark → Bool
 is_mark_text text m = str_eq_ignore_ascii_case text (mark_text m)
 
--- the class of a mark
+-- the class of a mark: its own where the role of a word or the place behind it goes by the mark,
+-- and one for all other marks
 unfoldable pub class_of_mark : List ℕ → TokenClass
 class_of_mark text =
     if is_mark_text text mark.Semicolon then class.Semicolon
@@ -98,7 +99,8 @@ place_behind_start word next =
 unfoldable pub place_behind_closing : List ℕ → TokenPlace
 place_behind_closing word = if is_word_in_list zone_words word then place.Path else place.Inside
 
--- the place behind a word
+-- the place behind a word, by the place of the word; behind one of an operand it is the rest of the
+-- statement
 unfoldable pub place_behind_word : TokenPlace → TokenClass → List ℕ → TokenClass → TokenPlace
 place_behind_word place.Outside before word next = place_behind_outside before word
 place_behind_word place.Head before word next = place_behind_head before word
@@ -219,7 +221,8 @@ role_at_start word next =
     if is_word_in_list block_end_words word || is_word_in_list network_words word then role.Stays
     else role_first next
 
--- the role of a word
+-- the role of a word, by its place: a word outside of statements stays, and the label of a jump;
+-- one behind a label is the instruction word
 unfoldable pub role_of_word : TokenPlace → TokenClass → List ℕ → TokenClass → Role
 role_of_word place.Outside before word next = role.Stays
 role_of_word place.Head before word next = role.Stays

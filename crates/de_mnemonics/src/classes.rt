@@ -28,7 +28,8 @@ fn is_text(text: &[u8], mark: Mark) -> bool
     text.eq_ignore_ascii_case(mark_text(mark))
 }
 
-/// The class of a mark.
+/// The class of a mark: its own where the role of a word or the place behind it goes by the mark,
+/// and one for all other marks.
 #[tactic(auto, unfolding(crate::specs::Places::class_of_mark))]
 fn class_of_mark(text: &[u8]) -> TokenClass
     ensures { result ≡ class_of_mark text.now }

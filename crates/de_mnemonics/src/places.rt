@@ -146,7 +146,8 @@ fn behind_closing(word: &[u8]) -> TokenPlace
     }
 }
 
-/// The place behind a word.
+/// The place behind a word, by the place of the word; behind one of an operand it is the rest of
+/// the statement.
 #[tactic(auto, unfolding(crate::specs::Places::place_behind_word))]
 fn behind_word(place: TokenPlace, before: TokenClass, word: &[u8], next: TokenClass) -> TokenPlace
     ensures { result ≡ place_behind_word place before word.now next }
@@ -346,7 +347,8 @@ fn role_at_start(word: &[u8], next: TokenClass) -> Role
     role_first(next)
 }
 
-/// The role of a word.
+/// The role of a word, by its place: a word outside of statements stays, and the label of a jump;
+/// one behind a label is the instruction word.
 #[tactic(auto, unfolding(crate::specs::Places::role_of_word))]
 fn role_of_word(place: TokenPlace, before: TokenClass, word: &[u8], next: TokenClass) -> Role
     ensures { result ≡ role_of_word place before word.now next }

@@ -9,6 +9,6 @@ no-values [] = refl
 no-values (v ∷ vs) = refl
 
 -- no value is left
-pub values_told : (vars : List Var) (values : List ℕ) (i : ℕ) (out : List ℕ) → length values ≤ i → out ++ values_text vars (drop i values) ≡ out
-values_told vars values i out end =
+pub no_values_left : (vars : List Var) (values : List ℕ) (i : ℕ) (out : List ℕ) → length values ≤ i → out ++ values_text vars (drop i values) ≡ out
+no_values_left vars values i out end =
     ap (λ t. out ++ t) (at_drop_all (values_text vars) values i end ∙ no-values vars) ∙ append-nil out

@@ -5,15 +5,15 @@ use Rattle.var_access.specs.declared.entries.What.{What}
 use Rattle.var_access.specs.declared.entries.What.TheVariants.{Step, Ask}
 use Rattle.var_access.specs.declared.requests.Request.{Request}
 
--- a step is made by worker 1
+-- the entry of one step, which worker 1 makes
 abbrev pub one_step : Entry
 one_step = record { who = 1; what = Step }
 
--- inputs, arrivals and ticks are fed by worker 2
+-- the entry of what worker 2 feeds: an input, an arrival or a tick
 abbrev pub feeder_entry : What → Entry
 feeder_entry what = record { who = 2; what = what }
 
--- a request is made by the worker who asks
+-- the entry of a request, which the asking worker makes
 abbrev pub request_entry : (who : ℕ) → Request → Entry
 request_entry who request = record { who = who; what = Ask request }
 

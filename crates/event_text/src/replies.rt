@@ -17,7 +17,7 @@ fn read_vars(request: &Request) -> &[Var]
 }
 
 /// Appends the values of variables, each at its width behind a blank.
-#[tactic(auto, using(crate::proofs::ReplyLemmas::values_told))]
+#[tactic(auto, using(crate::proofs::ReplyLemmas::no_values_left))]
 fn append_values(vars: &[Var], values: &[u32], out: &mut Vec<u8>) -> Result<(), NoMemory>
     ensures ok { OnOk result (out.new.items ≡ out.old.items ++ values_text vars.now values.now) }
     ensures err { OnErr result (take (length out.old.items) out.new.items ≡ out.old.items) }

@@ -67,14 +67,14 @@ first_found None other = other
 first_found (Some at) other = Some at
 
 -- an offset or the code of a fault that was found; None where it isn't checked (false)
-abbrev pub if_checked : Bool → Option ℕ → Option ℕ
+abbrev pub if_checked : (checked : Bool) → Option ℕ → Option ℕ
 if_checked true found = found
 if_checked false found = None
 
 -- the offset at which reading code ends by fault 5, by the ops that were read and the bytes left
 -- over: the 65th op of a statement; bytes that begin no op; a last op that isn't BE with the end
--- mark (0 where there are no ops). With false only bytes that begin no op are a fault
-abbrev pub stop_at : Bool → List OpData → List ℕ → Option ℕ
+-- mark (0 where there are no ops). Without code faults only bytes that begin no op are a fault
+abbrev pub stop_at : (with_code_faults : Bool) → List OpData → List ℕ → Option ℕ
 stop_at with_code_faults ops [] =
     first_found
     (if_checked with_code_faults (overlong_statement 0 0 ops))
@@ -95,11 +95,12 @@ read_ops None at ops end = reading_given ops end
 read_ops (Some offset) at ops end = reading_ended (at + offset) 5
 
 -- a code field at offset `at`, of ops and of bytes left over: the ops, or the end by fault 5
-abbrev pub ops_read : Bool → ℕ → List OpData × List ℕ → Cursor → ReadResult (List OpData)
+abbrev pub ops_read :
+    (with_code_faults : Bool) → (at : ℕ) → List OpData × List ℕ → Cursor → ReadResult (List OpData)
 ops_read with_code_faults at r end = read_ops (stop_at with_code_faults r.0 r.1) at r.0 end
 
 -- a code field of n bytes: fault 3 where fewer are left, else the ops that they are, or fault 5
-abbrev pub read_code : Bool → ℕ → Cursor → ReadResult (List OpData)
+abbrev pub read_code : (with_code_faults : Bool) → (n : ℕ) → Cursor → ReadResult (List OpData)
 read_code with_code_faults n cur =
     if nat_lt (length cur.rest) n then reading_ended cur.at 3
     else ops_read with_code_faults cur.at
@@ -111,8 +112,8 @@ abbrev pub is_nowhere : Option ℕ → Bool
 is_nowhere None = true
 is_nowhere (Some at) = false
 
--- the code field of n bytes; with false the 65th op and a wrong last op are no faults
-unfoldable pub code_layout : Bool → ℕ → Layout (List OpData)
+-- the code field of n bytes; without code faults the 65th op and a wrong last op are no faults
+unfoldable pub code_layout : (with_code_faults : Bool) → (n : ℕ) → Layout (List OpData)
 code_layout with_code_faults n = record {
   spell = code_bytes;
   good = λ ops.

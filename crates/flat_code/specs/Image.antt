@@ -249,15 +249,16 @@ abbrev pub line_after : ℕ → ℕ → ℕ
 line_after before line = line
 
 -- the source line of a statement: not 0, nor below that of the statement before, `before` (0 for
--- none), else fault 9; with false any u32
-unfoldable pub line_field : Bool → ℕ → Layout ℕ
+-- none), else fault 9; without code faults any u32
+unfoldable pub line_field : (with_code_faults : Bool) → (before : ℕ) → Layout ℕ
 line_field with_code_faults before =
     field_layout u32 (λ n. if_checked with_code_faults (field_fault (field_of.Line before n)))
 
 -- the source lines of a code block at offset `start`, u32 each, as many as its head counts
--- statements; with true, fault 9 at the statement count (`start` + 8) where the ops have another
--- number of end marks
-unfoldable pub lines_layout : Bool → ℕ → Head → List OpData → Layout (List ℕ)
+-- statements; with code faults, fault 9 at the statement count (`start` + 8) where the ops have
+-- another number of end marks
+unfoldable pub lines_layout :
+    (with_code_faults : Bool) → (start : ℕ) → Head → List OpData → Layout (List ℕ)
 lines_layout with_code_faults start h ops =
     checked_layout (start + 8)
     (if_checked with_code_faults
@@ -265,8 +266,9 @@ lines_layout with_code_faults start h ops =
     (list_layout (line_field with_code_faults) line_after 0 h.statement_count)
 
 -- the ops and source lines of a code block at offset `start`, behind this head and the parameters;
--- with false no fault 9, and fault 5 only for bytes that begin no op
-unfoldable pub code_and_lines : Bool → ℕ → Head → Layout (List OpData × List ℕ)
+-- without code faults no fault 9, and fault 5 only for bytes that begin no op
+unfoldable pub code_and_lines :
+    (with_code_faults : Bool) → (start : ℕ) → Head → Layout (List OpData × List ℕ)
 code_and_lines with_code_faults start h =
     chain_layout
     (code_layout with_code_faults h.code_length)
@@ -301,9 +303,10 @@ abbrev pub row_of_block_parts : BlockParts → BlockRow
 row_of_block_parts p = (p.head, (p.params, (p.code, p.lines)))
 
 -- the layout of a code block as a row of its parts, from offset `start` of the image on, behind a
--- block of kind and number `before`; with false no fault 9, and fault 5 only for bytes that begin
--- no op
-unfoldable pub block_rows : Bool → ℕ × ℕ → ℕ → Layout BlockRow
+-- block of kind and number `before`; without code faults no fault 9, and fault 5 only for bytes
+-- that begin no op
+unfoldable pub block_rows :
+    (with_code_faults : Bool) → (before : ℕ × ℕ) → (start : ℕ) → Layout BlockRow
 block_rows with_code_faults before start =
     chain_layout (head_layout before) (λ h.
     chain_layout (parameters_layout h) (λ params. code_and_lines with_code_faults start h))
@@ -346,7 +349,8 @@ parts_of_block b = record {
 
 -- a code block at offset `start` of the image, as its record, behind a block of kind and number
 -- `before`; no note says that it was read whole
-unfoldable pub plain_block : Bool → ℕ × ℕ → ℕ → Layout BlockRecord
+unfoldable pub plain_block :
+    (with_code_faults : Bool) → (before : ℕ × ℕ) → (start : ℕ) → Layout BlockRecord
 plain_block with_code_faults before start =
     seen_as
     (λ r. block_of_parts (parts_of_block_row r))
@@ -360,13 +364,15 @@ whole_note start b = Whole (start + 16 + 6 * length b.params) b
 
 -- a code block at offset `start` of the image, noted once it was read whole, so that its faults 6
 -- to 8 are checked
-abbrev pub code_block_at : Bool → ℕ × ℕ → ℕ → Layout BlockRecord
+abbrev pub code_block_at :
+    (with_code_faults : Bool) → (before : ℕ × ℕ) → (start : ℕ) → Layout BlockRecord
 code_block_at with_code_faults before start =
     noted_layout (whole_note start) (plain_block with_code_faults before start)
 
 -- a code block at any offset of the image, behind one of kind and number `before` (0 and 0 for
 -- none)
-unfoldable pub code_block_layout : Bool → ℕ × ℕ → Layout BlockRecord
+unfoldable pub code_block_layout :
+    (with_code_faults : Bool) → (before : ℕ × ℕ) → Layout BlockRecord
 code_block_layout with_code_faults before = located_layout (code_block_at with_code_faults before)
 
 -- the state behind a code block, by which the next one is checked: its kind and number
@@ -615,8 +621,9 @@ count_rows =
 unfoldable pub counts_layout : Layout RecordCounts
 counts_layout = seen_as counts_of_row row_of_counts count_rows
 
--- the n code blocks of an image; with false no fault 9, and fault 5 only for bytes that begin no op
-unfoldable pub code_blocks_layout : Bool → ℕ → Layout (List BlockRecord)
+-- the n code blocks of an image; without code faults no fault 9, and fault 5 only for bytes that
+-- begin no op
+unfoldable pub code_blocks_layout : (with_code_faults : Bool) → (n : ℕ) → Layout (List BlockRecord)
 code_blocks_layout with_code_faults n =
     list_layout (code_block_layout with_code_faults) after_block (0, 0) n
 
@@ -661,9 +668,9 @@ parts_of_body_row r = record {
 abbrev pub row_of_body_parts : BodyParts → BodyRow
 row_of_body_parts p = (p.counts, (p.code_blocks, (p.data_blocks, p.names)))
 
--- the layout of all behind the total length as a row of its parts; with false no fault 9, and fault
--- 5 only for bytes that begin no op
-unfoldable pub body_rows : Bool → Layout BodyRow
+-- the layout of all behind the total length as a row of its parts; without code faults no fault 9,
+-- and fault 5 only for bytes that begin no op
+unfoldable pub body_rows : (with_code_faults : Bool) → Layout BodyRow
 body_rows with_code_faults =
     chain_layout counts_layout (λ c.
     chain_layout (code_blocks_layout with_code_faults c.code_blocks) (λ blocks.
@@ -695,9 +702,9 @@ parts_of_records r = record {
   names = r.names;
 }
 
--- all records of an image, with their counts before them; with false no fault 9, and fault 5 only
--- for bytes that begin no op
-unfoldable pub records_layout : Bool → Layout Records
+-- all records of an image, with their counts before them; without code faults no fault 9, and fault
+-- 5 only for bytes that begin no op
+unfoldable pub records_layout : (with_code_faults : Bool) → Layout Records
 records_layout with_code_faults =
     seen_as
     (λ r. records_of_parts (parts_of_body_row r))
@@ -811,8 +818,9 @@ records_of p = record {
   names = map name_of_entry p.names;
 }
 
--- a program as the bytes behind the total length: the counts, then all records
-unfoldable pub body_layout : Bool → Layout Program
+-- a program as the bytes behind the total length: the counts, then all records; without code faults
+-- no fault 9, and fault 5 only for bytes that begin no op
+unfoldable pub body_layout : (with_code_faults : Bool) → Layout Program
 body_layout with_code_faults =
     seen_as program_of_records records_of (records_layout with_code_faults)
 
@@ -914,7 +922,8 @@ end_layout stamp p end = record {
 
 -- the body of an image read from `size` bytes, all behind the total length; fault 10 where bytes
 -- stand behind its last record
-abbrev pub read_body : Bool → Stamp → ℕ → Cursor → ReadResult (Stamp × Program)
+abbrev pub read_body :
+    (with_code_faults : Bool) → Stamp → (size : ℕ) → Cursor → ReadResult (Stamp × Program)
 read_body with_code_faults stamp size cur =
     bind_reading
     ((body_layout with_code_faults).read (record { at = cur.at; rest = take size cur.rest }))
@@ -923,7 +932,8 @@ read_body with_code_faults stamp size cur =
 -- an image of `size` bytes read from behind its front, by the `total` length that this says. 3: a
 -- total length above the bytes there, or below 20 (header). 4: one above 8,388,608. Both end the
 -- reading, at offset 8, the total length. 10: bytes behind the total length, which are cut off
-abbrev pub read_cut_off : Bool → Stamp → (size total : ℕ) → Cursor → ReadResult (Stamp × Program)
+abbrev pub read_cut_off :
+    (with_code_faults : Bool) → Stamp → (size total : ℕ) → Cursor → ReadResult (Stamp × Program)
 read_cut_off with_code_faults stamp size total cur =
     if nat_lt total 20 || nat_lt size total then reading_ended 8 3
     else if nat_lt 8388608 total then reading_ended 8 4
@@ -934,8 +944,8 @@ read_cut_off with_code_faults stamp size total cur =
     }
 
 -- bytes read as an image: the front (faults 1, 2 and 4 don't end it), then by its total length;
--- with false no fault 9, and fault 5 only for bytes that begin no op
-unfoldable pub read_by : Bool → List ℕ → ReadResult (Stamp × Program)
+-- without code faults no fault 9, and fault 5 only for bytes that begin no op
+unfoldable pub read_by : (with_code_faults : Bool) → List ℕ → ReadResult (Stamp × Program)
 read_by with_code_faults text =
     bind_reading
     (front_layout.read (record { at = 0; rest = text }))

@@ -21,7 +21,7 @@ pub record CodeBlock : Type 0 where
   -- the source line of each statement
   pub lines : List ℕ
 
--- a data block
+-- a data block of a program: its number, whose instance it is, and its initial bytes
 pub record DataBlock : Type 0 where
   -- the number of the data block
   pub number : ℕ

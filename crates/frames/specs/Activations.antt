@@ -1,4 +1,4 @@
--- Activations: the list of frames, entering and leaving blocks.
+-- Activations: the list of frames, entering and exiting blocks.
 use Rattle.std.specs.Prelude.{◌≡◌, ℕ, ◌+◌, nat_le, List, [], ◌∷◌, length, reverse, slice_get, Option, Some, None, Result, Ok, Err, Bool, true, false, if◌then◌else◌}
 use Rattle.std.specs.Option.{option_map}
 use Rattle.std.specs.Borrow.{Bor}
@@ -14,9 +14,9 @@ use Rattle.frames.specs.declared.activation.FrameFault.TheVariants.{Depth, Local
 use Rattle.frames.specs.declared.frame.Frame.{Frame}
 
 -- the frames of an activation, the innermost one first; no frame stands after the last block was
--- left
+-- exited
 abbrev pub frames_of : Activation → List Frame
-frames_of a = if a.left then [] else a.running.frame ∷ a.below
+frames_of a = if a.ended then [] else a.running.frame ∷ a.below
 
 -- the frame of an activation with this place, counted from 0 at the outermost frame
 abbrev pub frame_at : Activation → ℕ → Option Frame
@@ -57,7 +57,7 @@ activation_begun profile class ob f = record {
   delay = 0;
   running = record { regs = regs_at_rest; frame = f; locals = open_locals f.local_len no_locals };
   below = [];
-  left = false;
+  ended = false;
 }
 
 -- the local byte with a number of the frame with a place (counted from 0 at the outermost frame),
@@ -78,7 +78,7 @@ abbrev pub block_entered : Frame → Activation → Activation
 block_entered f a = record a {
   running = record a.running { frame = f; locals = open_locals f.local_len a.running.locals };
   below = frames_of a;
-  left = false;
+  ended = false;
 }
 
 -- why a block can't be entered: as many frames stand as the profile has, or 1,024 bytes of local
@@ -102,45 +102,45 @@ EntersBy why old new f answer = ⊥
 abbrev pub EntersBlock : (old new : Activation) → Frame → Result (Unit {0}) FrameFault → Type 0
 EntersBlock old new f answer = EntersBy (entry_fault f.local_len old) old new f answer
 
--- what leaving the innermost of the standing frames does and answers: the answer is this frame, its
+-- what exiting the innermost of the standing frames does and answers: the answer is this frame, its
 -- local bytes end, and the frames below it stand; without a frame the answer is None, and nothing
 -- changes
-abbrev pub LeavesFrameTo : (standing : List Frame) → (old new : Activation) → Option Frame → Type 0
-LeavesFrameTo [] old new None = new ≡ old
-LeavesFrameTo (f ∷ rest) old new (Some frame) =
+abbrev pub ExitsFrameTo : (standing : List Frame) → (old new : Activation) → Option Frame → Type 0
+ExitsFrameTo [] old new None = new ≡ old
+ExitsFrameTo (f ∷ rest) old new (Some frame) =
     (frame ≡ f) × (frames_of new ≡ rest) × (new.running.locals ≡ close_locals old.running.locals)
     × (new.running.regs ≡ old.running.regs) × (new.class ≡ old.class) × (new.ob ≡ old.ob)
     × (new.delay ≡ old.delay)
     × (new.profile ≡ old.profile)
-LeavesFrameTo standing old new answer = ⊥
+ExitsFrameTo standing old new answer = ⊥
 
--- what leaving the innermost frame of an activation does and answers: the answer is this frame, or
+-- what exiting the innermost frame of an activation does and answers: the answer is this frame, or
 -- None, with nothing changed, where no frame stands
-abbrev pub LeavesFrame : (old new : Activation) → Option Frame → Type 0
-LeavesFrame old new answer = LeavesFrameTo (frames_of old) old new answer
+abbrev pub ExitsFrame : (old new : Activation) → Option Frame → Type 0
+ExitsFrame old new answer = ExitsFrameTo (frames_of old) old new answer
 
 -- an activation with another frame in the place of the innermost one, whose local bytes stay
 abbrev pub with_frame : Frame → Activation → Activation
 with_frame f a = record a { running = record a.running { frame = f } }
 
--- what leaving the innermost block does and answers, given the frames below it: its local bytes
+-- what exiting the innermost block does and answers, given the frames below it: its local bytes
 -- end, and the answer is true where the frame of its caller is the innermost one again, false where
 -- there is no caller and no frame stands any more
-abbrev pub LeavesBlock : (below : List Frame) → (old new : Activation) → Bool → Type 0
-LeavesBlock [] old new false =
+abbrev pub ExitsBlock : (below : List Frame) → (old new : Activation) → Bool → Type 0
+ExitsBlock [] old new false =
     (frames_of new ≡ []) × (new.running.locals ≡ close_locals old.running.locals)
     × (new.running.regs ≡ old.running.regs) × (new.class ≡ old.class) × (new.ob ≡ old.ob)
     × (new.delay ≡ old.delay)
     × (new.profile ≡ old.profile)
-LeavesBlock (caller ∷ rest) old new true = new ≡ record old {
+ExitsBlock (caller ∷ rest) old new true = new ≡ record old {
   running = record old.running { frame = caller; locals = close_locals old.running.locals };
   below = rest;
 }
-LeavesBlock below old new answer = ⊥
+ExitsBlock below old new answer = ⊥
 
 -- what taking the innermost of the frames below does and answers: true where there is one, which
 -- becomes the innermost frame; false, with nothing changed, where there is none
-abbrev pub PopsTo : (old new : List Frame) → (frame_old frame_new : Frame) → Bool → Type 0
-PopsTo [] new frame_old frame_new false = (new ≡ []) × (frame_new ≡ frame_old)
-PopsTo (f ∷ rest) new frame_old frame_new true = (frame_new ≡ f) × (new ≡ rest)
-PopsTo old new frame_old frame_new answer = ⊥
+abbrev pub PopsFrame : (old new : List Frame) → (frame_old frame_new : Frame) → Bool → Type 0
+PopsFrame [] new frame_old frame_new false = (new ≡ []) × (frame_new ≡ frame_old)
+PopsFrame (f ∷ rest) new frame_old frame_new true = (frame_new ≡ f) × (new ≡ rest)
+PopsFrame old new frame_old frame_new answer = ⊥

@@ -13,9 +13,9 @@ ghost use Rattle.plc_base.specs.Changes.{ChangesOrStays};
 ghost use Rattle.status_word.specs.Registers.{regs_at_rest};
 ghost use Rattle.frames.specs.Activations.{
   EntersBlock,
-  LeavesFrame,
-  LeavesBlock,
-  PopsTo,
+  ExitsFrame,
+  ExitsBlock,
+  PopsFrame,
   IsFrame,
   IsFrameIn,
   activation_begun,
@@ -50,7 +50,7 @@ pub enum FrameFault {
 
 /// The frames below the innermost one, 23 at most. A contract sees the list of them, the innermost
 /// one first. They stay where they are: a frame is copied in when a block is entered, and out when
-/// it is left, and of its bindings only those that there are.
+/// it is exited, and of its bindings only those that there are.
 #[derive(Drop)]
 pub struct Below {
     /// Room for the frames; those from `count` on mean nothing.
@@ -102,7 +102,7 @@ impl Below {
     // Copies the innermost frame out and takes it off; false where there is none.
     #[tactic(auto, using(crate::proofs::Stack::count_of, crate::proofs::Stack::popped))]
     fn pop_to(&mut self, frame: &mut Frame) -> bool
-        ensures { PopsTo self.old self.new frame.old frame.new result }
+        ensures { PopsFrame self.old self.new frame.old frame.new result }
     {
         if self.count == 0 {
             return false;
@@ -145,8 +145,8 @@ pub struct Activation {
     pub running: Running,
     /// The frames below the innermost one.
     pub below: Below,
-    /// Whether the last block was left, so that no frame stands.
-    pub left: bool,
+    /// Whether the last block was exited, so that no frame stands.
+    pub ended: bool,
 }
 
 impl Activation {
@@ -169,7 +169,7 @@ impl Activation {
                 locals,
             },
             below: Below::new(),
-            left: false,
+            ended: false,
         }
     }
 
@@ -189,7 +189,7 @@ impl Activation {
         self.running.locals.clear();
         self.running.locals.open(local_len);
         self.below.clear();
-        self.left = false;
+        self.ended = false;
     }
 
     /// How many frames stand.
@@ -197,7 +197,7 @@ impl Activation {
         ensures value { result ≡ length (frames_of self.now) }
         ensures bound { result ≤ 24 }
     {
-        if self.left { 0 } else { self.below.len() + 1 }
+        if self.ended { 0 } else { self.below.len() + 1 }
     }
 
     /// Why a block with so many local bytes can't be entered.
@@ -225,9 +225,9 @@ impl Activation {
             self.old }
     {
         self.running.locals.open(local_len);
-        if self.left {
+        if self.ended {
             self.below.clear();
-            self.left = false;
+            self.ended = false;
         } else {
             self.below.push(&self.running.frame);
         }
@@ -252,29 +252,29 @@ impl Activation {
         Ok(())
     }
 
-    /// Leaves the innermost block; the answer says whether its caller goes on. One stands.
-    pub fn leave_block(&mut self) -> bool
-        requires { self.old.left ≡ false }
-        ensures { LeavesBlock self.old.below self.old self.new result }
+    /// Exits the innermost block; the answer says whether its caller goes on. One stands.
+    pub fn exit_block(&mut self) -> bool
+        requires { self.old.ended ≡ false }
+        ensures { ExitsBlock self.old.below self.old self.new result }
     {
         self.running.locals.close();
         if self.below.pop_to(&mut self.running.frame) {
             return true;
         }
-        self.left = true;
+        self.ended = true;
         false
     }
 
-    /// Leaves the innermost block, and gives its frame; `None` exactly where no frame stands.
-    pub fn leave(&mut self) -> Option<Frame>
-        ensures { LeavesFrame self.old self.new result }
+    /// Exits the innermost block, and gives its frame; `None` exactly where no frame stands.
+    pub fn exit(&mut self) -> Option<Frame>
+        ensures { ExitsFrame self.old self.new result }
     {
-        if self.left {
+        if self.ended {
             return None;
         }
         let mut frame = Frame::default();
         frame.copy_from(&self.running.frame);
-        self.leave_block();
+        self.exit_block();
         Some(frame)
     }
 
@@ -327,7 +327,7 @@ impl Activation {
         ensures { IsFrame self.now i result }
     {
         let place = usize::from(i);
-        if self.left {
+        if self.ended {
             return None;
         }
         if place == self.below.len() {
@@ -338,7 +338,7 @@ impl Activation {
 
     /// Puts a frame in the place of the innermost one, of the same block; its local bytes stay.
     pub fn set_frame(&mut self, f: Frame)
-        requires stands { self.old.left ≡ false }
+        requires stands { self.old.ended ≡ false }
         requires same { (f.block ≡ self.old.running.frame.block)
             × (f.local_len ≡ self.old.running.frame.local_len) }
         ensures { self.new ≡ with_frame f self.old }

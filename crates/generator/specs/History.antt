@@ -18,8 +18,8 @@ abbrev pub memory_word : ℕ → Var
 memory_word byte =
     record { place = record { number = 0; byte = byte; area = M; bit = 0 }; width = Word }
 
--- what happens in a round behind its steps: worker 2 lets a millisecond pass or feeds an input byte,
--- or operator 1, worker 3, reads a word of bit memory
+-- what happens in a round behind its steps: worker 2 lets a millisecond pass or feeds an input
+-- byte, or operator 1, worker 3, reads a word of bit memory
 unfoldable pub round_event : ℕ → Entry
 round_event d =
     if d / 400 % 3 == 0 then record { who = 2; what = Tick 1 }

@@ -21,11 +21,11 @@ statement_line d =
     else codes "A M " ++ decimal (drawn_memory_word d) ++ codes ".1; = M "
     ++ decimal (drawn_memory_word d) ++ codes ".2;\n"
 
--- how the source begins
+-- the beginning of the source: the head of OB 1
 unfoldable pub source_head : List ℕ
 source_head = codes "ORGANIZATION_BLOCK OB 1\nBEGIN\n"
 
--- how it ends: OB 1 does, and the whole of OB 35
+-- the end of the source: the end of OB 1, and all of OB 35
 unfoldable pub source_end : List ℕ
 source_end =
     codes "END_ORGANIZATION_BLOCK\nORGANIZATION_BLOCK OB 35\nBEGIN\nL MW 0;\n+ 1;\nT MW 0;\nEND_ORGANIZATION_BLOCK\n"

@@ -112,9 +112,9 @@ fn append_rounds(draws: &mut Draws, count: u32, entries: &mut Entries) -> Result
     Ok(())
 }
 
-/// The history that a number gives, to run its source by: 1,000 rounds, each of one draw behind those
-/// of the source, with one to 400 steps, and then a tick of 1 ms, an input byte that takes a value, or
-/// a word of bit memory that operator 1 reads.
+/// The history that a number gives, to run its source by: 1,000 rounds, each of one draw behind
+/// those of the source, with one to 400 steps, and then a tick of 1 ms, an input byte that takes a
+/// value, or a word of bit memory that operator 1 reads.
 ///
 /// # Errors
 ///

@@ -1,5 +1,5 @@
-//! Programs and histories that a number gives: the source of a long program, and a history to run it
-//! by, made of numbers that are drawn from that number.
+//! Programs and histories that a number gives: the source of a long program, and a history to run
+//! it by, made of numbers that are drawn from that number.
 #![tactic(auto)]
 
 mod draws;

@@ -113,10 +113,12 @@ fn append_lines(draws: &mut Draws, count: u32, out: &mut Vec<u8>) -> Result<(), 
     Ok(())
 }
 
-/// The source that a number gives. The command `gen` takes 1 to 10,000; the rule is the same for all.
+/// The source that a number gives. The command `gen` takes 1 to 10,000; the rule is the same for
+/// all.
 ///
-/// Organization block 1 has 2,000 lines, each of one draw: an instruction on words of bit memory or the
-/// accumulators, or one that copies a bit. Organization block 35 adds 1 to the first word of bit memory.
+/// Organization block 1 has 2,000 lines, each of one draw: an instruction on words of bit memory or
+/// the accumulators, or one that copies a bit. Organization block 35 adds 1 to the first word of
+/// bit memory.
 ///
 /// # Errors
 ///

@@ -47,7 +47,8 @@ impl Reader<'_> {
     fn head(&mut self, kind_before: u8, before: u16) -> Result<HeadRead, Ended>
         requires { self.old.at + length self.old.rest.now < 2 ^ 32 }
         ensures read { reader_run head_values result self.new
-            ≡ run_layout (head_layout (kind_before, before)) (reader_cursor self.old) (log_of self.old) }
+            ≡ run_layout (head_layout (kind_before, before))
+            (reader_cursor self.old) (log_of self.old) }
         ensures all { self.new.at + length self.new.rest.now
             ≡ self.old.at + length self.old.rest.now }
         ensures step { OnOk result (self.new.at ≡ self.old.at + 16) }
@@ -76,7 +77,8 @@ impl Reader<'_> {
     fn parameter(&mut self, kind: u8, instance: u16) -> Result<ParameterRecord, Ended>
         requires { self.old.at + length self.old.rest.now < 2 ^ 32 }
         ensures read { reader_run (λ p. p) result self.new
-            ≡ run_layout (parameter_layout kind instance) (reader_cursor self.old) (log_of self.old) }
+            ≡ run_layout (parameter_layout kind instance)
+            (reader_cursor self.old) (log_of self.old) }
         ensures all { self.new.at + length self.new.rest.now
             ≡ self.old.at + length self.old.rest.now }
         ensures step { OnOk result (self.new.at ≡ self.old.at + 6) }
@@ -97,8 +99,8 @@ impl Reader<'_> {
     #[tactic(auto, unfolding(flat_code::specs::Image::parameters_layout))]
     fn parameters(&mut self, alloc: Global, head: HeadRead) -> Result<Vec<ParameterRecord>, Stop>
         requires { self.old.at + length self.old.rest.now < 2 ^ 32 }
-        ensures read { Sees (λ v. v.items) result self.new (run_layout (parameters_layout (head_values head))
-            (reader_cursor self.old) (log_of self.old)) }
+        ensures read { Sees (λ v. v.items) result self.new (run_layout
+            (parameters_layout (head_values head)) (reader_cursor self.old) (log_of self.old)) }
         ensures all { OnOk result (self.new.at + length self.new.rest.now
             ≡ self.old.at + length self.old.rest.now) }
         ensures step { IfOk result (λ v. self.new.at ≡ self.old.at + 6 * vec_len v) }
@@ -199,7 +201,8 @@ impl Reader<'_> {
         requires fits { self.old.at + length self.old.rest.now < 2 ^ 32 }
         requires room { start + 8 < 2 ^ 32 }
         ensures read { Sees (λ r. (r.0.items, r.1.items)) result self.new (run_layout
-            (code_and_lines true start (head_values head)) (reader_cursor self.old) (log_of self.old)) }
+            (code_and_lines true start (head_values head))
+            (reader_cursor self.old) (log_of self.old)) }
         ensures all { OnOk result (self.new.at + length self.new.rest.now
             ≡ self.old.at + length self.old.rest.now) }
         ensures room { IfOk result (λ r. length (code_bytes r.0.items)
@@ -247,7 +250,8 @@ impl Reader<'_> {
     #[tactic(auto, unfolding(flat_code::specs::Image::code_block_layout, crate::specs::Running::log_after, crate::specs::Least::with_faults), using(crate::proofs::RunLemmas::run_located, crate::proofs::RunLemmas::run_remembered))]
     fn code_block(&mut self, alloc: Global, kind_before: u8, before: u16) -> Result<(u8, u16), Stop>
         requires { self.old.at + length self.old.rest.now + 2000 < 2 ^ 32 }
-        ensures read { SeesBlock result self.new (run_layout (code_block_layout true (kind_before, before))
+        ensures read { SeesBlock result self.new (run_layout
+            (code_block_layout true (kind_before, before))
             (reader_cursor self.old) (log_of self.old)) }
         ensures all { OnOk result (self.new.at + length self.new.rest.now
             ≡ self.old.at + length self.old.rest.now) }

@@ -141,7 +141,8 @@ impl<'a> Reader<'a> {
     pub(crate) fn names(&mut self, alloc: Global, count: u16) -> Result<Vec<NameRead>, Stop>
         requires { self.old.at + length self.old.rest.now < 2 ^ 32 }
         ensures read { Sees (λ v. v.items) result self.new (run_layout
-            (list_layout name_record after_name [] count) (reader_cursor self.old) (log_of self.old)) }
+            (list_layout name_record after_name [] count)
+            (reader_cursor self.old) (log_of self.old)) }
         ensures all { OnOk result (self.new.at + length self.new.rest.now
             ≡ self.old.at + length self.old.rest.now) }
     {

@@ -108,7 +108,8 @@ impl Reader<'_> {
     ) -> Result<u16, Ended>
         requires { self.old.at + length self.old.rest.now < 2 ^ 32 }
         ensures read { reader_run (λ n. n) result self.new
-            ≡ run_layout (parameter_byte kind instance width) (reader_cursor self.old) (log_of self.old) }
+            ≡ run_layout (parameter_byte kind instance width)
+            (reader_cursor self.old) (log_of self.old) }
         ensures all { self.new.at + length self.new.rest.now
             ≡ self.old.at + length self.old.rest.now }
         ensures step { OnOk result (self.new.at ≡ self.old.at + 2) }
@@ -193,7 +194,8 @@ impl Reader<'_> {
     ) -> Result<u16, Ended>
         requires { self.old.at + length self.old.rest.now < 2 ^ 32 }
         ensures read { reader_run (λ n. n) result self.new
-            ≡ run_layout (block_number_layout kind_before before kind) (reader_cursor self.old) (log_of self.old) }
+            ≡ run_layout (block_number_layout kind_before before kind)
+            (reader_cursor self.old) (log_of self.old) }
         ensures all { self.new.at + length self.new.rest.now
             ≡ self.old.at + length self.old.rest.now }
         ensures step { OnOk result (self.new.at ≡ self.old.at + 2) }

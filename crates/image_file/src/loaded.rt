@@ -204,7 +204,8 @@ impl Loaded {
 
     /// The head of a block. `None` exactly where it isn't a loaded code block.
     pub fn head(&self, block: BlockId) -> Option<CodeBlockHead>
-        ensures { result ≡ option_map code_block_head (block_by_id block self.now.program.code_blocks) }
+        ensures { result
+            ≡ option_map code_block_head (block_by_id block self.now.program.code_blocks) }
     {
         Some(self.block(block)?.head())
     }
@@ -227,7 +228,8 @@ impl Loaded {
 
     /// The bytes with which a data block begins. `None` exactly where there is none of the number.
     pub fn data_block(&self, number: u16) -> Option<&[u8]>
-        ensures { option_map (λ d. d.now) result ≡ data_bytes_of number self.now.program.data_blocks }
+        ensures { option_map (λ d. d.now) result
+            ≡ data_bytes_of number self.now.program.data_blocks }
     {
         bytes_of(number, self.data_blocks.as_slice())
     }

@@ -53,7 +53,8 @@ impl<'a> Reader<'a> {
     /// Notes the fault of a field at an offset, if it has one.
     #[tactic(auto, unfolding(crate::specs::Least::with_faults, crate::specs::Running::log_after))]
     pub(crate) fn check(&mut self, at: u32, field: Field)
-        ensures log { log_of self.new ≡ log_after (log_of self.old) (fault_note at (field_fault field)) }
+        ensures log { log_of self.new
+            ≡ log_after (log_of self.old) (fault_note at (field_fault field)) }
         ensures at { self.new.at ≡ self.old.at }
         ensures rest { self.new.rest.now ≡ self.old.rest.now }
     {
@@ -112,7 +113,8 @@ impl<'a> Reader<'a> {
     pub(crate) fn u32(&mut self) -> Result<u32, Ended>
         requires { self.old.at + min 4 (length self.old.rest.now) < 2 ^ 32 }
         ensures read { reader_run (λ n. n) result self.new
-            ≡ run_layout (field_layout a_dword no_fault) (reader_cursor self.old) (log_of self.old) }
+            ≡ run_layout (field_layout a_dword no_fault)
+            (reader_cursor self.old) (log_of self.old) }
         ensures all { self.new.at + length self.new.rest.now
             ≡ self.old.at + length self.old.rest.now }
         ensures step { OnOk result (self.new.at ≡ self.old.at + 4) }
@@ -136,7 +138,8 @@ impl<'a> Reader<'a> {
     pub(crate) fn bytes(&mut self, count: u16) -> Result<&'a [u8], Ended>
         requires { self.old.at + length self.old.rest.now < 2 ^ 32 }
         ensures read { reader_run (λ s. s.now) result self.new
-            ≡ run_layout (field_layout (bytes_coding count) (λ bs. None)) (reader_cursor self.old) (log_of self.old) }
+            ≡ run_layout (field_layout (bytes_coding count) (λ bs. None))
+            (reader_cursor self.old) (log_of self.old) }
         ensures all { self.new.at + length self.new.rest.now
             ≡ self.old.at + length self.old.rest.now }
         ensures len { IfOk result (λ s. length s.now ≡ count) }

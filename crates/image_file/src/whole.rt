@@ -43,8 +43,8 @@ impl Reader<'_> {
     #[tactic(auto, unfolding(flat_code::specs::Image::data_blocks_layout, crate::specs::Running::log_after, crate::specs::Least::with_faults), using(crate::proofs::RunLemmas::run_remembered))]
     fn data_blocks(&mut self, alloc: Global, count: u16) -> Result<(), Stop>
         requires { self.old.at + length self.old.rest.now < 2 ^ 32 }
-        ensures read { SeesDatas result self.new (run_layout (data_blocks_layout count) (reader_cursor self.old)
-            (log_of self.old)) }
+        ensures read { SeesDatas result self.new (run_layout (data_blocks_layout count)
+            (reader_cursor self.old) (log_of self.old)) }
         ensures all { OnOk result (self.new.at + length self.new.rest.now
             ≡ self.old.at + length self.old.rest.now) }
     {
@@ -57,8 +57,8 @@ impl Reader<'_> {
     fn records(&mut self, alloc: Global) -> Result<Vec<NameRead>, Stop>
         requires { self.old.at + length self.old.rest.now + 2000 < 2 ^ 32 }
         ensures read { SeesRecords
-            (λ v. v.items) result self.new (run_layout (records_layout true) (reader_cursor self.old)
-            (log_of self.old)) }
+            (λ v. v.items) result self.new (run_layout (records_layout true)
+            (reader_cursor self.old) (log_of self.old)) }
         ensures all { OnOk result (self.new.at + length self.new.rest.now
             ≡ self.old.at + length self.old.rest.now) }
     {

@@ -232,7 +232,8 @@ fn put_body(out: &mut Vec<u8>, program: &Program) -> Result<(), NoMemory>
 /// The header up to the total length.
 #[tactic(auto, unfolding(flat_code::specs::Image::front_layout, flat_code::specs::Image::front_rows, flat_code::specs::Image::magic_field, flat_code::specs::Image::version_field, flat_code::specs::Image::profile_field, flat_code::specs::Image::plain_u32))]
 fn put_front(out: &mut Vec<u8>, stamp: Stamp, total: u32) -> Result<(), NoMemory>
-    ensures { OnOk result (out.new.items ≡ out.old.items ++ front_layout.spell (front_of stamp total)) }
+    ensures { OnOk result
+        (out.new.items ≡ out.old.items ++ front_layout.spell (front_of stamp total)) }
 {
     let [e, f] = stamp.version().to_be_bytes();
     let [g, h] = stamp.profile_field().to_be_bytes();

@@ -43,7 +43,7 @@ use Rattle.block_layout.specs.declared.cells.Element.{Element}
 use Rattle.block_layout.specs.declared.cells.Element.TheVariants as element
 use Rattle.block_layout.specs.declared.walks.ComponentAt.{ComponentAt}
 use Rattle.block_layout.specs.declared.walks.PathEnd.{PathEnd}
-use Rattle.block_layout.specs.declared.walks.PathEnd.TheVariants as walk
+use Rattle.block_layout.specs.declared.walks.PathEnd.TheVariants as path_end
 use Rattle.stl_types.specs.Addresses.{address_in_block}
 use Rattle.stl_types.specs.Bodies.{first_context}
 use Rattle.stl_types.specs.Context.{Context, data_number, data_place, in_function}
@@ -91,34 +91,34 @@ composite_short (Some c) = of_ c.of where
   of_ element.DateAndTime = tt
   of_ _ = tt
 
-parameter_short : (c : Context) (spot : ComponentAt) (kind : Simple) → SeenShort (parameter_at c spot kind)
-parameter_short c spot kind = by (slice_get (cells_at c.layouts c.block false) spot.place) where
-  by : (found : Option Cell) → SeenShort (parameter_resolution (parameter_index (length (cells_at c.layouts c.block false)) spot.place (slice_get c.blocks c.block)) kind found)
+parameter_short : (c : Context) (component : ComponentAt) (kind : Simple) → SeenShort (parameter_at c component kind)
+parameter_short c component kind = by (slice_get (cells_at c.layouts c.block false) component.place) where
+  by : (found : Option Cell) → SeenShort (parameter_resolution (parameter_index (length (cells_at c.layouts c.block false)) component.place (slice_get c.blocks c.block)) kind found)
   by None = tt
   by (Some cell) = tt
 
-own_elementary_short : (c : Context) (temporary : Bool) (spot : ComponentAt) (kind : Simple) → SeenShort (own_elementary c temporary spot kind)
-own_elementary_short c true spot kind = in_area_short kind area.L 0 spot.offset
-own_elementary_short c false spot kind =
-    either_way SeenShort (in_function c) (parameter_at c spot kind) (variable_in_area kind (elementary_place area.Di 0 spot.offset (Some kind))) (parameter_short c spot kind) (in_area_short kind area.Di 0 spot.offset)
+own_elementary_short : (c : Context) (temporary : Bool) (component : ComponentAt) (kind : Simple) → SeenShort (own_elementary c temporary component kind)
+own_elementary_short c true component kind = in_area_short kind area.L 0 component.offset
+own_elementary_short c false component kind =
+    either_way SeenShort (in_function c) (parameter_at c component kind) (variable_in_area kind (elementary_place area.Di 0 component.offset (Some kind))) (parameter_short c component kind) (in_area_short kind area.Di 0 component.offset)
 
 own_short : (c : Context) (name : List ℕ) (steps : List PathStep) → SeenShort (own_variable c name steps)
 own_short c name steps = by (walked_local c.layouts c.block name steps) where
   by : (w : PathEnd) → SeenShort (own_walked c (is_temporary_variable c name) w)
-  by walk.Unknown = tt
-  by walk.Rests = tt
-  by (walk.Reaches spot) = at (elementary_at c.layouts spot) where
-    at : (kind : Option Simple) → SeenShort (own_at c (is_temporary_variable c name) spot kind)
-    at None = composite_short (slice_get (cells_at c.layouts spot.block spot.temporary) spot.place)
-    at (Some kind) = own_elementary_short c (is_temporary_variable c name) spot kind
+  by path_end.Unknown = tt
+  by path_end.Unjudged = tt
+  by (path_end.Reaches component) = at (elementary_at c.layouts component) where
+    at : (kind : Option Simple) → SeenShort (own_at c (is_temporary_variable c name) component kind)
+    at None = composite_short (slice_get (cells_at c.layouts component.block component.temporary) component.place)
+    at (Some kind) = own_elementary_short c (is_temporary_variable c name) component kind
 
 data_walk_short : (c : Context) (n : ℕ) (w : PathEnd) → SeenShort (data_walked c n w)
-data_walk_short c n walk.Unknown = tt
-data_walk_short c n walk.Rests = tt
-data_walk_short c n (walk.Reaches spot) = at (elementary_at c.layouts spot) where
-  at : (kind : Option Simple) → SeenShort (data_at c n spot kind)
-  at None = composite_short (slice_get (cells_at c.layouts spot.block spot.temporary) spot.place)
-  at (Some kind) = in_area_short kind area.Db n spot.offset
+data_walk_short c n path_end.Unknown = tt
+data_walk_short c n path_end.Unjudged = tt
+data_walk_short c n (path_end.Reaches component) = at (elementary_at c.layouts component) where
+  at : (kind : Option Simple) → SeenShort (data_at c n component kind)
+  at None = composite_short (slice_get (cells_at c.layouts component.block component.temporary) component.place)
+  at (Some kind) = in_area_short kind area.Db n component.offset
 
 data_short : (c : Context) (name : BlockName) (steps : List PathStep) → SeenShort (data_variable c name steps)
 data_short c name steps = by (data_number c name) (data_place c name) where

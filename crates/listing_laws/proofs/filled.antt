@@ -1,7 +1,7 @@
 -- The instances of function blocks have their bytes again.
 pub mod Reached
 pub mod Behind
-pub mod Spots
+pub mod Components
 pub mod Params
 pub mod Values
 pub mod Walks

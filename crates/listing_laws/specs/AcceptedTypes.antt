@@ -40,4 +40,5 @@ abbrev pub AreAcceptedTypesKept : Type 0
 AreAcceptedTypesKept =
     (source file : List ℕ) (symbols : List Symbol) (t : Tree) → IsAccepted source file symbols t
     → AreTypesAsDeclared (program_of t symbols (layouts_of t symbols)).code_blocks
-    (declared_type_in (declared_kinds t symbols) (program_of t symbols (layouts_of t symbols)).code_blocks)
+    (declared_type_in (declared_kinds t symbols)
+    (program_of t symbols (layouts_of t symbols)).code_blocks)

@@ -1,5 +1,5 @@
--- The listing of an accepted source's program as a source of its own: its tree, what its bodies are checked
--- by, and the blocks of the first source that its code blocks were made of.
+-- The listing of an accepted source's program as a source of its own: its tree, what its bodies are
+-- checked by, and the blocks of the first source that its code blocks were made of.
 use Rattle.std.specs.Prelude.{◌≡◌, ◌<◌, ℕ, true, false, List, length, Some, slice_get}
 use Rattle.std.specs.List.{AllByRecursion}
 use Rattle.plc_base.specs.Kinds.{is_code}
@@ -31,7 +31,8 @@ context_at symbols t place =
 
 -- what the body of a block of the listing is checked by, by the place of the block; `others` are
 -- the symbols that stand beside the listing
-abbrev pub again_at : (symbols : List Symbol) → Tree → (others : List Symbol) → (place : ℕ) → Context
+abbrev pub again_at :
+    (symbols : List Symbol) → Tree → (others : List Symbol) → (place : ℕ) → Context
 again_at symbols t others place = context_at others (listed_again symbols t) place
 
 -- no block of the listing of a source's program breaks a rule as a whole; `others` are the symbols
@@ -60,8 +61,8 @@ pub record IsCodeAt (symbols : List Symbol) (t : Tree) (place : ℕ) (b : Block)
   -- the block is an organization block, a function or a function block
   pub code : is_code id.kind ≡ true
 
--- the block of the listing at a place, `again`, was made of the block of the source at a place, `place`,
--- and stands on its lines
+-- the block of the listing at a place, `again`, was made of the block of the source at a place,
+-- `place`, and stands on its lines
 pub record IsMadeOf (symbols : List Symbol) (t : Tree) (again place : ℕ) (b : Block)
     (l : BlockLayout) (id : BlockId) : Type 0 where
   -- the block of the source stands at its place, with its layout, and has code
@@ -76,7 +77,8 @@ pub record IsMadeOf (symbols : List Symbol) (t : Tree) (again place : ℕ) (b : 
       ≡ Some (listed_block (signatures_in (program_in symbols t)) reached
       (compiled_block (code_block (context_at symbols t place) b l id)))
   -- the code block stands on its own lines behind the line that is reached
-  pub stands : StandsBehind reached (compiled_block (code_block (context_at symbols t place) b l id))
+  pub stands : StandsBehind reached
+      (compiled_block (code_block (context_at symbols t place) b l id))
 
 -- each code block of the listing of an accepted source's program was made of one of the source
 abbrev pub AreMadeOfSource : Type 0

@@ -32,9 +32,11 @@ body_again symbols t x =
 -- block, `x`
 abbrev pub around_again : (symbols : List Symbol) → Tree → StatedBlock → ListingContext
 around_again symbols t x =
-    listing_context (signatures_in (program_in symbols t)) (lines_in x.statements) (compiled_block x)
+    listing_context (signatures_in (program_in symbols t)) (lines_in x.statements)
+    (compiled_block x)
 
--- each listed statement of a block of the source comes to its instruction, at its place in the listing
+-- each listed statement of a block of the source comes to its instruction, at its place in the
+-- listing
 abbrev pub IsBodyKept : (symbols : List Symbol) → Tree → (others : List Symbol) → (again place : ℕ)
     → Block → BlockLayout → BlockId → Type 0
 IsBodyKept symbols t others again place b l id =

@@ -62,15 +62,18 @@ Prepares _ = Unit {0}
 -- function block; UC and CC do neither
 abbrev pub IsCallBy : (before : List OpData) → (code kind instance : ℕ) → Type 0
 IsCallBy before code kind instance =
-    ((code ≡ op_code_of (operation.Call calls.Call)) × ((instance ≡ 0) ⊎ (kind ≡ kind_number kinds.Fb)))
+    ((code ≡ op_code_of (operation.Call calls.Call))
+    × ((instance ≡ 0) ⊎ (kind ≡ kind_number kinds.Fb)))
     ⊎ ((instance ≡ 0) × (before ≡ []))
 
 -- the operand of the last op of a statement, of an op code, behind these ops, is one of a source: a
 -- place, an offset to an address register and a call are such as it writes
 abbrev pub IsLastOperandPrinted : (before : List OpData) → (code : ℕ) → Operand → Type 0
-IsLastOperandPrinted before code (flat.Direct a w byte bit) = IsOpenedIn (block_opened_by_ops before) a × IsPlace a w bit
+IsLastOperandPrinted before code (flat.Direct a w byte bit) =
+    IsOpenedIn (block_opened_by_ops before) a × IsPlace a w bit
 IsLastOperandPrinted before code (flat.ByRegister a w register bits) = bits < 8 * 65536
-IsLastOperandPrinted before code (flat.Called kind number instance) = IsCallBy before code kind instance
+IsLastOperandPrinted before code (flat.Called kind number instance) =
+    IsCallBy before code kind instance
 IsLastOperandPrinted before code _ = Unit {0}
 
 -- the ops of a statement are such as a statement of a source has
@@ -95,7 +98,8 @@ AreWords formals = AllByRecursion (λ f. is_word f.name ≡ true) formals
 -- no jump leads to the last of so many statements, the END clause
 abbrev pub IsEndFree : (count : ℕ) → CodeBlock → Type 0
 IsEndFree count b =
-    (n : ℕ) → suc n ≡ count → unwrap_or (slice_get (target_marks (statement_starts b.code) b.code) n) false ≡ false
+    (n : ℕ) → suc n ≡ count
+    → unwrap_or (slice_get (target_marks (statement_starts b.code) b.code) n) false ≡ false
 
 -- statements of a source are listed as ones that are read back
 abbrev pub AreBodiesPrinted : Type 0

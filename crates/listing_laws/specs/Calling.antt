@@ -15,7 +15,8 @@ use Rattle.stl_list.specs.Statements.{ListingContext, listed_statement}
 use Rattle.listing_laws.specs.Instructions.{HasAgain, IsInstructionKept}
 use Rattle.listing_laws.specs.Statements.{run_of}
 
--- the blocks that the source may call stand in the tree of the listing, which has no user-defined data types
+-- the blocks that the source may call stand in the tree of the listing, which has no user-defined
+-- data types
 abbrev pub AreCalledAgain : Context → Context → Type 0
 AreCalledAgain c listed =
     (id : BlockId) → is_data_type id.kind ≡ false → whole_called_block c (Some id) ≡ Some id

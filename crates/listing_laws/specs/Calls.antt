@@ -38,7 +38,8 @@ IsInstanceNumbered instance = instance ≡ Some 0 → ⊥
 abbrev pub AreCallsListed : Type 0
 AreCallsListed =
     (formals : List Formal) (starts : List ℕ) (f : ℕ → ℕ) (how : CallOperation) (id : BlockId)
-    (instance : Option ℕ) (ps : List Passing) → is_callable id.kind ≡ true → IsInstanceNumbered instance
+    (instance : Option ℕ) (ps : List Passing) → is_callable id.kind ≡ true
+    → IsInstanceNumbered instance
     → operand_of_run formals starts (run_of f (Calls how id instance ps))
     ≡ operand.Called (block.Number id) (option_map name_of_data_block instance)
 
@@ -47,16 +48,19 @@ AreCallsListed =
 abbrev pub AreStatementsListed : Type 0
 AreStatementsListed =
     (sur : ListingContext) (n : ℕ) (f : ℕ → ℕ) (m : Mnemonic) (how : CallOperation) (id : BlockId)
-    (instance : Option ℕ) (ps : List Passing) → is_callable id.kind ≡ true → call_operation_of m ≡ Some how
+    (instance : Option ℕ) (ps : List Passing) → is_callable id.kind ≡ true
+    → call_operation_of m ≡ Some how
     → ((listed_statement sur n (run_of f (Calls how id instance ps))).code ≡ m)
     × ((listed_statement sur n (run_of f (Calls how id instance ps))).actuals
-    ≡ actuals_before (line_of_statement sur.lines n) sur.formals (called_formals sur.signatures id) (pass_ops ps))
+    ≡ actuals_before (line_of_statement sur.lines n) sur.formals (called_formals sur.signatures id)
+    (pass_ops ps))
 
 -- a listed call that names its block and its instance comes to the instruction that it was made of:
 -- the same block and instance, and the passings `ps` of its ops
 abbrev pub AreCallsKept : Type 0
 AreCallsKept =
-    (c : Context) (body : List Statement) (n : ℕ) (s : Statement) (how : CallOperation) (id : BlockId)
+    (c : Context) (body : List Statement) (n : ℕ) (s : Statement) (how : CallOperation)
+    (id : BlockId)
     (instance : Option ℕ) (own called : List Formal) (callee : Callee) (ps : List Passing)
     → call_operation_of s.code ≡ Some how → resolved_operand c s ≡ Some (view.Called id instance)
     → callee_of c s.operand ≡ Some callee → IsListedCall c own called callee ps s

@@ -1,5 +1,5 @@
--- The statements of a source in the listing of its program: what they call, their operands, and what the
--- listed ones come to.
+-- The statements of a source in the listing of its program: what they call, their operands, and
+-- what the listed ones come to.
 use Rattle.std.specs.Prelude.{◌≡◌, ℕ, true, false, not, ◌&&◌, length, List, map, Option, Some}
 use Rattle.std.specs.List.{AllByRecursion}
 use Rattle.std.specs.Option.{option_map}
@@ -31,10 +31,13 @@ use Rattle.listing_laws.specs.Instructions.{IsInstructionKept, IsRightOperand}
 use Rattle.listing_laws.specs.Passings.{AreAllPassed, AreNamedApart, AreRising, IsPassable, in_upper_case}
 use Rattle.listing_laws.specs.Statements.{statement_offset, run_of}
 
--- what a statement of a source calls, `callee`, is found in its listing with the parameters that the
--- listing has, `called`, and what is passed fits there. `own` are the parameters of the block that calls
-pub record IsFoundAgain (c listed : Context) (own called : List Formal) (s : Statement) (id : BlockId)
-    (instance : Option ℕ) (callee : Callee) : Type 0 where
+-- what a statement of a source calls, `callee`, is found in its listing with the parameters that
+-- the listing has, `called`, and what is passed fits there. `own` are the parameters of the block
+-- that calls
+pub record IsFoundAgain
+    (c listed : Context) (own called : List Formal) (s : Statement) (id : BlockId)
+    (instance : Option ℕ) (callee : Callee)
+    : Type 0 where
   -- the called block as the rules find it in the listing
   pub found : Callee
   -- the operand that the listing has for the call finds this block
@@ -45,7 +48,8 @@ pub record IsFoundAgain (c listed : Context) (own called : List Formal) (s : Sta
   -- the block found in the listing has as many parameters as the one that the source calls
   pub size : length found.formals ≡ length callee.formals
   -- the parameters by their index are those that the listing has, with their names in upper case
-  pub order : in_parameter_order (source_block_at listed.blocks found.place) found.formals ≡ map in_upper_case called
+  pub order : in_parameter_order (source_block_at listed.blocks found.place) found.formals
+      ≡ map in_upper_case called
   -- no two of the parameters have one name, even in upper case
   pub named : AreNamedApart called
   -- what the call passes is for parameters of the listing, and fits there
@@ -77,7 +81,8 @@ AreCallsAgain =
     → IsMadeOf symbols t again place b l id
     → AllByRecursion
     (IsCalledAgain (context_at symbols t place) (again_at symbols t others again)
-    (signatures_in (program_in symbols t)) (formals_of_block (signatures_in (program_in symbols t)) id))
+    (signatures_in (program_in symbols t))
+    (formals_of_block (signatures_in (program_in symbols t)) id))
     b.body
 
 -- the operand of a statement, and those of its actual parameters, are right ones with the symbols

@@ -57,7 +57,8 @@ abbrev pub AreLabelsJoined : Type 0
 AreLabelsJoined =
     (count : ℕ) (ls : List Link) → AllByRecursion (IsLinkBelow count) ls
     → (m n : ℕ) → m < count → n < count
-    → (slice_get (chain_labels count ls) m ≡ slice_get (chain_labels count ls) n) ↔ AreChained ls m n
+    → (slice_get (chain_labels count ls) m ≡ slice_get (chain_labels count ls) n)
+    ↔ AreChained ls m n
 
 -- the label of a parameter is marked exactly where a chain joins the parameter to one of a type
 -- that is meant
@@ -65,7 +66,8 @@ abbrev pub AreMarksHanded : Type 0
 AreMarksHanded =
     (is_meant : Simple → Bool) (count : ℕ) (ls : List Link) → AllByRecursion (IsLinkBelow count) ls
     → (n : ℕ) → n < count
-    → (mark_at (marks_of is_meant (chain_labels count ls) ls) (slice_get (chain_labels count ls) n) ≡ true)
+    → (mark_at (marks_of is_meant (chain_labels count ls) ls)
+    (slice_get (chain_labels count ls) n) ≡ true)
     ↔ IsHandedType is_meant ls n
 
 -- ---- types
@@ -101,7 +103,7 @@ pub record AreTypesAsDeclared (blocks : List CodeBlock) (declared : ℕ → Simp
   -- a parameter that is TIME in the listing was declared TIME
   pub times : (n : ℕ) → n < total_parameter_count blocks → (w : Width)
       → is_time_kind (kind_at (chains_of blocks) n w) ≡ true → declared n ≡ simple.Time
-  -- widths stay
+  -- the listed type of a parameter is as wide as its declared one
   pub widths : (n : ℕ) → n < total_parameter_count blocks
       → width_of (kind_at (chains_of blocks) n (width_of (declared n))) ≡ width_of (declared n)
   -- both ends of a passing have one type

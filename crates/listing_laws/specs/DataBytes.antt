@@ -10,8 +10,8 @@ use Rattle.block_layout.specs.declared.blocks.BlockLayout.{BlockLayout}
 use Rattle.stl_list.specs.DataBlocks.{listed_data}
 use Rattle.stl_list.specs.Signatures.{Signature}
 
--- a listed data block with a structure of its own, which is whole at its place in a source and as long
--- as its bytes are many, has these as its initial bytes
+-- a listed data block with a structure of its own, which is whole at its place in a source and as
+-- long as its bytes are many, has these as its initial bytes
 abbrev pub AreOwnBytesAgain : Type 0
 AreOwnBytesAgain =
     (y : Types) (l : List BlockLayout) (blocks : List Block) (k : ℕ) (ss : List Signature)

@@ -26,8 +26,8 @@ pub record IsListedAs (f : Formal) (r : ParameterRecord) : Type 0 where
   -- the type is one that a listing gives
   pub kind : is_listed_type f.kind ≡ true
 
--- what the rest of the listing owes: a parameter of the block itself is seen as such and has the type that
--- is asked for, and a data block is there
+-- what the rest of the listing owes: a parameter of the block itself is seen as such and has the
+-- type that is asked for, and a data block is there
 abbrev pub IsBacked : Environment → Context → (own : List Formal) → Formal → Passed → Type 0
 IsBacked a c own f (passed.Parameter index width) =
     (g : Formal) × (r : ParameterRecord) × (parameter_meant a index ≡ Some r) × IsListedAs g r
@@ -40,6 +40,7 @@ IsBacked a c own f _ = Unit {0}
 -- what has no fault in the code fits in the listing
 abbrev pub AreFittingListed : Type 0
 AreFittingListed =
-    (a : Environment) (c : Context) (own : List Formal) (f : Formal) (r : ParameterRecord) (p : Passed)
+    (a : Environment) (c : Context) (own : List Formal) (f : Formal) (r : ParameterRecord)
+    (p : Passed)
     → IsListedAs f r → actual_fits p ≡ true → is_bad_actual a p ≡ false
     → misfits_parameter a r p ≡ false → IsBacked a c own f p → FitsListed c own f p

@@ -1,5 +1,5 @@
--- The forms of a listing: its data blocks, and its code blocks but for their statements, are ones that
--- are read back.
+-- The forms of a listing: its data blocks, and its code blocks but for their statements, are ones
+-- that are read back.
 use Rattle.std.specs.Prelude.{◌≡◌, ℕ, true, List, [], None}
 use Rattle.std.specs.List.{AllByRecursion}
 use Rattle.plc_base.specs.Kinds.{is_code}

@@ -56,22 +56,28 @@ IsHandedOn own called index _ = Unit {0}
 abbrev pub IsCallable : List CodeBlock → BlockId → Type 0
 IsCallable blocks id =
     (is_callable id.kind ≡ true)
-    × ((is_system_function id.kind || list_any (λ (b : CodeBlock). is_same_block b.id id) blocks) ≡ true)
+    × ((is_system_function id.kind
+    || list_any (λ (b : CodeBlock). is_same_block b.id id) blocks) ≡ true)
 
 -- an instruction hands on the types of the parameters of its block
-abbrev pub HandsTypesOn : (kinds : BlockId → List Simple) → List CodeBlock → (own : List Simple) → Instr → Type 0
+abbrev pub HandsTypesOn :
+    (kinds : BlockId → List Simple) → List CodeBlock → (own : List Simple) → Instr → Type 0
 HandsTypesOn kinds blocks own (Calls how id instance ps) =
     IsCallable blocks id
     × AllByRecursion (λ p. IsHandedOn own (called_kinds kinds id) p.index p.actual) ps
 HandsTypesOn kinds blocks own _ = Unit {0}
 
 -- blocks with as many types as parameters, all of whose instructions hand these types on
-pub record BlocksHandTypesOn (kinds : BlockId → List Simple) (blocks : List StatedBlock) : Type 0 where
+pub record BlocksHandTypesOn
+    (kinds : BlockId → List Simple) (blocks : List StatedBlock)
+    : Type 0 where
   -- there are as many types as parameters
   pub lengths : AllByRecursion (λ (b : StatedBlock). length (kinds b.id) ≡ length b.params) blocks
   -- each instruction hands the types on
   pub calls : AllByRecursion
-      (λ (b : StatedBlock). AllByRecursion (λ s. HandsTypesOn kinds (map compiled_block blocks) (kinds b.id) s.instr) b.statements)
+      (λ (b : StatedBlock).
+      AllByRecursion (λ s. HandsTypesOn kinds (map compiled_block blocks) (kinds b.id) s.instr)
+      b.statements)
       blocks
 
 -- ---- links
@@ -81,15 +87,18 @@ pub record BlocksHandTypesOn (kinds : BlockId → List Simple) (blocks : List St
 abbrev pub AreLinksHandedOn : Type 0
 AreLinksHandedOn =
     (kinds : BlockId → List Simple) (blocks : List StatedBlock) → BlocksHandTypesOn kinds blocks
-    → AllByRecursion (IsLinkBelow (total_parameter_count (map compiled_block blocks))) (links (map compiled_block blocks))
-    × AllByRecursion (IsKeptBy (declared_type_in kinds (map compiled_block blocks))) (links (map compiled_block blocks))
+    → AllByRecursion (IsLinkBelow (total_parameter_count (map compiled_block blocks)))
+    (links (map compiled_block blocks))
+    × AllByRecursion (IsKeptBy (declared_type_in kinds (map compiled_block blocks)))
+    (links (map compiled_block blocks))
 
 -- where all instructions of blocks hand the types of parameters on, a listing says of these types
 -- what was declared
 abbrev pub AreTypesListed : Type 0
 AreTypesListed =
     (kinds : BlockId → List Simple) (blocks : List StatedBlock) → BlocksHandTypesOn kinds blocks
-    → AreTypesAsDeclared (map compiled_block blocks) (declared_type_in kinds (map compiled_block blocks))
+    → AreTypesAsDeclared (map compiled_block blocks)
+    (declared_type_in kinds (map compiled_block blocks))
 
 -- ---- calls of a source
 
@@ -97,7 +106,8 @@ AreTypesListed =
 abbrev pub SeesOwn : Context → (own : List Simple) → Type 0
 SeesOwn c own =
     (o : Operand) (index : ℕ) (section : PartKind) (kind : Simple)
-    → resolution_of c o ≡ Resolved (view.Parameter index section kind) → slice_get own index ≡ Some kind
+    → resolution_of c o ≡ Resolved (view.Parameter index section kind)
+    → slice_get own index ≡ Some kind
 
 -- a parameter is found by its name
 abbrev pub IsFoundAmong : List Formal → Formal → Type 0
@@ -107,7 +117,8 @@ IsFoundAmong formals f =
 
 -- the parameters of a called block by their index
 abbrev pub formals_by_index : Context → Callee → List Formal
-formals_by_index c callee = in_parameter_order (source_block_at c.blocks callee.place) callee.formals
+formals_by_index c callee =
+    in_parameter_order (source_block_at c.blocks callee.place) callee.formals
 
 -- where each actual parameter fits, by rule 37, a statement hands on the types of what it passes
 abbrev pub ArePassedOn : Type 0
@@ -117,12 +128,14 @@ ArePassedOn =
     → AllByRecursion
     (λ (a : Actual). misfits_formal c a (formal_named callee.formals a.name) ≡ false) s.actuals
     → AllByRecursion
-    (λ (p : Passing). IsHandedOn own (map (λ f. f.kind) (formals_by_index c callee)) p.index p.actual)
+    (λ (p : Passing).
+    IsHandedOn own (map (λ f. f.kind) (formals_by_index c callee)) p.index p.actual)
     (passings_to c s (Some callee))
 
--- what a source owes for a statement that calls a block: the block is there, its parameters are found by
--- their names and have these types, and what is passed for them fits
-abbrev pub CallOwesTypes : (kinds : BlockId → List Simple) → List CodeBlock → Context → Statement → BlockId → Type 0
+-- what a source owes for a statement that calls a block: the block is there, its parameters are
+-- found by their names and have these types, and what is passed for them fits
+abbrev pub CallOwesTypes :
+    (kinds : BlockId → List Simple) → List CodeBlock → Context → Statement → BlockId → Type 0
 CallOwesTypes kinds blocks c s id =
     IsCallable blocks id
     × ((callee : Callee) → callee_of c s.operand ≡ Some callee

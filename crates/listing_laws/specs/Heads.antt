@@ -11,7 +11,8 @@ use Rattle.listing_laws.specs.Ids.{source_program}
 -- where a source has no block twice, the listing of its program has none twice
 abbrev pub AreBlocksOnce : Type 0
 AreBlocksOnce =
-    (t : Tree) (symbols listed : List Symbol) → rule_22 (types_of_source symbols t.blocks) t.blocks ≡ []
+    (t : Tree) (symbols listed : List Symbol)
+    → rule_22 (types_of_source symbols t.blocks) t.blocks ≡ []
     → rule_22 (types_of_source listed (listed_tree (source_program t symbols)).blocks)
     (listed_tree (source_program t symbols)).blocks ≡ []
 

@@ -30,7 +30,7 @@ AreIdsListed =
     (symbols : List Symbol) (p : Program)
     → ids_of symbols (listed_tree p).blocks ≡ map (λ id. Some id) (program_ids p)
 
--- the program of a source
+-- the program that the tree of a source comes to with its symbols, by the layouts of its blocks
 abbrev pub source_program : Tree → List Symbol → Program
 source_program t symbols = program_of t symbols (layouts_of t symbols)
 
@@ -41,7 +41,8 @@ AreBlocksKept =
     → is_some (known_block id (ids_of listed (listed_tree (source_program t symbols)).blocks))
     ≡ is_some (known_block id (ids_of symbols t.blocks))
 
--- where the source has no block twice, and no number beyond the limits, each block is found at its place
+-- where the source has no block twice, and no number beyond the limits, each block of its program
+-- is found at its place in the listing
 abbrev pub AreBlocksFound : Type 0
 AreBlocksFound =
     (t : Tree) (symbols listed : List Symbol) (k : ℕ) (id : BlockId)

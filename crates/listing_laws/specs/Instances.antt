@@ -27,14 +27,18 @@ data_again symbols t line d =
     listed_data (signatures_in (program_in symbols t)) line d.number d.bytes d.instance_of
 
 -- an instance, listed, is as long as it was and not too long (rule 51)
-pub record IsInstanceLong (symbols : List Symbol) (t : Tree) (others : List Symbol) (d : DataBlock) : Type 0 where
+pub record IsInstanceLong
+    (symbols : List Symbol) (t : Tree) (others : List Symbol) (d : DataBlock)
+    : Type 0 where
   -- the listed instance has as many bytes as the data block
   pub length : (line : ℕ)
-      → length_of_block (types_of_source others (listed_again symbols t).blocks) (listed_again symbols t).blocks
+      → length_of_block (types_of_source others (listed_again symbols t).blocks)
+      (listed_again symbols t).blocks
       (data_again symbols t line d) ≡ length d.bytes
   -- the listed instance has at most 16,384 bytes
   pub by_51 : (line : ℕ)
-      → is_too_long (types_of_source others (listed_again symbols t).blocks) (listed_again symbols t).blocks
+      → is_too_long (types_of_source others (listed_again symbols t).blocks)
+      (listed_again symbols t).blocks
       (data_again symbols t line d) ≡ false
 
 -- each instance of an accepted source's program is listed as long as it was, and not too long,
@@ -46,9 +50,10 @@ AreInstancesLong =
     → AllByRecursion (λ d. (n : ℕ) → d.instance_of ≡ Some n → IsInstanceLong symbols t others d)
     (program_in symbols t).data_blocks
 
--- where an instance stands in the listing, the program of the listing has it again, with its number, its
--- function block and its bytes
-abbrev pub IsInstanceAgain : (symbols : List Symbol) → Tree → (others : List Symbol) → DataBlock → Type 0
+-- where an instance stands in the listing, the program of the listing has it again, with its
+-- number, its function block and its bytes
+abbrev pub IsInstanceAgain :
+    (symbols : List Symbol) → Tree → (others : List Symbol) → DataBlock → Type 0
 IsInstanceAgain symbols t others d =
     (k line : ℕ) (l : BlockLayout)
     → slice_get (listed_again symbols t).blocks k ≡ Some (data_again symbols t line d)

@@ -30,13 +30,14 @@ use Rattle.stl_list.specs.Statements.{ListingContext, listed_statement}
 use Rattle.listing_laws.specs.Operands.{IsConstantCoded, IsOpenedAgain, IsParameterAgain}
 use Rattle.listing_laws.specs.Statements.{run_of}
 
--- the tree of a listing, at a block, has what the statements of the block in the source refer to: the
--- data blocks, and the parameters of a function
+-- the tree of a listing, at a block, has what the statements of the block in the source refer to:
+-- the data blocks, and the parameters of a function
 pub record HasAgain (c listed : Context) (formals : List Formal) : Type 0 where
   -- each data block that a name means in the source stands in the listing by its number
   pub data_blocks : (name : BlockName) (number : ℕ) → data_number c name ≡ Some number
       → IsOpenedAgain listed (Some number)
-  -- what a body of the source sees as a parameter of its block is there in the listing, at its index
+  -- what a body of the source sees as a parameter of its block is there in the listing, at its
+  -- index
   pub parameter : (name : List ℕ) (steps : List PathStep) (index : ℕ) (section : PartKind)
       (kind : Simple)
       → own_variable c name steps ≡ Resolved (view.Parameter index section kind)
@@ -60,8 +61,10 @@ pub record IsRightOperand (symbols : List Symbol) (o : Operand) : Type 0 where
 
 -- a listed statement, `again`, has the instruction word `m`, breaks no rule by its operand, and
 -- comes to the instruction `i` as the statement of number `n` in the listed body
-pub record IsInstructionKept (listed : Context) (body : List Statement) (n : ℕ) (m : Mnemonic) (i : Instr)
-    (again : Statement) : Type 0 where
+pub record IsInstructionKept
+    (listed : Context) (body : List Statement) (n : ℕ) (m : Mnemonic) (i : Instr)
+    (again : Statement)
+    : Type 0 where
   -- the listed statement has the instruction word
   pub word : again.code ≡ m
   -- the listed statement breaks no rule by its operand
@@ -75,7 +78,8 @@ AreInstructionsKept =
     (c listed : Context) (sur : ListingContext) (f : ℕ → ℕ) (body again : List Statement) (n k : ℕ)
     (s : Statement) (v : ResolvedOperand)
     → HasAgain c listed sur.formals → IsRightOperand c.symbols s.operand
-    → is_empty_statement s.code ≡ false → jump_operation_of s.code ≡ None → call_operation_of s.code ≡ None
+    → is_empty_statement s.code ≡ false → jump_operation_of s.code ≡ None
+    → call_operation_of s.code ≡ None
     → resolved_operand c s ≡ Some v
     → IsInstructionKept listed again n s.code (instruction c body n s)
     (listed_statement sur k (run_of f (instruction c body n s)))

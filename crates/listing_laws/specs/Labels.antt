@@ -46,7 +46,8 @@ AreWordsFound =
 -- the word of each jump is found by the number of its jump operation
 abbrev pub AreJumpWordsFound : Type 0
 AreJumpWordsFound =
-    (m : Mnemonic) (how : JumpOperation) → jump_operation_of m ≡ Some how → jump_word (jump_number how) ≡ m
+    (m : Mnemonic) (how : JumpOperation) → jump_operation_of m ≡ Some how
+    → jump_word (jump_number how) ≡ m
 
 -- the word of each call is found by its op code
 abbrev pub AreCallWordsFound : Type 0
@@ -70,11 +71,12 @@ HaveWords = (c : Context) (b : Block) → AllByRecursion (λ s. HasWord s.instr)
 
 -- ---- labels
 
--- labels of different numbers differ
+-- labels of different numbers below 93,312 differ
 abbrev pub AreLabelsApart : Type 0
 AreLabelsApart = (m n : ℕ) → m < 93312 → n < 93312 → label_of_number m ≡ label_of_number n → m ≡ n
 
--- in the listed body of a block the label of a statement to which a jump leads is that of its number
+-- in the listed body of a block the label of a statement to which a jump leads is that of its
+-- number
 abbrev pub AreLabelsReached : Type 0
 AreLabelsReached =
     (signatures : List Signature) (lines : List ℕ) (b : StatedBlock) (n : ℕ)

@@ -19,8 +19,11 @@ abbrev pub params_in : List CodeBlock → BlockId → List Param
 params_in [] id = []
 params_in (b ∷ bs) id = if is_same_block b.id id then b.params else params_in bs id
 
--- a parameter of a block as a listing has it: the one of its index, of the type that chains give to it
-pub record IsParameterOf (c : Chains) (blocks : List CodeBlock) (id : BlockId) (index : ℕ) (f : Formal) : Type 0 where
+-- a parameter of a block as a listing has it: the one of its index, of the type that chains give to
+-- it
+pub record IsParameterOf
+    (c : Chains) (blocks : List CodeBlock) (id : BlockId) (index : ℕ) (f : Formal)
+    : Type 0 where
   -- the parameter as the program has it
   pub param : Param
   -- the parameter of the program has this index in its block
@@ -53,7 +56,8 @@ AreListedAs =
 -- both ends of a passing have one type in the listing, where they have one width
 abbrev pub AreEndsAlike : Type 0
 AreEndsAlike =
-    (blocks : List CodeBlock) (declared : ℕ → Simple) (id other : BlockId) (index place : ℕ) (f g : Formal)
+    (blocks : List CodeBlock) (declared : ℕ → Simple) (id other : BlockId) (index place : ℕ)
+    (f g : Formal)
     → AreTypesAsDeclared blocks declared
     → (h : IsParameterOf (chains_of blocks) blocks id index f)
     → (k : IsParameterOf (chains_of blocks) blocks other place g)

@@ -27,7 +27,8 @@ AreBodiesKept =
     (last : SourceInstruction)
     → b.statements ≡ ss ++ last ∷ []
     → AreKeptFrom listed (body_of signatures (lines_in b.statements) (compiled_block b))
-    (listing_context signatures (lines_in b.statements) (compiled_block b)) (statement_offset b.statements) 0 ss
+    (listing_context signatures (lines_in b.statements) (compiled_block b))
+    (statement_offset b.statements) 0 ss
     → stated_from listed (body_of signatures (lines_in b.statements) (compiled_block b)) 0
     (body_of signatures (lines_in b.statements) (compiled_block b))
     ≡ ss

@@ -11,8 +11,8 @@ use Rattle.stl_types.specs.Landings.{crossing_jumps, landings_at_labels, empty_n
 use Rattle.sem_kept.specs.Accepted.{IsAccepted}
 use Rattle.listing_laws.specs.Again.{IsMadeOf, listed_again}
 
--- at each jump in a listed body of an accepted source and at its label equal brackets are open, and as
--- many zones
+-- at each jump in a listed body of an accepted source and at its label equal brackets are open, and
+-- as many zones
 abbrev pub AreLandingsKept : Type 0
 AreLandingsKept =
     (source file : List ℕ) (symbols : List Symbol) (t : Tree)

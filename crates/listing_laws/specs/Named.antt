@@ -1,4 +1,5 @@
--- The program of an accepted source is named as in a source, so that its listing is read as its tree.
+-- The program of an accepted source is named as in a source, so that its listing is read as its
+-- tree.
 use Rattle.std.specs.Prelude.{ℕ, List}
 use Rattle.stl_ast.specs.Literals.{AreBytes}
 use Rattle.stl_ast.specs.declared.blocks.Tree.{Tree}

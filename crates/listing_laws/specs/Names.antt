@@ -18,7 +18,8 @@ abbrev pub AreNamesRead : Type 0
 AreNamesRead =
     (language : Language) (file : List ℕ) (symbols : List Symbol)
     → symbols_in language file ≡ Ok symbols
-    → symbols_in English (listed_names (name_entries_of symbols)) ≡ Ok (map symbol_of (name_entries_of symbols))
+    → symbols_in English (listed_names (name_entries_of symbols))
+    ≡ Ok (map symbol_of (name_entries_of symbols))
 
 -- the names of the symbols of a file, made symbols again, give a program the same names
 abbrev pub AreNamesKept : Type 0

@@ -33,12 +33,14 @@ nesting_marks body = flat_map mark_of body
 -- two bodies break the same rules on brackets and zones, on the same lines
 pub record AreNestedAlike (ss ts : List Statement) : Type 0 where
   -- rule 29: a `)` without an open bracket
-  pub closing : with_brackets (λ brackets s. broken_if (closes_no_bracket brackets s) s.line 29) [] ss
+  pub closing :
+      with_brackets (λ brackets s. broken_if (closes_no_bracket brackets s) s.line 29) [] ss
       ≡ with_brackets (λ brackets s. broken_if (closes_no_bracket brackets s) s.line 29) [] ts
   -- rule 30: brackets that are left open
   pub left : brackets_left_open ss ≡ brackets_left_open ts
   -- rule 31: an eighth open bracket
-  pub eighth : with_brackets (λ brackets s. broken_if (is_eighth_bracket brackets s) s.line 31) [] ss
+  pub eighth :
+      with_brackets (λ brackets s. broken_if (is_eighth_bracket brackets s) s.line 31) [] ss
       ≡ with_brackets (λ brackets s. broken_if (is_eighth_bracket brackets s) s.line 31) [] ts
   -- rule 47: a `)MCR` without an open zone
   pub ending : with_zones (λ zones s. broken_if (ends_no_zone zones s) s.line 47) [] ss
@@ -52,7 +54,8 @@ pub record AreNestedAlike (ss ts : List Statement) : Type 0 where
 -- bodies with the same instruction words on the same lines break the same rules on brackets and
 -- zones, on the same lines
 abbrev pub AreNestingsKept : Type 0
-AreNestingsKept = (ss ts : List Statement) → nesting_marks ss ≡ nesting_marks ts → AreNestedAlike ss ts
+AreNestingsKept =
+    (ss ts : List Statement) → nesting_marks ss ≡ nesting_marks ts → AreNestedAlike ss ts
 
 -- a statement of a right source: its operand is one that its instruction takes
 pub record IsReadable (c : Context) (s : Statement) : Type 0 where
@@ -66,7 +69,8 @@ abbrev pub AreMarksKept : Type 0
 AreMarksKept =
     (c : Context) (b : Block) (stated : StatedBlock) (signatures : List Signature)
     → AllByRecursion (IsReadable c) b.body → stated.statements ≡ statements_of c b
-    → nesting_marks (body_of signatures (lines_in stated.statements) (compiled_block stated)) ≡ nesting_marks b.body
+    → nesting_marks (body_of signatures (lines_in stated.statements) (compiled_block stated))
+    ≡ nesting_marks b.body
 
 -- the listed body of a block breaks the same rules on brackets and zones as the block's own body,
 -- on the same lines
@@ -74,4 +78,5 @@ abbrev pub AreListedNestingsKept : Type 0
 AreListedNestingsKept =
     (c : Context) (b : Block) (stated : StatedBlock) (signatures : List Signature)
     → AllByRecursion (IsReadable c) b.body → stated.statements ≡ statements_of c b
-    → AreNestedAlike (body_of signatures (lines_in stated.statements) (compiled_block stated)) b.body
+    → AreNestedAlike
+    (body_of signatures (lines_in stated.statements) (compiled_block stated)) b.body

@@ -34,7 +34,8 @@ PreparesInOpened _ = Unit {0}
 -- a statement, by its ops: where it opens a data block, or passes a place in one, this place lies
 -- in area DB
 pub record OpensRight (r : Run) : Type 0 where
-  -- a fixed place that the statement acts on lies in area DB, where the statement opens a data block
+  -- a fixed place that the statement acts on lies in area DB, where the statement opens a data
+  -- block
   pub acts : ActsInOpened (block_opened_by_ops r.before) r.op.operand
   -- a place that the statement passes, in a data block of its own number, lies in area DB
   pub prepares : AllByRecursion (λ op. PreparesInOpened op.operand) r.before

@@ -89,7 +89,8 @@ IsConstantSeen o _ = Unit {0}
 
 -- ---- operands
 
--- an operand of a listing, with an instruction, comes to the same as one of a source that names this
+-- an operand of a listing, with an instruction, comes to the same as one of a source that names
+-- this
 pub record IsActedAgain (listed : Context) (m : Mnemonic) (o again : Operand) (v : ResolvedOperand)
     : Type 0 where
   -- what the listing's operand names
@@ -107,7 +108,8 @@ pub record IsActedAgain (listed : Context) (m : Mnemonic) (o again : Operand) (v
 
 -- the instruction of a statement that goes on, by what its operand names
 abbrev pub operand_instruction : Mnemonic → Operand → ResolvedOperand → Instr
-operand_instruction m o v = Does (block_opened_by_operand v) (operation_for m o v) (flat_operand_of o v)
+operand_instruction m o v =
+    Does (block_opened_by_operand v) (operation_for m o v) (flat_operand_of o v)
 
 -- the operand that a listing has for an instruction that goes on comes to the same as the operand
 -- of the source, where what this names stands in the tree of the listing
@@ -117,4 +119,5 @@ AreOperandsKept =
     (o : Operand) (v : ResolvedOperand)
     → IsStraightLine m → operand_rule c (form_of m) o ≡ None → resolution_of c o ≡ Resolved v
     → IsConstantSeen o v → StandsAgain listed formals v
-    → IsActedAgain listed m o (listed_operand formals starts (run_of f (operand_instruction m o v))) v
+    → IsActedAgain listed m o
+    (listed_operand formals starts (run_of f (operand_instruction m o v))) v

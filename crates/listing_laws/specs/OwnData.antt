@@ -20,8 +20,8 @@ use Rattle.sem_kept.specs.Accepted.{IsAccepted, program_in}
 use Rattle.listing_laws.specs.Declared.{signatures_in}
 
 -- a data block with a structure of its own, listed, is as long as it was and not too long, whatever
--- stands beside it (rule 51); and where it stands in a source and breaks no rule as a whole, the program of
--- that source has it again, with its number and its bytes
+-- stands beside it (rule 51); and where it stands in a source and breaks no rule as a whole, the
+-- program of that source has it again, with its number and its bytes
 pub record IsOwnDataAgain (ss : List Signature) (d : DataBlock) : Type 0 where
   -- the listed block has as many bytes as the data block
   pub length : (y : Types) (blocks : List Block) (line : ℕ)
@@ -59,7 +59,8 @@ abbrev pub AreOwnDataKept : Type 0
 AreOwnDataKept =
     (source file : List ℕ) (symbols : List Symbol) (t : Tree)
     → IsAccepted source file symbols t → AreBytes source → AreBytes file → (others : List Symbol)
-    → AllByRecursion (λ l. l.broken ≡ false) (layouts_of (listed_tree (program_in symbols t)) others)
+    → AllByRecursion (λ l. l.broken ≡ false)
+    (layouts_of (listed_tree (program_in symbols t)) others)
     → AllByRecursion
     (λ d. d.instance_of ≡ None
     → IsOneOfDataBlocks d

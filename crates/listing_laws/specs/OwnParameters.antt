@@ -25,7 +25,9 @@ pub record IsFunctionAt (c : Context) (b : Block) (l : BlockLayout) : Type 0 whe
   pub whole : l.broken ≡ false
 
 -- a component at a place is of elementary type, and the first of its name
-pub record IsOwnParameterCell (cells : List Cell) (j : ℕ) (cell : Cell) (kind : Simple) : Type 0 where
+pub record IsOwnParameterCell
+    (cells : List Cell) (j : ℕ) (cell : Cell) (kind : Simple)
+    : Type 0 where
   -- the component stands at this place
   pub there : slice_get cells j ≡ Some cell
   -- the component breaks no rule of declarations

@@ -19,9 +19,11 @@ IsParameterCell cell = (kind : Simple) × (is_parameter cell.section ≡ true) �
 abbrev pub own_kinds : Context → List Simple
 own_kinds c =
     map (λ f. f.kind)
-    (in_parameter_order (slice_get c.blocks c.block) (formals_of (cells_at c.layouts c.block false)))
+    (in_parameter_order (slice_get c.blocks c.block)
+    (formals_of (cells_at c.layouts c.block false)))
 
--- where all components of a function are parameters, what its body sees as one has the type of that one
+-- where all components of a function are parameters, what its body sees as one has the type of that
+-- one
 abbrev pub AreOwnSeen : Type 0
 AreOwnSeen =
     (c : Context)

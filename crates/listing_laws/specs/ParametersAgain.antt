@@ -1,4 +1,5 @@
--- What a body of a source sees as its own parameters is there in the listing of the source's program.
+-- What a body of a source sees as its own parameters is there in the listing of the source's
+-- program.
 use Rattle.std.specs.Prelude.{◌≡◌, ℕ, List}
 use Rattle.plc_base.specs.declared.blocks.BlockId.{BlockId}
 use Rattle.stl_ast.specs.Literals.{AreBytes}

@@ -78,7 +78,8 @@ pub record IsListedCall (c : Context) (own called : List Formal) (callee : Calle
   -- the actual parameters are made of the ops of these passings
   pub actuals : s.actuals ≡ actuals_before s.line own called (pass_ops ps)
   -- the parameters by their index are those of the listing, with their names in upper case
-  pub order : in_parameter_order (source_block_at c.blocks callee.place) callee.formals ≡ map in_upper_case called
+  pub order : in_parameter_order (source_block_at c.blocks callee.place) callee.formals
+      ≡ map in_upper_case called
   -- no two of the parameters have one name, even in upper case
   pub named : AreNamedApart called
   -- each passing is for a parameter of the called block, and fits there
@@ -103,7 +104,8 @@ AreAllPassed called ps =
 -- parameters
 pub record BreaksNone (c : Context) (callee : Callee) (s : Statement) : Type 0 where
   -- no actual parameter is a DATE_AND_TIME
-  pub by_24 : AllByRecursion (λ (a : Actual). is_resolved_date (resolution_of c a.value) ≡ false) s.actuals
+  pub by_24 : AllByRecursion
+      (λ (a : Actual). is_resolved_date (resolution_of c a.value) ≡ false) s.actuals
   -- each actual parameter names a parameter of the block
   pub by_34 : AllByRecursion (λ (a : Actual). names_no_formal callee.formals a ≡ false) s.actuals
   -- no parameter is supplied twice
@@ -124,5 +126,6 @@ abbrev pub AreCallsComplete : Type 0
 AreCallsComplete =
     (c : Context) (own called : List Formal) (callee : Callee) (ps : List Passing) (s : Statement)
     → IsListedCall c own called callee ps s
-    → ((has_actuals s.code && not (is_function_block callee.id.kind)) ≡ true → AreAllPassed called ps)
+    → ((has_actuals s.code && not (is_function_block callee.id.kind)) ≡ true
+    → AreAllPassed called ps)
     → lacks_actual callee s ≡ false

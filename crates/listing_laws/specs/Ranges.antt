@@ -32,7 +32,8 @@ IsWrittenProgram p = AllByRecursion IsWrittenBlock p.code_blocks
 -- the listing of a program is a printable tree, where each offset to an address register is one
 -- that a pointer constant writes
 abbrev pub AreListedPrintable : Type 0
-AreListedPrintable = (p : Program) → IsProgram p → IsWrittenProgram p → HasPrintableTokens (listed_tree p)
+AreListedPrintable =
+    (p : Program) → IsProgram p → IsWrittenProgram p → HasPrintableTokens (listed_tree p)
 
 -- the text of the listing of a program has just the tokens that were printed, where each offset to
 -- an address register is one that a pointer constant writes
@@ -40,7 +41,8 @@ abbrev pub AreListedTokens : Type 0
 AreListedTokens =
     (p : Program) → IsProgram p → IsWrittenProgram p
     → AreTokens (listed_source p) (tokens_of 0 1 (pieces_of_tree (listed_tree p)))
-    × ShowPieces (listed_source p) (pieces_of_tree (listed_tree p)) (tokens_of 0 1 (pieces_of_tree (listed_tree p)))
+    × ShowPieces (listed_source p) (pieces_of_tree (listed_tree p))
+    (tokens_of 0 1 (pieces_of_tree (listed_tree p)))
 
 -- in the program of a well-formed source each offset to an address register is one that a pointer
 -- constant writes

@@ -81,5 +81,6 @@ AreListedBodiesRight =
     → IsAccepted source file symbols t → AreBytes source → AreBytes file → (others : List Symbol)
     → IsWholeAgain symbols t others
     → AreBodiesRight (types_of_source others (listed_again symbols t).blocks)
-    (first_context others (layouts_of (listed_again symbols t) others) (listed_again symbols t).blocks)
+    (first_context others (layouts_of (listed_again symbols t) others)
+    (listed_again symbols t).blocks)
     (listed_again symbols t).blocks

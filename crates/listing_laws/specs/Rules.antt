@@ -21,7 +21,8 @@ use Rattle.stl_list.specs.DataBlocks.{listed_data}
 use Rattle.sem_kept.specs.Accepted.{IsAccepted, program_in}
 use Rattle.listing_laws.specs.Declared.{signatures_in}
 
--- the declarations of a block break none of the rules of declarations, whatever types stand beside it
+-- the declarations of a block break none of the rules of declarations, whatever types stand beside
+-- it
 pub record AreDeclarationsRight (y : Types) (b : Block) : Type 0 where
   -- no name is declared twice in a list
   pub by_21 : refusals_in_block broken_21 b ≡ []
@@ -34,8 +35,8 @@ pub record AreDeclarationsRight (y : Types) (b : Block) : Type 0 where
   -- no types are nested more than 8 deep
   pub by_56 : refusals_in_block (broken_56 y) b ≡ []
 
--- a block is no data type that contains itself, has a number that its kind may have, and no more than
--- 1,024 bytes of local data, whatever blocks and symbols stand beside it
+-- a block is no data type that contains itself, has a number that its kind may have, and no more
+-- than 1,024 bytes of local data, whatever blocks and symbols stand beside it
 pub record IsHeadRight (y : Types) (b : Block) : Type 0 where
   -- the block is no data type that contains itself
   pub by_43 : (blocks before : List Block) → contains_itself y blocks before b ≡ false

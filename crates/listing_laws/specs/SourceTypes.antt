@@ -21,14 +21,17 @@ use Rattle.listing_laws.specs.Chains.{AreTypesAsDeclared}
 use Rattle.listing_laws.specs.HandedOn.{BlocksHandTypesOn, CallOwesTypes, SeesOwn, declared_type_in}
 
 -- what a source owes for a statement: if it calls a block, what is owed for this call
-abbrev pub StatementOwesTypes : (kinds : BlockId → List Simple) → List CodeBlock → Context → Statement → Type 0
+abbrev pub StatementOwesTypes :
+    (kinds : BlockId → List Simple) → List CodeBlock → Context → Statement → Type 0
 StatementOwesTypes kinds all c s =
     (id : BlockId) (instance : Option ℕ) → resolved_operand c s ≡ Some (view.Called id instance)
     → CallOwesTypes kinds all c s id
 
 -- a code block of a source: the types are those of its parameters, which its body sees so, and each
 -- statement owes what it calls
-pub record BodyOwesTypes (kinds : BlockId → List Simple) (all : List CodeBlock) (c : Context) (b : Block) (l : BlockLayout) (id : BlockId)
+pub record BodyOwesTypes
+    (kinds : BlockId → List Simple) (all : List CodeBlock) (c : Context) (b : Block)
+    (l : BlockLayout) (id : BlockId)
     : Type 0 where
   -- there are as many types as parameters
   pub size : length (kinds id) ≡ length (params_of b l)
@@ -40,7 +43,9 @@ pub record BodyOwesTypes (kinds : BlockId → List Simple) (all : List CodeBlock
 -- what a source owes for its code blocks, given the blocks with their layouts, of which the first
 -- has its place in the context: each body sees its parameters with these types, and each statement
 -- owes what it calls
-abbrev pub BodiesOweTypes : (kinds : BlockId → List Simple) → List CodeBlock → Context → List Block → List BlockLayout → Type 0
+abbrev pub BodiesOweTypes :
+    (kinds : BlockId → List Simple) → List CodeBlock → Context → List Block → List BlockLayout
+    → Type 0
 BodiesOweTypes kinds all c [] ls = Unit {0}
 BodiesOweTypes kinds all c (b ∷ bs) [] = Unit {0}
 BodiesOweTypes kinds all c (b ∷ bs) (l ∷ ls) =
@@ -49,7 +54,8 @@ BodiesOweTypes kinds all c (b ∷ bs) (l ∷ ls) =
 
 -- what a source owes for the types of its parameters: each body sees its parameters with these
 -- types, and each statement owes what it calls
-abbrev pub SourceOwesTypes : (kinds : BlockId → List Simple) → Tree → List Symbol → List BlockLayout → Type 0
+abbrev pub SourceOwesTypes :
+    (kinds : BlockId → List Simple) → Tree → List Symbol → List BlockLayout → Type 0
 SourceOwesTypes kinds t symbols layouts =
     BodiesOweTypes kinds (map compiled_block (code_blocks_of t symbols layouts))
     (first_context symbols layouts t.blocks) t.blocks layouts
@@ -59,7 +65,8 @@ SourceOwesTypes kinds t symbols layouts =
 abbrev pub AreSourcesHandedOn : Type 0
 AreSourcesHandedOn =
     (kinds : BlockId → List Simple) (t : Tree) (symbols : List Symbol) (layouts : List BlockLayout)
-    → SourceOwesTypes kinds t symbols layouts → BlocksHandTypesOn kinds (code_blocks_of t symbols layouts)
+    → SourceOwesTypes kinds t symbols layouts
+    → BlocksHandTypesOn kinds (code_blocks_of t symbols layouts)
 
 -- where what a source owes for the types of its parameters holds, what the listing of its program
 -- says is INT or TIME was so in the source, widths stay, and both ends of a passing have one type

@@ -22,7 +22,8 @@ use Rattle.stl_list.specs.Runs.{Run, runs}
 use Rattle.listing_laws.specs.Bodies.{IsCallBy, IsEndFree, IsPlace, IsSourceRun}
 use Rattle.listing_laws.specs.Ranges.{IsWrittenProgram}
 
--- a block whose statements are those of a source: as many as lines, and none jumps to the END clause
+-- a block whose statements are those of a source: as many as lines, and none jumps to the END
+-- clause
 pub record IsSourceBlock (b : CodeBlock) : Type 0 where
   -- the ops of each statement are such as a source has
   pub statements : AllByRecursion IsSourceRun (runs b.code)

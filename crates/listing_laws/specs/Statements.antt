@@ -9,12 +9,14 @@ use Rattle.stl_codegen.specs.Compiled.{SourceInstruction, operand_with_target, c
 use Rattle.stl_codegen.specs.Emitted.{call_op, end_op, op_with_end_mark, jump_op, use_db_ops, pass_ops}
 use Rattle.stl_list.specs.Runs.{Run, number_at, runs, statement_starts, target_marks}
 
--- the ops of an instruction as a listing takes them: those that prepare, and the last one. A function
--- of positions makes byte offsets of its targets
+-- the ops of an instruction as a listing takes them: those that prepare, and the last one. A
+-- function of positions makes byte offsets of its targets
 abbrev pub run_of : (ℕ → ℕ) → Instr → Run
-run_of f (Does use_db w o) = record { before = use_db_ops use_db; op = op_with_end_mark w (operand_with_target f o) }
+run_of f (Does use_db w o) =
+    record { before = use_db_ops use_db; op = op_with_end_mark w (operand_with_target f o) }
 run_of f (Jumps how target) = record { before = []; op = jump_op how (f target) }
-run_of f (JumpsByList targets otherwise) = record { before = []; op = jump_op jump.Jl (f otherwise) }
+run_of f (JumpsByList targets otherwise) =
+    record { before = []; op = jump_op jump.Jl (f otherwise) }
 run_of f (Calls how block instance passings) =
     record { before = pass_ops passings; op = call_op how block instance }
 run_of f (Returns how) = record { before = []; op = end_op how }
@@ -37,14 +39,17 @@ AreStartsFound =
 
 -- the code has as many starts of statements as there are statements
 abbrev pub IsCountFound : Type 0
-IsCountFound = (statements : List SourceInstruction) → length (statement_starts (code_in statements)) ≡ length statements
+IsCountFound =
+    (statements : List SourceInstruction)
+    → length (statement_starts (code_in statements)) ≡ length statements
 
 -- where a jump goes to a statement, or to the end of the code, a listing finds the number of this
 -- statement, or how many statements there are
 abbrev pub AreNumbersFound : Type 0
 AreNumbersFound =
     (statements : List SourceInstruction) (n : ℕ)
-    → number_at (statement_starts (code_in statements)) (statement_offset statements n) ≡ min n (length statements)
+    → number_at (statement_starts (code_in statements)) (statement_offset statements n)
+    ≡ min n (length statements)
 
 -- whether an operand is that of a jump to the statement of a number
 abbrev pub goes_to : (n : ℕ) → Operand → Bool
@@ -64,5 +69,6 @@ jumps_to n (Returns how) = false
 abbrev pub AreTargetsFound : Type 0
 AreTargetsFound =
     (statements : List SourceInstruction) (n : ℕ) → n < length statements
-    → unwrap_or (slice_get (target_marks (statement_starts (code_in statements)) (code_in statements)) n) false
+    → unwrap_or (slice_get
+    (target_marks (statement_starts (code_in statements)) (code_in statements)) n) false
     ≡ list_any (λ s. jumps_to n s.instr) statements

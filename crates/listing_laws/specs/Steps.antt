@@ -67,4 +67,5 @@ abbrev pub AreFirstFound : Type 0
 AreFirstFound =
     (front back : List StatedBlock) (b : StatedBlock)
     → AllByRecursion (λ (a : StatedBlock). is_same_block a.id b.id ≡ false) front
-    → first_of (map compiled_block (front ++ b ∷ back)) b.id ≡ total_parameter_count (map compiled_block front)
+    → first_of (map compiled_block (front ++ b ∷ back)) b.id
+    ≡ total_parameter_count (map compiled_block front)

@@ -1,4 +1,5 @@
--- No block of a listing breaks a rule as a whole, and none of its heads and declarations breaks one.
+-- No block of a listing breaks a rule as a whole, and none of its heads and declarations breaks
+-- one.
 use Rattle.std.specs.Prelude.{◌≡◌, ◌+◌, ℕ, List, [], length, Option, Some, None, slice_get}
 use Rattle.stl_ast.specs.Literals.{AreBytes}
 use Rattle.stl_ast.specs.declared.blocks.Block.{Block}
@@ -33,15 +34,16 @@ use Rattle.listing_laws.specs.Again.{listed_again}
 use Rattle.listing_laws.specs.Declared.{signatures_in}
 use Rattle.listing_laws.specs.Ids.{data_id}
 
--- the heads and the declarations of blocks break no rule: of the rules of layouts this leaves out those of
--- settings and of operands
+-- the heads and the declarations of blocks break no rule: of the rules of layouts this leaves out
+-- those of settings and of operands
 pub record AreBlocksRight (symbols : List Symbol) (blocks : List Block) : Type 0 where
   -- no name is declared twice in a list
   pub by_21 : rule_21 blocks ≡ []
   -- no block stands twice
   pub by_22 : rule_22 (types_of_source symbols blocks) blocks ≡ []
   -- no head of a block names an unknown block or data type
-  pub heads_23 : on_heads (λ before b. has_unknown_head (types_of_source symbols blocks) b) 23 blocks ≡ []
+  pub heads_23 :
+      on_heads (λ before b. has_unknown_head (types_of_source symbols blocks) b) 23 blocks ≡ []
   -- no declaration has an unknown data type
   pub declared_23 : refusals_in_blocks (broken_23 (types_of_source symbols blocks)) blocks ≡ []
   -- initial values fit the types of their declarations
@@ -75,8 +77,8 @@ AreBlocksRightAgain =
     → IsAccepted source file symbols t → AreBytes source → AreBytes file → (others : List Symbol)
     → AreBlocksRight others (listed_again symbols t).blocks
 
--- a data block of a program is an instance of the function block that a listing has at a place, and as long
--- as the structure of that one
+-- a data block of a program is an instance of the function block that a listing has at a place, and
+-- as long as the structure of that one
 pub record IsInstanceOf (p : Program) (number size : ℕ) (s : Shape) : Type 0 where
   -- the place of the function block among the listed code blocks
   pub place : ℕ
@@ -96,7 +98,8 @@ abbrev pub HasShapeAgain : Program → DataBlock → Option ℕ → Shape → Ty
 HasShapeAgain p d None s = s ≡ shape.Own
 HasShapeAgain p d (Some number) s = IsInstanceOf p number (length d.bytes) s
 
--- a data block of a program stands at a place in its listing: its number, its length and its shape there
+-- a data block of a program stands at a place in its listing: its number, its length and its shape
+-- there
 pub record IsDataAt (p : Program) (blocks : List Block) (layouts : List BlockLayout) (place : ℕ)
     (d : DataBlock) : Type 0 where
   -- the layout of the data block in the listing

@@ -1,7 +1,7 @@
 ghost use Rattle.listing_laws.specs.Calls.{AreCallsKept, AreCallsListed, AreCallsWhole, AreFunctionsKnown, AreInstancesRight, AreStatementsListed};
 
-/// A listed call names its block and its instance by their numbers, its instruction is the one that it was
-/// made of, and it breaks no rule of what it calls where the source's call broke none.
+/// A listed call names its block and its instance by their numbers, its instruction is the one that
+/// it was made of, and it breaks no rule of what it calls where the source's call broke none.
 pub fn law_of_listed_calls()
     ensures listed { AreCallsListed }
     ensures statements { AreStatementsListed }

@@ -5,9 +5,9 @@ ghost use Rattle.listing_laws.specs.Instances.{
   AreListedSettingsRight,
 };
 
-/// The instances of function blocks in an accepted source's program are as long in its listing as they
-/// were, and not too long (`long`). Where no block of the listing breaks a rule as a whole, its program has each again,
-/// with its number, its function block and its bytes (`again`).
+/// The instances of function blocks in an accepted source's program are as long in its listing as
+/// they were, and not too long (`long`). Where no block of the listing breaks a rule as a whole,
+/// its program has each again, with its number, its function block and its bytes (`again`).
 pub fn law_of_instances()
     ensures long { AreInstancesLong }
     ensures again { AreInstancesAgain }

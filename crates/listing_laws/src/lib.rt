@@ -1,5 +1,5 @@
-//! Laws of listings: the tree of a program's listing is printable, its symbols file is read back, and its
-//! statements, lines, labels and blocks are those of the program.
+//! Laws of listings: the tree of a program's listing is printable, its symbols file is read back,
+//! and its statements, lines, labels and blocks are those of the program.
 #![tactic(auto)]
 
 mod accepted_types;

@@ -29,10 +29,10 @@ use Rattle.machine.specs.Lasting.{FitsProgram, GoesOnFitting, first_frame}
 use Rattle.machine.specs.OpenBrackets.{open_codes}
 use Rattle.machine.specs.ExecState.{LocalMemory, local_memory_of}
 use Rattle.machine.specs.Results.{GivesResult, with_ret_val}
-use Rattle.machine.proofs.Called.{scene_fits}
+use Rattle.machine.proofs.Called.{local_memory_fits}
 use Rattle.machine.proofs.FrameBytes.{mapped_there, locals_opened, locals_kept, lies_written}
 use Rattle.machine.proofs.Instructions.{kind_found}
-use Rattle.machine.proofs.Keeping.{KeepsScene, local_kept, same_scene}
+use Rattle.machine.proofs.Keeping.{KeepsLocalMemory, local_kept, same_local_memory}
 use Rattle.machine.proofs.Moving.{some_there, stands_of, fits_of}
 use Rattle.machine.proofs.Returned.{put_kept}
 use Rattle.machine.proofs.Sizes.{changed, same_sizes, region_sizes, same_parts}
@@ -65,7 +65,7 @@ ob_begins l profile p m class ob h verifies memory found =
     record {
       memory = memory;
       fits = fits_of (code_of p) (open_codes p) m (activation_begun profile class ob f) (record {
-        left = refl;
+        stands = refl;
         frame = record {
           statement = let s = statement_there l p block 0 nothing_open entry in some_there ((code_of p).fetch block 0) _ s.fetched;
           open_brackets = opens_there p block 0 nothing_open entry;
@@ -118,7 +118,7 @@ local_byte_fits p m a b frame byte value done h =
     rw (sym was.2) (record {
       memory = h.memory;
       fits = fits_of (code_of p) (open_codes p) m (record a { running = record a.running { locals = was.0 } }) (record {
-        left = s.left;
+        stands = s.stands;
         frame = s.frame;
         below = s.below;
         locals = locals_kept (a.running.frame ∷ a.below) a.running.locals was.0 kept.starts kept.len s.locals;
@@ -133,7 +133,7 @@ registers_fit p m a r h =
     record {
       memory = h.memory;
       fits = fits_of (code_of p) (open_codes p) m (record a { running = record a.running { regs = r } })
-          (record { left = s.left; frame = s.frame; below = s.below; locals = s.locals });
+          (record { stands = s.stands; frame = s.frame; below = s.below; locals = s.locals });
     }
 
 pub delay_fits :
@@ -143,22 +143,22 @@ delay_fits p m a n h =
     record {
       memory = h.memory;
       fits = fits_of (code_of p) (open_codes p) m (record a { delay = n })
-          (record { left = s.left; frame = s.frame; below = s.below; locals = s.locals });
+          (record { stands = s.stands; frame = s.frame; below = s.below; locals = s.locals });
     }
 
 -- ---- the result of a system function
 
-result_kept : (to : Binding) (value : ℕ) (c : LocalMemory) → KeepsScene c.local c.memory (with_ret_val to value c)
+result_kept : (to : Binding) (value : ℕ) (c : LocalMemory) → KeepsLocalMemory c.local c.memory (with_ret_val to value c)
 result_kept (binding.AtPlace place width frame) value c = put_kept (record { place = place; width = width; frame = frame }) value c
-result_kept (binding.Constant n) value c = same_scene c.local c.memory
-result_kept binding.Unsupplied value c = same_scene c.local c.memory
+result_kept (binding.Constant n) value c = same_local_memory c.local c.memory
+result_kept binding.Unsupplied value c = same_local_memory c.local c.memory
 
 pub result_fits :
     (l : ImageLaws) (p : Program) (m n : Areas) (a b : Activation) (to : Binding) (value : ℕ) → Verifies p
     → FitsProgram p m a → GivesResult to value a b m n → GoesOnFitting p m n b
 result_fits l p m n a b to value verifies h gives =
     let kept = result_kept to value (local_memory_of a.running m) in
-    rw (gives.0, gives.1) (record { sizes = kept.memory; fits = scene_fits l p m a _ verifies h kept })
+    rw (gives.0, gives.1) (record { sizes = kept.memory; fits = local_memory_fits l p m a _ verifies h kept })
 
 -- ---- memory
 

@@ -31,7 +31,7 @@ use Rattle.machine.specs.Statement.{GlobalStore, call_step, called_block, block_
 use Rattle.machine.proofs.BindingLemmas.{Bindings, PassingsFit, is_among, all_supplied, call_binds, call_known}
 use Rattle.machine.proofs.Errors.{IfKnownError}
 use Rattle.machine.proofs.FrameBytes.{locals_moved, locals_opened}
-use Rattle.machine.proofs.Keeping.{IfDone, KeepsScene, open_after}
+use Rattle.machine.proofs.Keeping.{IfDone, KeepsLocalMemory, open_after}
 use Rattle.machine.proofs.Moving.{some_there, stands_of, fits_of, frames_are, frame_open, frame_follows, activation_follows}
 use Rattle.machine.proofs.Returned.{params_in_kept}
 use Rattle.machine.proofs.Sizes.{same_sizes}
@@ -59,10 +59,10 @@ going_fits l p m a next r h stood =
     }) refl refl
 
 -- after bytes were written
-pub scene_fits :
+pub local_memory_fits :
     (l : ImageLaws) (p : Program) (m : Areas) (a : Activation) (c : LocalMemory) → Verifies p → FitsProgram p m a
-    → KeepsScene (local_of a.running) m c → FitsProgram p c.memory (record a { running = with_local a.running c.local })
-scene_fits l p m a c verifies h kept =
+    → KeepsLocalMemory (local_of a.running) m c → FitsProgram p c.memory (record a { running = with_local a.running c.local })
+local_memory_fits l p m a c verifies h kept =
     let f = a.running.frame in
     let was = stands_of (code_of p) (open_codes p) m a h.fits in
     activation_follows l p m c.memory a (with_local a.running c.local) kept.memory h
@@ -143,11 +143,11 @@ entered_fits l p m a next block b o bs h found bound instance =
       db = was.frame.db;
       di = open_di o f.di m was.frame.di (instance_open block.kind (block_head_of b) m o instance);
     } in
-    let below_is : frames_of (caller_at next a) ≡ g ∷ a.below = frames_are (caller_at next a) was.left in
+    let below_is : frames_of (caller_at next a) ≡ g ∷ a.below = frames_are (caller_at next a) was.stands in
     record {
       memory = h.fits.memory;
       fits = fits_of c brackets m (block_entered new (caller_at next a)) (record {
-        left = refl;
+        stands = refl;
         frame = rw below_is top;
         below = rw below_is (behind, was.below);
         locals = rw below_is (locals_opened new (g ∷ a.below) a.running.locals (locals_moved f g a.below a.running.locals refl was.locals));
@@ -160,7 +160,7 @@ supplied_lasts :
 supplied_lasts l p a after w next None ps verifies h = record { sizes = same_sizes w.memory; fits = h }
 supplied_lasts l p a after w next (Some number) ps verifies h =
     let kept = params_in_kept ps 0 after.running.frame.bindings number (local_memory_of after.running w.memory) in
-    record { sizes = kept.memory; fits = scene_fits l p w.memory after _ verifies h kept }
+    record { sizes = kept.memory; fits = local_memory_fits l p w.memory after _ verifies h kept }
 
 stops_known : (p : Program) (a : Activation) (w : GlobalStore) (next : ℕ) (fault : FrameFault) → StepFitsAgain p w (call_step (Stops fault) next a w)
 stops_known p a w next Depth = inl refl

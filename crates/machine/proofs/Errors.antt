@@ -22,7 +22,7 @@ use Rattle.flat_code.specs.declared.operands.Operand.TheVariants as operand
 use Rattle.flat_code.specs.declared.table.OperandForms.{OperandForms}
 use Rattle.flat_code.specs.declared.table.OperandForms.TheVariants as takes
 use Rattle.flat_code.specs.declared.operations.AccuOperation.{AccuOperation}
-use Rattle.flat_code.specs.declared.operations.AccuOperation.TheVariants as number_word
+use Rattle.flat_code.specs.declared.operations.AccuOperation.TheVariants as accu_operation
 use Rattle.flat_code.specs.declared.operations.PointerOperation.{PointerOperation}
 use Rattle.flat_code.specs.declared.operations.PointerOperation.TheVariants as pointers
 use Rattle.plc_base.specs.declared.TimerKind.{TimerKind}
@@ -318,9 +318,9 @@ own_known : (p : ExecState) (r : Result Local ℕ) → IfKnownError r → IfKnow
 own_known p (Ok r) known = tt
 own_known p (Err code) known = known
 
-scene_known : (p : ExecState) (r : Result LocalMemory ℕ) → IfKnownError r → IfKnownError (on_local_memory p r)
-scene_known p (Ok r) known = tt
-scene_known p (Err code) known = known
+local_memory_known : (p : ExecState) (r : Result LocalMemory ℕ) → IfKnownError r → IfKnownError (on_local_memory p r)
+local_memory_known p (Ok r) known = tt
+local_memory_known p (Err code) known = known
 
 timers_known : (p : ExecState) (r : Result (List Timer) ℕ) → IfKnownError r → IfKnownError (on_timers p r)
 timers_known p (Ok r) known = tt
@@ -401,10 +401,10 @@ edge_known rising o s m has =
 -- S and R of a bit, a timer or a counter; FR of a timer or a counter
 set_known : (o : Operand) (p : ExecState) → admits takes.BitOrCounter o ≡ true → ParamHas p.local true o → IfKnownError (set_effect (kind_of_numbered_operand o) o p)
 unfolding admits
-set_known (operand.Direct area width byte bit) p h has = scene_known p _ (bit_set_known true (operand.Direct area width byte bit) p.local p.memory tt)
-set_known (operand.ByMemory area width from byte) p h has = scene_known p _ (bit_set_known true (operand.ByMemory area width from byte) p.local p.memory tt)
-set_known (operand.ByRegister area width register bits) p h has = scene_known p _ (bit_set_known true (operand.ByRegister area width register bits) p.local p.memory tt)
-set_known (operand.Parameter index width) p h has = scene_known p _ (bit_set_known true (operand.Parameter index width) p.local p.memory (has.0, has.1, has.3 refl))
+set_known (operand.Direct area width byte bit) p h has = local_memory_known p _ (bit_set_known true (operand.Direct area width byte bit) p.local p.memory tt)
+set_known (operand.ByMemory area width from byte) p h has = local_memory_known p _ (bit_set_known true (operand.ByMemory area width from byte) p.local p.memory tt)
+set_known (operand.ByRegister area width register bits) p h has = local_memory_known p _ (bit_set_known true (operand.ByRegister area width register bits) p.local p.memory tt)
+set_known (operand.Parameter index width) p h has = local_memory_known p _ (bit_set_known true (operand.Parameter index width) p.local p.memory (has.0, has.1, has.3 refl))
 set_known (operand.Numbered kind number) p h has = counters_known p _ (set_counter_known (operand.Numbered kind number) p.local p.memory p.counters tt)
 set_known (operand.NumberedBy kind from byte) p h has = counters_known p _ (set_counter_known (operand.NumberedBy kind from byte) p.local p.memory p.counters tt)
 set_known _ p h has = absurd cc
@@ -416,10 +416,10 @@ reset_numbered_known kind o p has =
 
 reset_known : (o : Operand) (p : ExecState) → admits takes.BitOrNumbered o ≡ true → ParamHas p.local true o → IfKnownError (reset_effect (kind_of_numbered_operand o) o p)
 unfolding admits
-reset_known (operand.Direct area width byte bit) p h has = scene_known p _ (bit_set_known false (operand.Direct area width byte bit) p.local p.memory tt)
-reset_known (operand.ByMemory area width from byte) p h has = scene_known p _ (bit_set_known false (operand.ByMemory area width from byte) p.local p.memory tt)
-reset_known (operand.ByRegister area width register bits) p h has = scene_known p _ (bit_set_known false (operand.ByRegister area width register bits) p.local p.memory tt)
-reset_known (operand.Parameter index width) p h has = scene_known p _ (bit_set_known false (operand.Parameter index width) p.local p.memory (has.0, has.1, has.3 refl))
+reset_known (operand.Direct area width byte bit) p h has = local_memory_known p _ (bit_set_known false (operand.Direct area width byte bit) p.local p.memory tt)
+reset_known (operand.ByMemory area width from byte) p h has = local_memory_known p _ (bit_set_known false (operand.ByMemory area width from byte) p.local p.memory tt)
+reset_known (operand.ByRegister area width register bits) p h has = local_memory_known p _ (bit_set_known false (operand.ByRegister area width register bits) p.local p.memory tt)
+reset_known (operand.Parameter index width) p h has = local_memory_known p _ (bit_set_known false (operand.Parameter index width) p.local p.memory (has.0, has.1, has.3 refl))
 reset_known (operand.Numbered kind number) p h has = reset_numbered_known kind (operand.Numbered kind number) p tt
 reset_known (operand.NumberedBy kind from byte) p h has = reset_numbered_known kind (operand.NumberedBy kind from byte) p tt
 reset_known _ p h has = absurd cc
@@ -466,8 +466,8 @@ bcd_given None = refl
 
 counted_known : (what : AccuOperation) (r : Regs) → IfKnownError (number_effect what r)
 unfolding number_effect
-counted_known number_word.Bti r = bcd_given _
-counted_known number_word.Btd r = bcd_given _
+counted_known accu_operation.Bti r = bcd_given _
+counted_known accu_operation.Btd r = bcd_given _
 counted_known _ r = tt
 
 -- data blocks
@@ -591,13 +591,13 @@ effect_known operation.Unnest o p s = own_known p _ (unnesting_done p.local s.ro
 effect_known (operation.Relay which) o p s = own_known p _ (relayed_done which p.local s.room)
 effect_known operation.Load o p s = registers_known p _ (loading_known o p s.admitted s.has)
 effect_known operation.Transfer o p s =
-    scene_known p _ (transferred_known (if is_writing_off p.local then 0 else p.local.regs.a1) o p.local p.memory (written_place o takes.Transfer p.local (inl refl) s.admitted s.has))
+    local_memory_known p _ (transferred_known (if is_writing_off p.local then 0 else p.local.regs.a1) o p.local p.memory (written_place o takes.Transfer p.local (inl refl) s.admitted s.has))
 effect_known operation.Assign o p s =
-    scene_known p _ (assigned_known o p.local p.memory (written_place o takes.Bit p.local (inr refl) s.admitted s.has))
+    local_memory_known p _ (assigned_known o p.local p.memory (written_place o takes.Bit p.local (inr refl) s.admitted s.has))
 effect_known operation.Set o p s = set_known o p s.admitted s.has
 effect_known operation.Reset o p s = reset_known o p s.admitted s.has
 effect_known (operation.Edge rising) o p s =
-    scene_known p _ (edge_known rising o p.local p.memory (written_place o takes.Bit p.local (inr refl) s.admitted s.has))
+    local_memory_known p _ (edge_known rising o p.local p.memory (written_place o takes.Bit p.local (inr refl) s.admitted s.has))
 effect_known operation.SetRlo o p s = tt
 effect_known operation.ClearRlo o p s = tt
 effect_known operation.NegateRlo o p s = tt
@@ -606,7 +606,7 @@ effect_known operation.LoadBcd o p s = registers_known p _ (loading_bcd_known o 
 effect_known operation.LoadStatus o p s = tt
 effect_known operation.TransferStatus o p s = tt
 effect_known operation.LoadOpenBlock o p s = registers_known p _ (open_fact_known o p.local p.memory s.admitted)
-effect_known (operation.Pointer what) o p s = scene_known p _ (pointed_known what o p.local p.memory s.admitted)
+effect_known (operation.Pointer what) o p s = local_memory_known p _ (pointed_known what o p.local p.memory s.admitted)
 effect_known (operation.Number what) o p s = registers_known p _ (counted_known what p.local.regs)
 effect_known (operation.Add what) o p s = tt
 effect_known (operation.CompareInt how) o p s = tt

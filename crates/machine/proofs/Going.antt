@@ -67,24 +67,24 @@ called_goes c block instance passings next a w true is there =
 called_goes c block instance passings next a w false is there =
     rw (sym is) (block_goes (c.head block) block instance passings next a w there)
 
-pub performed_goes :
+pub instruction_step_goes :
     (c : Code) (i : Instr) (next : ℕ) (a : Activation) (w : GlobalStore)
     → is_called_block_there c i a.running.frame.block ≡ true → IsNotStuck (instruction_step c i next a w)
-performed_goes c (Does use_db operation operand) next a w there =
+instruction_step_goes c (Does use_db operation operand) next a w there =
     parts_go (statement_effect use_db operation operand (exec_state_of a.running w.memory w.timers w.counters)) next a
-performed_goes c (Jumps operation target) next a w there = tt
-performed_goes c (JumpsByList targets otherwise) next a w there = tt
-performed_goes c (Calls how block instance passings) next a w there =
+instruction_step_goes c (Jumps operation target) next a w there = tt
+instruction_step_goes c (JumpsByList targets otherwise) next a w there = tt
+instruction_step_goes c (Calls how block instance passings) next a w there =
     either_goes (is_call_made how a.running.regs.status.rlo) _ _
     (λ h. called_goes c block instance passings next a w (is_system_function block.kind) refl there) (λ h. tt)
-performed_goes c (Returns how) next a w there =
+instruction_step_goes c (Returns how) next a w there =
     either_goes (is_return_made how a.running.regs.status.rlo) _ _
     (λ h. returned_goes (c.head a.running.frame.block) a w there) (λ h. tt)
 
 pub fetched_goes :
     (c : Code) (f : Option Fetched) (a : Activation) (w : GlobalStore)
     → is_statement_complete c f a.running.frame.block ≡ true → IsNotStuck (step_found c f a w)
-fetched_goes c (Some f) a w there = performed_goes c f.instr f.next a w there
+fetched_goes c (Some f) a w there = instruction_step_goes c f.instr f.next a w there
 fetched_goes c None a w there = absurd (false≢true there)
 
 either_jump :

@@ -76,7 +76,7 @@ use Rattle.machine.proofs.Ready.{IsCallable, callable_kind, kind_callable}
 use Rattle.machine.proofs.Returned.{returned_lasts}
 use Rattle.machine.proofs.Systems.{function_called_lasts}
 use Rattle.machine.proofs.Sizes.{same_sizes}
-use Rattle.machine.proofs.OpenBehind.{is_other, nest_opens, opening_word, two_or_four, behind_op, left_behind, opening_code, ending_code}
+use Rattle.machine.proofs.OpenBehind.{is_other, nest_opens, opening_operation, two_or_four, behind_op, left_behind, opening_code, ending_code}
 use Rattle.machine.proofs.Standing.{Stood, Statement, AllBefore, ends_here, none_before, stood_there, statement_there, next_stood, target_stood, next_op, op_here}
 
 -- an activation that fits a program that verifies, and the statement at which it stands
@@ -495,7 +495,7 @@ call_function :
     (l : ImageLaws) (p : Program) (a : Activation) (w : GlobalStore) (at : At p a w) (how : CallOperation) (number instance : ℕ)
     → operation_of at.here.run.last.code ≡ operation.Call how → at.here.run.last.operand ≡ operand.Called 2 number instance
     → StepFitsAgain p w (call_made (code_of p) (record { kind = kinds.Fc; number = number }) (instance_named instance) (passings_of at.here.run.before) at.here.run.next a w)
-call_function l p a w at how number instance word_is is =
+call_function l p a w at how number instance operation_is is =
     let fit = fit_of l p a w at 2 number instance is in
     let one = l.called p 2 number fit.called (inl refl) fit.there in
     let b = one.block in
@@ -505,7 +505,7 @@ call_function l p a w at how number instance word_is is =
     let all : are_all_passed 0 (map record_of_param b.params) at.here.run.before ≡ true =
     ap (λ (z : List ParameterRecord). are_all_passed 0 z at.here.run.before) (sym rs) ∙ call_all l p a w at 2 number instance is other in
     rw (no_instance (lens_of p.data_blocks) fit.called instance other fit.instance_fits, head_there p (record { kind = kinds.Fc; number = number }) b one.there)
-    (function_lasts l p a w at.here.run.next number at.here.stood.b b (passings_of at.here.run.before) (behind_call l p a w at how word_is)
+    (function_lasts l p a w at.here.run.next number at.here.stood.b b (passings_of at.here.run.before) (behind_call l p a w at how operation_is)
     at.here.stood.found one.there (call_passes l p a w at 2 number instance b.params is params)
     (λ i q found. all_among i (map record_of_param b.params) (record_of_param q) at.here.run.before all (get_mapped record_of_param b.params i q found)))
 
@@ -513,7 +513,7 @@ call_function_block :
     (l : ImageLaws) (p : Program) (a : Activation) (w : GlobalStore) (at : At p a w) (how : CallOperation) (number instance : ℕ)
     → operation_of at.here.run.last.code ≡ operation.Call how → at.here.run.last.operand ≡ operand.Called 3 number instance
     → StepFitsAgain p w (call_made (code_of p) (record { kind = kinds.Fb; number = number }) (instance_named instance) (passings_of at.here.run.before) at.here.run.next a w)
-call_function_block l p a w at how number instance word_is is =
+call_function_block l p a w at how number instance operation_is is =
     let fit = fit_of l p a w at 3 number instance is in
     let one = l.called p 3 number fit.called (inr refl) fit.there in
     let b = one.block in
@@ -521,7 +521,7 @@ call_function_block l p a w at how number instance word_is is =
     let params : AreParams b.params fit.called.2 = subst (λ (z : List ParameterRecord). AreParams b.params z) (sym rs) (of_blocks b.params) in
     rw (head_there p (record { kind = kinds.Fb; number = number }) b one.there)
     (function_block_lasts l p a w at.here.run.next number at.here.stood.b b (instance_named instance) (passings_of at.here.run.before)
-    (behind_call l p a w at how word_is) at.here.stood.found one.there (call_passes l p a w at 3 number instance b.params is params)
+    (behind_call l p a w at how operation_is) at.here.stood.found one.there (call_passes l p a w at 3 number instance b.params is params)
     (has_instance p w.memory b fit.called instance one.same at.fits.memory fit.instance_fits))
 
 -- the parameters of a system function
@@ -545,7 +545,7 @@ call_system_function :
     (l : ImageLaws) (p : Program) (a : Activation) (w : GlobalStore) (at : At p a w) (how : CallOperation) (number instance : ℕ)
     → operation_of at.here.run.last.code ≡ operation.Call how → at.here.run.last.operand ≡ operand.Called 5 number instance
     → StepFitsAgain p w (call_made (code_of p) (record { kind = kinds.Sfc; number = number }) (instance_named instance) (passings_of at.here.run.before) at.here.run.next a w)
-call_system_function l p a w at how number instance word_is is =
+call_system_function l p a w at how number instance operation_is is =
     let fit = fit_of l p a w at 5 number instance is in
     let one = is_function p number fit.called fit.there in
     let rs : fit.called.2 ≡ one.records = ap (λ (z : CalleeSeen). z.2) one.same in
@@ -556,7 +556,7 @@ call_system_function l p a w at how number instance word_is is =
     ap (λ (z : List ParameterRecord). are_all_passed 0 z at.here.run.before) (sym rs) ∙ call_all l p a w at 5 number instance is other in
     rw one.is
     (function_called_lasts l p a w at.here.run.next number at.here.stood.b (map param_of_record one.records) (passings_of at.here.run.before)
-    (behind_call l p a w at how word_is) (function_known number one.records one.is) at.here.stood.found
+    (behind_call l p a w at how operation_is) (function_known number one.records one.is) at.here.stood.found
     (call_passes l p a w at 5 number instance (map param_of_record one.records) is params)
     (λ i q found. let r = mapped_got param_of_record one.records i q found in all_among i one.records r.0 at.here.run.before all r.1))
 
@@ -714,7 +714,7 @@ unnest_code code is = by (eqb code (op_code operation.Unnest)) refl
     by true e = eqb-true code (op_code operation.Unnest) e
     by false e =
         let opens = nest_opens code (ap is_other is) (λ f. let g : true ≡ false = sym f ∙ e in cc) in
-        let one : codes_after operation.Unnest [] ≡ check_named code ∷ [] = ap (λ (v : Operation). codes_after v []) (sym is) ∙ opening_word code [] opens in
+        let one : codes_after operation.Unnest [] ≡ check_named code ∷ [] = ap (λ (v : Operation). codes_after v []) (sym is) ∙ opening_operation code [] opens in
         absurd cc
 
 unnest_room :
@@ -780,16 +780,16 @@ no_pass_last :
     (l : ImageLaws) (p : Program) (a : Activation) (w : GlobalStore) (at : At p a w) (o : Operand) → at.here.run.last.operand ≡ o
     → operation_of at.here.run.last.code ≡ operation.Pass → admits takes.Pass o ≡ true → ⊥
 unfolding admits operation_of
-no_pass_last l p a w at (operand.Pass index actual) is word_is h =
+no_pass_last l p a w at (operand.Pass index actual) is operation_is h =
     let fits = last_prepared l p a w at (operand.Pass index actual) is in
     let code : at.here.run.last.code ≡ op_code (operation.Call calls.Call) = ap (λ (z : OpData). z.code) (sym (last_is_last p a w at)) ∙ fits.0 in
-    other at.here.run.last.code word_is code
+    other at.here.run.last.code operation_is code
   where
     other : (code : ℕ) → operation_of code ≡ operation.Pass → code ≡ op_code (operation.Call calls.Call) → ⊥
     other code e f = let g : operation_of 0x78 ≡ operation.Pass = rw f at e in cc
-no_pass_last l p a w at (operand.Numbered kind number) is word_is h = kind_none kind takes.Pass refl refl h
-no_pass_last l p a w at (operand.NumberedBy kind from byte) is word_is h = kind_none kind takes.Pass refl refl h
-no_pass_last l p a w at _ is word_is h = cc
+no_pass_last l p a w at (operand.Numbered kind number) is operation_is h = kind_none kind takes.Pass refl refl h
+no_pass_last l p a w at (operand.NumberedBy kind from byte) is operation_is h = kind_none kind takes.Pass refl refl h
+no_pass_last l p a w at _ is operation_is h = cc
 
 has_room :
     (l : ImageLaws) (p : Program) (a : Activation) (w : GlobalStore) (at : At p a w) (v : Operation) (o : Operand)

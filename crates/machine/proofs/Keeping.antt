@@ -65,15 +65,15 @@ done_then P Q (Err e) f done h = tt
 
 -- ---- local bytes and memory
 
--- a scene after writing: bytes changed, and no more
-pub record KeepsScene (s : Local) (m : Areas) (c : LocalMemory) : Type 0 where
+-- local data and memory after writing: bytes changed, and no more
+pub record KeepsLocalMemory (s : Local) (m : Areas) (c : LocalMemory) : Type 0 where
   pub inner : c.local.inner ≡ s.inner
   pub starts : c.local.locals.starts ≡ s.locals.starts
   pub len : length c.local.locals.bytes ≡ length s.locals.bytes
   pub memory : SameSizes m c.memory
 
-pub same_scene : (s : Local) (m : Areas) → KeepsScene s m (record { local = s; memory = m })
-same_scene s m = record { inner = refl; starts = refl; len = refl; memory = same_sizes m }
+pub same_local_memory : (s : Local) (m : Areas) → KeepsLocalMemory s m (record { local = s; memory = m })
+same_local_memory s m = record { inner = refl; starts = refl; len = refl; memory = same_sizes m }
 
 pub record KeepsLocals (l k : LocalData) : Type 0 where
   pub starts : k.starts ≡ l.starts
@@ -96,7 +96,7 @@ either_stored :
     (local_written s.locals at.frame at.place.byte at.place.bit at.width value))
     (option_map (λ (n : Areas). let r : LocalMemory = record { local = s; memory = n } in r) (number_written m at.place at.width value))
     ≡ Some c
-    → KeepsScene s m c
+    → KeepsLocalMemory s m c
 either_stored at value s m c true done =
     let was = mapped (λ (l : LocalData). let r : LocalMemory = record { local = with_locals s l; memory = m } in r)
     (local_written s.locals at.frame at.place.byte at.place.bit at.width value) c done in
@@ -107,53 +107,53 @@ either_stored at value s m c false done =
     rw (sym was.2) (record { inner = refl; starts = refl; len = refl; memory = writing_sizes m was.0 at.place at.width value was.1 })
 
 stored_if :
-    (s : Local) (m : Areas) (o : Option LocalMemory) (code : ℕ) → ((c : LocalMemory) → o ≡ Some c → KeepsScene s m c)
-    → IfDone (KeepsScene s m) (ok_or o code)
+    (s : Local) (m : Areas) (o : Option LocalMemory) (code : ℕ) → ((c : LocalMemory) → o ≡ Some c → KeepsLocalMemory s m c)
+    → IfDone (KeepsLocalMemory s m) (ok_or o code)
 stored_if s m (Some c) code h = h c refl
 stored_if s m None code h = tt
 
 pub write_keeps :
-    (at : Location) (value : ℕ) (s : Local) (m : Areas) → IfDone (KeepsScene s m) (number_written_at at value s m)
+    (at : Location) (value : ℕ) (s : Local) (m : Areas) → IfDone (KeepsLocalMemory s m) (number_written_at at value s m)
 unfolding number_written_at
 write_keeps at value s m =
     stored_if s m (stored_at at value s m) (error_of_absent_place Writing at.place.area)
     (λ c is. either_stored at value s m c (is_area_l at.place.area) is)
 
 put_keeps :
-    (at : Location) (bit : Bool) (r : Regs) (s : Local) (m : Areas) → IfDone (KeepsScene s m) (put_bit at bit r s m)
+    (at : Location) (bit : Bool) (r : Regs) (s : Local) (m : Areas) → IfDone (KeepsLocalMemory s m) (put_bit at bit r s m)
 unfolding put_bit
 put_keeps at bit r s m =
-    done_then (KeepsScene s m) (KeepsScene s m) (number_written_at at (bit_as_number bit) s m) (λ c. Ok (with_local_regs r c))
+    done_then (KeepsLocalMemory s m) (KeepsLocalMemory s m) (number_written_at at (bit_as_number bit) s m) (λ c. Ok (with_local_regs r c))
     (write_keeps at (bit_as_number bit) s m)
     (λ c kept. record { inner = kept.inner; starts = kept.starts; len = kept.len; memory = kept.memory })
 
-assigned_keeps : (o : Operand) (s : Local) (m : Areas) → IfDone (KeepsScene s m) (bit_assigned o s m)
+assigned_keeps : (o : Operand) (s : Local) (m : Areas) → IfDone (KeepsLocalMemory s m) (bit_assigned o s m)
 unfolding bit_assigned
 assigned_keeps o s m =
-    then_done (KeepsScene s m) (operand_location Writing o s m) (λ at. assigned_at at s m) (λ at. put_keeps at _ _ s m)
+    then_done (KeepsLocalMemory s m) (operand_location Writing o s m) (λ at. assigned_at at s m) (λ at. put_keeps at _ _ s m)
 
-set_keeps : (value : Bool) (o : Operand) (s : Local) (m : Areas) → IfDone (KeepsScene s m) (bit_set value o s m)
+set_keeps : (value : Bool) (o : Operand) (s : Local) (m : Areas) → IfDone (KeepsLocalMemory s m) (bit_set value o s m)
 unfolding bit_set
 set_keeps value o s m =
-    then_done (KeepsScene s m) (operand_location Writing o s m) (λ at. then_ok (bit_before at s m) (λ before. bit_set_at value at before s m))
-    (λ at. then_done (KeepsScene s m) (bit_before at s m) (λ before. bit_set_at value at before s m) (λ before. put_keeps at _ _ s m))
+    then_done (KeepsLocalMemory s m) (operand_location Writing o s m) (λ at. then_ok (bit_before at s m) (λ before. bit_set_at value at before s m))
+    (λ at. then_done (KeepsLocalMemory s m) (bit_before at s m) (λ before. bit_set_at value at before s m) (λ before. put_keeps at _ _ s m))
 
-edge_keeps : (rising : Bool) (o : Operand) (s : Local) (m : Areas) → IfDone (KeepsScene s m) (local_memory_after_edge rising o s m)
+edge_keeps : (rising : Bool) (o : Operand) (s : Local) (m : Areas) → IfDone (KeepsLocalMemory s m) (local_memory_after_edge rising o s m)
 unfolding local_memory_after_edge
 edge_keeps rising o s m =
-    then_done (KeepsScene s m) (operand_location Writing o s m) (λ at. then_ok (bit_before at s m) (λ before. local_memory_after_edge_at rising at before s m))
-    (λ at. then_done (KeepsScene s m) (bit_before at s m) (λ before. local_memory_after_edge_at rising at before s m) (λ before. put_keeps at _ _ s m))
+    then_done (KeepsLocalMemory s m) (operand_location Writing o s m) (λ at. then_ok (bit_before at s m) (λ before. local_memory_after_edge_at rising at before s m))
+    (λ at. then_done (KeepsLocalMemory s m) (bit_before at s m) (λ before. local_memory_after_edge_at rising at before s m) (λ before. put_keeps at _ _ s m))
 
-transferred_keeps : (n : ℕ) (o : Operand) (s : Local) (m : Areas) → IfDone (KeepsScene s m) (number_transferred n o s m)
+transferred_keeps : (n : ℕ) (o : Operand) (s : Local) (m : Areas) → IfDone (KeepsLocalMemory s m) (number_transferred n o s m)
 unfolding number_transferred
 transferred_keeps n o s m =
-    then_done (KeepsScene s m) (operand_location Writing o s m) _ (λ at. write_keeps at _ s m)
+    then_done (KeepsLocalMemory s m) (operand_location Writing o s m) _ (λ at. write_keeps at _ s m)
 
-regs_keep : (r : Regs) (s : Local) (m : Areas) → KeepsScene s m (regs_set r s m)
+regs_keep : (r : Regs) (s : Local) (m : Areas) → KeepsLocalMemory s m (regs_set r s m)
 regs_keep r s m = record { inner = refl; starts = refl; len = refl; memory = same_sizes m }
 
 address_keeps :
-    (n : ℕ) (o : Operand) (s : Local) (m : Areas) → IfDone (KeepsScene s m) (address_transferred n o s m)
+    (n : ℕ) (o : Operand) (s : Local) (m : Areas) → IfDone (KeepsLocalMemory s m) (address_transferred n o s m)
 address_keeps n operand.Nothing s m = regs_keep _ s m
 address_keeps n (operand.Literal value) s m = transferred_keeps n (operand.Literal value) s m
 address_keeps n (operand.Direct area width byte bit) s m = transferred_keeps n (operand.Direct area width byte bit) s m
@@ -172,10 +172,10 @@ address_keeps n (operand.OpenBlock register number) s m = transferred_keeps n (o
 address_keeps n (operand.OpenBy register from byte) s m = transferred_keeps n (operand.OpenBy register from byte) s m
 
 pointed_keeps :
-    (what : PointerOperation) (o : Operand) (s : Local) (m : Areas) → IfDone (KeepsScene s m) (pointer_effect what o s m)
+    (what : PointerOperation) (o : Operand) (s : Local) (m : Areas) → IfDone (KeepsLocalMemory s m) (pointer_effect what o s m)
 unfolding pointer_effect
-pointed_keeps pointers.Lar1 o s m = then_done (KeepsScene s m) (address_loaded o s m) _ (λ n. regs_keep _ s m)
-pointed_keeps pointers.Lar2 o s m = then_done (KeepsScene s m) (address_loaded o s m) _ (λ n. regs_keep _ s m)
+pointed_keeps pointers.Lar1 o s m = then_done (KeepsLocalMemory s m) (address_loaded o s m) _ (λ n. regs_keep _ s m)
+pointed_keeps pointers.Lar2 o s m = then_done (KeepsLocalMemory s m) (address_loaded o s m) _ (λ n. regs_keep _ s m)
 pointed_keeps pointers.Tar1 o s m = address_keeps s.regs.ar1 o s m
 pointed_keeps pointers.Tar2 o s m = address_keeps s.regs.ar2 o s m
 pointed_keeps pointers.Lar1Ar2 o s m = regs_keep _ s m
@@ -275,10 +275,10 @@ pub open_after :
 open_after o r m n same sizes is = rw same (open_still o m n sizes is)
 
 -- bytes written
-scene_kept :
-    (w : Operation) (p : ExecState) (c : Result LocalMemory ℕ) → Quiet w → IfDone (KeepsScene p.local p.memory) c
+local_memory_kept :
+    (w : Operation) (p : ExecState) (c : Result LocalMemory ℕ) → Quiet w → IfDone (KeepsLocalMemory p.local p.memory) c
     → IfDone (Keeps w p) (on_local_memory p c)
-scene_kept w p (Ok c) quiet kept = record {
+local_memory_kept w p (Ok c) quiet kept = record {
   memory = kept.memory;
   starts = kept.starts;
   len = kept.len;
@@ -288,7 +288,7 @@ scene_kept w p (Ok c) quiet kept = record {
   di = λ db di. open_after p.local.inner.di c.local.inner.di p.memory c.memory (ap (λ (i : FrameData). i.di) kept.inner) kept.memory di;
   held = ap (λ (i : FrameData). open_in_frame i.brackets i.relay) kept.inner ∙ sym (quiet (open_in_frame p.local.inner.brackets p.local.inner.relay));
 }
-scene_kept w p (Err e) quiet kept = tt
+local_memory_kept w p (Err e) quiet kept = tt
 
 -- ---- brackets
 
@@ -449,12 +449,12 @@ exchanged_keeps w p quiet = record {
 
 set_of_keeps :
     (w : Operation) (kind : Option ℕ) (o : Operand) (p : ExecState) → Quiet w → IfDone (Keeps w p) (set_effect kind o p)
-set_of_keeps w None o p quiet = scene_kept w p (bit_set true o p.local p.memory) quiet (set_keeps true o p.local p.memory)
+set_of_keeps w None o p quiet = local_memory_kept w p (bit_set true o p.local p.memory) quiet (set_keeps true o p.local p.memory)
 set_of_keeps w (Some kind) o p quiet = counters_kept w p _ quiet
 
 reset_of_keeps :
     (w : Operation) (kind : Option ℕ) (o : Operand) (p : ExecState) → Quiet w → IfDone (Keeps w p) (reset_effect kind o p)
-reset_of_keeps w None o p quiet = scene_kept w p (bit_set false o p.local p.memory) quiet (set_keeps false o p.local p.memory)
+reset_of_keeps w None o p quiet = local_memory_kept w p (bit_set false o p.local p.memory) quiet (set_keeps false o p.local p.memory)
 reset_of_keeps w (Some kind) o p quiet = by (is_timer_kind kind)
   where
     by : (timer : Bool)
@@ -485,13 +485,13 @@ effect_keeps operation.Unnest o p = unnesting_keeps p
 effect_keeps (operation.Relay which) o p = relayed_keeps which p
 effect_keeps operation.Load o p = regs_kept operation.Load p _ (λ held. refl)
 effect_keeps operation.Transfer o p =
-    scene_kept operation.Transfer p (local_memory_after_transfer o p.local p.memory) (λ held. refl) (transferred_keeps (if is_writing_off p.local then 0 else p.local.regs.a1) o p.local p.memory)
+    local_memory_kept operation.Transfer p (local_memory_after_transfer o p.local p.memory) (λ held. refl) (transferred_keeps (if is_writing_off p.local then 0 else p.local.regs.a1) o p.local p.memory)
 effect_keeps operation.Assign o p =
-    scene_kept operation.Assign p (bit_assigned o p.local p.memory) (λ held. refl) (assigned_keeps o p.local p.memory)
+    local_memory_kept operation.Assign p (bit_assigned o p.local p.memory) (λ held. refl) (assigned_keeps o p.local p.memory)
 effect_keeps operation.Set o p = set_of_keeps operation.Set (kind_of_numbered_operand o) o p (λ held. refl)
 effect_keeps operation.Reset o p = reset_of_keeps operation.Reset (kind_of_numbered_operand o) o p (λ held. refl)
 effect_keeps (operation.Edge rising) o p =
-    scene_kept (operation.Edge rising) p (local_memory_after_edge rising o p.local p.memory) (λ held. refl) (edge_keeps rising o p.local p.memory)
+    local_memory_kept (operation.Edge rising) p (local_memory_after_edge rising o p.local p.memory) (λ held. refl) (edge_keeps rising o p.local p.memory)
 effect_keeps operation.SetRlo o p = regs_kept operation.SetRlo p (Ok _) (λ held. refl)
 effect_keeps operation.ClearRlo o p = regs_kept operation.ClearRlo p (Ok _) (λ held. refl)
 effect_keeps operation.NegateRlo o p = regs_kept operation.NegateRlo p (Ok _) (λ held. refl)
@@ -501,7 +501,7 @@ effect_keeps operation.LoadStatus o p = regs_kept operation.LoadStatus p (Ok _) 
 effect_keeps operation.TransferStatus o p = regs_kept operation.TransferStatus p (Ok _) (λ held. refl)
 effect_keeps operation.LoadOpenBlock o p = regs_kept operation.LoadOpenBlock p _ (λ held. refl)
 effect_keeps (operation.Pointer what) o p =
-    scene_kept (operation.Pointer what) p (pointer_effect what o p.local p.memory) (λ held. refl) (pointed_keeps what o p.local p.memory)
+    local_memory_kept (operation.Pointer what) p (pointer_effect what o p.local p.memory) (λ held. refl) (pointed_keeps what o p.local p.memory)
 effect_keeps (operation.Number what) o p = regs_kept (operation.Number what) p _ (λ held. refl)
 effect_keeps (operation.Add what) o p = regs_kept (operation.Add what) p (Ok _) (λ held. refl)
 effect_keeps (operation.CompareInt how) o p = regs_kept (operation.CompareInt how) p (Ok _) (λ held. refl)

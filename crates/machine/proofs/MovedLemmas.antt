@@ -25,11 +25,11 @@ use Rattle.machine.specs.Statement.{GlobalStore, StatementStep, Went, continue_w
 use Rattle.machine.specs.SystemCalls.{SystemCallArguments, system_call, system_function}
 
 -- the run goes on at the position of the next one
-went_on_moves :
+continue_with_moves :
     (f : BlockId → ℕ → ℕ) (r : Result ExecState ℕ) (next : ℕ) (a : Activation)
     → continue_with r (f a.running.frame.block next) (moved_activation f a) ≡ moved_step f (continue_with r next a)
-went_on_moves f (Ok p) next a = refl
-went_on_moves f (Err code) next a = refl
+continue_with_moves f (Ok p) next a = refl
+continue_with_moves f (Err code) next a = refl
 
 goes_to_moves : (g : ℕ → ℕ) (b : Bool) (target next : ℕ) → jump_goal b (g target) (g next) ≡ g (jump_goal b target next)
 goes_to_moves g true target next = refl
@@ -60,7 +60,7 @@ moved_call f (Stops fault) = Stops fault
 moved_call f (Enters a m) = Enters (moved_activation f a) m
 
 frames_move : (f : BlockId → ℕ → ℕ) (a : Activation) → frames_of (moved_activation f a) ≡ map (moved_frame f) (frames_of a)
-frames_move f a = by a.left
+frames_move f a = by a.ended
   where
     by : (b : Bool) → (if b then [] else moved_frame f a.running.frame ∷ map (moved_frame f) a.below)
         ≡ map (moved_frame f) (if b then [] else a.running.frame ∷ a.below)
@@ -77,13 +77,13 @@ enters_moves :
     (f : BlockId → ℕ → ℕ) (to : CalledBlock) (bindings : List Binding) (next : ℕ) (a : Activation) → f to.block 0 ≡ 0
     → block_entered (called_frame to bindings (moved_activation f a).running.frame) (caller_at (f a.running.frame.block next) (moved_activation f a))
     ≡ moved_activation f (block_entered (called_frame to bindings a.running.frame) (caller_at next a))
-enters_moves f to bindings next a start = by a.left
+enters_moves f to bindings next a start = by a.ended
   where
     caller : Frame
     caller = record a.running.frame { at = next }
 
     new : (at : ℕ) (below : List Frame) → Activation
-    new at below = record (block_entered (record (called_frame to bindings a.running.frame) { at = at }) (caller_at next a)) { below = below; left = false }
+    new at below = record (block_entered (record (called_frame to bindings a.running.frame) { at = at }) (caller_at next a)) { below = below; ended = false }
 
     by : (b : Bool) → new 0 (if b then [] else moved_frame f caller ∷ map (moved_frame f) a.below)
         ≡ new (f to.block 0) (map (moved_frame f) (if b then [] else caller ∷ a.below))
@@ -192,20 +192,20 @@ either_moves :
 either_moves f true x x' y y' h k = h
 either_moves f false x x' y y' h k = k
 
-performed_moves :
+instruction_step_moves :
     (f : BlockId → ℕ → ℕ) (c d : Code) (i : Instr) (next : ℕ) (a : Activation) (w : GlobalStore) → FollowsCode f c d
     → instruction_step d (aimed_instr (f a.running.frame.block) i) (f a.running.frame.block next) (moved_activation f a) w
     ≡ moved_step f (instruction_step c i next a w)
-performed_moves f c d (Does use_db operation operand) next a w follows =
-    went_on_moves f (statement_effect use_db operation operand (exec_state_of a.running w.memory w.timers w.counters)) next a
-performed_moves f c d (Jumps how target) next a w follows = jumped_moves f how target next a w
-performed_moves f c d (JumpsByList targets otherwise) next a w follows =
+instruction_step_moves f c d (Does use_db operation operand) next a w follows =
+    continue_with_moves f (statement_effect use_db operation operand (exec_state_of a.running w.memory w.timers w.counters)) next a
+instruction_step_moves f c d (Jumps how target) next a w follows = jumped_moves f how target next a w
+instruction_step_moves f c d (JumpsByList targets otherwise) next a w follows =
     ap (λ (at : ℕ). Went (activation_advanced_to at (moved_activation f a)) w) (listed_moves (f a.running.frame.block) targets otherwise a.running.regs)
-performed_moves f c d (Calls how block instance passings) next a w follows =
+instruction_step_moves f c d (Calls how block instance passings) next a w follows =
     either_moves f (is_call_made how a.running.regs.status.rlo)
     (call_made c block instance passings next a w) _ (Went (activation_continued_at next (regs_after_call_not_made a.running.regs) a) w) _
     (called_moves f c d block instance passings next a w follows) refl
-performed_moves f c d (Returns how) next a w follows =
+instruction_step_moves f c d (Returns how) next a w follows =
     either_moves f (is_return_made how a.running.regs.status.rlo)
     (return_made (c.head a.running.frame.block) a w) _ (Went (activation_continued_at next (rlo_tested a.running.regs) a) w) _
     (ap (λ (h : Option BlockHead). return_made h (moved_activation f a) w) (follows.head a.running.frame.block)
@@ -215,7 +215,7 @@ fetched_moves :
     (f : BlockId → ℕ → ℕ) (c d : Code) (o : Option Fetched) (a : Activation) (w : GlobalStore) → FollowsCode f c d
     → step_found d (option_map (moved_fetched (f a.running.frame.block)) o) (moved_activation f a) w ≡ moved_step f (step_found c o a w)
 fetched_moves f c d None a w follows = refl
-fetched_moves f c d (Some s) a w follows = performed_moves f c d s.instr s.next a w follows
+fetched_moves f c d (Some s) a w follows = instruction_step_moves f c d s.instr s.next a w follows
 
 pub statements_move : StatementsMove
 unfolding statement_step

@@ -21,17 +21,17 @@ use Rattle.machine.proofs.Staying.{frames_still}
 
 -- ---- an activation in which a frame stands
 
-standing : (left : Bool) (P : List Frame → Type 0) (fs : List Frame) → left ≡ false → P (if left then [] else fs) → P fs
+standing : (ended : Bool) (P : List Frame → Type 0) (fs : List Frame) → ended ≡ false → P (if ended then [] else fs) → P fs
 standing true P fs e h = absurd cc
 standing false P fs e h = h
 
-stood : (left : Bool) (P : List Frame → Type 0) (fs : List Frame) → left ≡ false → P fs → P (if left then [] else fs)
+stood : (ended : Bool) (P : List Frame → Type 0) (fs : List Frame) → ended ≡ false → P fs → P (if ended then [] else fs)
 stood true P fs e h = absurd cc
 stood false P fs e h = h
 
 -- the same of its frame and those below
 pub record Stands (c : Code) (brackets : OpenCodes) (m : Areas) (a : Activation) : Type 0 where
-  pub left : a.left ≡ false
+  pub stands : a.ended ≡ false
   pub frame : FrameFits c brackets m a.below a.running.frame
   pub below : FramesFit c brackets m a.below
   pub locals : LocalsFit (a.running.frame ∷ a.below) a.running.locals
@@ -39,23 +39,23 @@ pub record Stands (c : Code) (brackets : OpenCodes) (m : Areas) (a : Activation)
 pub stands_of :
     (c : Code) (brackets : OpenCodes) (m : Areas) (a : Activation) → ActivationFits c brackets m a → Stands c brackets m a
 stands_of c brackets m a fits =
-    let frames = standing a.left (FramesFit c brackets m) (a.running.frame ∷ a.below) fits.stands fits.frames in
+    let frames = standing a.ended (FramesFit c brackets m) (a.running.frame ∷ a.below) fits.stands fits.frames in
     record {
-      left = fits.stands;
+      stands = fits.stands;
       frame = frames.0;
       below = frames.1;
-      locals = standing a.left (λ (fs : List Frame). LocalsFit fs a.running.locals) (a.running.frame ∷ a.below) fits.stands fits.locals;
+      locals = standing a.ended (λ (fs : List Frame). LocalsFit fs a.running.locals) (a.running.frame ∷ a.below) fits.stands fits.locals;
     }
 
 pub fits_of :
     (c : Code) (brackets : OpenCodes) (m : Areas) (a : Activation) → Stands c brackets m a → ActivationFits c brackets m a
 fits_of c brackets m a s = record {
-  stands = s.left;
-  frames = stood a.left (FramesFit c brackets m) (a.running.frame ∷ a.below) s.left (s.frame, s.below);
-  locals = stood a.left (λ (fs : List Frame). LocalsFit fs a.running.locals) (a.running.frame ∷ a.below) s.left s.locals;
+  stands = s.stands;
+  frames = stood a.ended (FramesFit c brackets m) (a.running.frame ∷ a.below) s.stands (s.frame, s.below);
+  locals = stood a.ended (λ (fs : List Frame). LocalsFit fs a.running.locals) (a.running.frame ∷ a.below) s.stands s.locals;
 }
 
-pub frames_are : (a : Activation) → a.left ≡ false → frames_of a ≡ a.running.frame ∷ a.below
+pub frames_are : (a : Activation) → a.ended ≡ false → frames_of a ≡ a.running.frame ∷ a.below
 frames_are a is = rw is refl
 
 -- what is open in a frame
@@ -119,7 +119,7 @@ activation_follows l p m n a s sizes h follows starts len =
     record {
       memory = memory_stays c m n h.memory sizes;
       fits = fits_of c brackets n (record a { running = s }) (record {
-        left = was.left;
+        stands = was.stands;
         frame = frame_follows l p n a.below a.running.frame s.frame follows all.0;
         below = all.1;
         locals = locals_kept (s.frame ∷ a.below) a.running.locals s.locals starts len

@@ -92,8 +92,8 @@ other_code code o c =
     is_of_kind is_other of_brackets 0 OPERATIONS code refl brackets_known
     (rw (sym e) at (neither (is_opening code) (eqb code (op_code operation.Unnest)) o c))
 
-quiet_word : (code : ℕ) (codes : List Check) → is_opening code ≡ false → eqb code (op_code operation.Unnest) ≡ false → codes_after (operation_of code) codes ≡ codes
-quiet_word code codes o c = other_same (operation_of code) codes (other_code code o c)
+quiet_operation : (code : ℕ) (codes : List Check) → is_opening code ≡ false → eqb code (op_code operation.Unnest) ≡ false → codes_after (operation_of code) codes ≡ codes
+quiet_operation code codes o c = other_same (operation_of code) codes (other_code code o c)
 
 -- an operation that opens a bracket has such a code, and the one that closes has its own
 pub nest_opens : (code : ℕ) → is_other (operation_of code) ≡ false → (eqb code (op_code operation.Unnest) ≡ true → ⊥) → is_opening code ≡ true
@@ -116,9 +116,9 @@ one_of_six code h =
     let high = leb-true code 0x1D parts.1 in
     grind (arith, low, high)
 
-pub opening_word : (code : ℕ) (codes : List Check) → is_opening code ≡ true → codes_after (operation_of code) codes ≡ check_named code ∷ codes
+pub opening_operation : (code : ℕ) (codes : List Check) → is_opening code ≡ true → codes_after (operation_of code) codes ≡ check_named code ∷ codes
 unfolding operation_of
-opening_word code codes h = by (one_of_six code h)
+opening_operation code codes h = by (one_of_six code h)
   where
     by : (code ≡ 0x18) ⊎ ((code ≡ 0x19) ⊎ ((code ≡ 0x1A) ⊎ ((code ≡ 0x1B) ⊎ ((code ≡ 0x1C) ⊎ (code ≡ 0x1D)))))
         → codes_after (get_or OPERATIONS code operation.NoOperation) codes ≡ check_named code ∷ codes
@@ -129,9 +129,9 @@ opening_word code codes h = by (one_of_six code h)
     by (inr (inr (inr (inr (inl e))))) = rw e refl
     by (inr (inr (inr (inr (inr e))))) = rw e refl
 
-closing_word : (code : ℕ) (codes : List Check) → eqb code (op_code operation.Unnest) ≡ true → codes_after (operation_of code) codes ≡ codes_after operation.Unnest codes
+closing_operation : (code : ℕ) (codes : List Check) → eqb code (op_code operation.Unnest) ≡ true → codes_after (operation_of code) codes ≡ codes_after operation.Unnest codes
 unfolding operation_of
-closing_word code codes h = let e : code ≡ 0x1E = eqb-true code (op_code operation.Unnest) h in rw e refl
+closing_operation code codes h = let e : code ≡ 0x1E = eqb-true code (op_code operation.Unnest) h in rw e refl
 
 codes_push : (bs : List OpenBracket) (b : OpenBracket) → bracket_codes (bs ++ b ∷ []) ≡ bracket_codes bs ++ b.code ∷ []
 codes_push [] b = refl
@@ -174,11 +174,11 @@ pub checks_behind : (at code : ℕ) (bs : List OpenBracket) → checks_of (brack
 checks_behind at code bs = by (is_opening code) refl
   where
     closes : (c : Bool) → is_opening code ≡ false → eqb code (op_code operation.Unnest) ≡ c → checks_of (cond c (outer_brackets bs) bs) ≡ codes_after (operation_of code) (checks_of bs)
-    closes true o e = checks_inner bs ∙ sym (closing_word code (checks_of bs) e)
-    closes false o e = sym (quiet_word code (checks_of bs) o e)
+    closes true o e = checks_inner bs ∙ sym (closing_operation code (checks_of bs) e)
+    closes false o e = sym (quiet_operation code (checks_of bs) o e)
 
     by : (o : Bool) → is_opening code ≡ o → checks_of (cond o (bs ++ record { at = at; code = code } ∷ []) (cond (eqb code (op_code operation.Unnest)) (outer_brackets bs) bs)) ≡ codes_after (operation_of code) (checks_of bs)
-    by true o = checks_push bs (record { at = at; code = code }) ∙ sym (opening_word code (checks_of bs) o)
+    by true o = checks_push bs (record { at = at; code = code }) ∙ sym (opening_operation code (checks_of bs) o)
     by false o = closes (eqb code (op_code operation.Unnest)) o refl
 
 -- ---- zones

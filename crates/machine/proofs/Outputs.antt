@@ -313,20 +313,20 @@ counters_stay : (p : ExecState) (n : Result (List Counter) ℕ) → IfDone (Stat
 counters_stay p (Ok n) = refl
 counters_stay p (Err e) = tt
 
-scene_stays : (p : ExecState) (c : Result LocalMemory ℕ) → IfDone (MemoryStays p.memory) c → IfDone (StateStays p) (on_local_memory p c)
-scene_stays p (Ok c) stays = stays
-scene_stays p (Err e) stays = tt
+local_memory_stays : (p : ExecState) (c : Result LocalMemory ℕ) → IfDone (MemoryStays p.memory) c → IfDone (StateStays p) (on_local_memory p c)
+local_memory_stays p (Ok c) stays = stays
+local_memory_stays p (Err e) stays = tt
 
 set_of_stays :
     (kind : Option ℕ) (o : Operand) (p : ExecState) → has_place_inside o p.local.inner.bindings ≡ true
     → IfDone (StateStays p) (set_effect kind o p)
-set_of_stays None o p h = scene_stays p (bit_set true o p.local p.memory) (set_stays true o p.local p.memory h)
+set_of_stays None o p h = local_memory_stays p (bit_set true o p.local p.memory) (set_stays true o p.local p.memory h)
 set_of_stays (Some kind) o p h = counters_stay p _
 
 reset_of_stays :
     (kind : Option ℕ) (o : Operand) (p : ExecState) → has_place_inside o p.local.inner.bindings ≡ true
     → IfDone (StateStays p) (reset_effect kind o p)
-reset_of_stays None o p h = scene_stays p (bit_set false o p.local p.memory) (set_stays false o p.local p.memory h)
+reset_of_stays None o p h = local_memory_stays p (bit_set false o p.local p.memory) (set_stays false o p.local p.memory h)
 reset_of_stays (Some kind) o p h = by (is_timer_kind kind)
   where
     by : (timer : Bool)
@@ -355,11 +355,11 @@ effect_stays (operation.Nest with) o p h = own_stays p _
 effect_stays operation.Unnest o p h = own_stays p _
 effect_stays (operation.Relay which) o p h = own_stays p (relay_effect which p.local)
 effect_stays operation.Load o p h = regs_stay p _
-effect_stays operation.Transfer o p h = scene_stays p (local_memory_after_transfer o p.local p.memory) (transferred_stays (if is_writing_off p.local then 0 else p.local.regs.a1) o p.local p.memory h)
-effect_stays operation.Assign o p h = scene_stays p (bit_assigned o p.local p.memory) (assigned_stays o p.local p.memory h)
+effect_stays operation.Transfer o p h = local_memory_stays p (local_memory_after_transfer o p.local p.memory) (transferred_stays (if is_writing_off p.local then 0 else p.local.regs.a1) o p.local p.memory h)
+effect_stays operation.Assign o p h = local_memory_stays p (bit_assigned o p.local p.memory) (assigned_stays o p.local p.memory h)
 effect_stays operation.Set o p h = set_of_stays (kind_of_numbered_operand o) o p h
 effect_stays operation.Reset o p h = reset_of_stays (kind_of_numbered_operand o) o p h
-effect_stays (operation.Edge rising) o p h = scene_stays p (local_memory_after_edge rising o p.local p.memory) (edge_stays rising o p.local p.memory h)
+effect_stays (operation.Edge rising) o p h = local_memory_stays p (local_memory_after_edge rising o p.local p.memory) (edge_stays rising o p.local p.memory h)
 effect_stays operation.SetRlo o p h = refl
 effect_stays operation.ClearRlo o p h = refl
 effect_stays operation.NegateRlo o p h = refl
@@ -368,7 +368,7 @@ effect_stays operation.LoadBcd o p h = regs_stay p _
 effect_stays operation.LoadStatus o p h = refl
 effect_stays operation.TransferStatus o p h = refl
 effect_stays operation.LoadOpenBlock o p h = regs_stay p _
-effect_stays (operation.Pointer what) o p h = scene_stays p (pointer_effect what o p.local p.memory) (pointed_stays what o p.local p.memory h)
+effect_stays (operation.Pointer what) o p h = local_memory_stays p (pointer_effect what o p.local p.memory) (pointed_stays what o p.local p.memory h)
 effect_stays (operation.Number what) o p h = regs_stay p _
 effect_stays (operation.Add what) o p h = refl
 effect_stays (operation.CompareInt how) o p h = refl

@@ -285,8 +285,8 @@ frame_goes p brackets m a w verifies placed_law table_law calls_law called_law f
     (block_there ((code_of p).head own) a.running.frame a.below m fits.block) fits.statement)
 
 innermost_fits :
-    (c : Code) (brackets : OpenCodes) (m : Areas) (a : Activation) (left : Bool) → a.left ≡ left → left ≡ false
-    → FramesFit c brackets m (if left then [] else a.running.frame ∷ a.below)
+    (c : Code) (brackets : OpenCodes) (m : Areas) (a : Activation) (ended : Bool) → a.ended ≡ ended → ended ≡ false
+    → FramesFit c brackets m (if ended then [] else a.running.frame ∷ a.below)
     → FrameFits c brackets m a.below a.running.frame
 innermost_fits c brackets m a true is e fits = absurd (true≢false e)
 innermost_fits c brackets m a false is e fits = fits.0
@@ -297,4 +297,4 @@ pub fits_goes :
     → IsNotStuck (statement_step (code_of p) a w)
 fits_goes p brackets m a w verifies placed_law table_law calls_law called_law fits =
     frame_goes p brackets m a w verifies placed_law table_law calls_law called_law
-    (innermost_fits (code_of p) brackets m a a.left refl fits.stands fits.frames)
+    (innermost_fits (code_of p) brackets m a a.ended refl fits.stands fits.frames)

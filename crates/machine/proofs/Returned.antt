@@ -20,7 +20,7 @@ use Rattle.machine.specs.OpenBrackets.{open_codes}
 use Rattle.machine.specs.Returning.{outputs_copied_back, return_to_caller, activation_of_caller, block_return}
 use Rattle.machine.specs.Statement.{GlobalStore, after_return, return_made}
 use Rattle.machine.proofs.FrameBytes.{locals_kept, locals_closed}
-use Rattle.machine.proofs.Keeping.{IfDone, KeepsScene, same_scene, write_keeps}
+use Rattle.machine.proofs.Keeping.{IfDone, KeepsLocalMemory, same_local_memory, write_keeps}
 use Rattle.machine.proofs.Moving.{stands_of, fits_of}
 use Rattle.machine.proofs.Sizes.{sizes_then, memory_stays}
 use Rattle.machine.proofs.Staying.{frames_still}
@@ -28,7 +28,7 @@ use Rattle.machine.proofs.Staying.{frames_still}
 -- ---- copies
 
 abbrev Kept : LocalMemory → LocalMemory → Type 0
-Kept c d = KeepsScene c.local c.memory d
+Kept c d = KeepsLocalMemory c.local c.memory d
 
 kept_then : (c d e : LocalMemory) → Kept c d → Kept d e → Kept c e
 kept_then c d e first second = record {
@@ -38,12 +38,12 @@ kept_then c d e first second = record {
   memory = sizes_then c.memory d.memory e.memory first.memory second.memory;
 }
 
-scene_or_kept : (c : LocalMemory) (r : Result LocalMemory ℕ) → IfDone (KeepsScene c.local c.memory) r → Kept c (local_memory_or c r)
-scene_or_kept c (Ok d) kept = kept
-scene_or_kept c (Err e) kept = same_scene c.local c.memory
+local_memory_or_kept : (c : LocalMemory) (r : Result LocalMemory ℕ) → IfDone (KeepsLocalMemory c.local c.memory) r → Kept c (local_memory_or c r)
+local_memory_or_kept c (Ok d) kept = kept
+local_memory_or_kept c (Err e) kept = same_local_memory c.local c.memory
 
 pub put_kept : (to : Location) (n : ℕ) (c : LocalMemory) → Kept c (number_stored to n c)
-put_kept to n c = scene_or_kept c (number_written_at to (n % 2 ^ bit_count to.width) c.local c.memory) (write_keeps to _ c.local c.memory)
+put_kept to n c = local_memory_or_kept c (number_written_at to (n % 2 ^ bit_count to.width) c.local c.memory) (write_keeps to _ c.local c.memory)
 
 copied_kept : (from to : Location) (c : LocalMemory) → Kept c (number_copied from to c)
 unfolding number_copied
@@ -53,22 +53,22 @@ passed_kept : (b : Option Binding) (to : Location) (c : LocalMemory) → Kept c 
 unfolding actual_copied_to
 passed_kept (Some (binding.AtPlace place width frame)) to c = copied_kept (record { place = place; width = width; frame = frame }) to c
 passed_kept (Some (binding.Constant value)) to c = put_kept to value c
-passed_kept (Some binding.Unsupplied) to c = same_scene c.local c.memory
-passed_kept None to c = same_scene c.local c.memory
+passed_kept (Some binding.Unsupplied) to c = same_local_memory c.local c.memory
+passed_kept None to c = same_local_memory c.local c.memory
 
 given_kept : (from : Location) (b : Option Binding) (c : LocalMemory) → Kept c (copied_to_actual from b c)
 unfolding copied_to_actual
 given_kept from (Some (binding.AtPlace place width frame)) c = copied_kept from (record { place = place; width = width; frame = frame }) c
-given_kept from (Some (binding.Constant value)) c = same_scene c.local c.memory
-given_kept from (Some binding.Unsupplied) c = same_scene c.local c.memory
-given_kept from None c = same_scene c.local c.memory
+given_kept from (Some (binding.Constant value)) c = same_local_memory c.local c.memory
+given_kept from (Some binding.Unsupplied) c = same_local_memory c.local c.memory
+given_kept from None c = same_local_memory c.local c.memory
 
 either_kept : (test : Bool) (c d : LocalMemory) → Kept c d → Kept c (if test then d else c)
 either_kept true c d kept = kept
-either_kept false c d kept = same_scene c.local c.memory
+either_kept false c d kept = same_local_memory c.local c.memory
 
 pub params_in_kept : (ps : List Param) (i : ℕ) (bs : List Binding) (instance : ℕ) (c : LocalMemory) → Kept c (params_copied_in ps i bs instance c)
-params_in_kept [] i bs instance c = same_scene c.local c.memory
+params_in_kept [] i bs instance c = same_local_memory c.local c.memory
 params_in_kept (p ∷ ps) i bs instance c =
     let d : LocalMemory = param_in p (slice_get bs i) instance c in
     kept_then c d (params_copied_in ps (i + 1) bs instance d)
@@ -76,7 +76,7 @@ params_in_kept (p ∷ ps) i bs instance c =
     (params_in_kept ps (i + 1) bs instance d)
 
 pub params_out_kept : (ps : List Param) (i : ℕ) (bs : List Binding) (instance : ℕ) (c : LocalMemory) → Kept c (params_out ps i bs instance c)
-params_out_kept [] i bs instance c = same_scene c.local c.memory
+params_out_kept [] i bs instance c = same_local_memory c.local c.memory
 params_out_kept (p ∷ ps) i bs instance c =
     let d : LocalMemory = param_out p (slice_get bs i) instance c in
     kept_then c d (params_out ps (i + 1) bs instance d)
@@ -87,7 +87,7 @@ params_out_kept (p ∷ ps) i bs instance c =
 
 stage_lasts :
     (p : Program) (a : Activation) (w : GlobalStore) (c : LocalMemory) (below : List Frame) → a.below ≡ below
-    → KeepsScene (local_of a.running) w.memory c → FitsProgram p w.memory a
+    → KeepsLocalMemory (local_of a.running) w.memory c → FitsProgram p w.memory a
     → StepFitsAgain p w (after_return (return_to_caller below (record { activation = record a { running = with_local a.running c.local }; memory = c.memory })) w)
 stage_lasts p a w c [] is kept h = kept.memory
 stage_lasts p a w c (caller ∷ rest) is kept h =
@@ -103,7 +103,7 @@ stage_lasts p a w c (caller ∷ rest) is kept h =
         memory = memory_stays code w.memory c.memory h.memory kept.memory;
         fits = fits_of code brackets c.memory
             (activation_of_caller caller rest (record a { running = with_local a.running c.local }))
-            (record { left = was.left; frame = frames.0; below = frames.1; locals = locals });
+            (record { stands = was.stands; frame = frames.0; below = frames.1; locals = locals });
       };
     }
 
@@ -114,7 +114,7 @@ unfolding block_return
 returning_lasts p ps a w h = by a.running.frame.instance
   where
     by : (o : Option ℕ) → StepFitsAgain p w (after_return (return_to_caller a.below (outputs_copied_back o ps a w.memory)) w)
-    by None = stage_lasts p a w (local_memory_of a.running w.memory) a.below refl (same_scene (local_of a.running) w.memory) h
+    by None = stage_lasts p a w (local_memory_of a.running w.memory) a.below refl (same_local_memory (local_of a.running) w.memory) h
     by (Some instance) =
         stage_lasts p a w (params_out ps 0 a.running.frame.bindings instance (local_memory_of a.running w.memory)) a.below refl
         (params_out_kept ps 0 a.running.frame.bindings instance (local_memory_of a.running w.memory)) h

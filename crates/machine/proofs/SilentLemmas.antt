@@ -24,7 +24,7 @@ use Rattle.machine.specs.Lasting.{IsStatementReady}
 use Rattle.machine.specs.ExecState.{ExecState, local_of, exec_state_of, local_memory_of}
 use Rattle.machine.specs.Silent.{GoesSilently, GoesOrStays, RunsSilently, StaysReady, goes_on_by_kind, is_going_on, has_caller as has_caller_of, is_next_statement_of_kind, is_silent, keeps_outputs}
 use Rattle.machine.specs.Returning.{Return, GoesOn, Ends, outputs_copied_back, return_to_caller, block_return}
-use Rattle.machine.specs.Statement.{IsOutcomeOf, IsNotStuck, IsPerformed, StatementStep, Went, Ended, SyncError, SysCall, Stop, Stuck, GlobalStore, call_step, after_return, block_called, call_made, called_block, step_found, is_call_made, is_return_made, instruction_step, return_made, statement_step, continue_with}
+use Rattle.machine.specs.Statement.{IsOutcomeOf, IsNotStuck, IsInstructionOutcome, StatementStep, Went, Ended, SyncError, SysCall, Stop, Stuck, GlobalStore, call_step, after_return, block_called, call_made, called_block, step_found, is_call_made, is_return_made, instruction_step, return_made, statement_step, continue_with}
 use Rattle.machine.specs.Walking.{StatementWalk, fetched_at, walk_with}
 use Rattle.machine.proofs.FetchLemmas.{found_there, goes_there}
 use Rattle.machine.proofs.Keeping.{IfDone}
@@ -167,7 +167,7 @@ silent_stays c (Returns how) next a w h =
 -- an instruction that was performed went, or left all as it was
 by_step :
     (step : StatementStep) (next : ℕ) (a b : Activation) (w v : GlobalStore) (answer : Bool) (other : Outcome) → IsNotStuck step
-    → StepStays w.memory step → IsPerformed step next a b w v answer other → GoesOrStays step true a b w v answer
+    → StepStays w.memory step → IsInstructionOutcome step next a b w v answer other → GoesOrStays step true a b w v answer
 by_step (Went x after) next a b w v true other there stays h = record {
   goes = let first : b ≡ x = h.0 in let second : v ≡ after = h.1 in cc;
   outputs = ap (λ (z : GlobalStore). z.memory.peripheral_outputs) h.1 ∙ stays;
@@ -189,12 +189,12 @@ by_step (Stop cause) next a b w v false (outcome.SyncError code) there stays h =
 by_step (Stop cause) next a b w v true other there stays h = absurd h
 by_step Stuck next a b w v answer other there stays h = absurd there
 
-pub performed_silently :
+pub instruction_goes_or_stays :
     (c : Code) (f : Fetched) (a b : Activation) (w v : GlobalStore) (answer passed : Bool) (other : Outcome)
     → is_silent f.instr a ≡ true → IsNotStuck (instruction_step c f.instr f.next a w)
-    → IsPerformed (instruction_step c f.instr f.next a w) f.next a b w v answer other → passed ≡ answer
+    → IsInstructionOutcome (instruction_step c f.instr f.next a w) f.next a b w v answer other → passed ≡ answer
     → GoesOrStays (instruction_step c f.instr f.next a w) (is_silent f.instr a) a b w v passed
-performed_silently c f a b w v answer passed other quiet there h same =
+instruction_goes_or_stays c f a b w v answer passed other quiet there h same =
     rw (same, quiet)
     (by_step (instruction_step c f.instr f.next a w) f.next a b w v answer other there
     (silent_stays c f.instr f.next a w quiet) h)

@@ -163,7 +163,7 @@ pub record LocalsFit (frames : List Frame) (locals : LocalData) : Type 0 where
 pub record ActivationFits (code : Code) (brackets : OpenCodes) (m : Areas) (a : Activation)
     : Type 0 where
   -- a frame stands
-  pub stands : a.left ≡ false
+  pub stands : a.ended ≡ false
   -- each frame fits
   pub frames : FramesFit code brackets m (frames_of a)
   -- the local data are those of the frames
@@ -175,24 +175,24 @@ len_in m number = option_map length (finmap.get m.data_blocks number)
 
 -- two peripheral areas have as many bytes in each of their two parts
 pub record SameParts (p q : PeripheralBytes) : Type 0 where
-  -- as many bytes in the part that begins at byte 0
+  -- both areas have as many bytes in the part that begins at byte 0
   pub low : length q.low ≡ length p.low
-  -- as many bytes in the part that begins at byte 256
+  -- both areas have as many bytes in the part that begins at byte 256
   pub high : length q.high ≡ length p.high
 
 -- two memories have as many bytes in each area and in each data block
 pub record SameSizes (m n : Areas) : Type 0 where
-  -- as many bytes in the process image of the inputs
+  -- both memories have as many bytes in the process image of the inputs
   pub inputs : length n.inputs ≡ length m.inputs
-  -- as many bytes in the process image of the outputs
+  -- both memories have as many bytes in the process image of the outputs
   pub outputs : length n.outputs ≡ length m.outputs
-  -- as many bytes of bit memory
+  -- both memories have as many bytes of bit memory
   pub bit_memory : length n.bit_memory ≡ length m.bit_memory
-  -- as many bytes in each part of the peripheral inputs
+  -- both memories have as many bytes in each part of the peripheral inputs
   pub peripheral_inputs : SameParts m.peripheral_inputs n.peripheral_inputs
-  -- as many bytes in each part of the peripheral outputs
+  -- both memories have as many bytes in each part of the peripheral outputs
   pub peripheral_outputs : SameParts m.peripheral_outputs n.peripheral_outputs
-  -- the same data blocks are loaded, each with as many bytes
+  -- both memories have the same data blocks, each with as many bytes
   pub data_blocks : (number : ℕ) → len_in n number ≡ len_in m number
 
 -- a memory of a program: the areas of some profile, and the program's data blocks with their

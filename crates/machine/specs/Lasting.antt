@@ -36,7 +36,7 @@ pub record FitsProgram (p : Program) (m : Areas) (a : Activation) : Type 0 where
 -- nothing that the statement needs is missing
 pub record IsStatementReady (p : Program) (a : Activation) : Type 0 where
   -- a frame stands
-  pub stands : a.left ≡ false
+  pub stands : a.ended ≡ false
   -- as many frames have local data as stand
   pub depth : length a.running.locals.starts ≡ length (frames_of a)
   -- nothing that the statement needs is missing, whatever memory, timers and counters are

@@ -8,7 +8,7 @@ use Rattle.alu.specs.Accumulators.{with_low}
 use Rattle.flat_code.specs.declared.operands.Operand.{Operand}
 use Rattle.flat_code.specs.declared.operands.Operand.TheVariants as operand
 use Rattle.flat_code.specs.declared.operations.PointerOperation.{PointerOperation}
-use Rattle.flat_code.specs.declared.operations.PointerOperation.TheVariants as word
+use Rattle.flat_code.specs.declared.operations.PointerOperation.TheVariants as pointers
 use Rattle.machine.specs.ExecState.{Local, LocalMemory, then_ok}
 use Rattle.machine.specs.Values.{operand_number}
 use Rattle.machine.specs.Loads.{with_accu_loaded, number_transferred}
@@ -45,17 +45,17 @@ address_added address offset = with_low 24 address ((address + offset) % 2 ^ 24)
 -- the effect of an address-register instruction, by its operation; only TAR1 and TAR2 without
 -- operand change the accumulators
 unfoldable pub pointer_effect : PointerOperation → Operand → Local → Areas → Result LocalMemory ℕ
-pointer_effect word.Lar1 o s m =
+pointer_effect pointers.Lar1 o s m =
     then_ok (address_loaded o s m) (λ n. Ok (regs_set (record s.regs { ar1 = n }) s m))
-pointer_effect word.Lar2 o s m =
+pointer_effect pointers.Lar2 o s m =
     then_ok (address_loaded o s m) (λ n. Ok (regs_set (record s.regs { ar2 = n }) s m))
-pointer_effect word.Tar1 o s m = address_transferred s.regs.ar1 o s m
-pointer_effect word.Tar2 o s m = address_transferred s.regs.ar2 o s m
-pointer_effect word.Lar1Ar2 o s m = Ok (regs_set (record s.regs { ar1 = s.regs.ar2 }) s m)
-pointer_effect word.Tar1Ar2 o s m = Ok (regs_set (record s.regs { ar2 = s.regs.ar1 }) s m)
-pointer_effect word.Car o s m =
+pointer_effect pointers.Tar1 o s m = address_transferred s.regs.ar1 o s m
+pointer_effect pointers.Tar2 o s m = address_transferred s.regs.ar2 o s m
+pointer_effect pointers.Lar1Ar2 o s m = Ok (regs_set (record s.regs { ar1 = s.regs.ar2 }) s m)
+pointer_effect pointers.Tar1Ar2 o s m = Ok (regs_set (record s.regs { ar2 = s.regs.ar1 }) s m)
+pointer_effect pointers.Car o s m =
     Ok (regs_set (record s.regs { ar1 = s.regs.ar2; ar2 = s.regs.ar1 }) s m)
-pointer_effect word.AddAr1 o s m =
+pointer_effect pointers.AddAr1 o s m =
     Ok (regs_set (record s.regs { ar1 = address_added s.regs.ar1 (offset_added o s.regs) }) s m)
-pointer_effect word.AddAr2 o s m =
+pointer_effect pointers.AddAr2 o s m =
     Ok (regs_set (record s.regs { ar2 = address_added s.regs.ar2 (offset_added o s.regs) }) s m)

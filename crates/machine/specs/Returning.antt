@@ -68,28 +68,28 @@ pub data Return : Type 0 where
   -- the outermost block has ended, with these registers and this memory
   Ends : (regs : Regs) (m : Areas) → Return
 
--- the innermost block is left, with OS 0, OR 0, STA 1 and /FC 0: the caller goes on, or without a
+-- the innermost block is exited, with OS 0, OR 0, STA 1 and /FC 0: the caller goes on, or without a
 -- frame below the outermost block has ended
 abbrev pub return_to_caller : List Frame → ReturnState → Return
 return_to_caller [] s = Ends (at_block s.activation.running.regs) s.memory
 return_to_caller (caller ∷ rest) s = GoesOn (activation_of_caller caller rest s.activation) s.memory
 
--- the innermost block returns: the parameters of its head are copied out, then its frame is left
+-- the innermost block returns: the parameters of its head are copied out, then its frame is exited
 unfoldable pub block_return : List Param → Activation → Areas → Return
 block_return params a m =
     return_to_caller a.below (outputs_copied_back a.running.frame.instance params a m)
 
--- the innermost block is left to the frames that stand below; the answer is whether a caller goes
+-- the innermost block is exited to the frames that stand below; the answer is whether a caller goes
 -- on, and false where there are none
-abbrev pub LeavesTo : List Frame → (old new : Activation) → Bool → Type 0
-LeavesTo [] old new false = HasReturnedLast old new (at_block old.running.regs)
-LeavesTo (caller ∷ rest) old new true = new ≡ activation_of_caller caller rest old
-LeavesTo below old new answer = ⊥
+abbrev pub ExitsBlockTo : List Frame → (old new : Activation) → Bool → Type 0
+ExitsBlockTo [] old new false = HasReturnedLast old new (at_block old.running.regs)
+ExitsBlockTo (caller ∷ rest) old new true = new ≡ activation_of_caller caller rest old
+ExitsBlockTo below old new answer = ⊥
 
--- the innermost block of an activation is left; the answer is whether a caller goes on, and false
+-- the innermost block of an activation is exited; the answer is whether a caller goes on, and false
 -- where no frame stands below
-abbrev pub LeavesRunningBlock : (old new : Activation) → Bool → Type 0
-LeavesRunningBlock old new answer = LeavesTo old.below old new answer
+abbrev pub ExitsRunningBlock : (old new : Activation) → Bool → Type 0
+ExitsRunningBlock old new answer = ExitsBlockTo old.below old new answer
 
 -- what a return leaves, and its answer: the caller goes on (true), or the outermost block has ended
 -- (false)

@@ -45,7 +45,8 @@ StaysReady p a w =
     (count : ℕ) (b : Activation) (after : GlobalStore)
     → RunsSilently (code_of p) count a b w after → IsStatementReady p b
 
--- whether an instruction writes to the place of its operand
+-- whether an instruction may write to the place of its operand: every address-register instruction
+-- counts as one that may, though only TAR1 and TAR2 do
 abbrev pub may_write : Operation → Bool
 may_write operation.Transfer = true
 may_write operation.Assign = true

@@ -222,14 +222,14 @@ is_sync_error _ = false
 -- whether the activation goes on once an instruction was performed, what else came of it, and what
 -- that left: a synchronous error nothing at all, so that the next statement is still to be gone to.
 -- Of an instruction that lacks what it needs nothing is said
-abbrev pub IsPerformed :
+abbrev pub IsInstructionOutcome :
     StatementStep → (next : ℕ) → (old new : Activation) (w w' : GlobalStore) → (goes : Bool)
     → (other : Outcome) → Type 0
-IsPerformed Stuck next old new w w' goes other = Unit {0}
-IsPerformed (Went a after) next old new w w' true other = (new ≡ a) × (w' ≡ after)
-IsPerformed (Went a after) next old new w w' false other = ⊥
-IsPerformed (SyncError code a) next old new w w' false (outcome.SyncError answer) =
+IsInstructionOutcome Stuck next old new w w' goes other = Unit {0}
+IsInstructionOutcome (Went a after) next old new w w' true other = (new ≡ a) × (w' ≡ after)
+IsInstructionOutcome (Went a after) next old new w w' false other = ⊥
+IsInstructionOutcome (SyncError code a) next old new w w' false (outcome.SyncError answer) =
     (answer ≡ code) × (a ≡ activation_advanced_to next old) × (new ≡ old) × (w' ≡ w)
-IsPerformed (SyncError code a) next old new w w' goes other = ⊥
-IsPerformed step next old new w w' false other = IsOutcomeOf step old new w w' other
-IsPerformed step next old new w w' true other = ⊥
+IsInstructionOutcome (SyncError code a) next old new w w' goes other = ⊥
+IsInstructionOutcome step next old new w w' false other = IsOutcomeOf step old new w w' other
+IsInstructionOutcome step next old new w w' true other = ⊥

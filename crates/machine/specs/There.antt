@@ -30,7 +30,7 @@ is_statement_complete c (Some f) own = is_called_block_there c f.instr own
 -- needs of the program is there
 abbrev pub is_activation_ready : Code → Activation → Bool
 is_activation_ready c a =
-    if a.left then false
+    if a.ended then false
     else if length a.running.locals.starts == length (frames_of a) then
     is_statement_complete c (c.fetch a.running.frame.block a.running.frame.at) a.running.frame.block
     else false

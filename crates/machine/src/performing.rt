@@ -15,7 +15,7 @@ ghost use Rattle.machine.specs.Flat.{code_of, jump_by_operation, is_jl as is_jl_
 ghost use Rattle.machine.specs.Jumps.{regs_after_jump, jump_goal as goes_to_of, is_jump_taken as is_taken_of, rlo_tested};
 ghost use Rattle.machine.specs.ExecState.{local_of, exec_state_of};
 ghost use Rattle.machine.specs.Returning.{block_return};
-ghost use Rattle.machine.specs.Statement.{GlobalStore, global_store, continue_with, return_made, call_step, after_return, after_system_call, called_block, cause_of as cause_of_fault, instruction_step, call_made, block_called, system_call_made, is_call_made as is_called_of, is_return_made as is_ended_of, regs_after_call_not_made, IsOutcomeOf, IsPerformed};
+ghost use Rattle.machine.specs.Statement.{GlobalStore, global_store, continue_with, return_made, call_step, after_return, after_system_call, called_block, cause_of as cause_of_fault, instruction_step, call_made, block_called, system_call_made, is_call_made as is_called_of, is_return_made as is_ended_of, regs_after_call_not_made, IsOutcomeOf, IsInstructionOutcome};
 ghost use Rattle.machine.specs.SystemCalls.{system_function as system_function_of, system_call, count_inputs, arguments_of_activation};
 ghost use Rattle.machine.specs.Walking.{passings_at};
 ghost use Rattle.machine.specs.declared.outcomes.Outcome.{Outcome as OutcomeOf};
@@ -38,7 +38,7 @@ use plc_mem::Memory;
 use timers_counters::{Counters, Timers};
 
 // An instruction that touches no position.
-#[tactic(auto, using(crate::proofs::Steps::went_performs, crate::proofs::Steps::failed_performs))]
+#[tactic(auto, using(crate::proofs::Steps::continue_with_goes, crate::proofs::Steps::continue_with_fails))]
 #[inline(always)]
 fn perform_plain(
     opens: Option<u16>,
@@ -51,7 +51,7 @@ fn perform_plain(
     n: &mut Counters,
     other: &mut Outcome,
 ) -> bool
-    ensures { IsPerformed (continue_with (does_with_of opens operation operand.now
+    ensures { IsInstructionOutcome (continue_with (does_with_of opens operation operand.now
         (exec_state_of a.old.running m.old t.old n.old)) next a.old) next a.old a.new
         (global_store m.old t.old n.old) (global_store m.new t.new n.new) result other.new }
 {
@@ -80,7 +80,7 @@ fn perform_other(
     n: &mut Counters,
     other: &mut Outcome,
 ) -> bool
-    ensures { IsPerformed (continue_with (does_with_of opens operation operand.now
+    ensures { IsInstructionOutcome (continue_with (does_with_of opens operation operand.now
         (exec_state_of a.old.running m.old t.old n.old)) next a.old) next a.old a.new
         (global_store m.old t.old n.old) (global_store m.new t.new n.new) result other.new }
 {
@@ -108,7 +108,7 @@ fn jump_to(operation: JumpOperation, target: u32, next: u32, a: &mut Activation)
 #[inline(never)]
 fn jump(code: &LoadedCode<'_>, operation: JumpOperation, target: u32, next: u32, a: &mut Activation)
     ensures { (c : Code) (w : GlobalStore) (other : OutcomeOf) →
-        IsPerformed (instruction_step c (jump_by_operation operation target next code.now.code)
+        IsInstructionOutcome (instruction_step c (jump_by_operation operation target next code.now.code)
         next a.old w) next
         a.old a.new w w true other }
 {
@@ -172,7 +172,7 @@ fn cause_of(fault: FrameFault) -> u8
 }
 
 // A call of a function or function block whose parameters are bound.
-#[tactic(auto, using(crate::proofs::Steps::call_performs, crate::proofs::Steps::call_stops))]
+#[tactic(auto, using(crate::proofs::Steps::call_goes_on, crate::proofs::Steps::call_stops))]
 fn call_block(
     called: &CalledBlock<'_>,
     bindings: &Bindings,
@@ -184,7 +184,7 @@ fn call_block(
     requires depth { length a.old.running.locals.starts ≡ length (frames_of a.old) }
     requires params { length called.now.params ≤ 60 }
     ensures { (t : List Timer) (n : List Counter) →
-        IsPerformed (call_step (call_with_bindings (Ok bindings.now) called.now next a.old m.old)
+        IsInstructionOutcome (call_step (call_with_bindings (Ok bindings.now) called.now next a.old m.old)
         next a.old (global_store m.old t n))
         next a.old a.new (global_store m.old t n) (global_store m.new t n) result other.new }
 {
@@ -213,7 +213,7 @@ fn call_with(
     requires depth { length a.old.running.locals.starts ≡ length (frames_of a.old) }
     requires params { length called.now.params ≤ 60 }
     ensures { (t : List Timer) (n : List Counter) →
-        IsPerformed (call_step (call_of called.now (passings_at code.now.code at) next a.old m.old)
+        IsInstructionOutcome (call_step (call_of called.now (passings_at code.now.code at) next a.old m.old)
         next a.old (global_store m.old t n))
         next a.old a.new (global_store m.old t n) (global_store m.new t n) result other.new }
 {
@@ -241,7 +241,7 @@ fn call_loaded(
 ) -> bool
     requires depth { length a.old.running.locals.starts ≡ length (frames_of a.old) }
     ensures { (t : List Timer) (n : List Counter) →
-        IsPerformed (call_step (call_of (called_block block instance (block_head_of callee.now))
+        IsInstructionOutcome (call_step (call_of (called_block block instance (block_head_of callee.now))
         (passings_at code.now.code at) next a.old m.old) next a.old (global_store m.old t n))
         next a.old a.new (global_store m.old t n) (global_store m.new t n) result other.new }
 {
@@ -269,7 +269,7 @@ fn call_code(
 ) -> bool
     requires depth { length a.old.running.locals.starts ≡ length (frames_of a.old) }
     ensures { (t : List Timer) (n : List Counter) →
-        IsPerformed (block_called ((code_of c.now.program).head block) block instance
+        IsInstructionOutcome (block_called ((code_of c.now.program).head block) block instance
         (passings_at code.now.code at) next a.old (global_store m.old t n))
         next a.old a.new (global_store m.old t n) (global_store m.new t n) result other.new }
 {
@@ -321,7 +321,7 @@ fn call_system_with(
     requires few { length params.now ≤ 4 }
     requires inputs { count_inputs params.now ≤ 3 }
     ensures { (w : GlobalStore) →
-        IsPerformed (after_system_call (system_call params.now (passings_at code.now.code at)
+        IsInstructionOutcome (after_system_call (system_call params.now (passings_at code.now.code at)
         (local_of a.old.running) m.now) number next a.old) next a.old a.new w w false other.new }
 {
     match bind_all(code, at, params, &a.running, m, spare) {
@@ -342,7 +342,7 @@ fn call_function(
     other: &mut Outcome,
 )
     ensures { (t : List Timer) (n : List Counter) →
-        IsPerformed (system_call_made (system_function_of number)
+        IsInstructionOutcome (system_call_made (system_function_of number)
         number (passings_at code.now.code at)
         next a.old (global_store m.now t n))
         next a.old a.new (global_store m.now t n) (global_store m.now t n) false other.new }
@@ -378,7 +378,7 @@ fn call_any(
 ) -> bool
     requires depth { length a.old.running.locals.starts ≡ length (frames_of a.old) }
     ensures { (t : List Timer) (n : List Counter) →
-        IsPerformed (call_made (code_of c.now.program) block instance (passings_at code.now.code at)
+        IsInstructionOutcome (call_made (code_of c.now.program) block instance (passings_at code.now.code at)
         next a.old (global_store m.old t n))
         next a.old a.new (global_store m.old t n) (global_store m.new t n) result other.new }
 {
@@ -407,7 +407,7 @@ fn call(
 ) -> bool
     requires depth { length a.old.running.locals.starts ≡ length (frames_of a.old) }
     ensures { (t : List Timer) (n : List Counter) →
-        IsPerformed (instruction_step (code_of c.now.program)
+        IsInstructionOutcome (instruction_step (code_of c.now.program)
         (Calls how block instance (passings_at code.now.code at))
         next a.old (global_store m.old t n))
         next a.old a.new (global_store m.old t n) (global_store m.new t n) result other.new }
@@ -421,16 +421,16 @@ fn call(
 }
 
 // A return from the innermost block, which is loaded.
-#[tactic(auto, using(crate::proofs::Steps::return_performs, crate::proofs::Steps::return_ends))]
+#[tactic(auto, using(crate::proofs::Steps::return_goes_on, crate::proofs::Steps::return_ends))]
 fn end_loaded(
     code: &LoadedCode<'_>,
     a: &mut Activation,
     m: &mut Memory,
     other: &mut Outcome,
 ) -> bool
-    requires stands { a.old.left ≡ false }
+    requires stands { a.old.ended ≡ false }
     ensures { (next : ℕ) (t : List Timer) (n : List Counter) →
-        IsPerformed (return_made (Some (block_head_of code.now)) a.old (global_store m.old t n))
+        IsInstructionOutcome (return_made (Some (block_head_of code.now)) a.old (global_store m.old t n))
         next
         a.old a.new (global_store m.old t n) (global_store m.new t n) result other.new }
 {
@@ -444,9 +444,9 @@ fn end_loaded(
 
 // A return that is made.
 fn end_any(c: &Loaded, a: &mut Activation, m: &mut Memory, other: &mut Outcome) -> bool
-    requires stands { a.old.left ≡ false }
+    requires stands { a.old.ended ≡ false }
     ensures { (next : ℕ) (t : List Timer) (n : List Counter) →
-        IsPerformed (return_made ((code_of c.now.program).head a.old.running.frame.block) a.old
+        IsInstructionOutcome (return_made ((code_of c.now.program).head a.old.running.frame.block) a.old
         (global_store m.old t n))
         next a.old a.new (global_store m.old t n) (global_store m.new t n) result other.new }
 {
@@ -466,9 +466,9 @@ fn end(
     m: &mut Memory,
     other: &mut Outcome,
 ) -> bool
-    requires stands { a.old.left ≡ false }
+    requires stands { a.old.ended ≡ false }
     ensures { (t : List Timer) (n : List Counter) →
-        IsPerformed (instruction_step (code_of c.now.program) (Returns how)
+        IsInstructionOutcome (instruction_step (code_of c.now.program) (Returns how)
         next a.old (global_store m.old t n))
         next a.old a.new (global_store m.old t n) (global_store m.new t n) result other.new }
 {
@@ -497,9 +497,9 @@ fn perform_op(
     spare: &mut Bindings,
     other: &mut Outcome,
 ) -> bool
-    requires stands { a.old.left ≡ false }
+    requires stands { a.old.ended ≡ false }
     requires depth { length a.old.running.locals.starts ≡ length (frames_of a.old) }
-    ensures { IsPerformed (instruction_step (code_of c.now.program)
+    ensures { IsInstructionOutcome (instruction_step (code_of c.now.program)
         (instr_of operation operand.now opens (passings_at code.now.code at) next code.now.code)
         next a.old (global_store m.old t.old n.old))
         next a.old a.new (global_store m.old t.old n.old)
@@ -550,9 +550,9 @@ fn perform_op_apart(
     spare: &mut Bindings,
     other: &mut Outcome,
 ) -> bool
-    requires stands { a.old.left ≡ false }
+    requires stands { a.old.ended ≡ false }
     requires depth { length a.old.running.locals.starts ≡ length (frames_of a.old) }
-    ensures { IsPerformed (instruction_step (code_of c.now.program)
+    ensures { IsInstructionOutcome (instruction_step (code_of c.now.program)
         (instr_of operation operand.now opens (passings_at code.now.code at) next code.now.code)
         next a.old (global_store m.old t.old n.old))
         next a.old a.new (global_store m.old t.old n.old)
@@ -576,9 +576,9 @@ pub(crate) fn perform(
     spare: &mut Bindings,
     other: &mut Outcome,
 ) -> bool
-    requires stands { a.old.left ≡ false }
+    requires stands { a.old.ended ≡ false }
     requires depth { length a.old.running.locals.starts ≡ length (frames_of a.old) }
-    ensures { IsPerformed (instruction_step (code_of c.now.program) f.now.instr f.now.next a.old
+    ensures { IsInstructionOutcome (instruction_step (code_of c.now.program) f.now.instr f.now.next a.old
         (global_store m.old t.old n.old)) f.now.next a.old a.new (global_store m.old t.old n.old)
         (global_store m.new t.new n.new) result other.new }
 {
@@ -612,9 +612,9 @@ pub(crate) fn perform_apart(
     spare: &mut Bindings,
     other: &mut Outcome,
 ) -> bool
-    requires stands { a.old.left ≡ false }
+    requires stands { a.old.ended ≡ false }
     requires depth { length a.old.running.locals.starts ≡ length (frames_of a.old) }
-    ensures { IsPerformed (instruction_step (code_of c.now.program) f.now.instr f.now.next a.old
+    ensures { IsInstructionOutcome (instruction_step (code_of c.now.program) f.now.instr f.now.next a.old
         (global_store m.old t.old n.old)) f.now.next a.old a.new (global_store m.old t.old n.old)
         (global_store m.new t.new n.new) result other.new }
 {

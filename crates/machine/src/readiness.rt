@@ -89,13 +89,13 @@ fn is_complete_at(c: &Loaded, code: &LoadedCode<'_>, own: BlockId, at: u32) -> b
 /// innermost frame stands, and what it calls is there. Then `statement` may be called.
 pub fn is_ready(c: &Loaded, a: &Activation) -> bool
     ensures exact { result ≡ is_ready_of (code_of c.now.program) a.now }
-    ensures stands { result ≡ true → (a.now.left ≡ false) }
+    ensures stands { result ≡ true → (a.now.ended ≡ false) }
     ensures depth { result ≡ true →
         (length a.now.running.locals.starts ≡ length (frames_of a.now)) }
     ensures there { result ≡ true →
         ((w : GlobalStore) → IsNotStuck (statement_of (code_of c.now.program) a.now w)) }
 {
-    if a.left || a.running.locals.depth() != a.depth() {
+    if a.ended || a.running.locals.depth() != a.depth() {
         return false;
     }
     match c.block(a.running.frame.block) {

@@ -1,6 +1,6 @@
 //! BE, BEU and BEC: the return from a block.
 ghost use Rattle.std.specs.Prelude.{◌≡◌, ◌≤◌, length, false};
-ghost use Rattle.machine.specs.Returning.{outputs_copied_back, block_return, IsReturnOf, LeavesRunningBlock};
+ghost use Rattle.machine.specs.Returning.{outputs_copied_back, block_return, IsReturnOf, ExitsRunningBlock};
 
 use crate::copies::params_out;
 use crate::entering::at_block;
@@ -23,22 +23,22 @@ fn give_back(params: &[Param], a: &mut Activation, m: &mut Memory)
     }
 }
 
-// The innermost block is left; the answer says whether the caller goes on.
-fn leave(a: &mut Activation) -> bool
-    requires { a.old.left ≡ false }
-    ensures { LeavesRunningBlock a.old a.new result }
+// The innermost block is exited; the answer says whether the caller goes on.
+fn exit(a: &mut Activation) -> bool
+    requires { a.old.ended ≡ false }
+    ensures { ExitsRunningBlock a.old a.new result }
 {
     at_block(&mut a.running.regs);
-    a.leave_block()
+    a.exit_block()
 }
 
 /// Returns from the innermost block; the answer says whether the caller goes on.
 #[tactic(auto, unfolding(crate::specs::Returning::block_return))]
 pub(crate) fn return_from_block(params: &[Param], a: &mut Activation, m: &mut Memory) -> bool
-    requires stands { a.old.left ≡ false }
+    requires stands { a.old.ended ≡ false }
     requires params { length params.now ≤ 60 }
     ensures { IsReturnOf (block_return params.now a.old m.old) a.old a.new m.new result }
 {
     give_back(params, a, m);
-    leave(a)
+    exit(a)
 }

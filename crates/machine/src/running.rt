@@ -121,7 +121,7 @@ fn is_silent_call(how: CallOperation, operand: &Operand, a: &Activation) -> bool
 }
 
 fn has_caller(a: &Activation) -> bool
-    requires { a.now.left ≡ false }
+    requires { a.now.ended ≡ false }
     ensures { result ≡ has_caller_of a.now.below }
 {
     if a.depth() < 2 {
@@ -132,7 +132,7 @@ fn has_caller(a: &Activation) -> bool
 
 // BE, BEU and BEC, where they return from a block without an instance to its caller.
 fn is_silent_end(how: EndOperation, a: &Activation) -> bool
-    requires { a.now.left ≡ false }
+    requires { a.now.ended ≡ false }
     ensures { result ≡ is_silent (Returns how) a.now }
 {
     is_ended(how, a.running.regs.status.rlo) && !a.running.frame.instance.is_some() && has_caller(a)
@@ -156,7 +156,7 @@ fn across(silent: bool) -> Silent
 // Whether the last op of a statement is sure to show nothing.
 #[inline(always)]
 fn kind_of_op(operation: Operation, operand: &Operand, a: &Activation) -> Silent
-    requires { a.now.left ≡ false }
+    requires { a.now.ended ≡ false }
     ensures silent { (opens : Option ℕ) (passings : List Passing) (next : ℕ) (ops : List OpData)
         → shows_nothing result
         ≡ is_silent (instr_of operation operand.now opens passings next ops) a.now }
@@ -175,7 +175,7 @@ fn kind_of_op(operation: Operation, operand: &Operand, a: &Activation) -> Silent
 // The same of a statement that was found.
 #[inline(always)]
 fn kind_of(f: &Fetched<'_>, a: &Activation) -> Silent
-    requires { a.now.left ≡ false }
+    requires { a.now.ended ≡ false }
     ensures silent { shows_nothing result ≡ is_silent f.now.instr a.now }
     ensures inside { is_still_inside result ≡ true → stays_in_block f.now.instr ≡ true }
 {

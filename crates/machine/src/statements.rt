@@ -31,7 +31,7 @@ fn execute(
     n: &mut Counters,
     spare: &mut Bindings,
 ) -> Outcome
-    requires stands { a.old.left ≡ false }
+    requires stands { a.old.ended ≡ false }
     requires depth { length a.old.running.locals.starts ≡ length (frames_of a.old) }
     requires there { IsNotStuck (instruction_step (code_of c.now.program)
         f.now.instr f.now.next a.old
@@ -63,7 +63,7 @@ fn execute_at(
     n: &mut Counters,
     spare: &mut Bindings,
 ) -> Outcome
-    requires stands { a.old.left ≡ false }
+    requires stands { a.old.ended ≡ false }
     requires depth { length a.old.running.locals.starts ≡ length (frames_of a.old) }
     requires there { IsNotStuck (step_found (code_of c.now.program)
         (statement_fetched code.now a.old.running.frame.at)
@@ -102,7 +102,7 @@ pub fn statement(
     a: &mut Activation,
     spare: &mut Bindings,
 ) -> Outcome
-    requires stands { a.old.left ≡ false }
+    requires stands { a.old.ended ≡ false }
     requires depth { length a.old.running.locals.starts ≡ length (frames_of a.old) }
     requires there { IsNotStuck (statement_of (code_of c.now.program) a.old
         (global_store m.old t.old n.old)) }

@@ -40,7 +40,8 @@ kind_text Udt = codes "UDT"
 -- a statement, by its block and its source line
 unfoldable pub spot_text : Spot → List ℕ
 spot_text at =
-    kind_text at.block.kind ++ codes " " ++ decimal at.block.number ++ codes " LINE " ++ decimal at.line
+    kind_text at.block.kind ++ codes " " ++ decimal at.block.number ++ codes " LINE "
+    ++ decimal at.line
 
 -- where a stop happened, or NONE where no organization block ran
 abbrev pub stop_text : Option Spot → List ℕ
@@ -50,7 +51,8 @@ stop_text (Some at) = spot_text at
 -- the registers that monitoring shows: all nine bits of the status word, accumulators 1 and 2
 unfoldable pub registers_text : MonRecord → List ℕ
 registers_text r =
-    codes " STW " ++ hex_text 4 r.stw ++ codes " A1 " ++ hex_text 8 r.a1 ++ codes " A2 " ++ hex_text 8 r.a2
+    codes " STW " ++ hex_text 4 r.stw ++ codes " A1 " ++ hex_text 8 r.a1 ++ codes " A2 "
+    ++ hex_text 8 r.a2
 
 -- the line of a run text for a statement of the monitored block that entry n executed
 unfoldable pub mon_text : ℕ → MonRecord → List ℕ
@@ -66,12 +68,12 @@ mode_text n (Stop cause at) =
     codes "@" ++ decimal n ++ codes " MODE STOP " ++ decimal cause ++ codes " AT " ++ stop_text at
     ++ codes "\n"
 
--- an entry of the diagnostic buffer, in the answer to entry n: the entry that made it, its code and what that
--- is about
+-- an entry of the diagnostic buffer, in the answer to entry n: the entry that made it, its code and
+-- what that is about
 unfoldable pub diag_text : ℕ → DiagRecord → List ℕ
 diag_text n r =
-    codes "@" ++ decimal n ++ codes " DIAG " ++ decimal r.entry ++ codes " " ++ decimal r.code ++ codes " "
-    ++ decimal r.info ++ codes "\n"
+    codes "@" ++ decimal n ++ codes " DIAG " ++ decimal r.entry ++ codes " " ++ decimal r.code
+    ++ codes " " ++ decimal r.info ++ codes "\n"
 
 -- the mode at the end, after n entries
 unfoldable pub end_text : ℕ → Mode → List ℕ

@@ -1,5 +1,6 @@
--- Binary coded decimal (BCD): four bits for each decimal digit, the lowest digit in the lowest bits.
--- A signed BCD number of n digits has one more digit above them, the sign: 0 for plus, 15 for minus.
+-- Binary coded decimal (BCD): four bits for each decimal digit, the lowest digit in the lowest
+-- bits. A signed BCD number of n digits has one more digit above them, the sign: 0 for plus, 15
+-- for minus.
 use Rattle.std.specs.Prelude.{ℕ, zero, suc, ◌+◌, ◌*◌, ◌/◌, ◌%◌, ◌^◌, Bool, true, ◌&&◌, nat_le, nat_lt, ◌==◌, if◌then◌else◌, ℤ, pos, negsuc, neg_ℤ, nat_abs, Option, Some, None, option_and_then}
 
 -- whether each of the lowest n digits of the word is a decimal digit, 0 to 9

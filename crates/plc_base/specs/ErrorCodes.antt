@@ -1,5 +1,5 @@
--- The codes of synchronous errors. Where an error of reading has another code than that of writing, the
--- code of writing is the next one.
+-- The codes of synchronous errors. Where an error of reading has another code than that of writing,
+-- the code of writing is the next one.
 use Rattle.std.specs.Prelude.{ℕ}
 
 -- a BCD digit above 9, or a sign that is none

@@ -58,8 +58,8 @@ is_same_kind kind.Udt = is_data_type
 abbrev pub is_same_block : BlockId → BlockId → Bool
 is_same_block a b = is_same_kind a.kind b.kind && nat_eq a.number b.number
 
--- the number of a kind of code in images and in start information: 1 OB, 2 FC, 3 FB, and 5 SFC, a kind
--- of calls alone; 0 for DB and UDT, which have no code
+-- the number of a kind of code in images and in start information: 1 OB, 2 FC, 3 FB, and 5 SFC, a
+-- kind of calls alone; 0 for DB and UDT, which have no code
 abbrev pub kind_number : BlockKind → ℕ
 kind_number kind.Ob = 1
 kind_number kind.Fc = 2

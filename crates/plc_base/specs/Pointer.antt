@@ -1,5 +1,5 @@
--- An area-crossing pointer: the bit in bits 0 to 2, the byte in bits 3 to 18, the area in bits 24 to
--- 26, and bit 31 set. The other bits mean nothing.
+-- An area-crossing pointer: the bit in bits 0 to 2, the byte in bits 3 to 18, the area in bits 24
+-- to 26, and bit 31 set. The other bits mean nothing.
 use Rattle.std.specs.Prelude.{ℕ, ◌+◌, ◌*◌, ◌/◌, ◌%◌, ◌^◌, ◌==◌, if◌then◌else◌, Option, Some, None, option_map}
 use Rattle.plc_base.specs.declared.places.Area.{Area}
 use Rattle.plc_base.specs.declared.places.Area.TheVariants.{P, I, Q, M, Db, Di, L}
@@ -27,12 +27,18 @@ area_numbered number =
     else if number == 6 then Some L
     else None
 
--- the place that an area-crossing pointer names, with data block number 0; none where bit 31 is 0 or
--- the area number is 7
+-- the place that an area-crossing pointer names, with data block number 0; none where bit 31 is 0
+-- or the area number is 7
 unfoldable pub place_at_pointer : ℕ → Option Place
 place_at_pointer pointer =
     if pointer / 2 ^ 31 % 2 == 1
-    then option_map (λ area. record { area = area; number = 0; byte = pointer / 2 ^ 3 % 2 ^ 16; bit = pointer % 2 ^ 3 })
+    then option_map
+    (λ area. record {
+      area = area;
+      number = 0;
+      byte = pointer / 2 ^ 3 % 2 ^ 16;
+      bit = pointer % 2 ^ 3;
+    })
     (area_numbered (pointer / 2 ^ 24 % 8))
     else None
 

@@ -1,5 +1,5 @@
--- S5TIME, the time value of STEP 7: three BCD digits that count units of a time base, and the number
--- of that base, 0 to 3, in bits 12 and 13. Bits 14 and 15 mean nothing.
+-- S5TIME, the time value of STEP 7: three BCD digits that count units of a time base, and the
+-- number of that base, 0 to 3, in bits 12 and 13. Bits 14 and 15 mean nothing.
 use Rattle.std.specs.Prelude.{ℕ, ◌+◌, ◌*◌, ◌/◌, ◌%◌, ◌^◌, nat_le, ◌==◌, if◌then◌else◌, List, [], ◌∷◌, find, Option, option_map}
 use Rattle.plc_base.specs.Bcd.{bcd_digits, unsigned_of_bcd}
 use Rattle.plc_base.specs.declared.s5times.TimeBase.{TimeBase}
@@ -48,4 +48,5 @@ s5time_of_ms ms = option_map (λ base. s5time_of_units base (ms / unit_of base))
 
 -- the milliseconds of an S5TIME; none where a digit is above 9
 unfoldable pub ms_of_s5time : ℕ → Option ℕ
-ms_of_s5time word = option_map (λ units. units * unit_of (base_of_s5time word)) (unsigned_of_bcd 3 word)
+ms_of_s5time word =
+    option_map (λ units. units * unit_of (base_of_s5time word)) (unsigned_of_bcd 3 word)

@@ -3,7 +3,8 @@ use Rattle.std.specs.Prelude.{ℕ}
 use Rattle.plc_base.specs.declared.places.Width.{Width}
 use Rattle.plc_base.specs.declared.places.Width.TheVariants.{Bit, Byte, Word, Dword}
 
--- how many bytes an operand lies in: a byte, a word of two, a double word of four; a bit lies in one
+-- how many bytes an operand lies in: a byte, a word of two, a double word of four; a bit lies in
+-- one
 abbrev pub byte_count : Width → ℕ
 byte_count Bit = 1
 byte_count Byte = 1

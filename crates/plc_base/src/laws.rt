@@ -1,4 +1,5 @@
-//! Laws of the definitions that contracts cite: each function does nothing, and its contract is the law.
+//! Laws of the definitions that contracts cite: each function does nothing, and its contract is the
+//! law.
 
 ghost use Rattle.std.specs.Prelude.{◌≡◌, ◌≤◌, ◌*◌, ◌/◌, List, [], None, Some, nat_abs, option_and_then};
 ghost use Rattle.plc_base.specs.Bcd.{signed_of_bcd, bcd_of_signed};
@@ -34,7 +35,8 @@ pub fn place_and_back(place: &Place)
 /// A time comes back from its S5TIME, cut down to whole units of its base.
 pub fn ms_and_back(ms: u32, base: TimeBase)
     requires { smallest_base ms ≡ Some base }
-    ensures { option_and_then ms_of_s5time (s5time_of_ms ms) ≡ Some (ms / unit_of base * unit_of base) }
+    ensures { option_and_then ms_of_s5time (s5time_of_ms ms)
+        ≡ Some (ms / unit_of base * unit_of base) }
 {}
 
 /// The least refusal of a list is one of the list, and none of the list comes before it; only the

@@ -91,7 +91,8 @@ pub fn s5time_of_ms(ms: u32) -> Result<u16, TooLong>
 /// `BadBcd` exactly where one of its three digits is above 9.
 #[tactic(auto, unfolding(crate::specs::S5Time::ms_of_s5time))]
 pub fn ms_of_s5time(word: u16) -> Result<u32, BadBcd>
-    ensures value { MatchResult result (λ ms. ms_of_s5time word ≡ Some ms) (λ _. ms_of_s5time word ≡ None) }
+    ensures value { MatchResult result (λ ms. ms_of_s5time word ≡ Some ms)
+        (λ _. ms_of_s5time word ≡ None) }
     ensures bound { IfOk result (λ ms. ms ≤ 999 * unit_of (base_of_s5time word)) }
 {
     match bcd_to_unsigned(u32::from(word), 3) {

@@ -25,10 +25,13 @@ is_next_to_fail calls = list_any (λ n. n == next_count calls.made) calls.failin
 
 -- the calls after one more, which failed or didn't
 abbrev pub after_call : Calls → Bool → Calls
-after_call calls failed =
-    record calls { made = next_count calls.made; failed = (if failed then next_count calls.failed else calls.failed) }
+after_call calls failed = record calls {
+  made = next_count calls.made;
+  failed = (if failed then next_count calls.failed else calls.failed);
+}
 
--- what a read of a file in memory from place `at` on into `room` bytes answers, where the call is to fail or not
+-- what a read of a file in memory from place `at` on into `room` bytes answers, where the call is
+-- to fail or not
 abbrev pub read_answer : Bool → Option (List ℕ) → ℕ → ℕ → Result ℕ IoFault
 read_answer true file at room = Err Failed
 read_answer false None at room = Err Failed

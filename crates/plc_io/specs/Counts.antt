@@ -1,4 +1,5 @@
--- Counts of failed calls. Counts by name are functions of the name, so that an outside may keep one for each file or one for all.
+-- Counts of failed calls. Counts by name are functions of the name, so that an outside may keep one
+-- for each file or one for all.
 use Rattle.std.specs.Prelude.{◌≡◌, ℕ, ◌+◌, ◌-◌, ◌^◌, ◌≤◌, min, List, Ok, Err, Result}
 use Rattle.plc_io.specs.declared.faults.IoFault.{IoFault}
 use Rattle.plc_io.specs.declared.faults.IoFault.TheVariants.{Failed, NoMemory}
@@ -11,7 +12,7 @@ last_count = 2 ^ 64 - 1
 abbrev pub CountRose : ℕ → ℕ → Type 0
 CountRose before now = min (before + 1) last_count ≤ now
 
--- no count changed
+-- each name has the count that it had before
 abbrev pub SameCounts : (List ℕ → ℕ) → (List ℕ → ℕ) → Type 0
 SameCounts before now = (name : List ℕ) → now name ≡ before name
 
@@ -19,10 +20,13 @@ SameCounts before now = (name : List ℕ) → now name ≡ before name
 abbrev pub NoCountFell : (List ℕ → ℕ) → (List ℕ → ℕ) → Type 0
 NoCountFell before now = (name : List ℕ) → before name ≤ now name
 
--- what a call on the file `name` leaves of the counts by name: a failed one raised this name's count, and every other raised none
-abbrev pub CountsFailureByName : {X : Type 0} → (List ℕ → ℕ) → (List ℕ → ℕ) → List ℕ → Result X IoFault → Type 0
+-- what a call on the file `name` leaves of the counts by name: a failed one raised this name's
+-- count, and every other raised none
+abbrev pub CountsFailureByName :
+    {X : Type 0} → (List ℕ → ℕ) → (List ℕ → ℕ) → List ℕ → Result X IoFault → Type 0
 CountsFailureByName before now name (Ok x) = SameCounts before now
-CountsFailureByName before now name (Err Failed) = NoCountFell before now × CountRose (before name) (now name)
+CountsFailureByName before now name (Err Failed) =
+    NoCountFell before now × CountRose (before name) (now name)
 CountsFailureByName before now name (Err NoMemory) = SameCounts before now
 
 -- what a call leaves of a single count: a failed one raised it, and every other didn't

@@ -11,7 +11,8 @@ bytes_of files name = option_map (λ f. f.1) (find (λ f. bytes_eq f.0 name) fil
 -- the files with these bytes under this name: in place of those that stood there, else at the end
 abbrev pub with_file : List (List ℕ × List ℕ) → List ℕ → List ℕ → List (List ℕ × List ℕ)
 with_file [] name bytes = (name, bytes) ∷ []
-with_file (f ∷ fs) name bytes = if bytes_eq f.0 name then (f.0, bytes) ∷ fs else f ∷ with_file fs name bytes
+with_file (f ∷ fs) name bytes =
+    if bytes_eq f.0 name then (f.0, bytes) ∷ fs else f ∷ with_file fs name bytes
 
 -- what such files hold is told, name by name
 abbrev pub contents_of : List (List ℕ × List ℕ) → Contents
@@ -30,10 +31,14 @@ abbrev pub EachNameOnce : List (List ℕ × List ℕ) → Type 0
 EachNameOnce [] = Unit {0}
 EachNameOnce (f ∷ fs) = (bytes_of fs f.0 ≡ None) × EachNameOnce fs
 
--- what files show that tell these contents, with one count of failed reads and one of failed writes for all names
+-- what files show that tell these contents, with one count of failed reads and one of failed writes
+-- for all names
 abbrev pub told_files : Contents → (failed_reads failed_writes : ℕ) → FilesAt
-told_files contents failed_reads failed_writes =
-    record { contents = contents; failed_reads = for_every_name failed_reads; failed_writes = for_every_name failed_writes }
+told_files contents failed_reads failed_writes = record {
+  contents = contents;
+  failed_reads = for_every_name failed_reads;
+  failed_writes = for_every_name failed_writes;
+}
 
 -- files given by names and bytes, as an outside in memory shows them
 abbrev pub memory_files : List (List ℕ × List ℕ) → (failed_reads failed_writes : ℕ) → FilesAt

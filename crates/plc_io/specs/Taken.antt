@@ -27,7 +27,9 @@ TookOffer before after bytes (Ok n) = TookFront before after bytes n
 TookOffer before after bytes (Err fault) = after.taken ≡ before.taken
 
 -- a piece was offered, with this result
-pub record OfferedPiece (before after : SinkAt) (bytes : List ℕ) (result : Result ℕ IoFault) : Type 0 where
+pub record OfferedPiece
+    (before after : SinkAt) (bytes : List ℕ) (result : Result ℕ IoFault)
+    : Type 0 where
   -- the sink took as many of the first bytes as the result tells, none where it is an error
   pub taken : TookOffer before after bytes result
   -- where the result is `Failed`, the count of failed pushes rose; else it stays
@@ -39,7 +41,9 @@ TookText before after text (Ok x) = TookBytes before after text
 TookText before after text (Err fault) = TookPrefix before after text
 
 -- a text was written, with this result
-pub record WroteText {X : Type 0} (before after : SinkAt) (text : List ℕ) (result : Result X IoFault) : Type 0 where
+pub record WroteText
+    {X : Type 0} (before after : SinkAt) (text : List ℕ) (result : Result X IoFault)
+    : Type 0 where
   -- the sink took the whole text, or some of its first bytes where the result is an error
   pub taken : TookText before after text result
   -- where the result is `Failed`, the count of failed pushes rose; else it stays

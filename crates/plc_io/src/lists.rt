@@ -110,7 +110,8 @@ impl NamedFiles {
         self.files.as_slice()
     }
 
-    /// Puts `bytes` under `name`, in place of those that stand there. Without memory nothing changes.
+    /// Puts `bytes` under `name`, in place of those that stand there. Without memory nothing
+    /// changes.
     pub fn put(&mut self, name: &str, bytes: &[u8]) -> Result<(), NoMemory>
         ensures ok { OnOk result (self.new ≡ with_file self.old name.now bytes.now) }
         ensures err { OnErr result (self.new ≡ self.old) }

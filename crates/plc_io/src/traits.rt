@@ -21,8 +21,8 @@ pub trait Files {
         ensures reads { IfOk result (ReadsFrom (shown self.old).contents name.now at into.new) }
         ensures leaves { LeavesRead (shown self.old) (shown self.new) name.now result };
 
-    /// Makes `bytes` the whole contents of the file. After a failure the file holds what it held, or
-    /// the first of `bytes`. No other file changes.
+    /// Makes `bytes` the whole contents of the file. After a failure the file holds what it held,
+    /// or the first of `bytes`. No other file changes.
     fn write_whole(&mut self, name: &str, bytes: &[u8]) -> Result<(), IoFault>
         ensures { LeavesWritten (shown self.old) (shown self.new) name.now bytes.now result };
 }

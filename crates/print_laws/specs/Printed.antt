@@ -18,4 +18,5 @@ pub record IsPrintable (t : Tree) : Type 0 where
 -- the text of a printable tree has tokens, and these have that tree
 abbrev pub ArePrintedSourcesRead : Type 0
 ArePrintedSourcesRead =
-    (t : Tree) → IsPrintable t → (tokens : List Token) × AreTokens (printed_text t) tokens × IsTree (printed_text t) tokens t
+    (t : Tree) → IsPrintable t
+    → (tokens : List Token) × AreTokens (printed_text t) tokens × IsTree (printed_text t) tokens t

@@ -135,15 +135,18 @@ IsAddressRegister register = (register ≡ 1) ⊎ (register ≡ 2)
 -- the operands of a listing that stand behind any instruction but jumps, calls and OPN
 abbrev pub IsPrintedOperand : Operand → Type 0
 IsPrintedOperand operand.Nothing = Unit {0}
-IsPrintedOperand (operand.Direct name area w byte bit) = IsBlockOf name area × IsArea area w × IsNumber byte × IsBitOf w bit
+IsPrintedOperand (operand.Direct name area w byte bit) =
+    IsBlockOf name area × IsArea area w × IsNumber byte × IsBitOf w bit
 IsPrintedOperand (operand.Timer n) = IsNumber n
 IsPrintedOperand (operand.Counter n) = IsNumber n
 IsPrintedOperand (operand.Named (head.Local name) []) = is_word name ≡ true
-IsPrintedOperand (operand.ByMemory area w from byte) = IsArea area w × (holds_pointer from ≡ true) × IsNumber byte
+IsPrintedOperand (operand.ByMemory area w from byte) =
+    IsArea area w × (holds_pointer from ≡ true) × IsNumber byte
 IsPrintedOperand (operand.NumberBy what from byte) = (holds_pointer from ≡ true) × IsNumber byte
 IsPrintedOperand (operand.ByRegister area w register bits) =
     IsAreaOf area w × IsAddressRegister register × (bits < 8 * 65536)
-IsPrintedOperand (operand.Pointer area byte bit) = IsAreaOf area width.Bit × IsNumber byte × (bit ≤ 7)
+IsPrintedOperand (operand.Pointer area byte bit) =
+    IsAreaOf area width.Bit × IsNumber byte × (bit ≤ 7)
 IsPrintedOperand (operand.Constant value) = IsPrintedLiteral value
 IsPrintedOperand (operand.OfStatus flag) = Unit {0}
 IsPrintedOperand (operand.Other name) = IsRegister name
@@ -151,7 +154,8 @@ IsPrintedOperand _ = ⊥
 
 -- the operands that are passed for a parameter: a direct address, an own parameter or a constant
 abbrev pub IsPassedOperand : Operand → Type 0
-IsPassedOperand (operand.Direct name area w byte bit) = IsPrintedOperand (operand.Direct name area w byte bit)
+IsPassedOperand (operand.Direct name area w byte bit) =
+    IsPrintedOperand (operand.Direct name area w byte bit)
 IsPassedOperand (operand.Named (head.Local name) []) = is_word name ≡ true
 IsPassedOperand (operand.Constant value) = IsPrintedLiteral value
 IsPassedOperand _ = ⊥
@@ -276,7 +280,8 @@ IsCountOf (Some n) = IsNumber n
 abbrev pub IsPrintedInit : Init → Type 0
 IsPrintedInit i = IsCountOf i.count × IsByteLiteral i.value
 
--- a type of a listing: an elementary one without initial values, or an array of one with bytes as its values
+-- a type of a listing: an elementary one without initial values, or an array of one with bytes as
+-- its values
 abbrev pub IsPrintedType : List Bounds → ElementType → List Init → Type 0
 IsPrintedType [] (element.Plain k) init = init ≡ []
 IsPrintedType (b ∷ []) (element.Plain k) init =
@@ -289,7 +294,8 @@ pub record IsPrintedDeclaration (d : Declaration) : Type 0 where
   pub name : IsNonKeywordName d.name
   -- the declaration stands in no structure
   pub level : d.level ≡ 0
-  -- the type is an elementary one without initial values, or an array of one with bytes as its values
+  -- the type is an elementary one without initial values, or an array of one with bytes as its
+  -- values
   pub type : IsPrintedType d.of.arrays d.of.of d.init
 
 -- a declaration of a listing in a section that a block of this kind may have it in; a parameter has
@@ -354,9 +360,11 @@ pub record IsCodeBlock (b : Block) : Type 0 where
 
 -- what a data block holds: a structure with its components, or the instance of a function block
 -- with its settings
-abbrev pub IsPrintedDataShape : Option TypeTree → List Declaration → Option BlockName → List Setting → Type 0
+abbrev pub IsPrintedDataShape :
+    Option TypeTree → List Declaration → Option BlockName → List Setting → Type 0
 IsPrintedDataShape (Some of_) components None settings =
-    (of_ ≡ record { arrays = []; of = element.Structure }) × AllByRecursion IsPrintedDeclaration components × (settings ≡ [])
+    (of_ ≡ record { arrays = []; of = element.Structure })
+    × AllByRecursion IsPrintedDeclaration components × (settings ≡ [])
 IsPrintedDataShape None components (Some name) settings =
     IsFunctionBlock name × (components ≡ []) × AllByRecursion IsPrintedSetting settings
 IsPrintedDataShape _ components instance settings = ⊥
@@ -414,5 +422,6 @@ pub record HasPrintedForms (t : Tree) : Type 0 where
 -- tokens that show the pieces of such a tree are read as it
 abbrev pub ArePrintedTreesRead : Type 0
 ArePrintedTreesRead =
-    (source : List ℕ) (t : Tree) → HasPrintedForms t → ShowPieces source (pieces_of_tree t) (tokens_of 0 1 (pieces_of_tree t))
+    (source : List ℕ) (t : Tree) → HasPrintedForms t
+    → ShowPieces source (pieces_of_tree t) (tokens_of 0 1 (pieces_of_tree t))
     → IsTree source (tokens_of 0 1 (pieces_of_tree t)) t

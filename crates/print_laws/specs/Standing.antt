@@ -35,7 +35,8 @@ use Rattle.stl_print.specs.Trees.{end_of_text, pieces_of_tree, printed_text}
 
 -- a name: a word, but not the one that begins a title
 abbrev pub IsNonTitleName : List ℕ → Type 0
-IsNonTitleName name = (is_word name ≡ true) × (str_eq_ignore_ascii_case (codes "TITLE") name ≡ false)
+IsNonTitleName name =
+    (is_word name ≡ true) × (str_eq_ignore_ascii_case (codes "TITLE") name ≡ false)
 
 -- a block is given by its number, not by a quoted name
 abbrev pub IsNumberedBlock : BlockName → Type 0
@@ -80,13 +81,15 @@ IsPrintableLiteral (literal.Bytes bytes) = ⊥
 -- an operand has no quoted name, and numbers that a source can write
 abbrev pub IsPrintableOperand : Operand → Type 0
 IsPrintableOperand operand.Nothing = Unit {0}
-IsPrintableOperand (operand.Direct name area w byte bit) = IsNumberedOrNone name × IsNumber byte × IsNumber bit
+IsPrintableOperand (operand.Direct name area w byte bit) =
+    IsNumberedOrNone name × IsNumber byte × IsNumber bit
 IsPrintableOperand (operand.Timer number) = IsNumber number
 IsPrintableOperand (operand.Counter number) = IsNumber number
 IsPrintableOperand (operand.Named path steps) = IsPrintableHead path × ArePrintableSteps steps
 IsPrintableOperand (operand.ByMemory area w from byte) = IsNumber byte
 IsPrintableOperand (operand.NumberBy what from byte) = IsNumber byte
-IsPrintableOperand (operand.ByRegister area w register bits) = IsNumber register × (bits < 8 * 65536)
+IsPrintableOperand (operand.ByRegister area w register bits) =
+    IsNumber register × (bits < 8 * 65536)
 IsPrintableOperand (operand.Pointer area byte bit) = IsNumber byte × IsNumber bit
 IsPrintableOperand (operand.Constant value) = IsPrintableLiteral value
 IsPrintableOperand (operand.Label name) = IsNonTitleName name
@@ -106,7 +109,9 @@ IsPrintableLabel (Some name) = IsNonTitleName name
 
 -- the label, the operand and the actual parameters of a statement are printable
 abbrev pub IsPrintableStatement : Statement → Type 0
-IsPrintableStatement s = IsPrintableLabel s.label × IsPrintableOperand s.operand × AllByRecursion IsPrintableActual s.actuals
+IsPrintableStatement s =
+    IsPrintableLabel s.label × IsPrintableOperand s.operand
+    × AllByRecursion IsPrintableActual s.actuals
 
 -- the type of an element is printable: a user-defined one is given by its number
 abbrev pub IsPrintableElement : ElementType → Type 0
@@ -120,7 +125,8 @@ IsPrintableInit i = IsCount i.count × IsPrintableLiteral i.value
 -- a declaration has a name, bounds that a source can write, and a printable type and initial values
 abbrev pub IsPrintableDeclaration : Declaration → Type 0
 IsPrintableDeclaration d =
-    IsNonTitleName d.name × AllByRecursion AreBounds d.of.arrays × IsPrintableElement d.of.of × AllByRecursion IsPrintableInit d.init
+    IsNonTitleName d.name × AllByRecursion AreBounds d.of.arrays × IsPrintableElement d.of.of
+    × AllByRecursion IsPrintableInit d.init
 
 -- each declaration of a section is printable
 abbrev pub IsPrintablePart : Part → Type 0
@@ -161,7 +167,9 @@ HasPrintableTokens t = AllByRecursion IsPrintableBlock t.blocks
 -- each token of a printable tree stands where it is printed: it is the longest there, and breaks no
 -- rule
 abbrev pub DoTokensStand : Type 0
-DoTokensStand = (t : Tree) → HasPrintableTokens t → ArePiecesStanding false (pieces_of_tree t) (end_of_text t.blocks)
+DoTokensStand =
+    (t : Tree) → HasPrintableTokens t
+    → ArePiecesStanding false (pieces_of_tree t) (end_of_text t.blocks)
 
 -- the text of a printable tree has just the tokens that are printed, with their kinds and bytes
 abbrev pub ArePrintedTokens : Type 0

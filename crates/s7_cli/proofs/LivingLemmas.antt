@@ -6,7 +6,7 @@ use Rattle.image_file.specs.Loaded.{LoadedProgram}
 use Rattle.var_access.specs.declared.Entry.{Entry}
 use Rattle.controller.specs.Recording.{Recording}
 use Rattle.tracked_lock.specs.Passes.{PassView, LockView, missing_number_count, fresh_pass, fresh_passes}
-use Rattle.tracked_lock.specs.Views.{IsMadeOf, HoldsForEach, times}
+use Rattle.tracked_lock.specs.Views.{AreEntriesByMaker, HoldsForEach, times}
 use Rattle.tracked_lock.specs.declared.views.Made.{Made}
 use Rattle.station.specs.Closing.{IsGivenBack}
 use Rattle.station.specs.Openings.{the_opening}
@@ -54,8 +54,8 @@ module _ (s : LockView Opening) (steps : ℕ) (stimuli : List Entry) (scripts : 
     of_all : HoldsForEach (λ (e : Entry). 0 < times e.who all_made) back.story
     of_all = subst (λ ms. HoldsForEach (λ (e : Entry). 0 < times e.who ms) back.story) h.made back.all
 
-    story_made : IsMadeOf (λ (e : Entry). e.who) back.story all_made
-    story_made = subst (IsMadeOf (λ (e : Entry). e.who) back.story) h.made back.made
+    story_made : AreEntriesByMaker (λ (e : Entry). e.who) back.story all_made
+    story_made = subst (AreEntriesByMaker (λ (e : Entry). e.who) back.story) h.made back.made
 
     story_few : length back.story ≤ steps + length stimuli + total_length scripts
     story_few = omega (arith, few_made all_made back.story of_all story_made, begun_few s 1 lists h.others h.begun, length-replicate h.count (step_entry_by 1), h.few)
@@ -68,13 +68,13 @@ module _ (s : LockView Opening) (steps : ℕ) (stimuli : List Entry) (scripts : 
         absurd (omega (arith, knows, few, story_few, ap (λ (o : Opening). length o.first) opening, ap length back.begins.1, length-append r.seen back.begins.0))
 
     -- the history is a live history
-    pub lived : IsMadeOf (λ e. e.who) r.seen r.made → whole ≡ true → IsLive loaded steps stimuli scripts c.history
+    pub lived : AreEntriesByMaker (λ e. e.who) r.seen r.made → whole ≡ true → IsLive loaded steps stimuli scripts c.history
     lived agrees ok =
         let o : Opening = the_opening s.origin in
         let story : List Entry = back.story in
         let later : List Entry = back.begins.0 in
         let history : c.history ≡ story = back.history ∙ ap (λ (x : Opening). x.first ++ story) opening in
-        let was : entries_of_worker 1 r.seen ≡ replicate h.count (step_entry_by 1) = (subst (IsMadeOf (λ (e : Entry). e.who) r.seen) h.made agrees).0 in
+        let was : entries_of_worker 1 r.seen ≡ replicate h.count (step_entry_by 1) = (subst (AreEntriesByMaker (λ (e : Entry). e.who) r.seen) h.made agrees).0 in
         let none : entries_of_worker 1 later ≡ [] = none_came 1 r.seen later story back.begins.1 (omega (arith, ap length story_made.0, ap length was)) in
         subst (IsLive loaded steps stimuli scripts) (sym history) record {
           count = h.count;
@@ -82,7 +82,7 @@ module _ (s : LockView Opening) (steps : ℕ) (stimuli : List Entry) (scripts : 
           stepper = story_made.0;
           runs = subst (λ (x : Opening). RunsBefore 1 x 1 story) opening (subst (RunsBefore 1 o 1) back.begins.1 (runs_on 1 o 1 r.seen later none h.runs));
           ends = ⊎_elim (λ t. inl t) (λ t. inr (subst (λ (x : Opening). EndsInStop x 1 story) opening (subst (EndsInStop o 1) back.begins.1 (ends_on o 1 r.seen later none t)))) (h.ends ok);
-          others = stand_in s 1 lists story (subst (IsMadeOf (λ (e : Entry). e.who) story) (h.all ok) story_made.1);
+          others = stand_in s 1 lists story (subst (AreEntriesByMaker (λ (e : Entry). e.who) story) (h.all ok) story_made.1);
           workers = All-from_recursion (λ (e : Entry). (1 ≤ e.who) × (e.who ≤ 2 + length scripts)) story
               (all_of_each (λ (e : Entry). 0 < times e.who all_made) (λ (e : Entry). (1 ≤ e.who) × (e.who ≤ 2 + length scripts)) story
               (λ e t. let k = is_numbered 0 e.who all_made numbered t in (omega (arith, k.0), omega (arith, k.1, many))) of_all);

@@ -5,7 +5,7 @@ use Rattle.std.proofs.lemmas.Bool.Decides.{nat_tests}
 use mathlib.Core.List.{IsPrefix}
 use Rattle.var_access.specs.declared.Entry.{Entry}
 use Rattle.tracked_lock.specs.Passes.{LockView, missing_number_count, fresh_pass, fresh_passes}
-use Rattle.tracked_lock.specs.Views.{IsMadeOf, HoldsForEach, times}
+use Rattle.tracked_lock.specs.Views.{AreEntriesByMaker, HoldsForEach, times}
 use Rattle.tracked_lock.specs.declared.views.Made.{Made}
 use Rattle.station.specs.declared.shared.Opening.{Opening}
 use Rattle.s7_cli.specs.Living.{AreRegularBy, StandInHistory, total_length}
@@ -112,15 +112,15 @@ few_of : (ms : List (Made Entry)) (es : List Entry) → HoldsForEach (λ (e : En
 few_of ms [] h = omega arith
 few_of ms (e ∷ es) h = omega (arith, tally_more ms e es, few_of ms es h.1, h.0)
 
-tally_is : (ms : List (Made Entry)) (es : List Entry) → IsMadeOf (λ (e : Entry). e.who) es ms → tally ms es ≡ made_count ms
+tally_is : (ms : List (Made Entry)) (es : List Entry) → AreEntriesByMaker (λ (e : Entry). e.who) es ms → tally ms es ≡ made_count ms
 tally_is [] es h = refl
 tally_is (m ∷ ms) es h = omega (arith, ap length h.0, tally_is ms es h.1)
 
 -- a list of entries of these numbers has no more than were made under them
-pub few_made : (ms : List (Made Entry)) (es : List Entry) → HoldsForEach (λ (e : Entry). 0 < times e.who ms) es → IsMadeOf (λ (e : Entry). e.who) es ms → length es ≤ made_count ms
+pub few_made : (ms : List (Made Entry)) (es : List Entry) → HoldsForEach (λ (e : Entry). 0 < times e.who ms) es → AreEntriesByMaker (λ (e : Entry). e.who) es ms → length es ≤ made_count ms
 few_made ms es all made = omega (arith, few_of ms es all, tally_is ms es made)
 
-pub stand_in : (s : LockView Opening) (k : ℕ) (xs : List (List Entry)) (es : List Entry) → IsMadeOf (λ (e : Entry). e.who) es (passes_made_whole (fresh_passes s k (length xs)) xs)
+pub stand_in : (s : LockView Opening) (k : ℕ) (xs : List (List Entry)) (es : List Entry) → AreEntriesByMaker (λ (e : Entry). e.who) es (passes_made_whole (fresh_passes s k (length xs)) xs)
     → StandInHistory (suc k) xs es
 stand_in s k [] es h = tt
 stand_in s k (x ∷ xs) es h = (h.0, stand_in s (suc k) xs es h.1)

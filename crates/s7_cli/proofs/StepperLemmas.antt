@@ -6,7 +6,7 @@ use Rattle.plc_base.specs.declared.Mode.{Mode}
 use Rattle.var_access.specs.declared.Entry.{Entry}
 use Rattle.controller.specs.State.{is_stop}
 use Rattle.tracked_lock.specs.Passes.{PassView, LockView}
-use Rattle.tracked_lock.specs.Views.{IsMadeOf, made_more}
+use Rattle.tracked_lock.specs.Views.{AreEntriesByMaker, made_more}
 use Rattle.tracked_lock.specs.declared.views.Made.{Made}
 use Rattle.station.specs.Openings.{mode_at, the_opening}
 use Rattle.station.specs.Turns.{HasMade, HasMadeNone}
@@ -102,7 +102,7 @@ pub record StillRuns (s : LockView Opening) (who count : ℕ) (p : PassView Open
   pub out : p.out ≡ false
   pub number_is : p.number ≡ who
   pub made : p.made ≡ record { number = who; entries = replicate count (step_entry_by who) } ∷ []
-  pub agrees : IsMadeOf (λ e. e.who) p.seen p.made
+  pub agrees : AreEntriesByMaker (λ e. e.who) p.seen p.made
   pub runs : RunsBefore 0 (the_opening s.origin) who p.seen
 
 pub runs_first : (s : LockView Opening) (p : PassView Opening Entry) → IsFresh s p → StillRuns s p.number 0 p
@@ -112,7 +112,7 @@ runs_first s p h = record {
   number_is = refl;
   made = h.made;
   agrees = h.agrees;
-  runs = runs_on 0 (the_opening s.origin) p.number [] p.seen (subst (IsMadeOf (λ (e : Entry). e.who) p.seen) h.made h.agrees).0 (runs_none (the_opening s.origin) p.number);
+  runs = runs_on 0 (the_opening s.origin) p.number [] p.seen (subst (AreEntriesByMaker (λ (e : Entry). e.who) p.seen) h.made h.agrees).0 (runs_none (the_opening s.origin) p.number);
 }
 
 pub stepped_whole : (s : LockView Opening) (who count : ℕ) (p : PassView Opening Entry) → StillRuns s who count p → HasStepped s who count p true
@@ -132,7 +132,7 @@ abbrev SamePass : PassView Opening Entry → PassView Opening Entry → Type 0
 SamePass p q = q ≡ record p { seen = q.seen; made = q.made }
 
 -- a turn
-module _ (s : LockView Opening) (who count : ℕ) (p q : PassView Opening Entry) (h : StillRuns s who count p) (same : SamePass p q) (knows : IsMadeOf (λ (e : Entry). e.who) q.seen q.made) where
+module _ (s : LockView Opening) (who count : ℕ) (p q : PassView Opening Entry) (h : StillRuns s who count p) (same : SamePass p q) (knows : AreEntriesByMaker (λ (e : Entry). e.who) q.seen q.made) where
   abbrev o : Opening
   o = the_opening s.origin
 
@@ -140,7 +140,7 @@ module _ (s : LockView Opening) (who count : ℕ) (p q : PassView Opening Entry)
   made = replicate count (step_entry_by who)
 
   was : entries_of_worker who p.seen ≡ made
-  was = (subst (IsMadeOf (λ (e : Entry). e.who) p.seen) h.made h.agrees).0
+  was = (subst (AreEntriesByMaker (λ (e : Entry). e.who) p.seen) h.made h.agrees).0
 
   lock : q.lock ≡ s
   lock = ap (λ (r : PassView Opening Entry). r.lock) same ∙ h.lock
@@ -151,7 +151,7 @@ module _ (s : LockView Opening) (who count : ℕ) (p q : PassView Opening Entry)
   -- it was refused
   pub stepped_till : (steps : ℕ) (f : StationFault) → HasMadeNone p q f → count ≤ steps → HasStepped s who steps q false
   stepped_till steps f t few =
-      let is : entries_of_worker who q.seen ≡ made = (subst (IsMadeOf (λ (e : Entry). e.who) q.seen) (t.made ∙ h.made) knows).0 in
+      let is : entries_of_worker who q.seen ≡ made = (subst (AreEntriesByMaker (λ (e : Entry). e.who) q.seen) (t.made ∙ h.made) knows).0 in
       let none = none_came who p.seen t.begins.0 q.seen t.begins.1 (omega (arith, ap length is, ap length was)) in
       record {
         lock = lock;
@@ -178,7 +178,7 @@ module _ (s : LockView Opening) (who count : ℕ) (p q : PassView Opening Entry)
     runs_till : RunsBefore 0 o who before
     runs_till =
         let e : Entry = step_entry_by who in
-        let is : entries_of_worker who q.seen ≡ replicate (count + 1) e = (subst (IsMadeOf (λ (e : Entry). e.who) q.seen) made_now knows).0 in
+        let is : entries_of_worker who q.seen ≡ replicate (count + 1) e = (subst (AreEntriesByMaker (λ (e : Entry). e.who) q.seen) made_now knows).0 in
         let none = none_came who p.seen turn.begins.0 before turn.begins.1
         (omega (arith, ap length is, ap length was, ap (λ l. length (entries_of_worker who l)) turn.ends, count_both who before (e ∷ []), length-replicate (count + 1) e, length-replicate count e, own_counts who [] [] e refl)) in
         subst (RunsBefore 0 o who) turn.begins.1 (runs_on 0 o who p.seen turn.begins.0 none h.runs)

@@ -10,7 +10,7 @@ use Rattle.var_access.specs.declared.Var.{Var}
 use Rattle.controller.specs.Recording.{Recording}
 use Rattle.event_text.specs.Regular.{IsRegularOf}
 use Rattle.tracked_lock.specs.Passes.{PassView, LockView, missing_number_count, fresh_pass, fresh_passes}
-use Rattle.tracked_lock.specs.Views.{IsMadeOf}
+use Rattle.tracked_lock.specs.Views.{AreEntriesByMaker}
 use Rattle.station.specs.Closing.{IsGivenBack}
 use Rattle.station.specs.Openings.{the_opening}
 use Rattle.station.specs.declared.shared.Opening.{Opening}
@@ -161,7 +161,7 @@ module _ (s : LockView Opening) (steps : ℕ) (stimuli : List Entry) (scripts pa
         never_full s steps stimuli lists r whole 6 (front ++ last ∷ []) fresh (lists_many 100 scripts vars few) worked_so begin c starts loaded none_yet back
         outcome knows (omega (arith, room, lists_total 100 scripts vars))
 
-    pub watch_lived : IsMadeOf (λ e. e.who) r.seen r.made → whole ≡ true → IsLive loaded steps stimuli lists c.history
+    pub watch_lived : AreEntriesByMaker (λ e. e.who) r.seen r.made → whole ≡ true → IsLive loaded steps stimuli lists c.history
     watch_lived agrees ok =
         lived s steps stimuli lists r whole 6 (front ++ last ∷ []) fresh (lists_many 100 scripts vars few) worked_so begin c starts loaded none_yet back agrees ok
 

@@ -5,7 +5,7 @@ use mathlib.Core.List.{IsPrefix}
 use Rattle.var_access.specs.declared.Entry.{Entry}
 use Rattle.var_access.specs.declared.Var.{Var}
 use Rattle.tracked_lock.specs.Passes.{PassView, LockView}
-use Rattle.tracked_lock.specs.Views.{IsMadeOf, made_more}
+use Rattle.tracked_lock.specs.Views.{AreEntriesByMaker, made_more}
 use Rattle.tracked_lock.specs.declared.views.Made.{Made}
 use Rattle.tracked_lock.proofs.Prefixes.{prefix_self, prefix_trans}
 use Rattle.station.specs.Openings.{reply_at, the_opening}
@@ -195,9 +195,9 @@ whole_behind (q ∷ ps) (y ∷ xs) (n ∷ ms) p x h =
 
 -- one worker more has worked with one pass more
 pub worked_behind : (s : LockView Opening) (ps : List P) (p a b r : P) (steps : ℕ) (stimuli : List Entry) (scripts : List (List Entry)) (x : List Entry) (first second whole : Bool)
-    → HasWorked s ps steps stimuli scripts a first → IsMadeOf (λ e. e.who) a.seen a.made → HasBegun s p.number x b
+    → HasWorked s ps steps stimuli scripts a first → AreEntriesByMaker (λ e. e.who) a.seen a.made → HasBegun s p.number x b
     → (second ≡ true → b.made ≡ record { number = p.number; entries = x } ∷ []) → r.made ≡ a.made ++ b.made → IsPrefix a.seen r.seen
-    → IsMadeOf (λ e. e.who) r.seen r.made → (whole ≡ true → (first ≡ true) × (second ≡ true))
+    → AreEntriesByMaker (λ e. e.who) r.seen r.made → (whole ≡ true → (first ≡ true) × (second ≡ true))
     → HasWorked s (ps ++ p ∷ []) steps stimuli (scripts ++ x ∷ []) r whole
 worked_behind s [] p a b r steps stimuli scripts x first second whole h known begun full both begins agrees done = absurd h
 worked_behind s (q ∷ ps) p a b r steps stimuli scripts x first second whole h known begun full both begins agrees done =
@@ -207,8 +207,8 @@ worked_behind s (q ∷ ps) p a b r steps stimuli scripts x first second whole h 
     let own : List (Made Entry) = record { number = p.number; entries = begun.done } ∷ [] in
     let made : ◌≡◌ {A = List (Made Entry)} r.made (record { number = who; entries = replicate h.count (step_entry_by who) } ∷ (h.others ++ own)) =
     both ∙ ap (λ (l : List (Made Entry)). l ++ b.made) h.made ∙ ap (λ (l : List (Made Entry)). record { number = who; entries = replicate h.count (step_entry_by who) } ∷ (h.others ++ l)) begun.made in
-    let now : entries_of_worker who r.seen ≡ replicate h.count (step_entry_by who) = (subst (IsMadeOf (λ (e : Entry). e.who) r.seen) made agrees).0 in
-    let was : entries_of_worker who a.seen ≡ replicate h.count (step_entry_by who) = (subst (IsMadeOf (λ (e : Entry). e.who) a.seen) h.made known).0 in
+    let now : entries_of_worker who r.seen ≡ replicate h.count (step_entry_by who) = (subst (AreEntriesByMaker (λ (e : Entry). e.who) r.seen) made agrees).0 in
+    let was : entries_of_worker who a.seen ≡ replicate h.count (step_entry_by who) = (subst (AreEntriesByMaker (λ (e : Entry). e.who) a.seen) h.made known).0 in
     let none : entries_of_worker who z ≡ [] = none_came who a.seen z r.seen begins.1 (omega (arith, ap length now, ap length was)) in record {
       count = h.count;
       few = h.few;

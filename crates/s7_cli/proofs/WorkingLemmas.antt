@@ -4,7 +4,7 @@ use Rattle.std.specs.Result.{result_and}
 use mathlib.Core.List.{IsPrefix}
 use Rattle.var_access.specs.declared.Entry.{Entry}
 use Rattle.tracked_lock.specs.Passes.{PassView, LockView}
-use Rattle.tracked_lock.specs.Views.{IsMadeOf}
+use Rattle.tracked_lock.specs.Views.{AreEntriesByMaker}
 use Rattle.tracked_lock.specs.declared.views.Made.{Made}
 use Rattle.station.specs.Openings.{the_opening}
 use Rattle.station.specs.declared.shared.Opening.{Opening}
@@ -19,7 +19,7 @@ at_ok (Err b) h x = absurd (true≢false (sym h))
 
 pub worked : (s : LockView Opening) (all rest : List (PassView Opening Entry)) (p a b r : PassView Opening Entry) (steps : ℕ) (stimuli : List Entry) (scripts : List (List Entry)) (first whole : Bool)
     → all ≡ p ∷ rest → HasStepped s p.number steps a first → HaveBegun rest (stimuli ∷ scripts) b.made → r.made ≡ a.made ++ b.made
-    → IsPrefix a.seen r.seen → IsMadeOf (λ e. e.who) r.seen r.made
+    → IsPrefix a.seen r.seen → AreEntriesByMaker (λ e. e.who) r.seen r.made
     → (whole ≡ true → (first ≡ true) × (b.made ≡ passes_made_whole rest (stimuli ∷ scripts)))
     → HasWorked s all steps stimuli scripts r whole
 worked s all rest p a b r steps stimuli scripts first whole is h begun both begins agrees done =
@@ -27,8 +27,8 @@ worked s all rest p a b r steps stimuli scripts first whole is h begun both begi
     let z : List Entry = begins.0 in
     let o : Opening = the_opening s.origin in
     let made : ◌≡◌ {A = List (Made Entry)} r.made (record { number = who; entries = replicate h.count (step_entry_by who) } ∷ b.made) = both ∙ ap (λ (l : List (Made Entry)). l ++ b.made) h.made in
-    let now : entries_of_worker who r.seen ≡ replicate h.count (step_entry_by who) = (subst (IsMadeOf (λ (e : Entry). e.who) r.seen) made agrees).0 in
-    let was : entries_of_worker who a.seen ≡ replicate h.count (step_entry_by who) = (subst (IsMadeOf (λ (e : Entry). e.who) a.seen) h.made h.agrees).0 in
+    let now : entries_of_worker who r.seen ≡ replicate h.count (step_entry_by who) = (subst (AreEntriesByMaker (λ (e : Entry). e.who) r.seen) made agrees).0 in
+    let was : entries_of_worker who a.seen ≡ replicate h.count (step_entry_by who) = (subst (AreEntriesByMaker (λ (e : Entry). e.who) a.seen) h.made h.agrees).0 in
     let none : entries_of_worker who z ≡ [] = none_came who a.seen z r.seen begins.1 (omega (arith, ap length now, ap length was)) in
     subst (λ l. HasWorked s l steps stimuli scripts r whole) (sym is) record {
       count = h.count;

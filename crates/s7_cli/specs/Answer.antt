@@ -16,7 +16,9 @@ CallOutcome = Result Unit Failure
 
 -- how a call comes out, with the whole text that goes with it
 pub record CallAnswer : Type 0 where
+  -- how the call comes out: done, or why not
   pub outcome : CallOutcome
+  -- the whole text that goes with the outcome
   pub text : List ℕ
 
 -- the answer of a command that is done, with this text as its result

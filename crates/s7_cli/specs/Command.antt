@@ -4,27 +4,33 @@ use Rattle.stl_symbols.specs.declared.languages.Language.{Language}
 use Rattle.s7_cli.specs.declared.failures.File.{File}
 use Rattle.s7_cli.specs.declared.failures.File.TheVariants.{Source, Translation, Symbols, Image, Listing, History, Stimuli, Vars, Script, Certificate}
 
--- `go SRC HIST` runs a source along a history, `check SRC` checks a source, `compile SRC IMG`
--- writes its image; each with a file of symbols where `--symbols FILE` names one, and with both in
--- German where `--german` says so. `english SRC OUT` and `german SRC OUT` write a source in the
--- other language. `run IMG HIST` runs an image along a history, `gen NUMBER` a program and a
--- history that are made of a number. `live IMG STIM OPS.. --steps N` has several workers run an
--- image, `watch IMG STIM VARS OPS.. --steps N` besides watches variables of it, `upgrade IMG IMG2`
--- writes an image once more, in version 2. `list IMG SRC SYM` writes the source and the symbols
--- file of what an image holds. `bound IMG CERT` writes the certificate of an image, `recheck IMG
--- CERT` checks one
+-- what a call is to do, with the names of its files and its numbers. A source has a file of symbols
+-- where `--symbols FILE` names one, and both are in German where `--german` says so
 pub data Command : Type 0 where
+  -- `go SRC HIST` runs a source along a history
   Go : (source : List ℕ) (symbols : Option (List ℕ)) (german : Bool) (history : List ℕ) → Command
+  -- `check SRC` checks a source
   Check : (source : List ℕ) (symbols : Option (List ℕ)) (german : Bool) → Command
+  -- `compile SRC IMG` writes the image of a source
   Compile : (source : List ℕ) (symbols : Option (List ℕ)) (german : Bool) (image : List ℕ) → Command
+  -- `english SRC OUT` and `german SRC OUT` write a source in this language, out of the other
   Translate : (language : Language) (source translation : List ℕ) → Command
+  -- `run IMG HIST` runs an image along a history
   Run : (image history : List ℕ) → Command
+  -- `gen NUMBER` sums up the run of a program along a history, both made of the number
   Gen : (number : ℕ) → Command
+  -- `live IMG STIM OPS.. --steps N` has several workers run an image
   Live : (image stimuli : List ℕ) (scripts : List (List ℕ)) (steps : ℕ) → Command
+  -- `watch IMG STIM VARS OPS.. --steps N` has several workers run an image, and watches variables
+  -- of it
   Watch : (image stimuli vars : List ℕ) (scripts : List (List ℕ)) (steps : ℕ) → Command
+  -- `upgrade IMG IMG2` writes an image once more, in version 2
   Upgrade : (image upgraded : List ℕ) → Command
+  -- `list IMG SRC SYM` writes the source and the symbols file of what an image holds
   ListImage : (image source symbols : List ℕ) → Command
+  -- `bound IMG CERT` writes the certificate of an image
   Bound : (image certificate : List ℕ) → Command
+  -- `recheck IMG CERT` checks the certificate of an image
   Recheck : (image certificate : List ℕ) → Command
 
 -- a file that a command reads: what it is read as, and its name

@@ -12,7 +12,9 @@ use Rattle.s7_cli.specs.Says.{CommandSays, WritesOutputFile}
 
 -- the sink at the start of a call, and now
 pub record SinkMoments : Type 0 where
+  -- the sink at the start of the call
   pub before : SinkAt
+  -- the sink now
   pub after : SinkAt
 
 -- the sink at these two moments, the start of the call first

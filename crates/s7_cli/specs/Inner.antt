@@ -144,7 +144,9 @@ pub record IsOutput (c : Command) (contents : List (List ℕ)) (name bytes : Lis
 
 -- a file and what is written to it
 pub record WrittenFile : Type 0 where
+  -- the name of the file
   pub name : List ℕ
+  -- the bytes that are written to the file
   pub bytes : List ℕ
 
 -- an output as a file and what is written to it

@@ -21,7 +21,9 @@ IsLongListing p =
 
 -- neither text of the listing of a program is longer than it may be
 pub record IsShortListing (p : Program) : Type 0 where
+  -- the listed source is no longer than a text of a listing may be
   pub source : length (listed_source p) ≤ limit_of Listing
+  -- the listed symbols file is no longer than a text of a listing may be
   pub symbols : length (listed_names p.names) ≤ limit_of Listing
 
 -- the source that is listed of a program compiles to it, with the names that are listed

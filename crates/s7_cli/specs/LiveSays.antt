@@ -16,7 +16,9 @@ use Rattle.s7_cli.specs.Loads.{LoadsAs}
 
 -- a script that is refused: its number, from 1, and why
 pub record RefusedScript : Type 0 where
+  -- the number of the script, from 1
   pub number : ℕ
+  -- the line and the rule by which the script is refused
   pub refusal : Refusal
 
 -- a script that was read, in front of those that follow; the first one that is refused decides

@@ -27,7 +27,9 @@ AreScriptsWithin scripts = AllByRecursion (λ bytes. length bytes ≤ 1048576) s
 
 -- stimuli and scripts aren't longer than they may be, and there are one to four scripts
 pub record IsLiveText (text : LiveText) : Type 0 where
+  -- the stimuli have at most 4,194,304 bytes
   pub stimuli : length text.stimuli.items ≤ 4194304
+  -- each script has at most 1,048,576 bytes
   pub scripts : AreScriptsWithin (scripts_of text)
   -- there is a script
   pub some : 1 ≤ length text.scripts.items

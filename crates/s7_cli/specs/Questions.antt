@@ -27,7 +27,7 @@ question_of words = None
 -- the text of an answer was written with this exit status: whole at 0; a front of it at 6, where
 -- the sink's count of faults rose, and at 7, for want of memory
 pub record AnswerWritten (text : List ℕ) (before after : SinkAt) (code : ℕ) : Type 0 where
-  -- no other status comes
+  -- the status is 0, 6 or 7
   pub statuses : (code ≡ 0) ⊎ (code ≡ 6) ⊎ (code ≡ 7)
   -- at 0 the sink took the whole text
   pub whole : code ≡ 0 → TookBytes before after text

@@ -8,7 +8,9 @@ use Rattle.s7_cli.specs.Command.{Input, limit_of}
 
 -- the files at the start of a call, and now
 pub record Disk : Type 0 where
+  -- the files at the start of the call
   pub before : FilesAt
+  -- the files now
   pub after : FilesAt
 
 -- the files at these two moments, the start of the call first
@@ -61,8 +63,8 @@ pub record IsFileThere (c : Contents) (i : Input) (bytes : List ℕ) : Type 0 wh
   -- they are no more than the limit of such a file
   pub within : length bytes ≤ limit_of i.file
 
--- the answer is one that files whose contents are known allow where no read fails: the first that is
--- absent or too long ends the reading, else `says` has the answer of the contents of all
+-- the answer is one that files whose contents are known allow where no read fails: the first that
+-- is absent or too long ends the reading, else `says` has the answer of the contents of all
 abbrev pub AllowsAnswer :
     Contents → List Input → (List (List ℕ) → CallAnswer → Type 0) → CallAnswer → Type 0
 AllowsAnswer c [] says answer = says [] answer

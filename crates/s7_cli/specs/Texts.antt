@@ -16,5 +16,7 @@ file_contents_of text = text.source.items ∷ option_to_list (symbols_file text)
 
 -- neither the source nor the symbols file is longer than it may be
 pub record AreFilesWithinLimits (text : ProgramText) : Type 0 where
+  -- the source has at most 1,048,576 bytes
   pub source : length text.source.items ≤ 1048576
+  -- the symbols file has at most 1,048,576 bytes
   pub symbols : length (symbols_text_of text) ≤ 1048576

@@ -29,8 +29,11 @@ watch_contents text = text.image.items ∷ text.stimuli.items ∷ text.vars.item
 
 -- no file but the image is longer than it may be, and there are one to three scripts
 pub record IsWatchText (text : WatchText) : Type 0 where
+  -- the stimuli have at most 4,194,304 bytes
   pub stimuli : length text.stimuli.items ≤ 4194304
+  -- the text of variables has at most 1,048,576 bytes
   pub vars : length text.vars.items ≤ 1048576
+  -- each script has at most 1,048,576 bytes
   pub scripts : AreScriptsWithin (watch_scripts text)
   -- there is a script
   pub some : 1 ≤ length text.scripts.items

@@ -164,7 +164,7 @@ pub record HasEnded
 pub record AreViews
     (e : Entry) (o : Opening) (story : List Entry) (count : ℕ) (seen : List Shown)
     : Type 0 where
-  -- there are this many
+  -- as many items were seen as the count says
   pub many : length seen ≡ count
   -- each is the opening item or a reply to the entry
   pub each : AreShownOf e o story seen

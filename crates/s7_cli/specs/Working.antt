@@ -7,7 +7,7 @@ use Rattle.var_access.specs.declared.Entry.{Entry}
 use Rattle.var_access.specs.declared.What.TheVariants.{Step}
 use Rattle.controller.specs.State.{is_stop}
 use Rattle.tracked_lock.specs.Passes.{PassView, LockView}
-use Rattle.tracked_lock.specs.Views.{entries_by, IsMadeOf}
+use Rattle.tracked_lock.specs.Views.{entries_by, AreEntriesByMaker}
 use Rattle.tracked_lock.specs.declared.views.Made.{Made}
 use Rattle.station.specs.Openings.{mode_at, the_opening}
 use Rattle.station.specs.declared.shared.Opening.{Opening}
@@ -36,7 +36,7 @@ pub record IsFresh (s : LockView Opening) (p : PassView Opening Entry) : Type 0 
   -- under its number it has made nothing, and it has no other number
   pub made : p.made ≡ record { number = p.number; entries = [] } ∷ []
   -- it has seen no entry of its number
-  pub agrees : IsMadeOf (λ e. e.who) p.seen p.made
+  pub agrees : AreEntriesByMaker (λ e. e.who) p.seen p.made
 
 -- of these entries the pass has made the first ones, and nothing else
 pub record HasBegun
@@ -128,7 +128,7 @@ pub record HasStepped
   -- no value is out with it
   pub out : p.out ≡ false
   -- the entries of its number in the story that it has seen are those that it made
-  pub agrees : IsMadeOf (λ e. e.who) p.seen p.made
+  pub agrees : AreEntriesByMaker (λ e. e.who) p.seen p.made
   -- how many steps it made
   pub count : ℕ
   -- they are at most as many as it was to make

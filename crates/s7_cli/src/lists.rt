@@ -2,8 +2,8 @@ ghost use Rattle.std.specs.Prelude.{◌≡◌, ◌++◌, [], ◌∷◌, OnOk};
 
 use std::alloc::AllocError;
 
-/// Adds an element to a list. It is generic because the kit can't prove std's own call at a type
-/// that holds requests.
+/// Adds an element to a list. It is generic because no proof is found of std's own call at a
+/// type that holds requests.
 pub fn add<T: Drop>(list: &mut Vec<T>, element: T) -> Result<(), AllocError>
     ensures { OnOk result (list.new.items ≡ list.old.items ++ element ∷ []) }
 {

@@ -4,7 +4,7 @@ ghost use Rattle.std.specs.Prelude.{◌≡◌, ◌⊎◌, ◌<◌, ◌∷◌, �
 ghost use mathlib.Core.List.{IsPrefix};
 ghost use Rattle.var_access.specs.Entry.{IsRequest};
 ghost use Rattle.var_access.specs.declared.Request.TheVariants.{ReadVars};
-ghost use Rattle.tracked_lock.specs.Views.{IsMadeOf};
+ghost use Rattle.tracked_lock.specs.Views.{AreEntriesByMaker};
 ghost use Rattle.station.specs.Openings.{the_opening};
 ghost use Rattle.station.specs.declared.shared.StationFault.TheVariants.{NoMemory};
 ghost use Rattle.watch_board.specs.BoardList.{initial_item};
@@ -55,7 +55,7 @@ pub fn publish_read<R: Wait>(
         (HasPublishedNone p.old p.new b.old b.new (read_entry_of p.old.number vars.now)) }
     ensures board { b.new.board ≡ b.old.board }
     ensures pass { p.new ≡ record p.old { seen = p.new.seen; made = p.new.made } }
-    ensures made { IsMadeOf (λ e. e.who) p.new.seen p.new.made }
+    ensures made { AreEntriesByMaker (λ e. e.who) p.new.seen p.new.made }
 {
     let reply = s.ask(rt, p, Request::ReadVars { vars: *vars })?;
     let shown = Shown {
@@ -172,7 +172,7 @@ fn work_beside_watch<R: Threads + Wait + Sync, G: Gate + Sync>(
     requires opening { publisher.old.list ≡ initial_item ∷ [] }
     requires none { views.old.items ≡ [] }
     ensures pass { (result.0.0.lock ≡ s.now) × (result.0.0.out ≡ false) }
-    ensures agrees { IsMadeOf (λ e. e.who) result.0.0.seen result.0.0.made }
+    ensures agrees { AreEntriesByMaker (λ e. e.who) result.0.0.seen result.0.0.made }
     ensures made { HasWorked s.now passes.items steps stimuli.now
         (map (λ v. v.items) scripts.now) result.0.0 (is_ok result.0.1) }
     ensures fault { KnowsFault s.now result.0.0.seen result.0.1 }
@@ -186,7 +186,7 @@ fn work_beside_watch<R: Threads + Wait + Sync, G: Gate + Sync>(
             requires { (0 < length scripts.now)
                 × CanWork s.now passes.items stimuli.now (map (λ v. v.items) scripts.now) }
             ensures pass { (result.0.lock ≡ s.entry.now) × (result.0.out ≡ false) }
-            ensures agrees { IsMadeOf (λ e. e.who) result.0.seen result.0.made }
+            ensures agrees { AreEntriesByMaker (λ e. e.who) result.0.seen result.0.made }
             ensures made { HasWorked s.entry.now passes.entry.items steps stimuli.entry.now
                 (map (λ v. v.items) scripts.entry.now) result.0 (is_ok result.1) }
             ensures fault { KnowsFault s.entry.now result.0.seen result.1 }
@@ -279,7 +279,7 @@ pub(crate) fn watch_station<R: Threads + Wait + Sync, G: Gate + Sync>(
     requires board { viewer.board ≡ publisher.board }
     requires none { views.old.items ≡ [] }
     ensures pass { (result.0.lock ≡ s.now) × (result.0.out ≡ false) }
-    ensures agrees { IsMadeOf (λ e. e.who) result.0.seen result.0.made }
+    ensures agrees { AreEntriesByMaker (λ e. e.who) result.0.seen result.0.made }
     ensures made { HasWorked s.now (passes.items ++ p ∷ []) steps stimuli.now
         (map (λ v. v.items) scripts.now
         ++ replicate PUBLISHED (read_entry_of p.number vars.now) ∷ []) result.0 (is_ok result.1) }

@@ -6,7 +6,7 @@ ghost use mathlib.Core.List.{IsPrefix};
 ghost use Rattle.var_access.specs.Entry.{IsInRange};
 ghost use Rattle.var_access.specs.declared.Entry.{Entry as AnEntry};
 ghost use Rattle.controller.specs.State.{is_stop as is_stop_of};
-ghost use Rattle.tracked_lock.specs.Views.{IsMadeOf};
+ghost use Rattle.tracked_lock.specs.Views.{AreEntriesByMaker};
 ghost use Rattle.station.specs.Turns.{HasMade, HasMadeNone};
 ghost use Rattle.s7_cli.specs.Working.{AreReady, CanWork, HasBegun, HasStepped, HasWorked, HaveBegun, IsEntryOf, IsFresh, KnowsFault, passes_made_whole};
 
@@ -118,7 +118,7 @@ pub(crate) fn together(s: &Station, first: Worked, others: Worked) -> Worked
     ensures pass { (result.0.lock ≡ s.now) × (result.0.out ≡ false) }
     ensures seen { IsPrefix first.0.seen result.0.seen }
     ensures others { IsPrefix others.0.seen result.0.seen }
-    ensures agrees { IsMadeOf (λ e. e.who) result.0.seen result.0.made }
+    ensures agrees { AreEntriesByMaker (λ e. e.who) result.0.seen result.0.made }
     ensures made { result.0.made ≡ first.0.made ++ others.0.made }
     ensures ok { OnOk result.1 (IsOk first.1 × IsOk others.1) }
     ensures fault { KnowsFault s.now result.0.seen result.1 }
@@ -259,7 +259,7 @@ pub fn work<R: Threads + Wait + Sync, G: Gate + Sync>(
     requires some { 0 < length scripts.now }
     requires ready { CanWork s.now passes.items stimuli.now (map (λ v. v.items) scripts.now) }
     ensures pass { (result.0.lock ≡ s.now) × (result.0.out ≡ false) }
-    ensures agrees { IsMadeOf (λ e. e.who) result.0.seen result.0.made }
+    ensures agrees { AreEntriesByMaker (λ e. e.who) result.0.seen result.0.made }
     ensures made { HasWorked s.now passes.items steps stimuli.now
         (map (λ v. v.items) scripts.now) result.0 (is_ok result.1) }
     ensures fault { KnowsFault s.now result.0.seen result.1 }

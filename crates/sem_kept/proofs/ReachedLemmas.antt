@@ -21,7 +21,7 @@ use Rattle.block_layout.specs.declared.cells.Cell.{Cell}
 use Rattle.block_layout.specs.declared.cells.Element.{Element}
 use Rattle.block_layout.specs.declared.cells.Element.TheVariants as element
 use Rattle.block_layout.specs.declared.walks.PathEnd.{PathEnd}
-use Rattle.block_layout.specs.declared.walks.PathEnd.TheVariants as walk
+use Rattle.block_layout.specs.declared.walks.PathEnd.TheVariants as path_end
 use Rattle.stl_types.specs.Addresses.{address_in_block}
 use Rattle.stl_types.specs.Context.{Context, data_number, in_function}
 use Rattle.stl_types.specs.Resolution.{resolution_of_address, resolution_of_path, resolution_of_symbol, target_view}
@@ -70,31 +70,31 @@ parameter_reached P index kind (Some c) = tt
 
 pub own_reached : (P : ℕ → Type 0) → P 0 → (c : Context) (temporary : Bool) (w : PathEnd)
     → IsReached P (own_walked c temporary w)
-own_reached P h c temporary walk.Unknown = tt
-own_reached P h c temporary walk.Rests = tt
-own_reached P h c temporary (walk.Reaches spot) = by (elementary_at c.layouts spot)
+own_reached P h c temporary path_end.Unknown = tt
+own_reached P h c temporary path_end.Unjudged = tt
+own_reached P h c temporary (path_end.Reaches component) = by (elementary_at c.layouts component)
   where
     elementary : (temporary function : Bool) (kind : Simple)
-        → IsReached P (if temporary then variable_in_area kind (elementary_place area.L 0 spot.offset (Some kind))
-        else if function then parameter_at c spot kind
-        else variable_in_area kind (elementary_place area.Di 0 spot.offset (Some kind)))
-    elementary true function kind = area_reached P area.L 0 spot.offset kind h
+        → IsReached P (if temporary then variable_in_area kind (elementary_place area.L 0 component.offset (Some kind))
+        else if function then parameter_at c component kind
+        else variable_in_area kind (elementary_place area.Di 0 component.offset (Some kind)))
+    elementary true function kind = area_reached P area.L 0 component.offset kind h
     elementary false true kind = parameter_reached P _ kind _
-    elementary false false kind = area_reached P area.Di 0 spot.offset kind h
+    elementary false false kind = area_reached P area.Di 0 component.offset kind h
 
-    by : (o : Option Simple) → IsReached P (own_at c temporary spot o)
+    by : (o : Option Simple) → IsReached P (own_at c temporary component o)
     by None = composite_reached P _
     by (Some kind) = elementary temporary (in_function c) kind
 
 data_reached : (P : ℕ → Type 0) (c : Context) (number : ℕ) → P number → (w : PathEnd)
     → IsReached P (data_walked c number w)
-data_reached P c number h walk.Unknown = tt
-data_reached P c number h walk.Rests = tt
-data_reached P c number h (walk.Reaches spot) = by (elementary_at c.layouts spot)
+data_reached P c number h path_end.Unknown = tt
+data_reached P c number h path_end.Unjudged = tt
+data_reached P c number h (path_end.Reaches component) = by (elementary_at c.layouts component)
   where
-    by : (o : Option Simple) → IsReached P (data_at c number spot o)
+    by : (o : Option Simple) → IsReached P (data_at c number component o)
     by None = composite_reached P _
-    by (Some kind) = area_reached P area.Db number spot.offset kind h
+    by (Some kind) = area_reached P area.Db number component.offset kind h
 
 pub data_path_reached : (c : Context) (steps : List PathStep) (number place : Option ℕ)
     → IsReached AnyNumber (data_path c steps number place)

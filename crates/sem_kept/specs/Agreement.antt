@@ -24,8 +24,8 @@ use Rattle.sem_kept.specs.Accepted.{program_in}
 use Rattle.sem_kept.specs.Kept.{BehavesAlike}
 use Rattle.sem_kept.specs.Meaning.{HasSymbolsIn, HasTokens, HasTreeOrRefusal, refusals_of, MeansCodeIn}
 
--- the source with these symbols means a code, and at this profile no history tells it from the one that
--- runs
+-- the source with these symbols means a code, and at this profile no history tells it from the one
+-- that runs
 abbrev pub RunsAsIn : Language → Profile → (source symbols : List ℕ) → (running : Code) → Type 0
 RunsAsIn language profile source symbols running =
     (code : Code) × MeansCodeIn language source symbols code × BehavesAlike profile code running
@@ -46,8 +46,8 @@ names_among (Err refusal) = []
 abbrev pub names_read_in : Language → (symbols : List ℕ) → List NameEntry
 names_read_in language symbols = names_among (symbols_in language symbols)
 
--- a program keeps a source with its symbols at a profile: it has an image and verifies, its names are
--- those that the symbols file gives, and it runs as the source means
+-- a program keeps a source with its symbols at a profile: it has an image and verifies, its names
+-- are those that the symbols file gives, and it runs as the source means
 pub record KeepsSourceIn (language : Language) (profile : Profile) (source symbols : List ℕ)
     (p : Program) : Type 0 where
   -- it has an image and verifies

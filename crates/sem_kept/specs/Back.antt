@@ -51,7 +51,9 @@ abbrev pub IsJu : SourceInstruction → Type 0
 IsJu s = is_ju s.instr ≡ true
 
 -- the list of a JL: the JU statements behind it, at most 255, up to its target
-pub record IsList (n : ℕ) (targets : List ℕ) (otherwise : ℕ) (behind : List SourceInstruction) : Type 0 where
+pub record IsList
+    (n : ℕ) (targets : List ℕ) (otherwise : ℕ) (behind : List SourceInstruction)
+    : Type 0 where
   -- there are at most 255
   pub few : length targets ≤ 255
   -- the targets are the statements right behind the JL, in their order
@@ -66,7 +68,8 @@ pub record IsList (n : ℕ) (targets : List ℕ) (otherwise : ℕ) (behind : Lis
 -- code can be generated for an instruction: that of the statement of number n, with the
 -- statements behind it
 abbrev pub IsGeneratedInstruction : (n : ℕ) → Instr → (behind : List SourceInstruction) → Type 0
-IsGeneratedInstruction n (Does use_db w o) behind = (goes_to_next_statement w ≡ true) × (is_target o ≡ false)
+IsGeneratedInstruction n (Does use_db w o) behind =
+    (goes_to_next_statement w ≡ true) × (is_target o ≡ false)
 IsGeneratedInstruction n (Jumps how target) behind = is_jl how ≡ false
 IsGeneratedInstruction n (JumpsByList targets otherwise) behind = IsList n targets otherwise behind
 IsGeneratedInstruction n (Calls how block instance passings) behind =
@@ -83,4 +86,5 @@ AreCompiled n (s ∷ behind) = IsGeneratedInstruction n s.instr behind × AreCom
 abbrev pub IsReadBack : CodeBlock → List SourceInstruction → Type 0
 IsReadBack b statements =
     (n : ℕ) → statement_fetched b (offset_of_statement (ops_in statements) n)
-    ≡ option_map (aimed_statement (offset_of_statement (ops_in statements)) n) (slice_get statements n)
+    ≡ option_map (aimed_statement (offset_of_statement (ops_in statements)) n)
+    (slice_get statements n)

@@ -1,5 +1,5 @@
--- What the code of a block keeps by its ops: each is an op of the table, a statement has at most 64,
--- and the last one is BE.
+-- What the code of a block keeps by its ops: each is an op of the table, a statement has at most
+-- 64, and the last one is BE.
 use Rattle.std.specs.Prelude.{◌≡◌, ℕ, Bool, true, List, length, None}
 use Rattle.std.specs.List.{AllByRecursion}
 use Rattle.flat_code.specs.Codes.{are_ops, code_bytes, code_fault, code_layout}

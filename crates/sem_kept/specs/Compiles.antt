@@ -10,8 +10,8 @@ use Rattle.stl_symbols.specs.declared.languages.Language.{Language}
 use Rattle.sem_kept.specs.Accepted.{program_in}
 use Rattle.sem_kept.specs.Meaning.{HasSymbolsIn, HasTokens, HasTreeOrRefusal, refusals_of}
 
--- a source with its symbols breaks no rule, and its program, the names of its symbols with it, is this
--- one
+-- a source with its symbols breaks no rule, and its program, the names of its symbols with it, is
+-- this one
 pub record CompilesTo (language : Language) (source symbols : List ℕ) (p : Program) : Type 0 where
   -- the symbols of the symbols file
   pub list : List Symbol

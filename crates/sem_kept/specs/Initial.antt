@@ -1,5 +1,5 @@
--- In an accepted source no initial value is cut: each is written whole within its data block, each setting is written, and
--- no component has more initial values than elements.
+-- In an accepted source no initial value is cut: each is written whole within its data block, each
+-- setting is written, and no component has more initial values than elements.
 use Rattle.std.specs.Prelude.{◌≡◌, ◌⊎◌, ℕ, ◌+◌, ◌*◌, ◌%◌, ◌^◌, ◌≤◌, ◌<◌, true, false, List, [], ◌∷◌, ◌++◌, length, replicate, Some, is_some, slice_get}
 use Rattle.std.specs.List.{AllByRecursion, fold}
 use Rattle.plc_base.specs.Kinds.{is_data_block}
@@ -20,8 +20,8 @@ use Rattle.block_layout.specs.declared.cells.Element.TheVariants.{Plain}
 use Rattle.block_layout.specs.declared.cells.Preset.{Preset}
 use Rattle.sem_kept.specs.Accepted.{IsAccepted}
 
--- a write in so many bytes cuts nothing: it ends within them, is a single bit or whole bytes from the start of one on,
--- and has no fewer bits than its value
+-- a write in so many bytes cuts nothing: it ends within them, is a single bit or whole bytes from
+-- the start of one on, and has no fewer bits than its value
 pub record IsWhole (len : ℕ) (w : Write) : Type 0 where
   -- it ends within the bytes
   pub within : w.offset + w.width ≤ 8 * len
@@ -30,8 +30,8 @@ pub record IsWhole (len : ℕ) (w : Write) : Type 0 where
   -- its value has no more bits than it
   pub fits : w.value < 2 ^ w.width
 
--- an elementary component, or an array of one, has an element for each of its initial values, wherever it begins; no
--- other component has initial values
+-- an elementary component, or an array of one, has an element for each of its initial values,
+-- wherever it begins; no other component has initial values
 abbrev pub HasElements : List Bounds → List Preset → Element → Type 0
 HasElements bounds presets (Plain kind) =
     (element start : ℕ)
@@ -50,7 +50,8 @@ pub record IsSettingWritten (l : List BlockLayout) (block : ℕ) (s : Setting) :
   -- the write of the setting
   pub write : Write
   -- the setting comes to this one alone
-  pub alone : setting_write l s.value (path_end_in_data_block l block (folded_path s.path)) ≡ write ∷ []
+  pub alone : setting_write l s.value (path_end_in_data_block l block (folded_path s.path))
+      ≡ write ∷ []
 
 -- the writes of the data block at a place of the source: its initial values, and behind them its
 -- settings
@@ -62,9 +63,12 @@ writes_of l blocks block =
 -- the initial bytes of the data block at a place of the source are made by its writes alone,
 -- each of them whole, over as many zeros as it is long. Its structure is known, the components
 -- of this and of each other block have room, and each setting is written
-pub record IsMadeByWrites (l : List BlockLayout) (blocks : List Block) (block len : ℕ) : Type 0 where
+pub record IsMadeByWrites
+    (l : List BlockLayout) (blocks : List Block) (block len : ℕ)
+    : Type 0 where
   -- the writes, one after the other over zeros, give its initial bytes
-  pub made : initial_bytes l blocks block ≡ fold bytes_with_write (replicate len 0) (writes_of l blocks block)
+  pub made : initial_bytes l blocks block
+      ≡ fold bytes_with_write (replicate len 0) (writes_of l blocks block)
   -- each write lies within the bytes and cuts nothing
   pub whole : AllByRecursion (IsWhole len) (writes_of l blocks block)
   -- the block that declares its components is known

@@ -49,5 +49,7 @@ JumpsLandRight =
 -- ops that have no fault by their operands, calls and marks have none at all where they land right
 abbrev pub NoOperandFaultIsNoFault : Type 0
 NoOperandFaultIsNoFault =
-    (a : Environment) (lens : List (ℕ × ℕ)) (start : ℕ) (ops : List OpData) → a.data_lens ≡ Some lens
-    → HaveNoOperandFaults a lens (statement_spots ops) (code_places ops) → AllLandRight ops → block_faults a start ops ≡ []
+    (a : Environment) (lens : List (ℕ × ℕ)) (start : ℕ) (ops : List OpData)
+    → a.data_lens ≡ Some lens
+    → HaveNoOperandFaults a lens (statement_spots ops) (code_places ops) → AllLandRight ops
+    → block_faults a start ops ≡ []

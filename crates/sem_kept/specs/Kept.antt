@@ -14,26 +14,33 @@ use Rattle.sem_kept.specs.Statements.{stated_code, IsCompilable, program_with}
 -- memory with timers and counters, the scheduler and the diagnostics are the same, and every entry
 -- answers and shows the same
 pub record BehavesAlike (profile : Profile) (c d : Code) : Type 0 where
-  -- memory with timers and counters
-  pub store : (history : List What) → (replay profile d history).store ≡ (replay profile c history).store
-  -- the operating mode
-  pub mode : (history : List What) → (replay profile d history).mode ≡ (replay profile c history).mode
-  -- the scheduler
-  pub sched : (history : List What) → (replay profile d history).sched ≡ (replay profile c history).sched
-  -- the records of the diagnostic buffer
+  -- memory with timers and counters is the same after a history
+  pub store : (history : List What)
+      → (replay profile d history).store ≡ (replay profile c history).store
+  -- the operating mode after a history is the same
+  pub mode : (history : List What)
+      → (replay profile d history).mode ≡ (replay profile c history).mode
+  -- the scheduler's state after a history is the same
+  pub sched : (history : List What)
+      → (replay profile d history).sched ≡ (replay profile c history).sched
+  -- the records of the diagnostic buffer are the same after a history
   pub diagnostics : (history : List What)
       → (replay profile d history).diagnostics ≡ (replay profile c history).diagnostics
-  -- what an entry answers
+  -- an entry answers the same behind a history
   pub reply : (history : List What) (entry : What)
-      → (entry_result d (replay profile d history) entry).reply ≡ (entry_result c (replay profile c history) entry).reply
+      → (entry_result d (replay profile d history) entry).reply
+      ≡ (entry_result c (replay profile c history) entry).reply
   -- what an entry shows
   pub seen : (history : List What) (entry : What)
-      → (entry_result d (replay profile d history) entry).seen ≡ (entry_result c (replay profile c history) entry).seen
+      → (entry_result d (replay profile d history) entry).seen
+      ≡ (entry_result c (replay profile c history) entry).seen
 
--- the program that is compiled of blocks that can be compiled does at each profile what their statements
--- mean, whatever its data blocks and its names are
+-- the program that is compiled of blocks that can be compiled does at each profile what their
+-- statements mean, whatever its data blocks and its names are
 abbrev pub ProgramsAreKept : Type 0
 ProgramsAreKept =
-    (profile : Profile) (blocks : List StatedBlock) (data_blocks : List DataBlock) (names : List NameEntry)
+    (profile : Profile) (blocks : List StatedBlock) (data_blocks : List DataBlock)
+    (names : List NameEntry)
     → AllByRecursion IsCompilable blocks
-    → BehavesAlike profile (stated_code blocks data_blocks) (code_of (program_with blocks data_blocks names))
+    → BehavesAlike profile (stated_code blocks data_blocks)
+    (code_of (program_with blocks data_blocks names))

@@ -39,7 +39,8 @@ HasTokens source (Err refusal) = BreaksTokenRule source refusal.line refusal.rul
 -- the tree of the tokens of a source, or its first clause that breaks a rule
 abbrev pub HasTreeOrRefusal : (source : List ℕ) → List Token → Result Tree Refusal → Type 0
 HasTreeOrRefusal source tokens (Ok tree) = IsTree source tokens tree
-HasTreeOrRefusal source tokens (Err refusal) = BreaksClauseRule source tokens refusal.line refusal.rule
+HasTreeOrRefusal source tokens (Err refusal) =
+    BreaksClauseRule source tokens refusal.line refusal.rule
 
 -- what a tree breaks of the rules on layout and of those on statements
 abbrev pub refusals_of : List Symbol → Tree → List Refusal
@@ -73,7 +74,9 @@ HasCode symbols tree outcome = outcome ≡ Ok (stated_code_of_tree symbols tree)
 -- its statements; where it breaks no rule, it means its statements
 abbrev pub IsCheckedWith : (source : List ℕ) → List Symbol → Result Code Refusal → Type 0
 IsCheckedWith source symbols outcome =
-    HaveOutcomeInTurn HasTokens (HaveOutcomeInTurn (HasTreeOrRefusal source) (HaveOutcomeInTurn (IsSound symbols) (HasCode symbols)))
+    HaveOutcomeInTurn HasTokens
+    (HaveOutcomeInTurn (HasTreeOrRefusal source)
+    (HaveOutcomeInTurn (IsSound symbols) (HasCode symbols)))
     source outcome
 
 -- a refusal is that of the symbols file or that of the source
@@ -85,9 +88,11 @@ pub data RefusedFile : Type 0 where
 
 -- what a source with a symbols file comes to, whose addresses are those of a language: the
 -- symbols are checked first, and then the source with them; it means a code or is refused
-unfoldable pub HasOutcomeOfSourceIn : Language → (source symbols : List ℕ) → Result Code RefusedFile → Type 0
+unfoldable pub HasOutcomeOfSourceIn :
+    Language → (source symbols : List ℕ) → Result Code RefusedFile → Type 0
 HasOutcomeOfSourceIn language source symbols outcome =
-    HaveOutcomeInTurn (NamesRefusalOf InSymbols (HasSymbolsIn language)) (NamesRefusalOf InSource (IsCheckedWith source)) symbols
+    HaveOutcomeInTurn (NamesRefusalOf InSymbols (HasSymbolsIn language))
+    (NamesRefusalOf InSource (IsCheckedWith source)) symbols
     outcome
 
 -- a source with a symbols file, whose addresses are those of a language, breaks no rule and

@@ -61,7 +61,8 @@ PassesAlone _ ps = ps ≡ []
 -- code blocks of its program) and `lens`, the numbers and lengths in bytes of the data blocks
 abbrev pub InstrFits : Environment → List (ℕ × ℕ) → Instr → Type 0
 InstrFits a lens (Does use_db w o) =
-    (prepares_statement (op_code_of w) ≡ false) × IsOperandRightFor a (op_with_end_mark w o) o × IsOpenedFor o use_db
+    (prepares_statement (op_code_of w) ≡ false) × IsOperandRightFor a (op_with_end_mark w o) o
+    × IsOpenedFor o use_db
 InstrFits a lens (Calls how block instance ps) =
     PassesAlone how ps
     × ArePassed a (callee_among a.blocks (kind_number block.kind) block.number) None ps
@@ -72,7 +73,9 @@ InstrFits a lens _ = Unit {0}
 -- ---- ops at their places
 
 -- an op has no fault by its operand, but a jump's, by its call or by its end mark
-pub record HasNoOperandFault (a : Environment) (lens : List (ℕ × ℕ)) (ss : List StatementSpot) (p : PlacedOp) : Type 0 where
+pub record HasNoOperandFault
+    (a : Environment) (lens : List (ℕ × ℕ)) (ss : List StatementSpot) (p : PlacedOp)
+    : Type 0 where
   -- its operand has no fault, where it is no jump's
   pub operand : IsStill p.op.operand → operand_fault a ss p p.op.operand ≡ None
   -- its call has no fault
@@ -81,7 +84,8 @@ pub record HasNoOperandFault (a : Environment) (lens : List (ℕ × ℕ)) (ss : 
   pub mark : mark_fault p.op ≡ None
 
 -- each of these ops has no fault by its operand, but a jump's, by its call or by its end mark
-abbrev pub HaveNoOperandFaults : Environment → List (ℕ × ℕ) → List StatementSpot → List PlacedOp → Type 0
+abbrev pub HaveNoOperandFaults :
+    Environment → List (ℕ × ℕ) → List StatementSpot → List PlacedOp → Type 0
 HaveNoOperandFaults a lens ss ps = AllByRecursion (HasNoOperandFault a lens ss) ps
 
 -- ---- a program
@@ -91,7 +95,8 @@ HaveNoOperandFaults a lens ss ps = AllByRecursion (HasNoOperandFault a lens ss) 
 abbrev pub BlockHasNoOperandFault : Program → CodeBlock → Type 0
 BlockHasNoOperandFault p b =
     HaveNoOperandFaults
-    (environment_of_block (Some (lens_of p.data_blocks)) (map record_of_block p.code_blocks) (record_of_block b))
+    (environment_of_block (Some (lens_of p.data_blocks)) (map record_of_block p.code_blocks)
+    (record_of_block b))
     (lens_of p.data_blocks) (statement_spots b.code) (code_places b.code)
 
 -- the ops of each block of an accepted source, whose elements are bytes, have no fault by their
@@ -100,4 +105,5 @@ abbrev pub OperandsAreFine : Type 0
 OperandsAreFine =
     (source file : List ℕ) (symbols : List Symbol) (t : Tree)
     → IsAccepted source file symbols t → AreBytes source
-    → AllByRecursion (BlockHasNoOperandFault (program_in symbols t)) (program_in symbols t).code_blocks
+    → AllByRecursion (BlockHasNoOperandFault (program_in symbols t))
+    (program_in symbols t).code_blocks

@@ -37,5 +37,6 @@ abbrev pub RecordsAreRight : Type 0
 RecordsAreRight =
     (source file : List ℕ) (symbols : List Symbol) (t : Tree)
     → IsAccepted source file symbols t → IsOfBytes file
-    → AllByRecursion HasFaultlessCode (program_in symbols t).code_blocks → HasCounts (program_in symbols t)
+    → AllByRecursion HasFaultlessCode (program_in symbols t).code_blocks
+    → HasCounts (program_in symbols t)
     → (checks_code : Bool) → (body_layout checks_code).good (program_in symbols t) ≡ true

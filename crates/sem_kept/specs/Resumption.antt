@@ -23,13 +23,16 @@ activation_at_place (a ∷ below) place =
 
 -- from `first` entries on, up to `last` entries, the mode isn't STOP and an activation stands at
 -- this place. After `last` entries it is the running one; before that it is suspended
-pub record IsSuspended (profile : Profile) (code : Code) (history : List What) (place first last : ℕ) : Type 0 where
+pub record IsSuspended
+    (profile : Profile) (code : Code) (history : List What) (place first last : ℕ)
+    : Type 0 where
   -- the first moment is before the last
   pub earlier : first < last
   -- the history has `last` entries at least
   pub within : last ≤ length history
   -- the mode isn't STOP
-  pub goes_on : (k : ℕ) → first ≤ k → k ≤ last → is_stop (state_after_first profile code history k).mode ≡ false
+  pub goes_on : (k : ℕ) → first ≤ k → k ≤ last
+      → is_stop (state_after_first profile code history k).mode ≡ false
   -- before `last` entries an activation stands at the place, with another one above it
   pub suspended : (k : ℕ) → first ≤ k → k < last
       → place + 1 < length (state_after_first profile code history k).activations

@@ -38,8 +38,8 @@ pub record HasLabel (body : List Statement) (s : Statement) : Type 0 where
   -- the label stands at this place
   pub there : name_place name (labels_of body) ≡ Some place
 
--- a call: its operand names the block that it calls, whose parameters are known; each actual parameter names one of
--- them, and no two the same one
+-- a call: its operand names the block that it calls, whose parameters are known; each actual
+-- parameter names one of them, and no two the same one
 pub record HasCalled (c : Context) (s : Statement) : Type 0 where
   -- the block that the operand names
   pub id : BlockId
@@ -71,7 +71,8 @@ HasInstruction c body s (Some how) = HasLabel body s
 
 -- an actual parameter names what is passed
 abbrev pub NamesWhatIsPassed : Context → Actual → Type 0
-NamesWhatIsPassed c a = (p : Passed) × (passed_resolution a.value (resolution_of c a.value) ≡ Some p)
+NamesWhatIsPassed c a =
+    (p : Passed) × (passed_resolution a.value (resolution_of c a.value) ≡ Some p)
 
 -- a statement names what its instruction takes, and each of its actual parameters what is passed
 pub record IsResolvedStatement (c : Context) (body : List Statement) (s : Statement) : Type 0 where

@@ -11,7 +11,8 @@ HaveOutcomeInTurn {B = B} first second a (Err refused) =
     first a (Err refused) ⊎ ((b : B) × first a (Ok b) × second b (Err refused))
 
 -- a stage whose refusals are told with what they are of
-abbrev pub NamesRefusalOf : {A B E : Type 0} (of : Refusal → E) (stage : A → Result B Refusal → Type 0)
+abbrev pub NamesRefusalOf :
+    {A B E : Type 0} (of : Refusal → E) (stage : A → Result B Refusal → Type 0)
     → A → Result B E → Type 0
 NamesRefusalOf of stage a (Ok b) = stage a (Ok b)
 NamesRefusalOf of stage a (Err refused) =

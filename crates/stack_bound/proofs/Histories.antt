@@ -68,27 +68,27 @@ abbrev RoomIf : Profile → List Bound → Option Activation → Type 0
 RoomIf z c None = Unit {0}
 RoomIf z c (Some a) = Roomy z c a
 
-told_profile : (bytes : List ℕ) (byte : ℕ) (a : Activation)
+with_start_bytes_profile : (bytes : List ℕ) (byte : ℕ) (a : Activation)
     → (with_start_bytes byte bytes a).profile ≡ a.profile
-told_profile [] byte a = refl
-told_profile (value ∷ rest) byte a =
-    told_profile rest (byte + 1) (unwrap_or (with_local_byte 0 byte value a) a)
+with_start_bytes_profile [] byte a = refl
+with_start_bytes_profile (value ∷ rest) byte a =
+    with_start_bytes_profile rest (byte + 1) (unwrap_or (with_local_byte 0 byte value a) a)
     ∙ byte_profile byte value a
 
-told_stack : (bytes : List ℕ) (byte : ℕ) (a : Activation)
+with_start_bytes_stack : (bytes : List ℕ) (byte : ℕ) (a : Activation)
     → stack_of (with_start_bytes byte bytes a) ≡ stack_of a
-told_stack [] byte a = refl
-told_stack (value ∷ rest) byte a =
-    told_stack rest (byte + 1) (unwrap_or (with_local_byte 0 byte value a) a)
+with_start_bytes_stack [] byte a = refl
+with_start_bytes_stack (value ∷ rest) byte a =
+    with_start_bytes_stack rest (byte + 1) (unwrap_or (with_local_byte 0 byte value a) a)
     ∙ byte_stack byte value a
 
 begun_room : (z : Profile) (c : List Bound) (class ob : ℕ) (info : StartInfo) (h : BlockHead)
     → RoomFor z (bound_of (ob_block_id ob) c) [] → Roomy z c (ob_begun z class ob info h)
 unfolding ob_begun
 begun_room z c class ob info h room = (
-  told_profile info.bytes 0 (activation_begun z class ob (ob_frame ob h)),
+  with_start_bytes_profile info.bytes 0 (activation_begun z class ob (ob_frame ob h)),
   subst (λ (stack : List _). HasRoom z c stack)
-      (sym (told_stack info.bytes 0 (activation_begun z class ob (ob_frame ob h)))) (room, tt),
+      (sym (with_start_bytes_stack info.bytes 0 (activation_begun z class ob (ob_frame ob h)))) (room, tt),
 )
 
 ob_room_by : (z : Profile) (code : Code) (c : List Bound) (class ob : ℕ) (info : StartInfo) (found : Option BlockHead)

@@ -88,10 +88,10 @@ not_refused z (Some d) local_len stack a same room own depth bytes =
 
 -- ---- what stands
 
-standing : (a : Activation) → a.left ≡ false → frames_of a ≡ a.running.frame ∷ a.below
+standing : (a : Activation) → a.ended ≡ false → frames_of a ≡ a.running.frame ∷ a.below
 standing a is = rw is refl
 
-stack_is : (a : Activation) → a.left ≡ false → map counted_frame (frames_of a) ≡ stack_of a
+stack_is : (a : Activation) → a.ended ≡ false → map counted_frame (frames_of a) ≡ stack_of a
 stack_is a is = ap (λ (frames : List Frame). map counted_frame frames) (standing a is)
 
 bytes_same : (frames : List Frame) → bytes_below (map counted_frame frames) ≡ bytes_together frames
@@ -123,10 +123,10 @@ if_room : (z : Profile) (test : Bool) (c : List Bound) (s t : StatementStep) →
 if_room z true c s t one other = one
 if_room z false c s t one other = other
 
-went_room : (z : Profile) (c : List Bound) (r : Result ExecState ℕ) (next : ℕ) (a : Activation) → Roomy z c a
+continue_with_room : (z : Profile) (c : List Bound) (r : Result ExecState ℕ) (next : ℕ) (a : Activation) → Roomy z c a
     → StepHasRoom z c (continue_with r next a)
-went_room z c (Ok p) next a room = room
-went_room z c (Err code) next a room = room
+continue_with_room z c (Ok p) next a room = room
+continue_with_room z c (Err code) next a room = room
 
 supplied_room : (z : Profile) (c : List Bound) (instance : Option ℕ) (params : List Param) (b : Activation)
     (m : Areas) (a : Activation) → Roomy z c b
@@ -135,7 +135,7 @@ supplied_room z c None params b m a room = room
 supplied_room z c (Some instance) params b m a room = room
 
 -- the frame of the called block stands above those that stood
-entered_stack : (to : CalledBlock) (bindings : List Binding) (next : ℕ) (a : Activation) → a.left ≡ false
+entered_stack : (to : CalledBlock) (bindings : List Binding) (next : ℕ) (a : Activation) → a.ended ≡ false
     → stack_of (block_entered (called_frame to bindings a.running.frame) (caller_at next a))
     ≡ (to.block, to.local_len) ∷ stack_of a
 entered_stack to bindings next a is =
@@ -143,7 +143,7 @@ entered_stack to bindings next a is =
     (stack_is (caller_at next a) is)
 
 entered_room : (z : Profile) (c : List Bound) (fault : Option FrameFault) (to : CalledBlock) (bindings : List Binding)
-    (next : ℕ) (a : Activation) (m : Areas) → a.left ≡ false → fault ≡ None
+    (next : ℕ) (a : Activation) (m : Areas) → a.ended ≡ false → fault ≡ None
     → RoomFor z (bound_of to.block c) (stack_of a) → Roomy z c a
     → CallHasRoom z c a (entry_or_stop fault to bindings next a m)
 entered_room z c (Some fault) to bindings next a m stands none more room = absurd cc
@@ -156,7 +156,7 @@ entered_room z c None to bindings next a m stands none more room =
     )
 
 call_by : (z : Profile) (c : List Bound) (r : Result (List Binding) ℕ) (to : CalledBlock) (next : ℕ) (a : Activation)
-    (m : Areas) → a.left ≡ false → entry_fault to.local_len a ≡ None
+    (m : Areas) → a.ended ≡ false → entry_fault to.local_len a ≡ None
     → RoomFor z (bound_of to.block c) (stack_of a) → Roomy z c a
     → CallHasRoom z c a (call_with_bindings r to next a m)
 call_by z c (Err code) to next a m stands none more room = tt
@@ -164,7 +164,7 @@ call_by z c (Ok bindings) to next a m stands none more room =
     entered_room z c (entry_fault to.local_len a) to bindings next a m stands none more room
 
 call_room : (z : Profile) (c : List Bound) (to : CalledBlock) (passings : List Passing) (next : ℕ) (a : Activation)
-    (m : Areas) → a.left ≡ false → entry_fault to.local_len a ≡ None
+    (m : Areas) → a.ended ≡ false → entry_fault to.local_len a ≡ None
     → RoomFor z (bound_of to.block c) (stack_of a) → Roomy z c a
     → CallHasRoom z c a (block_call to passings next a m)
 unfolding block_call
@@ -197,7 +197,7 @@ block_room z p c (Some d) block instance passings next a w holds fits room is us
     (not_refused z (bound_of block c) d.local_len (stack_of a) a room.0 more (holds.own block d is) depth bytes)
     more room)
   where
-    stands : a.left ≡ false
+    stands : a.ended ≡ false
     stands = fits.fits.stands
 
     head_of_running : (h : Option BlockHead) → (code_of p).head a.running.frame.block ≡ h
@@ -270,23 +270,23 @@ returned_room z c None a w room = tt
 returned_room z c (Some h) a w room =
     left_room z c a.below a.running.frame.instance h.params a w.memory w room.0 room.1.1
 
-performed_room : (z : Profile) (p : Program) (c : List Bound) (i : Instr) (next : ℕ) (a : Activation) (w : GlobalStore)
+instruction_step_room : (z : Profile) (p : Program) (c : List Bound) (i : Instr) (next : ℕ) (a : Activation) (w : GlobalStore)
     → Certifies z (code_of p) c → FitsProgram p w.memory a → Roomy z c a
     → ((how : CallOperation) (block : BlockId) (instance : Option ℕ) (passings : List Passing)
     → i ≡ Calls how block instance passings → CallCounts (code_of p) c a block)
     → StepHasRoom z c (instruction_step (code_of p) i next a w)
-performed_room z p c (Does use_db word operand) next a w holds fits room counts =
-    went_room z c (statement_effect use_db word operand (exec_state_of a.running w.memory w.timers w.counters)) next
+instruction_step_room z p c (Does use_db operation operand) next a w holds fits room counts =
+    continue_with_room z c (statement_effect use_db operation operand (exec_state_of a.running w.memory w.timers w.counters)) next
     a room
-performed_room z p c (Jumps word target) next a w holds fits room counts = room
-performed_room z p c (JumpsByList targets otherwise) next a w holds fits room counts = room
-performed_room z p c (Calls how block instance passings) next a w holds fits room counts =
+instruction_step_room z p c (Jumps operation target) next a w holds fits room counts = room
+instruction_step_room z p c (JumpsByList targets otherwise) next a w holds fits room counts = room
+instruction_step_room z p c (Calls how block instance passings) next a w holds fits room counts =
     if_room z (is_call_made how a.running.regs.status.rlo) c
     (call_made (code_of p) block instance passings next a w)
     (Went (activation_continued_at next (regs_after_call_not_made a.running.regs) a) w)
     (calls_room z p c block instance passings next a w holds fits room
     (counts how block instance passings refl)) room
-performed_room z p c (Returns how) next a w holds fits room counts =
+instruction_step_room z p c (Returns how) next a w holds fits room counts =
     if_room z (is_return_made how a.running.regs.status.rlo) c
     (return_made ((code_of p).head a.running.frame.block) a w)
     (Went (activation_continued_at next (rlo_tested a.running.regs) a) w)
@@ -298,7 +298,7 @@ fetched_room : (z : Profile) (p : Program) (c : List Bound) (f : Option Fetched)
     → StepHasRoom z c (step_found (code_of p) f a w)
 fetched_room z p c None a w holds fits room is = tt
 fetched_room z p c (Some f) a w holds fits room is =
-    performed_room z p c f.instr f.next a w holds fits room
+    instruction_step_room z p c f.instr f.next a w holds fits room
     (λ how block instance passings same h d user own there.
     holds.calls a.running.frame.block a.running.frame.at f how block instance passings h d is same user
     own there)

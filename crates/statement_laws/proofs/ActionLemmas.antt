@@ -35,7 +35,7 @@ use Rattle.flat_code.specs.declared.operations.Shift.{Shift}
 use Rattle.stl_ast.specs.declared.literals.Literal.TheVariants as literal
 use Rattle.machine.specs.BitLogic as bit_logic
 use Rattle.machine.specs.DataBlocks as data_blocks
-use Rattle.machine.specs.Effect as does
+use Rattle.machine.specs.Effect as effect
 use Rattle.machine.specs.Loads as loads
 use Rattle.machine.specs.Nesting as nesting
 use Rattle.machine.specs.Numbers as numbers
@@ -57,17 +57,17 @@ use Rattle.statement_laws.proofs.PlaceLemmas.{standing_same, then_same, there_sa
 -- ---- results
 
 regs_then : {A : Type 0} (p : ExecState) (r : Result A ℕ) (f : A → Regs)
-    → does.effect_on_regs p (then_ok r (λ x. Ok (f x))) ≡ then_ok r (λ x. Ok (own.with_regs (f x) p))
+    → effect.effect_on_regs p (then_ok r (λ x. Ok (f x))) ≡ then_ok r (λ x. Ok (own.with_regs (f x) p))
 regs_then p (Ok x) f = refl
 regs_then p (Err e) f = refl
 
-scene_then : {A : Type 0} (p : ExecState) (r : Result A ℕ) (f : A → Result LocalMemory ℕ)
-    → does.on_local_memory p (then_ok r f) ≡ then_ok r (λ x. does.on_local_memory p (f x))
-scene_then p (Ok x) f = refl
-scene_then p (Err e) f = refl
+local_memory_then : {A : Type 0} (p : ExecState) (r : Result A ℕ) (f : A → Result LocalMemory ℕ)
+    → effect.on_local_memory p (then_ok r f) ≡ then_ok r (λ x. effect.on_local_memory p (f x))
+local_memory_then p (Ok x) f = refl
+local_memory_then p (Err e) f = refl
 
 own_if : (p : ExecState) (b : Bool) (after : Local)
-    → does.on_local p (if b then Err 0 else Ok after)
+    → effect.on_local p (if b then Err 0 else Ok after)
     ≡ (if b then Err 0 else Ok (record p { local = after }))
 own_if p true after = refl
 own_if p false after = refl
@@ -75,8 +75,8 @@ own_if p false after = refl
 -- ---- bit logic
 
 pub checks_same : (with : Check) (x : NamedItem) (p : ExecState) → is_read x ≡ true
-    → does.operation_effect (operation.Check with) (flat_of x) p ≡ own.checks_bit with x p
-unfolding does.operation_effect bit_logic.regs_after_bit_check
+    → effect.operation_effect (operation.Check with) (flat_of x) p ≡ own.checks_bit with x p
+unfolding effect.operation_effect bit_logic.regs_after_bit_check
 checks_same with x p e =
     regs_then p (values.checked_bit (flat_of x) p.local p.memory p.timers p.counters)
     (λ b. after_check with b p.local.regs)
@@ -89,26 +89,26 @@ or_operation named.Nothing = operation.OrBare
 or_operation _ = operation.Check check.O
 
 pub or_same : (x : NamedItem) (p : ExecState) → is_read x ≡ true
-    → does.operation_effect (or_operation x) (flat_of x) p ≡ own.checks_or x p
-unfolding does.operation_effect
+    → effect.operation_effect (or_operation x) (flat_of x) p ≡ own.checks_or x p
+unfolding effect.operation_effect
 or_same named.Nothing p e = refl
 or_same x p e = checks_same check.O x p e
 
 pub nest_same : (with : Check) (o : Operand) (p : ExecState)
-    → does.operation_effect (operation.Nest with) o p ≡ own.opens_bracket with p
-unfolding does.operation_effect nesting.nesting_opened
+    → effect.operation_effect (operation.Nest with) o p ≡ own.opens_bracket with p
+unfolding effect.operation_effect nesting.nesting_opened
 nest_same with o p =
     own_if p (length p.local.inner.brackets == 7)
     (nesting.with_open_brackets (entry_of with p.local.regs ∷ p.local.inner.brackets)
     (record p.local { regs = bracket_begun p.local.regs }))
 
 pub unnest_same : (o : Operand) (p : ExecState)
-    → does.operation_effect operation.Unnest o p ≡ own.closes_bracket p
-unfolding does.operation_effect nesting.nesting_closed
+    → effect.operation_effect operation.Unnest o p ≡ own.closes_bracket p
+unfolding effect.operation_effect nesting.nesting_closed
 unnest_same o p = by p.local.inner.brackets
   where
     by : (brackets : List Bracket)
-        → does.on_local p (nesting.bracket_closed brackets p.local) ≡ own.closes_one brackets p
+        → effect.on_local p (nesting.bracket_closed brackets p.local) ≡ own.closes_one brackets p
     by [] = refl
     by (bracket ∷ rest) = refl
 
@@ -125,7 +125,7 @@ written_place (named.Parameter index w) p e = place_same Writing (named.Paramete
 written_place _ p e = absurd (false≢true e)
 
 put_same : (b : Location) (value : Bool) (r : Regs) (p : ExecState)
-    → does.on_local_memory p (bit_logic.put_bit b value r p.local p.memory) ≡ own.writes_bit b value r p
+    → effect.on_local_memory p (bit_logic.put_bit b value r p.local p.memory) ≡ own.writes_bit b value r p
 unfolding bit_logic.put_bit
 put_same b value r p =
     by (values.number_written_at b (own.number_of_bit value) p.local p.memory)
@@ -133,36 +133,36 @@ put_same b value r p =
     (written_same b (own.number_of_bit value) p)
   where
     by : (z : Result LocalMemory ℕ)
-        → does.on_local_memory p (then_ok z (λ c. Ok (bit_logic.with_local_regs r c)))
-        ≡ then_ok (does.on_local_memory p z) (λ q. Ok (own.with_regs r q))
+        → effect.on_local_memory p (then_ok z (λ c. Ok (bit_logic.with_local_regs r c)))
+        ≡ then_ok (effect.on_local_memory p z) (λ q. Ok (own.with_regs r q))
     by (Ok c) = refl
     by (Err e) = refl
 
 -- an instruction that seeks a place to write to
 seek_same : (x : NamedItem) (p : ExecState) (f : Location → Result LocalMemory ℕ) (g : Location → Result ExecState ℕ)
-    → is_written x ≡ true → ((b : Location) → does.on_local_memory p (f b) ≡ g b)
-    → does.on_local_memory p (then_ok (places.operand_location Writing (flat_of x) p.local p.memory) f)
+    → is_written x ≡ true → ((b : Location) → effect.on_local_memory p (f b) ≡ g b)
+    → effect.on_local_memory p (then_ok (places.operand_location Writing (flat_of x) p.local p.memory) f)
     ≡ then_ok (reading.place_of_operand Writing x p) g
 seek_same x p f g e h =
-    scene_then p (places.operand_location Writing (flat_of x) p.local p.memory) f
+    local_memory_then p (places.operand_location Writing (flat_of x) p.local p.memory) f
     ∙ then_same (places.operand_location Writing (flat_of x) p.local p.memory) (reading.place_of_operand Writing x p)
-    (λ b. does.on_local_memory p (f b)) g (written_place x p e) h
+    (λ b. effect.on_local_memory p (f b)) g (written_place x p e) h
 
 -- one that reads the bit there first
 before_same : (b : Location) (p : ExecState) (f : Bool → Result LocalMemory ℕ) (g : Bool → Result ExecState ℕ)
-    → ((before : Bool) → does.on_local_memory p (f before) ≡ g before)
-    → does.on_local_memory p (then_ok (bit_logic.bit_before b p.local p.memory) f)
+    → ((before : Bool) → effect.on_local_memory p (f before) ≡ g before)
+    → effect.on_local_memory p (then_ok (bit_logic.bit_before b p.local p.memory) f)
     ≡ then_ok (own.bit_there b p) g
 unfolding bit_logic.bit_before
 before_same b p f g h =
-    scene_then p (bit_logic.bit_before b p.local p.memory) f
+    local_memory_then p (bit_logic.bit_before b p.local p.memory) f
     ∙ then_same (bit_logic.bit_before b p.local p.memory) (own.bit_there b p)
-    (λ before. does.on_local_memory p (f before)) g
+    (λ before. effect.on_local_memory p (f before)) g
     (ap (λ r. then_ok r (λ n. Ok (n == 1))) (there_same Writing b p)) h
 
 pub assign_same : (x : NamedItem) (p : ExecState) → is_written x ≡ true
-    → does.operation_effect operation.Assign (flat_of x) p ≡ own.assigns_power_flow x p
-unfolding does.operation_effect bit_logic.bit_assigned
+    → effect.operation_effect operation.Assign (flat_of x) p ≡ own.assigns_power_flow x p
+unfolding effect.operation_effect bit_logic.bit_assigned
 assign_same x p e =
     seek_same x p (λ b. bit_logic.assigned_at b p.local p.memory)
     (λ b. own.writes_bit b (own.power_flow_of p) (after_store (own.power_flow_of p) p.local.regs) p) e
@@ -174,7 +174,7 @@ after_same true value before = refl
 after_same false value before = refl
 
 bit_set_same : (value : Bool) (x : NamedItem) (p : ExecState) → is_written x ≡ true
-    → does.on_local_memory p (bit_logic.bit_set value (flat_of x) p.local p.memory) ≡ own.sets_bit value x p
+    → effect.on_local_memory p (bit_logic.bit_set value (flat_of x) p.local p.memory) ≡ own.sets_bit value x p
 unfolding bit_logic.bit_set
 bit_set_same value x p e =
     let writes : Location → Bool → Result ExecState ℕ =
@@ -191,8 +191,8 @@ bit_set_same value x p e =
     ∙ ap (writes b) (after_same (own.power_flow_of p) value before)))
 
 pub edge_same : (rising : Bool) (x : NamedItem) (p : ExecState) → is_written x ≡ true
-    → does.operation_effect (operation.Edge rising) (flat_of x) p ≡ own.tells_edge rising x p
-unfolding does.operation_effect bit_logic.local_memory_after_edge
+    → effect.operation_effect (operation.Edge rising) (flat_of x) p ≡ own.tells_edge rising x p
+unfolding effect.operation_effect bit_logic.local_memory_after_edge
 edge_same rising x p e =
     seek_same x p
     (λ b. then_ok (bit_logic.bit_before b p.local p.memory)
@@ -212,58 +212,58 @@ error_same code (Err NoNumber) = refl
 error_same code (Err BadBcd) = refl
 
 timer_same : (f : Timer → Option Timer) (n : ItemNumber) (p : ExecState)
-    → does.on_timers p (then_ok (values.number_named (flat_number 1 n) p.local p.memory)
+    → effect.on_timers p (then_ok (values.number_named (flat_number 1 n) p.local p.memory)
     (λ which. values.with_timer_error 0x26 (change_at_number f p.timers which)))
     ≡ own.on_timer f n p
 timer_same f n p =
-    ap (λ z. does.on_timers p (then_ok z (λ which. values.with_timer_error 0x26 (change_at_number f p.timers which))))
+    ap (λ z. effect.on_timers p (then_ok z (λ which. values.with_timer_error 0x26 (change_at_number f p.timers which))))
     (numbered_same 1 n p)
     ∙ by (reading.number_of_item n p)
   where
     changed : (r : Result (List Timer) TimerFault)
-        → does.on_timers p (values.with_timer_error 0x26 r)
+        → effect.on_timers p (values.with_timer_error 0x26 r)
         ≡ then_ok (own.or_error 0x26 r) (λ all. own.on_regs own.with_logic_string_ended (record p { timers = all }))
     changed (Ok all) = refl
     changed (Err NoNumber) = refl
     changed (Err BadBcd) = refl
 
     by : (z : Result ℕ ℕ)
-        → does.on_timers p (then_ok z (λ which. values.with_timer_error 0x26 (change_at_number f p.timers which)))
+        → effect.on_timers p (then_ok z (λ which. values.with_timer_error 0x26 (change_at_number f p.timers which)))
         ≡ then_ok z (λ which. then_ok (own.or_error 0x26 (change_at_number f p.timers which))
         (λ all. own.on_regs own.with_logic_string_ended (record p { timers = all })))
     by (Ok which) = changed (change_at_number f p.timers which)
     by (Err e) = refl
 
 counter_same : (f : Counter → Option Counter) (n : ItemNumber) (p : ExecState)
-    → does.on_counters p (then_ok (values.number_named (flat_number 2 n) p.local p.memory)
+    → effect.on_counters p (then_ok (values.number_named (flat_number 2 n) p.local p.memory)
     (λ which. values.with_timer_error 0x27 (change_at_number f p.counters which)))
     ≡ own.on_counter f n p
 counter_same f n p =
-    ap (λ z. does.on_counters p (then_ok z (λ which. values.with_timer_error 0x27 (change_at_number f p.counters which))))
+    ap (λ z. effect.on_counters p (then_ok z (λ which. values.with_timer_error 0x27 (change_at_number f p.counters which))))
     (numbered_same 2 n p)
     ∙ by (reading.number_of_item n p)
   where
     changed : (r : Result (List Counter) TimerFault)
-        → does.on_counters p (values.with_timer_error 0x27 r)
+        → effect.on_counters p (values.with_timer_error 0x27 r)
         ≡ then_ok (own.or_error 0x27 r) (λ all. own.on_regs own.with_logic_string_ended (record p { counters = all }))
     changed (Ok all) = refl
     changed (Err NoNumber) = refl
     changed (Err BadBcd) = refl
 
     by : (z : Result ℕ ℕ)
-        → does.on_counters p (then_ok z (λ which. values.with_timer_error 0x27 (change_at_number f p.counters which)))
+        → effect.on_counters p (then_ok z (λ which. values.with_timer_error 0x27 (change_at_number f p.counters which)))
         ≡ then_ok z (λ which. then_ok (own.or_error 0x27 (change_at_number f p.counters which))
         (λ all. own.on_regs own.with_logic_string_ended (record p { counters = all })))
     by (Ok which) = changed (change_at_number f p.counters which)
     by (Err e) = refl
 
 -- by the kind in the operand
-spot_kind : (spot : OperandPlace) → does.kind_of_numbered_operand (flat_spot spot) ≡ None
+spot_kind : (spot : OperandPlace) → effect.kind_of_numbered_operand (flat_spot spot) ≡ None
 spot_kind (named.Fixed a w byte bit) = refl
 spot_kind (named.ByMemory a w from byte) = refl
 spot_kind (named.ByRegister a w register count) = refl
 
-number_kind : (kind : ℕ) (n : ItemNumber) → does.kind_of_numbered_operand (flat_number kind n) ≡ Some kind
+number_kind : (kind : ℕ) (n : ItemNumber) → effect.kind_of_numbered_operand (flat_number kind n) ≡ Some kind
 number_kind kind (named.Written n) = refl
 number_kind kind (named.InWord from byte) = refl
 
@@ -289,60 +289,60 @@ is_freed (named.Timer n) = true
 is_freed x = is_counter x
 
 pub set_same : (x : NamedItem) (p : ExecState) → is_set x ≡ true
-    → does.operation_effect operation.Set (flat_of x) p ≡ own.sets_operand x p
-unfolding does.operation_effect timing.counter_set
+    → effect.operation_effect operation.Set (flat_of x) p ≡ own.sets_operand x p
+unfolding effect.operation_effect timing.counter_set
 set_same (named.Counter n) p e =
-    ap (λ k. does.set_effect k (flat_number 2 n) p) (number_kind 2 n)
+    ap (λ k. effect.set_effect k (flat_number 2 n) p) (number_kind 2 n)
     ∙ counter_same (counters.set_counter (own.rlo_of p) (own.low_word p)) n p
 set_same (named.Place spot) p e =
-    ap (λ k. does.set_effect k (flat_spot spot) p) (spot_kind spot)
+    ap (λ k. effect.set_effect k (flat_spot spot) p) (spot_kind spot)
     ∙ bit_set_same true (named.Place spot) p refl
 set_same (named.Parameter index w) p e = bit_set_same true (named.Parameter index w) p refl
 set_same _ p e = absurd (false≢true e)
 
 pub reset_same : (x : NamedItem) (p : ExecState) → is_reset x ≡ true
-    → does.operation_effect operation.Reset (flat_of x) p ≡ own.resets_operand x p
-unfolding does.operation_effect timing.counter_reset timing.timer_reset
+    → effect.operation_effect operation.Reset (flat_of x) p ≡ own.resets_operand x p
+unfolding effect.operation_effect timing.counter_reset timing.timer_reset
 reset_same (named.Timer n) p e =
-    ap (λ k. does.reset_effect k (flat_number 1 n) p) (number_kind 1 n)
+    ap (λ k. effect.reset_effect k (flat_number 1 n) p) (number_kind 1 n)
     ∙ timer_same (λ t. Some (timers.reset_timer (own.rlo_of p) t)) n p
 reset_same (named.Counter n) p e =
-    ap (λ k. does.reset_effect k (flat_number 2 n) p) (number_kind 2 n)
+    ap (λ k. effect.reset_effect k (flat_number 2 n) p) (number_kind 2 n)
     ∙ counter_same (λ k. Some (counters.reset_counter (own.rlo_of p) k)) n p
 reset_same (named.Place spot) p e =
-    ap (λ k. does.reset_effect k (flat_spot spot) p) (spot_kind spot)
+    ap (λ k. effect.reset_effect k (flat_spot spot) p) (spot_kind spot)
     ∙ bit_set_same false (named.Place spot) p refl
 reset_same (named.Parameter index w) p e = bit_set_same false (named.Parameter index w) p refl
 reset_same _ p e = absurd (false≢true e)
 
 pub free_same : (x : NamedItem) (p : ExecState) → is_freed x ≡ true
-    → does.operation_effect operation.Free (flat_of x) p ≡ own.frees_operand x p
-unfolding does.operation_effect timing.counter_freed timing.timer_freed
+    → effect.operation_effect operation.Free (flat_of x) p ≡ own.frees_operand x p
+unfolding effect.operation_effect timing.counter_freed timing.timer_freed
 free_same (named.Timer n) p e =
-    ap (λ k. does.enable_effect k (flat_number 1 n) p) (number_kind 1 n)
+    ap (λ k. effect.enable_effect k (flat_number 1 n) p) (number_kind 1 n)
     ∙ timer_same (λ t. Some (timers.free_timer (own.rlo_of p) t)) n p
 free_same (named.Counter n) p e =
-    ap (λ k. does.enable_effect k (flat_number 2 n) p) (number_kind 2 n)
+    ap (λ k. effect.enable_effect k (flat_number 2 n) p) (number_kind 2 n)
     ∙ counter_same (λ k. Some (counters.free_counter (own.rlo_of p) k)) n p
 free_same _ p e = absurd (false≢true e)
 
 pub start_same : (how : TimerKind) (x : NamedItem) (p : ExecState) → is_timer x ≡ true
-    → does.operation_effect (operation.Start how) (flat_of x) p ≡ own.starts_timer how x p
-unfolding does.operation_effect timing.timer_start
+    → effect.operation_effect (operation.Start how) (flat_of x) p ≡ own.starts_timer how x p
+unfolding effect.operation_effect timing.timer_start
 start_same how (named.Timer n) p e =
     timer_same (timers.start_timer how (own.rlo_of p) (own.low_word p)) n p
 start_same how _ p e = absurd (false≢true e)
 
 pub up_same : (x : NamedItem) (p : ExecState) → is_counter x ≡ true
-    → does.operation_effect operation.CountUp (flat_of x) p ≡ own.counts_counter counters.count_up x p
-unfolding does.operation_effect timing.counting_up
+    → effect.operation_effect operation.CountUp (flat_of x) p ≡ own.counts_counter counters.count_up x p
+unfolding effect.operation_effect timing.counting_up
 up_same (named.Counter n) p e =
     counter_same (λ k. Some (counters.count_up (own.rlo_of p) k)) n p
 up_same _ p e = absurd (false≢true e)
 
 pub down_same : (x : NamedItem) (p : ExecState) → is_counter x ≡ true
-    → does.operation_effect operation.CountDown (flat_of x) p ≡ own.counts_counter counters.count_down x p
-unfolding does.operation_effect timing.counting_down
+    → effect.operation_effect operation.CountDown (flat_of x) p ≡ own.counts_counter counters.count_down x p
+unfolding effect.operation_effect timing.counting_down
 down_same (named.Counter n) p e =
     counter_same (λ k. Some (counters.count_down (own.rlo_of p) k)) n p
 down_same _ p e = absurd (false≢true e)
@@ -350,19 +350,19 @@ down_same _ p e = absurd (false≢true e)
 -- ---- the master control relay
 
 pub open_zone_same : (o : Operand) (p : ExecState)
-    → does.operation_effect (operation.Relay relay.Open) o p ≡ own.opens_relay_zone p
-unfolding does.operation_effect zones.opening_zone
+    → effect.operation_effect (operation.Relay relay.Open) o p ≡ own.opens_relay_zone p
+unfolding effect.operation_effect zones.opening_zone
 open_zone_same o p =
     own_if p (length p.local.inner.relay.zones == 8)
     (zones.with_relay_zones (zone_opened p.local.regs.status.rlo p.local.inner.relay) p.local)
 
 pub end_zone_same : (o : Operand) (p : ExecState)
-    → does.operation_effect (operation.Relay relay.Close) o p ≡ own.ends_relay_zone p
-unfolding does.operation_effect zones.ending_zone
+    → effect.operation_effect (operation.Relay relay.Close) o p ≡ own.ends_relay_zone p
+unfolding effect.operation_effect zones.ending_zone
 end_zone_same o p = by p.local.inner.relay.zones
   where
     by : (open_zones : List Bool)
-        → does.on_local p (if is_empty_list open_zones then Err 0
+        → effect.on_local p (if is_empty_list open_zones then Err 0
         else Ok (zones.with_relay_zones (zone_ended p.local.inner.relay) p.local))
         ≡ own.ends_zone_of open_zones p
     by [] = refl
@@ -386,9 +386,9 @@ open_length_same None m = refl
 open_length_same (Some n) m = length_same (map.get m.data_blocks n)
 
 plain_load : (x : NamedItem) (p : ExecState) → is_read x ≡ true
-    → does.operation_effect operation.Load (flat_of x) p
+    → effect.operation_effect operation.Load (flat_of x) p
     ≡ then_ok (reading.number_to_load x p) (λ n. own.on_regs (own.with_loaded n) p)
-unfolding does.operation_effect loads.regs_after_load
+unfolding effect.operation_effect loads.regs_after_load
 plain_load x p e =
     regs_then p (values.load_value (flat_of x) p.local p.memory p.timers p.counters)
     (λ n. own.with_loaded n p.local.regs)
@@ -401,8 +401,8 @@ is_loaded (named.Opened what) = true
 is_loaded x = is_read x
 
 pub load_same : (x : NamedItem) (p : ExecState) → is_loaded x ≡ true
-    → does.operation_effect (load_operation x) (flat_of x) p ≡ own.loads_operand x p
-unfolding does.operation_effect loads.status_loaded data_blocks.loading_open_block data_blocks.open_block_fact
+    → effect.operation_effect (load_operation x) (flat_of x) p ≡ own.loads_operand x p
+unfolding effect.operation_effect loads.status_loaded data_blocks.loading_open_block data_blocks.open_block_fact
     reading.number_to_load reading.number_of_operand
 load_same named.StatusWord p e = refl
 load_same (named.Opened named.DbLength) p e =
@@ -417,8 +417,8 @@ load_same named.SecondRegister p e = refl
 load_same x p e = plain_load x p e
 
 pub load_bcd_same : (x : NamedItem) (p : ExecState)
-    → does.operation_effect operation.LoadBcd (flat_of x) p ≡ own.loads_bcd x p
-unfolding does.operation_effect loads.regs_after_bcd_load
+    → effect.operation_effect operation.LoadBcd (flat_of x) p ≡ own.loads_bcd x p
+unfolding effect.operation_effect loads.regs_after_bcd_load
 load_bcd_same x p =
     regs_then p (values.bcd_loaded (flat_of x) p.local p.memory p.timers p.counters)
     (λ n. own.with_loaded n p.local.regs)
@@ -426,7 +426,7 @@ load_bcd_same x p =
     (bcd_same x p)
 
 puts_same : (n : ℕ) (x : NamedItem) (p : ExecState) → is_written x ≡ true
-    → does.on_local_memory p (loads.number_transferred n (flat_of x) p.local p.memory) ≡ own.puts_number n x p
+    → effect.on_local_memory p (loads.number_transferred n (flat_of x) p.local p.memory) ≡ own.puts_number n x p
 unfolding loads.number_transferred
 puts_same n x p e =
     seek_same x p (λ b. values.number_written_at b (n % 2 ^ bit_count b.width) p.local p.memory)
@@ -445,8 +445,8 @@ is_transferred named.StatusWord = true
 is_transferred x = is_written x
 
 pub transfer_same : (x : NamedItem) (p : ExecState) → is_transferred x ≡ true
-    → does.operation_effect (transfer_operation x) (flat_of x) p ≡ own.transfers_accumulator x p
-unfolding does.operation_effect loads.status_transferred
+    → effect.operation_effect (transfer_operation x) (flat_of x) p ≡ own.transfers_accumulator x p
+unfolding effect.operation_effect loads.status_transferred
 transfer_same named.StatusWord p e = refl
 transfer_same (named.Place spot) p e =
     puts_same (if own.is_relay_closed p then 0 else p.local.regs.a1) (named.Place spot) p refl
@@ -477,11 +477,11 @@ address_same _ p e = absurd (false≢true e)
 
 -- with another address in AR1, in AR2
 address_to : (f : ℕ → Regs) (x : NamedItem) (p : ExecState) → is_address x ≡ true
-    → does.on_local_memory p (then_ok (pointer.address_loaded (flat_of x) p.local p.memory)
+    → effect.on_local_memory p (then_ok (pointer.address_loaded (flat_of x) p.local p.memory)
     (λ n. Ok (pointer.regs_set (f n) p.local p.memory)))
     ≡ then_ok (own.address_to_load x p) (λ n. Ok (own.with_regs (f n) p))
 address_to f x p e =
-    scene_then p (pointer.address_loaded (flat_of x) p.local p.memory)
+    local_memory_then p (pointer.address_loaded (flat_of x) p.local p.memory)
     (λ n. Ok (pointer.regs_set (f n) p.local p.memory))
     ∙ ap (λ r. then_ok r (λ n. Ok (own.with_regs (f n) p))) (address_same x p e)
 
@@ -496,8 +496,8 @@ is_first_address named.SecondRegister = true
 is_first_address x = is_address x
 
 pub lar1_same : (x : NamedItem) (p : ExecState) → is_first_address x ≡ true
-    → does.operation_effect (load_address_operation x) (flat_of x) p ≡ own.loads_ar1 x p
-unfolding does.operation_effect pointer.pointer_effect
+    → effect.operation_effect (load_address_operation x) (flat_of x) p ≡ own.loads_ar1 x p
+unfolding effect.operation_effect pointer.pointer_effect
 lar1_same named.SecondRegister p e = refl
 lar1_same named.Nothing p e = address_to (λ n. record p.local.regs { ar1 = n }) named.Nothing p e
 lar1_same (named.Pointer value) p e =
@@ -507,8 +507,8 @@ lar1_same (named.Place spot) p e =
 lar1_same _ p e = absurd (false≢true e)
 
 pub lar2_same : (x : NamedItem) (p : ExecState) → is_address x ≡ true
-    → does.operation_effect (operation.Pointer pointers.Lar2) (flat_of x) p ≡ own.loads_ar2 x p
-unfolding does.operation_effect pointer.pointer_effect
+    → effect.operation_effect (operation.Pointer pointers.Lar2) (flat_of x) p ≡ own.loads_ar2 x p
+unfolding effect.operation_effect pointer.pointer_effect
 lar2_same x p e = address_to (λ n. record p.local.regs { ar2 = n }) x p e
 
 -- TAR1 and TAR2
@@ -518,7 +518,7 @@ is_address_place (named.Place spot) = true
 is_address_place _ = false
 
 puts_address_same : (n : ℕ) (x : NamedItem) (p : ExecState) → is_address_place x ≡ true
-    → does.on_local_memory p (pointer.address_transferred n (flat_of x) p.local p.memory)
+    → effect.on_local_memory p (pointer.address_transferred n (flat_of x) p.local p.memory)
     ≡ own.puts_address n x p
 puts_address_same n named.Nothing p e = refl
 puts_address_same n (named.Place (named.Fixed a w byte bit)) p e =
@@ -540,17 +540,17 @@ is_first_address_place named.SecondRegister = true
 is_first_address_place x = is_address_place x
 
 pub tar1_same : (x : NamedItem) (p : ExecState) → is_first_address_place x ≡ true
-    → does.operation_effect (store_address_operation x) (flat_of x) p ≡ own.stores_ar1 x p
-unfolding does.operation_effect pointer.pointer_effect
+    → effect.operation_effect (store_address_operation x) (flat_of x) p ≡ own.stores_ar1 x p
+unfolding effect.operation_effect pointer.pointer_effect
 tar1_same named.SecondRegister p e = refl
 tar1_same named.Nothing p e = puts_address_same p.local.regs.ar1 named.Nothing p e
 tar1_same (named.Place spot) p e = puts_address_same p.local.regs.ar1 (named.Place spot) p e
 tar1_same _ p e = absurd (false≢true e)
 
 pub tar2_same : (x : NamedItem) (p : ExecState) → is_address_place x ≡ true
-    → does.operation_effect (operation.Pointer pointers.Tar2) (flat_of x) p
+    → effect.operation_effect (operation.Pointer pointers.Tar2) (flat_of x) p
     ≡ own.puts_address p.local.regs.ar2 x p
-unfolding does.operation_effect pointer.pointer_effect
+unfolding effect.operation_effect pointer.pointer_effect
 tar2_same x p e = puts_address_same p.local.regs.ar2 x p e
 
 abbrev pub is_added_address : NamedItem → Bool
@@ -559,17 +559,17 @@ is_added_address (named.Pointer value) = true
 is_added_address _ = false
 
 pub add_ar1_same : (x : NamedItem) (p : ExecState) → is_added_address x ≡ true
-    → does.operation_effect (operation.Pointer pointers.AddAr1) (flat_of x) p
+    → effect.operation_effect (operation.Pointer pointers.AddAr1) (flat_of x) p
     ≡ Ok (own.with_ar1 (own.address_after p.local.regs.ar1 (own.added_bits x p)) p)
-unfolding does.operation_effect pointer.pointer_effect pointer.address_added
+unfolding effect.operation_effect pointer.pointer_effect pointer.address_added
 add_ar1_same named.Nothing p e = refl
 add_ar1_same (named.Pointer value) p e = refl
 add_ar1_same _ p e = absurd (false≢true e)
 
 pub add_ar2_same : (x : NamedItem) (p : ExecState) → is_added_address x ≡ true
-    → does.operation_effect (operation.Pointer pointers.AddAr2) (flat_of x) p
+    → effect.operation_effect (operation.Pointer pointers.AddAr2) (flat_of x) p
     ≡ Ok (own.with_ar2 (own.address_after p.local.regs.ar2 (own.added_bits x p)) p)
-unfolding does.operation_effect pointer.pointer_effect pointer.address_added
+unfolding effect.operation_effect pointer.pointer_effect pointer.address_added
 add_ar2_same named.Nothing p e = refl
 add_ar2_same (named.Pointer value) p e = refl
 add_ar2_same _ p e = absurd (false≢true e)
@@ -581,36 +581,36 @@ is_data_block (named.DataBlock di n) = true
 is_data_block _ = false
 
 opened_same : (di : Bool) (n : ℕ) (p : ExecState)
-    → does.on_local p (data_blocks.opened_if (data_blocks.is_block_loaded n p.memory) (if di then 2 else 1) n p.local)
+    → effect.on_local p (data_blocks.opened_if (data_blocks.is_block_loaded n p.memory) (if di then 2 else 1) n p.local)
     ≡ own.opens_block_number di n p
 opened_same true n p = by (data_blocks.is_block_loaded n p.memory)
   where
-    by : (b : Bool) → does.on_local p (data_blocks.opened_if b 2 n p.local)
+    by : (b : Bool) → effect.on_local p (data_blocks.opened_if b 2 n p.local)
         ≡ (if b then Ok (own.with_open true n p) else Err 0x3A)
     by true = refl
     by false = refl
 opened_same false n p = by (data_blocks.is_block_loaded n p.memory)
   where
-    by : (b : Bool) → does.on_local p (data_blocks.opened_if b 1 n p.local)
+    by : (b : Bool) → effect.on_local p (data_blocks.opened_if b 1 n p.local)
         ≡ (if b then Ok (own.with_open false n p) else Err 0x3A)
     by true = refl
     by false = refl
 
 own_then : {A : Type 0} (p : ExecState) (r : Result A ℕ) (f : A → Result Local ℕ)
-    → does.on_local p (then_ok r f) ≡ then_ok r (λ x. does.on_local p (f x))
+    → effect.on_local p (then_ok r f) ≡ then_ok r (λ x. effect.on_local p (f x))
 own_then p (Ok x) f = refl
 own_then p (Err e) f = refl
 
 pub open_same : (x : NamedItem) (p : ExecState) → is_data_block x ≡ true
-    → does.operation_effect operation.OpenBlock (flat_of x) p ≡ own.opens_data_block x p
-unfolding does.operation_effect data_blocks.block_opened_by reading.number_of_item
+    → effect.operation_effect operation.OpenBlock (flat_of x) p ≡ own.opens_data_block x p
+unfolding effect.operation_effect data_blocks.block_opened_by reading.number_of_item
 open_same (named.DataBlock di (named.Written n)) p e = opened_same di n p
 open_same (named.DataBlock di (named.InWord from byte)) p e =
     own_then p (places.pointer_number from byte widths.Word p.local p.memory)
     (λ n. data_blocks.opened_if (data_blocks.is_block_loaded n p.memory) (if di then 2 else 1) n p.local)
     ∙ then_same (places.pointer_number from byte widths.Word p.local p.memory)
     (reading.stored_number from byte widths.Word p)
-    (λ n. does.on_local p (data_blocks.opened_if (data_blocks.is_block_loaded n p.memory) (if di then 2 else 1) n p.local))
+    (λ n. effect.on_local p (data_blocks.opened_if (data_blocks.is_block_loaded n p.memory) (if di then 2 else 1) n p.local))
     (λ n. own.opens_block_number di n p)
     (standing_same from byte widths.Word p) (λ n. opened_same di n p)
 open_same _ p e = absurd (false≢true e)
@@ -618,10 +618,10 @@ open_same _ p e = absurd (false≢true e)
 -- ---- number instructions
 
 pub bcd_number_same : (f : Regs → Option Regs) (p : ExecState)
-    → does.effect_on_regs p (ok_or (f p.local.regs) 0x21) ≡ own.on_bcd f p
+    → effect.effect_on_regs p (ok_or (f p.local.regs) 0x21) ≡ own.on_bcd f p
 bcd_number_same f p = by (ok_or (f p.local.regs) 0x21)
   where
-    by : (r : Result Regs ℕ) → does.effect_on_regs p r ≡ then_ok r (λ z. Ok (own.with_regs z p))
+    by : (r : Result Regs ℕ) → effect.effect_on_regs p r ≡ then_ok r (λ z. Ok (own.with_regs z p))
     by (Ok z) = refl
     by (Err e) = refl
 
@@ -640,22 +640,22 @@ add_operation (named.Constant (literal.Long value)) = operation.Add adding.Dword
 add_operation _ = operation.Add adding.Word
 
 pub inc_same : (x : NamedItem) (p : ExecState) → is_constant x ≡ true
-    → does.operation_effect (operation.Add adding.Inc) (flat_of x) p
+    → effect.operation_effect (operation.Add adding.Inc) (flat_of x) p
     ≡ own.on_regs (accumulators.accumulator_increased 8 (own.constant_bits_or_zero 8 x)) p
-unfolding does.operation_effect numbers.with_constant
+unfolding effect.operation_effect numbers.with_constant
 inc_same (named.Constant value) p e = refl
 inc_same _ p e = absurd (false≢true e)
 
 pub dec_same : (x : NamedItem) (p : ExecState) → is_constant x ≡ true
-    → does.operation_effect (operation.Add adding.Dec) (flat_of x) p
+    → effect.operation_effect (operation.Add adding.Dec) (flat_of x) p
     ≡ own.on_regs (accumulators.accumulator_decreased 8 (own.constant_bits_or_zero 8 x)) p
-unfolding does.operation_effect numbers.with_constant
+unfolding effect.operation_effect numbers.with_constant
 dec_same (named.Constant value) p e = refl
 dec_same _ p e = absurd (false≢true e)
 
 pub add_same : (x : NamedItem) (p : ExecState) → is_constant x ≡ true
-    → does.operation_effect (add_operation x) (flat_of x) p ≡ own.on_regs (own.adds_by x) p
-unfolding does.operation_effect numbers.with_constant
+    → effect.operation_effect (add_operation x) (flat_of x) p ≡ own.on_regs (own.adds_by x) p
+unfolding effect.operation_effect numbers.with_constant
 add_same (named.Constant (literal.Long value)) p e = refl
 add_same (named.Constant _) p e = refl
 add_same _ p e = absurd (false≢true e)
@@ -670,8 +670,8 @@ constant_same w _ e = absurd (false≢true e)
 pub logic_same : (what : Logic) (w : ℕ) (f : Option ℕ → Regs → Regs) (x : NamedItem) (p : ExecState)
     → is_count x ≡ true
     → ((o : Operand) → numbers.word_logic_effect what o p.local.regs ≡ f (numbers.constant_in w o) p.local.regs)
-    → does.operation_effect (operation.Logic what) (flat_of x) p ≡ own.on_regs (f (own.constant_of_width w x)) p
-unfolding does.operation_effect
+    → effect.operation_effect (operation.Logic what) (flat_of x) p ≡ own.on_regs (f (own.constant_of_width w x)) p
+unfolding effect.operation_effect
 logic_same what w f x p e h =
     ap (λ r. Ok (own.with_regs r p))
     (h (flat_of x) ∙ ap (λ k. f k p.local.regs) (constant_same w x e))
@@ -680,8 +680,8 @@ pub shift_same : (what : Shift) (f : ℕ → Regs → Regs) (x : NamedItem) (p :
     → is_count x ≡ true
     → ((o : Operand) → numbers.shift_effect what o p.local.regs
     ≡ f (unwrap_or (numbers.constant_in 8 o) (p.local.regs.a2 % 2 ^ 8)) p.local.regs)
-    → does.operation_effect (operation.Shift what) (flat_of x) p ≡ own.on_regs (f (own.shift_count x p)) p
-unfolding does.operation_effect
+    → effect.operation_effect (operation.Shift what) (flat_of x) p ≡ own.on_regs (f (own.shift_count x p)) p
+unfolding effect.operation_effect
 shift_same what f x p e h =
     ap (λ r. Ok (own.with_regs r p))
     (h (flat_of x)

@@ -24,7 +24,7 @@ use Rattle.stl_codegen.specs.Instruction.{end_instr, instr_by, instruction, reso
 use Rattle.stl_codegen.specs.Operands as codegen
 use Rattle.stl_codegen.specs.Operations.{call_operation_of, end_operation_of, jump_operation_of, operation_for}
 use Rattle.machine.specs.DataBlocks as data_blocks
-use Rattle.machine.specs.Effect as does
+use Rattle.machine.specs.Effect as effect
 use Rattle.machine.specs.Numbers as numbers
 use Rattle.machine.specs.Pointers as pointer
 use Rattle.machine.specs.ExecState.{ExecState, exec_state_of, then_ok}
@@ -46,22 +46,22 @@ use Rattle.statement_laws.proofs.VariableLemmas.{view_same}
 -- ---- from operations to statements
 
 db_first : (m : Mnemonic) (op : Operation) (n : ℕ) (x : NamedItem) (p : ExecState)
-    → ((q : ExecState) → does.operation_effect op (flat_of x) q ≡ effect_of_operation m x q)
-    → (if data_blocks.is_block_loaded n p.memory then does.operation_effect op (flat_of x) (does.with_db_opened n p) else Err 0x3A)
+    → ((q : ExecState) → effect.operation_effect op (flat_of x) q ≡ effect_of_operation m x q)
+    → (if data_blocks.is_block_loaded n p.memory then effect.operation_effect op (flat_of x) (effect.with_db_opened n p) else Err 0x3A)
     ≡ then_ok (own.opens_block_number false n p) (λ q. effect_of_operation m x q)
 db_first m op n x p h = by (data_blocks.is_block_loaded n p.memory)
   where
     by : (b : Bool)
-        → (if b then does.operation_effect op (flat_of x) (does.with_db_opened n p) else Err 0x3A)
+        → (if b then effect.operation_effect op (flat_of x) (effect.with_db_opened n p) else Err 0x3A)
         ≡ then_ok (if b then Ok (own.with_open false n p) else Err 0x3A) (λ q. effect_of_operation m x q)
     by true = h (own.with_open false n p)
     by false = refl
 
 -- a data block that the statement opens first is open then
 first_opened : (m : Mnemonic) (op : Operation) (x : NamedItem) (p : ExecState)
-    → ((q : ExecState) → does.operation_effect op (flat_of (as_open x)) q ≡ effect_of_operation m (as_open x) q)
-    → does.statement_effect (opens_first x) op (flat_of x) p ≡ effect_of_statement m x p
-unfolding does.statement_effect effect_of_statement
+    → ((q : ExecState) → effect.operation_effect op (flat_of (as_open x)) q ≡ effect_of_operation m (as_open x) q)
+    → effect.statement_effect (opens_first x) op (flat_of x) p ≡ effect_of_statement m x p
+unfolding effect.statement_effect effect_of_statement
 first_opened m op (named.PlaceIn n w byte bit) p h = db_first m op n (named_fixed_place area.Db w byte bit) p h
 first_opened m op _ p h = h p
 
@@ -70,7 +70,7 @@ pub record Acted (m : Mnemonic) (o : Operand) (v : ResolvedOperand) (x : NamedIt
   pub no_jump : jump_operation_of m ≡ None
   pub no_call : call_operation_of m ≡ None
   pub no_end : end_operation_of m ≡ None
-  pub same : (q : ExecState) → does.operation_effect (operation_for m o v) (flat_of (as_open x)) q ≡ effect_of_operation m (as_open x) q
+  pub same : (q : ExecState) → effect.operation_effect (operation_for m o v) (flat_of (as_open x)) q ≡ effect_of_operation m (as_open x) q
 
 -- what is known of it
 pub record Given (m : Mnemonic) (o : Operand) (v : ResolvedOperand) (x : NamedItem) : Type 0 where
@@ -87,9 +87,9 @@ acts c body n s v x e is h program next a w =
     (ap (instr_by c body n s) acted.no_jump ∙ ap (resolved_instr c s) e
     ∙ ap (view_instr c s v) acted.no_call ∙ ap (end_instr s v) acted.no_end)
     ∙ ap (λ r. continue_with r next a)
-    (ap (λ k. does.statement_effect k (operation_for s.code s.operand v) (codegen.flat_operand_of s.operand v) p)
+    (ap (λ k. effect.statement_effect k (operation_for s.code s.operand v) (codegen.flat_operand_of s.operand v) p)
     (opened_first (about s.operand) v x there)
-    ∙ ap (λ o. does.statement_effect (opens_first x) (operation_for s.code s.operand v) o p)
+    ∙ ap (λ o. effect.statement_effect (opens_first x) (operation_for s.code s.operand v) o p)
     (operand_flat s.operand v x there)
     ∙ first_opened s.code (operation_for s.code s.operand v) x p acted.same)
   where
@@ -105,13 +105,13 @@ acts c body n s v x e is h program next a w =
 -- an operation that is the same whatever its operand
 acted : (m : Mnemonic) (o : Operand) (v : ResolvedOperand) (x : NamedItem)
     → jump_operation_of m ≡ None → call_operation_of m ≡ None → end_operation_of m ≡ None
-    → ((q : ExecState) → does.operation_effect (operation_for m o v) (flat_of (as_open x)) q ≡ effect_of_operation m (as_open x) q)
+    → ((q : ExecState) → effect.operation_effect (operation_for m o v) (flat_of (as_open x)) q ≡ effect_of_operation m (as_open x) q)
     → Acted m o v x
 acted m o v x j c e h = record { no_jump = j; no_call = c; no_end = e; same = h }
 
 bit_logic : (m : Mnemonic) (o : Operand) (v : ResolvedOperand) (x : NamedItem) → is_bit_logic m ≡ true
     → Given m o v x → Acted m o v x
-unfolding operation_for effect_of_operation form_of does.operation_effect
+unfolding operation_for effect_of_operation form_of effect.operation_effect
 bit_logic code.A o v x is g =
     acted code.A o v x refl refl refl
     (λ q. action_lemmas.checks_same check.A (as_open x) q
@@ -122,7 +122,7 @@ bit_logic code.An o v x is g =
     (holds flat_lemmas.is_read (about o) v x (rules.reads_bit (about o) v g.rule) g.there))
 bit_logic code.O o v x is g =
     acted code.O o v x refl refl refl
-    (λ q. ap (λ op. does.operation_effect op (flat_of (as_open x)) q) (rules.or_named (about o) v x g.there)
+    (λ q. ap (λ op. effect.operation_effect op (flat_of (as_open x)) q) (rules.or_named (about o) v x g.there)
     ∙ action_lemmas.or_same (as_open x) q (holds flat_lemmas.is_read (about o) v x (rules.reads_bit_or_bare (about o) v g.rule) g.there))
 bit_logic code.On o v x is g =
     acted code.On o v x refl refl refl
@@ -197,21 +197,21 @@ bit_logic_acts c body n s v x is e names =
 
 load_or_transfer : (m : Mnemonic) (o : Operand) (v : ResolvedOperand) (x : NamedItem) → is_load_or_transfer m ≡ true
     → Given m o v x → Acted m o v x
-unfolding operation_for effect_of_operation form_of does.operation_effect pointer.pointer_effect
+unfolding operation_for effect_of_operation form_of effect.operation_effect pointer.pointer_effect
 load_or_transfer code.L o v x is g =
     acted code.L o v x refl refl refl
-    (λ q. ap (λ op. does.operation_effect op (flat_of (as_open x)) q) (rules.load_named (about o) v x g.there)
+    (λ q. ap (λ op. effect.operation_effect op (flat_of (as_open x)) q) (rules.load_named (about o) v x g.there)
     ∙ action_lemmas.load_same (as_open x) q (loads_all x))
 load_or_transfer code.T o v x is g =
     acted code.T o v x refl refl refl
-    (λ q. ap (λ op. does.operation_effect op (flat_of (as_open x)) q) (rules.transfer_named (about o) v x g.there)
+    (λ q. ap (λ op. effect.operation_effect op (flat_of (as_open x)) q) (rules.transfer_named (about o) v x g.there)
     ∙ action_lemmas.transfer_same (as_open x) q (holds action_lemmas.is_transferred (about o) v x (rules.transfers (about o) v g.rule) g.there))
 load_or_transfer code.Lc o v x is g =
     acted code.Lc o v x refl refl refl
     (λ q. action_lemmas.load_bcd_same (as_open x) q)
 load_or_transfer code.Lar1 o v x is g =
     acted code.Lar1 o v x refl refl refl
-    (λ q. ap (λ op. does.operation_effect op (flat_of (as_open x)) q) (rules.load_address_named (about o) v x g.there)
+    (λ q. ap (λ op. effect.operation_effect op (flat_of (as_open x)) q) (rules.load_address_named (about o) v x g.there)
     ∙ action_lemmas.lar1_same (as_open x) q (holds action_lemmas.is_first_address (about o) v x (rules.loads_ar1 (about o) v g.rule) g.there))
 load_or_transfer code.Lar2 o v x is g =
     acted code.Lar2 o v x refl refl refl
@@ -219,7 +219,7 @@ load_or_transfer code.Lar2 o v x is g =
     (holds action_lemmas.is_address (about o) v x (rules.loads_ar2 (about o) v g.rule) g.there))
 load_or_transfer code.Tar1 o v x is g =
     acted code.Tar1 o v x refl refl refl
-    (λ q. ap (λ op. does.operation_effect op (flat_of (as_open x)) q) (rules.store_address_named (about o) v x g.there)
+    (λ q. ap (λ op. effect.operation_effect op (flat_of (as_open x)) q) (rules.store_address_named (about o) v x g.there)
     ∙ action_lemmas.tar1_same (as_open x) q (holds action_lemmas.is_first_address_place (about o) v x (rules.stores_ar1 (about o) v g.rule) g.there))
 load_or_transfer code.Tar2 o v x is g =
     acted code.Tar2 o v x refl refl refl
@@ -244,7 +244,7 @@ load_or_transfer_acts c body n s v x is e names =
 
 number_instruction : (m : Mnemonic) (o : Operand) (v : ResolvedOperand) (x : NamedItem) → is_number_instruction m ≡ true
     → Given m o v x → Acted m o v x
-unfolding operation_for effect_of_operation form_of does.operation_effect numbers.number_effect numbers.word_logic_effect
+unfolding operation_for effect_of_operation form_of effect.operation_effect numbers.number_effect numbers.word_logic_effect
 number_instruction code.Tak o v x is g =
     acted code.Tak o v x refl refl refl
     (λ q. refl)
@@ -270,7 +270,7 @@ number_instruction code.Dec o v x is g =
     (holds action_lemmas.is_constant (about o) v x (rules.counts 255 (about o) v g.rule) g.there))
 number_instruction code.Add o v x is g =
     acted code.Add o v x refl refl refl
-    (λ q. ap (λ op. does.operation_effect op (flat_of (as_open x)) q) (rules.add_named o v x g.there)
+    (λ q. ap (λ op. effect.operation_effect op (flat_of (as_open x)) q) (rules.add_named o v x g.there)
     ∙ action_lemmas.add_same (as_open x) q
     (holds action_lemmas.is_constant (about o) v x (rules.adds (about o) v g.rule) g.there))
 number_instruction code.AddI o v x is g =
@@ -365,7 +365,7 @@ number_instruction_acts c body n s v x is e names =
 
 comparison : (m : Mnemonic) (o : Operand) (v : ResolvedOperand) (x : NamedItem) → is_comparison m ≡ true
     → Given m o v x → Acted m o v x
-unfolding operation_for effect_of_operation form_of does.operation_effect
+unfolding operation_for effect_of_operation form_of effect.operation_effect
 comparison code.EqI o v x is g =
     acted code.EqI o v x refl refl refl
     (λ q. refl)
@@ -410,7 +410,7 @@ comparison_acts c body n s v x is e names =
 
 shift : (m : Mnemonic) (o : Operand) (v : ResolvedOperand) (x : NamedItem) → is_shift m ≡ true
     → Given m o v x → Acted m o v x
-unfolding operation_for effect_of_operation form_of does.operation_effect numbers.number_effect numbers.shift_effect
+unfolding operation_for effect_of_operation form_of effect.operation_effect numbers.number_effect numbers.shift_effect
 shift code.Ssi o v x is g =
     acted code.Ssi o v x refl refl refl
     (λ q. action_lemmas.shift_same shift_word.Ssi (shifts.shifted_signed 16) (as_open x) q
@@ -506,7 +506,7 @@ timing_acts c body n s v x is e names =
 
 relay : (m : Mnemonic) (o : Operand) (v : ResolvedOperand) (x : NamedItem) → is_relay m ≡ true
     → Given m o v x → Acted m o v x
-unfolding operation_for effect_of_operation form_of does.operation_effect
+unfolding operation_for effect_of_operation form_of effect.operation_effect
 relay code.Mcra o v x is g =
     acted code.Mcra o v x refl refl refl
     (λ q. refl)
@@ -527,7 +527,7 @@ relay_acts c body n s v x is e names =
 
 data_block : (m : Mnemonic) (o : Operand) (v : ResolvedOperand) (x : NamedItem) → is_data_block_instruction m ≡ true
     → Given m o v x → Acted m o v x
-unfolding operation_for effect_of_operation form_of does.operation_effect data_blocks.registers_exchanged
+unfolding operation_for effect_of_operation form_of effect.operation_effect data_blocks.registers_exchanged
 data_block code.Opn o v x is g =
     acted code.Opn o v x refl refl refl
     (λ q. action_lemmas.open_same (as_open x) q
@@ -543,7 +543,7 @@ data_block_acts c body n s v x is e names =
 
 idle : (m : Mnemonic) (o : Operand) (v : ResolvedOperand) (x : NamedItem) → is_idle m ≡ true
     → Given m o v x → Acted m o v x
-unfolding operation_for effect_of_operation form_of does.operation_effect
+unfolding operation_for effect_of_operation form_of effect.operation_effect
 idle code.Nop o v x is g =
     acted code.Nop o v x refl refl refl
     (λ q. refl)

@@ -140,12 +140,12 @@ crossing_same access w address n p =
 
 -- ---- writing
 
--- a scene by its parts
-abbrev pub with_scene : ExecState → LocalMemory → ExecState
-with_scene p c = record p { local = c.local; memory = c.memory }
+-- an execution state with other local data and memory
+abbrev pub with_local_memory : ExecState → LocalMemory → ExecState
+with_local_memory p c = record p { local = c.local; memory = c.memory }
 
 written_in_same : (a : Area) (b : Location) (n : ℕ) (p : ExecState)
-    → option_map (with_scene p)
+    → option_map (with_local_memory p)
     (if places.is_area_l a
     then option_map (λ l. record { local = values.with_locals p.local l; memory = p.memory })
     (local_written p.local.locals b.frame b.place.byte b.place.bit b.width n)
@@ -155,7 +155,7 @@ written_in_same : (a : Area) (b : Location) (n : ℕ) (p : ExecState)
 written_in_same area.L b n p = by (local_written p.local.locals b.frame b.place.byte b.place.bit b.width n)
   where
     by : (o : Option LocalData)
-        → option_map (with_scene p)
+        → option_map (with_local_memory p)
         (option_map (λ l. record { local = values.with_locals p.local l; memory = p.memory }) o)
         ≡ option_map (λ l. own.with_other_locals l p) o
     by None = refl
@@ -163,7 +163,7 @@ written_in_same area.L b n p = by (local_written p.local.locals b.frame b.place.
 written_in_same _ b n p = by (memory.number_written p.memory b.place b.width n)
   where
     by : (o : Option Areas)
-        → option_map (with_scene p) (option_map (λ m. record { local = p.local; memory = m }) o)
+        → option_map (with_local_memory p) (option_map (λ m. record { local = p.local; memory = m }) o)
         ≡ option_map (λ m. own.with_other_memory m p) o
     by None = refl
     by (Some m) = refl
@@ -177,6 +177,6 @@ written_same b n p =
   where
     by : (o : Option LocalMemory)
         → on_local_memory p (ok_or o (places.error_of_absent_place Writing b.place.area))
-        ≡ ok_or (option_map (with_scene p) o) (places.error_of_absent_place Writing b.place.area)
+        ≡ ok_or (option_map (with_local_memory p) o) (places.error_of_absent_place Writing b.place.area)
     by None = refl
     by (Some c) = refl

@@ -33,7 +33,7 @@ use Rattle.block_layout.specs.declared.cells.Element.TheVariants as element
 use Rattle.block_layout.specs.declared.members.Member.{Member}
 use Rattle.block_layout.specs.declared.walks.ComponentAt.{ComponentAt}
 use Rattle.block_layout.specs.declared.walks.PathEnd.{PathEnd}
-use Rattle.block_layout.specs.declared.walks.PathEnd.TheVariants as walk
+use Rattle.block_layout.specs.declared.walks.PathEnd.TheVariants as path_end
 use Rattle.stl_types.specs.Context.{Context, data_number, data_place, in_function, number_of_block}
 use Rattle.stl_types.specs.Forms.{form_of}
 use Rattle.stl_types.specs.Resolution.{resolution_of}
@@ -73,45 +73,45 @@ area_there kind (Some p) v e = (named_place p.0 p.1, refl)
 
 -- ---- variables in an area
 
-temporary_spot : (c : Context) (spot : ComponentAt) (o : Option Simple)
-    (v : ResolvedOperand) → has_no_name v ≡ false → own_at c true spot o ≡ Resolved v
-    → There (place_in_layout (elementary_place area.L 0 spot.offset o))
-temporary_spot c spot None v r e =
-    absurd (composite_refused v (slice_get (cells_at c.layouts spot.block spot.temporary) spot.place) r e)
-temporary_spot c spot (Some kind) v r e =
-    area_there kind (elementary_place area.L 0 spot.offset (Some kind)) v e
+temporary_component : (c : Context) (component : ComponentAt) (o : Option Simple)
+    (v : ResolvedOperand) → has_no_name v ≡ false → own_at c true component o ≡ Resolved v
+    → There (place_in_layout (elementary_place area.L 0 component.offset o))
+temporary_component c component None v r e =
+    absurd (composite_refused v (slice_get (cells_at c.layouts component.block component.temporary) component.place) r e)
+temporary_component c component (Some kind) v r e =
+    area_there kind (elementary_place area.L 0 component.offset (Some kind)) v e
 
 temporary_end : (c : Context) (end : PathEnd) (v : ResolvedOperand)
     → has_no_name v ≡ false → own_walked c true end ≡ Resolved v
     → There (place_in_layout (place_at_path_end c.layouts area.L 0 end))
-temporary_end c (walk.Reaches spot) v r e =
-    temporary_spot c spot (elementary_at c.layouts spot) v r e
-temporary_end c walk.Unknown v r e = absurd cc
-temporary_end c walk.Rests v r e = absurd cc
+temporary_end c (path_end.Reaches component) v r e =
+    temporary_component c component (elementary_at c.layouts component) v r e
+temporary_end c path_end.Unknown v r e = absurd cc
+temporary_end c path_end.Unjudged v r e = absurd cc
 
-static_spot : (c : Context) (spot : ComponentAt) (o : Option Simple)
+static_component : (c : Context) (component : ComponentAt) (o : Option Simple)
     (v : ResolvedOperand) → has_no_name v ≡ false → in_function c ≡ false
-    → own_at c false spot o ≡ Resolved v → There (place_in_layout (elementary_place area.Di 0 spot.offset o))
-static_spot c spot None v r fc e =
-    absurd (composite_refused v (slice_get (cells_at c.layouts spot.block spot.temporary) spot.place) r e)
-static_spot c spot (Some kind) v r fc e =
-    area_there kind (elementary_place area.Di 0 spot.offset (Some kind)) v
-    (sym (ap (λ (b : Bool). if b then parameter_at c spot kind
-    else variable_in_area kind (elementary_place area.Di 0 spot.offset (Some kind))) fc) ∙ e)
+    → own_at c false component o ≡ Resolved v → There (place_in_layout (elementary_place area.Di 0 component.offset o))
+static_component c component None v r fc e =
+    absurd (composite_refused v (slice_get (cells_at c.layouts component.block component.temporary) component.place) r e)
+static_component c component (Some kind) v r fc e =
+    area_there kind (elementary_place area.Di 0 component.offset (Some kind)) v
+    (sym (ap (λ (b : Bool). if b then parameter_at c component kind
+    else variable_in_area kind (elementary_place area.Di 0 component.offset (Some kind))) fc) ∙ e)
 
 static_end : (c : Context) (end : PathEnd) (v : ResolvedOperand)
     → has_no_name v ≡ false → in_function c ≡ false → own_walked c false end ≡ Resolved v
     → There (place_in_layout (place_at_path_end c.layouts area.Di 0 end))
-static_end c (walk.Reaches spot) v r fc e =
-    static_spot c spot (elementary_at c.layouts spot) v r fc e
-static_end c walk.Unknown v r fc e = absurd cc
-static_end c walk.Rests v r fc e = absurd cc
+static_end c (path_end.Reaches component) v r fc e =
+    static_component c component (elementary_at c.layouts component) v r fc e
+static_end c path_end.Unknown v r fc e = absurd cc
+static_end c path_end.Unjudged v r fc e = absurd cc
 
 end_is_checkable : (c : Context) (temporary : Bool) (end : PathEnd) (v : ResolvedOperand)
     → own_walked c temporary end ≡ Resolved v → is_checkable end ≡ true
-end_is_checkable c temporary (walk.Reaches spot) v e = refl
-end_is_checkable c temporary walk.Unknown v e = absurd cc
-end_is_checkable c temporary walk.Rests v e = absurd cc
+end_is_checkable c temporary (path_end.Reaches component) v e = refl
+end_is_checkable c temporary path_end.Unknown v e = absurd cc
+end_is_checkable c temporary path_end.Unjudged v e = absurd cc
 
 -- a path that is checked, and stays within its arrays, leaves none
 stays : (checkable left : Bool) → checkable ≡ true → not (checkable && left) ≡ true → left ≡ false
@@ -147,29 +147,29 @@ no_bounds [] e = refl
 no_bounds (b ∷ bounds) e = absurd (false≢true (sym (grind (arith, nat_tests)) ∙ e))
 
 -- no step leads on from a parameter
-plain_names_none : (l : List BlockLayout) (spot : ComponentAt) (name : List ℕ) (cell : Cell)
+plain_names_none : (l : List BlockLayout) (component : ComponentAt) (name : List ℕ) (cell : Cell)
     (of : Element) → is_some (plain_kind of) ≡ true
-    → paths.named_in l spot name cell of ≡ walk.Unknown
-plain_names_none l spot name cell (element.Plain kind) e = refl
-plain_names_none l spot name cell _ e = absurd (false≢true e)
+    → paths.named_in l component name cell of ≡ path_end.Unknown
+plain_names_none l component name cell (element.Plain kind) e = refl
+plain_names_none l component name cell _ e = absurd (false≢true e)
 
-step_none : (l : List BlockLayout) (spot : ComponentAt) (cell : Cell) (s : PathStep)
-    → spot.depth ≡ 0 → is_elementary_component cell ≡ true
-    → slice_get (cells_at l spot.block spot.temporary) spot.place ≡ Some cell
-    → path_end_by_step l spot s ≡ walk.Unknown
+step_none : (l : List BlockLayout) (component : ComponentAt) (cell : Cell) (s : PathStep)
+    → component.depth ≡ 0 → is_elementary_component cell ≡ true
+    → slice_get (cells_at l component.block component.temporary) component.place ≡ Some cell
+    → path_end_by_step l component s ≡ path_end.Unknown
 unfolding path_end_by_step path_end_by_name path_end_by_index
-step_none l spot cell (step.Named name) d e there =
-    ap (paths.named_behind l spot name) there
-    ∙ by (nat_eq spot.depth (length cell.bounds))
+step_none l component cell (step.Named name) d e there =
+    ap (paths.named_behind l component name) there
+    ∙ by (nat_eq component.depth (length cell.bounds))
   where
     by : (b : Bool)
-        → (if b then paths.named_in l spot name cell cell.of else walk.Unknown) ≡ walk.Unknown
-    by true = plain_names_none l spot name cell cell.of ((elementary_parts _ _ e).1)
+        → (if b then paths.named_in l component name cell cell.of else path_end.Unknown) ≡ path_end.Unknown
+    by true = plain_names_none l component name cell cell.of ((elementary_parts _ _ e).1)
     by false = refl
-step_none l spot cell (step.Index at) d e there =
-    ap (paths.indexed_behind spot (cells_at l spot.block spot.temporary) at) there
-    ∙ ap (λ o. paths.path_end_in_bounds spot cell
-    (drop (spot.place + 1) (cells_at l spot.block spot.temporary)) at o)
+step_none l component cell (step.Index at) d e there =
+    ap (paths.indexed_behind component (cells_at l component.block component.temporary) at) there
+    ∙ ap (λ o. paths.path_end_in_bounds component cell
+    (drop (component.place + 1) (cells_at l component.block component.temporary)) at o)
     (ap (slice_get cell.bounds) d ∙ no_bounds cell.bounds ((elementary_parts _ _ e).0))
 
 parameter_width : (b : Bool) (kind : Option Simple) → (b && is_some kind) ≡ true
@@ -196,13 +196,13 @@ cell_named c place cell there e =
 reached_cell : (c : Context) (m : Member) (offset : ℕ) (sound : Bool) (cell : Cell)
     (steps : List PathStep) (v : ResolvedOperand)
     → slice_get (components_of_block c) (0 + m.place) ≡ Some cell → is_elementary_component cell ≡ true
-    → own_walked c false (paths.path_end_and_then (if sound then walk.Reaches (record {
+    → own_walked c false (paths.path_end_and_then (if sound then path_end.Reaches (record {
       block = c.block;
       temporary = false;
       place = 0 + m.place;
       depth = 0;
       offset = offset;
-    }) else walk.Rests) (λ spot. path_end_behind c.layouts spot steps)) ≡ Resolved v
+    }) else path_end.Unjudged) (λ component. path_end_behind c.layouts component steps)) ≡ Resolved v
     → There (parameter_named c m.place steps)
 reached_cell c m offset false cell steps v there plain e = absurd cc
 reached_cell c m offset true cell [] v there plain e =
@@ -225,7 +225,7 @@ reached_parameter : (c : Context) (m : Member) (offset : ℕ) (o : Option Cell) 
     (v : ResolvedOperand) → AllByRecursion (λ cell. is_elementary_component cell ≡ true) (components_of_block c)
     → slice_get (components_of_block c) (0 + m.place) ≡ o
     → own_walked c false (paths.path_end_and_then (paths.path_end_at_cell c.block false (0 + m.place) offset o)
-    (λ spot. path_end_behind c.layouts spot steps)) ≡ Resolved v
+    (λ component. path_end_behind c.layouts component steps)) ≡ Resolved v
     → There (parameter_named c m.place steps)
 reached_parameter c m offset None steps v plain there e = absurd cc
 reached_parameter c m offset (Some cell) steps v plain there e =
@@ -236,14 +236,14 @@ parameter_there : (c : Context) (name : List ℕ) (steps : List PathStep) (m : M
     (v : ResolvedOperand) → AllByRecursion (λ cell. is_elementary_component cell ≡ true) (components_of_block c)
     → component_of_name 0 0 0 name (components_of_block c) ≡ Some m
     → own_walked c false (paths.path_end_and_then (outermost_path_end c.layouts c.block false 0 name)
-    (λ spot. path_end_behind c.layouts spot steps)) ≡ Resolved v
+    (λ component. path_end_behind c.layouts component steps)) ≡ Resolved v
     → There (parameter_named c m.place steps)
 unfolding outermost_path_end
 parameter_there c name steps m v plain there e =
     reached_parameter c m _ (slice_get (components_of_block c) (0 + m.place)) steps v plain refl
     (sym (ap (λ o. own_walked c false
     (paths.path_end_and_then (paths.path_end_at_member (components_of_block c) c.block false 0 0 o)
-    (λ spot. path_end_behind c.layouts spot steps)))
+    (λ component. path_end_behind c.layouts component steps)))
     there) ∙ e)
 
 -- ---- the block's own variables
@@ -256,18 +256,18 @@ local_there : (c : Context) (name : List ℕ) (steps : List PathStep)
     then paths.path_end_and_then
     (if is_some m then outermost_path_end c.layouts c.block false 0 name
     else outermost_path_end c.layouts c.block true 0 name)
-    (λ spot. path_end_behind c.layouts spot steps)
-    else walk.Rests) ≡ Resolved v
+    (λ component. path_end_behind c.layouts component steps)
+    else path_end.Unjudged) ≡ Resolved v
     → not (is_checkable (if is_some (whole_at c.layouts c.block)
     then paths.path_end_and_then
     (if is_some m then outermost_path_end c.layouts c.block false 0 name
     else outermost_path_end c.layouts c.block true 0 name)
-    (λ spot. path_end_behind c.layouts spot steps)
-    else walk.Rests)
+    (λ component. path_end_behind c.layouts component steps)
+    else path_end.Unjudged)
     && paths.holds_where_reached
     (if is_some m then outermost_path_end c.layouts c.block false 0 name
     else outermost_path_end c.layouts c.block true 0 name)
-    (λ spot. leaves_array c.layouts spot steps)) ≡ true
+    (λ component. leaves_array c.layouts component steps)) ≡ true
     → There (variable_by c name steps m)
 local_there c name steps None v r plain there e inside =
     kept (leaves_from c.layouts c.block true (step.Named name ∷ steps))
@@ -305,21 +305,21 @@ variable_there c name steps v r plain e inside =
 
 -- ---- components of data blocks
 
-data_spot_there : (c : Context) (n : ℕ) (spot : ComponentAt) (o : Option Simple)
-    (v : ResolvedOperand) → has_no_name v ≡ false → data_at c n spot o ≡ Resolved v
-    → There (place_in_layout (elementary_place area.Db n spot.offset o))
-data_spot_there c n spot None v r e =
-    absurd (composite_refused v (slice_get (cells_at c.layouts spot.block spot.temporary) spot.place) r e)
-data_spot_there c n spot (Some kind) v r e =
-    area_there kind (elementary_place area.Db n spot.offset (Some kind)) v e
+data_component_there : (c : Context) (n : ℕ) (component : ComponentAt) (o : Option Simple)
+    (v : ResolvedOperand) → has_no_name v ≡ false → data_at c n component o ≡ Resolved v
+    → There (place_in_layout (elementary_place area.Db n component.offset o))
+data_component_there c n component None v r e =
+    absurd (composite_refused v (slice_get (cells_at c.layouts component.block component.temporary) component.place) r e)
+data_component_there c n component (Some kind) v r e =
+    area_there kind (elementary_place area.Db n component.offset (Some kind)) v e
 
 data_end_there : (c : Context) (n : ℕ) (end : PathEnd) (v : ResolvedOperand)
     → has_no_name v ≡ false → data_walked c n end ≡ Resolved v
     → There (place_in_layout (place_at_path_end c.layouts area.Db n end))
-data_end_there c n (walk.Reaches spot) v r e =
-    data_spot_there c n spot (elementary_at c.layouts spot) v r e
-data_end_there c n walk.Unknown v r e = absurd cc
-data_end_there c n walk.Rests v r e = absurd cc
+data_end_there c n (path_end.Reaches component) v r e =
+    data_component_there c n component (elementary_at c.layouts component) v r e
+data_end_there c n path_end.Unknown v r e = absurd cc
+data_end_there c n path_end.Unjudged v r e = absurd cc
 
 -- the block that declares the components of a data block, which a path is walked in
 left_structure : (l : List BlockLayout) (structure : Option ℕ) (steps : List PathStep)

@@ -29,7 +29,7 @@ use Rattle.block_layout.specs.declared.cells.Cell.{Cell}
 use Rattle.block_layout.specs.declared.members.Member.{Member}
 use Rattle.block_layout.specs.declared.walks.ComponentAt.{ComponentAt}
 use Rattle.block_layout.specs.declared.walks.PathEnd.{PathEnd}
-use Rattle.block_layout.specs.declared.walks.PathEnd.TheVariants as walk
+use Rattle.block_layout.specs.declared.walks.PathEnd.TheVariants as path_end
 use Rattle.block_layout.specs.Paths as paths
 use Rattle.stl_types.specs.Addresses.{resolved_address, area_left, area_for_letters}
 use Rattle.stl_types.specs.Context.{Context, data_number, in_function, is_of_function, whole_place}
@@ -62,46 +62,46 @@ inside false o x n = n
 
 -- a path that resolves was walked in a block that breaks no rule as a whole, to this end
 pub walked_in_whole : (c : Context) (temporary b : Bool) (end : PathEnd) (v : ResolvedOperand)
-    → own_walked c temporary (if b then end else walk.Rests) ≡ Resolved v
+    → own_walked c temporary (if b then end else path_end.Unjudged) ≡ Resolved v
     → own_walked c temporary end ≡ Resolved v
 walked_in_whole c temporary true end v e = e
 walked_in_whole c temporary false end v e = absurd cc
 
 -- ---- temporary variables
 
-temporary_at : (c : Context) (spot : ComponentAt) (o : Option Simple) (v : ResolvedOperand) (x : NamedItem)
-    → own_at c true spot o ≡ Resolved v → place_in_layout (elementary_place area.L 0 spot.offset o) ≡ Some x
+temporary_at : (c : Context) (component : ComponentAt) (o : Option Simple) (v : ResolvedOperand) (x : NamedItem)
+    → own_at c true component o ≡ Resolved v → place_in_layout (elementary_place area.L 0 component.offset o) ≡ Some x
     → view_named None v ≡ Some x
-temporary_at c spot None v x e n = absurd cc
-temporary_at c spot (Some kind) v x e n =
-    area_same kind (elementary_place area.L 0 spot.offset (Some kind)) v x e n
+temporary_at c component None v x e n = absurd cc
+temporary_at c component (Some kind) v x e n =
+    area_same kind (elementary_place area.L 0 component.offset (Some kind)) v x e n
 
 temporary_walked : (c : Context) (end : PathEnd) (v : ResolvedOperand) (x : NamedItem)
     → own_walked c true end ≡ Resolved v → place_in_layout (place_at_path_end c.layouts area.L 0 end) ≡ Some x
     → view_named None v ≡ Some x
-temporary_walked c (walk.Reaches spot) v x e n =
-    temporary_at c spot (elementary_at c.layouts spot) v x e n
-temporary_walked c walk.Unknown v x e n = absurd cc
-temporary_walked c walk.Rests v x e n = absurd cc
+temporary_walked c (path_end.Reaches component) v x e n =
+    temporary_at c component (elementary_at c.layouts component) v x e n
+temporary_walked c path_end.Unknown v x e n = absurd cc
+temporary_walked c path_end.Unjudged v x e n = absurd cc
 
 -- ---- variables of a function block
 
-static_at : (c : Context) (spot : ComponentAt) (o : Option Simple) (v : ResolvedOperand) (x : NamedItem)
-    → in_function c ≡ false → own_at c false spot o ≡ Resolved v
-    → place_in_layout (elementary_place area.Di 0 spot.offset o) ≡ Some x → view_named None v ≡ Some x
-static_at c spot None v x f e n = absurd cc
-static_at c spot (Some kind) v x f e n =
-    area_same kind (elementary_place area.Di 0 spot.offset (Some kind)) v x
-    (sym (ap (λ (b : Bool). if b then parameter_at c spot kind
-    else variable_in_area kind (elementary_place area.Di 0 spot.offset (Some kind))) f) ∙ e) n
+static_at : (c : Context) (component : ComponentAt) (o : Option Simple) (v : ResolvedOperand) (x : NamedItem)
+    → in_function c ≡ false → own_at c false component o ≡ Resolved v
+    → place_in_layout (elementary_place area.Di 0 component.offset o) ≡ Some x → view_named None v ≡ Some x
+static_at c component None v x f e n = absurd cc
+static_at c component (Some kind) v x f e n =
+    area_same kind (elementary_place area.Di 0 component.offset (Some kind)) v x
+    (sym (ap (λ (b : Bool). if b then parameter_at c component kind
+    else variable_in_area kind (elementary_place area.Di 0 component.offset (Some kind))) f) ∙ e) n
 
 static_walked : (c : Context) (end : PathEnd) (v : ResolvedOperand) (x : NamedItem)
     → in_function c ≡ false → own_walked c false end ≡ Resolved v
     → place_in_layout (place_at_path_end c.layouts area.Di 0 end) ≡ Some x → view_named None v ≡ Some x
-static_walked c (walk.Reaches spot) v x f e n =
-    static_at c spot (elementary_at c.layouts spot) v x f e n
-static_walked c walk.Unknown v x f e n = absurd cc
-static_walked c walk.Rests v x f e n = absurd cc
+static_walked c (path_end.Reaches component) v x f e n =
+    static_at c component (elementary_at c.layouts component) v x f e n
+static_walked c path_end.Unknown v x f e n = absurd cc
+static_walked c path_end.Unjudged v x f e n = absurd cc
 
 -- ---- parameters of a function
 
@@ -120,14 +120,14 @@ index_same count place (Some b) = by b.result place
         rw other before
 
 parameter_kind : (c : Context) (at : ℕ) (cell : Cell) (kind : Option Simple) (v : ResolvedOperand)
-    (x : NamedItem) (spot : ComponentAt) → spot.place ≡ at → in_function c ≡ true
-    → slice_get (components_of_block c) at ≡ Some cell → own_at c false spot kind ≡ Resolved v
+    (x : NamedItem) (component : ComponentAt) → component.place ≡ at → in_function c ≡ true
+    → slice_get (components_of_block c) at ≡ Some cell → own_at c false component kind ≡ Resolved v
     → option_map (λ width. named.Parameter
     (own.parameter_index_in_call (has_result (slice_get c.blocks c.block)) (length (components_of_block c)) at) width)
     (option_map width_of kind) ≡ Some x
     → view_named None v ≡ Some x
-parameter_kind c at cell None v x spot p f there e n = absurd cc
-parameter_kind c at cell (Some kind) v x spot p f there e n =
+parameter_kind c at cell None v x component p f there e n = absurd cc
+parameter_kind c at cell (Some kind) v x component p f there e n =
     carry None (view.Parameter (variables.parameter_index (length (components_of_block c)) at (slice_get c.blocks c.block)) cell.section kind)
     v
     (named.Parameter
@@ -135,8 +135,8 @@ parameter_kind c at cell (Some kind) v x spot p f there e n =
     (width_of kind)) x
     (ap (λ k. Some (named.Parameter k (width_of kind)))
     (index_same (length (components_of_block c)) at (slice_get c.blocks c.block)))
-    (sym (ap (λ (b : Bool). if b then parameter_at c spot kind
-    else variable_in_area kind (elementary_place area.Di 0 spot.offset (Some kind))) f
+    (sym (ap (λ (b : Bool). if b then parameter_at c component kind
+    else variable_in_area kind (elementary_place area.Di 0 component.offset (Some kind))) f
     ∙ ap₂ (λ index found. variables.parameter_resolution index kind found)
     (ap (λ k. variables.parameter_index (length (components_of_block c)) k (slice_get c.blocks c.block)) p)
     (ap (slice_get (components_of_block c)) p ∙ there)) ∙ e)
@@ -150,24 +150,24 @@ width_same false kind = refl
 -- the cell at the place of a parameter
 cell_found : (c : Context) (m : Member) (offset : ℕ) (sound : Bool) (cell : Cell) (v : ResolvedOperand)
     (x : NamedItem) → in_function c ≡ true → slice_get (components_of_block c) (0 + m.place) ≡ Some cell
-    → own_walked c false (if sound then walk.Reaches (record {
+    → own_walked c false (if sound then path_end.Reaches (record {
       block = c.block;
       temporary = false;
       place = 0 + m.place;
       depth = 0;
       offset = offset;
-    }) else walk.Rests) ≡ Resolved v
+    }) else path_end.Unjudged) ≡ Resolved v
     → parameter_named c m.place [] ≡ Some x → view_named None v ≡ Some x
 cell_found c m offset false cell v x f there e n = absurd cc
 cell_found c m offset true cell v x f there e n =
-    parameter_kind c m.place cell kind v x spot (zero-add m.place) f at_place
-    (sym (ap (own_at c false spot) (ap (kind_of spot) there)) ∙ e)
+    parameter_kind c m.place cell kind v x component (zero-add m.place) f at_place
+    (sym (ap (own_at c false component) (ap (kind_of component) there)) ∙ e)
     (sym (ap named_by_width
     (ap cell_width at_place ∙ width_same (nat_eq 0 (length cell.bounds)) (plain_kind cell.of)))
     ∙ n)
   where
-    spot : ComponentAt
-    spot = record {
+    component : ComponentAt
+    component = record {
       block = c.block;
       temporary = false;
       place = 0 + m.place;
@@ -190,7 +190,7 @@ cell_found c m offset true cell v x f there e n =
 parameter_found : (c : Context) (m : Member) (offset : ℕ) (o : Option Cell) (v : ResolvedOperand)
     (x : NamedItem) → in_function c ≡ true → slice_get (components_of_block c) (0 + m.place) ≡ o
     → own_walked c false
-    (paths.path_end_and_then (paths.path_end_at_cell c.block false (0 + m.place) offset o) (λ spot. walk.Reaches spot))
+    (paths.path_end_and_then (paths.path_end_at_cell c.block false (0 + m.place) offset o) (λ component. path_end.Reaches component))
     ≡ Resolved v
     → parameter_named c m.place [] ≡ Some x → view_named None v ≡ Some x
 parameter_found c m offset None v x f there e n = absurd cc
@@ -198,17 +198,17 @@ parameter_found c m offset (Some cell) v x f there e n =
     cell_found c m offset cell.sound cell v x f there
     (sym (ap (own_walked c false) (by cell.sound _)) ∙ e) n
   where
-    by : (sound : Bool) (spot : ComponentAt)
-        → paths.path_end_and_then (if sound then walk.Reaches spot else walk.Rests) (λ spot. walk.Reaches spot)
-        ≡ (if sound then walk.Reaches spot else walk.Rests)
-    by true spot = refl
-    by false spot = refl
+    by : (sound : Bool) (component : ComponentAt)
+        → paths.path_end_and_then (if sound then path_end.Reaches component else path_end.Unjudged) (λ component. path_end.Reaches component)
+        ≡ (if sound then path_end.Reaches component else path_end.Unjudged)
+    by true component = refl
+    by false component = refl
 
 parameter_same : (c : Context) (name : List ℕ) (steps : List PathStep) (m : Member)
     (v : ResolvedOperand) (x : NamedItem) → in_function c ≡ true
     → component_of_name 0 0 0 name (components_of_block c) ≡ Some m
     → own_walked c false
-    (paths.path_end_and_then (outermost_path_end c.layouts c.block false 0 name) (λ spot. path_end_behind c.layouts spot steps))
+    (paths.path_end_and_then (outermost_path_end c.layouts c.block false 0 name) (λ component. path_end_behind c.layouts component steps))
     ≡ Resolved v
     → parameter_named c m.place steps ≡ Some x → view_named None v ≡ Some x
 unfolding outermost_path_end
@@ -216,7 +216,7 @@ parameter_same c name (s ∷ ss) m v x f there e n = absurd cc
 parameter_same c name [] m v x f there e n =
     parameter_found c m _ (slice_get (components_of_block c) (0 + m.place)) v x f refl
     (sym (ap (λ o. own_walked c false
-    (paths.path_end_and_then (paths.path_end_at_member (components_of_block c) c.block false 0 0 o) (λ spot. walk.Reaches spot)))
+    (paths.path_end_and_then (paths.path_end_at_member (components_of_block c) c.block false 0 0 o) (λ component. path_end.Reaches component)))
     there) ∙ e)
     n
 
@@ -233,8 +233,8 @@ local_found : (c : Context) (name : List ℕ) (steps : List PathStep) (m : Optio
     then paths.path_end_and_then
     (if is_some m then outermost_path_end c.layouts c.block false 0 name
     else outermost_path_end c.layouts c.block true 0 name)
-    (λ spot. path_end_behind c.layouts spot steps)
-    else walk.Rests) ≡ Resolved v
+    (λ component. path_end_behind c.layouts component steps)
+    else path_end.Unjudged) ≡ Resolved v
     → variable_by c name steps m ≡ Some x → view_named None v ≡ Some x
 local_found c name steps None v x there e n =
     temporary_walked c
@@ -276,20 +276,20 @@ local_same c name steps v x e n =
 
 -- ---- components of data blocks
 
-data_spot : (c : Context) (number : ℕ) (spot : ComponentAt) (o : Option Simple) (v : ResolvedOperand)
-    (x : NamedItem) → data_at c number spot o ≡ Resolved v
-    → place_in_layout (elementary_place area.Db number spot.offset o) ≡ Some x → view_named None v ≡ Some x
-data_spot c number spot None v x e n = absurd cc
-data_spot c number spot (Some kind) v x e n =
-    area_same kind (elementary_place area.Db number spot.offset (Some kind)) v x e n
+data_component : (c : Context) (number : ℕ) (component : ComponentAt) (o : Option Simple) (v : ResolvedOperand)
+    (x : NamedItem) → data_at c number component o ≡ Resolved v
+    → place_in_layout (elementary_place area.Db number component.offset o) ≡ Some x → view_named None v ≡ Some x
+data_component c number component None v x e n = absurd cc
+data_component c number component (Some kind) v x e n =
+    area_same kind (elementary_place area.Db number component.offset (Some kind)) v x e n
 
 data_end : (c : Context) (number : ℕ) (end : PathEnd) (v : ResolvedOperand) (x : NamedItem)
     → data_walked c number end ≡ Resolved v
     → place_in_layout (place_at_path_end c.layouts area.Db number end) ≡ Some x → view_named None v ≡ Some x
-data_end c number (walk.Reaches spot) v x e n =
-    data_spot c number spot (elementary_at c.layouts spot) v x e n
-data_end c number walk.Unknown v x e n = absurd cc
-data_end c number walk.Rests v x e n = absurd cc
+data_end c number (path_end.Reaches component) v x e n =
+    data_component c number component (elementary_at c.layouts component) v x e n
+data_end c number path_end.Unknown v x e n = absurd cc
+data_end c number path_end.Unjudged v x e n = absurd cc
 
 -- the data block at a place of the source
 data_placed : (c : Context) (id : BlockId) (steps : List PathStep) (number place : ℕ)

@@ -80,16 +80,19 @@ AcceptedOperandsAreNamed =
 -- ends of a block and of calls, and of the empty statement
 abbrev pub is_no_branch : Mnemonic → Bool
 is_no_branch m =
-    is_bit_logic m || is_load_or_transfer m || is_number_instruction m || is_comparison m || is_shift m
-    || is_timing m || is_relay m || is_data_block_instruction m || is_idle m
+    is_bit_logic m || is_load_or_transfer m || is_number_instruction m || is_comparison m
+    || is_shift m || is_timing m || is_relay m || is_data_block_instruction m || is_idle m
 
 -- a step of an instruction is this in every program, activation and memory
 abbrev pub Steps : Instr → (Code → ℕ → Activation → GlobalStore → StatementStep) → Type 0
 Steps i f =
-    (program : Code) (next : ℕ) (a : Activation) (w : GlobalStore) → instruction_step program i next a w ≡ f program next a w
+    (program : Code) (next : ℕ) (a : Activation) (w : GlobalStore)
+    → instruction_step program i next a w ≡ f program next a w
 
 -- a statement that goes on does what its mnemonic says with what its operand names
-pub record ActsOnItsOperand (c : Context) (body : List Statement) (n : ℕ) (s : Statement) : Type 0 where
+pub record ActsOnItsOperand
+    (c : Context) (body : List Statement) (n : ℕ) (s : Statement)
+    : Type 0 where
   -- what its operand names
   pub item : NamedItem
   -- the operand names `item`
@@ -113,7 +116,8 @@ pub record JumpsByList (c : Context) (body : List Statement) (n : ℕ) (s : Stat
   pub label : HasLabel body s
   -- the instruction goes on in the list of jumps behind it, or at the label
   pub acts :
-      Steps (instruction c body n s) (λ program next a w. jumps_by_list n (number_of_label label.name body) a w)
+      Steps (instruction c body n s)
+      (λ program next a w. jumps_by_list n (number_of_label label.name body) a w)
 
 -- a call calls the block that it names, and each parameter of that block stands for what is passed
 -- for its name, which is named
@@ -125,11 +129,14 @@ pub record CallsNamed (c : Context) (body : List Statement) (n : ℕ) (s : State
   -- the instruction calls this block, each parameter bound to what is passed for its name
   pub acts :
       Steps (instruction c body n s)
-      (calls_block s.code called.id called.instance (bindings_of c s.actuals (parameter_names c called.id)))
+      (calls_block s.code called.id called.instance
+      (bindings_of c s.actuals (parameter_names c called.id)))
 
--- the instruction of a statement does what the statement says, by its family, of which it has one; n
--- is the number of the statement
-pub record DoesAsWritten (c : Context) (body : List Statement) (n : ℕ) (s : Statement) : Type 0 where
+-- the instruction of a statement does what the statement says, by its family, of which it has one;
+-- n is the number of the statement
+pub record DoesAsWritten
+    (c : Context) (body : List Statement) (n : ℕ) (s : Statement)
+    : Type 0 where
   -- the mnemonic belongs to one of the families
   pub family : is_in_family s.code ≡ true
   -- a statement that goes on acts on what its operand names
@@ -150,5 +157,6 @@ AcceptedStatementsAct =
     (source file : List ℕ) (symbols : List Symbol) (t : Tree) → IsAccepted source file symbols t
     → AreBytes source → (k : ℕ) (b : Block) → slice_get t.blocks k ≡ Some b
     → AllByRecursion
-    (λ s. is_empty_statement s.code ≡ false → (n : ℕ) → DoesAsWritten (context_of symbols t k) b.body n s)
+    (λ s. is_empty_statement s.code ≡ false → (n : ℕ)
+    → DoesAsWritten (context_of symbols t k) b.body n s)
     b.body

@@ -1,5 +1,6 @@
 -- Calls: what each parameter of the called block stands for, by what the call passes for its name
--- (docs/SEMANTICS.md, "Calls"). How a block is entered with its parameters bound is the machine's word.
+-- (docs/SEMANTICS.md, "Calls"). How a block is entered with its parameters bound is the machine's
+-- word.
 use Rattle.std.specs.Prelude.{ℕ, suc, nat_eq, Bool, true, false, List, [], ◌∷◌, ◌++◌, map, length, replicate, codes, slice_get, Option, Some, None, Result, Ok, Err, bytes_eq, if◌then◌else◌}
 use Rattle.std.specs.List.{flat_map}
 use Rattle.std.specs.Option.{option_and_then}
@@ -106,7 +107,8 @@ actual_named name [] = None
 actual_named name (a ∷ actuals) =
     if bytes_eq (upper_case_name a.name) name then Some a else actual_named name actuals
 
--- a constant, a place, a place in a data block that is named, or a parameter of the caller is passed
+-- a constant, a place, a place in a data block that is named, or a parameter of the caller is
+-- passed
 abbrev pub if_passable : NamedItem → Option NamedItem
 if_passable (named.Constant value) = Some (named.Constant value)
 if_passable (named.Place (named.Fixed a w byte bit)) = Some (named.Place (named.Fixed a w byte bit))
@@ -144,8 +146,10 @@ binding_of access (named.Constant value) p = Ok (binding.Constant (bits_of_liter
 binding_of access (named.Place (named.Fixed a w byte bit)) p =
     then_ok (fixed_place access a w byte bit p) (λ b. binding_at access b p)
 binding_of access (named.PlaceIn block w byte bit) p =
-    if is_data_block_loaded block p then binding_at access (location_of_parts area.Db block byte bit w 0) p else Err 0x3A
-binding_of access (named.Parameter index w) p = binding_passed_on (slice_get p.local.inner.bindings index)
+    if is_data_block_loaded block p
+    then binding_at access (location_of_parts area.Db block byte bit w 0) p else Err 0x3A
+binding_of access (named.Parameter index w) p =
+    binding_passed_on (slice_get p.local.inner.bindings index)
 binding_of access _ p = Err 0
 
 -- how the place for a parameter is tested: as one that is written for OUT, as one that is read
@@ -175,8 +179,8 @@ abbrev pub bindings_from :
     → Result (List Binding) ℕ
 bindings_from params c actuals index [] bindings p = Ok bindings
 bindings_from params c actuals index (name ∷ names) bindings p =
-    binds_parameter (named_in_call c (actual_named name actuals)) (slice_get params index) index bindings p
-    (λ more. bindings_from params c actuals (suc index) names more p)
+    binds_parameter (named_in_call c (actual_named name actuals)) (slice_get params index)
+    index bindings p (λ more. bindings_from params c actuals (suc index) names more p)
 
 -- what all parameters of a call stand for; one for which nothing is passed is unsupplied
 abbrev pub bindings_of :
@@ -198,8 +202,8 @@ registers_at_call r =
 
 -- a block of the program is called: it is entered by its head, with its parameters bound
 abbrev pub enters_block :
-    Option BlockHead → BlockId → Option ℕ → (List Param → ExecState → Result (List Binding) ℕ) → (next : ℕ)
-    → Activation → GlobalStore → StatementStep
+    Option BlockHead → BlockId → Option ℕ → (List Param → ExecState → Result (List Binding) ℕ)
+    → (next : ℕ) → Activation → GlobalStore → StatementStep
 enters_block None id instance bind next a w = Stuck
 enters_block (Some h) id instance bind next a w =
     call_step
@@ -209,8 +213,8 @@ enters_block (Some h) id instance bind next a w =
 
 -- a system function is called by its number, with its parameters bound
 abbrev pub enters_system :
-    Option (List Param) → (number : ℕ) → (List Param → ExecState → Result (List Binding) ℕ) → (next : ℕ)
-    → Activation → GlobalStore → StatementStep
+    Option (List Param) → (number : ℕ) → (List Param → ExecState → Result (List Binding) ℕ)
+    → (next : ℕ) → Activation → GlobalStore → StatementStep
 enters_system None number bind next a w = Stuck
 enters_system (Some params) number bind next a w =
     after_system_call
@@ -221,8 +225,8 @@ enters_system (Some params) number bind next a w =
 -- CALL, UC or CC: the block or system function is called, or after CC with RLO 0 the calling
 -- block goes on, with OS 0, OR 0, STA 1, /FC 0 and RLO 1
 abbrev pub calls_block :
-    Mnemonic → BlockId → Option ℕ → (List Param → ExecState → Result (List Binding) ℕ) → Code → (next : ℕ)
-    → Activation → GlobalStore → StatementStep
+    Mnemonic → BlockId → Option ℕ → (List Param → ExecState → Result (List Binding) ℕ) → Code
+    → (next : ℕ) → Activation → GlobalStore → StatementStep
 calls_block m id instance bind program next a w =
     if makes_call m a.running.regs.status.rlo
     then (if is_system_function id.kind

@@ -1,6 +1,6 @@
--- What each instruction does that goes on to the next statement, by its mnemonic and by what its operand
--- names (docs/SEMANTICS.md): to registers and status word, memory, timers and counters, and to what the
--- block holds.
+-- What each instruction does that goes on to the next statement, by its mnemonic and by what its
+-- operand names (docs/SEMANTICS.md): to registers and status word, memory, timers and counters, and
+-- to what the block holds.
 use Rattle.std.specs.Prelude.{ℕ, ◌+◌, ◌-◌, ◌%◌, ◌^◌, ◌==◌, nat_lt, Bool, true, false, ◌&&◌, not, is_some, List, [], ◌∷◌, length, Option, Some, None, Result, Ok, Err, ok_or, unwrap_or, if◌then◌else◌}
 use Rattle.std.specs.FinMap as map
 use Rattle.plc_base.specs.Widths.{bit_count}
@@ -102,7 +102,8 @@ with_bracket_list brackets p = with_inner (record p.local.inner { brackets = bra
 abbrev pub opens_bracket : Check → ExecState → Result ExecState ℕ
 opens_bracket with p =
     if length p.local.inner.brackets == 7 then Err 0
-    else on_regs bracket_begun (with_bracket_list (entry_of with (registers_of p) ∷ p.local.inner.brackets) p)
+    else on_regs bracket_begun
+    (with_bracket_list (entry_of with (registers_of p) ∷ p.local.inner.brackets) p)
 
 -- ): the first bracket of the list, the innermost one, closes; an error where none is open
 abbrev pub closes_one : List Bracket → ExecState → Result ExecState ℕ
@@ -129,7 +130,8 @@ bit_there b p = then_ok (number_or_error Writing b p) (λ n. Ok (n == 1))
 -- =: the bit gets the power flow, which is the RLO, but 0 while the relay is closed
 abbrev pub assigns_power_flow : NamedItem → ExecState → Result ExecState ℕ
 assigns_power_flow x p =
-    then_ok (place_of_operand Writing x p) (λ b. writes_bit b (power_flow_of p) (after_store (power_flow_of p) (registers_of p)) p)
+    then_ok (place_of_operand Writing x p)
+    (λ b. writes_bit b (power_flow_of p) (after_store (power_flow_of p) (registers_of p)) p)
 
 -- S (value 1) and R (value 0) of a bit: the value where power flows, and else what it was before
 abbrev pub bit_after : (flow value before : Bool) → Bool
@@ -148,7 +150,8 @@ sets_bit value x p =
 abbrev pub tells_edge : (rising : Bool) → NamedItem → ExecState → Result ExecState ℕ
 tells_edge rising x p =
     then_ok (place_of_operand Writing x p) (λ b.
-    then_ok (bit_there b p) (λ before. writes_bit b (rlo_of p) (after_edge rising before (registers_of p)) p))
+    then_ok (bit_there b p)
+    (λ before. writes_bit b (rlo_of p) (after_edge rising before (registers_of p)) p))
 
 -- ---- the master control relay
 
@@ -202,7 +205,8 @@ open_fact named.DiNumber p = unwrap_or p.local.inner.di 0
 
 -- L: what the operand holds goes to accumulator 1, whose contents go to accumulator 2
 abbrev pub loads_operand : NamedItem → ExecState → Result ExecState ℕ
-loads_operand named.StatusWord p = on_regs (with_loaded (status_number (status_shown (registers_of p).status))) p
+loads_operand named.StatusWord p =
+    on_regs (with_loaded (status_number (status_shown (registers_of p).status))) p
 loads_operand (named.Opened what) p = on_regs (with_loaded (open_fact what p)) p
 loads_operand x p = then_ok (number_to_load x p) (λ n. on_regs (with_loaded n) p)
 
@@ -212,7 +216,8 @@ loads_bcd x p = then_ok (bcd_to_load x p) (λ n. on_regs (with_loaded n) p)
 
 -- the lowest bits of a number go to a place, as many as it has
 abbrev pub puts_number : ℕ → NamedItem → ExecState → Result ExecState ℕ
-puts_number n x p = then_ok (place_of_operand Writing x p) (λ b. with_number_at b (n % 2 ^ bit_count b.width) p)
+puts_number n x p =
+    then_ok (place_of_operand Writing x p) (λ b. with_number_at b (n % 2 ^ bit_count b.width) p)
 
 -- T: accumulator 1, and 0 while the relay is closed
 abbrev pub transfers_accumulator : NamedItem → ExecState → Result ExecState ℕ
@@ -310,7 +315,8 @@ or_error code (Err BadBcd) = Err 0x21
 
 -- an instruction on the timer of a number; error 26 where there is none, 21 where it finds a
 -- digit above 9
-abbrev pub on_timer : (timers.Timer → Option timers.Timer) → ItemNumber → ExecState → Result ExecState ℕ
+abbrev pub on_timer :
+    (timers.Timer → Option timers.Timer) → ItemNumber → ExecState → Result ExecState ℕ
 on_timer f n p =
     then_ok (number_of_item n p) (λ which.
     then_ok (or_error 0x26 (change_at_number f p.timers which)) (λ all.
@@ -318,7 +324,8 @@ on_timer f n p =
 
 -- an instruction on the counter of a number; error 27 where there is none, 21 where it finds a
 -- digit above 9
-abbrev pub on_counter : (counters.Counter → Option counters.Counter) → ItemNumber → ExecState → Result ExecState ℕ
+abbrev pub on_counter :
+    (counters.Counter → Option counters.Counter) → ItemNumber → ExecState → Result ExecState ℕ
 on_counter f n p =
     then_ok (number_of_item n p) (λ which.
     then_ok (or_error 0x27 (change_at_number f p.counters which)) (λ all.
@@ -331,7 +338,8 @@ starts_timer how (named.Timer n) p = on_timer (timers.start_timer how (rlo_of p)
 starts_timer how x p = Err 0
 
 -- CU or CD: a counter counts by the RLO
-abbrev pub counts_counter : (Bool → counters.Counter → counters.Counter) → NamedItem → ExecState → Result ExecState ℕ
+abbrev pub counts_counter :
+    (Bool → counters.Counter → counters.Counter) → NamedItem → ExecState → Result ExecState ℕ
 counts_counter f (named.Counter n) p = on_counter (λ k. Some (f (rlo_of p) k)) n p
 counts_counter f x p = Err 0
 
@@ -343,7 +351,8 @@ sets_operand x p = sets_bit true x p
 -- R of a timer, of a counter, and of a bit
 abbrev pub resets_operand : NamedItem → ExecState → Result ExecState ℕ
 resets_operand (named.Timer n) p = on_timer (λ t. Some (timers.reset_timer (rlo_of p) t)) n p
-resets_operand (named.Counter n) p = on_counter (λ k. Some (counters.reset_counter (rlo_of p) k)) n p
+resets_operand (named.Counter n) p =
+    on_counter (λ k. Some (counters.reset_counter (rlo_of p) k)) n p
 resets_operand x p = sets_bit false x p
 
 -- FR of a timer and of a counter
@@ -371,7 +380,8 @@ opens_block_number di n p = if is_data_block_loaded n p then Ok (with_open di n 
 
 -- OPN: a data block is opened by its number
 abbrev pub opens_data_block : NamedItem → ExecState → Result ExecState ℕ
-opens_data_block (named.DataBlock di n) p = then_ok (number_of_item n p) (λ which. opens_block_number di which p)
+opens_data_block (named.DataBlock di n) p =
+    then_ok (number_of_item n p) (λ which. opens_block_number di which p)
 opens_data_block x p = Err 0
 
 -- CDB: the DB register and the DI register are exchanged
@@ -381,8 +391,8 @@ exchanges_blocks p =
 
 -- ---- the instructions
 
--- what an instruction does with what its operand names; the empty statement, jumps, calls and the ends
--- of a block aren't here
+-- what an instruction does with what its operand names; the empty statement, jumps, calls and the
+-- ends of a block aren't here
 unfoldable pub effect_of_operation : Mnemonic → NamedItem → ExecState → Result ExecState ℕ
 effect_of_operation code.Nop x p = Ok p
 effect_of_operation code.Bld x p = Ok p
@@ -420,15 +430,19 @@ effect_of_operation code.Lar2 x p = loads_ar2 x p
 effect_of_operation code.Tar1 x p = stores_ar1 x p
 effect_of_operation code.Tar2 x p = puts_address (registers_of p).ar2 x p
 effect_of_operation code.Car x p = exchanges_addresses p
-effect_of_operation code.AddAr1 x p = Ok (with_ar1 (address_after (registers_of p).ar1 (added_bits x p)) p)
-effect_of_operation code.AddAr2 x p = Ok (with_ar2 (address_after (registers_of p).ar2 (added_bits x p)) p)
+effect_of_operation code.AddAr1 x p =
+    Ok (with_ar1 (address_after (registers_of p).ar1 (added_bits x p)) p)
+effect_of_operation code.AddAr2 x p =
+    Ok (with_ar2 (address_after (registers_of p).ar2 (added_bits x p)) p)
 effect_of_operation code.Tak x p = on_regs accumulators.accumulators_toggled p
 effect_of_operation code.Push x p = on_regs accumulators.accumulator_pushed p
 effect_of_operation code.Pop x p = on_regs accumulators.accumulator_popped p
 effect_of_operation code.Caw x p = on_regs accumulators.with_word_reversed p
 effect_of_operation code.Cad x p = on_regs accumulators.with_bytes_reversed p
-effect_of_operation code.Inc x p = on_regs (accumulators.accumulator_increased 8 (constant_bits_or_zero 8 x)) p
-effect_of_operation code.Dec x p = on_regs (accumulators.accumulator_decreased 8 (constant_bits_or_zero 8 x)) p
+effect_of_operation code.Inc x p =
+    on_regs (accumulators.accumulator_increased 8 (constant_bits_or_zero 8 x)) p
+effect_of_operation code.Dec x p =
+    on_regs (accumulators.accumulator_decreased 8 (constant_bits_or_zero 8 x)) p
 effect_of_operation code.Add x p = on_regs (adds_by x) p
 effect_of_operation code.AddI x p = on_regs (sums.accumulators_added 16) p
 effect_of_operation code.SubI x p = on_regs (sums.accumulators_subtracted 16) p
@@ -460,12 +474,18 @@ effect_of_operation code.Invi x p = on_regs (conversions.accumulator_inverted 16
 effect_of_operation code.Invd x p = on_regs (conversions.accumulator_inverted 32) p
 effect_of_operation code.Negi x p = on_regs (sums.accu_negated 16) p
 effect_of_operation code.Negd x p = on_regs (sums.accu_negated 32) p
-effect_of_operation code.Aw x p = on_regs (word_logic.accumulator_anded 16 (constant_of_width 16 x)) p
-effect_of_operation code.Ow x p = on_regs (word_logic.accumulator_ored 16 (constant_of_width 16 x)) p
-effect_of_operation code.Xow x p = on_regs (word_logic.accumulator_xored 16 (constant_of_width 16 x)) p
-effect_of_operation code.Ad x p = on_regs (word_logic.accumulator_anded 32 (constant_of_width 32 x)) p
-effect_of_operation code.Od x p = on_regs (word_logic.accumulator_ored 32 (constant_of_width 32 x)) p
-effect_of_operation code.Xod x p = on_regs (word_logic.accumulator_xored 32 (constant_of_width 32 x)) p
+effect_of_operation code.Aw x p =
+    on_regs (word_logic.accumulator_anded 16 (constant_of_width 16 x)) p
+effect_of_operation code.Ow x p =
+    on_regs (word_logic.accumulator_ored 16 (constant_of_width 16 x)) p
+effect_of_operation code.Xow x p =
+    on_regs (word_logic.accumulator_xored 16 (constant_of_width 16 x)) p
+effect_of_operation code.Ad x p =
+    on_regs (word_logic.accumulator_anded 32 (constant_of_width 32 x)) p
+effect_of_operation code.Od x p =
+    on_regs (word_logic.accumulator_ored 32 (constant_of_width 32 x)) p
+effect_of_operation code.Xod x p =
+    on_regs (word_logic.accumulator_xored 32 (constant_of_width 32 x)) p
 effect_of_operation code.Ssi x p = on_regs (shifts.shifted_signed 16 (shift_count x p)) p
 effect_of_operation code.Ssd x p = on_regs (shifts.shifted_signed 32 (shift_count x p)) p
 effect_of_operation code.Slw x p = on_regs (shifts.shifted_left 16 (shift_count x p)) p

@@ -27,7 +27,8 @@ before_label name (s ∷ ss) = if is_label_spelled name s.label then [] else s �
 -- how many statements have a number: all but the empty ones
 abbrev pub numbered_statement_count : List Statement → ℕ
 numbered_statement_count [] = 0
-numbered_statement_count (s ∷ ss) = (if is_empty_statement s.code then 0 else 1) + numbered_statement_count ss
+numbered_statement_count (s ∷ ss) =
+    (if is_empty_statement s.code then 0 else 1) + numbered_statement_count ss
 
 -- the number of the first statement with a label, counted from 0
 abbrev pub number_of_label : List ℕ → List Statement → ℕ
@@ -67,7 +68,8 @@ with_rlo_1 r =
 
 -- the registers with OR 0, STA 1 and /FC 0
 abbrev pub with_string_ended_by_jump : Regs → Regs
-with_string_ended_by_jump r = record r { status = record r.status { or = false; sta = true; fc = false } }
+with_string_ended_by_jump r =
+    record r { status = record r.status { or = false; sta = true; fc = false } }
 
 -- the registers with the RLO in BR
 abbrev pub rlo_in_br : Regs → Regs
@@ -111,7 +113,8 @@ list_target n target r =
 -- JL, the statement of number n, goes on in the list of jumps behind it or at its label, the
 -- statement of number `target`; it changes no register
 abbrev pub jumps_by_list : (n target : ℕ) → Activation → GlobalStore → StatementStep
-jumps_by_list n target a w = Went (standing_at (list_target n target a.running.regs) a.running.regs a) w
+jumps_by_list n target a w =
+    Went (standing_at (list_target n target a.running.regs) a.running.regs a) w
 
 -- ---- ends of a block
 
@@ -124,5 +127,6 @@ is_return_taken _ rlo = true
 -- /FC 0
 abbrev pub ends_block : Mnemonic → Code → (next : ℕ) → Activation → GlobalStore → StatementStep
 ends_block m program next a w =
-    if is_return_taken m a.running.regs.status.rlo then return_made (program.head a.running.frame.block) a w
+    if is_return_taken m a.running.regs.status.rlo
+    then return_made (program.head a.running.frame.block) a w
     else Went (standing_at next (with_rlo_1 a.running.regs) a) w

@@ -37,19 +37,20 @@ use Rattle.statement_laws.specs.Operands.{components_of_block, is_fc, named_by, 
 use Rattle.statement_laws.specs.Effects.{effect_of_statement}
 use Rattle.statement_laws.specs.Jumps.{numbered_statement_count, ends_block, jumps_to_target, jumps_by_list, number_of_label}
 
--- in every program, activation and memory the instruction does this and goes on to the next statement;
--- after an error it does nothing but that
+-- in every program, activation and memory the instruction does this and goes on to the next
+-- statement; after an error it does nothing but that
 abbrev pub Acts : Instr → (ExecState → Result ExecState ℕ) → Type 0
 Acts i f =
     (program : Code) (next : ℕ) (a : Activation) (w : GlobalStore)
     → instruction_step program i next a w
     ≡ continue_with (f (exec_state_of a.running w.memory w.timers w.counters)) next a
 
--- each statement with such a mnemonic whose operand its instruction takes, and names this, does what the
--- mnemonic says with it
+-- each statement with such a mnemonic whose operand its instruction takes, and names this, does
+-- what the mnemonic says with it
 abbrev pub StatementsAct : (Mnemonic → Bool) → Type 0
 StatementsAct family =
-    (c : Context) (body : List Statement) (n : ℕ) (s : Statement) (v : ResolvedOperand) (x : NamedItem)
+    (c : Context) (body : List Statement) (n : ℕ) (s : Statement) (v : ResolvedOperand)
+    (x : NamedItem)
     → family s.code ≡ true → resolved_operand c s ≡ Some v → named_by c s.operand ≡ Some x
     → Acts (instruction c body n s) (effect_of_statement s.code x)
 
@@ -286,7 +287,8 @@ EndsAct =
     (c : Context) (body : List Statement) (n : ℕ) (s : Statement) (v : ResolvedOperand)
     → is_end s.code ≡ true → resolved_operand c s ≡ Some v
     → (program : Code) (next : ℕ) (a : Activation) (w : GlobalStore)
-    → instruction_step program (instruction c body n s) next a w ≡ ends_block s.code program next a w
+    → instruction_step program (instruction c body n s) next a w
+    ≡ ends_block s.code program next a w
 
 -- ---- what is named
 
@@ -362,14 +364,17 @@ pub record IsNamedActual (c : Context) (a : Actual) : Type 0 where
 abbrev pub CallsAct : Type 0
 CallsAct =
     (c : Context) (body : List Statement) (n : ℕ) (s : Statement) (v : ResolvedOperand)
-    (name : BlockName) (db : Option BlockName) (id : BlockId) (instance : Option ℕ) (callee : Callee)
-    → is_call_instruction s.code ≡ true → s.operand ≡ operand.Called name db → resolved_operand c s ≡ Some v
+    (name : BlockName) (db : Option BlockName) (id : BlockId) (instance : Option ℕ)
+    (callee : Callee)
+    → is_call_instruction s.code ≡ true → s.operand ≡ operand.Called name db
+    → resolved_operand c s ≡ Some v
     → named_by c (operand.Called name db) ≡ Some (named.Called id instance)
     → callee_of c (operand.Called name db) ≡ Some callee
     → AllByRecursion (IsNamedActual c) s.actuals
     → (program : Code) (next : ℕ) (a : Activation) (w : GlobalStore)
     → instruction_step program (instruction c body n s) next a w
-    ≡ calls_block s.code id instance (bindings_of c s.actuals (parameter_names c id)) program next a w
+    ≡ calls_block s.code id instance (bindings_of c s.actuals (parameter_names c id))
+    program next a w
 
 -- ---- numbers of statements
 
@@ -380,7 +385,10 @@ pub record HasNumberedStatements (c : Context) (b : Block) : Type 0 where
       (front : List Statement) (s : Statement) (rest : List Statement) → b.body ≡ front ++ s ∷ rest
       → is_empty_statement s.code ≡ false
       → slice_get (statements_of c b) (numbered_statement_count front)
-      ≡ Some (record { instr = instruction c b.body (numbered_statement_count front) s; line = s.line })
+      ≡ Some (record {
+        instr = instruction c b.body (numbered_statement_count front) s;
+        line = s.line;
+      })
   -- behind them one returns, as BE does, with the line of the END clause
   pub last :
       slice_get (statements_of c b) (numbered_statement_count b.body)
@@ -402,9 +410,9 @@ is_jump_list _ = false
 -- a mnemonic is in one of the families of instructions
 abbrev pub is_in_family : Mnemonic → Bool
 is_in_family m =
-    is_bit_logic m || is_load_or_transfer m || is_number_instruction m || is_comparison m || is_shift m
-    || is_timing m || is_relay m || is_data_block_instruction m || is_idle m || is_plain_jump m || is_jump_list m
-    || is_end m || is_call_instruction m
+    is_bit_logic m || is_load_or_transfer m || is_number_instruction m || is_comparison m
+    || is_shift m || is_timing m || is_relay m || is_data_block_instruction m || is_idle m
+    || is_plain_jump m || is_jump_list m || is_end m || is_call_instruction m
 
 -- each mnemonic but that of the empty statement is in a family
 abbrev pub FamiliesAreAll : Type 0

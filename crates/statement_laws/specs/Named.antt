@@ -12,8 +12,8 @@ pub data OperandPlace : Type 0 where
   Fixed : (area : Area) (width : Width) (byte bit : ℕ) → OperandPlace
   -- where the pointer in a double word leads, as MW [MD 4]
   ByMemory : (area : Area) (width : Width) (from : Area) (byte : ℕ) → OperandPlace
-  -- so many bits behind the address in AR1 or AR2, as MW [AR1, P#2.0]; without an area it is that of
-  -- the address
+  -- so many bits behind the address in AR1 or AR2, as MW [AR1, P#2.0]; without an area it is that
+  -- of the address
   ByRegister : (area : Option Area) (width : Width) (register bits : ℕ) → OperandPlace
 
 -- the number of a timer, a counter or a data block

@@ -1,5 +1,5 @@
--- What an operand of the tree names in a block of a source: an address by its letters, a symbol by its
--- address, a variable by its place in the layout.
+-- What an operand of the tree names in a block of a source: an address by its letters, a symbol by
+-- its address, a variable by its place in the layout.
 use Rattle.std.specs.Prelude.{ℕ, zero, suc, ◌+◌, ◌-◌, ◌*◌, nat_eq, Bool, true, false, is_some, List, [], ◌∷◌, length, codes, slice_get, Option, Some, None, if◌then◌else◌}
 use Rattle.std.specs.Option.{option_map, option_and_then}
 use Rattle.plc_base.specs.Folding.{upper_case_name, is_same_name}
@@ -137,12 +137,13 @@ abbrev pub parameter_named : Context → (place : ℕ) → List PathStep → Opt
 parameter_named c place [] =
     option_map
     (λ width. named.Parameter
-    (parameter_index_in_call (has_result (slice_get c.blocks c.block)) (length (components_of_block c)) place) width)
+    (parameter_index_in_call (has_result (slice_get c.blocks c.block))
+    (length (components_of_block c)) place) width)
     (cell_width (slice_get (components_of_block c) place))
 parameter_named c place (s ∷ ss) = None
 
--- a variable of the block: what isn't temporary is a parameter in a function, and in a function block it
--- lies in the data block of the DI register; temporary variables lie in the local bytes
+-- a variable of the block: what isn't temporary is a parameter in a function, and in a function
+-- block it lies in the data block of the DI register; temporary variables lie in the local bytes
 abbrev pub variable_by : Context → List ℕ → List PathStep → Option Member → Option NamedItem
 variable_by c name steps None =
     place_in_layout (variable_place c.layouts area.L c.block true (step.Named name ∷ steps))
@@ -152,13 +153,15 @@ variable_by c name steps (Some m) =
 
 -- the variable of the block that a name means, by its steps
 abbrev pub variable_named : Context → List ℕ → List PathStep → Option NamedItem
-variable_named c name steps = variable_by c name steps (component_of_name 0 0 0 name (components_of_block c))
+variable_named c name steps =
+    variable_by c name steps (component_of_name 0 0 0 name (components_of_block c))
 
 -- a component of a data block by its path, as what an operand names
 abbrev pub component_named : Context → BlockName → List PathStep → Option NamedItem
 component_named c name steps =
     place_in_layout
-    (option_and_then (λ id. place_of_path c.layouts id section.Global steps) (block_id_of_name c name))
+    (option_and_then (λ id. place_of_path c.layouts id section.Global steps)
+    (block_id_of_name c name))
 
 -- ---- words
 
@@ -204,7 +207,8 @@ pointer_constant_bits (Some a) byte bit = pointer_area_bits a + 8 * byte + bit
 -- what an operand names in a block; none where a name isn't there
 unfoldable pub named_by : Context → Operand → Option NamedItem
 named_by c operand.Nothing = Some named.Nothing
-named_by c (operand.Direct None a width byte bit) = Some (named_fixed_place (area_by_letters a) width byte bit)
+named_by c (operand.Direct None a width byte bit) =
+    Some (named_fixed_place (area_by_letters a) width byte bit)
 named_by c (operand.Direct (Some name) a width byte bit) =
     option_map (λ number. place_by (area_by_letters a) number width byte bit) (block_number c name)
 named_by c (operand.Timer number) = Some (named.Timer (named.Written number))

@@ -1,6 +1,7 @@
 -- What an operand reads as, where its place lies, and what writing to it makes of memory
--- (docs/SEMANTICS.md, "Memory", "Operands", "Constants"). An error has the code of docs/SEMANTICS.md,
--- "Synchronous errors"; 0 stands for what no instruction of a program that is loaded comes to.
+-- (docs/SEMANTICS.md, "Memory", "Operands", "Constants"). An error has the code of
+-- docs/SEMANTICS.md, "Synchronous errors"; 0 stands for what no instruction of a program that is
+-- loaded comes to.
 use Rattle.std.specs.Prelude.{ℕ, ◌+◌, ◌-◌, ◌*◌, ◌/◌, ◌%◌, ◌^◌, ◌==◌, Bool, true, false, List, [], ◌∷◌, length, slice_get, ℤ, pos, negsuc, Option, Some, None, Result, Ok, Err, ok_or, if◌then◌else◌}
 use Rattle.std.specs.Option.{option_map}
 use Rattle.plc_base.specs.Bcd.{bcd_digits}
@@ -74,14 +75,16 @@ location_of_parts a number byte bit width frame = record {
 -- a place in the data block that a register has open; the error of a register with none
 abbrev pub place_in_open_block : Option ℕ → (error byte bit : ℕ) → Width → Result Location ℕ
 place_in_open_block None error byte bit width = Err error
-place_in_open_block (Some number) error byte bit width = Ok (location_of_parts area.Db number byte bit width 0)
+place_in_open_block (Some number) error byte bit width =
+    Ok (location_of_parts area.Db number byte bit width 0)
 
--- where a byte or bit of an area lies: in DB and DI in the open data block, where none is open 32 and
--- 33; in L in the local bytes of the innermost frame; else in memory
+-- where a byte or bit of an area lies: in DB and DI in the open data block, where none is open 32
+-- and 33; in L in the local bytes of the innermost frame; else in memory
 unfoldable pub place_in_area : Area → (byte bit : ℕ) → Width → ExecState → Result Location ℕ
 place_in_area area.Db byte bit width p = place_in_open_block p.local.inner.db 0x32 byte bit width
 place_in_area area.Di byte bit width p = place_in_open_block p.local.inner.di 0x33 byte bit width
-place_in_area area.L byte bit width p = Ok (location_of_parts area.L 0 byte bit width (length p.local.locals.starts - 1))
+place_in_area area.L byte bit width p =
+    Ok (location_of_parts area.L 0 byte bit width (length p.local.locals.starts - 1))
 place_in_area a byte bit width p = Ok (location_of_parts a 0 byte bit width 0)
 
 -- the error where there is no such place: 22 where it is read, 23 where it is written; in the
@@ -99,7 +102,8 @@ number_at_bound _ b p = number_at_place p.memory b.place b.width
 
 -- the number at a place, or the error where there is no such place
 abbrev pub number_or_error : Access → Location → ExecState → Result ℕ ℕ
-number_or_error access b p = ok_or (number_at_bound b.place.area b p) (missing_place_error access b.place.area)
+number_or_error access b p =
+    ok_or (number_at_bound b.place.area b p) (missing_place_error access b.place.area)
 
 -- ---- pointers
 
@@ -135,9 +139,11 @@ pointer_area_error Reading = 0x24
 pointer_area_error Writing = 0x25
 
 -- where a pointer leads in an area
-unfoldable pub place_of_pointer : Access → Area → Width → (pointer : ℕ) → ExecState → Result Location ℕ
+unfoldable pub place_of_pointer :
+    Access → Area → Width → (pointer : ℕ) → ExecState → Result Location ℕ
 place_of_pointer access a width pointer p =
-    if is_whole width pointer then place_in_area a (byte_of_pointer pointer) (bit_of_pointer pointer) width p
+    if is_whole width pointer
+    then place_in_area a (byte_of_pointer pointer) (bit_of_pointer pointer) width p
     else Err (pointer_bit_error access)
 
 -- the peripheral area has no bit operands
@@ -148,7 +154,8 @@ is_peripheral_bit a width = false
 -- a place of an area that the operand or a pointer names
 unfoldable pub fixed_place : Access → Area → Width → (byte bit : ℕ) → ExecState → Result Location ℕ
 fixed_place access a width byte bit p =
-    if is_peripheral_bit a width then Err (pointer_area_error access) else place_in_area a byte bit width p
+    if is_peripheral_bit a width then Err (pointer_area_error access)
+    else place_in_area a byte bit width p
 
 -- the area of an address; none, too, where its bit 31 is 0
 abbrev pub area_of_address : (address : ℕ) → Option Area
@@ -161,14 +168,16 @@ in_area_of access (Some a) width pointer p =
     fixed_place access a width (byte_of_pointer pointer) (bit_of_pointer pointer) p
 
 -- the place of an area-crossing pointer
-unfoldable pub place_of_crossing : Access → Width → (address pointer : ℕ) → ExecState → Result Location ℕ
+unfoldable pub place_of_crossing :
+    Access → Width → (address pointer : ℕ) → ExecState → Result Location ℕ
 place_of_crossing access width address pointer p =
     if is_whole width pointer then in_area_of access (area_of_address address) width pointer p
     else Err (pointer_bit_error access)
 
 -- what the address register of a number holds: 1 is AR1, 2 is AR2
 abbrev pub address_in_register : (register : ℕ) → ExecState → ℕ
-address_in_register register p = if register == ar1_number then p.local.regs.ar1 else p.local.regs.ar2
+address_in_register register p =
+    if register == ar1_number then p.local.regs.ar1 else p.local.regs.ar2
 
 -- an address so many bits further on, in bits 0 to 18
 abbrev pub address_moved : (address count : ℕ) → ℕ
@@ -180,11 +189,13 @@ address_moved address count = (address % 2 ^ 19 + count % 2 ^ 19) % 2 ^ 19
 unfoldable pub place_of_spot : Access → OperandPlace → ExecState → Result Location ℕ
 place_of_spot access (named.Fixed a width byte bit) p = fixed_place access a width byte bit p
 place_of_spot access (named.ByMemory a width from byte) p =
-    then_ok (stored_number from byte widths.Dword p) (λ pointer. place_of_pointer access a width pointer p)
+    then_ok (stored_number from byte widths.Dword p)
+    (λ pointer. place_of_pointer access a width pointer p)
 place_of_spot access (named.ByRegister (Some a) width register count) p =
     place_of_pointer access a width (address_moved (address_in_register register p) count) p
 place_of_spot access (named.ByRegister None width register count) p =
-    place_of_crossing access width (address_in_register register p) (address_moved (address_in_register register p) count) p
+    place_of_crossing access width (address_in_register register p)
+    (address_moved (address_in_register register p) count) p
 
 -- the place that a parameter stands for; error 0 where it stands for a constant or nothing
 abbrev pub place_of_binding : Option Binding → Result Location ℕ
@@ -216,12 +227,14 @@ number_of_item (named.InWord from byte) p = stored_number from byte widths.Word 
 -- what is read of the timer of a number; error 26 where there is none
 abbrev pub of_timer : {A : Type 0} → (Timer → A) → ItemNumber → ExecState → Result A ℕ
 of_timer read n p =
-    then_ok (number_of_item n p) (λ number. ok_or (option_map read (slice_get p.timers number)) 0x26)
+    then_ok (number_of_item n p)
+    (λ number. ok_or (option_map read (slice_get p.timers number)) 0x26)
 
 -- what is read of the counter of a number; error 27 where there is none
 abbrev pub of_counter : {A : Type 0} → (Counter → A) → ItemNumber → ExecState → Result A ℕ
 of_counter read n p =
-    then_ok (number_of_item n p) (λ number. ok_or (option_map read (slice_get p.counters number)) 0x27)
+    then_ok (number_of_item n p)
+    (λ number. ok_or (option_map read (slice_get p.counters number)) 0x27)
 
 -- the number at a place or of a constant
 unfoldable pub number_of_operand : NamedItem → ExecState → Result ℕ ℕ
@@ -245,8 +258,8 @@ bcd_to_load (named.Timer n) p = of_timer time_left n p
 bcd_to_load (named.Counter n) p = of_counter count_bcd n p
 bcd_to_load _ p = Err 0
 
--- the bit that a bit logic instruction reads: of a timer its output, of a counter whether its value is
--- above 0
+-- the bit that a bit logic instruction reads: of a timer its output, of a counter whether its value
+-- is above 0
 unfoldable pub bit_of_operand : NamedItem → ExecState → Result Bool ℕ
 bit_of_operand (named.Timer n) p = of_timer (λ (timer : Timer). timer.output) n p
 bit_of_operand (named.Counter n) p = of_counter is_counting n p
@@ -275,4 +288,5 @@ with_number_written _ b n p =
 -- the state with this number written at this place, in local bytes or in memory; the error of a
 -- write where there is no such place, 43 in the peripheral area, else 23
 unfoldable pub with_number_at : Location → ℕ → ExecState → Result ExecState ℕ
-with_number_at b n p = ok_or (with_number_written b.place.area b n p) (missing_place_error Writing b.place.area)
+with_number_at b n p =
+    ok_or (with_number_written b.place.area b n p) (missing_place_error Writing b.place.area)

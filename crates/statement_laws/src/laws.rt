@@ -2,7 +2,8 @@
 ghost use Rattle.statement_laws.specs.Accepted.{AcceptedOperandsAreNamed, AcceptedStatementsAct};
 ghost use Rattle.statement_laws.specs.Laws.{BitLogicActs, CallsAct, ComparisonsAct, DataBlocksAct, EndsAct, FamiliesAreAll, IdleActs, JumpListsAct, LoadsAct, NumbersAct, OperandsAreNamed, PlainJumpsAct, RelayActs, ShiftsAct, StatementsAreNumbered, TimingActs, VariablesAreNamed};
 
-/// Whatever its instruction takes, an operand that is no variable and no called block names something.
+/// Whatever its instruction takes, an operand that is no variable and no called block names
+/// something.
 pub fn operands_are_named()
     ensures { OperandsAreNamed }
 {}
@@ -12,26 +13,27 @@ pub fn variables_are_named()
     ensures { VariablesAreNamed }
 {}
 
-/// A statement of bit logic does what its mnemonic says with what its operand names: it reads and checks
-/// a bit, a timer, a counter or a condition, opens or closes a bracket, writes a bit, or sets the RLO.
+/// A statement of bit logic does what its mnemonic says with what its operand names: it reads and
+/// checks a bit, a timer, a counter or a condition, opens or closes a bracket, writes a bit, or
+/// sets the RLO.
 pub fn bit_logic_acts()
     ensures { BitLogicActs }
 {}
 
-/// L, T and LC load and transfer what their operand names, and so do the instructions on the address
-/// registers.
+/// L, T and LC load and transfer what their operand names, and so do the instructions on the
+/// address registers.
 pub fn load_or_transfer_acts()
     ensures { LoadsAct }
 {}
 
-/// Accumulator and number instructions, BCD and conversions, and word logic do to the registers what
-/// their mnemonic says, with the constant of their operand where they have one.
+/// Accumulator and number instructions, BCD and conversions, and word logic do to the registers
+/// what their mnemonic says, with the constant of their operand where they have one.
 pub fn number_instruction_acts()
     ensures { NumbersAct }
 {}
 
-/// A comparison compares accumulator 2 with accumulator 1 as its mnemonic says, as integers of 16 or of
-/// 32 bits.
+/// A comparison compares accumulator 2 with accumulator 1 as its mnemonic says, as integers of 16
+/// or of 32 bits.
 pub fn comparison_acts()
     ensures { ComparisonsAct }
 {}
@@ -61,8 +63,9 @@ pub fn idle_acts()
     ensures { IdleActs }
 {}
 
-/// A jump but JL goes to the statement of its label or on to the next one, as its mnemonic says, and
-/// leaves the registers as it says. The number of a statement counts those before it that aren't empty.
+/// A jump but JL goes to the statement of its label or on to the next one, as its mnemonic says,
+/// and leaves the registers as it says. The number of a statement counts those before it that
+/// aren't empty.
 pub fn plain_jumps_act()
     ensures { PlainJumpsAct }
 {}
@@ -77,14 +80,14 @@ pub fn ends_act()
     ensures { EndsAct }
 {}
 
-/// CALL, UC, and CC where the RLO is 1 call the block that their operand names, with its instance, and
-/// each parameter stands for what is passed for its name.
+/// CALL, UC, and CC where the RLO is 1 call the block that their operand names, with its instance,
+/// and each parameter stands for what is passed for its name.
 pub fn calls_act()
     ensures { CallsAct }
 {}
 
-/// The code of a block is made of the instructions of its statements but the empty ones, each at the
-/// number that counts those before it, and of one that returns behind them.
+/// The code of a block is made of the instructions of its statements but the empty ones, each at
+/// the number that counts those before it, and of one that returns behind them.
 pub fn statements_are_numbered()
     ensures { StatementsAreNumbered }
 {}
@@ -94,16 +97,16 @@ pub fn families_are_all()
     ensures { FamiliesAreAll }
 {}
 
-/// Each statement of each block of a source that breaks no rule names what it acts on: by its operand
-/// something, by that of a call the block that it calls, whose parameters are known, and by each actual
-/// parameter what is passed.
+/// Each statement of each block of a source that breaks no rule names what it acts on: by its
+/// operand something, by that of a call the block that it calls, whose parameters are known, and by
+/// each actual parameter what is passed.
 pub fn accepted_operands_are_named()
     ensures { AcceptedOperandsAreNamed }
 {}
 
-/// So each statement of a source that breaks no rule, but the empty ones, does what its mnemonic says
-/// with what its operand names: it goes on or is an error, jumps to a label of its body, ends the
-/// block, or calls a block with what is passed for its parameters.
+/// So each statement of a source that breaks no rule, but the empty ones, does what its mnemonic
+/// says with what its operand names: it goes on or is an error, jumps to a label of its body, ends
+/// the block, or calls a block with what is passed for its parameters.
 pub fn accepted_statements_act()
     ensures { AcceptedStatementsAct }
 {}

@@ -4,7 +4,7 @@ use mathlib.Core.List.{IsPrefix}
 use Rattle.var_access.specs.declared.Entry.{Entry}
 use Rattle.controller.specs.Recording.{Recording}
 use Rattle.tracked_lock.specs.Passes.{PassView}
-use Rattle.tracked_lock.specs.Views.{IsMadeOf, HoldsForEach, times}
+use Rattle.tracked_lock.specs.Views.{AreEntriesByMaker, HoldsForEach, times}
 use Rattle.station.specs.declared.shared.Opening.{Opening}
 
 -- the controller that a station gives back: it has the program, the profile and the entries of the opening, and behind these the
@@ -21,6 +21,6 @@ pub record IsGivenBack (o : Opening) (c : Recording) (p : PassView Opening Entry
   -- the entries since the opening begin with all that the pass had seen
   pub begins : IsPrefix p.seen story
   -- under each number of the pass stand the entries since the opening of that worker, in order
-  pub made : IsMadeOf (λ e. e.who) story p.made
+  pub made : AreEntriesByMaker (λ e. e.who) story p.made
   -- the worker of each entry since the opening is a number of the pass
   pub all : HoldsForEach (λ e. 0 < times e.who p.made) story

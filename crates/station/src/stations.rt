@@ -5,7 +5,7 @@ ghost use Rattle.var_access.specs.declared.Entry.{Entry as AnEntry};
 ghost use Rattle.var_access.specs.declared.What.TheVariants.{Step, Ask};
 ghost use Rattle.var_access.specs.Entry.{IsInRange, IsRequest};
 ghost use Rattle.tracked_lock.specs.Passes.{IsCountOut, fresh_passes, joined_pass, missing_number_count};
-ghost use Rattle.tracked_lock.specs.Views.{IsMadeOf};
+ghost use Rattle.tracked_lock.specs.Views.{AreEntriesByMaker};
 ghost use Rattle.station.specs.Openings.{mode_at, reply_at, the_opening};
 ghost use Rattle.station.specs.Turns.{HasMade, HasMadeNone, is_stimulus};
 ghost use Rattle.station.specs.Closing.{IsGivenBack};
@@ -84,7 +84,7 @@ impl Station {
             (record { who = p.old.number; what = Step }))) }
         ensures err { IfErr result (λ fault. HasMadeNone p.old p.new fault) }
         ensures pass { p.new ≡ record p.old { seen = p.new.seen; made = p.new.made } }
-        ensures made { IsMadeOf (λ e. e.who) p.new.seen p.new.made }
+        ensures made { AreEntriesByMaker (λ e. e.who) p.new.seen p.new.made }
     {
         self.enter(rt, p, What::Step)
     }
@@ -108,7 +108,7 @@ impl Station {
             × HasMade p.old p.new before (record { who = p.old.number; what = what })) }
         ensures err { IfErr result (λ fault. HasMadeNone p.old p.new fault) }
         ensures pass { p.new ≡ record p.old { seen = p.new.seen; made = p.new.made } }
-        ensures made { IsMadeOf (λ e. e.who) p.new.seen p.new.made }
+        ensures made { AreEntriesByMaker (λ e. e.who) p.new.seen p.new.made }
     {
         match self.enter(rt, p, what) {
             Ok(_) => Ok(()),
@@ -136,7 +136,7 @@ impl Station {
             (record { who = p.old.number; what = Ask request }))) }
         ensures err { IfErr result (λ fault. HasMadeNone p.old p.new fault) }
         ensures pass { p.new ≡ record p.old { seen = p.new.seen; made = p.new.made } }
-        ensures made { IsMadeOf (λ e. e.who) p.new.seen p.new.made }
+        ensures made { AreEntriesByMaker (λ e. e.who) p.new.seen p.new.made }
     {
         let who = p.number();
         let mut held = self.lock.take(rt, p);
@@ -152,7 +152,7 @@ impl Station {
         requires free { (p.old.out ≡ false) × (q.out ≡ false) }
         ensures pass { p.new ≡ joined_pass p.old q }
         ensures seen { IsPrefix p.old.seen p.new.seen × IsPrefix q.seen p.new.seen }
-        ensures made { IsMadeOf (λ e. e.who) p.new.seen p.new.made }
+        ensures made { AreEntriesByMaker (λ e. e.who) p.new.seen p.new.made }
     {
         self.lock.join(p, q);
     }
@@ -190,7 +190,7 @@ impl Station {
             (record { who = p.old.number; what = what }))) }
         ensures err { IfErr result (λ fault. HasMadeNone p.old p.new fault) }
         ensures pass { p.new ≡ record p.old { seen = p.new.seen; made = p.new.made } }
-        ensures made { IsMadeOf (λ e. e.who) p.new.seen p.new.made }
+        ensures made { AreEntriesByMaker (λ e. e.who) p.new.seen p.new.made }
     {
         let who = p.number();
         let mut held = self.lock.take(rt, p);

@@ -1,4 +1,5 @@
--- Nesting: A(, AN(, O(, ON(, X(, XN( and ), over the list of the open brackets, the innermost one first.
+-- Nesting: A(, AN(, O(, ON(, X(, XN( and ), over the list of the open brackets, the innermost one
+-- first.
 -- Siemens, Statement List (STL): Bit Logic Instructions, "Nesting Open" and "Nesting Closed".
 use Rattle.std.specs.Prelude.{Bool, true, false, List, [], ◌∷◌, ◌≡◌}
 use Rattle.plc_base.specs.declared.instructions.Check.{Check}
@@ -22,11 +23,15 @@ bracket_restored b r = record r { status = record r.status { rlo = b.rlo; or = b
 abbrev pub with_sta : Regs → Regs
 with_sta r = record r { status = record r.status { sta = true } }
 
--- ) makes the check of the entry, on what the entry kept, with the RLO inside the bracket as the value read; STA 1
+-- ) makes the check of the entry, on what the entry kept, with the RLO inside the bracket as the
+-- value read; STA 1
 unfoldable pub bracket_ended : Bracket → Regs → Regs
 bracket_ended b r = with_sta (after_check b.code r.status.rlo (bracket_restored b r))
 
 -- ) on the list of open brackets and the registers; it answers whether a bracket was open
-abbrev pub Closes : (old : List Bracket) (before : Regs) (new : List Bracket) (after : Regs) (answer : Bool) → Type 0
+abbrev pub Closes :
+    (old : List Bracket) (before : Regs) (new : List Bracket) (after : Regs) (answer : Bool)
+    → Type 0
 Closes [] before new after answer = (answer ≡ false) × (new ≡ []) × (after ≡ before)
-Closes (b ∷ rest) before new after answer = (answer ≡ true) × (new ≡ rest) × (after ≡ bracket_ended b before)
+Closes (b ∷ rest) before new after answer =
+    (answer ≡ true) × (new ≡ rest) × (after ≡ bracket_ended b before)

@@ -46,20 +46,23 @@ is_and On = false
 is_and X = false
 is_and Xn = false
 
--- the first check of a logic string (/FC 0) begins with its value, each further one is combined with the RLO
+-- the first check of a logic string (/FC 0) begins with its value, each further one is combined
+-- with the RLO
 abbrev pub check_base : (code : Check) (fc rlo value : Bool) → Bool
 check_base code fc rlo value = if fc then rlo_joined code rlo value else value
 
 -- the new RLO: that base or the OR bit, but for X and XN within a string the base alone
 abbrev pub rlo_after : (code : Check) (fc rlo or read : Bool) → Bool
 rlo_after code fc rlo or read =
-    if fc && is_exclusive code then check_base code fc rlo (check_value code read) else check_base code fc rlo (check_value code read) || or
+    if fc && is_exclusive code then check_base code fc rlo (check_value code read)
+    else check_base code fc rlo (check_value code read) || or
 
 -- the new OR bit: A and AN keep it, the others clear it
 abbrev pub or_after : (code : Check) (or : Bool) → Bool
 or_after code or = is_and code && or
 
--- a check of a bit that reads as `read`: RLO and OR as above, STA the bit as it was read, /FC 1
+-- a check of a bit that reads as `read`: RLO by `rlo_after`, OR by `or_after`, STA the bit as it
+-- was read, /FC 1
 unfoldable pub after_check : (code : Check) (read : Bool) → Regs → Regs
 after_check code read r =
     record r {

@@ -3,7 +3,8 @@
 use Rattle.std.specs.Prelude.{Bool, true, false, not, ◌&&◌, if◌then◌else◌}
 use Rattle.status_word.specs.declared.registers.Regs.{Regs}
 
--- FP tells a change of the RLO from 0 to 1, FN one from 1 to 0, where the edge bit holds the RLO of the last time
+-- FP tells a change of the RLO from 0 to 1, FN one from 1 to 0, where the edge bit holds the RLO of
+-- the last time
 abbrev pub is_edge : (rising rlo bit : Bool) → Bool
 is_edge rising rlo bit = if rising then rlo && not bit else not rlo && bit
 

@@ -6,7 +6,9 @@ use Rattle.plc_base.specs.declared.flags.Flag.{Flag}
 use Rattle.plc_base.specs.declared.flags.Flag.TheVariants.{Br, Ov, Os, EqZero, NeZero, GtZero, LtZero, GeZero, LeZero, Uo}
 use Rattle.status_word.specs.declared.statuses.Status.{Status}
 
--- CC 1 and CC 0 are 0/0 after a result 0, 1/0 after one above 0, 0/1 after one below 0, 1/1 after one that is unordered
+-- the value of the flag or result bit that BR, OV, OS, ==0, <>0, >0, <0, >=0, <=0 or UO names; CC 1
+-- and CC 0 are 0/0 after a result 0, 1/0 after one above 0, 0/1 after one below 0, 1/1 after one
+-- that is unordered
 unfoldable pub flag_value : Flag → Status → Bool
 flag_value Br s = s.br
 flag_value Ov s = s.ov

@@ -11,7 +11,8 @@ bit b = if b then 1 else 0
 -- the number of all nine bits: a bit k that is 1 weighs 2 ^ k
 unfoldable pub status_number : Status → ℕ
 status_number s =
-    bit s.fc + 2 * bit s.rlo + 4 * bit s.sta + 8 * bit s.or + 16 * bit s.os + 32 * bit s.ov + 64 * bit s.cc0 + 128 * bit s.cc1
+    bit s.fc + 2 * bit s.rlo + 4 * bit s.sta + 8 * bit s.or + 16 * bit s.os + 32 * bit s.ov
+    + 64 * bit s.cc0 + 128 * bit s.cc1
     + 256 * bit s.br
 
 -- the status word whose nine bits are the lowest nine of a number, as T STW takes them

@@ -31,7 +31,8 @@ is_parameter part.Output = true
 is_parameter part.InOut = true
 is_parameter _ = false
 
--- a block of this kind has such a section: an organization block VAR_TEMP alone, a function all but VAR
+-- a block of this kind has such a section: an organization block VAR_TEMP alone, a function all but
+-- VAR
 unfoldable pub may_have_section : BlockKind → PartKind → Bool
 may_have_section kinds.Ob p = nat_eq (part_rank p) 4
 may_have_section kinds.Fc p = not (nat_eq (part_rank p) 3)
@@ -67,4 +68,5 @@ may_have_date_and_time _ level arrays = false
 -- a declaration may stand in this section, inside so many structures
 unfoldable pub may_declare : BlockKind → PartKind → ℕ → Declaration → Bool
 may_declare k p level d =
-    (has_no_init d.init || may_have_init k p) && (not (is_date_and_time d.of.of) || may_have_date_and_time p level d.of.arrays)
+    (has_no_init d.init || may_have_init k p)
+    && (not (is_date_and_time d.of.of) || may_have_date_and_time p level d.of.arrays)

@@ -40,7 +40,8 @@ FitsType (b ∷ []) (element.Plain kind) init = Unit {0}
 FitsType arrays element.Structure init = init ≡ []
 FitsType arrays of_ init = IsSingleInit init
 
--- a declaration: bounds, count and values are in their ranges, and the initial values fit the form of the type
+-- a declaration: bounds, count and values are in their ranges, and the initial values fit the form
+-- of the type
 pub record IsDeclaration (d : Declaration) : Type 0 where
   -- the bounds of each array are decimal numbers, -32768 to 65535
   pub arrays : AllByRecursion AreBounds d.of.arrays

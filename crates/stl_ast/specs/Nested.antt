@@ -18,22 +18,26 @@ inner_components level none = none
 inner_components level (more d components behind) =
     if nat_lt level d.level then more d components (inner_components level behind) else none
 
--- of components in the order of a text, those from the first one on that stands no deeper than a level
+-- of components in the order of a text, those from the first one on that stands no deeper than a
+-- level
 abbrev pub outer_components : ℕ → Components → Components
 outer_components level none = none
 outer_components level (more d components behind) =
     if nat_lt level d.level then outer_components level behind else more d components behind
 
--- the nested view of a list of declarations: the components of a declaration are the leading ones behind it that stand
--- deeper
+-- the nested view of a list of declarations: the components of a declaration are the leading ones
+-- behind it that stand deeper
 abbrev pub nested_declarations : List Declaration → Components
 nested_declarations [] = none
-nested_declarations (d ∷ ds) = more d (inner_components d.level (nested_declarations ds)) (outer_components d.level (nested_declarations ds))
+nested_declarations (d ∷ ds) =
+    more d (inner_components d.level (nested_declarations ds))
+    (outer_components d.level (nested_declarations ds))
 
 -- the declarations in the order of the text
 abbrev pub flat_declarations : Components → List Declaration
 flat_declarations none = []
-flat_declarations (more d components behind) = d ∷ (flat_declarations components ++ flat_declarations behind)
+flat_declarations (more d components behind) =
+    d ∷ (flat_declarations components ++ flat_declarations behind)
 
 -- only a structure has components
 abbrev pub MayHoldComponents : ElementType → Components → Type 0
@@ -44,12 +48,15 @@ MayHoldComponents _ components = components ≡ none
 abbrev pub AreAtLevel : ℕ → Components → Type 0
 AreAtLevel level none = Unit {0}
 AreAtLevel level (more d components behind) =
-    (d.level ≡ level) × MayHoldComponents d.of.of components × AreAtLevel (level + 1) components × AreAtLevel level behind
+    (d.level ≡ level) × MayHoldComponents d.of.of components × AreAtLevel (level + 1) components
+    × AreAtLevel level behind
 
 -- the nested view spells the list
 abbrev pub IsSpelledByNested : Type 0
 IsSpelledByNested = (ds : List Declaration) → flat_declarations (nested_declarations ds) ≡ ds
 
--- in the nested view of an outline the components of a structure stand one level deeper, and nothing else has components
+-- in the nested view of an outline the components of a structure stand one level deeper, and
+-- nothing else has components
 abbrev pub AreLevelsOfNesting : Type 0
-AreLevelsOfNesting = (ds : List Declaration) → IsOutline 0 ds → AreAtLevel 0 (nested_declarations ds)
+AreLevelsOfNesting =
+    (ds : List Declaration) → IsOutline 0 ds → AreAtLevel 0 (nested_declarations ds)

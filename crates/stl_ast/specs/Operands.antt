@@ -17,7 +17,7 @@ use Rattle.stl_ast.specs.declared.operands.PathHead.{PathHead}
 use Rattle.stl_ast.specs.declared.operands.PathHead.TheVariants as head
 use Rattle.stl_ast.specs.Literals.{IsDecimal, IsLiteral}
 
--- a number of an address or of a block
+-- a number of an address or of a block: 0 to 65,535
 abbrev pub IsNumber : ℕ → Type 0
 IsNumber n = n ≤ 65535
 
@@ -67,7 +67,8 @@ IsInBlock (Some name) area = IsDataBlockName name × (area ≡ letters.Db)
 
 -- the areas that may hold a pointer: M, L, DB and DI
 abbrev pub MayHoldPointer : Letters → Type 0
-MayHoldPointer area = (area ≡ letters.M) ⊎ (area ≡ letters.L) ⊎ (area ≡ letters.Db) ⊎ (area ≡ letters.Di)
+MayHoldPointer area =
+    (area ≡ letters.M) ⊎ (area ≡ letters.L) ⊎ (area ≡ letters.Db) ⊎ (area ≡ letters.Di)
 
 -- the function block of an instance, which a data block has
 abbrev pub IsInstance : BlockName → Option BlockName → Type 0
@@ -80,16 +81,19 @@ IsOpenedBlock false name = IsDataBlockName name
 IsOpenedBlock true (block.Number id) = (id.kind ≡ kind.Db) × IsNumber id.number
 IsOpenedBlock true (block.Quoted name) = ⊥
 
--- the numbers of an operand are in their ranges, and its names those of the right blocks
+-- the numbers of an operand are in their ranges, that of an address register is 1 (AR1) or 2 (AR2),
+-- and its names are those of the right blocks
 abbrev pub IsOperand : Operand → Type 0
 IsOperand operand.Nothing = Unit {0}
-IsOperand (operand.Direct name area w byte bit) = IsInBlock name area × IsNumber byte × IsBitOf w bit
+IsOperand (operand.Direct name area w byte bit) =
+    IsInBlock name area × IsNumber byte × IsBitOf w bit
 IsOperand (operand.Timer number) = IsNumber number
 IsOperand (operand.Counter number) = IsNumber number
 IsOperand (operand.Named path steps) = IsPath path steps
 IsOperand (operand.ByMemory area w from byte) = MayHoldPointer from × IsNumber byte
 IsOperand (operand.NumberBy what from byte) = MayHoldPointer from × IsNumber byte
-IsOperand (operand.ByRegister area w register bits) = ((register ≡ 1) ⊎ (register ≡ 2)) × (bits < 8 * 65536)
+IsOperand (operand.ByRegister area w register bits) =
+    ((register ≡ 1) ⊎ (register ≡ 2)) × (bits < 8 * 65536)
 IsOperand (operand.Pointer area byte bit) = IsNumber byte × (bit ≤ 7)
 IsOperand (operand.Constant value) = IsLiteral value
 IsOperand (operand.Label name) = Unit {0}

@@ -1,4 +1,6 @@
--- The most bytes that the code of a tree can take.
+-- The most bytes that the code of a tree can take. An op has its code and its form in a byte each,
+-- and then its operand: an op with a place takes 7 in all, one with a place by an address register
+-- 9, and one that opens a data block before it 4.
 use Rattle.std.specs.Prelude.{ℕ, ◌+◌, ◌*◌, if◌then◌else◌, length, sum_by, Option, Some, None}
 use Rattle.plc_base.specs.Kinds.{is_code}
 use Rattle.plc_base.specs.declared.blocks.BlockKind.{BlockKind}
@@ -13,15 +15,13 @@ use Rattle.stl_ast.specs.declared.operands.PathHead.{PathHead}
 use Rattle.stl_ast.specs.declared.operands.PathHead.TheVariants as head
 use Rattle.stl_ast.specs.declared.statements.Statement.{Statement}
 
--- an op has its code and its form in a byte each, and then its operand. These are the most bytes of a statement's ops,
--- actual parameters left out: a place takes 7 in all, an op that opens the data block before it 4 more, a place by an
--- address register 9
+-- the bytes that an op which opens a named data block adds: 4, and 0 without a name
 abbrev pub block_size : Option BlockName → ℕ
 block_size None = 0
 block_size (Some name) = 4
 
--- a path or symbol comes to one place, that of a component in a named data block with the op
--- before it that opens the block
+-- the most bytes of a path or a symbol: of the op with its one place, and in a named data block of
+-- the op before it that opens the block
 abbrev pub path_size : PathHead → ℕ
 path_size (head.Local name) = 7
 path_size (head.InBlock name) = 11
@@ -50,8 +50,8 @@ abbrev pub code_size : Mnemonic → Operand → ℕ → ℕ
 code_size code.Empty o count = 0
 code_size _ o count = 4 + op_size o + 11 * count
 
--- a statement: the entry of its line, its ops, and an op of at most 11 bytes for each actual parameter; the empty
--- statement has no code
+-- a statement: the entry of its line, its ops, and an op of at most 11 bytes for each actual
+-- parameter; the empty statement has no code
 abbrev pub statement_size : Statement → ℕ
 statement_size s = code_size s.code s.operand (length s.actuals)
 

@@ -23,7 +23,8 @@ use Rattle.stl_ast.specs.Operands.{IsNameOf, AreSteps, BeginsByName}
 use Rattle.stl_ast.specs.Outline.{IsOutline}
 use Rattle.stl_ast.specs.Statements.{IsStatement}
 
--- a block that a source declares: an organization block, a function, a function block, a data block or a data type
+-- a block that a source declares: an organization block, a function, a function block, a data block
+-- or a data type
 abbrev pub IsSourceKind : BlockKind → Type 0
 IsSourceKind kinds.Sfc = ⊥
 IsSourceKind _ = Unit {0}
@@ -40,7 +41,8 @@ MayReturn _ result = result ≡ None
 -- a declaration that may stand in this section; a parameter is of an elementary type
 abbrev pub IsDeclaredIn : BlockKind → PartKind → Declaration → Type 0
 IsDeclaredIn k p d =
-    IsDeclaration d × (may_declare k p d.level d ≡ true) × (is_parameter p ≡ true → is_elementary d ≡ true)
+    IsDeclaration d × (may_declare k p d.level d ≡ true)
+    × (is_parameter p ≡ true → is_elementary d ≡ true)
 
 -- all declarations of a section, the components of its structures among them
 abbrev pub AreDeclaredIn : BlockKind → PartKind → List Declaration → Type 0
@@ -48,12 +50,14 @@ AreDeclaredIn k p ds = AllByRecursion (IsDeclaredIn k p) ds
 
 -- a section that a block of this kind has; levels rise by one into a structure, and by no more
 abbrev pub IsSection : BlockKind → Part → Type 0
-IsSection k p = (may_have_section k p.kind ≡ true) × IsOutline 0 p.items × AreDeclaredIn k p.kind p.items
+IsSection k p =
+    (may_have_section k p.kind ≡ true) × IsOutline 0 p.items × AreDeclaredIn k p.kind p.items
 
 -- the sections stand in their order, each kind at most once: none before the rank `least`
 abbrev pub AreSectionsInOrder : ℕ → List Part → Type 0
 AreSectionsInOrder least [] = Unit {0}
-AreSectionsInOrder least (p ∷ ps) = (least ≤ part_rank p.kind) × AreSectionsInOrder (part_rank p.kind + 1) ps
+AreSectionsInOrder least (p ∷ ps) =
+    (least ≤ part_rank p.kind) × AreSectionsInOrder (part_rank p.kind + 1) ps
 
 -- the sections of a block: each at most once, from VAR_INPUT to VAR_TEMP, and right by itself
 abbrev pub AreSections : BlockKind → List Part → Type 0
@@ -81,7 +85,8 @@ IsDataShape _ _ components = ⊥
 
 -- a data type is a structure
 abbrev pub IsTypeShape : Option TypeTree → Option BlockName → List Declaration → Type 0
-IsTypeShape (Some t) None components = (t.arrays ≡ []) × (t.of ≡ element.Structure) × AreComponents components
+IsTypeShape (Some t) None components =
+    (t.arrays ≡ []) × (t.of ≡ element.Structure) × AreComponents components
 IsTypeShape _ _ components = ⊥
 
 -- what a block is of, by its kind

@@ -1,7 +1,7 @@
-/// An instruction word. `AOpen` to `XnOpen` are `A(` to `XN(`, `Close` is `)`, `Assign` is `=`, `Add`
-/// is `+` with a constant, `AddAr1` and `AddAr2` are `+AR1` and `+AR2`, `AddI` to `DivD` are `+I` to
-/// `/D`, `EqI` to `LeD` are `==I` to `<=D`, `Mcra` to `McrClose` are those of the master control relay,
-/// `MCRA`, `MCRD`, `MCR(` and `)MCR`, and `Empty` is the statement `;`.
+/// An instruction word. `AOpen` to `XnOpen` are `A(` to `XN(`, `Close` is `)`, `Assign` is `=`,
+/// `Add` is `+` with a constant, `AddAr1` and `AddAr2` are `+AR1` and `+AR2`, `AddI` to `DivD` are
+/// `+I` to `/D`, `EqI` to `LeD` are `==I` to `<=D`, `Mcra` to `McrClose` are those of the master
+/// control relay, `MCRA`, `MCRD`, `MCR(` and `)MCR`, and `Empty` is the statement `;`.
 #[derive(Clone, Copy, Debug, PartialEq, Eq)]
 pub enum Mnemonic {
     Empty,

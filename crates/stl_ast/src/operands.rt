@@ -39,8 +39,8 @@ pub enum PathHead {
 /// The operand of a statement, or the actual parameter of a call.
 /// - `Direct`: an address, as `MW 2` or `DB10.DBX 0.1` (`bit` is 0 where no bit is meant).
 /// - `Named`: a path, as `#motor.speed[2]`, or a symbol.
-/// - `ByMemory`: an area with a pointer in memory, as `MW [MD 4]`; `NumberBy`: a timer, a counter or
-///   a data block whose number stands in memory, as `T [MW 4]`.
+/// - `ByMemory`: an area with a pointer in memory, as `MW [MD 4]`; `NumberBy`: a timer, a counter
+///   or a data block whose number stands in memory, as `T [MW 4]`.
 /// - `ByRegister`: `MW [AR1, P#2.0]`, or without an area `W [AR1, P#2.0]`; `bits` is the constant
 ///   counted in bits.
 /// - `Pointer`: `P#2.0` or `P#M 2.0`.

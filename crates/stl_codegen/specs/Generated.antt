@@ -59,7 +59,7 @@ statements_of c b = stated_from c b.body 0 b.body ++ return_statement b ∷ []
 
 -- ---- parameters
 
--- the sections by their numbers in an image
+-- the number of a parameter's section in an image: 1 IN, 2 OUT, 3 IN_OUT
 abbrev pub section_number : PartKind → ℕ
 section_number part.Input = 1
 section_number part.Output = 2

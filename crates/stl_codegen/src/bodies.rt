@@ -163,11 +163,11 @@ impl<'a> Body<'a> {
         &self,
         alloc: Global,
         ops: &mut Vec<Op>,
-        scope: &Context,
+        context: &Context,
         statement: &Statement,
     ) -> Result<Option<()>, AllocError>
         ensures { IfOk result (λ done. AreOpsAppended ops.old.items ops.new.items
-            (ops_here scope.now self.now statement.now) done) }
+            (ops_here context.now self.now statement.now) done) }
     {
         if is_empty(statement.code) {
             return Ok(Some(()));
@@ -175,8 +175,8 @@ impl<'a> Body<'a> {
         match jump_of(statement.code) {
             Some(how) => append_jump_to(ops, how, self.target_of(&statement.operand)),
             None => {
-                let view = scope.resolved(alloc, statement)?;
-                append_resolved(alloc, ops, scope, statement, view)
+                let view = context.resolved(alloc, statement)?;
+                append_resolved(alloc, ops, context, statement, view)
             }
         }
     }
@@ -186,13 +186,13 @@ impl<'a> Body<'a> {
         &self,
         alloc: Global,
         ops: &mut Vec<Op>,
-        scope: &Context,
+        context: &Context,
     ) -> Result<Option<()>, AllocError>
         ensures { IfOk result (λ done. AreOpsAppended ops.old.items ops.new.items
-            (flat_map (λ s. ops_here scope.now self.now s) self.now) done) }
+            (flat_map (λ s. ops_here context.now self.now s) self.now) done) }
     {
         for statement in self.statements {
-            let Some(_) = self.append_statement(alloc, ops, scope, statement)? else {
+            let Some(_) = self.append_statement(alloc, ops, context, statement)? else {
                 return Ok(None);
             };
         }

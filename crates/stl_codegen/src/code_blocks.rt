@@ -46,15 +46,15 @@ fn instance_len(block: &Block, layout: &BlockLayout) -> u64
 /// table.
 fn code_block(
     alloc: Global,
-    scope: &Context,
+    context: &Context,
     block: &Block,
     layout: &BlockLayout,
     id: BlockId,
 ) -> Result<Option<CodeBlock>, AllocError>
     ensures value { IfOk result (λ made. IfSome made (λ b. b
-        ≡ compiled_block (code_block scope.now block.now layout.now id))) }
+        ≡ compiled_block (code_block context.now block.now layout.now id))) }
     ensures none { IfOk result (λ made. IfNone made
-        (BlockFits (compiled_block (code_block scope.now block.now layout.now id)) → ⊥)) }
+        (BlockFits (compiled_block (code_block context.now block.now layout.now id)) → ⊥)) }
 {
     let Some(local_len) = field(layout.local_len) else {
         return Ok(None);
@@ -65,7 +65,7 @@ fn code_block(
     let Some(params) = params_of(alloc, block, layout)? else {
         return Ok(None);
     };
-    let Some(Code { ops, lines }) = code_of(alloc, scope, block)? else {
+    let Some(Code { ops, lines }) = code_of(alloc, context, block)? else {
         return Ok(None);
     };
     Ok(Some(CodeBlock {
@@ -82,18 +82,18 @@ fn code_block(
 fn add_known(
     alloc: Global,
     made: &mut Vec<CodeBlock>,
-    scope: &Context,
+    context: &Context,
     block: &Block,
     layout: &BlockLayout,
     id: BlockId,
 ) -> Result<Option<()>, AllocError>
     ensures { IfOk result (λ done. AreItemsAppended BlockFits made.old.items made.new.items
-        (map compiled_block (code_block_of scope.now block.now layout.now (Some id))) done) }
+        (map compiled_block (code_block_of context.now block.now layout.now (Some id))) done) }
 {
     if !id.kind.is_code() {
         return Ok(Some(()));
     }
-    let Some(one) = code_block(alloc, scope, block, layout, id)? else {
+    let Some(one) = code_block(alloc, context, block, layout, id)? else {
         return Ok(None);
     };
     made.push(one)?;
@@ -103,37 +103,37 @@ fn add_known(
 fn add_code_block(
     alloc: Global,
     made: &mut Vec<CodeBlock>,
-    scope: &Context,
+    context: &Context,
     block: &Block,
     layout: &BlockLayout,
 ) -> Result<Option<()>, AllocError>
     ensures { IfOk result (λ done. AreItemsAppended BlockFits made.old.items made.new.items
-        (map compiled_block (code_block_of scope.now block.now layout.now layout.now.id)) done) }
+        (map compiled_block (code_block_of context.now block.now layout.now layout.now.id)) done) }
 {
     match layout.id {
         None => Ok(Some(())),
-        Some(id) => add_known(alloc, made, scope, block, layout, id),
+        Some(id) => add_known(alloc, made, context, block, layout, id),
     }
 }
 
 /// The code blocks of a source, in its order. `None` where one of them doesn't fit.
 pub(crate) fn code_blocks(
     alloc: Global,
-    scope: &Context,
+    context: &Context,
     blocks: &[Block],
     layouts: &[BlockLayout],
 ) -> Result<Option<Vec<CodeBlock>>, AllocError>
     ensures value { IfOk result (λ made. IfSome made (λ list. list.items
         ≡ map compiled_block (each_block (λ c b l. code_block_of c b l l.id)
-        (record scope.now { block = 0 }) blocks.now layouts.now))) }
+        (record context.now { block = 0 }) blocks.now layouts.now))) }
     ensures none { IfOk result (λ made. IfNone made
         (AllByRecursion BlockFits
         (map compiled_block (each_block (λ c b l. code_block_of c b l l.id)
-        (record scope.now { block = 0 }) blocks.now layouts.now)) → ⊥)) }
+        (record context.now { block = 0 }) blocks.now layouts.now)) → ⊥)) }
 {
     let mut made = Vec::new(alloc);
     for place in 0..blocks.len().min(layouts.len()) {
-        let here = scope.at(place);
+        let here = context.at(place);
         let added = add_code_block(alloc, &mut made, &here, &blocks[place], &layouts[place])?;
         let Some(_) = added else {
             return Ok(None);

@@ -23,15 +23,15 @@ pub(crate) struct Code {
 /// The ops of a body, whose targets are numbers of statements. `None` where one of them is no op of
 /// the table.
 #[tactic(auto, using(crate::proofs::AppendLemmas::front_has_none, crate::proofs::AppendLemmas::appended_then))]
-fn ops_of(alloc: Global, scope: &Context, block: &Block) -> Result<Option<Vec<Op>>, AllocError>
+fn ops_of(alloc: Global, context: &Context, block: &Block) -> Result<Option<Vec<Op>>, AllocError>
     requires { count_of_statements block.now.body < 65536 }
     ensures value { IfOk result (λ made. IfSome made (λ ops. ops.items
-        ≡ body_ops scope.now block.now)) }
-    ensures none { IfOk result (λ made. IfNone made (HasNoOp (body_ops scope.now block.now))) }
+        ≡ body_ops context.now block.now)) }
+    ensures none { IfOk result (λ made. IfNone made (HasNoOp (body_ops context.now block.now))) }
 {
     let body = Body::new(alloc, block.body.as_slice())?;
     let mut ops = Vec::new(alloc);
-    let Some(_) = body.append_to(alloc, &mut ops, scope)? else {
+    let Some(_) = body.append_to(alloc, &mut ops, context)? else {
         return Ok(None);
     };
     let Some(_) = append_end(&mut ops, EndOperation::Be)? else {
@@ -44,22 +44,22 @@ fn ops_of(alloc: Global, scope: &Context, block: &Block) -> Result<Option<Vec<Op
 #[tactic(auto, using(crate::proofs::BlockLemmas::body_ops_are, crate::proofs::BlockLemmas::body_lines_are, crate::proofs::BlockLemmas::count_lines, crate::proofs::BlockLemmas::no_op_misfits))]
 pub(crate) fn code_of(
     alloc: Global,
-    scope: &Context,
+    context: &Context,
     block: &Block,
 ) -> Result<Option<Code>, AllocError>
     ensures ops { IfOk result (λ made. IfSome made (λ code. code.ops.items
-        ≡ code_in (statements_of scope.now block.now))) }
+        ≡ code_in (statements_of context.now block.now))) }
     ensures lines { IfOk result (λ made. IfSome made (λ code. code.lines.items
-        ≡ lines_in (statements_of scope.now block.now))) }
+        ≡ lines_in (statements_of context.now block.now))) }
     ensures none { IfOk result (λ made. IfNone made
-        (CodeFits (code_in (statements_of scope.now block.now))
-        (lines_in (statements_of scope.now block.now)) → ⊥)) }
+        (CodeFits (code_in (statements_of context.now block.now))
+        (lines_in (statements_of context.now block.now)) → ⊥)) }
 {
     let lines = lines_of(alloc, block)?;
     if lines.len() > 65_535 {
         return Ok(None);
     }
-    let Some(ops) = ops_of(alloc, scope, block)? else {
+    let Some(ops) = ops_of(alloc, context, block)? else {
         return Ok(None);
     };
     let Some(ops) = place_targets(alloc, ops.as_slice())? else {

@@ -54,17 +54,17 @@ fn instance_of(layouts: &[BlockLayout], shape: Shape) -> Option<u16>
 /// A data block with its initial bytes.
 fn data_block(
     alloc: Global,
-    scope: &Context,
+    context: &Context,
     layout: &BlockLayout,
     id: BlockId,
 ) -> Result<DataBlock, AllocError>
-    ensures { IfOk result (λ made. made ≡ generated_data_block scope.now layout.now id) }
+    ensures { IfOk result (λ made. made ≡ generated_data_block context.now layout.now id) }
 {
-    let layouts = scope.layouts();
+    let layouts = context.layouts();
     Ok(DataBlock {
         number: id.number,
         instance_of: instance_of(layouts.list(), layout.shape),
-        bytes: layouts.initial_bytes(alloc, scope.tree(), scope.block())?,
+        bytes: layouts.initial_bytes(alloc, context.tree(), context.block())?,
     })
 }
 
@@ -72,15 +72,15 @@ fn data_block(
 fn add_known(
     alloc: Global,
     made: &mut Vec<DataBlock>,
-    scope: &Context,
+    context: &Context,
     layout: &BlockLayout,
     id: BlockId,
 ) -> Result<(), AllocError>
     ensures { IfOk result (λ _. made.new.items
-        ≡ made.old.items ++ data_block_of scope.now layout.now (Some id)) }
+        ≡ made.old.items ++ data_block_of context.now layout.now (Some id)) }
 {
     if id.kind.is_data_block() {
-        made.push(data_block(alloc, scope, layout, id)?)?;
+        made.push(data_block(alloc, context, layout, id)?)?;
     }
     Ok(())
 }
@@ -88,31 +88,31 @@ fn add_known(
 fn add_data_block(
     alloc: Global,
     made: &mut Vec<DataBlock>,
-    scope: &Context,
+    context: &Context,
     layout: &BlockLayout,
 ) -> Result<(), AllocError>
     ensures { IfOk result (λ _. made.new.items
-        ≡ made.old.items ++ data_block_of scope.now layout.now layout.now.id) }
+        ≡ made.old.items ++ data_block_of context.now layout.now layout.now.id) }
 {
     match layout.id {
         None => Ok(()),
-        Some(id) => add_known(alloc, made, scope, layout, id),
+        Some(id) => add_known(alloc, made, context, layout, id),
     }
 }
 
 /// The data blocks of a source, in its order.
 pub(crate) fn data_blocks(
     alloc: Global,
-    scope: &Context,
+    context: &Context,
     blocks: &[Block],
     layouts: &[BlockLayout],
 ) -> Result<Vec<DataBlock>, AllocError>
     ensures { IfOk result (λ made. made.items ≡ each_block (λ c b l. data_block_of c l l.id)
-        (record scope.now { block = 0 }) blocks.now layouts.now) }
+        (record context.now { block = 0 }) blocks.now layouts.now) }
 {
     let mut made = Vec::new(alloc);
     for place in 0..blocks.len().min(layouts.len()) {
-        let here = scope.at(place);
+        let here = context.at(place);
         add_data_block(alloc, &mut made, &here, &layouts[place])?;
     }
     Ok(made)

@@ -28,9 +28,9 @@ fn ordered_code_blocks(
     ensures none { IfOk result (λ made. IfNone made
         (IsProgram (program_of tree.now symbols.now layouts.now) → ⊥)) }
 {
-    let scope = Context::new(symbols, tree, layouts);
+    let context = Context::new(symbols, tree, layouts);
     let blocks = tree.blocks.as_slice();
-    let Some(mut list) = code_blocks(alloc, &scope, blocks, layouts.list())? else {
+    let Some(mut list) = code_blocks(alloc, &context, blocks, layouts.list())? else {
         return Ok(None);
     };
     sort_code_blocks(&mut list)?;
@@ -47,8 +47,8 @@ fn ordered_data_blocks(
     ensures { IfOk result (λ list. list.items
         ≡ data_blocks_of tree.now symbols.now layouts.now) }
 {
-    let scope = Context::new(symbols, tree, layouts);
-    let mut list = data_blocks(alloc, &scope, tree.blocks.as_slice(), layouts.list())?;
+    let context = Context::new(symbols, tree, layouts);
+    let mut list = data_blocks(alloc, &context, tree.blocks.as_slice(), layouts.list())?;
     sort_data_blocks(&mut list)?;
     Ok(list)
 }

@@ -107,10 +107,10 @@ fn return_last<T>(kind: Option<Simple>, params: Vec<T>) -> Vec<T>
 }
 
 /// The block of the source at a place.
-fn block_at<'a>(scope: &Context<'a>, place: Option<usize>) -> Option<&'a Block>
-    ensures { option_copied result ≡ source_block_at scope.now.blocks place }
+fn block_at<'a>(context: &Context<'a>, place: Option<usize>) -> Option<&'a Block>
+    ensures { option_copied result ≡ source_block_at context.now.blocks place }
 {
-    let blocks = scope.tree().blocks.as_slice();
+    let blocks = context.tree().blocks.as_slice();
     let place = place?;
     if place < blocks.len() {
         Some(&blocks[place])
@@ -123,21 +123,21 @@ fn block_at<'a>(scope: &Context<'a>, place: Option<usize>) -> Option<&'a Block>
 fn append_arguments(
     alloc: Global,
     ops: &mut Vec<Op>,
-    scope: &Context,
+    context: &Context,
     statement: &Statement,
     callee: Option<Callee>,
 ) -> Result<Option<()>, AllocError>
     ensures { IfOk result (λ done. AreOpsAppended ops.old.items ops.new.items
-        (pass_ops (passings_to scope.now statement.now callee)) done) }
+        (pass_ops (passings_to context.now statement.now callee)) done) }
 {
     match callee {
         None => Ok(Some(())),
         Some(Callee { place, formals, .. }) => {
-            let formals = in_order(block_at(scope, place), formals);
+            let formals = in_order(block_at(context, place), formals);
             append_passings(
                 alloc,
                 ops,
-                scope,
+                context,
                 statement.actuals.as_slice(),
                 formals.as_slice(),
             )
@@ -150,18 +150,18 @@ fn append_arguments(
 fn append_called(
     alloc: Global,
     ops: &mut Vec<Op>,
-    scope: &Context,
+    context: &Context,
     statement: &Statement,
     how: CallOperation,
     block: BlockId,
     instance: Option<u16>,
 ) -> Result<Option<()>, AllocError>
     ensures { IfOk result (λ done. AreOpsAppended ops.old.items ops.new.items
-        (ops_of (Calls how block instance (passings_to scope.now statement.now
-        (callee_of scope.now statement.now.operand)))) done) }
+        (ops_of (Calls how block instance (passings_to context.now statement.now
+        (callee_of context.now statement.now.operand)))) done) }
 {
-    let callee = scope.callee(alloc, &statement.operand)?;
-    let Some(_) = append_arguments(alloc, ops, scope, statement, callee)? else {
+    let callee = context.callee(alloc, &statement.operand)?;
+    let Some(_) = append_arguments(alloc, ops, context, statement, callee)? else {
         return Ok(None);
     };
     append_call(ops, how, block, instance)
@@ -170,17 +170,17 @@ fn append_called(
 fn append_call_by(
     alloc: Global,
     ops: &mut Vec<Op>,
-    scope: &Context,
+    context: &Context,
     statement: &Statement,
     how: CallOperation,
     view: ResolvedOperand,
 ) -> Result<Option<()>, AllocError>
     ensures { IfOk result (λ done. AreOpsAppended ops.old.items ops.new.items
-        (ops_of (call_instr scope.now statement.now how view)) done) }
+        (ops_of (call_instr context.now statement.now how view)) done) }
 {
     match view {
         ResolvedOperand::Called { block, instance } => {
-            append_called(alloc, ops, scope, statement, how, block, instance)
+            append_called(alloc, ops, context, statement, how, block, instance)
         }
         _ => append_filler(ops),
     }
@@ -205,17 +205,17 @@ fn append_plain(
 fn append_by_view(
     alloc: Global,
     ops: &mut Vec<Op>,
-    scope: &Context,
+    context: &Context,
     statement: &Statement,
     view: ResolvedOperand,
 ) -> Result<Option<()>, AllocError>
     ensures { IfOk result (λ done. AreOpsAppended ops.old.items ops.new.items
-        (ops_of (view_instr scope.now statement.now view (call_operation_of statement.now.code)))
+        (ops_of (view_instr context.now statement.now view (call_operation_of statement.now.code)))
         done) }
 {
     match call_of(statement.code) {
         None => append_plain(ops, statement, view),
-        Some(how) => append_call_by(alloc, ops, scope, statement, how, view),
+        Some(how) => append_call_by(alloc, ops, context, statement, how, view),
     }
 }
 
@@ -223,15 +223,15 @@ fn append_by_view(
 pub(crate) fn append_resolved(
     alloc: Global,
     ops: &mut Vec<Op>,
-    scope: &Context,
+    context: &Context,
     statement: &Statement,
     view: Option<ResolvedOperand>,
 ) -> Result<Option<()>, AllocError>
     ensures { IfOk result (λ done. AreOpsAppended ops.old.items ops.new.items
-        (ops_of (resolved_instr scope.now statement.now view)) done) }
+        (ops_of (resolved_instr context.now statement.now view)) done) }
 {
     match view {
         None => append_filler(ops),
-        Some(view) => append_by_view(alloc, ops, scope, statement, view),
+        Some(view) => append_by_view(alloc, ops, context, statement, view),
     }
 }

@@ -114,17 +114,17 @@ fn supplied<'s>(actuals: &'s [Actual], formal: &Formal) -> Option<&'s Actual>
 fn append_actual(
     alloc: Global,
     ops: &mut Vec<Op>,
-    scope: &Context,
+    context: &Context,
     index: usize,
     actual: Option<&Actual>,
 ) -> Result<Option<()>, AllocError>
     ensures { IfOk result (λ done. AreOpsAppended ops.old.items ops.new.items
-        (pass_ops (passed_actual scope.now index (option_copied actual.entry))) done) }
+        (pass_ops (passed_actual context.now index (option_copied actual.entry))) done) }
 {
     match actual {
         None => Ok(Some(())),
         Some(actual) => {
-            let resolution = scope.resolution(alloc, &actual.value)?;
+            let resolution = context.resolution(alloc, &actual.value)?;
             append_resolution(ops, index, &actual.value, resolution)
         }
     }
@@ -134,16 +134,16 @@ fn append_actual(
 pub(crate) fn append_passings(
     alloc: Global,
     ops: &mut Vec<Op>,
-    scope: &Context,
+    context: &Context,
     actuals: &[Actual],
     formals: &[Formal],
 ) -> Result<Option<()>, AllocError>
     ensures { IfOk result (λ done. AreOpsAppended ops.old.items ops.new.items
-        (pass_ops (passings_from scope.now actuals.now 0 formals.now)) done) }
+        (pass_ops (passings_from context.now actuals.now 0 formals.now)) done) }
 {
     for index in 0..formals.len() {
         let actual = supplied(actuals, &formals[index]);
-        let Some(_) = append_actual(alloc, ops, scope, index, actual)? else {
+        let Some(_) = append_actual(alloc, ops, context, index, actual)? else {
             return Ok(None);
         };
     }

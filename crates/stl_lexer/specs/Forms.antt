@@ -28,7 +28,8 @@ abbrev pub is_local : List ℕ → Bool
 is_local [] = false
 is_local (b ∷ s) = b == hash && is_word s
 
--- a byte that may stand before the closing one: not that byte, and no line's end where the token is to stand on one line
+-- a byte that may stand before the closing one: not that byte, and no line's end where the token is
+-- to stand on one line
 unfoldable pub is_inner : ℕ → Bool → ℕ → Bool
 is_inner close one_line b = not (b == close) && not (one_line && b == newline)
 
@@ -41,7 +42,8 @@ is_closed inner close (b ∷ c ∷ s) = inner b && is_closed inner close (c ∷ 
 -- an opening byte, others in between, and the closing byte
 abbrev pub is_enclosed : ℕ → ℕ → Bool → List ℕ → Bool
 is_enclosed opening close one_line [] = false
-is_enclosed opening close one_line (b ∷ s) = b == opening && is_closed (is_inner close one_line) close s
+is_enclosed opening close one_line (b ∷ s) =
+    b == opening && is_closed (is_inner close one_line) close s
 
 -- a quoted name: one byte or more in double quotes, on one line
 abbrev pub is_quoted : List ℕ → Bool
@@ -57,8 +59,9 @@ unfoldable pub behind_sign : List ℕ → List ℕ
 behind_sign [] = []
 behind_sign (b ∷ s) = if is_sign b then s else b ∷ s
 
--- what belongs to a token behind the entry of a table: nothing, where for a word that stands apart no letter, digit or `_`
--- may follow; letters, digits and `_`; the same behind an optional sign; or, behind a word, all up to the line's end
+-- what belongs to a token behind the entry of a table: nothing, where for a word that stands apart
+-- no letter, digit or `_` may follow; letters, digits and `_`; the same behind an optional sign;
+-- or, behind a word, all up to the line's end
 unfoldable pub is_tail : Tail → List ℕ → List ℕ → Bool
 is_tail Nothing s after = length s == 0
 is_tail Apart s after = length s == 0 && not (continues_word after)
@@ -98,15 +101,17 @@ is_listed tail table s after = list_any (λ entry. is_entry tail entry s after) 
 -- the sign words: arithmetic, comparison, address registers, and conditions of the status word
 unfoldable pub sign_words : List (List ℕ)
 sign_words =
-    codes "+I" ∷ codes "-I" ∷ codes "*I" ∷ codes "/I" ∷ codes "+D" ∷ codes "-D" ∷ codes "*D" ∷ codes "/D"
-    ∷ codes "==I" ∷ codes "<>I" ∷ codes ">I" ∷ codes "<I" ∷ codes ">=I" ∷ codes "<=I"
+    codes "+I" ∷ codes "-I" ∷ codes "*I" ∷ codes "/I" ∷ codes "+D" ∷ codes "-D" ∷ codes "*D"
+    ∷ codes "/D" ∷ codes "==I" ∷ codes "<>I" ∷ codes ">I" ∷ codes "<I" ∷ codes ">=I" ∷ codes "<=I"
     ∷ codes "==D" ∷ codes "<>D" ∷ codes ">D" ∷ codes "<D" ∷ codes ">=D" ∷ codes "<=D"
-    ∷ codes "+AR1" ∷ codes "+AR2" ∷ codes "==0" ∷ codes "<>0" ∷ codes ">0" ∷ codes "<0" ∷ codes ">=0" ∷ codes "<=0" ∷ []
+    ∷ codes "+AR1" ∷ codes "+AR2" ∷ codes "==0" ∷ codes "<>0" ∷ codes ">0" ∷ codes "<0"
+    ∷ codes ">=0" ∷ codes "<=0" ∷ []
 
 -- the prefixes of binary and hexadecimal literals
 unfoldable pub based_prefixes : List (List ℕ)
 based_prefixes =
-    codes "2#" ∷ codes "B#16#" ∷ codes "BYTE#16#" ∷ codes "W#16#" ∷ codes "WORD#16#" ∷ codes "DW#16#" ∷ codes "DWORD#16#" ∷ []
+    codes "2#" ∷ codes "B#16#" ∷ codes "BYTE#16#" ∷ codes "W#16#" ∷ codes "WORD#16#"
+    ∷ codes "DW#16#" ∷ codes "DWORD#16#" ∷ []
 
 -- the prefix of a literal of 32 bits, behind which a sign may stand, and that of a count value
 unfoldable pub long_prefixes : List (List ℕ)
@@ -138,13 +143,16 @@ is_attribute s = is_enclosed open_brace close_brace false s
 
 -- a number literal: `L#` with an optional sign, or `C#`
 abbrev pub is_number_literal : List ℕ → List ℕ → Bool
-is_number_literal s after = is_listed SignedRun long_prefixes s after || is_listed Run count_prefixes s after
+is_number_literal s after =
+    is_listed SignedRun long_prefixes s after || is_listed Run count_prefixes s after
 
 -- a time literal: `T#` or `TIME#` with an optional sign, or `S5T#` or `S5TIME#`
 abbrev pub is_time_literal : List ℕ → List ℕ → Bool
-is_time_literal s after = is_listed SignedRun time_prefixes s after || is_listed Run s5time_prefixes s after
+is_time_literal s after =
+    is_listed SignedRun time_prefixes s after || is_listed Run s5time_prefixes s after
 
--- the bytes s have the form of this kind, where `after` follows; that a literal's digits and parts are right is no matter of its form
+-- the bytes s have the form of this kind, where `after` follows; that a literal's digits and parts
+-- are right is no matter of its form
 unfoldable pub has_form : TokenKind → List ℕ → List ℕ → Bool
 has_form Word s after = is_word s
 has_form Number s after = is_number s

@@ -8,14 +8,17 @@ use Rattle.stl_lexer.specs.Bytes.{newline, is_separator, is_source_byte, opens_c
 abbrev pub after_gap : GapPart → List ℕ → List ℕ
 after_gap part [] = []
 after_gap Comment (b ∷ s) =
-    if b == newline then after_gap Blanks s else (if is_source_byte b then after_gap Comment s else b ∷ s)
+    if b == newline then after_gap Blanks s
+    else (if is_source_byte b then after_gap Comment s else b ∷ s)
 after_gap Blanks (b ∷ s) =
-    if is_separator b then after_gap Blanks s else (if opens_comment (b ∷ s) then after_gap Comment s else b ∷ s)
+    if is_separator b then after_gap Blanks s
+    else (if opens_comment (b ∷ s) then after_gap Comment s else b ∷ s)
 
 -- the first byte belongs to the gap, and behind it this part goes on
 abbrev pub ContinuesGap : GapPart → List ℕ → Option GapPart → Type 0
 ContinuesGap part text found =
-    MatchOption found (after_gap part text ≡ text) (λ next. (0 < length text) × (after_gap part text ≡ after_gap next (drop 1 text)))
+    MatchOption found (after_gap part text ≡ text)
+    (λ next. (0 < length text) × (after_gap part text ≡ after_gap next (drop 1 text)))
 
 -- a byte that separates tokens, or may stand in a comment, and ends no line
 unfoldable pub is_inline_separator : ℕ → Bool

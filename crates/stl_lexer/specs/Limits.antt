@@ -1,4 +1,5 @@
--- The limits of a source and of its literals, and the numbers of the rules of tokens (docs/LANGUAGE.md, docs/REFUSALS.md).
+-- The limits of a source and of its literals, and the numbers of the rules of tokens
+-- (docs/LANGUAGE.md, docs/REFUSALS.md).
 use Rattle.std.specs.Prelude.{ℕ, Bool, if◌then◌else◌}
 
 -- the most bytes of a source

@@ -32,7 +32,8 @@ pub record IsLongestOfForm (form : Form) (text : List ℕ) (n : ℕ) : Type 0 wh
 
 -- the longest of this form, or None
 abbrev pub FindsLongest : Form → List ℕ → Option ℕ → Type 0
-FindsLongest form text found = MatchOption found (HasNoneOfForm form text) (IsLongestOfForm form text)
+FindsLongest form text found =
+    MatchOption found (HasNoneOfForm form text) (IsLongestOfForm form text)
 
 -- the first n bytes of a text, or none where n is 0, are such a tail
 pub record IsTailAt (tail : Tail) (text : List ℕ) (n : ℕ) : Type 0 where
@@ -50,7 +51,8 @@ pub record IsLongestTail (tail : Tail) (text : List ℕ) (n : ℕ) : Type 0 wher
 
 -- the longest tail at the front of a text, or None
 abbrev pub FindsTail : Tail → List ℕ → Option ℕ → Type 0
-FindsTail tail text found = MatchOption found ((n : ℕ) → ¬ IsTailAt tail text n) (IsLongestTail tail text)
+FindsTail tail text found =
+    MatchOption found ((n : ℕ) → ¬ IsTailAt tail text n) (IsLongestTail tail text)
 
 -- the greater of two lengths, where there are any
 abbrev pub longer_of : Option ℕ → Option ℕ → Option ℕ
@@ -73,13 +75,15 @@ rank_of_kind SignWord = 9
 rank_of_kind Attribute = 10
 rank_of_kind Title = 11
 
--- the longest token at the front of the text: it has the form of its kind, and any other token there is shorter, or as
--- long and of a kind that stands before it in the table (the word TITLE at a line's end is a title)
+-- the longest token at the front of the text: it has the form of its kind, and any other token
+-- there is shorter, or as long and of a kind that stands before it in the table (the word TITLE at
+-- a line's end is a title)
 pub record IsLongestToken (text : List ℕ) (kind : TokenKind) (n : ℕ) : Type 0 where
   -- the first `n` bytes have the form of the kind
   pub fits : IsFormAt (has_form kind) text n
   -- bytes with the form of any kind are fewer, or as many and of a kind no later in the table
-  pub longest : (other : TokenKind) (m : ℕ) → IsFormAt (has_form other) text m → (m < n) ⊎ ((m ≡ n) × (rank_of_kind other ≤ rank_of_kind kind))
+  pub longest : (other : TokenKind) (m : ℕ) → IsFormAt (has_form other) text m
+      → (m < n) ⊎ ((m ≡ n) × (rank_of_kind other ≤ rank_of_kind kind))
 
 -- no token begins at the front of the text
 abbrev pub HasNoForm : List ℕ → Type 0
@@ -87,10 +91,13 @@ HasNoForm text = (kind : TokenKind) → HasNoneOfForm (has_form kind) text
 
 -- the longest token at the front of the text, or None
 abbrev pub FindsToken : List ℕ → Option Found → Type 0
-FindsToken text found = MatchOption found (HasNoForm text) (λ token. IsLongestToken text token.kind token.length)
+FindsToken text found =
+    MatchOption found (HasNoForm text) (λ token. IsLongestToken text token.kind token.length)
 
--- the better of the token found so far and one of a further kind: the longer, or the later of two that are as long
+-- the better of the token found so far and one of a further kind: the longer, or the later of two
+-- that are as long
 abbrev pub better_of : Option Found → TokenKind → Option ℕ → Option Found
 better_of best kind None = best
 better_of None kind (Some n) = Some (record { kind = kind; length = n })
-better_of (Some best) kind (Some n) = if nat_lt n best.length then Some best else Some (record { kind = kind; length = n })
+better_of (Some best) kind (Some n) =
+    if nat_lt n best.length then Some best else Some (record { kind = kind; length = n })

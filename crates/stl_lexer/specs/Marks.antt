@@ -24,5 +24,7 @@ mark_text mark.Bytes = codes "B#("
 -- all marks of STL as texts
 unfoldable pub marks : List (List ℕ)
 marks =
-    map mark_text (mark.Assign ∷ mark.Colon ∷ mark.Semicolon ∷ mark.Comma ∷ mark.Dot ∷ mark.DotDot ∷ mark.OpenParen ∷ mark.CloseParen
-    ∷ mark.OpenBracket ∷ mark.CloseBracket ∷ mark.Equals ∷ mark.Plus ∷ mark.Minus ∷ mark.Pointer ∷ mark.Bytes ∷ [])
+    map mark_text
+    (mark.Assign ∷ mark.Colon ∷ mark.Semicolon ∷ mark.Comma ∷ mark.Dot ∷ mark.DotDot
+    ∷ mark.OpenParen ∷ mark.CloseParen ∷ mark.OpenBracket ∷ mark.CloseBracket ∷ mark.Equals
+    ∷ mark.Plus ∷ mark.Minus ∷ mark.Pointer ∷ mark.Bytes ∷ [])

@@ -25,7 +25,8 @@ abbrev pub text_of_pieces : List Piece → List ℕ → List ℕ
 text_of_pieces [] end = end
 text_of_pieces (p ∷ ps) end = p.gap ++ (p.text ++ text_of_pieces ps end)
 
--- a piece stands before these bytes: its gap ends at its text, which is the longest token there, and right
+-- a piece stands before these bytes: its gap ends at its text, which is the longest token there,
+-- and right
 pub record StandsBefore (p : Piece) (minus : Bool) (after : List ℕ) : Type 0 where
   -- the gap is separators and comments, and ends where the token begins
   pub gap : after_gap Blanks (p.gap ++ (p.text ++ after)) ≡ p.text ++ after
@@ -56,7 +57,8 @@ tokens_of from line (p ∷ ps) =
 -- some tokens of a source have the kinds and the bytes of some pieces, one by one
 abbrev pub ShowPieces : List ℕ → List Piece → List Token → Type 0
 ShowPieces source [] [] = Unit {0}
-ShowPieces source (p ∷ ps) (t ∷ ts) = (t.kind ≡ p.kind) × (text_of source t ≡ p.text) × ShowPieces source ps ts
+ShowPieces source (p ∷ ps) (t ∷ ts) =
+    (t.kind ≡ p.kind) × (text_of source t ≡ p.text) × ShowPieces source ps ts
 ShowPieces source _ _ = ⊥
 
 -- pieces that stand are the tokens of what they spell

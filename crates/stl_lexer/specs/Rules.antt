@@ -51,35 +51,42 @@ digit_count s = count_by (λ b. not (b == underscore)) s
 unfoldable pub base_of : List ℕ → ℕ
 base_of s = if first_letter s == two_digit then 2 else 16
 
--- the most digits: 32 binary ones, and two, four or eight hexadecimal ones behind `B#16#` or `BYTE#16#`, `W#16#` or
--- `WORD#16#`, `DW#16#` or `DWORD#16#`
+-- the most digits: 32 binary ones, and two, four or eight hexadecimal ones behind `B#16#` or
+-- `BYTE#16#`, `W#16#` or `WORD#16#`, `DW#16#` or `DWORD#16#`
 unfoldable pub most_digits : List ℕ → ℕ
 most_digits s =
-    if first_letter s == two_digit then 32 else (if first_letter s == letter_b then 2 else (if first_letter s == letter_w then 4 else 8))
+    if first_letter s == two_digit then 32
+    else (if first_letter s == letter_b then 2 else (if first_letter s == letter_w then 4 else 8))
 
 -- a binary or hexadecimal literal: too many digits are rule 4, leading zeros among them
 unfoldable pub based_rule : List ℕ → Option ℕ
 based_rule s =
     if are_grouped_digits (base_of s) (behind_prefix s)
-    then (if nat_lt (most_digits s) (digit_count (behind_prefix s)) then Some out_of_range_rule else None)
+    then (if nat_lt (most_digits s) (digit_count (behind_prefix s))
+    then Some out_of_range_rule else None)
     else Some wrong_literal_rule
 
 -- `L#` with a sign or none, and `C#` without
 unfoldable pub number_rule : List ℕ → Option ℕ
 number_rule s =
     if first_letter s == letter_c then value_rule greatest_count (value_of_digits (behind_prefix s))
-    else value_rule (greatest_long (is_negative (behind_prefix s))) (value_of_digits (behind_sign (behind_prefix s)))
+    else value_rule (greatest_long (is_negative (behind_prefix s)))
+    (value_of_digits (behind_sign (behind_prefix s)))
 
 -- `T#` and `TIME#` with `-` or none, `S5T#` and `S5TIME#` without
 unfoldable pub time_rule : List ℕ → Option ℕ
 time_rule s =
-    if first_letter s == letter_s then value_rule greatest_s5time (milliseconds time_units (behind_prefix s))
-    else (if is_negative (behind_prefix s) then value_rule (greatest_long true) (milliseconds time_units (behind_sign (behind_prefix s)))
+    if first_letter s == letter_s
+    then value_rule greatest_s5time (milliseconds time_units (behind_prefix s))
+    else (if is_negative (behind_prefix s)
+    then value_rule (greatest_long true) (milliseconds time_units (behind_sign (behind_prefix s)))
     else value_rule (greatest_long false) (milliseconds time_units (behind_prefix s)))
 
 -- one to four characters between the quotes
 unfoldable pub characters_rule : List ℕ → Option ℕ
-characters_rule s = if nat_lt 2 (length s) && nat_le (length s) (most_characters + 2) then None else Some wrong_literal_rule
+characters_rule s =
+    if nat_lt 2 (length s) && nat_le (length s) (most_characters + 2) then None
+    else Some wrong_literal_rule
 
 -- a number of its own, where `minus` says that the mark `-` stands before it
 unfoldable pub decimal_rule : List ℕ → Bool → Option ℕ
@@ -94,7 +101,8 @@ rule_broken_by_token NumberLiteral s minus = number_rule s
 rule_broken_by_token TimeLiteral s minus = time_rule s
 rule_broken_by_token _ s minus = None
 
--- what is wrong first: the rule, at the token's first byte, else rule 1 at the first byte that no source holds
+-- what is wrong first: the rule, at the token's first byte, else rule 1 at the first byte that no
+-- source holds
 abbrev pub earlier_fault : Option ℕ → Option ℕ → Option Fault
 earlier_fault (Some rule) foreign = Some (record { offset = 0; rule = rule })
 earlier_fault None (Some offset) = Some (record { offset = offset; rule = no_token_rule })
@@ -103,14 +111,18 @@ earlier_fault None None = None
 -- what is wrong first with a token of this kind, None where it is right; `minus` says that the
 -- mark `-` stands before it
 unfoldable pub fault_of : TokenKind → List ℕ → Bool → Option Fault
-fault_of kind s minus = earlier_fault (rule_broken_by_token kind s minus) (position (λ b. not (is_source_byte b)) s)
+fault_of kind s minus =
+    earlier_fault (rule_broken_by_token kind s minus) (position (λ b. not (is_source_byte b)) s)
 
--- rule 2 is broken by a quoted name, characters or an attribute without end, and else rule 1; `""` has an end
+-- rule 2 is broken by a quoted name, characters or an attribute without end, and else rule 1; `""`
+-- has an end
 abbrev pub opening_rule : ℕ → ℕ
-opening_rule b = if b == double_quote || b == single_quote || b == open_brace then no_end_rule else no_token_rule
+opening_rule b =
+    if b == double_quote || b == single_quote || b == open_brace then no_end_rule else no_token_rule
 
 -- the rule that is broken where no token begins
 unfoldable pub rule_without_form : List ℕ → ℕ
-rule_without_form (b ∷ c ∷ s) = if b == double_quote && c == double_quote then no_token_rule else opening_rule b
+rule_without_form (b ∷ c ∷ s) =
+    if b == double_quote && c == double_quote then no_token_rule else opening_rule b
 rule_without_form (b ∷ []) = opening_rule b
 rule_without_form [] = no_token_rule

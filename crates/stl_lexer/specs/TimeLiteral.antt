@@ -46,7 +46,9 @@ behind_part s = drop (prefix_len is_ascii_alphabetic (behind_digits s)) (behind_
 
 -- a text begins with a part of this unit: digits, one at least, and the unit's letters without case
 unfoldable pub is_part : TimeUnit → List ℕ → Bool
-is_part unit s = nat_lt 0 (length (part_digits s)) && str_eq_ignore_ascii_case (letters_of_unit unit) (part_letters s)
+is_part unit s =
+    nat_lt 0 (length (part_digits s))
+    && str_eq_ignore_ascii_case (letters_of_unit unit) (part_letters s)
 
 -- an underscore may stand between two parts
 unfoldable pub behind_underscore : List ℕ → List ℕ
@@ -57,13 +59,15 @@ behind_underscore (b ∷ s) = if b == underscore then s else b ∷ s
 abbrev pub part_value : TimeUnit → List ℕ → ℕ
 part_value unit digits = decimal_value digits * milliseconds_of_unit unit
 
--- the milliseconds of a text that is parts of these units, each at most once and in this order; of another text None
+-- the milliseconds of a text that is parts of these units, each at most once and in this order; of
+-- another text None
 unfoldable pub milliseconds : List TimeUnit → List ℕ → Option ℕ
 milliseconds [] s = None
 milliseconds (unit ∷ smaller) s =
     if not (is_part unit s) then milliseconds smaller s
     else (if length (behind_part s) == 0 then Some (part_value unit (part_digits s))
-    else option_map (λ rest. part_value unit (part_digits s) + rest) (milliseconds smaller (behind_underscore (behind_part s))))
+    else option_map (λ rest. part_value unit (part_digits s) + rest)
+    (milliseconds smaller (behind_underscore (behind_part s))))
 
 -- a part by itself: decimal digits, one at least, and the letters of its unit in either case
 pub record TimePart : Type 0 where
@@ -88,12 +92,15 @@ abbrev pub SpellsTime : List TimePart → List ℕ → Type 0
 SpellsTime [] text = ⊥
 SpellsTime (p ∷ []) text = IsTimePart p × (text ≡ p.digits ++ p.letters)
 SpellsTime (p ∷ q ∷ parts) text =
-    IsTimePart p × ((rest : List ℕ) × ((text ≡ p.digits ++ p.letters ++ rest) ⊎ (text ≡ p.digits ++ p.letters ++ underscore ∷ rest)) × SpellsTime (q ∷ parts) rest)
+    IsTimePart p × ((rest : List ℕ)
+    × ((text ≡ p.digits ++ p.letters ++ rest) ⊎ (text ≡ p.digits ++ p.letters ++ underscore ∷ rest))
+    × SpellsTime (q ∷ parts) rest)
 
 -- each unit is below a length, and below the units before it
 abbrev pub UnitsFallBelow : ℕ → List TimePart → Type 0
 UnitsFallBelow bound [] = Unit {0}
-UnitsFallBelow bound (p ∷ parts) = (milliseconds_of_unit p.unit < bound) × UnitsFallBelow (milliseconds_of_unit p.unit) parts
+UnitsFallBelow bound (p ∷ parts) =
+    (milliseconds_of_unit p.unit < bound) × UnitsFallBelow (milliseconds_of_unit p.unit) parts
 
 -- the milliseconds of all parts together, 0 where there are none
 abbrev pub total_milliseconds : List TimePart → ℕ
@@ -111,6 +118,7 @@ pub record IsTime (text : List ℕ) (n : ℕ) : Type 0 where
   -- `n` is the milliseconds of all parts together
   pub sum : n ≡ total_milliseconds parts
 
--- the milliseconds of a time literal are those of its parts, and there are none where it isn't parts whose units fall
+-- the milliseconds of a time literal are those of its parts, and there are none where it isn't
+-- parts whose units fall
 abbrev pub ReadsTimes : Type 0
 ReadsTimes = (text : List ℕ) (n : ℕ) → (milliseconds time_units text ≡ Some n) ↔ IsTime text n

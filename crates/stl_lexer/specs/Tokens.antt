@@ -31,8 +31,9 @@ pub record IsBehindGap (source : List ℕ) (from at : ℕ) : Type 0 where
   -- between `from` and `at` stand separators and comments alone, and at `at` something else
   pub gap : drop at source ≡ after_gap Blanks (drop from source)
 
--- t is the next token behind `from`, where `minus` says that the mark `-` stands before it: only separators and comments
--- lie before it, it is the longest token at its place, it breaks no rule, and its line is that of its place
+-- t is the next token behind `from`, where `minus` says that the mark `-` stands before it: only
+-- separators and comments lie before it, it is the longest token at its place, it breaks no rule,
+-- and its line is that of its place
 pub record IsNextToken (source : List ℕ) (from : ℕ) (minus : Bool) (t : Token) : Type 0 where
   -- only separators and comments stand between `from` and the token
   pub start : IsBehindGap source from t.start
@@ -61,7 +62,9 @@ pub record NoTokenBegins (source : List ℕ) (at line rule : ℕ) : Type 0 where
   pub rule_is : rule ≡ rule_without_form (drop at source)
 
 -- the longest token at `at` breaks a rule
-pub record LongestBreaksRule (source : List ℕ) (at : ℕ) (minus : Bool) (line rule : ℕ) : Type 0 where
+pub record LongestBreaksRule
+    (source : List ℕ) (at : ℕ) (minus : Bool) (line rule : ℕ)
+    : Type 0 where
   -- the kind of the longest token at `at`
   pub kind : TokenKind
   -- the number of bytes of the longest token at `at`
@@ -78,7 +81,9 @@ pub record LongestBreaksRule (source : List ℕ) (at : ℕ) (minus : Bool) (line
   pub rule_is : rule ≡ fault.rule
 
 -- a rule of tokens is broken at the next token behind `from`
-pub record BreaksTokenRule (source : List ℕ) (from : ℕ) (minus : Bool) (line rule : ℕ) : Type 0 where
+pub record BreaksTokenRule
+    (source : List ℕ) (from : ℕ) (minus : Bool) (line rule : ℕ)
+    : Type 0 where
   -- the place in the source where the next token would begin
   pub at : ℕ
   -- only separators and comments stand between `from` and `at`
@@ -86,23 +91,31 @@ pub record BreaksTokenRule (source : List ℕ) (from : ℕ) (minus : Bool) (line
   -- no token begins at `at`, or the longest one there breaks a rule
   pub broken : NoTokenBegins source at line rule ⊎ LongestBreaksRule source at minus line rule
 
--- the next token behind `from`, or None where no more stands there, or the rule that is broken there
+-- the next token behind `from`, or None where no more stands there, or the rule that is broken
+-- there
 abbrev pub FindsNextToken : List ℕ → ℕ → Bool → Result (Option Token) Refusal → Type 0
 FindsNextToken source from minus found =
-    MatchResult found (λ next. MatchOption next (IsEndOfTokens source from) (IsNextToken source from minus)) (λ refusal. BreaksTokenRule source from minus refusal.line refusal.rule)
+    MatchResult found
+    (λ next. MatchOption next (IsEndOfTokens source from) (IsNextToken source from minus))
+    (λ refusal. BreaksTokenRule source from minus refusal.line refusal.rule)
 
 -- some tokens follow one another behind `from`, and then `rest` holds at the end of the last
 abbrev pub TokensFollow : List ℕ → (ℕ → Bool → Type 0) → ℕ → Bool → List Token → Type 0
 TokensFollow source rest from minus [] = rest from minus
-TokensFollow source rest from minus (t ∷ ts) = IsNextToken source from minus t × TokensFollow source rest t.end (is_minus t.kind (text_of source t)) ts
+TokensFollow source rest from minus (t ∷ ts) =
+    IsNextToken source from minus t
+    × TokensFollow source rest t.end (is_minus t.kind (text_of source t)) ts
 
--- the tokens of a source: they follow one another from its front on, and nothing else stands behind the last
+-- the tokens of a source: they follow one another from its front on, and nothing else stands behind
+-- the last
 unfoldable pub AreTokens : List ℕ → List Token → Type 0
 AreTokens source ts = TokensFollow source (λ from minus. IsEndOfTokens source from) 0 false ts
 
 -- the first violation of rules 1 to 4: what stands before it are tokens
 unfoldable pub IsViolation : List ℕ → ℕ → ℕ → Type 0
-IsViolation source line rule = (ts : List Token) × TokensFollow source (λ from minus. BreaksTokenRule source from minus line rule) 0 false ts
+IsViolation source line rule =
+    (ts : List Token)
+    × TokensFollow source (λ from minus. BreaksTokenRule source from minus line rule) 0 false ts
 
 -- a refusal names the first violation; nothing is said of want of memory
 abbrev pub IsRefused : List ℕ → SourceFault → Type 0
@@ -111,19 +124,26 @@ IsRefused source NoMemory = Unit {0}
 
 -- a source has one list of tokens at most
 abbrev pub AreTokensUnique : Type 0
-AreTokensUnique = (source : List ℕ) (ts us : List Token) → AreTokens source ts → AreTokens source us → ts ≡ us
+AreTokensUnique =
+    (source : List ℕ) (ts us : List Token) → AreTokens source ts → AreTokens source us → ts ≡ us
 
 -- a source with a violation has no list of tokens
 abbrev pub ExcludesViolation : Type 0
-ExcludesViolation = (source : List ℕ) (ts : List Token) (line rule : ℕ) → AreTokens source ts → IsViolation source line rule → ⊥
+ExcludesViolation =
+    (source : List ℕ) (ts : List Token) (line rule : ℕ) → AreTokens source ts
+    → IsViolation source line rule → ⊥
 
 -- one line and one rule are the first violation
 abbrev pub IsViolationUnique : Type 0
-IsViolationUnique = (source : List ℕ) (line rule line' rule' : ℕ) → IsViolation source line rule → IsViolation source line' rule' → (line ≡ line') × (rule ≡ rule')
+IsViolationUnique =
+    (source : List ℕ) (line rule line' rule' : ℕ) → IsViolation source line rule
+    → IsViolation source line' rule' → (line ≡ line') × (rule ≡ rule')
 
 -- each source has tokens, or a violation
 abbrev pub HasTokensOrViolation : List ℕ → Type 0
-HasTokensOrViolation source = ((ts : List Token) × AreTokens source ts) ⊎ ((line : ℕ) × (rule : ℕ) × IsViolation source line rule)
+HasTokensOrViolation source =
+    ((ts : List Token) × AreTokens source ts)
+    ⊎ ((line : ℕ) × (rule : ℕ) × IsViolation source line rule)
 
 -- every source has tokens or a violation, whatever bytes it has and however long it is
 abbrev pub IsLexingTotal : Type 0

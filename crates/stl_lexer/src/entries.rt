@@ -245,7 +245,8 @@ pub(crate) fn longest_sign_word(text: &[u8]) -> Option<usize>
     longest_entry(Tail::Apart, words, text)
 }
 
-/// The length of the longest binary or hexadecimal literal at the front of the text, right or wrong.
+/// The length of the longest binary or hexadecimal literal at the front of the text, right or
+/// wrong.
 #[tactic(auto, unfolding(crate::specs::Forms::based_prefixes))]
 pub(crate) fn longest_based(text: &[u8]) -> Option<usize>
     ensures { FindsLongest (is_listed Run based_prefixes) text.now result }

@@ -42,8 +42,8 @@ pub fn lex(alloc: Global, bytes: &[u8]) -> Result<Tokens, SourceFault>
     }
 }
 
-/// A source has one list of tokens, or no list and one first violation: so `lex` refuses exactly the
-/// sources without tokens, with exactly that line and rule.
+/// A source has one list of tokens, or no list and one first violation: so `lex` refuses exactly
+/// the sources without tokens, with exactly that line and rule.
 pub fn law_of_tokens()
     ensures one_list { AreTokensUnique }
     ensures list_or_violation { ExcludesViolation }

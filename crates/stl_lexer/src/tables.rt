@@ -43,8 +43,8 @@ pub(crate) static S5TIME_PREFIXES: [&[u8]; 2] = [b"S5T#", b"S5TIME#"];
 /// The word that begins a title.
 pub(crate) static TITLE_WORDS: [&[u8]; 1] = [b"TITLE"];
 
-// The sign words that begin with the same sign: arithmetic and comparison instructions, and conditions
-// of the status word.
+// The sign words that begin with the same sign: arithmetic and comparison instructions, and
+// conditions of the status word.
 static PLUS_WORDS: [&[u8]; 4] = [b"+I", b"+D", b"+AR1", b"+AR2"];
 
 static MINUS_WORDS: [&[u8]; 2] = [b"-I", b"-D"];

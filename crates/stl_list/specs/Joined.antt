@@ -147,12 +147,12 @@ labels_after_link labels (Has own kind) = labels
 unfoldable pub chain_labels : (count : ℕ) → List Link → List ℕ
 chain_labels count links = fold labels_after_link (range_with_len 0 count) links
 
--- a type that a chain hands on: INT
+-- a type is INT, which a chain hands on
 abbrev pub is_int_kind : Simple → Bool
 is_int_kind simple.Int = true
 is_int_kind _ = false
 
--- a type that a chain hands on: TIME
+-- a type is TIME, which a chain hands on
 abbrev pub is_time_kind : Simple → Bool
 is_time_kind simple.Time = true
 is_time_kind _ = false

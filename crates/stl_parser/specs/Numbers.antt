@@ -14,7 +14,7 @@ unfoldable pub number_up_to : (most : ℕ) → List ℕ → Token → Option ℕ
 number_up_to most source t =
     if has_kind t kind.Number then decimal_up_to most (text_of source t) else None
 
--- the number of a number token
+-- the number of a number token; none where the token is another one, or above the greatest number
 unfoldable pub number_of : List ℕ → Token → Option ℕ
 number_of source t = number_up_to (greatest_number false) source t
 

@@ -37,7 +37,7 @@ fn number_up_to(source: &[u8], token: &Token, most: u32) -> Option<u16>
     }
 }
 
-/// The number of a number token.
+/// The number of a number token; none where the token is another one, or above the greatest number.
 #[tactic(auto, unfolding(crate::specs::Numbers::number_of))]
 pub(crate) fn number(source: &[u8], token: &Token) -> Option<u16>
     ensures { result ≡ number_of source.now token.now }

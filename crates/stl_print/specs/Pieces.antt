@@ -23,11 +23,11 @@ with_pieces text ps = fold with_piece text ps
 abbrev pub token_piece : Gap → TokenKind → List ℕ → Piece
 token_piece g k text = record { gap = gap_text g; kind = k; text = text }
 
--- the piece that is a word
+-- a word as a piece: its letters as they are, behind a gap
 abbrev pub word_piece : Gap → List ℕ → Piece
 word_piece g text = token_piece g kind.Word text
 
--- the piece that is a mark
+-- a mark as a piece: its own text, behind a gap
 abbrev pub mark_piece : Gap → Mark → Piece
 mark_piece g m = token_piece g kind.Mark (mark_text m)
 

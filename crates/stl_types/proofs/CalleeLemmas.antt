@@ -1,7 +1,7 @@
 -- The parameters of a block are those among its first cells, where these have all of them.
 use Rattle.std.proofs.Common.{◌≡◌, ◌∙◌, sym, refl, ap, Bool, true, false, ◌&&◌, List, [], ◌∷◌, ◌++◌, Option, Some, None, if◌then◌else◌}
 use Rattle.std.specs.List.{flat_map, list_all}
-use Rattle.block_layout.specs.Scopes.{AreOthers, HaveParameters}
+use Rattle.block_layout.specs.NameLists.{AreOthers, HaveParameters}
 use Rattle.block_layout.specs.declared.cells.Cell.{Cell}
 use Rattle.stl_types.specs.Parameters.{formal_here, formals_of, is_sound_formal, sound_formals}
 use Rattle.stl_types.specs.declared.parameters.Formal.{Formal}

@@ -123,7 +123,8 @@ is_resolved_date _ = false
 abbrev pub dates_in : Context → List Statement → List Refusal
 dates_in c body =
     flat_map
-    (λ s. flat_map (λ a. broken_if (is_resolved_date (resolution_of c a.value)) a.line 24) s.actuals)
+    (λ s. flat_map (λ a. broken_if (is_resolved_date (resolution_of c a.value)) a.line 24)
+    s.actuals)
     body
 
 -- rule 24 of actual parameters, in all bodies

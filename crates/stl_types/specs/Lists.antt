@@ -15,12 +15,12 @@ use Rattle.stl_symbols.specs.Names.{name_place}
 use Rattle.stl_types.specs.Bodies.{in_bodies}
 use Rattle.stl_types.specs.Labels.{label_of}
 
--- JL
+-- a mnemonic is JL, which jumps by a number to one of the jumps of a list
 abbrev pub is_list_jump : Mnemonic → Bool
 is_list_jump code.Jl = true
 is_list_jump _ = false
 
--- JU
+-- a mnemonic is JU, as that of each jump of a list is
 abbrev pub is_unconditional_jump : Mnemonic → Bool
 is_unconditional_jump code.Ju = true
 is_unconditional_jump _ = false

@@ -76,7 +76,7 @@ resolution_of_call (Some id) None instance = Resolved (view.Called id None)
 resolution_of_call (Some id) (Some name) None = Unjudged
 resolution_of_call (Some id) (Some name) (Some number) = Resolved (view.Called id (Some number))
 
--- a block of the source, where it has a place, as one has that doesn't break a rule itself
+-- the id of a block; none where no place of it is given
 abbrev pub id_at : BlockId → Option ℕ → Option BlockId
 id_at id place = option_map (λ p. id) place
 

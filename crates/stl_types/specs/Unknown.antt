@@ -10,7 +10,7 @@ use Rattle.block_layout.specs.Paths.{folded_path, path_end_in_data_block}
 use Rattle.block_layout.specs.Settings.{on_settings}
 use Rattle.block_layout.specs.declared.blocks.BlockLayout.{BlockLayout}
 use Rattle.block_layout.specs.declared.walks.PathEnd.{PathEnd}
-use Rattle.block_layout.specs.declared.walks.PathEnd.TheVariants as walk
+use Rattle.block_layout.specs.declared.walks.PathEnd.TheVariants as path_end
 use Rattle.stl_types.specs.Bodies.{in_contexts}
 use Rattle.stl_types.specs.Context.{Context}
 use Rattle.stl_types.specs.Resolution.{resolution_of}
@@ -28,7 +28,7 @@ operand_20 c o = broken_if (is_unknown (resolution_of c o.operand)) o.line 20
 
 -- a path to a component that isn't there
 abbrev pub leads_nowhere : PathEnd → Bool
-leads_nowhere walk.Unknown = true
+leads_nowhere path_end.Unknown = true
 leads_nowhere _ = false
 
 -- the path of a setting leads to no component, in a data block that doesn't break a rule itself

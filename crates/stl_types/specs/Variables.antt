@@ -16,7 +16,7 @@ use Rattle.block_layout.specs.declared.cells.Element.{Element}
 use Rattle.block_layout.specs.declared.cells.Element.TheVariants as element
 use Rattle.block_layout.specs.declared.walks.ComponentAt.{ComponentAt}
 use Rattle.block_layout.specs.declared.walks.PathEnd.{PathEnd}
-use Rattle.block_layout.specs.declared.walks.PathEnd.TheVariants as walk
+use Rattle.block_layout.specs.declared.walks.PathEnd.TheVariants as path_end
 use Rattle.stl_types.specs.Context.{Context, data_place, data_number, in_function}
 use Rattle.stl_types.specs.declared.views.Resolution.{Resolution}
 use Rattle.stl_types.specs.declared.views.Resolution.TheVariants.{Resolved, Unknown, Unjudged}
@@ -30,7 +30,7 @@ abbrev pub date_or_composite : Element → ResolvedOperand
 date_or_composite element.DateAndTime = view.Date
 date_or_composite _ = view.Composite
 
--- what the component at a spot is that isn't elementary: a DATE_AND_TIME, or a composite one
+-- what a component is that isn't elementary: a DATE_AND_TIME, or a composite one
 abbrev pub composite_operand : Option Cell → ResolvedOperand
 composite_operand None = view.Composite
 composite_operand (Some c) = date_or_composite c.of
@@ -59,11 +59,11 @@ parameter_resolution index kind (Some c) = Resolved (view.Parameter index c.sect
 
 -- a parameter of the function that has the body
 abbrev pub parameter_at : Context → ComponentAt → Simple → Resolution
-parameter_at c spot kind =
+parameter_at c component kind =
     parameter_resolution
-    (parameter_index (length (cells_at c.layouts c.block false)) spot.place
+    (parameter_index (length (cells_at c.layouts c.block false)) component.place
     (slice_get c.blocks c.block))
-    kind (slice_get (cells_at c.layouts c.block false) spot.place)
+    kind (slice_get (cells_at c.layouts c.block false) component.place)
 
 -- the first name of a path is that of a temporary variable; the others are those of its components
 abbrev pub is_temporary_variable : Context → List ℕ → Bool
@@ -74,26 +74,26 @@ is_temporary_variable c name =
 -- bound at its call, and each variable of a function block lies in the data block of the DI
 -- register
 abbrev pub own_elementary : Context → (temporary : Bool) → ComponentAt → Simple → Resolution
-own_elementary c temporary spot kind =
-    if temporary then variable_in_area kind (elementary_place area.L 0 spot.offset (Some kind))
-    else if in_function c then parameter_at c spot kind
-    else variable_in_area kind (elementary_place area.Di 0 spot.offset (Some kind))
+own_elementary c temporary component kind =
+    if temporary then variable_in_area kind (elementary_place area.L 0 component.offset (Some kind))
+    else if in_function c then parameter_at c component kind
+    else variable_in_area kind (elementary_place area.Di 0 component.offset (Some kind))
 
--- what the component at a spot in the block's own variables is; of what isn't elementary no place
--- is given
+-- what a component of the block's own variables is; of what isn't elementary no place is given
 abbrev pub own_at : Context → (temporary : Bool) → ComponentAt → Option Simple → Resolution
-own_at c temporary spot None =
+own_at c temporary component None =
     Resolved
-    (composite_operand (slice_get (cells_at c.layouts spot.block spot.temporary) spot.place))
-own_at c temporary spot (Some kind) = own_elementary c temporary spot kind
+    (composite_operand
+    (slice_get (cells_at c.layouts component.block component.temporary) component.place))
+own_at c temporary component (Some kind) = own_elementary c temporary component kind
 
--- what a path into the block's own variables names, by where it leads; it may be unknown or rest on
--- what breaks a rule itself
+-- what a path into the block's own variables names, by where it leads; it may be unknown, or go
+-- through what breaks a rule itself
 abbrev pub own_walked : Context → (temporary : Bool) → PathEnd → Resolution
-own_walked c temporary (walk.Reaches spot) =
-    own_at c temporary spot (elementary_at c.layouts spot)
-own_walked c temporary walk.Unknown = Unknown
-own_walked c temporary walk.Rests = Unjudged
+own_walked c temporary (path_end.Reaches component) =
+    own_at c temporary component (elementary_at c.layouts component)
+own_walked c temporary path_end.Unknown = Unknown
+own_walked c temporary path_end.Unjudged = Unjudged
 
 -- what a path into the block's own variables names, by its first name and the steps behind it
 abbrev pub own_variable : Context → List ℕ → List PathStep → Resolution
@@ -103,18 +103,20 @@ own_variable c name steps =
 -- what a component of the data block with this number is; of what isn't elementary no place is
 -- given
 abbrev pub data_at : Context → (number : ℕ) → ComponentAt → Option Simple → Resolution
-data_at c number spot None =
+data_at c number component None =
     Resolved
-    (composite_operand (slice_get (cells_at c.layouts spot.block spot.temporary) spot.place))
-data_at c number spot (Some kind) =
-    variable_in_area kind (elementary_place area.Db number spot.offset (Some kind))
+    (composite_operand
+    (slice_get (cells_at c.layouts component.block component.temporary) component.place))
+data_at c number component (Some kind) =
+    variable_in_area kind (elementary_place area.Db number component.offset (Some kind))
 
--- what a path into the data block with this number names, by where it leads; it may be unknown or
--- rest on what breaks a rule itself
+-- what a path into the data block with this number names, by where it leads; it may be unknown, or
+-- go through what breaks a rule itself
 abbrev pub data_walked : Context → (number : ℕ) → PathEnd → Resolution
-data_walked c number (walk.Reaches spot) = data_at c number spot (elementary_at c.layouts spot)
-data_walked c number walk.Unknown = Unknown
-data_walked c number walk.Rests = Unjudged
+data_walked c number (path_end.Reaches component) =
+    data_at c number component (elementary_at c.layouts component)
+data_walked c number path_end.Unknown = Unknown
+data_walked c number path_end.Unjudged = Unjudged
 
 -- what a path into the data block with this number, at this place, names; without one of the two it
 -- isn't checked

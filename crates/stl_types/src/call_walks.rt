@@ -18,13 +18,13 @@ use stl_symbols::Symbols;
 
 /// The least refusal of a call, by the block that is called.
 fn least_in_call(
-    scope: &Context,
+    context: &Context,
     alloc: Global,
     callee: &Callee,
     statement: &Statement,
 ) -> Result<Option<Refusal>, AllocError>
     ensures { IfOk result (λ found. found
-        ≡ least (broken_call scope.now callee.now statement.now)) }
+        ≡ least (broken_call context.now callee.now statement.now)) }
 {
     let formals = callee.formals.as_slice();
     let actuals = statement.actuals.as_slice();
@@ -32,8 +32,8 @@ fn least_in_call(
     let twice = least_supplied_twice(formals, alloc, actuals)?;
     let lacks = lacks_actual(callee, alloc, statement)?;
     let missing = broken_if(lacks, statement.line, 36);
-    let misfit = least_misfit(scope, alloc, formals, actuals)?;
-    let wrong = has_wrong_instance(scope, callee, &statement.operand);
+    let misfit = least_misfit(context, alloc, formals, actuals)?;
+    let wrong = has_wrong_instance(context, callee, &statement.operand);
     let instance = broken_if(wrong, statement.line, 38);
     let bare = broken_if(is_bare_call(callee, statement), statement.line, 40);
     let by_actuals = lesser(lesser(lesser(unnamed, twice), missing), misfit);
@@ -42,43 +42,47 @@ fn least_in_call(
 
 /// The least refusal of a statement by the block that it calls, if it calls one.
 fn least_by_callee(
-    scope: &Context,
+    context: &Context,
     alloc: Global,
     statement: &Statement,
     callee: &Option<Callee>,
 ) -> Result<Option<Refusal>, AllocError>
     ensures { IfOk result (λ found. found
-        ≡ least (by_callee (broken_call scope.now) statement.now callee.now)) }
+        ≡ least (by_callee (broken_call context.now) statement.now callee.now)) }
 {
     match callee {
         None => Ok(None),
-        Some(callee) => least_in_call(scope, alloc, callee, statement),
+        Some(callee) => least_in_call(context, alloc, callee, statement),
     }
 }
 
 fn least_in_statement(
-    scope: &Context,
+    context: &Context,
     alloc: Global,
     statement: &Statement,
 ) -> Result<Option<Refusal>, AllocError>
-    ensures { IfOk result (λ found. found ≡ least (broken_statement scope.now statement.now)) }
+    ensures { IfOk result (λ found. found ≡ least (broken_statement context.now statement.now)) }
 {
-    let callee = scope.callee(alloc, &statement.operand)?;
-    let by_callee = least_by_callee(scope, alloc, statement, &callee)?;
-    let unknown = broken_if(calls_unknown(scope, &statement.operand), statement.line, 46);
-    let date = least_date(scope, alloc, statement.actuals.as_slice())?;
+    let callee = context.callee(alloc, &statement.operand)?;
+    let by_callee = least_by_callee(context, alloc, statement, &callee)?;
+    let unknown = broken_if(
+        calls_unknown(context, &statement.operand),
+        statement.line,
+        46,
+    );
+    let date = least_date(context, alloc, statement.actuals.as_slice())?;
     Ok(lesser(lesser(by_callee, unknown), date))
 }
 
 fn least_in_body(
-    scope: &Context,
+    context: &Context,
     alloc: Global,
     body: &[Statement],
 ) -> Result<Option<Refusal>, AllocError>
     ensures { IfOk result (λ found. found
-        ≡ least (flat_map (broken_statement scope.now) body.now)) }
+        ≡ least (flat_map (broken_statement context.now) body.now)) }
 {
-    try_least_of(body, |s: &Statement| least_in_statement(scope, alloc, s))
+    try_least_of(body, |s: &Statement| least_in_statement(context, alloc, s))
 }
 
 /// The least refusal by the rules of calls: 24 of actuals, 34 to 38, 40 and 46.

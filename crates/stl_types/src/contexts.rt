@@ -48,7 +48,7 @@ fn number_of(id: Option<BlockId>) -> Option<u16>
 }
 
 impl<'a> Context<'a> {
-    /// The scope of the body of the first block.
+    /// The context of the body of the first block.
     pub fn new(symbols: &'a Symbols, tree: &'a Tree, layouts: &'a Layouts) -> Context<'a>
         ensures { result ≡ first_context symbols.now layouts.now tree.now.blocks }
     {
@@ -60,7 +60,7 @@ impl<'a> Context<'a> {
         }
     }
 
-    /// The scope of the body of the block at this place.
+    /// The context of the body of the block at this place.
     pub fn at(&self, block: usize) -> Context<'a>
         ensures { result ≡ record self.now { block = block } }
     {

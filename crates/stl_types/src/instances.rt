@@ -47,18 +47,18 @@ fn is_instance(place: Option<usize>, layouts: &[BlockLayout], block: usize) -> b
 }
 
 /// Whether the data block at `found` isn't an instance of the block at `place`.
-fn is_no_instance(scope: &Context, place: Option<usize>, found: Option<usize>) -> bool
-    ensures { result ≡ is_no_instance scope.now place found }
+fn is_no_instance(context: &Context, place: Option<usize>, found: Option<usize>) -> bool
+    ensures { result ≡ is_no_instance context.now place found }
 {
     match found {
         None => false,
-        Some(block) => !is_instance(place, scope.layouts().list(), block),
+        Some(block) => !is_instance(place, context.layouts().list(), block),
     }
 }
 
 /// Whether a call names a data block that isn't an instance of the function block.
-pub(crate) fn has_wrong_instance(scope: &Context, callee: &Callee, operand: &Operand) -> bool
-    ensures { result ≡ has_wrong_instance scope.now callee.now operand.now }
+pub(crate) fn has_wrong_instance(context: &Context, callee: &Callee, operand: &Operand) -> bool
+    ensures { result ≡ has_wrong_instance context.now callee.now operand.now }
 {
     match operand {
         Operand::Called {
@@ -66,7 +66,7 @@ pub(crate) fn has_wrong_instance(scope: &Context, callee: &Callee, operand: &Ope
             ..
         } => {
             callee.id.kind.is_function_block()
-                && is_no_instance(scope, callee.place, scope.whole_data_place(instance))
+                && is_no_instance(context, callee.place, context.whole_data_place(instance))
         }
         _ => false,
     }
@@ -103,11 +103,11 @@ fn is_unknown_function(id: Option<BlockId>) -> bool
 }
 
 /// Whether a statement calls a system function that isn't one of the nine.
-pub(crate) fn calls_unknown(scope: &Context, operand: &Operand) -> bool
-    ensures { result ≡ calls_unknown scope.now operand.now }
+pub(crate) fn calls_unknown(context: &Context, operand: &Operand) -> bool
+    ensures { result ≡ calls_unknown context.now operand.now }
 {
     match operand {
-        Operand::Called { name, .. } => is_unknown_function(named_block(scope.symbols(), name)),
+        Operand::Called { name, .. } => is_unknown_function(named_block(context.symbols(), name)),
         _ => false,
     }
 }

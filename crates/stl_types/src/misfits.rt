@@ -38,64 +38,67 @@ fn fits_resolution(formal: &Formal, resolution: Resolution) -> bool
 /// Whether the value of an actual fits a parameter.
 #[tactic(auto, unfolding(crate::specs::Actuals::fits_operand))]
 fn fits_operand(
-    scope: &Context,
+    context: &Context,
     alloc: Global,
     formal: &Formal,
     operand: &Operand,
 ) -> Result<bool, AllocError>
-    ensures { IfOk result (λ fit. fit ≡ fits_operand scope.now formal.now operand.now) }
+    ensures { IfOk result (λ fit. fit ≡ fits_operand context.now formal.now operand.now) }
 {
     match operand {
         Operand::Constant { value } => {
             Ok(is_input_section(formal.section) && fits(value, formal.kind))
         }
-        _ => Ok(fits_resolution(formal, scope.resolution(alloc, operand)?)),
+        _ => Ok(fits_resolution(formal, context.resolution(alloc, operand)?)),
     }
 }
 
 fn misfits(
-    scope: &Context,
+    context: &Context,
     alloc: Global,
     formals: &[Formal],
     actual: &Actual,
 ) -> Result<bool, AllocError>
     ensures { IfOk result (λ wrong. wrong
-        ≡ misfits_formal scope.now actual.now (formal_named formals.now actual.now.name)) }
+        ≡ misfits_formal context.now actual.now (formal_named formals.now actual.now.name)) }
 {
     let upper = actual.name.as_bytes().to_ascii_uppercase(alloc)?;
     match formal_named(formals, upper.as_slice()) {
         None => Ok(false),
-        Some(formal) => Ok(!fits_operand(scope, alloc, formal, &actual.value)?),
+        Some(formal) => Ok(!fits_operand(context, alloc, formal, &actual.value)?),
     }
 }
 
 fn misfit_here(
-    scope: &Context,
+    context: &Context,
     alloc: Global,
     formals: &[Formal],
     actual: &Actual,
 ) -> Result<Option<Refusal>, AllocError>
     ensures { IfOk result (λ found. found
         ≡ least (broken_if
-        (misfits_formal scope.now actual.now (formal_named formals.now actual.now.name))
+        (misfits_formal context.now actual.now (formal_named formals.now actual.now.name))
         actual.now.line 37)) }
 {
-    let wrong = misfits(scope, alloc, formals, actual)?;
+    let wrong = misfits(context, alloc, formals, actual)?;
     Ok(broken_if(wrong, actual.line, 37))
 }
 
 /// The least refusal of a call by rule 37, of its actuals.
 pub(crate) fn least_misfit(
-    scope: &Context,
+    context: &Context,
     alloc: Global,
     formals: &[Formal],
     actuals: &[Actual],
 ) -> Result<Option<Refusal>, AllocError>
     ensures { IfOk result (λ found. found ≡ least (flat_map
-        (λ a. broken_if (misfits_formal scope.now a (formal_named formals.now a.name)) a.line 37)
+        (λ a. broken_if (misfits_formal context.now a (formal_named formals.now a.name)) a.line 37)
         actuals.now)) }
 {
-    try_least_of(actuals, |a: &Actual| misfit_here(scope, alloc, formals, a))
+    try_least_of(
+        actuals,
+        |a: &Actual| misfit_here(context, alloc, formals, a),
+    )
 }
 
 fn is_resolved_date(resolution: Resolution) -> bool
@@ -107,25 +110,29 @@ fn is_resolved_date(resolution: Resolution) -> bool
     }
 }
 
-fn date_here(scope: &Context, alloc: Global, actual: &Actual) -> Result<Option<Refusal>, AllocError>
+fn date_here(
+    context: &Context,
+    alloc: Global,
+    actual: &Actual,
+) -> Result<Option<Refusal>, AllocError>
     ensures { IfOk result (λ found. found
         ≡ least
-        (broken_if (is_resolved_date (resolution_of scope.now actual.now.value))
+        (broken_if (is_resolved_date (resolution_of context.now actual.now.value))
         actual.now.line 24)) }
 {
-    let date = is_resolved_date(scope.resolution(alloc, &actual.value)?);
+    let date = is_resolved_date(context.resolution(alloc, &actual.value)?);
     Ok(broken_if(date, actual.line, 24))
 }
 
 /// The least refusal of a statement by rule 24, of its actuals.
 pub(crate) fn least_date(
-    scope: &Context,
+    context: &Context,
     alloc: Global,
     actuals: &[Actual],
 ) -> Result<Option<Refusal>, AllocError>
     ensures { IfOk result (λ found. found ≡ least (flat_map
-        (λ a. broken_if (is_resolved_date (resolution_of scope.now a.value)) a.line 24)
+        (λ a. broken_if (is_resolved_date (resolution_of context.now a.value)) a.line 24)
         actuals.now)) }
 {
-    try_least_of(actuals, |a: &Actual| date_here(scope, alloc, a))
+    try_least_of(actuals, |a: &Actual| date_here(context, alloc, a))
 }

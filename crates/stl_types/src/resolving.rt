@@ -98,49 +98,49 @@ impl<'a> Context<'a> {
 
 /// The rule that a statement breaks by its operand.
 fn statement_rule(
-    scope: &Context,
+    context: &Context,
     alloc: Global,
     statement: &Statement,
 ) -> Result<Option<u16>, AllocError>
-    ensures { IfOk result (λ rule. rule ≡ statement_rule scope.now statement.now) }
+    ensures { IfOk result (λ rule. rule ≡ statement_rule context.now statement.now) }
 {
-    let resolution = scope.resolution(alloc, &statement.operand)?;
+    let resolution = context.resolution(alloc, &statement.operand)?;
     Ok(operand_rule(form_of(statement.code), &statement.operand, resolution))
 }
 
 fn wrong_operand(
-    scope: &Context,
+    context: &Context,
     alloc: Global,
     statement: &Statement,
 ) -> Result<Option<Refusal>, AllocError>
     ensures { IfOk result (λ found. found
-        ≡ least (at_line statement.now.line (statement_rule scope.now statement.now))) }
+        ≡ least (at_line statement.now.line (statement_rule context.now statement.now))) }
 {
-    let rule = statement_rule(scope, alloc, statement)?;
+    let rule = statement_rule(context, alloc, statement)?;
     Ok(at_line(statement.line, rule))
 }
 
 fn wrong_in_body(
-    scope: &Context,
+    context: &Context,
     alloc: Global,
     body: &[Statement],
 ) -> Result<Option<Refusal>, AllocError>
-    ensures { IfOk result (λ found. found ≡ least (operands_24 scope.now body.now)) }
+    ensures { IfOk result (λ found. found ≡ least (operands_24 context.now body.now)) }
 {
-    try_least_of(body, |s: &Statement| wrong_operand(scope, alloc, s))
+    try_least_of(body, |s: &Statement| wrong_operand(context, alloc, s))
 }
 
 fn wrong_in_blocks(
-    scope: &Context,
+    context: &Context,
     alloc: Global,
     blocks: &[Block],
 ) -> Result<Option<Refusal>, AllocError>
     ensures { IfOk result (λ found. found
-        ≡ least (in_contexts operands_24 (record scope.now { block = 0 }) blocks.now)) }
+        ≡ least (in_contexts operands_24 (record context.now { block = 0 }) blocks.now)) }
 {
     let mut found = None;
     for block in 0..blocks.len() {
-        let here = scope.at(block);
+        let here = context.at(block);
         let one = wrong_in_body(&here, alloc, blocks[block].body.as_slice())?;
         found = lesser(found, one);
     }

@@ -26,10 +26,10 @@ fn is_unknown(resolution: Resolution) -> bool
     matches!(resolution, Resolution::Unknown)
 }
 
-fn leads_nowhere(walk: PathEnd) -> bool
-    ensures { result ≡ leads_nowhere walk }
+fn leads_nowhere(path_end: PathEnd) -> bool
+    ensures { result ≡ leads_nowhere path_end }
 {
-    matches!(walk, PathEnd::Unknown)
+    matches!(path_end, PathEnd::Unknown)
 }
 
 fn unknown_target(
@@ -79,68 +79,71 @@ fn least_unknown_target(
 }
 
 fn unknown_operand(
-    scope: &Context,
+    context: &Context,
     alloc: Global,
     operand: &Operand,
     line: u32,
 ) -> Result<Option<Refusal>, AllocError>
-    ensures { IfOk result (λ found. found ≡ least (operand_20 scope.now
+    ensures { IfOk result (λ found. found ≡ least (operand_20 context.now
         (record { line = line; operand = operand.now }))) }
 {
-    let resolution = scope.resolution(alloc, operand)?;
+    let resolution = context.resolution(alloc, operand)?;
     Ok(broken_if(is_unknown(resolution), line, 20))
 }
 
 fn unknown_actuals(
-    scope: &Context,
+    context: &Context,
     alloc: Global,
     actuals: &[Actual],
 ) -> Result<Option<Refusal>, AllocError>
     ensures { IfOk result (λ found. found ≡ least (flat_map
-        (λ a. operand_20 scope.now (record { line = a.line; operand = a.value }))
+        (λ a. operand_20 context.now (record { line = a.line; operand = a.value }))
         actuals.now)) }
 {
     try_least_of(
         actuals,
-        |a: &Actual| unknown_operand(scope, alloc, &a.value, a.line),
+        |a: &Actual| unknown_operand(context, alloc, &a.value, a.line),
     )
 }
 
 fn unknown_in_statement(
-    scope: &Context,
+    context: &Context,
     alloc: Global,
     statement: &Statement,
 ) -> Result<Option<Refusal>, AllocError>
     ensures { IfOk result (λ found. found
-        ≡ least (flat_map (operand_20 scope.now) (operands_of statement.now))) }
+        ≡ least (flat_map (operand_20 context.now) (operands_of statement.now))) }
 {
-    let own = unknown_operand(scope, alloc, &statement.operand, statement.line)?;
-    let actuals = unknown_actuals(scope, alloc, statement.actuals.as_slice())?;
+    let own = unknown_operand(context, alloc, &statement.operand, statement.line)?;
+    let actuals = unknown_actuals(context, alloc, statement.actuals.as_slice())?;
     Ok(lesser(own, actuals))
 }
 
 fn unknown_in_body(
-    scope: &Context,
+    context: &Context,
     alloc: Global,
     body: &[Statement],
 ) -> Result<Option<Refusal>, AllocError>
-    ensures { IfOk result (λ found. found ≡ least (in_body (operand_20 scope.now) body.now)) }
+    ensures { IfOk result (λ found. found ≡ least (in_body (operand_20 context.now) body.now)) }
 {
-    try_least_of(body, |s: &Statement| unknown_in_statement(scope, alloc, s))
+    try_least_of(
+        body,
+        |s: &Statement| unknown_in_statement(context, alloc, s),
+    )
 }
 
 fn unknown_in_blocks(
-    scope: &Context,
+    context: &Context,
     alloc: Global,
     blocks: &[Block],
 ) -> Result<Option<Refusal>, AllocError>
     ensures { IfOk result (λ found. found
         ≡ least (in_contexts (λ c body. in_body (operand_20 c) body)
-        (record scope.now { block = 0 }) blocks.now)) }
+        (record context.now { block = 0 }) blocks.now)) }
 {
     let mut found = None;
     for block in 0..blocks.len() {
-        let here = scope.at(block);
+        let here = context.at(block);
         let one = unknown_in_body(&here, alloc, blocks[block].body.as_slice())?;
         found = lesser(found, one);
     }

@@ -69,12 +69,13 @@ fn behind_others(count: usize, place: usize, returned: Option<Simple>) -> usize
 }
 
 impl<'a> Context<'a> {
-    /// The structure, the array or the DATE_AND_TIME at a spot.
-    fn composite(&self, spot: ComponentAt) -> ResolvedOperand
+    /// The structure, the array or the DATE_AND_TIME that a component is.
+    fn composite(&self, component: ComponentAt) -> ResolvedOperand
         ensures { result ≡ composite_operand
-            (slice_get (cells_at self.now.layouts spot.block spot.temporary) spot.place) }
+            (slice_get (cells_at self.now.layouts component.block component.temporary)
+            component.place) }
     {
-        match self.layouts().cell_at(spot) {
+        match self.layouts().cell_at(component) {
             None => ResolvedOperand::Composite,
             Some(cell) => date_or_composite(cell.of),
         }
@@ -92,12 +93,12 @@ impl<'a> Context<'a> {
     }
 
     /// A parameter of the function that has the body.
-    fn parameter_at(&self, spot: ComponentAt, kind: Simple) -> Resolution
-        ensures { result ≡ parameter_at self.now spot kind }
+    fn parameter_at(&self, component: ComponentAt, kind: Simple) -> Resolution
+        ensures { result ≡ parameter_at self.now component kind }
     {
         let cells = self.layouts().cells(self.block(), false);
-        let index = self.parameter_index(cells.len(), spot.place);
-        match cells.get(spot.place) {
+        let index = self.parameter_index(cells.len(), component.place);
+        match cells.get(component.place) {
             None => Resolution::Unjudged,
             Some(cell) => Resolution::Resolved {
                 view: ResolvedOperand::Parameter {
@@ -119,37 +120,37 @@ impl<'a> Context<'a> {
     /// An elementary variable of the block: a temporary one lies in the local data, a parameter of
     /// a function is bound at its call, and each variable of a function block lies in the data
     /// block of the DI register.
-    fn own_elementary(&self, temporary: bool, spot: ComponentAt, kind: Simple) -> Resolution
-        ensures { result ≡ own_elementary self.now temporary spot kind }
+    fn own_elementary(&self, temporary: bool, component: ComponentAt, kind: Simple) -> Resolution
+        ensures { result ≡ own_elementary self.now temporary component kind }
     {
         if temporary {
-            return in_area(kind, placed(Area::L, 0, spot.offset, kind));
+            return in_area(kind, placed(Area::L, 0, component.offset, kind));
         }
         if self.in_function() {
-            return self.parameter_at(spot, kind);
+            return self.parameter_at(component, kind);
         }
-        in_area(kind, placed(Area::Di, 0, spot.offset, kind))
+        in_area(kind, placed(Area::Di, 0, component.offset, kind))
     }
 
-    fn own_at(&self, temporary: bool, spot: ComponentAt) -> Resolution
+    fn own_at(&self, temporary: bool, component: ComponentAt) -> Resolution
         ensures { result
-            ≡ own_at self.now temporary spot (elementary_at self.now.layouts spot) }
+            ≡ own_at self.now temporary component (elementary_at self.now.layouts component) }
     {
-        match self.layouts().elementary_at(spot) {
+        match self.layouts().elementary_at(component) {
             None => Resolution::Resolved {
-                view: self.composite(spot),
+                view: self.composite(component),
             },
-            Some(kind) => self.own_elementary(temporary, spot, kind),
+            Some(kind) => self.own_elementary(temporary, component, kind),
         }
     }
 
-    fn own_walked(&self, temporary: bool, walk: PathEnd) -> Resolution
-        ensures { result ≡ own_walked self.now temporary walk }
+    fn own_walked(&self, temporary: bool, path_end: PathEnd) -> Resolution
+        ensures { result ≡ own_walked self.now temporary path_end }
     {
-        match walk {
-            PathEnd::Reaches { spot } => self.own_at(temporary, spot),
+        match path_end {
+            PathEnd::Reaches { component } => self.own_at(temporary, component),
             PathEnd::Unknown => Resolution::Unknown,
-            PathEnd::Rests => Resolution::Unjudged,
+            PathEnd::Unjudged => Resolution::Unjudged,
         }
     }
 
@@ -158,28 +159,29 @@ impl<'a> Context<'a> {
     pub(crate) fn own_variable(&self, name: &[u8], path: &Path) -> Resolution
         ensures { result ≡ own_variable self.now name.now path.now }
     {
-        let walk = self.layouts().walk_local(self.block(), name, path);
-        self.own_walked(self.is_temporary(name), walk)
+        let path_end = self.layouts().walk_local(self.block(), name, path);
+        self.own_walked(self.is_temporary(name), path_end)
     }
 
-    fn data_at(&self, number: u16, spot: ComponentAt) -> Resolution
-        ensures { result ≡ data_at self.now number spot (elementary_at self.now.layouts spot) }
+    fn data_at(&self, number: u16, component: ComponentAt) -> Resolution
+        ensures { result
+            ≡ data_at self.now number component (elementary_at self.now.layouts component) }
     {
-        match self.layouts().elementary_at(spot) {
+        match self.layouts().elementary_at(component) {
             None => Resolution::Resolved {
-                view: self.composite(spot),
+                view: self.composite(component),
             },
-            Some(kind) => in_area(kind, placed(Area::Db, number, spot.offset, kind)),
+            Some(kind) => in_area(kind, placed(Area::Db, number, component.offset, kind)),
         }
     }
 
-    fn data_walked(&self, number: u16, walk: PathEnd) -> Resolution
-        ensures { result ≡ data_walked self.now number walk }
+    fn data_walked(&self, number: u16, path_end: PathEnd) -> Resolution
+        ensures { result ≡ data_walked self.now number path_end }
     {
-        match walk {
-            PathEnd::Reaches { spot } => self.data_at(number, spot),
+        match path_end {
+            PathEnd::Reaches { component } => self.data_at(number, component),
             PathEnd::Unknown => Resolution::Unknown,
-            PathEnd::Rests => Resolution::Unjudged,
+            PathEnd::Unjudged => Resolution::Unjudged,
         }
     }
 

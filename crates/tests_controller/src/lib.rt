@@ -18,8 +18,6 @@ mod monitoring_rows;
 #[cfg(test)]
 mod profile_rows;
 #[cfg(test)]
-mod quiet_rows;
-#[cfg(test)]
 mod reply_lines;
 #[cfg(test)]
 mod request_rows;
@@ -27,6 +25,8 @@ mod request_rows;
 mod requests;
 #[cfg(test)]
 mod run_rows;
+#[cfg(test)]
+mod silent_rows;
 #[cfg(test)]
 mod texts;
 #[cfg(test)]

@@ -1,5 +1,5 @@
 use crate::compare::same;
-use crate::rows::{Frame, verdict, verdict_in};
+use crate::rows::{Frame, check_result, check_result_in};
 use std::alloc::{AllocError, Global};
 use std::process::Abort;
 use std::test::Fail;
@@ -248,7 +248,7 @@ static OTHERS: [Refused; 28] = [
 
 fn are_refused(rt: &impl Abort, alloc: Global, rows: &[Refused]) {
     for (source, line, rule) in rows {
-        let got = verdict(alloc, source.as_bytes());
+        let got = check_result(alloc, source.as_bytes());
         same(rt, *source, got, (*line, *rule));
     }
 }
@@ -283,7 +283,7 @@ static NEAR_RELAY: [(&str, u16); 10] = [
 #[test]
 fn statements_near_the_relay(rt: HostRuntime) -> Result<(), Fail> {
     for (statement, rule) in &NEAR_RELAY {
-        let got = verdict_in(rt.alloc(), Frame::Body, statement)?;
+        let got = check_result_in(rt.alloc(), Frame::Body, statement)?;
         same(&rt, *statement, got, (2, *rule));
     }
     Ok(())
@@ -349,17 +349,17 @@ fn add_nested(source: &mut Vec<u8>, row: &Nesting) -> Result<(), AllocError> {
     add(source, tail, 1)
 }
 
-/// The verdict on the source of a row.
-fn nested_verdict(alloc: Global, row: &Nesting) -> Result<(u32, u16), AllocError> {
+/// What the check finds of the source of a row.
+fn nested_check_result(alloc: Global, row: &Nesting) -> Result<(u32, u16), AllocError> {
     let mut source = Vec::new(alloc);
     add_nested(&mut source, row)?;
-    Ok(verdict(alloc, source.as_slice()))
+    Ok(check_result(alloc, source.as_slice()))
 }
 
 #[test]
 fn deep_nestings(rt: HostRuntime) -> Result<(), Fail> {
     for row in &NESTINGS {
-        let got = nested_verdict(rt.alloc(), row)?;
+        let got = nested_check_result(rt.alloc(), row)?;
         same(&rt, (row.1, row.2), got, (row.5, row.6));
     }
     Ok(())

@@ -23,7 +23,7 @@ pub(crate) fn parsed(alloc: Global, source: &[u8]) -> Result<Tree, SourceFault>
 }
 
 /// The line and the rule of a refusal; (0, 0) for a tree and (0, 1) for want of memory.
-pub(crate) fn verdict(alloc: Global, source: &[u8]) -> (u32, u16) {
+pub(crate) fn check_result(alloc: Global, source: &[u8]) -> (u32, u16) {
     match parsed(alloc, source) {
         Ok(_) => (0, 0),
         Err(SourceFault::Refused { refusal }) => (refusal.line, refusal.rule),
@@ -92,14 +92,14 @@ fn in_frame(alloc: Global, frame: Frame, clause: &str) -> Result<String, AllocEr
     Ok(source)
 }
 
-/// The verdict on a clause in its frame.
-pub(crate) fn verdict_in(
+/// What the check finds of a clause in its frame.
+pub(crate) fn check_result_in(
     alloc: Global,
     frame: Frame,
     clause: &str,
 ) -> Result<(u32, u16), AllocError> {
     let source = in_frame(alloc, frame, clause)?;
-    Ok(verdict(alloc, source.as_bytes()))
+    Ok(check_result(alloc, source.as_bytes()))
 }
 
 /// The tree of a source as text.

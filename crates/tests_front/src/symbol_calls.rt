@@ -17,7 +17,7 @@ pub(crate) fn read(alloc: Global, language: Language, file: &[u8]) -> Result<Sym
 }
 
 /// The line and the rule of a file's refusal; (0, 0) for symbols and (0, 1) for want of memory.
-pub(crate) fn verdict(alloc: Global, language: Language, file: &[u8]) -> (u32, u16) {
+pub(crate) fn check_result(alloc: Global, language: Language, file: &[u8]) -> (u32, u16) {
     match read(alloc, language, file) {
         Ok(_) => (0, 0),
         Err(SourceFault::Refused { refusal }) => (refusal.line, refusal.rule),

@@ -1,5 +1,5 @@
 use crate::compare::same;
-use crate::symbol_calls::{Named, are_found, read, verdict};
+use crate::symbol_calls::{Named, are_found, check_result, read};
 use std::alloc::{AllocError, Global};
 use std::test::Fail;
 use stl_symbols::{Language, SYMBOLS_LIMIT, Symbols};
@@ -30,10 +30,10 @@ fn full_symbols(alloc: Global, behind: &str) -> Result<Symbols, Fail> {
     Ok(read(alloc, Language::English, file.as_bytes())?)
 }
 
-/// The verdict on such a file.
-fn full_verdict(alloc: Global, behind: &str) -> Result<(u32, u16), AllocError> {
+/// What the check finds of such a file.
+fn full_check_result(alloc: Global, behind: &str) -> Result<(u32, u16), AllocError> {
     let file = full_file(alloc, behind)?;
-    Ok(verdict(alloc, Language::English, file.as_bytes()))
+    Ok(check_result(alloc, Language::English, file.as_bytes()))
 }
 
 /// Names of a file with the most symbols.
@@ -58,7 +58,7 @@ static ONE_MORE: [&str; 2] = ["ffff,T1,TIMER,", "0,T1,TIMER,"];
 #[test]
 fn the_next_symbol_breaks_rule_15(rt: HostRuntime) -> Result<(), Fail> {
     for line in &ONE_MORE {
-        let found = full_verdict(rt.alloc(), line)?;
+        let found = full_check_result(rt.alloc(), line)?;
         same(&rt, *line, found, (65_536, 15));
     }
     Ok(())
@@ -73,16 +73,16 @@ static LONGEST: [(u8, u32, u16); 5] = [
     (b'\r', 1, 14),
 ];
 
-/// The verdict on the longest file of one byte, again and again.
-fn longest_verdict(alloc: Global, byte: u8) -> Result<(u32, u16), AllocError> {
+/// What the check finds of the longest file of one byte, again and again.
+fn longest_check_result(alloc: Global, byte: u8) -> Result<(u32, u16), AllocError> {
     let file = Vec::from_elem(alloc, byte, SYMBOLS_LIMIT)?;
-    Ok(verdict(alloc, Language::English, file.as_slice()))
+    Ok(check_result(alloc, Language::English, file.as_slice()))
 }
 
 #[test]
 fn a_file_has_1048576_bytes(rt: HostRuntime) -> Result<(), Fail> {
     for (byte, line, rule) in &LONGEST {
-        let found = longest_verdict(rt.alloc(), *byte)?;
+        let found = longest_check_result(rt.alloc(), *byte)?;
         same(&rt, *byte, found, (*line, *rule));
     }
     Ok(())

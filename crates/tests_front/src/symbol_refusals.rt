@@ -1,5 +1,5 @@
 use crate::compare::same;
-use crate::symbol_calls::verdict;
+use crate::symbol_calls::check_result;
 use csv::{ByteRecord, Reader, ReaderBuilder};
 use std::alloc::Global;
 use std::process::Abort;
@@ -192,7 +192,12 @@ static GERMAN: [Row; 12] = [
 
 fn are_refused<R: Abort>(rt: &R, alloc: Global, language: Language, rows: &[Row]) {
     for (file, line, rule) in rows {
-        same(rt, *file, verdict(alloc, language, file), (*line, *rule));
+        same(
+            rt,
+            *file,
+            check_result(alloc, language, file),
+            (*line, *rule),
+        );
     }
 }
 

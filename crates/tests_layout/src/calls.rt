@@ -46,7 +46,7 @@ pub(crate) fn laid_sound(alloc: Global, source: &[u8]) -> Result<Layouts, Source
 }
 
 /// The line and the rule of a refusal; (0, 0) for layouts and (0, 1) for want of memory.
-pub(crate) fn verdict(alloc: Global, source: &[u8]) -> (u32, u16) {
+pub(crate) fn check_result(alloc: Global, source: &[u8]) -> (u32, u16) {
     match laid(alloc, source) {
         Ok(_) => (0, 0),
         Err(SourceFault::Refused { refusal }) => (refusal.line, refusal.rule),
@@ -77,15 +77,15 @@ fn in_block(
     Ok(source)
 }
 
-/// The verdict on a text between two pieces.
-pub(crate) fn verdict_in(
+/// What the check finds of a text between two pieces.
+pub(crate) fn check_result_in(
     alloc: Global,
     before: &[u8],
     text: &[u8],
     behind: &[u8],
 ) -> Result<(u32, u16), AllocError> {
     let source = in_block(alloc, before, text, behind)?;
-    Ok(verdict(alloc, source.as_slice()))
+    Ok(check_result(alloc, source.as_slice()))
 }
 
 fn first_bytes_of(alloc: Global, tree: &Tree) -> Result<Vec<u8>, SourceFault> {

@@ -1,4 +1,4 @@
-use crate::calls::{verdict, verdict_in};
+use crate::calls::{check_result, check_result_in};
 use crate::compare::same;
 use std::alloc::{AllocError, Global};
 use std::process::Abort;
@@ -60,7 +60,7 @@ fn check_numbers(
     expected: (u32, u16),
 ) -> Result<(), Fail> {
     for number in numbers {
-        let found = verdict_in(alloc, before, number, behind)?;
+        let found = check_result_in(alloc, before, number, behind)?;
         same(rt, (before, number), found, expected);
     }
     Ok(())
@@ -161,14 +161,18 @@ static FITS: [Fit; 79] = [
     ("ARRAY [1 .. 2] OF DINT", "L#1, 2", false),
 ];
 
-/// The verdict on a component of a type with this initial value, which stands in line 2.
-fn verdict_on_initial(alloc: Global, kind: &str, constant: &str) -> Result<(u32, u16), AllocError> {
+/// What the check finds of a component of a type with this initial value, which stands in line 2.
+fn check_result_of_initial(
+    alloc: Global,
+    kind: &str,
+    constant: &str,
+) -> Result<(u32, u16), AllocError> {
     let mut source = String::new(alloc);
     write!(
         source,
         "TYPE UDT 1 STRUCT\na : {kind} := {constant};\nEND_STRUCT END_TYPE"
     )?;
-    Ok(verdict(alloc, source.as_bytes()))
+    Ok(check_result(alloc, source.as_bytes()))
 }
 
 #[test]
@@ -176,7 +180,7 @@ fn constants_that_fit(rt: HostRuntime) -> Result<(), Fail> {
     let alloc = rt.alloc();
     for (kind, constant, fits) in &FITS {
         let expected = if *fits { (0, 0) } else { (2, 41) };
-        let found = verdict_on_initial(alloc, kind, constant)?;
+        let found = check_result_of_initial(alloc, kind, constant)?;
         same(&rt, (kind, constant), found, expected);
     }
     Ok(())
@@ -380,16 +384,16 @@ fn add_rows(source: &mut String, rows: &[&Repeats]) -> Result<(), AllocError> {
     Ok(())
 }
 
-/// The verdict on the sources of rows, one behind the other.
-fn verdict_on(alloc: Global, rows: &[&Repeats]) -> Result<(u32, u16), AllocError> {
+/// What the check finds of the sources of rows, one behind the other.
+fn check_result_of(alloc: Global, rows: &[&Repeats]) -> Result<(u32, u16), AllocError> {
     let mut source = String::new(alloc);
     add_rows(&mut source, rows)?;
-    Ok(verdict(alloc, source.as_bytes()))
+    Ok(check_result(alloc, source.as_bytes()))
 }
 
 fn all_agree(rt: &impl Abort, alloc: Global, rows: &[Repeats]) -> Result<(), Fail> {
     for row in rows {
-        let found = verdict_on(alloc, &[row])?;
+        let found = check_result_of(alloc, &[row])?;
         same(rt, (row.0, row.2), found, (row.4, row.5));
     }
     Ok(())
@@ -426,7 +430,7 @@ fn the_least_rule_of_a_line(rt: HostRuntime) -> Result<(), Fail> {
     let alloc = rt.alloc();
     for at in 1..LINES.len() {
         let (lesser, greater) = (&LINES[at - 1], &LINES[at]);
-        let found = verdict_on(alloc, &[greater, lesser])?;
+        let found = check_result_of(alloc, &[greater, lesser])?;
         same(&rt, lesser.5, found, (1, lesser.5));
     }
     Ok(())

@@ -399,8 +399,8 @@ fn path_behind_a_name(rt: HostRuntime) -> Result<(), Fail> {
     is_fourth(&rt, path.steps())
 }
 
-/// A path with the place, the depth and the offset of the spot that it reaches, and the name and the
-/// elementary type of what is there.
+/// A path with the place, the depth and the offset of the component that it reaches, and the name
+/// and the elementary type of its declaration.
 type Row = (
     &'static [Step],
     usize,
@@ -441,16 +441,16 @@ fn reaches(
     row: &Row,
 ) {
     let (path, place, depth, offset, name, kind) = row;
-    let spot = ComponentAt {
+    let component = ComponentAt {
         block,
         temporary,
         place: *place,
         depth: *depth,
         offset: *offset,
     };
-    same(rt, *path, walk, PathEnd::Reaches { spot });
-    same(rt, *path, layouts.elementary_at(spot), *kind);
-    let cell = layouts.cell_at(spot).map(|cell| cell.name.as_bytes());
+    same(rt, *path, walk, PathEnd::Reaches { component });
+    same(rt, *path, layouts.elementary_at(component), *kind);
+    let cell = layouts.cell_at(component).map(|cell| cell.name.as_bytes());
     same(rt, *path, cell, Some(*name));
 }
 
@@ -494,7 +494,7 @@ fn names_end(rt: &impl Abort, alloc: Global, layouts: &Layouts) -> Result<(), Fa
         layouts.walk_local(0, b"G", &none),
         layouts.walk_local(2, b"A", &none),
     );
-    same(rt, "G and A", ends, (PathEnd::Unknown, PathEnd::Rests));
+    same(rt, "G and A", ends, (PathEnd::Unknown, PathEnd::Unjudged));
     Ok(())
 }
 
@@ -505,7 +505,7 @@ fn data_ends(rt: &impl Abort, alloc: Global, layouts: &Layouts) -> Result<(), Fa
         rt,
         "a in DB 1 and DB 0",
         ends,
-        (PathEnd::Unknown, PathEnd::Rests),
+        (PathEnd::Unknown, PathEnd::Unjudged),
     );
     Ok(())
 }

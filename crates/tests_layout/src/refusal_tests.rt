@@ -1,4 +1,4 @@
-use crate::calls::{Row, verdict_in};
+use crate::calls::{Row, check_result_in};
 use crate::compare::same;
 use std::alloc::Global;
 use std::process::Abort;
@@ -388,7 +388,7 @@ fn all_agree_in(
     behind: &[u8],
 ) -> Result<(), Fail> {
     for row in rows {
-        let found = verdict_in(alloc, before, row.0, behind)?;
+        let found = check_result_in(alloc, before, row.0, behind)?;
         same(rt, row, found, (row.1, row.2));
     }
     Ok(())

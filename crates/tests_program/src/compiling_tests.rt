@@ -26,7 +26,7 @@ const SYMBOLS: &[u8] = b"On,I 0.0,BOOL,\nLamp,Q 4.0,BOOL,\n";
 type Row = (&'static [u8], &'static [u8], Option<CompileFault>);
 
 // Each source with its symbols file is compiled and accepted, or has the one refusal for both.
-static JUDGED: [Row; 8] = [
+static CHECKS: [Row; 8] = [
     (RUNG, b"", None),
     (BY_SYMBOLS, SYMBOLS, None),
     (b"", b"", None),
@@ -71,7 +71,7 @@ static JUDGED: [Row; 8] = [
 ];
 
 /// Compares why a source with its symbols is refused by both calls.
-fn is_judged(
+fn check_agrees(
     rt: &impl Abort,
     alloc: Global,
     source: &[u8],
@@ -89,15 +89,15 @@ fn is_judged(
     same(rt, "compiled", refused, fault);
 }
 
-fn are_judged(rt: &impl Abort, alloc: Global, rows: &[Row]) {
+fn checks_agree(rt: &impl Abort, alloc: Global, rows: &[Row]) {
     for (source, symbols, fault) in rows {
-        is_judged(rt, alloc, *source, *symbols, *fault);
+        check_agrees(rt, alloc, *source, *symbols, *fault);
     }
 }
 
 #[test]
 fn accepted_or_refused(rt: HostRuntime) {
-    are_judged(&rt, rt.alloc(), &JUDGED);
+    checks_agree(&rt, rt.alloc(), &CHECKS);
 }
 
 /// Runs a source with its symbols along a history.

@@ -1,4 +1,4 @@
-use crate::calls::{Row, bodies_agree, verdict, with_body};
+use crate::calls::{Row, bodies_agree, check_result, with_body};
 use std::alloc::{AllocError, Global};
 use std::process::Abort;
 use std::test::Fail;
@@ -371,7 +371,7 @@ fn longest_jump_list(rt: HostRuntime) -> Result<(), Fail> {
     for (jumps, line, rule) in [(255, 0, 0), (256, 2, 32)] {
         let body = jump_list(alloc, jumps)?;
         let source = with_body(alloc, body.as_slice())?;
-        assert_eq!(rt; verdict(alloc, b"", source.as_slice()), (line, rule));
+        assert_eq!(rt; check_result(alloc, b"", source.as_slice()), (line, rule));
     }
     Ok(())
 }

@@ -75,7 +75,7 @@ fn checked(alloc: Global, symbols: &[u8], source: &[u8]) -> Result<(), SourceFau
 
 /// The line and the rule of the refusal of a source; 0 and 0 where there is none, and 0 and 1 for want
 /// of memory.
-pub(crate) fn verdict(alloc: Global, symbols: &[u8], source: &[u8]) -> (u32, u16) {
+pub(crate) fn check_result(alloc: Global, symbols: &[u8], source: &[u8]) -> (u32, u16) {
     match checked(alloc, symbols, source) {
         Ok(()) => (0, 0),
         Err(SourceFault::Refused { refusal }) => (refusal.line, refusal.rule),
@@ -98,7 +98,7 @@ pub(crate) fn with_body(alloc: Global, body: &[u8]) -> Result<Vec<u8>, AllocErro
 pub(crate) fn bodies_agree(rt: &impl Abort, alloc: Global, rows: &[Row]) -> Result<(), Fail> {
     for row in rows {
         let source = with_body(alloc, row.0)?;
-        let found = verdict(alloc, SYMBOLS, source.as_slice());
+        let found = check_result(alloc, SYMBOLS, source.as_slice());
         same(rt, from_utf8(row.0), found, (row.1, row.2));
     }
     Ok(())
@@ -110,7 +110,7 @@ pub(crate) fn sources_agree(rt: &impl Abort, alloc: Global, rows: &[Row]) -> Res
         same(
             rt,
             from_utf8(row.0),
-            verdict(alloc, b"", row.0),
+            check_result(alloc, b"", row.0),
             (row.1, row.2),
         );
     }

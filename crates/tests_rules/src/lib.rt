@@ -10,7 +10,7 @@ mod calls;
 #[cfg(test)]
 mod compare;
 #[cfg(test)]
-mod scope_tests;
+mod context_tests;
 #[cfg(test)]
 mod source_tests;
 #[cfg(test)]

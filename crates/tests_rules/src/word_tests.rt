@@ -1,4 +1,4 @@
-use crate::calls::verdict;
+use crate::calls::check_result;
 use std::alloc::{AllocError, Global};
 use std::process::Abort;
 use std::test::Fail;
@@ -342,7 +342,7 @@ fn word_agrees(
         let source = source_of(alloc, before, word, operand, behind)?;
         let rule = rule_of(*letter);
         let line = if rule == 0 { 0 } else { 2 };
-        let found = verdict(alloc, SYMBOLS, source.as_slice());
+        let found = check_result(alloc, SYMBOLS, source.as_slice());
         assert_eq!(rt; found, (line, rule), "{word:?} {operand:?}");
     }
     Ok(())

@@ -24,9 +24,9 @@ fn a_block_is_entered_once_more(rt: HostRuntime) {
     same(&rt, "bytes", bytes, (Some(5), Some(0), None));
     // the caller goes on, and behind the outermost block none does
     for (goes_on, depth, byte) in [(true, 1, Some(5)), (false, 0, None)] {
-        assert!(rt; !a.left);
-        same(&rt, depth, a.leave_block(), goes_on);
-        same(&rt, "left", (a.depth(), a.local(0, 19)), (depth, byte));
+        assert!(rt; !a.ended);
+        same(&rt, depth, a.exit_block(), goes_on);
+        same(&rt, "exited", (a.depth(), a.local(0, 19)), (depth, byte));
     }
 }
 

@@ -19,11 +19,11 @@ fn most_frames_stand(rt: HostRuntime) -> Result<(), Fail> {
         same(&rt, "block of frame 0", number_at(&a, 0), Some(1));
         same(&rt, "block of frame 15", number_at(&a, 15), Some(16));
         same(&rt, "block of frame 24", number_at(&a, 24), None);
-        // the innermost one is left first, and the last one too
+        // the innermost one is exited first, and the last one too
         for left in 0..most {
-            same(&rt, "a block left", leave(&mut a), Some(most - left));
+            same(&rt, "a block exited", exit(&mut a), Some(most - left));
         }
-        same(&rt, "a block left after the last one", leave(&mut a), None);
+        same(&rt, "a block exited after the last one", exit(&mut a), None);
         same(&rt, "frames at the end", a.depth(), 0);
         same(&rt, "block of frame 0 at the end", number_at(&a, 0), None);
     }
@@ -35,9 +35,9 @@ fn number_at(a: &Activation, place: u8) -> Option<u16> {
     a.frame(place).map(|f| f.block.number)
 }
 
-// Leaves the innermost block, and gives its number.
-fn leave(a: &mut Activation) -> Option<u16> {
-    a.leave().map(|f| f.block.number)
+// Exits the innermost block, and gives its number.
+fn exit(a: &mut Activation) -> Option<u16> {
+    a.exit().map(|f| f.block.number)
 }
 
 // Enters a function with so many local bytes, if it can be entered.
@@ -74,7 +74,7 @@ fn local_bytes_have_room_for_1024(rt: HostRuntime) -> Result<(), Fail> {
         (Some(5), Some(0), Some(7)),
     );
     // a block that is entered anew has local bytes of 0
-    same(&rt, "the block left", leave(&mut a), Some(2));
+    same(&rt, "the block exited", exit(&mut a), Some(2));
     same(&rt, "the next one entered", enter(&mut a, 3, 1004), true);
     same(
         &rt,

@@ -56,7 +56,7 @@ fn registers_and_the_frame_are_set(rt: HostRuntime) -> Result<(), Fail> {
     frame.copy_from(&a.running.frame);
     frame.at = 12;
     frame.db = Some(10);
-    assert!(rt; !a.left);
+    assert!(rt; !a.ended);
     a.set_frame(frame);
     let mut regs = Regs::new();
     regs.a1 = 5;

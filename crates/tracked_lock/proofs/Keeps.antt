@@ -9,10 +9,10 @@ use prog.Atomic.{either}
 use Rattle.atomic_table.specs.Table.{State, Me, Act, keeps, takes as taking, gives, Valid, carried_after, homes_after, rest, stepped, opening, Allows, Splits, Joins, Final, Seen}
 use Rattle.atomic_table.proofs.Lists.{at_set, at_snoc, set_here, set_else, exchanged}
 use Rattle.tracked_lock.specs.declared.views.View.{View}
-use Rattle.tracked_lock.specs.Views.{sum_of_values, HoldsForEach, IsMadeOf, times, one_if_number_of_pass, own_number, IsAdded, made_more, longer, turn_of, without_last, only_last, joined, spent, fresh_to}
+use Rattle.tracked_lock.specs.Views.{sum_of_values, HoldsForEach, AreEntriesByMaker, times, one_if_number_of_pass, own_number, IsAdded, made_more, longer, turn_count, without_last, only_last, joined_view, spent_view, fresh_to}
 use Rattle.tracked_lock.specs.declared.views.Made.{Made}
 use Rattle.tracked_lock.specs.Rule.{Fits, Kept, starting_view}
-use Rattle.tracked_lock.specs.Plays.{Takes, Reads, Counts, Releases, with_turn, looked, grown, without_turn}
+use Rattle.tracked_lock.specs.Plays.{Takes, Reads, Counts, Releases, with_turn, view_after_look, view_with_list, without_turn}
 use Rattle.tracked_lock.proofs.Prefixes.{prefix_self, prefix_trans, prefix_shorter, prefix_length, drop_prefix, longer_either}
 use Rattle.tracked_lock.proofs.Totals.{total-append, total-set, term_le, terms_le, totals_le}
 use Rattle.tracked_lock.proofs.Numbers.{flag, made_between, known_first, made_grown, made_unchanged, times_more, length_more, own_there, stands_range, stands_in, stands_one, made-append, known-append, known_second, times-append, times_le, made-take, made-drop, known-take, known-drop, times_cut, length_cut, made_fresh, times_fresh, length_fresh}
@@ -30,14 +30,14 @@ in_range-append maker_of passes [] (e ∷ es) k r h a = ((omega (arith, a.0, r.0
 in_range-append maker_of passes (e ∷ es) added k r h a = (h.0, in_range-append maker_of passes es added k r h.1 a)
 
 module _ {T O E : Type 0} (story_of : T → List E) where
-  same_slot : (m : Me (Option T) (View O E)) (x y : T) → m.1 ≡ (0, Some x) ∷ [] → m.1 ≡ (0, Some y) ∷ [] → ◌≡◌ {A = Me (Option T) (View O E)} (grown m.0 (story_of x), m.1) (grown m.0 (story_of y), m.1)
-  same_slot m x y e d = let pair : ◌≡◌ {A = ℕ × Option T} (0, Some x) (0, Some y) = cc (e, d) in let same : x ≡ y = some_same x y (ap (λ (t : ℕ × Option T). t.1) pair) in ap {B = Me (Option T) (View O E)} (λ z. (grown m.0 (story_of z), m.1)) same
+  same_slot : (m : Me (Option T) (View O E)) (x y : T) → m.1 ≡ (0, Some x) ∷ [] → m.1 ≡ (0, Some y) ∷ [] → ◌≡◌ {A = Me (Option T) (View O E)} (view_with_list m.0 (story_of x), m.1) (view_with_list m.0 (story_of y), m.1)
+  same_slot m x y e d = let pair : ◌≡◌ {A = ℕ × Option T} (0, Some x) (0, Some y) = cc (e, d) in let same : x ≡ y = some_same x y (ap (λ (t : ℕ × Option T). t.1) pair) in ap {B = Me (Option T) (View O E)} (λ z. (view_with_list m.0 (story_of z), m.1)) same
 
 by_turn : (b : Bool) (n : ℕ) → (b ≡ true → 0 < n) → flag b ≤ n
 by_turn true n h = omega (arith, h refl)
 by_turn false n h = omega arith
 
-turn_le : {O E : Type 0} (u : View O E) → (u.turn ≡ true → 0 < length u.made) → turn_of u ≤ length u.made
+turn_le : {O E : Type 0} (u : View O E) → (u.turn ≡ true → 0 < length u.made) → turn_count u ≤ length u.made
 turn_le u h = by_turn u.turn (length u.made) h
 
 module _ {T O E : Type 0} (origin_of : T → O) (story_of : T → List E) (maker_of : E → ℕ) (origin : O) (passes : ℕ) where
@@ -57,7 +57,7 @@ module _ {T O E : Type 0} (origin_of : T → O) (story_of : T → List E) (maker
   moved : (s : St) (g : K s) (id : ℕ) (v w : View O E) (log : List E) (busy : ℕ) (ws : List ℕ) (hs : List (maybe.Option (Option T))) → get_elem? s.views id ≡ some v
       → ws ≡ length log ∷ busy ∷ passes ∷ []
       → (busy ≡ 0 → (x : T) × (get_elem? hs 0 ≡ some (some (Some x))) × (origin_of x ≡ origin) × (story_of x ≡ log))
-      → turn_of w + g.busy ≡ busy + turn_of v → busy < 2
+      → turn_count w + g.busy ≡ busy + turn_count v → busy < 2
       → ((k : ℕ) → times k w.made ≡ times k v.made) → length w.made ≡ length v.made
       → F log w → ((j : ℕ) (u : View O E) → j ≢ id → get_elem? s.views j ≡ some u → F log u)
       → HoldsForEach InRange log → K (record { words = ws; homes = hs; views = set s.views id w })
@@ -66,7 +66,7 @@ module _ {T O E : Type 0} (origin_of : T → O) (story_of : T → List E) (maker
     busy = busy;
     words = words;
     home = home;
-    turns = omega (arith, total-set turn_of s.views id v w me, g.turns);
+    turns = omega (arith, total-set turn_count s.views id v w me, g.turns);
     one = one;
     each = λ j u e. ⊎_elim (λ t. subst (F log) t.1 mine) (λ t. others j u t.0 t.1) (at_set s.views id j w u e);
     numbers = λ k. omega (arith, total-set (λ (u : View O E). times k u.made) s.views id v w me, g.numbers k, numbers k);
@@ -81,12 +81,12 @@ module _ {T O E : Type 0} (origin_of : T → O) (story_of : T → List E) (maker
       let G : ℕ → Type 0 = λ k. (w : View O E) × (a : Act (Option T)) × Valid s.homes m.1 a × K (stepped s 1 k id m.1 w a) × Takes origin_of story_of maker_of m (get_or s.words 1 0) (w, carried_after m.1 a) in
       exchanged (get_or s.words 1 0) 0 1 G
       (λ hit. let free : g.busy ≡ 0 = sym found ∙ hit in let t = g.home free in let x : T = t.0 in
-      let made : IsMadeOf maker_of (story_of x) m.0.made = subst (λ l. IsMadeOf maker_of l m.0.made) (sym t.3) mine.made in (
+      let made : AreEntriesByMaker maker_of (story_of x) m.0.made = subst (λ l. AreEntriesByMaker maker_of l m.0.made) (sym t.3) mine.made in (
         with_turn m.0 (story_of x),
         taking 0 (Some x),
         t.1,
         moved s g id m.0 (with_turn m.0 (story_of x)) g.log 1 (set s.words 1 1) (set s.homes 0 none) me (ap (λ (ws : List ℕ). set ws 1 1) g.words) (λ e. absurd (omega arith))
-            (omega (arith, term_le turn_of s.views id m.0 me, g.turns)) (omega arith) (λ k. refl) refl
+            (omega (arith, term_le turn_count s.views id m.0 me, g.turns)) (omega arith) (λ k. refl) refl
             record {
               origin_is = mine.origin_is;
               passes_is = mine.passes_is;
@@ -116,11 +116,11 @@ module _ {T O E : Type 0} (origin_of : T → O) (story_of : T → List E) (maker
       let all : IsPrefix zs g.log = longer_either (λ l. IsPrefix l g.log) xs ys (λ _. mine.other) (λ _. mine.seen) in
       let this : IsPrefix xs zs = longer_either (λ l. IsPrefix xs l) xs ys (λ h. prefix_shorter xs ys g.log mine.seen mine.other (omega arith)) (λ _. prefix_self xs) in
       let that : IsPrefix ys zs = longer_either (λ l. IsPrefix ys l) xs ys (λ _. prefix_self ys) (λ h. prefix_shorter ys xs g.log mine.other mine.seen h) in
-      let made : IsMadeOf maker_of zs m.0.made = made_between maker_of xs ys g.log m.0.made zs mine.made mine.known this that all in (
-        looked m.0,
+      let made : AreEntriesByMaker maker_of zs m.0.made = made_between maker_of xs ys g.log m.0.made zs mine.made mine.known this that all in (
+        view_after_look m.0,
         keeps,
         tt,
-        moved s g id m.0 (looked m.0) g.log g.busy (set s.words 0 (get_or s.words 0 0)) s.homes me (set-get_or s.words 0 0 ∙ g.words) g.home (omega arith) g.one (λ k. refl) refl
+        moved s g id m.0 (view_after_look m.0) g.log g.busy (set s.words 0 (get_or s.words 0 0)) s.homes me (set-get_or s.words 0 0 ∙ g.words) g.home (omega arith) g.one (λ k. refl) refl
             record {
               origin_is = mine.origin_is;
               passes_is = mine.passes_is;
@@ -156,15 +156,15 @@ module _ {T O E : Type 0} (origin_of : T → O) (story_of : T → List E) (maker
       let own = own_there m.0.made has in
       let times_all = λ (j : ℕ). term_le (λ (u : View O E). times j u.made) s.views id m.0 me in
       let range = stands_range passes k (omega (arith, times_all k, g.numbers k)) in
-      let w : View O E = grown m.0 zs in
-      let on : turn_of m.0 ≡ 1 = ap flag turn in
-      let made : IsMadeOf maker_of zs w.made = subst (λ a. IsMadeOf maker_of zs (made_more m.0.made a)) (sym rest)
-      (subst (λ l. IsMadeOf maker_of l (made_more m.0.made added)) now (made_grown maker_of g.log added m.0.made more.2 (omega (arith, times_all k, g.numbers k, stands_one passes k)) mine.made)) in (
+      let w : View O E = view_with_list m.0 zs in
+      let on : turn_count m.0 ≡ 1 = ap flag turn in
+      let made : AreEntriesByMaker maker_of zs w.made = subst (λ a. AreEntriesByMaker maker_of zs (made_more m.0.made a)) (sym rest)
+      (subst (λ l. AreEntriesByMaker maker_of l (made_more m.0.made added)) now (made_grown maker_of g.log added m.0.made more.2 (omega (arith, times_all k, g.numbers k, stands_one passes k)) mine.made)) in (
         w,
         keeps,
         tt,
         moved s g id m.0 w zs g.busy (set s.words 0 new) s.homes me (ap (λ (ws : List ℕ). set ws 0 new) g.words ∙ ap (λ (n : ℕ). n ∷ g.busy ∷ passes ∷ []) len)
-            (λ e. absurd (omega (arith, term_le turn_of s.views id m.0 me, g.turns))) (omega arith) g.one (λ j. times_more j m.0.made (drop (length xs) zs)) (length_more m.0.made (drop (length xs) zs))
+            (λ e. absurd (omega (arith, term_le turn_count s.views id m.0 me, g.turns))) (omega arith) g.one (λ j. times_more j m.0.made (drop (length xs) zs)) (length_more m.0.made (drop (length xs) zs))
             record {
               origin_is = λ h. mine.origin_is has;
               passes_is = λ h. mine.passes_is has;
@@ -176,14 +176,14 @@ module _ {T O E : Type 0} (origin_of : T → O) (story_of : T → List E) (maker
               maker = λ _. omega (arith, length_more m.0.made (drop (length xs) zs));
             }
             (λ j u ne at. let theirs = g.each j u at in
-            let idle : u.turn ≡ true → ⊥ = λ t. omega (arith, terms_le turn_of s.views id j m.0 u ne me at, g.turns, g.one, ap flag t) in
+            let idle : u.turn ≡ true → ⊥ = λ t. omega (arith, terms_le turn_count s.views id j m.0 u ne me at, g.turns, g.one, ap flag t) in
             record {
               origin_is = theirs.origin_is;
               passes_is = theirs.passes_is;
               seen = prefix_trans u.seen g.log zs theirs.seen before;
               other = prefix_trans u.other g.log zs theirs.other before;
               whole = λ t. absurd (idle t);
-              made = subst (λ l. IsMadeOf maker_of l u.made) now
+              made = subst (λ l. AreEntriesByMaker maker_of l u.made) now
                   (made_unchanged maker_of k g.log added u.made more.2 (omega (arith, terms_le (λ (v : View O E). times k v.made) s.views id j m.0 u ne me at, g.numbers k, stands_one passes k)) theirs.made);
               known = theirs.known;
               maker = theirs.maker;
@@ -196,7 +196,7 @@ module _ {T O E : Type 0} (origin_of : T → O) (story_of : T → List E) (maker
       → Allows K 1 id m 1 (λ _. 0) (λ _. Releases m)
   releases id m x has turn slot from story s g wide me small =
       let mine = g.each id m.0 me in
-      let on : turn_of m.0 ≡ 1 = ap flag turn in
+      let on : turn_count m.0 ≡ 1 = ap flag turn in
       let w : View O E = without_turn m.0 in
       let back : (cs : List (ℕ × Option T)) → cs ≡ (0, Some x) ∷ [] → get_elem? (homes_after s.homes cs gives) 0 ≡ some (some (Some x)) =
       λ cs e. subst (λ (l : List (ℕ × Option T)). get_elem? (homes_after s.homes l gives) 0 ≡ some (some (Some x))) (sym e) (set_here s.homes 0 (some (Some x)) (omega arith)) in (
@@ -205,7 +205,7 @@ module _ {T O E : Type 0} (origin_of : T → O) (story_of : T → List E) (maker
         tt,
         moved s g id m.0 w g.log 0 (set s.words 1 0) (homes_after s.homes m.1 gives) me (ap (λ (ws : List ℕ). set ws 1 0) g.words)
             (λ _. (x, back m.1 slot, one_same (origin_of x) origin (from ∙ mine.origin_is has), story ∙ mine.whole turn))
-            (omega (arith, term_le turn_of s.views id m.0 me, g.turns, g.one)) (omega arith) (λ k. refl) refl
+            (omega (arith, term_le turn_count s.views id m.0 me, g.turns, g.one)) (omega arith) (λ k. refl) refl
             record {
               origin_is = mine.origin_is;
               passes_is = mine.passes_is;
@@ -231,16 +231,16 @@ module _ {T O E : Type 0} (origin_of : T → O) (story_of : T → List E) (maker
       subst (λ (y : Me (Option T) (View O E)). Allows K slots id y 1 (λ _. 0) (λ _. Releases y)) (sym e)
       (subst (λ n. Allows K n id (v, (0, Some x) ∷ []) 1 (λ _. 0) (λ _. Releases (v, (0, Some x) ∷ []))) (sym one) (releases id (v, (0, Some x) ∷ []) x has turn refl from story))
 
-  pub joins : (id : ℕ) (v : View O E) (other : ℕ) (w : View O E) → w.turn ≡ false → v.other ≡ [] → 0 < length v.made → IsMadeOf maker_of v.seen v.made → IsMadeOf maker_of w.seen w.made
-      → Joins K id v other w (joined v w) spent
+  pub joins : (id : ℕ) (v : View O E) (other : ℕ) (w : View O E) → w.turn ≡ false → v.other ≡ [] → 0 < length v.made → AreEntriesByMaker maker_of v.seen v.made → AreEntriesByMaker maker_of w.seen w.made
+      → Joins K id v other w (joined_view v w) spent_view
   joins id v other w free alone has made_v made_w s g me apart them =
-      let u : View O E = joined v w in let vs : List (View O E) = set s.views id u in
-      let both : (f : View O E → ℕ) → sum_of_values f (set vs other spent) + f w + f v ≡ sum_of_values f s.views + f u + f spent =
-      λ f. omega (arith, total-set f s.views id v u me, total-set f vs other w spent them) in
+      let u : View O E = joined_view v w in let vs : List (View O E) = set s.views id u in
+      let both : (f : View O E → ℕ) → sum_of_values f (set vs other spent_view) + f w + f v ≡ sum_of_values f s.views + f u + f spent_view =
+      λ f. omega (arith, total-set f s.views id v u me, total-set f vs other w spent_view them) in
       let there : get_elem? s.views other ≡ some w = sym (set_else s.views id other u apart) ∙ them in
       let mine = g.each id v me in let theirs = g.each other w there in
-      let off : turn_of w ≡ 0 = ap flag free in
-      let nothing : F g.log spent = record { origin_is = λ h. absurd (omega arith); passes_is = λ h. absurd (omega arith); seen = (g.log, refl); other = (g.log, refl); whole = λ t. absurd (true≢false (sym t)); made = tt; known = tt; maker = λ t. absurd (true≢false (sym t)) } in
+      let off : turn_count w ≡ 0 = ap flag free in
+      let nothing : F g.log spent_view = record { origin_is = λ h. absurd (omega arith); passes_is = λ h. absurd (omega arith); seen = (g.log, refl); other = (g.log, refl); whole = λ t. absurd (true≢false (sym t)); made = tt; known = tt; maker = λ t. absurd (true≢false (sym t)) } in
       let all : F g.log u = record {
         origin_is = λ _. mine.origin_is has;
         passes_is = λ _. mine.passes_is has;
@@ -256,9 +256,9 @@ module _ {T O E : Type 0} (origin_of : T → O) (story_of : T → List E) (maker
         busy = g.busy;
         words = g.words;
         home = g.home;
-        turns = omega (arith, both turn_of, g.turns);
+        turns = omega (arith, both turn_count, g.turns);
         one = g.one;
-        each = λ j x e. ⊎_elim (λ t. subst (F g.log) t.1 nothing) (λ t. ⊎_elim (λ q. subst (F g.log) q.1 all) (λ q. g.each j x q.1) (at_set s.views id j u x t.1)) (at_set vs other j spent x e);
+        each = λ j x e. ⊎_elim (λ t. subst (F g.log) t.1 nothing) (λ t. ⊎_elim (λ q. subst (F g.log) q.1 all) (λ q. g.each j x q.1) (at_set s.views id j u x t.1)) (at_set vs other j spent_view x e);
         numbers = λ k. omega (arith, both (λ (x : View O E). times k x.made), g.numbers k, times-append k v.made w.made);
         counted = omega (arith, both (λ (x : View O E). length x.made), g.counted, length-append v.made w.made);
         makers = g.makers;
@@ -295,7 +295,7 @@ module _ {T O E : Type 0} (origin_of : T → O) (story_of : T → List E) (maker
         busy = g.busy;
         words = g.words;
         home = g.home;
-        turns = omega (arith, both turn_of, g.turns);
+        turns = omega (arith, both turn_count, g.turns);
         one = g.one;
         each = λ j x e. ⊎_elim (λ t. ⊎_elim (λ q. subst (F g.log) q.1 left) (λ q. g.each j x q.1) (at_set s.views id j l x t)) (λ t. subst (F g.log) t right) (at_snoc vs r x j e);
         numbers = λ k. omega (arith, both (λ (x : View O E). times k x.made), g.numbers k, times_cut k n v.made);
@@ -331,11 +331,11 @@ module _ {T O E : Type 0} (origin_of : T → O) (story_of : T → List E) (maker
   within (e ∷ es) made h r = (omega (arith, h (maker_of e), stands_in passes (maker_of e) r.0.0 r.0.1), within es made h r.1)
 
   pub closes : (id : ℕ) (v : View O E) (ws : List ℕ) (xs : List (Option T)) → Final (Seen K id v) ws xs → length v.made ≡ passes → v.turn ≡ false
-      → (x : T) × (get_elem? xs 0 ≡ some (Some x)) × (origin_of x ≡ origin) × IsPrefix v.seen (story_of x) × IsMadeOf maker_of (story_of x) v.made × HoldsForEach (λ e. 0 < times (maker_of e) v.made) (story_of x)
+      → (x : T) × (get_elem? xs 0 ≡ some (Some x)) × (origin_of x ≡ origin) × IsPrefix v.seen (story_of x) × AreEntriesByMaker maker_of (story_of x) v.made × HoldsForEach (λ e. 0 < times (maker_of e) v.made) (story_of x)
   closes id v ws xs f all free =
       let s : St = f.0 in let g : K s = f.1.0 in let me = f.1.1 in let mine = g.each id v me in
-      let off : turn_of v ≡ 0 = ap flag free in
-      let quiet = totals_le turn_of (λ (u : View O E). length u.made) s.views id v me (λ j u e. turn_le u (g.each j u e).maker) in
+      let off : turn_count v ≡ 0 = ap flag free in
+      let quiet = totals_le turn_count (λ (u : View O E). length u.made) s.views id v me (λ j u e. turn_le u (g.each j u e).maker) in
       let mine_all : (k : ℕ) → one_if_number_of_pass passes k ≤ times k v.made = λ k.
       omega (arith, totals_le (λ (u : View O E). times k u.made) (λ (u : View O E). length u.made) s.views id v me (λ j u e. times_le k u.made), g.numbers k, g.counted) in
       let t = g.home (omega (arith, g.turns, g.counted)) in let x : T = t.0 in (
@@ -343,7 +343,7 @@ module _ {T O E : Type 0} (origin_of : T → O) (story_of : T → List E) (maker
         f.4 0 (Some x) t.1,
         t.2,
         subst (λ l. IsPrefix v.seen l) (sym t.3) mine.seen,
-        subst (λ l. IsMadeOf maker_of l v.made) (sym t.3) mine.made,
+        subst (λ l. AreEntriesByMaker maker_of l v.made) (sym t.3) mine.made,
         subst (HoldsForEach (λ e. 0 < times (maker_of e) v.made)) (sym t.3) (within g.log v.made mine_all g.makers),
       )
 

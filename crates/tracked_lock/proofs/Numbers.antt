@@ -5,7 +5,7 @@ use mathlib.Core.Logic.{dite}
 use mathlib.Core.List.{IsPrefix}
 use native.Mathlib.Decide.{ℕ_discrete, dec_le}
 use Rattle.tracked_lock.specs.declared.views.Made.{Made}
-use Rattle.tracked_lock.specs.Views.{HoldsForEach, entries_by, IsMadeOf, IsKnownOf, times, fresh_to, made_more, own_number, one_if_number_of_pass}
+use Rattle.tracked_lock.specs.Views.{HoldsForEach, entries_by, AreEntriesByMaker, IsKnownOf, times, fresh_to, made_more, own_number, one_if_number_of_pass}
 use Rattle.tracked_lock.proofs.Prefixes.{prefix_whole, prefix_length}
 
 abbrev pub flag : Bool → ℕ
@@ -25,17 +25,17 @@ module _ {E : Type 0} (maker : E → ℕ) where
   by_between k xs ys zs es p q e d = let a = by_prefix k xs ys p in let b = by_prefix k ys zs q in
       prefix_whole (entries_by maker k ys) (entries_by maker k zs) b (omega (arith, prefix_length (entries_by maker k xs) (entries_by maker k ys) a, ap length e, ap length d)) ∙ d
 
-  pub made_between : (xs ys log : List E) (made : List (Made E)) (zs : List E) → IsMadeOf maker log made → IsKnownOf maker xs ys made
-      → IsPrefix xs zs → IsPrefix ys zs → IsPrefix zs log → IsMadeOf maker zs made
+  pub made_between : (xs ys log : List E) (made : List (Made E)) (zs : List E) → AreEntriesByMaker maker log made → IsKnownOf maker xs ys made
+      → IsPrefix xs zs → IsPrefix ys zs → IsPrefix zs log → AreEntriesByMaker maker zs made
   made_between xs ys log [] zs m k p q r = tt
   made_between xs ys log (x ∷ ms) zs m k p q r =
       (⊎_elim (λ e. by_between x.number xs zs log x.entries p r e m.0) (λ e. by_between x.number ys zs log x.entries q r e m.0) k.0, made_between xs ys log ms zs m.1 k.1 p q r)
 
-  pub known_first : (xs ys : List E) (made : List (Made E)) → IsMadeOf maker xs made → IsKnownOf maker xs ys made
+  pub known_first : (xs ys : List E) (made : List (Made E)) → AreEntriesByMaker maker xs made → IsKnownOf maker xs ys made
   known_first xs ys [] m = tt
   known_first xs ys (x ∷ ms) m = (inl m.0, known_first xs ys ms m.1)
 
-  pub known_second : (xs ys : List E) (made : List (Made E)) → IsMadeOf maker ys made → IsKnownOf maker xs ys made
+  pub known_second : (xs ys : List E) (made : List (Made E)) → AreEntriesByMaker maker ys made → IsKnownOf maker xs ys made
   known_second xs ys [] m = tt
   known_second xs ys (x ∷ ms) m = (inr m.0, known_second xs ys ms m.1)
 
@@ -43,16 +43,16 @@ module _ {E : Type 0} (maker : E → ℕ) where
   known-append xs ys [] b h k = k
   known-append xs ys (x ∷ a) b h k = (h.0, known-append xs ys a b h.1 k)
 
-  pub made-append : (log : List E) (a b : List (Made E)) → IsMadeOf maker log a → IsMadeOf maker log b → IsMadeOf maker log (a ++ b)
+  pub made-append : (log : List E) (a b : List (Made E)) → AreEntriesByMaker maker log a → AreEntriesByMaker maker log b → AreEntriesByMaker maker log (a ++ b)
   made-append log [] b h k = k
   made-append log (x ∷ a) b h k = (h.0, made-append log a b h.1 k)
 
-  pub made-take : (log : List E) (n : ℕ) (a : List (Made E)) → IsMadeOf maker log a → IsMadeOf maker log (take n a)
+  pub made-take : (log : List E) (n : ℕ) (a : List (Made E)) → AreEntriesByMaker maker log a → AreEntriesByMaker maker log (take n a)
   made-take log zero a h = tt
   made-take log (suc n) [] h = tt
   made-take log (suc n) (x ∷ a) h = (h.0, made-take log n a h.1)
 
-  pub made-drop : (log : List E) (n : ℕ) (a : List (Made E)) → IsMadeOf maker log a → IsMadeOf maker log (drop n a)
+  pub made-drop : (log : List E) (n : ℕ) (a : List (Made E)) → AreEntriesByMaker maker log a → AreEntriesByMaker maker log (drop n a)
   made-drop log zero a h = h
   made-drop log (suc n) [] h = tt
   made-drop log (suc n) (x ∷ a) h = made-drop log n a h.1
@@ -76,7 +76,7 @@ module _ {E : Type 0} (maker : E → ℕ) where
   by_other k j [] h n = refl
   by_other k j (e ∷ es) h n = ap (λ b. cond b (e ∷ entries_by maker j es) (entries_by maker j es)) (ne_eqb (maker e) j (λ d. n (sym h.0 ∙ d))) ∙ by_other k j es h.1 n
 
-  pub made_unchanged : (k : ℕ) (log added : List E) (made : List (Made E)) → HoldsForEach (λ e. maker e ≡ k) added → times k made ≡ 0 → IsMadeOf maker log made → IsMadeOf maker (log ++ added) made
+  pub made_unchanged : (k : ℕ) (log added : List E) (made : List (Made E)) → HoldsForEach (λ e. maker e ≡ k) added → times k made ≡ 0 → AreEntriesByMaker maker log made → AreEntriesByMaker maker (log ++ added) made
   made_unchanged k log added [] own none m = tt
   made_unchanged k log added (x ∷ ms) own none m =
       let ne : k ≢ x.number = λ e. absurd (omega (arith, hit x.number k (sym e))) in (
@@ -84,8 +84,8 @@ module _ {E : Type 0} (maker : E → ℕ) where
         made_unchanged k log added ms own (omega arith) m.1,
       )
 
-  pub made_grown : (log added : List E) (made : List (Made E)) → HoldsForEach (λ e. maker e ≡ own_number made) added → times (own_number made) made ≤ 1 → IsMadeOf maker log made
-      → IsMadeOf maker (log ++ added) (made_more made added)
+  pub made_grown : (log added : List E) (made : List (Made E)) → HoldsForEach (λ e. maker e ≡ own_number made) added → times (own_number made) made ≤ 1 → AreEntriesByMaker maker log made
+      → AreEntriesByMaker maker (log ++ added) (made_more made added)
   made_grown log added [] own once m = tt
   made_grown log added (x ∷ ms) own once m = (
     filter-append (λ e. eqb (maker e) x.number) log added ∙ (ap (λ r. entries_by maker x.number log ++ r) (by_own x.number added own) ∙ ap (λ r. r ++ added) m.0),
@@ -124,7 +124,7 @@ module _ {E : Type 0} where
   pub length_cut : (n : ℕ) (a : List (Made E)) → length (take n a) + length (drop n a) ≡ length a
   length_cut n a = sym (length-append (take n a) (drop n a)) ∙ ap length (take_drop n a)
 
-  pub made_fresh : (maker : E → ℕ) (n : ℕ) → IsMadeOf maker [] (fresh_to n)
+  pub made_fresh : (maker : E → ℕ) (n : ℕ) → AreEntriesByMaker maker [] (fresh_to n)
   made_fresh maker zero = tt
   made_fresh maker (suc n) = made-append maker [] (fresh_to n) (record { number = suc n; entries = [] } ∷ []) (made_fresh maker n) (refl, tt)
 

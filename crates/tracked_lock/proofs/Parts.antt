@@ -4,8 +4,8 @@ use Rattle.atomic_table.specs.Table.{Me}
 use Rattle.std.proofs.Common.{Option}
 use Rattle.tracked_lock.specs.declared.views.View.{View}
 use Rattle.tracked_lock.specs.declared.views.Made.{Made}
-use Rattle.tracked_lock.specs.Views.{HoldsForEach, IsMadeOf, IsAdded, own_number, made_more, longer}
-use Rattle.tracked_lock.specs.Plays.{grown, without_turn}
+use Rattle.tracked_lock.specs.Views.{HoldsForEach, AreEntriesByMaker, IsAdded, own_number, made_more, longer}
+use Rattle.tracked_lock.specs.Plays.{view_with_list, without_turn}
 use Rattle.tracked_lock.specs.Passes.{IsPass, IsOneStep}
 use Rattle.tracked_lock.proofs.Prefixes.{drop_prefix, longer_either}
 use Rattle.tracked_lock.proofs.Numbers.{made_grown, times_more, length_more, stands_one}
@@ -32,7 +32,7 @@ module _ {T O E : Type 0} (story_of : T → List E) (maker_of : E → ℕ) where
   Is = IsPass maker_of
 
   pub is_given : (m n : Me (Option T) (View O E)) (number seen numbers len : ℕ) (x : T) → Is m number seen numbers → IsAdded maker_of number m.0.seen (story_of x) → len ≡ length (story_of x)
-      → n ≡ (without_turn (grown m.0 (story_of x)), []) → Is n number len numbers
+      → n ≡ (without_turn (view_with_list m.0 (story_of x)), []) → Is n number len numbers
   is_given m n number seen numbers len x is more long e =
       let added : List E = more.0 in
       let rest : drop (length m.0.seen) (story_of x) ≡ added = ap (drop (length m.0.seen)) more.1 ∙ drop_prefix m.0.seen added in
@@ -44,8 +44,8 @@ module _ {T O E : Type 0} (story_of : T → List E) (maker_of : E → ℕ) where
         seen_is = long;
         numbers_is = is.numbers_is ∙ sym (length_more m.0.made (drop (length m.0.seen) (story_of x)));
         one_number = omega (arith, length_more m.0.made (drop (length m.0.seen) (story_of x)), is.one_number);
-        made = subst (λ l. IsMadeOf maker_of l (made_more m.0.made (drop (length m.0.seen) (story_of x)))) (sym more.1)
-            (subst (λ a. IsMadeOf maker_of (m.0.seen ++ added) (made_more m.0.made a)) (sym rest) (made_grown maker_of m.0.seen added m.0.made own (omega (arith, is.once (own_number m.0.made), stands_one m.0.passes (own_number m.0.made))) is.made));
+        made = subst (λ l. AreEntriesByMaker maker_of l (made_more m.0.made (drop (length m.0.seen) (story_of x)))) (sym more.1)
+            (subst (λ a. AreEntriesByMaker maker_of (m.0.seen ++ added) (made_more m.0.made a)) (sym rest) (made_grown maker_of m.0.seen added m.0.made own (omega (arith, is.once (own_number m.0.made), stands_one m.0.passes (own_number m.0.made))) is.made));
         once = λ k. omega (arith, times_more k m.0.made (drop (length m.0.seen) (story_of x)), is.once k);
       }
 

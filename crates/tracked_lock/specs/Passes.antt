@@ -3,7 +3,7 @@ use Rattle.std.specs.Prelude.{◌≡◌, ◌⊎◌, ℕ, zero, suc, ◌+◌, ◌
 use mathlib.Core.List.{IsPrefix}
 use Rattle.atomic_table.specs.Seated.{TableId}
 use Rattle.tracked_lock.specs.declared.views.Made.{Made}
-use Rattle.tracked_lock.specs.Views.{IsMadeOf, times, one_if_number_of_pass, own_number, made_more, longer, HoldsForEach}
+use Rattle.tracked_lock.specs.Views.{AreEntriesByMaker, times, one_if_number_of_pass, own_number, made_more, longer, HoldsForEach}
 use Rattle.tracked_lock.specs.declared.views.View.{View}
 use Rattle.atomic_table.specs.Table.{Me}
 
@@ -16,8 +16,8 @@ pub record LockView (O : Type 0) : Type 0 where
   -- how many passes the lock has, numbered from 1
   pub passes : ℕ
 
--- what contracts see of a pass: its lock, its number, whether a value is out with it, the list that it has seen,
--- and the entries under each of its numbers, its own first
+-- what contracts see of a pass: its lock, its number, whether a value is out with it, the list that
+-- it has seen, and the entries under each of its numbers, its own first
 pub record PassView (O E : Type 0) : Type 0 where
   -- the lock of the pass
   pub lock : LockView O
@@ -33,7 +33,8 @@ pub record PassView (O E : Type 0) : Type 0 where
 -- how many of the numbers from 1 to n aren't among those of the pass
 abbrev pub missing_number_count : {E : Type 0} → ℕ → List (Made E) → ℕ
 missing_number_count zero made = 0
-missing_number_count (suc n) made = cond (nat_eq (times (suc n) made) 0) 1 0 + missing_number_count n made
+missing_number_count (suc n) made =
+    cond (nat_eq (times (suc n) made) 0) 1 0 + missing_number_count n made
 
 -- a lock by its table, the origin of its first value and its number of passes
 abbrev pub lock_of : {O : Type 0} → TableId → O → (passes : ℕ) → LockView O
@@ -56,8 +57,8 @@ IsOneStep {E} maker k xs ys = (ys ≡ xs) ⊎ ((e : E) × (ys ≡ xs ++ e ∷ []
 
 module _ {O E : Type 0} where
   -- a pass as its seat at the table shows it
-  abbrev pub passed : TableId → View O E → (number : ℕ) → PassView O E
-  passed table v number = record {
+  abbrev pub pass_of_seat : TableId → View O E → (number : ℕ) → PassView O E
+  pass_of_seat table v number = record {
     lock = record { table = table; origin = v.origin; passes = v.passes };
     number = number;
     out = v.turn;
@@ -65,9 +66,11 @@ module _ {O E : Type 0} where
     made = v.made;
   }
 
-  -- what a put leaves of the pass: it has seen the list that was given back, and made the entries that are new in it
+  -- what a put leaves of the pass: it has seen the list that was given back, and made the entries
+  -- that are new in it
   abbrev pub given_back : PassView O E → List E → PassView O E
-  given_back p list = record p { out = false; seen = list; made = made_more p.made (drop (length p.seen) list) }
+  given_back p list =
+      record p { out = false; seen = list; made = made_more p.made (drop (length p.seen) list) }
 
   -- a pass that took over the numbers of another
   abbrev pub joined_pass : PassView O E → PassView O E → PassView O E
@@ -79,15 +82,22 @@ module _ {O E : Type 0} where
 
   -- a pass with one number, which has seen and made nothing
   abbrev pub fresh_pass : LockView O → ℕ → PassView O E
-  fresh_pass lock n = record { lock = lock; number = n; out = false; seen = []; made = record { number = n; entries = [] } ∷ [] }
+  fresh_pass lock n = record {
+    lock = lock;
+    number = n;
+    out = false;
+    seen = [];
+    made = record { number = n; entries = [] } ∷ [];
+  }
 
   -- the passes with the numbers after n, up to n + m
   abbrev pub fresh_passes : LockView O → ℕ → ℕ → List (PassView O E)
   fresh_passes lock n zero = []
   fresh_passes lock n (suc m) = fresh_pass lock (suc n) ∷ fresh_passes lock (suc n) m
 
--- The value of a lock that a pass has closed: all numbers were the pass's, the value has the lock's origin, and its list continues
--- what the pass had seen and is made of the entries made under these numbers.
+-- The value of a lock that a pass has closed: all numbers were the pass's, the value has the lock's
+-- origin, and its list continues what the pass had seen and is made of the entries made under these
+-- numbers.
 module _ {T O E : Type 0} (origin_of : T → O) (story_of : T → List E) (maker_of : E → ℕ) where
   pub record IsClosed (lock : LockView O) (p : PassView O E) (value : T) : Type 0 where
     -- every number from 1 to the number of passes is one of the pass
@@ -97,7 +107,7 @@ module _ {T O E : Type 0} (origin_of : T → O) (story_of : T → List E) (maker
     -- the value's list begins with all that the pass has seen
     pub seen : IsPrefix p.seen (story_of value)
     -- under each number of the pass stand the entries of the value's list with that maker, in order
-    pub made : IsMadeOf maker_of (story_of value) p.made
+    pub made : AreEntriesByMaker maker_of (story_of value) p.made
     -- the maker of each entry of the value's list is a number of the pass
     pub no_others : HoldsForEach (λ e. 0 < times (maker_of e) p.made) (story_of value)
 
@@ -117,6 +127,6 @@ module _ {T O E : Type 0} (maker_of : E → ℕ) where
     -- the pass has one number at least
     pub one_number : 0 < length m.0.made
     -- under each number of the pass stand the entries seen with that maker, in order
-    pub made : IsMadeOf maker_of m.0.seen m.0.made
+    pub made : AreEntriesByMaker maker_of m.0.seen m.0.made
     -- the pass has each number from 1 to the number of passes at most once, and no other number
     pub once : (k : ℕ) → times k m.0.made ≤ one_if_number_of_pass m.0.passes k

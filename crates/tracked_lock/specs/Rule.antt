@@ -6,9 +6,11 @@ use lib.ListN.{get_elem?}
 use Rattle.atomic_table.specs.Table.{State, Me}
 use Rattle.atomic_table.specs.Seated.{TableId}
 use Rattle.tracked_lock.specs.declared.views.View.{View}
-use Rattle.tracked_lock.specs.Views.{sum_of_values, HoldsForEach, IsMadeOf, IsKnownOf, times, one_if_number_of_pass, fresh_to, view, turn_of}
+use Rattle.tracked_lock.specs.Views.{sum_of_values, HoldsForEach, AreEntriesByMaker, IsKnownOf, times, one_if_number_of_pass, fresh_to, view, turn_count}
 
-module _ {T O E : Type 0} (origin_of : T → O) (story_of : T → List E) (maker_of : E → ℕ) (origin : O) (passes : ℕ) where
+module _
+    {T O E : Type 0} (origin_of : T → O) (story_of : T → List E) (maker_of : E → ℕ)
+    (origin : O) (passes : ℕ) where
   -- what a view says is so of a lock with this list
   pub record Fits (log : List E) (v : View O E) : Type 0 where
     -- a view with a number knows the origin of the lock
@@ -22,14 +24,15 @@ module _ {T O E : Type 0} (origin_of : T → O) (story_of : T → List E) (maker
     -- a view with the turn has seen the whole list
     pub whole : v.turn ≡ true → v.seen ≡ log
     -- under each number of the view stand the entries of the list with that maker, in order
-    pub made : IsMadeOf maker_of log v.made
+    pub made : AreEntriesByMaker maker_of log v.made
     -- the entries under each number of the view stand in one of the two lists that it has seen
     pub known : IsKnownOf maker_of v.seen v.other v.made
     -- a view with the turn has a number
     pub maker : v.turn ≡ true → 0 < length v.made
 
-  -- the rule: the words are the length of the list, the turn (0 free, 1 taken) and the passes; the value at home stands for the list;
-  -- at most one view has the turn; each view fits the list; each number is given once, and each entry has the number of its maker
+  -- the rule: the words are the length of the list, the turn (0 free, 1 taken) and the passes; the
+  -- value at home stands for the list; at most one view has the turn; each view fits the list; each
+  -- number is given once, and each entry has the number of its maker
   pub record Kept (s : State (Option T) (View O E)) : Type 0 where
     -- the list of all entries, in order
     pub log : List E
@@ -38,15 +41,18 @@ module _ {T O E : Type 0} (origin_of : T → O) (story_of : T → List E) (maker
     -- the words of the table: the length of the list, the turn and the number of passes
     pub words : s.words ≡ length log ∷ busy ∷ passes ∷ []
     -- while the turn is free, slot 0 has a value with the lock's origin that stands for the list
-    pub home : busy ≡ 0 → (x : T) × (get_elem? s.homes 0 ≡ maybe.some (maybe.some (Some x))) × (origin_of x ≡ origin) × (story_of x ≡ log)
+    pub home : busy ≡ 0
+        → (x : T) × (get_elem? s.homes 0 ≡ maybe.some (maybe.some (Some x)))
+        × (origin_of x ≡ origin) × (story_of x ≡ log)
     -- as many views have the turn as `busy` says
-    pub turns : sum_of_values turn_of s.views ≡ busy
+    pub turns : sum_of_values turn_count s.views ≡ busy
     -- at most one view has the turn
     pub one : busy < 2
     -- each view fits the list
     pub each : (id : ℕ) (v : View O E) → get_elem? s.views id ≡ maybe.some v → Fits log v
     -- each number from 1 to the number of passes is in exactly one view, and no other number in any
-    pub numbers : (k : ℕ) → sum_of_values (λ v. times k v.made) s.views ≡ one_if_number_of_pass passes k
+    pub numbers : (k : ℕ)
+        → sum_of_values (λ v. times k v.made) s.views ≡ one_if_number_of_pass passes k
     -- the views have as many numbers together as the lock has passes
     pub counted : sum_of_values (λ v. length v.made) s.views ≡ passes
     -- the maker of each entry is a number from 1 to the number of passes
@@ -61,7 +67,8 @@ abbrev pub IsLockTable : TableId → Type 0
 IsLockTable id = (id.words ≡ 3) × (id.slots ≡ 1)
 
 -- a seat with one number, which has seen and made nothing, and no slot
-abbrev pub IsFreshSeat : {T O E : Type 0} → O → (passes number : ℕ) → Me (Option T) (View O E) → Type 0
+abbrev pub IsFreshSeat :
+    {T O E : Type 0} → O → (passes number : ℕ) → Me (Option T) (View O E) → Type 0
 IsFreshSeat origin passes number m =
     m ≡ (view (origin ∷ []) passes false [] [] (record { number = number; entries = [] } ∷ []), [])
 

@@ -3,7 +3,7 @@ use Rattle.std.specs.Prelude.{◌≡◌, ◌⊎◌, ℕ, zero, suc, ◌+◌, ◌
 use Rattle.tracked_lock.specs.declared.views.Made.{Made}
 use Rattle.tracked_lock.specs.declared.views.View.{View}
 
--- the fact of each of the list
+-- `P` holds of each member of a list
 abbrev pub HoldsForEach : {A : Type 0} → (A → Type 0) → List A → Type 0
 HoldsForEach P [] = Unit {0}
 HoldsForEach P (x ∷ xs) = P x × HoldsForEach P xs
@@ -14,14 +14,17 @@ module _ {E : Type 0} where
   entries_by maker k es = filter (λ e. nat_eq (maker e) k) es
 
   -- under each number stand the entries of the list with this maker
-  abbrev pub IsMadeOf : (E → ℕ) → List E → List (Made E) → Type 0
-  IsMadeOf maker log [] = Unit {0}
-  IsMadeOf maker log (x ∷ xs) = (entries_by maker x.number log ≡ x.entries) × IsMadeOf maker log xs
+  abbrev pub AreEntriesByMaker : (E → ℕ) → List E → List (Made E) → Type 0
+  AreEntriesByMaker maker log [] = Unit {0}
+  AreEntriesByMaker maker log (x ∷ xs) =
+      (entries_by maker x.number log ≡ x.entries) × AreEntriesByMaker maker log xs
 
   -- under each number stand the entries with this maker of one of the two lists
   abbrev pub IsKnownOf : (E → ℕ) → List E → List E → List (Made E) → Type 0
   IsKnownOf maker xs ys [] = Unit {0}
-  IsKnownOf maker xs ys (m ∷ ms) = ((entries_by maker m.number xs ≡ m.entries) ⊎ (entries_by maker m.number ys ≡ m.entries)) × IsKnownOf maker xs ys ms
+  IsKnownOf maker xs ys (m ∷ ms) =
+      ((entries_by maker m.number xs ≡ m.entries) ⊎ (entries_by maker m.number ys ≡ m.entries))
+      × IsKnownOf maker xs ys ms
 
   -- how often the number stands among them
   abbrev pub times : ℕ → List (Made E) → ℕ
@@ -40,7 +43,8 @@ module _ {E : Type 0} where
 
   -- the list, or the list with more entries of this maker
   abbrev pub IsAdded : (E → ℕ) → ℕ → List E → List E → Type 0
-  IsAdded maker k xs ys = (added : List E) × (ys ≡ xs ++ added) × HoldsForEach (λ e. maker e ≡ k) added
+  IsAdded maker k xs ys =
+      (added : List E) × (ys ≡ xs ++ added) × HoldsForEach (λ e. maker e ≡ k) added
 
   -- the longer list
   abbrev pub longer : List E → List E → List E
@@ -56,29 +60,36 @@ abbrev pub one_if_number_of_pass : ℕ → ℕ → ℕ
 one_if_number_of_pass n k = cond (nat_lt 0 k && nat_lt k (suc n)) 1 0
 
 module _ {O E : Type 0} where
-  -- a view by its parts
+  -- the view with these parts
   abbrev pub view : List O → ℕ → Bool → List E → List E → List (Made E) → View O E
-  view origin passes turn seen other made = record { origin = origin; passes = passes; turn = turn; seen = seen; other = other; made = made }
+  view origin passes turn seen other made = record {
+    origin = origin;
+    passes = passes;
+    turn = turn;
+    seen = seen;
+    other = other;
+    made = made;
+  }
 
-  -- all but the last number
+  -- a view without its last number
   abbrev pub without_last : View O E → View O E
   without_last v = record v { made = take (length v.made - 1) v.made }
 
-  -- the last number alone
+  -- a view with its last number alone, without the turn
   abbrev pub only_last : View O E → View O E
   only_last v = record v { turn = false; made = drop (length v.made - 1) v.made }
 
-  -- both lists, until the next look, and the numbers of both
-  abbrev pub joined : View O E → View O E → View O E
-  joined v w = record v { other = w.seen; made = v.made ++ w.made }
+  -- the view that took over the numbers of another: it keeps both lists until the next look
+  abbrev pub joined_view : View O E → View O E → View O E
+  joined_view v w = record v { other = w.seen; made = v.made ++ w.made }
 
-  -- what is left of a pass that has joined another
-  abbrev pub spent : View O E
-  spent = view [] 0 false [] [] []
+  -- the view that is left of a pass whose numbers another took over
+  abbrev pub spent_view : View O E
+  spent_view = view [] 0 false [] [] []
 
-  -- the turns that a view has, to be added up: 1 or 0
-  abbrev pub turn_of : View O E → ℕ
-  turn_of v = cond v.turn 1 0
+  -- how many turns a view has: 1 or 0, so that they can be added up
+  abbrev pub turn_count : View O E → ℕ
+  turn_count v = cond v.turn 1 0
 
 -- the values of a list, added up
 abbrev pub sum_of_values : {A : Type 0} → (A → ℕ) → List A → ℕ

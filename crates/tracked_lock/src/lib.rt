@@ -1,4 +1,5 @@
-//! A lock on a value that stands for a growing list of entries: each pass knows a beginning of that list.
+//! A lock on a value that stands for a growing list of entries: each pass knows a beginning of that
+//! list.
 #![tactic(auto)]
 
 mod faults;

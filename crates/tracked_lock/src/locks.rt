@@ -25,7 +25,7 @@ ghost use Rattle.tracked_lock.specs.Passes.{
   lock_of,
 };
 ghost use Rattle.tracked_lock.specs.Rule.{IsLockTable, IsFirstSeat, IsFreshSeat};
-ghost use Rattle.tracked_lock.specs.Views.{IsMadeOf};
+ghost use Rattle.tracked_lock.specs.Views.{AreEntriesByMaker};
 
 use crate::faults::NoMemory;
 use crate::passes::{Held, Pass};
@@ -39,8 +39,9 @@ use std::marker::Model;
 use std::snapshot::Snapshot;
 use std::sync::Wait;
 
-/// A lock on a value that stands for a growing list of entries. Contracts see which table it is, the
-/// origin of the value that it was made with, and the number of passes (`specs/Passes`, `LockView`).
+/// A lock on a value that stands for a growing list of entries. Contracts see which table it is,
+/// the origin of the value that it was made with, and the number of passes (`specs/Passes`,
+/// `LockView`).
 #[derive(Drop)]
 pub struct TrackedLock<V: Storied + Drop> {
     table: LockTable<V>,
@@ -113,8 +114,9 @@ fn deal<V: Storied>(
 }
 
 impl<V: Storied + Drop> TrackedLock<V> {
-    /// A lock round `value`, and all `n` passes that it will ever have, in the order of their numbers
-    /// 1 to n. Each has seen the empty list, and made nothing. `NoMemory` where there is none.
+    /// A lock round `value`, and all `n` passes that it will ever have, in the order of their
+    /// numbers 1 to n. Each has seen the empty list, and made nothing. `NoMemory` where there is
+    /// none.
     pub fn new(alloc: Global, value: V, n: u8) -> Result<(TrackedLock<V>, Vec<Pass<V>>), NoMemory>
         requires some { 1 ≤ n }
         requires empty { V.story value ≡ [] }
@@ -135,8 +137,8 @@ impl<V: Storied + Drop> TrackedLock<V> {
         Ok((lock, passes))
     }
 
-    /// Waits for the turn, and takes the value out. It stands for a list that continues what the pass
-    /// had seen, and the pass has then seen that list.
+    /// Waits for the turn, and takes the value out. It stands for a list that continues what the
+    /// pass had seen, and the pass has then seen that list.
     pub fn take<R: Wait>(&self, rt: &R, p: &mut Pass<V>) -> Held<V>
         requires lock { p.old.lock ≡ self.now }
         requires free { p.old.out ≡ false }
@@ -144,7 +146,7 @@ impl<V: Storied + Drop> TrackedLock<V> {
         ensures list { V.story result.value ≡ p.new.seen }
         ensures seen { IsPrefix p.old.seen p.new.seen }
         ensures pass { p.new ≡ record p.old { out = true; seen = p.new.seen } }
-        ensures made { IsMadeOf V.maker p.new.seen p.new.made }
+        ensures made { AreEntriesByMaker V.maker p.new.seen p.new.made }
         ensures taken { result.pass ≡ p.new }
     {
         let steps = &self.table.shared;
@@ -153,8 +155,8 @@ impl<V: Storied + Drop> TrackedLock<V> {
         Held::new(value, p)
     }
 
-    /// Gives the value back, for the list that it stood for or for that list with one entry more, of
-    /// the pass's own number.
+    /// Gives the value back, for the list that it stood for or for that list with one entry more,
+    /// of the pass's own number.
     pub fn put(&self, p: &mut Pass<V>, held: Held<V>)
         requires lock { p.old.lock ≡ self.now }
         requires taken { (p.old.out ≡ true) × (held.pass ≡ p.old) }
@@ -162,7 +164,7 @@ impl<V: Storied + Drop> TrackedLock<V> {
         requires list { IsOneStep V.maker p.old.number p.old.seen (V.story held.value) }
         requires room { length (V.story held.value) + 1 < 2 ^ 64 }
         ensures pass { p.new ≡ given_back p.old (V.story held.value) }
-        ensures made { IsMadeOf V.maker p.new.seen p.new.made }
+        ensures made { AreEntriesByMaker V.maker p.new.seen p.new.made }
     {
         let value = held.into_value();
         let len = value.story_len();
@@ -177,7 +179,7 @@ impl<V: Storied + Drop> TrackedLock<V> {
         requires free { (p.old.out ≡ false) × (q.out ≡ false) }
         ensures pass { p.new ≡ joined_pass p.old q }
         ensures seen { IsPrefix p.old.seen p.new.seen × IsPrefix q.seen p.new.seen }
-        ensures made { IsMadeOf V.maker p.new.seen p.new.made }
+        ensures made { AreEntriesByMaker V.maker p.new.seen p.new.made }
     {
         let Pass {
             seat,
@@ -190,10 +192,10 @@ impl<V: Storied + Drop> TrackedLock<V> {
         p.seen = p.seen.max(seen);
     }
 
-    /// The value, where the pass has every number from 1 to n. It stands for a list that continues what
-    /// the pass has seen, and that is exactly the entries made under these numbers. Else `SeatsOut`, with
-    /// how many numbers aren't the pass's, and lock and pass as they were. A pass that was dropped keeps
-    /// its numbers out for good.
+    /// The value, where the pass has every number from 1 to n. It stands for a list that continues
+    /// what the pass has seen, and that is exactly the entries made under these numbers. Else
+    /// `SeatsOut`, with how many numbers aren't the pass's, and lock and pass as they were. A pass
+    /// that was dropped keeps its numbers out for good.
     pub fn close(self, p: Pass<V>) -> Result<V, SeatsOut<V>>
         requires lock { p.lock ≡ self }
         requires free { p.out ≡ false }

@@ -7,9 +7,9 @@ use crate::storied::Storied;
 use std::marker::Model;
 use std::snapshot::Snapshot;
 
-/// The right to take turns under one number, from 1 on. Contracts see its lock, its number, whether a
-/// value is out with it, the list that it has seen, and the entries that were made under each of its
-/// numbers, its own first (`specs/Passes`, `PassView`).
+/// The right to take turns under one number, from 1 on. Contracts see its lock, its number, whether
+/// a value is out with it, the list that it has seen, and the entries that were made under each of
+/// its numbers, its own first (`specs/Passes`, `PassView`).
 #[derive(Drop)]
 pub struct Pass<V: Storied> {
     pub(crate) seat: PassSeat<V>,
@@ -19,11 +19,11 @@ pub struct Pass<V: Storied> {
 }
 
 impl<V: Storied> Model for Pass<V> {
-    ghost use Rattle.tracked_lock.specs.Passes.{PassView, IsPass, passed};
+    ghost use Rattle.tracked_lock.specs.Passes.{PassView, IsPass, pass_of_seat};
 
     ghost Value = { PassView V.Origin V.Entry };
 
-    ghost view = { λ p. passed p.seat.table_id p.seat.me.0 p.number };
+    ghost view = { λ p. pass_of_seat p.seat.table_id p.seat.me.0 p.number };
 
     ghost invariant = { λ p. IsPass V.maker p.seat.me p.number p.seen p.numbers };
 }
@@ -45,8 +45,9 @@ impl<V: Storied> Pass<V> {
     }
 }
 
-/// A value that is out of the lock with a pass. It ends in `put` alone: it can't be let go, and its value
-/// is lent. Contracts see the value, and the pass as `take` left it (`specs/Passes`, `LentValue`).
+/// A value that is out of the lock with a pass. It ends in `put` alone: it can't be let go, and its
+/// value is lent. Contracts see the value, and the pass as `take` left it (`specs/Passes`,
+/// `LentValue`).
 pub struct Held<V: Storied> {
     value: V,
     taken: Snapshot<Pass<V>>,

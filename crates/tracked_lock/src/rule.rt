@@ -90,9 +90,9 @@ impl<O, E> Split<View<O, E>> for LastNumber {
 pub struct BothNumbers;
 
 impl<O, E> Join<View<O, E>> for BothNumbers {
-    ghost use Rattle.tracked_lock.specs.Views.{joined, spent};
+    ghost use Rattle.tracked_lock.specs.Views.{joined_view, spent_view};
 
-    ghost both = { joined };
+    ghost both = { joined_view };
 
-    ghost spent = { spent };
+    ghost spent = { spent_view };
 }

@@ -1,5 +1,6 @@
-//! The kinds of atomic step on the table, each in a function of its own, and the turn that they make up. The table has three
-//! words, `count`, `busy` and `seats`, and one slot with the value, which is at home where no pass has the turn.
+//! The kinds of atomic step on the table, each in a function of its own, and the turn that they
+//! make up. The table has three words, `count`, `busy` and `seats`, and one slot with the value,
+//! which is at home where no pass has the turn.
 ghost use Rattle.std.specs.Prelude.{◌≡◌, ◌<◌, true, false, None, [], ◌∷◌, length, IfOk};
 ghost use Rattle.tracked_lock.specs.Plays.{
   Took,
@@ -11,11 +12,11 @@ ghost use Rattle.tracked_lock.specs.Plays.{
   IsCounted,
   IsSettled,
   CanJoin,
-  grown,
+  view_with_list,
   without_turn,
 };
 ghost use Rattle.tracked_lock.specs.Rule.{IsLockTable, IsFirstSeat};
-ghost use Rattle.tracked_lock.specs.Views.{own_number, IsAdded, joined, without_last, only_last};
+ghost use Rattle.tracked_lock.specs.Views.{own_number, IsAdded, joined_view, without_last, only_last};
 
 use crate::faults::NoMemory;
 use crate::rule::{
@@ -115,7 +116,7 @@ fn join_other<V: Storied>(steps: &Steps<V>, seat: &mut PassSeat<V>, other: PassS
     requires other { (other.table_id ≡ steps.now.table_id) × (other.me.1 ≡ []) }
     requires views { CanJoin V.maker seat.old.me.0 other.me.0 }
     ensures seat { (seat.new.table_id ≡ seat.old.table_id) × (seat.new.id ≡ seat.old.id) }
-    ensures joined { seat.new.me ≡ (joined seat.old.me.0 other.me.0, seat.old.me.1) }
+    ensures joined { seat.new.me ≡ (joined_view seat.old.me.0 other.me.0, seat.old.me.1) }
 {
     steps.join_seat::<BothNumbers>(seat, other);
 }
@@ -156,7 +157,7 @@ pub fn give_back<V: Storied + Drop>(steps: &Steps<V>, seat: &mut PassSeat<V>, va
         seat.old.me.0.seen (V.story value) }
     requires len { len ≡ length (V.story value) }
     ensures seat { (seat.new.table_id ≡ seat.old.table_id) × (seat.new.id ≡ seat.old.id) }
-    ensures back { seat.new.me ≡ (without_turn (grown seat.old.me.0 (V.story value)), []) }
+    ensures back { seat.new.me ≡ (without_turn (view_with_list seat.old.me.0 (V.story value)), []) }
 {
     drop(steps.exchange(seat, 0, Some(value)));
     store_count(steps, seat, len);
@@ -169,7 +170,7 @@ pub fn join_seats<V: Storied>(steps: &Steps<V>, seat: &mut PassSeat<V>, other: P
     requires other { (other.table_id ≡ steps.now.table_id) × (other.me.1 ≡ []) }
     requires views { CanJoin V.maker seat.old.me.0 other.me.0 }
     ensures seat { (seat.new.table_id ≡ seat.old.table_id) × (seat.new.id ≡ seat.old.id) }
-    ensures reads { Reads V.maker (joined seat.old.me.0 other.me.0, seat.old.me.1)
+    ensures reads { Reads V.maker (joined_view seat.old.me.0 other.me.0, seat.old.me.1)
         result seat.new.me }
 {
     join_other(steps, seat, other);

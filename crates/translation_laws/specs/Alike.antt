@@ -38,7 +38,8 @@ pub record IsSameWordButForCase (s e : List ℕ) (t u : Token) : Type 0 where
   -- both words are the same but for the case of their letters
   pub text : str_eq_ignore_ascii_case (text_of s t) (text_of e u) ≡ true
 
--- a word that is an operand word of one of the languages, and the same with `#` in front, a local name
+-- a word that is an operand word of one of the languages, and the same with `#` in front, a local
+-- name
 pub record IsOperandWordAsLocal (s e : List ℕ) (t u : Token) : Type 0 where
   -- the first token is a word
   pub word : t.kind ≡ kind.Word
@@ -50,26 +51,32 @@ pub record IsOperandWordAsLocal (s e : List ℕ) (t u : Token) : Type 0 where
   pub text : text_of e u ≡ hash ∷ text_of s t
   -- the word is an operand word of English or of German
   pub operand :
-      (is_some (operand_partner English (text_of s t)) ≡ true) ⊎ (is_some (operand_partner German (text_of s t)) ≡ true)
+      (is_some (operand_partner English (text_of s t)) ≡ true)
+      ⊎ (is_some (operand_partner German (text_of s t)) ≡ true)
 
 -- a token t in this role comes back as the token u of the other source: as the same token, as the
 -- same word in other case, or as an operand word with `#` before it
 abbrev pub ComesBackInRole : (s e : List ℕ) → Role → Token → Token → Type 0
 ComesBackInRole s e role.Instruction t u = IsSameToken s e t u ⊎ IsSameWordButForCase s e t u
-ComesBackInRole s e role.Operand t u = IsSameToken s e t u ⊎ (IsSameWordButForCase s e t u × (is_some (operand_partner German (text_of s t)) ≡ true))
+ComesBackInRole s e role.Operand t u =
+    IsSameToken s e t u
+    ⊎ (IsSameWordButForCase s e t u × (is_some (operand_partner German (text_of s t)) ≡ true))
 ComesBackInRole s e role.Path t u = IsSameToken s e t u ⊎ IsOperandWordAsLocal s e t u
 ComesBackInRole s e role.Stays t u = IsSameToken s e t u
 
 -- tokens come back one by one, from a place on; `before` is the class of the token in front of it
-abbrev pub AreTokensAlike : (s e : List ℕ) → TokenPlace → TokenClass → List Token → List Token → Type 0
+abbrev pub AreTokensAlike :
+    (s e : List ℕ) → TokenPlace → TokenClass → List Token → List Token → Type 0
 AreTokensAlike s e p before [] [] = Unit {0}
 AreTokensAlike s e p before (t ∷ ts) (u ∷ us) =
     ComesBackInRole s e (role_of p before (class_in s t) (text_of s t) (next_class s ts)) t u
-    × AreTokensAlike s e (place_behind p before (class_in s t) (text_of s t) (next_class s ts)) (class_in s t) ts us
+    × AreTokensAlike s e (place_behind p before (class_in s t) (text_of s t) (next_class s ts))
+    (class_in s t) ts us
 AreTokensAlike s e p before _ _ = ⊥
 
 -- tokens that come back one by one, from the front of the source on, have the same tree as before
 abbrev pub TreesAlike : Type 0
 TreesAlike =
     (s e : List ℕ) (ts us : List Token) (t : Tree)
-    → AreTokens s ts → AreTokensAlike s e place.Outside class.Other ts us → IsTree s ts t → IsTree e us t
+    → AreTokens s ts → AreTokensAlike s e place.Outside class.Other ts us → IsTree s ts t
+    → IsTree e us t

@@ -28,4 +28,5 @@ pub record ComesBackWithTree (german : List ℕ) (tree : Tree) : Type 0 where
 -- of each source with a tree, whose clauses so break no rule, each translation to German comes back
 abbrev pub RoundTrips : Type 0
 RoundTrips =
-    (source german : List ℕ) (tree : Tree) → HasTree source tree → IsTranslation German source german → ComesBackWithTree german tree
+    (source german : List ℕ) (tree : Tree) → HasTree source tree
+    → IsTranslation German source german → ComesBackWithTree german tree

@@ -1,5 +1,5 @@
--- The roles of the words of a statement by the rule in words: behind its label stands its instruction, and behind that each word has a role by
--- its neighbours.
+-- The roles of the words of a statement by the rule in words: behind its label stands its
+-- instruction, and behind that each word has a role by its neighbours.
 use Rattle.std.specs.Prelude.{◌≡◌, ℕ, Bool, true, false, ◌||◌, ◌&&◌, not, if◌then◌else◌, List, [], ◌∷◌, ◌++◌}
 use Rattle.stl_lexer.specs.declared.kinds.Token.{Token}
 use Rattle.stl_lexer.specs.Tokens.{text_of}
@@ -15,8 +15,8 @@ use Rattle.de_mnemonics.specs.Translation.{class_in, next_class}
 
 -- ---- the rule
 
--- a word behind the front of an instruction: a component or a parameter stays; an operand word in its place; a name, where a path begins;
--- `opens` says that one may begin here
+-- a word behind the front of an instruction: a component or a parameter stays; an operand word in
+-- its place; a name, where a path begins; `opens` says that one may begin here
 abbrev pub role_beside : Bool → TokenClass → List ℕ → TokenClass → Role
 role_beside opens before word next =
     if is_component before next then role.Stays
@@ -34,7 +34,8 @@ token_role opens before _ word next = role.Stays
 abbrev pub roles_beside : List ℕ → Bool → TokenClass → List Token → List Role
 roles_beside s opens before [] = []
 roles_beside s opens before (t ∷ ts) =
-    token_role opens before (class_in s t) (text_of s t) (next_class s ts) ∷ roles_beside s false (class_in s t) ts
+    token_role opens before (class_in s t) (text_of s t) (next_class s ts)
+    ∷ roles_beside s false (class_in s t) ts
 
 -- a class is that of words
 abbrev pub is_word_class : TokenClass → Bool
@@ -45,14 +46,16 @@ is_word_class _ = false
 abbrev pub label_roles : List ℕ → List Token → List Role
 label_roles s [] = []
 label_roles s (t ∷ ts) =
-    role.Stays ∷ (if is_word_class (class_in s t) then roles_beside s false class.Word ts else label_roles s ts)
+    role.Stays ∷ (if is_word_class (class_in s t)
+    then roles_beside s false class.Word ts else label_roles s ts)
 
 -- a class is that of `(`
 abbrev pub is_opening_class : TokenClass → Bool
 is_opening_class class.OpenParen = true
 is_opening_class _ = false
 
--- tokens behind another instruction word: a path may begin there, or behind a `(` of the instruction
+-- tokens behind another instruction word: a path may begin there, or behind a `(` of the
+-- instruction
 abbrev pub opening_roles : List ℕ → List Token → List Role
 opening_roles s [] = []
 opening_roles s (t ∷ ts) =
@@ -71,7 +74,8 @@ is_zone_end s t = is_word_class (class_in s t) && is_word_in_list zone_words (te
 abbrev pub closing_roles : List ℕ → List Token → List Role
 closing_roles s [] = []
 closing_roles s (t ∷ ts) =
-    token_role true class.CloseParen (class_in s t) (text_of s t) (next_class s ts) ∷ roles_beside s (is_zone_end s t) (class_in s t) ts
+    token_role true class.CloseParen (class_in s t) (text_of s t) (next_class s ts)
+    ∷ roles_beside s (is_zone_end s t) (class_in s t) ts
 
 -- a class is that of numbers
 abbrev pub is_number_class : TokenClass → Bool
@@ -107,7 +111,8 @@ abbrev pub statement_roles : List ℕ → List Token → List Role
 statement_roles s [] = []
 statement_roles s (t ∷ []) = instruction_roles s (t ∷ [])
 statement_roles s (t ∷ u ∷ ts) =
-    if is_word_class (class_in s t) && is_colon_class (class_in s u) then role.Stays ∷ role.Stays ∷ instruction_roles s ts
+    if is_word_class (class_in s t) && is_colon_class (class_in s u)
+    then role.Stays ∷ role.Stays ∷ instruction_roles s ts
     else instruction_roles s (t ∷ u ∷ ts)
 
 -- ---- where statements stand
@@ -129,7 +134,8 @@ HasNoSemicolon s (t ∷ ts) = (is_semicolon_class (class_in s t) ≡ false) × H
 
 -- what stands between statements of a body: titles and attributes, and the word of a network
 abbrev pub stands_between_statements : TokenClass → List ℕ → Bool
-stands_between_statements class.Word word = is_word_in_list network_words word && not (is_word_in_list block_end_words word)
+stands_between_statements class.Word word =
+    is_word_in_list network_words word && not (is_word_in_list block_end_words word)
 stands_between_statements c word = is_note_class c
 
 -- the word that ends a body
@@ -141,7 +147,8 @@ is_body_end c word = false
 abbrev pub begins_statement : List ℕ → List Token → Bool
 begins_statement s [] = true
 begins_statement s (t ∷ ts) =
-    not (stands_between_statements (class_in s t) (text_of s t)) && not (is_body_end (class_in s t) (text_of s t))
+    not (stands_between_statements (class_in s t) (text_of s t))
+    && not (is_body_end (class_in s t) (text_of s t))
 
 -- a word that opens a block or a body, where no `:` and no `.` stands before it
 abbrev pub is_keyword_of : List (List ℕ) → TokenClass → TokenClass → List ℕ → Bool
@@ -155,13 +162,16 @@ abbrev pub roles_from : List ℕ → TokenPlace → TokenClass → List Token �
 roles_from s p before [] = []
 roles_from s p before (t ∷ ts) =
     role_of p before (class_in s t) (text_of s t) (next_class s ts)
-    ∷ roles_from s (place_behind p before (class_in s t) (text_of s t) (next_class s ts)) (class_in s t) ts
+    ∷ roles_from s (place_behind p before (class_in s t) (text_of s t) (next_class s ts))
+    (class_in s t) ts
 
--- a statement of a body, up to its `;`, has the roles of the rule, and behind it the next one begins
+-- a statement of a body, up to its `;`, has the roles of the rule, and behind it the next one
+-- begins
 abbrev pub StatementsHaveRoles : Type 0
 StatementsHaveRoles =
     (s : List ℕ) (before : TokenClass) (inside : List Token) (semicolon : Token) (rest : List Token)
-    → begins_statement s (inside ++ semicolon ∷ []) ≡ true → HasNoSemicolon s inside → is_semicolon_class (class_in s semicolon) ≡ true
+    → begins_statement s (inside ++ semicolon ∷ []) ≡ true → HasNoSemicolon s inside
+    → is_semicolon_class (class_in s semicolon) ≡ true
     → roles_from s place.Start before (inside ++ semicolon ∷ rest)
     ≡ statement_roles s (inside ++ semicolon ∷ []) ++ roles_from s place.Start class.Semicolon rest
 
@@ -169,17 +179,22 @@ StatementsHaveRoles =
 pub record BodiesHaveRoles : Type 0 where
   -- a token between statements stays, and a statement may begin behind it
   pub between :
-      (s : List ℕ) (before : TokenClass) (t : Token) (rest : List Token) → stands_between_statements (class_in s t) (text_of s t) ≡ true
-      → roles_from s place.Start before (t ∷ rest) ≡ role.Stays ∷ roles_from s place.Start (class_in s t) rest
+      (s : List ℕ) (before : TokenClass) (t : Token) (rest : List Token)
+      → stands_between_statements (class_in s t) (text_of s t) ≡ true
+      → roles_from s place.Start before (t ∷ rest)
+      ≡ role.Stays ∷ roles_from s place.Start (class_in s t) rest
   -- the word that ends a body stays, and what is behind it stands outside of blocks
   pub ends :
-      (s : List ℕ) (before : TokenClass) (t : Token) (rest : List Token) → is_body_end (class_in s t) (text_of s t) ≡ true
-      → roles_from s place.Start before (t ∷ rest) ≡ role.Stays ∷ roles_from s place.Outside (class_in s t) rest
+      (s : List ℕ) (before : TokenClass) (t : Token) (rest : List Token)
+      → is_body_end (class_in s t) (text_of s t) ≡ true
+      → roles_from s place.Start before (t ∷ rest)
+      ≡ role.Stays ∷ roles_from s place.Outside (class_in s t) rest
 
 -- the place behind a token outside of blocks of statements: a word that opens such a block leads to
 -- its head
 abbrev pub place_outside : TokenClass → TokenClass → List ℕ → TokenPlace
-place_outside before c word = if is_keyword_of code_openings before c word then place.Head else place.Outside
+place_outside before c word =
+    if is_keyword_of code_openings before c word then place.Head else place.Outside
 
 -- the place behind a token of a block's head: a word that opens a body leads into it, and one that
 -- opens a block of data leads out of the head
@@ -194,9 +209,11 @@ pub record OthersStay : Type 0 where
   pub outside :
       (s : List ℕ) (before : TokenClass) (t : Token) (rest : List Token)
       → roles_from s place.Outside before (t ∷ rest)
-      ≡ role.Stays ∷ roles_from s (place_outside before (class_in s t) (text_of s t)) (class_in s t) rest
+      ≡ role.Stays ∷ roles_from s (place_outside before (class_in s t) (text_of s t))
+      (class_in s t) rest
   -- a token of a head stays; a word that opens a body or a block of data leads out of the head
   pub head :
       (s : List ℕ) (before : TokenClass) (t : Token) (rest : List Token)
       → roles_from s place.Head before (t ∷ rest)
-      ≡ role.Stays ∷ roles_from s (place_in_head before (class_in s t) (text_of s t)) (class_in s t) rest
+      ≡ role.Stays ∷ roles_from s (place_in_head before (class_in s t) (text_of s t))
+      (class_in s t) rest

@@ -1,5 +1,5 @@
-//! Laws of the translation between English and German mnemonics: which role each word has, and that a right
-//! source comes back with the same tree.
+//! Laws of the translation between English and German mnemonics: which role each word has, and that
+//! a right source comes back with the same tree.
 #![tactic(auto)]
 
 mod laws;

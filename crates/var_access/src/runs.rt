@@ -46,7 +46,7 @@ impl Run {
     }
 }
 
-// Adds an element to a list that has room for it. It is generic because the kit can't prove std's own
+// Adds an element to a list that has room for it. It is generic because no proof is found of std's own
 // call at a type that holds requests.
 fn push_reserved<T: Copy>(list: &mut Vec<T>, element: T)
     requires { vec_len list.old < vec_capacity list.old }

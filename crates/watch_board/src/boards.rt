@@ -176,7 +176,7 @@ impl Viewer {
         requires board { note.board ≡ self.old.board }
         ensures board { self.new.board ≡ self.old.board }
         ensures seen { IsPrefix self.old.list self.new.list }
-        ensures told { IsPrefix note.list self.new.list }
+        ensures known { IsPrefix note.list self.new.list }
     {
         self.last.take_in(&note.last);
     }

@@ -39,7 +39,7 @@ impl LastItem {
         requires board { other.now.prefix.board ≡ self.old.prefix.board }
         ensures board { self.new.prefix.board ≡ self.old.prefix.board }
         ensures seen { IsPrefix self.old.prefix.list self.new.prefix.list }
-        ensures told { IsPrefix other.now.prefix.list self.new.prefix.list }
+        ensures known { IsPrefix other.now.prefix.list self.new.prefix.list }
     {
         if self.prefix.is_shorter(&other.prefix) {
             *self = other.copied();

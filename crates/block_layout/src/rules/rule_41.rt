@@ -41,7 +41,7 @@ pub(crate) fn misfits(layouts: &[BlockLayout], value: &Literal, target: PathEnd)
     ensures { result ≡ misfits_component layouts.now value.now target }
 {
     match target {
-        PathEnd::Reaches { spot } => !fits_kind(value, elementary_at(layouts, spot)),
+        PathEnd::Reaches { component } => !fits_kind(value, elementary_at(layouts, component)),
         _ => false,
     }
 }

@@ -32,7 +32,7 @@ use Rattle.block_layout.specs.declared.cells.Element.TheVariants as element
 use Rattle.block_layout.specs.declared.members.Member.{Member}
 use Rattle.block_layout.specs.declared.walks.ComponentAt.{ComponentAt}
 use Rattle.block_layout.specs.declared.walks.PathEnd.{PathEnd}
-use Rattle.block_layout.specs.declared.walks.PathEnd.TheVariants as walk
+use Rattle.block_layout.specs.declared.walks.PathEnd.TheVariants as path_end
 use Rattle.stl_types.specs.Addresses.{address_in_block}
 use Rattle.stl_types.specs.Context.{Context, data_number, data_place, in_function}
 use Rattle.stl_types.specs.Parameters.{formal, formal_here, formal_of, formals_of}
@@ -142,7 +142,7 @@ module _ (c : Context) (own : in_function c ≡ true → AllByRecursion IsParame
   -- ---- walks stay in the parameters
 
   abbrev IsHere : PathEnd → Type 0
-  IsHere (walk.Reaches spot) = (spot.block ≡ c.block) × (spot.temporary ≡ false)
+  IsHere (path_end.Reaches component) = (component.block ≡ c.block) × (component.temporary ≡ false)
   IsHere _ = Unit {0}
 
   outermost_here : (name : List ℕ) → IsHere (outermost_path_end c.layouts c.block false 0 name)
@@ -151,132 +151,132 @@ module _ (c : Context) (own : in_function c ≡ true → AllByRecursion IsParame
     where
       at : (place offset : ℕ) (o : Option Cell) → IsHere (path_end_at_cell c.block false place offset o)
       at place offset None = tt
-      at place offset (Some cell) = either_way IsHere cell.sound _ walk.Rests (refl, refl) tt
+      at place offset (Some cell) = either_way IsHere cell.sound _ path_end.Unjudged (refl, refl) tt
 
       by : (o : Option Member) → IsHere (path_end_at_member (cells_at c.layouts c.block false) c.block false 0 0 o)
       by None = tt
       by (Some m) = at _ _ (slice_get (cells_at c.layouts c.block false) (0 + m.place))
 
   module _ (is : in_function c ≡ true) where
-    cell_at : (spot : ComponentAt) → (spot.block ≡ c.block) × (spot.temporary ≡ false) → (cell : Cell)
-        → slice_get (cells_at c.layouts spot.block spot.temporary) spot.place ≡ Some cell → slice_get (cells_at c.layouts c.block false) spot.place ≡ Some cell
-    cell_at spot h cell e =
-        ap (λ (b : ℕ). slice_get (cells_at c.layouts b false) spot.place) (sym h.0)
-        ∙ ap (λ (t : Bool). slice_get (cells_at c.layouts spot.block t) spot.place) (sym h.1) ∙ e
+    cell_at : (component : ComponentAt) → (component.block ≡ c.block) × (component.temporary ≡ false) → (cell : Cell)
+        → slice_get (cells_at c.layouts component.block component.temporary) component.place ≡ Some cell → slice_get (cells_at c.layouts c.block false) component.place ≡ Some cell
+    cell_at component h cell e =
+        ap (λ (b : ℕ). slice_get (cells_at c.layouts b false) component.place) (sym h.0)
+        ∙ ap (λ (t : Bool). slice_get (cells_at c.layouts component.block t) component.place) (sym h.1) ∙ e
 
-    plain_at : (spot : ComponentAt) → (spot.block ≡ c.block) × (spot.temporary ≡ false) → (cell : Cell)
-        → slice_get (cells_at c.layouts spot.block spot.temporary) spot.place ≡ Some cell → (kind : Simple) × (cell.of ≡ element.Plain kind)
-    plain_at spot h cell e = all_at (cells_at c.layouts c.block false) (own is) spot.place (cell_at spot h cell e)
+    plain_at : (component : ComponentAt) → (component.block ≡ c.block) × (component.temporary ≡ false) → (cell : Cell)
+        → slice_get (cells_at c.layouts component.block component.temporary) component.place ≡ Some cell → (kind : Simple) × (cell.of ≡ element.Plain kind)
+    plain_at component h cell e = all_at (cells_at c.layouts c.block false) (own is) component.place (cell_at component h cell e)
       where
         all_at : (cells : List Cell) → AllByRecursion IsParameterCell cells → (k : ℕ) → slice_get cells k ≡ Some cell → (kind : Simple) × (cell.of ≡ element.Plain kind)
         all_at [] h k e = absurd cc
         all_at (x ∷ cells) h zero e = (h.0.0, ap (λ (z : Cell). z.of) (sym (same_Some x cell e)) ∙ h.0.2)
         all_at (x ∷ cells) h (suc k) e = all_at cells h.1 k e
 
-    step_here : (spot : ComponentAt) (s : PathStep) → (spot.block ≡ c.block) × (spot.temporary ≡ false) → IsHere (path_end_by_step c.layouts spot s)
+    step_here : (component : ComponentAt) (s : PathStep) → (component.block ≡ c.block) × (component.temporary ≡ false) → IsHere (path_end_by_step c.layouts component s)
     unfolding path_end_by_step path_end_by_name path_end_by_index
-    step_here spot (step.Named name) h = by (slice_get (cells_at c.layouts spot.block spot.temporary) spot.place) refl
+    step_here component (step.Named name) h = by (slice_get (cells_at c.layouts component.block component.temporary) component.place) refl
       where
-        by : (o : Option Cell) → slice_get (cells_at c.layouts spot.block spot.temporary) spot.place ≡ o → IsHere (named_behind c.layouts spot name o)
+        by : (o : Option Cell) → slice_get (cells_at c.layouts component.block component.temporary) component.place ≡ o → IsHere (named_behind c.layouts component name o)
         by None e = tt
         by (Some cell) e =
-            let plain = plain_at spot h cell e in
-            subst (λ (x : Element). IsHere (if nat_eq spot.depth (length cell.bounds) then named_in c.layouts spot name cell x else walk.Unknown)) (sym plain.1)
-            (either_way IsHere (nat_eq spot.depth (length cell.bounds)) walk.Unknown walk.Unknown tt tt)
-    step_here spot (step.Index i) h = by (slice_get (cells_at c.layouts spot.block spot.temporary) spot.place)
+            let plain = plain_at component h cell e in
+            subst (λ (x : Element). IsHere (if nat_eq component.depth (length cell.bounds) then named_in c.layouts component name cell x else path_end.Unknown)) (sym plain.1)
+            (either_way IsHere (nat_eq component.depth (length cell.bounds)) path_end.Unknown path_end.Unknown tt tt)
+    step_here component (step.Index i) h = by (slice_get (cells_at c.layouts component.block component.temporary) component.place)
       where
-        at : (cell : Cell) (behind : List Cell) (o : Option Bounds) → IsHere (path_end_in_bounds spot cell behind i o)
+        at : (cell : Cell) (behind : List Cell) (o : Option Bounds) → IsHere (path_end_in_bounds component cell behind i o)
         at cell behind None = tt
         at cell behind (Some b) = either_way IsHere (is_beyond b i) _ _ h h
 
-        by : (o : Option Cell) → IsHere (indexed_behind spot (cells_at c.layouts spot.block spot.temporary) i o)
+        by : (o : Option Cell) → IsHere (indexed_behind component (cells_at c.layouts component.block component.temporary) i o)
         by None = tt
-        by (Some cell) = at cell _ (slice_get cell.bounds spot.depth)
+        by (Some cell) = at cell _ (slice_get cell.bounds component.depth)
 
-    walked_here : (spot : ComponentAt) (steps : List PathStep) → (spot.block ≡ c.block) × (spot.temporary ≡ false) → IsHere (path_end_behind c.layouts spot steps)
-    walked_here spot [] h = h
-    walked_here spot (s ∷ ss) h = by (path_end_by_step c.layouts spot s) (step_here spot s h) (λ next k. walked_here next ss k)
+    walked_here : (component : ComponentAt) (steps : List PathStep) → (component.block ≡ c.block) × (component.temporary ≡ false) → IsHere (path_end_behind c.layouts component steps)
+    walked_here component [] h = h
+    walked_here component (s ∷ ss) h = by (path_end_by_step c.layouts component s) (step_here component s h) (λ next k. walked_here next ss k)
       where
         by : (w : PathEnd) → IsHere w → ((next : ComponentAt) → (next.block ≡ c.block) × (next.temporary ≡ false) → IsHere (path_end_behind c.layouts next ss))
             → IsHere (path_end_and_then w (λ next. path_end_behind c.layouts next ss))
-        by (walk.Reaches next) h more = more next h
-        by walk.Unknown h more = tt
-        by walk.Rests h more = tt
+        by (path_end.Reaches next) h more = more next h
+        by path_end.Unknown h more = tt
+        by path_end.Unjudged h more = tt
 
     local_here : (name : List ℕ) (steps : List PathStep) → is_some (component_of_name 0 0 0 name (cells_at c.layouts c.block false)) ≡ true
         → IsHere (walked_local c.layouts c.block name steps)
     unfolding walked_local
     local_here name steps found =
-        either_way IsHere (is_some (whole_at c.layouts c.block)) (path_end_and_then (in_sections c.layouts c.block name) (λ spot. path_end_behind c.layouts spot steps)) walk.Rests
-        (subst (λ (t : Bool). IsHere (path_end_and_then (if t then outermost_path_end c.layouts c.block false 0 name else outermost_path_end c.layouts c.block true 0 name) (λ spot. path_end_behind c.layouts spot steps)))
+        either_way IsHere (is_some (whole_at c.layouts c.block)) (path_end_and_then (in_sections c.layouts c.block name) (λ component. path_end_behind c.layouts component steps)) path_end.Unjudged
+        (subst (λ (t : Bool). IsHere (path_end_and_then (if t then outermost_path_end c.layouts c.block false 0 name else outermost_path_end c.layouts c.block true 0 name) (λ component. path_end_behind c.layouts component steps)))
         (sym found) (by (outermost_path_end c.layouts c.block false 0 name) (outermost_here name))) tt
       where
-        by : (w : PathEnd) → IsHere w → IsHere (path_end_and_then w (λ spot. path_end_behind c.layouts spot steps))
-        by (walk.Reaches spot) h = walked_here spot steps h
-        by walk.Unknown h = tt
-        by walk.Rests h = tt
+        by : (w : PathEnd) → IsHere w → IsHere (path_end_and_then w (λ component. path_end_behind c.layouts component steps))
+        by (path_end.Reaches component) h = walked_here component steps h
+        by path_end.Unknown h = tt
+        by path_end.Unjudged h = tt
 
-    parameter_own : (spot : ComponentAt) (kind : Simple) → (spot.block ≡ c.block) × (spot.temporary ≡ false) → elementary_at c.layouts spot ≡ Some kind
-        → SeenOwn (parameter_at c spot kind)
-    parameter_own spot kind h e = by (slice_get (cells_at c.layouts c.block false) spot.place) refl
+    parameter_own : (component : ComponentAt) (kind : Simple) → (component.block ≡ c.block) × (component.temporary ≡ false) → elementary_at c.layouts component ≡ Some kind
+        → SeenOwn (parameter_at c component kind)
+    parameter_own component kind h e = by (slice_get (cells_at c.layouts c.block false) component.place) refl
       where
-        same : elementary_at c.layouts spot ≡ kind_of spot (slice_get (cells_at c.layouts c.block false) spot.place)
+        same : elementary_at c.layouts component ≡ kind_of component (slice_get (cells_at c.layouts c.block false) component.place)
         same =
-            ap (λ (b : ℕ). kind_of spot (slice_get (cells_at c.layouts b spot.temporary) spot.place)) h.0
-            ∙ ap (λ (t : Bool). kind_of spot (slice_get (cells_at c.layouts c.block t) spot.place)) h.1
+            ap (λ (b : ℕ). kind_of component (slice_get (cells_at c.layouts b component.temporary) component.place)) h.0
+            ∙ ap (λ (t : Bool). kind_of component (slice_get (cells_at c.layouts c.block t) component.place)) h.1
 
-        of_cell : (cell : Cell) → kind_of spot (Some cell) ≡ Some kind → plain_kind cell.of ≡ Some kind
-        of_cell cell e = one (nat_eq spot.depth (length cell.bounds)) e
+        of_cell : (cell : Cell) → kind_of component (Some cell) ≡ Some kind → plain_kind cell.of ≡ Some kind
+        of_cell cell e = one (nat_eq component.depth (length cell.bounds)) e
           where
             one : (t : Bool) → (if t then plain_kind cell.of else None) ≡ Some kind → plain_kind cell.of ≡ Some kind
             one true e = e
             one false e = absurd cc
 
-        by : (o : Option Cell) → slice_get (cells_at c.layouts c.block false) spot.place ≡ o
-            → SeenOwn (parameter_resolution (parameter_index (length (cells_at c.layouts c.block false)) spot.place (slice_get c.blocks c.block)) kind o)
+        by : (o : Option Cell) → slice_get (cells_at c.layouts c.block false) component.place ≡ o
+            → SeenOwn (parameter_resolution (parameter_index (length (cells_at c.layouts c.block false)) component.place (slice_get c.blocks c.block)) kind o)
         by None there = tt
         by (Some cell) there =
-            let f = cell_formal (cells_at c.layouts c.block false) (own is) spot.place cell there in
-            let is_kind : f.0.kind ≡ kind = same_Some f.0.kind kind (sym f.2 ∙ of_cell cell (sym (ap (kind_of spot) there) ∙ sym same ∙ e)) in (
+            let f = cell_formal (cells_at c.layouts c.block false) (own is) component.place cell there in
+            let is_kind : f.0.kind ≡ kind = same_Some f.0.kind kind (sym f.2 ∙ of_cell cell (sym (ap (kind_of component) there) ∙ sym same ∙ e)) in (
               f.0,
-              in_order_at (slice_get c.blocks c.block) (formals_of (cells_at c.layouts c.block false)) (length (cells_at c.layouts c.block false)) spot.place f.0
+              in_order_at (slice_get c.blocks c.block) (formals_of (cells_at c.layouts c.block false)) (length (cells_at c.layouts c.block false)) component.place f.0
                   (formals_long (cells_at c.layouts c.block false) (own is)) f.1,
               is_kind,
               f.3,
             )
 
     function_own : (w : PathEnd) → IsHere w → SeenOwn (own_walked c false w)
-    function_own walk.Unknown h = tt
-    function_own walk.Rests h = tt
-    function_own (walk.Reaches spot) h = by (elementary_at c.layouts spot) refl
+    function_own path_end.Unknown h = tt
+    function_own path_end.Unjudged h = tt
+    function_own (path_end.Reaches component) h = by (elementary_at c.layouts component) refl
       where
-        by : (o : Option Simple) → elementary_at c.layouts spot ≡ o → SeenOwn (own_at c false spot o)
-        by None e = composite_own (slice_get (cells_at c.layouts spot.block spot.temporary) spot.place)
+        by : (o : Option Simple) → elementary_at c.layouts component ≡ o → SeenOwn (own_at c false component o)
+        by None e = composite_own (slice_get (cells_at c.layouts component.block component.temporary) component.place)
         by (Some kind) e =
-            either_way SeenOwn (in_function c) (parameter_at c spot kind) (variable_in_area kind (elementary_place area.Di 0 spot.offset (Some kind)))
-            (parameter_own spot kind h e) (in_area_own kind area.Di 0 spot.offset)
+            either_way SeenOwn (in_function c) (parameter_at c component kind) (variable_in_area kind (elementary_place area.Di 0 component.offset (Some kind)))
+            (parameter_own component kind h e) (in_area_own kind area.Di 0 component.offset)
 
   -- ---- what is seen
 
   elsewhere_own : (w : PathEnd) → SeenOwn (own_walked c true w)
-  elsewhere_own walk.Unknown = tt
-  elsewhere_own walk.Rests = tt
-  elsewhere_own (walk.Reaches spot) = by (elementary_at c.layouts spot)
+  elsewhere_own path_end.Unknown = tt
+  elsewhere_own path_end.Unjudged = tt
+  elsewhere_own (path_end.Reaches component) = by (elementary_at c.layouts component)
     where
-      by : (o : Option Simple) → SeenOwn (own_at c true spot o)
-      by None = composite_own (slice_get (cells_at c.layouts spot.block spot.temporary) spot.place)
-      by (Some kind) = in_area_own kind area.L 0 spot.offset
+      by : (o : Option Simple) → SeenOwn (own_at c true component o)
+      by None = composite_own (slice_get (cells_at c.layouts component.block component.temporary) component.place)
+      by (Some kind) = in_area_own kind area.L 0 component.offset
 
   instance_own : in_function c ≡ false → (w : PathEnd) → SeenOwn (own_walked c false w)
-  instance_own other walk.Unknown = tt
-  instance_own other walk.Rests = tt
-  instance_own other (walk.Reaches spot) = by (elementary_at c.layouts spot)
+  instance_own other path_end.Unknown = tt
+  instance_own other path_end.Unjudged = tt
+  instance_own other (path_end.Reaches component) = by (elementary_at c.layouts component)
     where
-      by : (o : Option Simple) → SeenOwn (own_at c false spot o)
-      by None = composite_own (slice_get (cells_at c.layouts spot.block spot.temporary) spot.place)
+      by : (o : Option Simple) → SeenOwn (own_at c false component o)
+      by None = composite_own (slice_get (cells_at c.layouts component.block component.temporary) component.place)
       by (Some kind) =
-          subst (λ (t : Bool). SeenOwn (if t then parameter_at c spot kind else variable_in_area kind (elementary_place area.Di 0 spot.offset (Some kind)))) (sym other)
-          (in_area_own kind area.Di 0 spot.offset)
+          subst (λ (t : Bool). SeenOwn (if t then parameter_at c component kind else variable_in_area kind (elementary_place area.Di 0 component.offset (Some kind)))) (sym other)
+          (in_area_own kind area.Di 0 component.offset)
 
   variable_own : (name : List ℕ) (steps : List PathStep) → SeenOwn (own_variable c name steps)
   variable_own name steps = by (is_some (component_of_name 0 0 0 name (cells_at c.layouts c.block false))) refl (in_function c) refl
@@ -288,13 +288,13 @@ module _ (c : Context) (own : in_function c ≡ true → AllByRecursion IsParame
       by true found false is = instance_own is (walked_local c.layouts c.block name steps)
 
   data_walk_own : (n : ℕ) (w : PathEnd) → SeenOwn (data_walked c n w)
-  data_walk_own n walk.Unknown = tt
-  data_walk_own n walk.Rests = tt
-  data_walk_own n (walk.Reaches spot) = at (elementary_at c.layouts spot)
+  data_walk_own n path_end.Unknown = tt
+  data_walk_own n path_end.Unjudged = tt
+  data_walk_own n (path_end.Reaches component) = at (elementary_at c.layouts component)
     where
-      at : (kind : Option Simple) → SeenOwn (data_at c n spot kind)
-      at None = composite_own (slice_get (cells_at c.layouts spot.block spot.temporary) spot.place)
-      at (Some kind) = in_area_own kind area.Db n spot.offset
+      at : (kind : Option Simple) → SeenOwn (data_at c n component kind)
+      at None = composite_own (slice_get (cells_at c.layouts component.block component.temporary) component.place)
+      at (Some kind) = in_area_own kind area.Db n component.offset
 
   data_own : (name : BlockName) (steps : List PathStep) → SeenOwn (data_variable c name steps)
   data_own name steps = by (data_number c name) (data_place c name)
@@ -373,17 +373,17 @@ no_composite (Some cell) = of_ cell.of
 no_parameter : (c : Context) → in_function c ≡ false → (name : List ℕ) (steps : List PathStep) → NoParameter (own_variable c name steps)
 no_parameter c other name steps = by (not (is_some (component_of_name 0 0 0 name (cells_at c.layouts c.block false)))) (walked_local c.layouts c.block name steps)
   where
-    at : (temporary : Bool) (spot : ComponentAt) (o : Option Simple) → NoParameter (own_at c temporary spot o)
-    at temporary spot None = no_composite (slice_get (cells_at c.layouts spot.block spot.temporary) spot.place)
-    at true spot (Some kind) = no_area kind area.L 0 spot.offset
-    at false spot (Some kind) =
-        subst (λ (t : Bool). NoParameter (if t then parameter_at c spot kind else variable_in_area kind (elementary_place area.Di 0 spot.offset (Some kind)))) (sym other)
-        (no_area kind area.Di 0 spot.offset)
+    at : (temporary : Bool) (component : ComponentAt) (o : Option Simple) → NoParameter (own_at c temporary component o)
+    at temporary component None = no_composite (slice_get (cells_at c.layouts component.block component.temporary) component.place)
+    at true component (Some kind) = no_area kind area.L 0 component.offset
+    at false component (Some kind) =
+        subst (λ (t : Bool). NoParameter (if t then parameter_at c component kind else variable_in_area kind (elementary_place area.Di 0 component.offset (Some kind)))) (sym other)
+        (no_area kind area.Di 0 component.offset)
 
     by : (temporary : Bool) (w : PathEnd) → NoParameter (own_walked c temporary w)
-    by temporary (walk.Reaches spot) = at temporary spot (elementary_at c.layouts spot)
-    by temporary walk.Unknown = tt
-    by temporary walk.Rests = tt
+    by temporary (path_end.Reaches component) = at temporary component (elementary_at c.layouts component)
+    by temporary path_end.Unknown = tt
+    by temporary path_end.Unjudged = tt
 
 pub own_seen : AreOwnSeen
 own_seen c own o index section kind e =

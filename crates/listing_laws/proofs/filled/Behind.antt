@@ -23,7 +23,7 @@ use Rattle.block_layout.specs.declared.cells.Element.TheVariants.{DateAndTime, P
 use Rattle.block_layout.specs.declared.members.Member.{Member}
 use Rattle.block_layout.specs.declared.walks.ComponentAt.{ComponentAt}
 use Rattle.block_layout.specs.declared.walks.PathEnd.{PathEnd}
-use Rattle.block_layout.specs.declared.walks.PathEnd.TheVariants as walk
+use Rattle.block_layout.specs.declared.walks.PathEnd.TheVariants as path_end
 use Rattle.sem_kept.proofs.accepted.Accepted.{all_mapped}
 use Rattle.block_layout.proofs.OffsetLemmas.{Grows, step_grows}
 
@@ -92,7 +92,7 @@ abbrev pub StartBehind : (low : ℕ) → List ℕ → Type 0
 StartBehind low starts = AllByRecursion (λ s. low ≤ s) starts
 
 abbrev pub LeadsBehind : (low : ℕ) → PathEnd → Type 0
-LeadsBehind low (walk.Reaches spot) = low ≤ spot.offset
+LeadsBehind low (path_end.Reaches component) = low ≤ component.offset
 LeadsBehind low _ = Unit {0}
 
 -- cells of which the first begins there
@@ -195,7 +195,7 @@ module _ (low : ℕ) (near : low ≤ largest_size) where
   entered_behind block temporary place offset None h = tt
   entered_behind block temporary place offset (Some c) h = by c.sound
     where
-      by : (t : Bool) → LeadsBehind low (if t then walk.Reaches (record { block = block; temporary = temporary; place = place; depth = 0; offset = offset }) else walk.Rests)
+      by : (t : Bool) → LeadsBehind low (if t then path_end.Reaches (record { block = block; temporary = temporary; place = place; depth = 0; offset = offset }) else path_end.Unjudged)
       by true = h
       by false = tt
 
@@ -204,66 +204,66 @@ module _ (low : ℕ) (near : low ≤ largest_size) where
   found_behind cells block temporary first offset (Some m) h =
       entered_behind block temporary (first + m.place) (capped_size (offset + capped_size m.offset)) (slice_get cells (first + m.place)) (capped_behind (offset + capped_size m.offset) (omega (arith, h)))
 
-  names_behind : (l : List BlockLayout) (spot : ComponentAt) (name : List ℕ) → low ≤ spot.offset → LeadsBehind low (path_end_by_name l spot name)
+  names_behind : (l : List BlockLayout) (component : ComponentAt) (name : List ℕ) → low ≤ component.offset → LeadsBehind low (path_end_by_name l component name)
   unfolding path_end_by_name outermost_path_end
-  names_behind l spot name h = by (slice_get (cells_at l spot.block spot.temporary) spot.place)
+  names_behind l component name h = by (slice_get (cells_at l component.block component.temporary) component.place)
     where
-      of_element : (c : Cell) (of : Element) → LeadsBehind low (named_in l spot name c of)
+      of_element : (c : Cell) (of : Element) → LeadsBehind low (named_in l component name c of)
       of_element c Structure =
-          found_behind (cells_at l spot.block spot.temporary) spot.block spot.temporary (spot.place + 1) spot.offset
-          (component_of_name (c.level + 1) 0 0 name (drop (spot.place + 1) (cells_at l spot.block spot.temporary))) h
-      of_element c (Udt block bits) = found_behind (cells_at l block false) block false 0 spot.offset (component_of_name 0 0 0 name (cells_at l block false)) h
+          found_behind (cells_at l component.block component.temporary) component.block component.temporary (component.place + 1) component.offset
+          (component_of_name (c.level + 1) 0 0 name (drop (component.place + 1) (cells_at l component.block component.temporary))) h
+      of_element c (Udt block bits) = found_behind (cells_at l block false) block false 0 component.offset (component_of_name 0 0 0 name (cells_at l block false)) h
       of_element c (Plain kind) = tt
       of_element c DateAndTime = tt
       of_element c Unknown = tt
 
-      whole : (c : Cell) (t : Bool) → LeadsBehind low (if t then named_in l spot name c c.of else walk.Unknown)
+      whole : (c : Cell) (t : Bool) → LeadsBehind low (if t then named_in l component name c c.of else path_end.Unknown)
       whole c true = of_element c c.of
       whole c false = tt
 
-      by : (o : Option Cell) → LeadsBehind low (named_behind l spot name o)
+      by : (o : Option Cell) → LeadsBehind low (named_behind l component name o)
       by None = tt
-      by (Some c) = whole c (nat_eq spot.depth (length c.bounds))
+      by (Some c) = whole c (nat_eq component.depth (length c.bounds))
 
-  index_behind : (l : List BlockLayout) (spot : ComponentAt) (at : ℤ) → low ≤ spot.offset → LeadsBehind low (path_end_by_index l spot at)
+  index_behind : (l : List BlockLayout) (component : ComponentAt) (at : ℤ) → low ≤ component.offset → LeadsBehind low (path_end_by_index l component at)
   unfolding path_end_by_index
-  index_behind l spot at h = by (slice_get (cells_at l spot.block spot.temporary) spot.place)
+  index_behind l component at h = by (slice_get (cells_at l component.block component.temporary) component.place)
     where
-      reaches : (t : Bool) (further : ℕ) → LeadsBehind low (if t then walk.Reaches (record spot { depth = spot.depth + 1 })
-          else walk.Reaches (record spot { depth = spot.depth + 1; offset = capped_size (spot.offset + capped_size further) }))
+      reaches : (t : Bool) (further : ℕ) → LeadsBehind low (if t then path_end.Reaches (record component { depth = component.depth + 1 })
+          else path_end.Reaches (record component { depth = component.depth + 1; offset = capped_size (component.offset + capped_size further) }))
       reaches true further = h
-      reaches false further = capped_behind (spot.offset + capped_size further) (omega (arith, h))
+      reaches false further = capped_behind (component.offset + capped_size further) (omega (arith, h))
 
-      inside : (c : Cell) (behind : List Cell) (o : Option Bounds) → LeadsBehind low (path_end_in_bounds spot c behind at o)
+      inside : (c : Cell) (behind : List Cell) (o : Option Bounds) → LeadsBehind low (path_end_in_bounds component c behind at o)
       inside c behind None = tt
       inside c behind (Some b) = reaches (is_beyond b at) _
 
-      by : (o : Option Cell) → LeadsBehind low (indexed_behind spot (cells_at l spot.block spot.temporary) at o)
+      by : (o : Option Cell) → LeadsBehind low (indexed_behind component (cells_at l component.block component.temporary) at o)
       by None = tt
-      by (Some c) = inside c (drop (spot.place + 1) (cells_at l spot.block spot.temporary)) (slice_get c.bounds spot.depth)
+      by (Some c) = inside c (drop (component.place + 1) (cells_at l component.block component.temporary)) (slice_get c.bounds component.depth)
 
-  step_behind : (l : List BlockLayout) (spot : ComponentAt) (s : PathStep) → low ≤ spot.offset → LeadsBehind low (path_end_by_step l spot s)
+  step_behind : (l : List BlockLayout) (component : ComponentAt) (s : PathStep) → low ≤ component.offset → LeadsBehind low (path_end_by_step l component s)
   unfolding path_end_by_step
-  step_behind l spot (step.Named name) h = names_behind l spot name h
-  step_behind l spot (step.Index at) h = index_behind l spot at h
+  step_behind l component (step.Named name) h = names_behind l component name h
+  step_behind l component (step.Index at) h = index_behind l component at h
 
-  pub path_behind : (l : List BlockLayout) (spot : ComponentAt) (ss : List PathStep) → low ≤ spot.offset → LeadsBehind low (path_end_behind l spot ss)
-  path_behind l spot [] h = h
-  path_behind l spot (s ∷ ss) h = by (path_end_by_step l spot s) (step_behind l spot s h) (λ next k. path_behind l next ss k)
+  pub path_behind : (l : List BlockLayout) (component : ComponentAt) (ss : List PathStep) → low ≤ component.offset → LeadsBehind low (path_end_behind l component ss)
+  path_behind l component [] h = h
+  path_behind l component (s ∷ ss) h = by (path_end_by_step l component s) (step_behind l component s h) (λ next k. path_behind l next ss k)
     where
       by : (e : PathEnd) → LeadsBehind low e → ((next : ComponentAt) → low ≤ next.offset → LeadsBehind low (path_end_behind l next ss)) → LeadsBehind low (path_end_and_then e (λ next. path_end_behind l next ss))
-      by (walk.Reaches next) k more = more next k
-      by walk.Unknown k more = tt
-      by walk.Rests k more = tt
+      by (path_end.Reaches next) k more = more next k
+      by path_end.Unknown k more = tt
+      by path_end.Unjudged k more = tt
 
   pub write_behind : (l : List BlockLayout) (value : Literal) (e : PathEnd) → LeadsBehind low e → Behind low (setting_write l value e)
-  write_behind l value (walk.Reaches spot) h = by (elementary_at l spot)
+  write_behind l value (path_end.Reaches component) h = by (elementary_at l component)
     where
-      by : (o : Option Simple) → Behind low (write_of spot.offset (bits_of value) o)
+      by : (o : Option Simple) → Behind low (write_of component.offset (bits_of value) o)
       by None = tt
       by (Some kind) = (h, tt)
-  write_behind l value walk.Unknown h = tt
-  write_behind l value walk.Rests h = tt
+  write_behind l value path_end.Unknown h = tt
+  write_behind l value path_end.Unjudged h = tt
 
   component_behind : (at place : ℕ) (name : List ℕ) (cells : List Cell) (m : Member) → at ≤ largest_size → low ≤ at → component_of_name 0 at place name cells ≡ Some m → low ≤ m.offset
   unfolding component_of_name

@@ -15,7 +15,7 @@ use Rattle.stl_ast.specs.declared.blocks.Tree.{Tree}
 use Rattle.stl_symbols.specs.Symbol.{Symbol}
 use Rattle.block_layout.specs.InitialBytes.{Write, initial_bytes, setting_write, setting_writes, settings_at, structure_writes, type_writes, writes_from}
 use Rattle.block_layout.specs.Layouts.{layouts_of}
-use Rattle.block_layout.specs.Paths.{cells_at, cells_in, folded_path, shape_block, structure_of, path_end_in_data_block, path_end_or_rests}
+use Rattle.block_layout.specs.Paths.{cells_at, cells_in, folded_path, shape_block, structure_of, path_end_in_data_block, path_end_or_unjudged}
 use Rattle.block_layout.specs.Rebuilt.{OneReaches, Reaches, bit_in}
 use Rattle.block_layout.specs.Sizes.{alignment, element_alignment, components_end, largest_size, structure_bits, next_multiple}
 use Rattle.block_layout.specs.declared.blocks.BlockLayout.{BlockLayout}
@@ -104,9 +104,9 @@ all_settings : (P : Write → Type 0) (l : List BlockLayout) (k : ℕ) → ((s :
 all_settings P l k each [] = tt
 all_settings P l k each (s ∷ ss) = all_append P (setting_write l s.value (path_end_in_data_block l k (folded_path s.path))) (setting_writes l k ss) (each s) (all_settings P l k each ss)
 
-data_walk : (l : List BlockLayout) (k q : ℕ) → structure_of l k ≡ Some q → (s : Setting) → path_end_in_data_block l k (folded_path s.path) ≡ path_end_or_rests l (Some q) (folded_path s.path)
+data_walk : (l : List BlockLayout) (k q : ℕ) → structure_of l k ≡ Some q → (s : Setting) → path_end_in_data_block l k (folded_path s.path) ≡ path_end_or_unjudged l (Some q) (folded_path s.path)
 unfolding path_end_in_data_block
-data_walk l k q e s = ap (λ o. path_end_or_rests l o (folded_path s.path)) e
+data_walk l k q e s = ap (λ o. path_end_or_unjudged l o (folded_path s.path)) e
 
 -- all that an instance is written from lies in the parameters or behind them
 all_in : (l : List BlockLayout) (blocks : List Block) (k q start : ℕ) (first rest : List Cell) (ps : List Param) → structure_of l k ≡ Some q → cells_at l q false ≡ first ++ rest

@@ -24,13 +24,13 @@ use Rattle.block_layout.specs.declared.cells.Element.TheVariants.{Plain}
 use Rattle.block_layout.specs.declared.members.Member.{Member}
 use Rattle.block_layout.specs.declared.walks.ComponentAt.{ComponentAt}
 use Rattle.block_layout.specs.declared.walks.PathEnd.{PathEnd}
-use Rattle.block_layout.specs.declared.walks.PathEnd.TheVariants as walk
+use Rattle.block_layout.specs.declared.walks.PathEnd.TheVariants as path_end
 use Rattle.block_layout.proofs.AlignmentLemmas.{here_within}
 use Rattle.sem_kept.proofs.accepted.RecordParams.{end_step, found_here, never_less, passed_by, past_behind}
 use Rattle.listing_laws.proofs.declared.Placed.{AreSame, Finds, align, alignment_is, bits_is, finds_later, next, plain_width, stepped_is}
 use Rattle.listing_laws.proofs.filled.Behind.{Behind, FirstBehind, LeadsBehind, entered_behind, path_behind, rest_component, rest_writes, write_behind}
 use Rattle.listing_laws.proofs.filled.Reached.{reach_behind, same_reach}
-use Rattle.listing_laws.proofs.filled.Spots.{entered_sound, kind_there, named_here, no_step, outer_spot}
+use Rattle.listing_laws.proofs.filled.Components.{entered_sound, kind_there, named_here, no_step, outer_component}
 
 some_same : (m n : Member) → Some m ≡ Some n → m ≡ n
 some_same m n e = cc
@@ -292,31 +292,31 @@ module _ (l : List BlockLayout) (start : ℕ) (near : 8 * start ≤ largest_size
       cells : List Cell
       cells = cells_at l block false
 
-      behind : (e : PathEnd) → LeadsBehind (8 * start) e → AllByRecursion (IsIn ps start) (setting_write l value (path_end_and_then e (λ spot. path_end_behind l spot ss)))
-      behind (walk.Reaches spot) k = all_behind ps start (setting_write l value (path_end_behind l spot ss)) (write_behind (8 * start) near l value (path_end_behind l spot ss) (path_behind (8 * start) near l spot ss k))
-      behind walk.Unknown k = tt
-      behind walk.Rests k = tt
+      behind : (e : PathEnd) → LeadsBehind (8 * start) e → AllByRecursion (IsIn ps start) (setting_write l value (path_end_and_then e (λ component. path_end_behind l component ss)))
+      behind (path_end.Reaches component) k = all_behind ps start (setting_write l value (path_end_behind l component ss)) (write_behind (8 * start) near l value (path_end_behind l component ss) (path_behind (8 * start) near l component ss k))
+      behind path_end.Unknown k = tt
+      behind path_end.Unjudged k = tt
 
       low : (m : Member) → 8 * start ≤ m.offset → 8 * start ≤ capped_size (0 + capped_size m.offset)
       low m k = omega (arith, near, k)
 
-      at_parameter : (spot : ComponentAt) (c : Cell) (kind : Simple) → slice_get (cells_at l spot.block spot.temporary) spot.place ≡ Some c → spot.depth ≡ 0 → IsElementary c kind
-          → ((w : Write) → w.offset ≡ spot.offset → w.width ≡ plain_bits kind → IsIn ps start w) → (steps : List PathStep)
-          → AllByRecursion (IsIn ps start) (setting_write l value (path_end_behind l spot steps))
-      at_parameter spot c kind there depth is each [] =
-          subst (λ o. AllByRecursion (IsIn ps start) (write_of spot.offset (bits_of value) o)) (sym (kind_there l spot c kind there is depth))
-          (each (record { offset = spot.offset; width = plain_bits kind; value = bits_of value }) refl refl, tt)
-      at_parameter spot c kind there depth is each (s ∷ steps) =
-          subst (λ e. AllByRecursion (IsIn ps start) (setting_write l value (path_end_and_then e (λ next. path_end_behind l next steps)))) (sym (no_step l spot c kind there is s)) tt
+      at_parameter : (component : ComponentAt) (c : Cell) (kind : Simple) → slice_get (cells_at l component.block component.temporary) component.place ≡ Some c → component.depth ≡ 0 → IsElementary c kind
+          → ((w : Write) → w.offset ≡ component.offset → w.width ≡ plain_bits kind → IsIn ps start w) → (steps : List PathStep)
+          → AllByRecursion (IsIn ps start) (setting_write l value (path_end_behind l component steps))
+      at_parameter component c kind there depth is each [] =
+          subst (λ o. AllByRecursion (IsIn ps start) (write_of component.offset (bits_of value) o)) (sym (kind_there l component c kind there is depth))
+          (each (record { offset = component.offset; width = plain_bits kind; value = bits_of value }) refl refl, tt)
+      at_parameter component c kind there depth is each (s ∷ steps) =
+          subst (λ e. AllByRecursion (IsIn ps start) (setting_write l value (path_end_and_then e (λ next. path_end_behind l next steps)))) (sym (no_step l component c kind there is s)) tt
 
-      lies : (m : Member) → IsFound ps 0 (cs ++ rest) m → AllByRecursion (IsIn ps start) (setting_write l value (path_end_and_then (path_end_at_member cells block false 0 0 (Some m)) (λ spot. path_end_behind l spot ss)))
+      lies : (m : Member) → IsFound ps 0 (cs ++ rest) m → AllByRecursion (IsIn ps start) (setting_write l value (path_end_and_then (path_end_at_member cells block false 0 0 (Some m)) (λ component. path_end_behind l component ss)))
       lies m (Other k) = behind (path_end_at_member cells block false 0 0 (Some m)) (entered_behind (8 * start) near block false (0 + m.place) (capped_size (0 + capped_size m.offset)) (slice_get cells (0 + m.place)) (low m k))
       lies m (Parameter k c kind at there is few each) =
           let here : slice_get cells k ≡ Some c = ap (λ cells. slice_get cells k) are ∙ there in
           let place : m.place ≡ k = omega (arith, at) in
-          subst (λ e. AllByRecursion (IsIn ps start) (setting_write l value (path_end_and_then e (λ spot. path_end_behind l spot ss)))) (sym (entered_sound cells block k m c place here is.sound few))
-          (at_parameter (outer_spot block k m.offset) c kind here refl is each ss)
+          subst (λ e. AllByRecursion (IsIn ps start) (setting_write l value (path_end_and_then e (λ component. path_end_behind l component ss)))) (sym (entered_sound cells block k m c place here is.sound few))
+          (at_parameter (outer_component block k m.offset) c kind here refl is each ss)
 
-      by : (o : Option Member) → component_of_name 0 0 0 name cells ≡ o → AllByRecursion (IsIn ps start) (setting_write l value (path_end_and_then (path_end_at_member cells block false 0 0 o) (λ spot. path_end_behind l spot ss)))
+      by : (o : Option Member) → component_of_name 0 0 0 name cells ≡ o → AllByRecursion (IsIn ps start) (setting_write l value (path_end_and_then (path_end_at_member cells block false 0 0 o) (λ component. path_end_behind l component ss)))
       by None e = tt
       by (Some m) e = lies m (name_found 0 0 cs rest ps name m h (omega arith) short first (ap (component_of_name 0 0 0 name) (sym are) ∙ e))

@@ -53,7 +53,7 @@ right_setting : (l : List BlockLayout) (k : ℕ) (bytes : List ℕ) (s : Setting
     → w.offset ≡ offset → w.width ≡ plain_bits kind → w.value ≡ bits_of s.value → IsTrueOf bytes w → IsRight l k bytes s
 right_setting l k bytes s offset kind w leads fit at wide value true_of = record {
   write = w;
-  alone = ap (setting_write l s.value) leads.leads ∙ ap (write_of leads.spot.offset (bits_of s.value)) leads.of_kind
+  alone = ap (setting_write l s.value) leads.leads ∙ ap (write_of leads.component.offset (bits_of s.value)) leads.of_kind
       ∙ (λ i. record { offset = (leads.at ∙ sym at) i; width = sym wide i; value = sym value i } ∷ []);
   true_of = true_of;
   known = ap leads_nowhere leads.leads;
@@ -133,7 +133,7 @@ module _ (l : List BlockLayout) (k line : ℕ) (bytes : List ℕ) (are : AllByRe
       by false e =
           let s = parameter_setting line f value in
           reached_alone l k j i s (value_write bytes p)
-          (ap (setting_write l s.value) lead.leads ∙ ap (write_of lead.spot.offset (bits_of s.value)) lead.of_kind
+          (ap (setting_write l s.value) lead.leads ∙ ap (write_of lead.component.offset (bits_of s.value)) lead.of_kind
           ∙ (λ n. record { offset = lead.at n; width = (plain_width f.kind ∙ ap bit_count h.wide) n; value = value_bits bytes are f.kind p h.listed h.wide n } ∷ []))
           (same_reach (bare p) (value_write bytes p) j i refl refl r)
 
@@ -210,7 +210,7 @@ module _ (l : List BlockLayout) (k line : ℕ) (bytes : List ℕ) (are : AllByRe
           let lead = leads n less in
           let s = byte_setting line n (byte_at bytes (start + n)) in
           reached_alone l k j i s (byte_write start n)
-          (ap (setting_write l s.value) lead.leads ∙ ap (write_of lead.spot.offset (bits_of s.value)) lead.of_kind
+          (ap (setting_write l s.value) lead.leads ∙ ap (write_of lead.component.offset (bits_of s.value)) lead.of_kind
           ∙ (λ m. record { offset = lead.at m; width = 8; value = byte_bits (byte_at bytes (start + n)) m } ∷ []))
           (InBytes refl (omega (arith, at)) (omega (arith, at)))
 

@@ -14,13 +14,13 @@ use Rattle.stl_ast.specs.declared.declarations.Simple.{Simple}
 use Rattle.stl_ast.specs.declared.declarations.Simple.TheVariants as simple
 use Rattle.block_layout.specs.Listed.{CellNamesDiffer, IsElementary}
 use Rattle.block_layout.specs.Members.{component_of_name}
-use Rattle.block_layout.specs.Paths.{cells_at, elementary_at, path_end_at_member, holds_where_reached, path_end_and_then, path_end_by_index, indexed_behind, is_beyond, is_beyond_in, is_checkable, kind_of, leaves_array, leaves_structure, outermost_path_end, setting_structure, path_end_by_step, structure_of, path_end_behind, path_end_in_data_block, path_end_in_block, path_end_or_rests, path_end_of_setting}
+use Rattle.block_layout.specs.Paths.{cells_at, elementary_at, path_end_at_member, holds_where_reached, path_end_and_then, path_end_by_index, indexed_behind, is_beyond, is_beyond_in, is_checkable, kind_of, leaves_array, leaves_structure, outermost_path_end, setting_structure, path_end_by_step, structure_of, path_end_behind, path_end_in_data_block, path_end_in_block, path_end_or_unjudged, path_end_of_setting}
 use Rattle.block_layout.specs.Sizes.{alignment, capped_size, cell_bits, element_alignment, element_of, components_end, largest_size, next_multiple}
 use Rattle.block_layout.specs.declared.blocks.BlockLayout.{BlockLayout}
 use Rattle.block_layout.specs.declared.cells.Cell.{Cell}
 use Rattle.block_layout.specs.declared.members.Member.{Member}
 use Rattle.block_layout.specs.declared.walks.ComponentAt.{ComponentAt}
-use Rattle.block_layout.specs.declared.walks.PathEnd.TheVariants as walk
+use Rattle.block_layout.specs.declared.walks.PathEnd.TheVariants as path_end
 use Rattle.stl_types.specs.declared.parameters.Formal.{Formal}
 use Rattle.stl_list.specs.Sections.{static_name}
 use Rattle.block_layout.proofs.AlignmentLemmas.{here_within}
@@ -29,15 +29,15 @@ use Rattle.listing_laws.proofs.declared.Cells.{byte_cell}
 use Rattle.listing_laws.proofs.declared.Kept.{AreCellsOf}
 use Rattle.listing_laws.proofs.declared.Placed.{AreNamed}
 use Rattle.listing_laws.proofs.filled.Params.{ArePlaced, end_past, past_any, past_cell, past_near}
-use Rattle.listing_laws.proofs.filled.Spots.{entered_sound, kind_there, outer_spot}
+use Rattle.listing_laws.proofs.filled.Components.{entered_sound, kind_there, outer_component}
 
 -- a path of the data block at a place leads to an elementary component so many bits from the start, and leaves no array on the way
 pub record LeadsTo (l : List BlockLayout) (k : ℕ) (path : List PathStep) (offset : ℕ) (kind : Simple) : Type 0 where
-  pub spot : ComponentAt
-  pub leads : path_end_in_data_block l k path ≡ walk.Reaches spot
-  pub sets : path_end_of_setting l k path ≡ walk.Reaches spot
-  pub at : spot.offset ≡ offset
-  pub of_kind : elementary_at l spot ≡ Some kind
+  pub component : ComponentAt
+  pub leads : path_end_in_data_block l k path ≡ path_end.Reaches component
+  pub sets : path_end_of_setting l k path ≡ path_end.Reaches component
+  pub at : component.offset ≡ offset
+  pub of_kind : elementary_at l component ≡ Some kind
   pub inside : leaves_structure l (setting_structure l k) path ≡ false
 
 -- so do the names of parameters
@@ -99,14 +99,14 @@ module _ (l : List BlockLayout) (k q : ℕ) (structure : structure_of l k ≡ So
   -- a path is one among the components of the structure
   data_walk : (path : List PathStep) → path_end_in_data_block l k path ≡ path_end_in_block l q false path
   unfolding path_end_in_data_block
-  data_walk path = ap (λ o. path_end_or_rests l o path) structure
+  data_walk path = ap (λ o. path_end_or_unjudged l o path) structure
 
   setting_walk : (path : List PathStep) → path_end_of_setting l k path ≡ path_end_in_block l q false path
   unfolding path_end_of_setting
-  setting_walk path = ap (λ o. path_end_or_rests l o path) setting
+  setting_walk path = ap (λ o. path_end_or_unjudged l o path) setting
 
   name_found : (cells : List Cell) (name : List ℕ) (place offset : ℕ) (c : Cell) → cells_at l q false ≡ cells → component_of_name 0 0 0 name cells ≡ Some (record { place = place; offset = offset })
-      → slice_get cells place ≡ Some c → c.sound ≡ true → offset ≤ largest_size → outermost_path_end l q false 0 name ≡ walk.Reaches (outer_spot q place offset)
+      → slice_get cells place ≡ Some c → c.sound ≡ true → offset ≤ largest_size → outermost_path_end l q false 0 name ≡ path_end.Reaches (outer_component q place offset)
   unfolding outermost_path_end
   name_found cells name place offset c are found there sound few =
       (λ i. path_end_at_member (are i) q false 0 0 (component_of_name 0 0 0 name (are i))) ∙ ap (path_end_at_member cells q false 0 0) found
@@ -118,14 +118,14 @@ module _ (l : List BlockLayout) (k q : ℕ) (structure : structure_of l k ≡ So
   name_leads cells name place offset c kind are found there is few =
       let out = name_found cells name place offset c are found there is.sound few in
       let path = step.Named name ∷ [] in
-      let walk_is : path_end_in_block l q false path ≡ walk.Reaches (outer_spot q place offset) = ap (λ e. path_end_and_then e (λ spot. path_end_behind l spot [])) out in
+      let walk_is : path_end_in_block l q false path ≡ path_end.Reaches (outer_component q place offset) = ap (λ e. path_end_and_then e (λ component. path_end_behind l component [])) out in
       record {
-        spot = outer_spot q place offset;
+        component = outer_component q place offset;
         leads = data_walk path ∙ walk_is;
         sets = setting_walk path ∙ walk_is;
         at = refl;
-        of_kind = kind_there l (outer_spot q place offset) c kind (ap (λ z. slice_get z place) are ∙ there) is refl;
-        inside = ap (λ o. leaves_structure l o path) setting ∙ (λ i. is_checkable (walk_is i) && holds_where_reached (out i) (λ spot. leaves_array l spot []));
+        of_kind = kind_there l (outer_component q place offset) c kind (ap (λ z. slice_get z place) are ∙ there) is refl;
+        inside = ap (λ o. leaves_structure l o path) setting ∙ (λ i. is_checkable (walk_is i) && holds_where_reached (out i) (λ component. leaves_array l component []));
       }
 
   -- ---- parameters
@@ -171,23 +171,23 @@ module _ (l : List BlockLayout) (k q : ℕ) (structure : structure_of l k ≡ So
       let name = upper_case_name static_name in
       let c = byte_cell part.Static static_name count in
       let path = step.Named name ∷ step.Index (pos i) ∷ [] in
-      let spot = outer_spot q place offset in
+      let component = outer_component q place offset in
       let own = cells_at l q false in
       let here : slice_get own place ≡ Some c = ap (λ z. slice_get z place) are ∙ there in
       let out = name_found cells name place offset c are found there refl (omega (arith, few)) in
       let bounded : is_beyond (record { low = pos 0; high = pos (count - 1) }) (pos i) ≡ false = let low = no_less i in let high = not_above count i less in rw low high in
-      let next : path_end_by_step l spot (step.Index (pos i)) ≡ walk.Reaches (record { block = q; temporary = false; place = place; depth = 1; offset = offset + 8 * i }) =
-      ap (indexed_behind spot own (pos i)) here
-      ∙ ap (λ (t : Bool). if t then walk.Reaches (record spot { depth = spot.depth + 1 })
-      else walk.Reaches (record spot { depth = spot.depth + 1; offset = capped_size (offset + capped_size (unsigned_abs (pos i -ℤ pos 0) * 8)) })) bounded
-      ∙ ap (λ n. walk.Reaches (record { block = q; temporary = false; place = place; depth = 1; offset = capped_size (offset + capped_size (n * 8)) })) (same_index i)
-      ∙ ap (λ n. walk.Reaches (record { block = q; temporary = false; place = place; depth = 1; offset = n })) (index_offset offset i few) in
+      let next : path_end_by_step l component (step.Index (pos i)) ≡ path_end.Reaches (record { block = q; temporary = false; place = place; depth = 1; offset = offset + 8 * i }) =
+      ap (indexed_behind component own (pos i)) here
+      ∙ ap (λ (t : Bool). if t then path_end.Reaches (record component { depth = component.depth + 1 })
+      else path_end.Reaches (record component { depth = component.depth + 1; offset = capped_size (offset + capped_size (unsigned_abs (pos i -ℤ pos 0) * 8)) })) bounded
+      ∙ ap (λ n. path_end.Reaches (record { block = q; temporary = false; place = place; depth = 1; offset = capped_size (offset + capped_size (n * 8)) })) (same_index i)
+      ∙ ap (λ n. path_end.Reaches (record { block = q; temporary = false; place = place; depth = 1; offset = n })) (index_offset offset i few) in
       let last : ComponentAt = record { block = q; temporary = false; place = place; depth = 1; offset = offset + 8 * i } in
-      let walk_is : path_end_in_block l q false path ≡ walk.Reaches last = ap (λ e. path_end_and_then e (λ z. path_end_behind l z (step.Index (pos i) ∷ []))) out ∙ ap (λ e. path_end_and_then e (λ z. path_end_behind l z [])) next in
-      let stays : leaves_array l spot (step.Index (pos i) ∷ []) ≡ false =
+      let walk_is : path_end_in_block l q false path ≡ path_end.Reaches last = ap (λ e. path_end_and_then e (λ z. path_end_behind l z (step.Index (pos i) ∷ []))) out ∙ ap (λ e. path_end_and_then e (λ z. path_end_behind l z [])) next in
+      let stays : leaves_array l component (step.Index (pos i) ∷ []) ≡ false =
       (λ j. (is_beyond_in 0 (here j) (pos i)) || holds_where_reached (next j) (λ z. leaves_array l z [])) ∙ ap (λ (t : Bool). t || false) bounded in
       record {
-        spot = last;
+        component = last;
         leads = data_walk path ∙ walk_is;
         sets = setting_walk path ∙ walk_is;
         at = refl;

@@ -57,7 +57,7 @@ use Rattle.block_layout.specs.declared.cells.Element.{Element}
 use Rattle.block_layout.specs.declared.cells.Element.TheVariants as element
 use Rattle.block_layout.specs.declared.walks.ComponentAt.{ComponentAt}
 use Rattle.block_layout.specs.declared.walks.PathEnd.{PathEnd}
-use Rattle.block_layout.specs.declared.walks.PathEnd.TheVariants as walk
+use Rattle.block_layout.specs.declared.walks.PathEnd.TheVariants as path_end
 use Rattle.stl_types.specs.Addresses.{address_in_block}
 use Rattle.stl_types.specs.Bodies.{first_context}
 use Rattle.stl_types.specs.Context.{Context, data_number, data_place, in_function}
@@ -119,35 +119,35 @@ composite_plain (Some c) = of_ c.of where
   of_ element.DateAndTime = tt
   of_ _ = tt
 
-parameter_plain : (c : Context) (spot : ComponentAt) (kind : Simple) → SeenIsNoBit (parameter_at c spot kind)
-parameter_plain c spot kind = by (slice_get (cells_at c.layouts c.block false) spot.place) where
-  by : (found : Option Cell) → SeenIsNoBit (parameter_resolution (parameter_index (length (cells_at c.layouts c.block false)) spot.place (slice_get c.blocks c.block)) kind found)
+parameter_plain : (c : Context) (component : ComponentAt) (kind : Simple) → SeenIsNoBit (parameter_at c component kind)
+parameter_plain c component kind = by (slice_get (cells_at c.layouts c.block false) component.place) where
+  by : (found : Option Cell) → SeenIsNoBit (parameter_resolution (parameter_index (length (cells_at c.layouts c.block false)) component.place (slice_get c.blocks c.block)) kind found)
   by None = tt
   by (Some cell) = tt
 
-own_elementary_plain : (c : Context) (temporary : Bool) (spot : ComponentAt) (kind : Simple) → SeenIsNoBit (own_elementary c temporary spot kind)
-own_elementary_plain c true spot kind = in_area_plain kind area.L 0 spot.offset (λ w. tt)
-own_elementary_plain c false spot kind =
-    either_way SeenIsNoBit (in_function c) (parameter_at c spot kind) (variable_in_area kind (elementary_place area.Di 0 spot.offset (Some kind)))
-    (parameter_plain c spot kind) (in_area_plain kind area.Di 0 spot.offset (λ w. tt))
+own_elementary_plain : (c : Context) (temporary : Bool) (component : ComponentAt) (kind : Simple) → SeenIsNoBit (own_elementary c temporary component kind)
+own_elementary_plain c true component kind = in_area_plain kind area.L 0 component.offset (λ w. tt)
+own_elementary_plain c false component kind =
+    either_way SeenIsNoBit (in_function c) (parameter_at c component kind) (variable_in_area kind (elementary_place area.Di 0 component.offset (Some kind)))
+    (parameter_plain c component kind) (in_area_plain kind area.Di 0 component.offset (λ w. tt))
 
 own_plain : (c : Context) (name : List ℕ) (steps : List PathStep) → SeenIsNoBit (own_variable c name steps)
 own_plain c name steps = by (walked_local c.layouts c.block name steps) where
   by : (w : PathEnd) → SeenIsNoBit (own_walked c (is_temporary_variable c name) w)
-  by walk.Unknown = tt
-  by walk.Rests = tt
-  by (walk.Reaches spot) = at (elementary_at c.layouts spot) where
-    at : (kind : Option Simple) → SeenIsNoBit (own_at c (is_temporary_variable c name) spot kind)
-    at None = composite_plain (slice_get (cells_at c.layouts spot.block spot.temporary) spot.place)
-    at (Some kind) = own_elementary_plain c (is_temporary_variable c name) spot kind
+  by path_end.Unknown = tt
+  by path_end.Unjudged = tt
+  by (path_end.Reaches component) = at (elementary_at c.layouts component) where
+    at : (kind : Option Simple) → SeenIsNoBit (own_at c (is_temporary_variable c name) component kind)
+    at None = composite_plain (slice_get (cells_at c.layouts component.block component.temporary) component.place)
+    at (Some kind) = own_elementary_plain c (is_temporary_variable c name) component kind
 
 data_walk_plain : (c : Context) (n : ℕ) (w : PathEnd) → SeenIsNoBit (data_walked c n w)
-data_walk_plain c n walk.Unknown = tt
-data_walk_plain c n walk.Rests = tt
-data_walk_plain c n (walk.Reaches spot) = at (elementary_at c.layouts spot) where
-  at : (kind : Option Simple) → SeenIsNoBit (data_at c n spot kind)
-  at None = composite_plain (slice_get (cells_at c.layouts spot.block spot.temporary) spot.place)
-  at (Some kind) = in_area_plain kind area.Db n spot.offset (λ w. tt)
+data_walk_plain c n path_end.Unknown = tt
+data_walk_plain c n path_end.Unjudged = tt
+data_walk_plain c n (path_end.Reaches component) = at (elementary_at c.layouts component) where
+  at : (kind : Option Simple) → SeenIsNoBit (data_at c n component kind)
+  at None = composite_plain (slice_get (cells_at c.layouts component.block component.temporary) component.place)
+  at (Some kind) = in_area_plain kind area.Db n component.offset (λ w. tt)
 
 data_plain : (c : Context) (name : BlockName) (steps : List PathStep) → SeenIsNoBit (data_variable c name steps)
 data_plain c name steps = by (data_number c name) (data_place c name) where

@@ -28,7 +28,7 @@ use Rattle.block_layout.specs.Rule23.{is_unknown_called, is_unknown_data, is_unk
 use Rattle.block_layout.specs.Rule42.{operand_is_outside}
 use Rattle.block_layout.specs.Types.{Types}
 use Rattle.block_layout.specs.declared.walks.PathEnd.{PathEnd}
-use Rattle.block_layout.specs.declared.walks.PathEnd.TheVariants as walk
+use Rattle.block_layout.specs.declared.walks.PathEnd.TheVariants as path_end
 use Rattle.stl_types.specs.Addresses.{address_in_block}
 use Rattle.stl_types.specs.Context.{Context, data_number, data_place, source_block_ids, number_of_block, whole_place}
 use Rattle.stl_types.specs.Resolution.{resolution_of_call, id_at, instance_number, resolution_of_opened_block, resolution_of, whole_called_block}
@@ -130,10 +130,10 @@ IsBare (operand.Named (head.Local name) steps) = steps ≡ []
 IsBare (operand.Named _ steps) = ⊥
 IsBare _ = Unit {0}
 
-no_further : (end : PathEnd) → holds_where_reached end (λ spot. false) ≡ false
-no_further (walk.Reaches spot) = refl
-no_further walk.Unknown = refl
-no_further walk.Rests = refl
+no_further : (end : PathEnd) → holds_where_reached end (λ component. false) ≡ false
+no_further (path_end.Reaches component) = refl
+no_further path_end.Unknown = refl
+no_further path_end.Unjudged = refl
 
 and_false : (a b : Bool) → b ≡ false → (a && b) ≡ false
 and_false true b e = e
@@ -142,7 +142,7 @@ and_false false b e = refl
 pub bare_inside : (y : Types) (c : Context) (o : Operand) → IsBare o → operand_is_outside y c.layouts c.block o ≡ false
 bare_inside y c (operand.Named (head.Local name) steps) h =
     ap (λ (p : List PathStep). operand_is_outside y c.layouts c.block (operand.Named (head.Local name) p)) h
-    ∙ and_false (is_checkable (walked_local c.layouts c.block (upper_case_name name) [])) (holds_where_reached (in_sections c.layouts c.block (upper_case_name name)) (λ spot. false)) (no_further (in_sections c.layouts c.block (upper_case_name name)))
+    ∙ and_false (is_checkable (walked_local c.layouts c.block (upper_case_name name) [])) (holds_where_reached (in_sections c.layouts c.block (upper_case_name name)) (λ component. false)) (no_further (in_sections c.layouts c.block (upper_case_name name)))
 bare_inside y c (operand.Named (head.InBlock name) steps) h = absurd h
 bare_inside y c (operand.Named (head.Symbol name) steps) h = absurd h
 bare_inside y c _ h = refl

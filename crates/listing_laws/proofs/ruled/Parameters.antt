@@ -17,7 +17,7 @@ use Rattle.block_layout.specs.declared.cells.Element.TheVariants as element
 use Rattle.block_layout.specs.declared.members.Member.{Member}
 use Rattle.block_layout.specs.declared.walks.ComponentAt.{ComponentAt}
 use Rattle.block_layout.specs.declared.walks.PathEnd.{PathEnd}
-use Rattle.block_layout.specs.declared.walks.PathEnd.TheVariants as walk
+use Rattle.block_layout.specs.declared.walks.PathEnd.TheVariants as path_end
 use Rattle.stl_types.specs.Context.{Context, in_function, is_of_function}
 use Rattle.stl_types.specs.Variables.{behind_others, variable_in_area, own_at, own_variable, own_walked, parameter_resolution, parameter_at, parameter_index}
 use Rattle.stl_types.specs.declared.views.Resolution.TheVariants.{Resolved}
@@ -77,30 +77,30 @@ component_found at place name (x ∷ xs) (suc j) c flat e same first =
 
 -- ---- the walk
 
-abbrev spot_at : Context → (place offset : ℕ) → ComponentAt
-spot_at c place offset = record { block = c.block; temporary = false; place = place; depth = 0; offset = offset }
+abbrev component_at : Context → (place offset : ℕ) → ComponentAt
+component_at c place offset = record { block = c.block; temporary = false; place = place; depth = 0; offset = offset }
 
 entered_at : (block place offset : ℕ) (found : Option Cell) (cell : Cell) → found ≡ Some cell → cell.sound ≡ true
-    → path_end_at_cell block false place offset found ≡ walk.Reaches (record { block = block; temporary = false; place = place; depth = 0; offset = offset })
+    → path_end_at_cell block false place offset found ≡ path_end.Reaches (record { block = block; temporary = false; place = place; depth = 0; offset = offset })
 entered_at block place offset found cell e sound =
     ap (path_end_at_cell block false place offset) e
-    ∙ ap (λ (b : Bool). if b then walk.Reaches (record { block = block; temporary = false; place = place; depth = 0; offset = offset }) else walk.Rests) sound
+    ∙ ap (λ (b : Bool). if b then path_end.Reaches (record { block = block; temporary = false; place = place; depth = 0; offset = offset }) else path_end.Unjudged) sound
 
 is_whole : (l : List BlockLayout) (block : ℕ) (b : BlockLayout) → slice_get l block ≡ Some b → b.broken ≡ false → is_some (whole_at l block) ≡ true
 is_whole l block b e whole = ap (λ (x : Option BlockLayout). is_some (whole_block x)) e ∙ ap (λ (t : Bool). is_some (if t then None else Some b)) whole
 
 walked_to : (c : Context) (name : List ℕ) (m : Member) (cell : Cell) → component_of_name 0 0 0 name (cells_at c.layouts c.block false) ≡ Some m → slice_get (cells_at c.layouts c.block false) (0 + m.place) ≡ Some cell → cell.sound ≡ true
     → is_some (whole_at c.layouts c.block) ≡ true
-    → walked_local c.layouts c.block name [] ≡ walk.Reaches (spot_at c (0 + m.place) (capped_size (0 + capped_size m.offset)))
+    → walked_local c.layouts c.block name [] ≡ path_end.Reaches (component_at c (0 + m.place) (capped_size (0 + capped_size m.offset)))
 unfolding walked_local outermost_path_end
 walked_to c name m cell e there sound whole =
-    ap (λ (b : Bool). if b then path_end_and_then (in_sections c.layouts c.block name) (λ spot. path_end_behind c.layouts spot []) else walk.Rests) whole
-    ∙ ap (λ (x : Option Member). path_end_and_then (if is_some x then path_end_at_member (cells_at c.layouts c.block false) c.block false 0 0 x else outermost_path_end c.layouts c.block true 0 name) (λ spot. path_end_behind c.layouts spot [])) e
-    ∙ ap (λ (p : PathEnd). path_end_and_then p (λ spot. path_end_behind c.layouts spot [])) (entered_at c.block (0 + m.place) (capped_size (0 + capped_size m.offset)) (slice_get (cells_at c.layouts c.block false) (0 + m.place)) cell there sound)
+    ap (λ (b : Bool). if b then path_end_and_then (in_sections c.layouts c.block name) (λ component. path_end_behind c.layouts component []) else path_end.Unjudged) whole
+    ∙ ap (λ (x : Option Member). path_end_and_then (if is_some x then path_end_at_member (cells_at c.layouts c.block false) c.block false 0 0 x else outermost_path_end c.layouts c.block true 0 name) (λ component. path_end_behind c.layouts component [])) e
+    ∙ ap (λ (p : PathEnd). path_end_and_then p (λ component. path_end_behind c.layouts component [])) (entered_at c.block (0 + m.place) (capped_size (0 + capped_size m.offset)) (slice_get (cells_at c.layouts c.block false) (0 + m.place)) cell there sound)
 
-kind_at : (spot : ComponentAt) (found : Option Cell) (cell : Cell) (kind : Simple) → spot.depth ≡ 0 → found ≡ Some cell → cell.bounds ≡ [] → cell.of ≡ element.Plain kind → kind_of spot found ≡ Some kind
-kind_at spot found cell kind d e bounds of_kind =
-    ap (kind_of spot) e
+kind_at : (component : ComponentAt) (found : Option Cell) (cell : Cell) (kind : Simple) → component.depth ≡ 0 → found ≡ Some cell → cell.bounds ≡ [] → cell.of ≡ element.Plain kind → kind_of component found ≡ Some kind
+kind_at component found cell kind d e bounds of_kind =
+    ap (kind_of component) e
     ∙ ap (λ (n : ℕ). if nat_eq n (length cell.bounds) then plain_kind cell.of else None) d
     ∙ ap (λ (n : ℕ). if nat_eq 0 n then plain_kind cell.of else None) (ap length bounds)
     ∙ ap plain_kind of_kind
@@ -117,14 +117,14 @@ own_parameters_found c b l j cell kind at flat own = by (component_found 0 0 cel
         let found : component_of_name 0 0 0 cell.name (cells_at c.layouts c.block false) ≡ Some m = ap (component_of_name 0 0 0 cell.name) cells ∙ h.is in
         let place : 0 + m.place ≡ j = let e = h.at in omega (arith, e) in
         let there : slice_get (cells_at c.layouts c.block false) (0 + m.place) ≡ Some cell = ap (λ (xs : List Cell). slice_get xs (0 + m.place)) cells ∙ ap (slice_get l.components) place ∙ own.there in
-        let spot : ComponentAt = spot_at c (0 + m.place) (capped_size (0 + capped_size m.offset)) in
-        let walks : walked_local c.layouts c.block cell.name [] ≡ walk.Reaches spot = walked_to c cell.name m cell found there own.sound (is_whole c.layouts c.block l at.layout at.whole) in
-        let kinds : elementary_at c.layouts spot ≡ Some kind = kind_at spot (slice_get (cells_at c.layouts c.block false) (0 + m.place)) cell kind refl there own.bounds own.of_kind in
+        let component : ComponentAt = component_at c (0 + m.place) (capped_size (0 + capped_size m.offset)) in
+        let walks : walked_local c.layouts c.block cell.name [] ≡ path_end.Reaches component = walked_to c cell.name m cell found there own.sound (is_whole c.layouts c.block l at.layout at.whole) in
+        let kinds : elementary_at c.layouts component ≡ Some kind = kind_at component (slice_get (cells_at c.layouts c.block false) (0 + m.place)) cell kind refl there own.bounds own.of_kind in
         let function : in_function c ≡ true = ap is_of_function at.block ∙ at.kind in
         ap (λ (x : Option Member). own_walked c (not (is_some x)) (walked_local c.layouts c.block cell.name [])) found
         ∙ ap (own_walked c false) walks
-        ∙ ap (own_at c false spot) kinds
-        ∙ ap (λ (t : Bool). if t then parameter_at c spot kind else variable_in_area kind (elementary_place area.Di 0 spot.offset (Some kind))) function
+        ∙ ap (own_at c false component) kinds
+        ∙ ap (λ (t : Bool). if t then parameter_at c component kind else variable_in_area kind (elementary_place area.Di 0 component.offset (Some kind))) function
         ∙ ap (λ (x : Option Cell). parameter_resolution (parameter_index (length (cells_at c.layouts c.block false)) (0 + m.place) (slice_get c.blocks c.block)) kind x) there
         ∙ ap (λ (x : Option Block). Resolved (view.Parameter (parameter_index (length (cells_at c.layouts c.block false)) (0 + m.place) x) cell.section kind)) at.block
         ∙ ap (λ (xs : List Cell). Resolved (view.Parameter (behind_others (length xs) (0 + m.place) b.result) cell.section kind)) cells

@@ -25,7 +25,7 @@ use Rattle.block_layout.specs.declared.cells.Element.{Element}
 use Rattle.block_layout.specs.declared.cells.Element.TheVariants as element
 use Rattle.block_layout.specs.declared.walks.ComponentAt.{ComponentAt}
 use Rattle.block_layout.specs.declared.walks.PathEnd.{PathEnd}
-use Rattle.block_layout.specs.declared.walks.PathEnd.TheVariants as walk
+use Rattle.block_layout.specs.declared.walks.PathEnd.TheVariants as path_end
 use Rattle.stl_types.specs.Addresses.{address_in_block, area_left, area_for_letters}
 use Rattle.stl_types.specs.Context.{Context, data_number, data_place, in_function}
 use Rattle.stl_types.specs.Resolution.{resolution_of_call, instance_number, resolution_of_opened_block, resolution_of, resolution_of_symbol, target_view, whole_called_block}
@@ -90,31 +90,31 @@ parameter_seen : (listed : Context) (index : ℕ) (kind : Simple) (c : Option Ce
 parameter_seen listed index kind None = tt
 parameter_seen listed index kind (Some c) = refl
 
-own_seen : (c listed : Context) (temporary : Bool) (spot : ComponentAt) (kind : Simple) → IfSeen true listed (own_elementary c temporary spot kind)
-own_seen c listed true spot kind = area_seen true listed area.L 0 spot.offset kind tt
-own_seen c listed false spot kind = by (in_function c)
+own_seen : (c listed : Context) (temporary : Bool) (component : ComponentAt) (kind : Simple) → IfSeen true listed (own_elementary c temporary component kind)
+own_seen c listed true component kind = area_seen true listed area.L 0 component.offset kind tt
+own_seen c listed false component kind = by (in_function c)
   where
-    by : (b : Bool) → IfSeen true listed (if b then parameter_at c spot kind else variable_in_area kind (elementary_place area.Di 0 spot.offset (Some kind)))
-    by true = parameter_seen listed (parameter_index (length (cells_at c.layouts c.block false)) spot.place (slice_get c.blocks c.block)) kind (slice_get (cells_at c.layouts c.block false) spot.place)
-    by false = area_seen true listed area.Di 0 spot.offset kind tt
+    by : (b : Bool) → IfSeen true listed (if b then parameter_at c component kind else variable_in_area kind (elementary_place area.Di 0 component.offset (Some kind)))
+    by true = parameter_seen listed (parameter_index (length (cells_at c.layouts c.block false)) component.place (slice_get c.blocks c.block)) kind (slice_get (cells_at c.layouts c.block false) component.place)
+    by false = area_seen true listed area.Di 0 component.offset kind tt
 
-own_spot_seen : (c listed : Context) (temporary : Bool) (spot : ComponentAt) (kind : Option Simple) → IfSeen true listed (own_at c temporary spot kind)
-own_spot_seen c listed temporary spot None = composite_seen true listed (slice_get (cells_at c.layouts spot.block spot.temporary) spot.place)
-own_spot_seen c listed temporary spot (Some kind) = own_seen c listed temporary spot kind
+own_component_seen : (c listed : Context) (temporary : Bool) (component : ComponentAt) (kind : Option Simple) → IfSeen true listed (own_at c temporary component kind)
+own_component_seen c listed temporary component None = composite_seen true listed (slice_get (cells_at c.layouts component.block component.temporary) component.place)
+own_component_seen c listed temporary component (Some kind) = own_seen c listed temporary component kind
 
 own_walk_seen : (c listed : Context) (temporary : Bool) (end : PathEnd) → IfSeen true listed (own_walked c temporary end)
-own_walk_seen c listed temporary (walk.Reaches spot) = own_spot_seen c listed temporary spot (elementary_at c.layouts spot)
-own_walk_seen c listed temporary walk.Unknown = tt
-own_walk_seen c listed temporary walk.Rests = tt
+own_walk_seen c listed temporary (path_end.Reaches component) = own_component_seen c listed temporary component (elementary_at c.layouts component)
+own_walk_seen c listed temporary path_end.Unknown = tt
+own_walk_seen c listed temporary path_end.Unjudged = tt
 
-data_spot_seen : (c listed : Context) (n : ℕ) (spot : ComponentAt) (kind : Option Simple) → IsOpenedAgain listed (Some n) → IfSeen false listed (data_at c n spot kind)
-data_spot_seen c listed n spot None h = composite_seen false listed (slice_get (cells_at c.layouts spot.block spot.temporary) spot.place)
-data_spot_seen c listed n spot (Some kind) h = area_seen false listed area.Db n spot.offset kind (opened_place listed (not (nat_eq n 0)) n h)
+data_component_seen : (c listed : Context) (n : ℕ) (component : ComponentAt) (kind : Option Simple) → IsOpenedAgain listed (Some n) → IfSeen false listed (data_at c n component kind)
+data_component_seen c listed n component None h = composite_seen false listed (slice_get (cells_at c.layouts component.block component.temporary) component.place)
+data_component_seen c listed n component (Some kind) h = area_seen false listed area.Db n component.offset kind (opened_place listed (not (nat_eq n 0)) n h)
 
 data_walk_seen : (c listed : Context) (n : ℕ) (end : PathEnd) → IsOpenedAgain listed (Some n) → IfSeen false listed (data_walked c n end)
-data_walk_seen c listed n (walk.Reaches spot) h = data_spot_seen c listed n spot (elementary_at c.layouts spot) h
-data_walk_seen c listed n walk.Unknown h = tt
-data_walk_seen c listed n walk.Rests h = tt
+data_walk_seen c listed n (path_end.Reaches component) h = data_component_seen c listed n component (elementary_at c.layouts component) h
+data_walk_seen c listed n path_end.Unknown h = tt
+data_walk_seen c listed n path_end.Unjudged h = tt
 
 data_path_seen : (c listed : Context) (steps : List PathStep) (number block : Option ℕ) → IsOpenedAgain listed number → IfSeen false listed (data_path c steps number block)
 data_path_seen c listed steps (Some n) (Some block) h = data_walk_seen c listed n (path_end_in_data_block c.layouts block steps) h

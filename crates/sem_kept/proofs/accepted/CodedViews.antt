@@ -150,23 +150,23 @@ in_area_fits o kind a n bits h = grind (arith, nat_tests)
 composite_fits : (o : Operand) (found : Option Cell) → ViewFits o (composite_operand found)
 composite_fits o found = grind arith
 
-parameter_holds : (c : Context) (o : Operand) (spot : ComponentAt) (kind : Simple)
-    → length (cells_at c.layouts c.block false) ≤ 60 → SeenFits o (parameter_at c spot kind)
-parameter_holds c o spot kind few = grind (arith, slice_get_within {A = Cell})
+parameter_holds : (c : Context) (o : Operand) (component : ComponentAt) (kind : Simple)
+    → length (cells_at c.layouts c.block false) ≤ 60 → SeenFits o (parameter_at c component kind)
+parameter_holds c o component kind few = grind (arith, slice_get_within {A = Cell})
 
-own_elementary_fits : (c : Context) (o : Operand) (temporary : Bool) (spot : ComponentAt) (kind : Simple)
-    → IsFit c → SeenFits o (own_elementary c temporary spot kind)
-own_elementary_fits c o true spot kind fit = in_area_fits o kind area.L 0 spot.offset (omega arith)
-own_elementary_fits c o false spot kind fit = by (in_function c) refl
+own_elementary_fits : (c : Context) (o : Operand) (temporary : Bool) (component : ComponentAt) (kind : Simple)
+    → IsFit c → SeenFits o (own_elementary c temporary component kind)
+own_elementary_fits c o true component kind fit = in_area_fits o kind area.L 0 component.offset (omega arith)
+own_elementary_fits c o false component kind fit = by (in_function c) refl
   where
     by : (b : Bool) → in_function c ≡ b
-        → SeenFits o (if b then parameter_at c spot kind else variable_in_area kind (elementary_place area.Di 0 spot.offset (Some kind)))
-    by true e = parameter_holds c o spot kind (fit.own e)
-    by false e = in_area_fits o kind area.Di 0 spot.offset (omega arith)
+        → SeenFits o (if b then parameter_at c component kind else variable_in_area kind (elementary_place area.Di 0 component.offset (Some kind)))
+    by true e = parameter_holds c o component kind (fit.own e)
+    by false e = in_area_fits o kind area.Di 0 component.offset (omega arith)
 
 own_fits : (c : Context) (o : Operand) (temporary : Bool) (w : PathEnd) → IsFit c → SeenFits o (own_walked c temporary w)
 own_fits c o temporary w fit =
-    grind (arith, composite_fits, (λ (spot : ComponentAt) (kind : Simple). own_elementary_fits c o temporary spot kind fit))
+    grind (arith, composite_fits, (λ (component : ComponentAt) (kind : Simple). own_elementary_fits c o temporary component kind fit))
 
 data_walk_fits : (c : Context) (o : Operand) (n : ℕ) (w : PathEnd) → IsWord n
     → SeenFits o (data_walked c n w)

@@ -38,7 +38,7 @@ use Rattle.block_layout.specs.Fits.{bits_of, fits_elementary_type}
 use Rattle.block_layout.specs.InitialBytes.{Write, component_starts, cell_writes, component_writes, element_starts, filled_starts, in_steps, initial_bytes, length_at, preset_values, bytes_with_write, setting_write, setting_writes, settings_at, structure_writes, type_writes, write_of, writes_at, writes_from}
 use Rattle.block_layout.specs.Layouts.{layouts_of}
 use Rattle.block_layout.specs.Measures.{measuring_rounds, types_of_source}
-use Rattle.block_layout.specs.Paths.{cells_at, cells_in, elementary_at, folded_path, leaves_structure, setting_structure, shape_block, structure_of, path_end_in_data_block, path_end_or_rests, path_end_of_setting}
+use Rattle.block_layout.specs.Paths.{cells_at, cells_in, elementary_at, folded_path, leaves_structure, setting_structure, shape_block, structure_of, path_end_in_data_block, path_end_or_unjudged, path_end_of_setting}
 use Rattle.block_layout.specs.Rule41.{fits_kind, misfits_component, setting_misfits}
 use Rattle.block_layout.specs.Rule42.{setting_is_outside}
 use Rattle.block_layout.specs.Rule56.{is_too_deep}
@@ -51,7 +51,7 @@ use Rattle.block_layout.specs.declared.cells.Element.TheVariants.{Plain, Structu
 use Rattle.block_layout.specs.declared.cells.Preset.{Preset}
 use Rattle.block_layout.specs.declared.walks.ComponentAt.{ComponentAt}
 use Rattle.block_layout.specs.declared.walks.PathEnd.{PathEnd}
-use Rattle.block_layout.specs.declared.walks.PathEnd.TheVariants as walk
+use Rattle.block_layout.specs.declared.walks.PathEnd.TheVariants as path_end
 use Rattle.stl_types.specs.Unknown.{leads_nowhere, sets_unknown}
 use Rattle.sem_kept.specs.Accepted.{IsAccepted}
 use Rattle.sem_kept.specs.Coded.{BlockHasBytes, DeclarationHasBytes, HasBytes, InitHasBytes, PartHasBytes, SettingHasBytes}
@@ -556,7 +556,7 @@ module _ (l : List BlockLayout) (limit k inside : ℕ) (right : AreRight l) (nea
     (small : structure_bits (cells_at l inside false) ≤ limit) where
   walks_as : (path : List PathStep) → path_end_of_setting l k path ≡ path_end_in_data_block l k path
   unfolding path_end_of_setting path_end_in_data_block
-  walks_as path = ap (λ (o : Option ℕ). path_end_or_rests l o path) same
+  walks_as path = ap (λ (o : Option ℕ). path_end_or_unjudged l o path) same
 
   one_kept : (s : Setting) → IsLiteral s.value → HasBytes s.value → setting_misfits l k s ≡ false
       → setting_is_outside l k s ≡ false
@@ -567,15 +567,15 @@ module _ (l : List BlockLayout) (limit k inside : ℕ) (right : AreRight l) (nea
       (ap (λ (o : Option ℕ). leaves_structure l o (folded_path s.path)) (sym same) ∙ stays))
       (ap (misfits_component l s.value) (sym (walks_as (folded_path s.path))) ∙ fit)
     where
-      written : (spot : ComponentAt) → Lies l limit spot → (o : Option Simple) → elementary_at l spot ≡ o
+      written : (component : ComponentAt) → Lies l limit component → (o : Option Simple) → elementary_at l component ≡ o
           → not (fits_kind s.value o) ≡ false
-          → AllByRecursion (IsKept limit) (write_of spot.offset (bits_of s.value) o)
-      written spot lies None e f = tt
-      written spot lies (Some kind) e f =
-          let place = reached_place l limit spot kind lies e in (
+          → AllByRecursion (IsKept limit) (write_of component.offset (bits_of s.value) o)
+      written component lies None e f = tt
+      written component lies (Some kind) e f =
+          let place = reached_place l limit component kind lies e in (
             record {
               within = place.within;
-              begins = kind_begins spot.offset kind place.even;
+              begins = kind_begins component.offset kind place.even;
               fits = value_fits s.value kind literal has (not_not (fits_elementary_type s.value kind) f);
             },
             tt,
@@ -583,9 +583,9 @@ module _ (l : List BlockLayout) (limit k inside : ℕ) (right : AreRight l) (nea
 
       by : (w : PathEnd) → Goes l limit w → misfits_component l s.value w ≡ false
           → AllByRecursion (IsKept limit) (setting_write l s.value w)
-      by (walk.Reaches spot) lies f = written spot lies (elementary_at l spot) refl f
-      by walk.Unknown lies f = tt
-      by walk.Rests lies f = tt
+      by (path_end.Reaches component) lies f = written component lies (elementary_at l component) refl f
+      by path_end.Unknown lies f = tt
+      by path_end.Unjudged lies f = tt
 
   settings_kept : (ss : List Setting) → AllByRecursion (λ s. IsLiteral s.value) ss
       → AllByRecursion SettingHasBytes ss → AllByRecursion (λ s. setting_misfits l k s ≡ false) ss
@@ -615,9 +615,9 @@ module _ (l : List BlockLayout) (limit k inside : ℕ) (right : AreRight l) (nea
 
       by : (w : PathEnd) → Goes l limit w → misfits_component l s.value w ≡ false → leads_nowhere w ≡ false
           → (x : Write) × (setting_write l s.value w ≡ x ∷ [])
-      by (walk.Reaches spot) lies f e = written spot.offset (elementary_at l spot) f
-      by walk.Unknown lies f e = absurd cc
-      by walk.Rests lies f e = absurd lies
+      by (path_end.Reaches component) lies f e = written component.offset (elementary_at l component) f
+      by path_end.Unknown lies f e = absurd cc
+      by path_end.Unjudged lies f e = absurd lies
 
   settings_set : (ss : List Setting) → AllByRecursion (λ s. setting_misfits l k s ≡ false) ss
       → AllByRecursion (λ s. setting_is_outside l k s ≡ false) ss

@@ -41,7 +41,7 @@ use Rattle.block_layout.specs.declared.cells.Element.TheVariants.{Plain, Structu
 use Rattle.block_layout.specs.declared.members.Member.{Member}
 use Rattle.block_layout.specs.declared.walks.ComponentAt.{ComponentAt}
 use Rattle.block_layout.specs.declared.walks.PathEnd.{PathEnd}
-use Rattle.block_layout.specs.declared.walks.PathEnd.TheVariants as walk
+use Rattle.block_layout.specs.declared.walks.PathEnd.TheVariants as path_end
 use Rattle.stl_types.specs.Variables.{behind_others, variable_in_area}
 use Rattle.stl_types.specs.declared.views.Resolution.TheVariants.{Resolved}
 use Rattle.stl_types.specs.declared.views.Side.TheVariants as side
@@ -62,7 +62,7 @@ plain_of : (e : Element) (kind : Simple) → plain_kind e ≡ Some kind → e �
 plain_of (Plain k) kind e = ap Plain (let same : k ≡ kind = cc in same)
 plain_of _ kind e = absurd cc
 
--- a spot that is an elementary variable: all its indices are there
+-- a component that is elementary: all its indices are there
 pub record IsElementary (s : ComponentAt) (c : Cell) (kind : Simple) : Type 0 where
   pub whole : drop s.depth c.bounds ≡ []
   pub plain : c.of ≡ Plain kind
@@ -298,12 +298,12 @@ count_each f (w ∷ ws) h =
 -- ---- a function's own paths stay among its parameters
 
 abbrev pub Stays : ℕ → PathEnd → Type 0
-Stays k (walk.Reaches s) = (s.block ≡ k) × (s.temporary ≡ false)
-Stays k walk.Unknown = Unit {0}
-Stays k walk.Rests = Unit {0}
+Stays k (path_end.Reaches s) = (s.block ≡ k) × (s.temporary ≡ false)
+Stays k path_end.Unknown = Unit {0}
+Stays k path_end.Unjudged = Unit {0}
 
 sound_stays : (k : ℕ) (sound : Bool) (s : ComponentAt) → s.block ≡ k → s.temporary ≡ false
-    → Stays k (if sound then walk.Reaches s else walk.Rests)
+    → Stays k (if sound then path_end.Reaches s else path_end.Unjudged)
 sound_stays k true s e f = (e, f)
 sound_stays k false s e f = tt
 
@@ -328,7 +328,7 @@ abbrev ArePlain : List BlockLayout → ℕ → Type 0
 ArePlain l k = (place : ℕ) (c : Cell) → slice_get (cells_at l k false) place ≡ Some c
     → IsParameterCell c
 
-if_stays : (k : ℕ) (t : Bool) (w : PathEnd) → Stays k w → Stays k (if t then w else walk.Unknown)
+if_stays : (k : ℕ) (t : Bool) (w : PathEnd) → Stays k w → Stays k (if t then w else path_end.Unknown)
 if_stays k true w h = h
 if_stays k false w h = tt
 
@@ -342,8 +342,8 @@ within_stays : (k : ℕ) (s : ComponentAt) (c : Cell) (behind : List Cell) (at :
 within_stays k s c behind at None e f = tt
 within_stays k s c behind at (Some b) e f = by (is_beyond b at)
   where
-    by : (t : Bool) → Stays k (if t then walk.Reaches (record s { depth = s.depth + 1 })
-        else walk.Reaches (record s {
+    by : (t : Bool) → Stays k (if t then path_end.Reaches (record s { depth = s.depth + 1 })
+        else path_end.Reaches (record s {
           depth = s.depth + 1;
           offset = capped_size (s.offset + capped_size
               (unsigned_abs (at -ℤ b.low) * array_bits (drop (s.depth + 1) c.bounds)
@@ -376,9 +376,9 @@ step_stays l k plain s (step.Index at) e f =
 on_stays : (k : ℕ) (w : PathEnd) (next : ComponentAt → PathEnd) → Stays k w
     → ((s : ComponentAt) → s.block ≡ k → s.temporary ≡ false → Stays k (next s))
     → Stays k (path_end_and_then w next)
-on_stays k (walk.Reaches s) next h g = g s h.0 h.1
-on_stays k walk.Unknown next h g = tt
-on_stays k walk.Rests next h g = tt
+on_stays k (path_end.Reaches s) next h g = g s h.0 h.1
+on_stays k path_end.Unknown next h g = tt
+on_stays k path_end.Unjudged next h g = tt
 
 walked_stays : (l : List BlockLayout) (k : ℕ) → ArePlain l k → (ps : List PathStep) (s : ComponentAt)
     → s.block ≡ k → s.temporary ≡ false → Stays k (path_end_behind l s ps)
@@ -398,7 +398,7 @@ pub local_stays : (l : List BlockLayout) (k : ℕ) → ArePlain l k → (name : 
     → is_some (whole_at l k) ≡ true → Stays k (walked_local l k name ps)
 unfolding walked_local
 local_stays l k plain name ps own whole =
-    subst (λ (t : Bool). Stays k (if t then path_end_and_then (in_sections l k name) (λ s. path_end_behind l s ps) else walk.Rests))
+    subst (λ (t : Bool). Stays k (if t then path_end_and_then (in_sections l k name) (λ s. path_end_behind l s ps) else path_end.Unjudged))
     (sym whole)
     (subst (λ (t : Bool). Stays k (path_end_and_then (if t then outermost_path_end l k false 0 name else outermost_path_end l k true 0 name)
     (λ s. path_end_behind l s ps))) (sym own)

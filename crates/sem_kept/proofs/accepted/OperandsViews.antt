@@ -65,7 +65,7 @@ use Rattle.block_layout.specs.declared.cells.Element.{Element}
 use Rattle.block_layout.specs.declared.cells.Element.TheVariants.{Plain, DateAndTime, Udt}
 use Rattle.block_layout.specs.declared.walks.ComponentAt.{ComponentAt}
 use Rattle.block_layout.specs.declared.walks.PathEnd.{PathEnd}
-use Rattle.block_layout.specs.declared.walks.PathEnd.TheVariants as walk
+use Rattle.block_layout.specs.declared.walks.PathEnd.TheVariants as path_end
 use Rattle.stl_types.specs.Actuals.{is_input_section}
 use Rattle.stl_types.specs.Addresses.{resolved_address, address_in_block, area_for_letters}
 use Rattle.stl_types.specs.Context.{Context, data_number, data_place, in_function, is_of_function, number_of_block}
@@ -503,16 +503,16 @@ module _ (symbols : List Symbol) (t : Tree) (tree : IsSoundTree symbols t) (k : 
 
       -- each component that the path reaches is seen
       IsRead : Bool → Type 0
-      IsRead temporary = (s : ComponentAt) → walked ≡ walk.Reaches s
+      IsRead temporary = (s : ComponentAt) → walked ≡ path_end.Reaches s
           → IsSeen a (own_at (context_at symbols t k) temporary s (elementary_at ls s))
 
       reads : (temporary : Bool) (w : PathEnd)
-          → ((s : ComponentAt) → w ≡ walk.Reaches s → IsSeen a (own_at (context_at symbols t k) temporary s (elementary_at ls s)))
+          → ((s : ComponentAt) → w ≡ path_end.Reaches s → IsSeen a (own_at (context_at symbols t k) temporary s (elementary_at ls s)))
           → Moves w → is_unknown (own_walked (context_at symbols t k) temporary w) ≡ false
           → IsSeen a (own_walked (context_at symbols t k) temporary w)
-      reads temporary (walk.Reaches s) f m known = f s refl
-      reads temporary walk.Unknown f m known = absurd cc
-      reads temporary walk.Rests f m known = absurd m
+      reads temporary (path_end.Reaches s) f m known = f s refl
+      reads temporary path_end.Unknown f m known = absurd cc
+      reads temporary path_end.Unjudged f m known = absurd m
 
       temporary : is_some (component_of_name 0 0 0 name cells) ≡ false → IsRead true
       temporary e s reaches =
@@ -531,7 +531,7 @@ module _ (symbols : List Symbol) (t : Tree) (tree : IsSoundTree symbols t) (k : 
 
       of_function : b.kind ≡ kinds.Fc → is_some (component_of_name 0 0 0 name cells) ≡ true → IsRead false
       of_function is e s reaches =
-          let home : Stays k (walk.Reaches s) = subst (Stays k) reaches (local_stays ls k plain name steps e whole_here) in
+          let home : Stays k (path_end.Reaches s) = subst (Stays k) reaches (local_stays ls k plain name steps e whole_here) in
           parameter_seen is s home.0 home.1 (elementary_at ls s) refl
         where
           plain : (place : ℕ) (c : Cell) → slice_get cells place ≡ Some c → IsParameterCell c
@@ -826,9 +826,9 @@ data_seen symbols t tree k a name steps there known stays =
 
     reads : (w : PathEnd) → Goes ls limit w → is_unknown (data_walked c d.block.id.number w) ≡ false
         → IsSeen a (data_walked c d.block.id.number w)
-    reads (walk.Reaches w) g u = at w g (elementary_at ls w) refl
-    reads walk.Unknown g u = absurd cc
-    reads walk.Rests g u = absurd g
+    reads (path_end.Reaches w) g u = at w g (elementary_at ls w) refl
+    reads path_end.Unknown g u = absurd cc
+    reads path_end.Unjudged g u = absurd g
 
 -- ---- operands
 

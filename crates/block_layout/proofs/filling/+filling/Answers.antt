@@ -1,7 +1,7 @@
 use Rattle.std.proofs.Common.{ℕ, ◌≡◌, ◌+◌, rules, refl, ◌∙◌, ap, arith, length, length-drop}
 use Rattle.block_layout.specs.InitialBytes.{type_writes}
 use Rattle.block_layout.proofs.FillLemmas.{from_turn, no_cells, no_type, type_filled}
-use Rattle.block_layout.proofs.ScopeLemmas.{behind_elements}
+use Rattle.block_layout.proofs.NameListLemmas.{behind_elements}
 use Rattle.block_layout.proofs.SizeLemmas.{elements_near, size_within}
 use Rattle.block_layout.proofs.filling.+filling.Goals as goal
 

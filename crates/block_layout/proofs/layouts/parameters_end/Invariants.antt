@@ -1,4 +1,4 @@
-use Rattle.block_layout.specs.Scopes.{EndParameters}
+use Rattle.block_layout.specs.NameLists.{EndParameters}
 use Rattle.std.proofs.Common.{ℕ}
 use Rattle.block_layout.proofs.layouts.parameters_end.Given as goal
 

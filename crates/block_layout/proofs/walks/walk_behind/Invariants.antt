@@ -5,7 +5,7 @@ use Rattle.block_layout.proofs.walks.walk_behind.Given as goal
 
 abbrev pub invariant-loop-next : goal.invariant-loop-next
 invariant-loop-next l = record {
-  rest : path_end_behind l.layouts l.spot (drop l.next-index l.path) ≡ path_end_behind l.layouts l.fn.start l.path;
-  near : l.spot.offset ≤ largest_size;
-  sound : IsSoundAt l.layouts l.spot;
+  rest : path_end_behind l.layouts l.component (drop l.next-index l.path) ≡ path_end_behind l.layouts l.fn.start l.path;
+  near : l.component.offset ≤ largest_size;
+  sound : IsSoundAt l.layouts l.component;
 }

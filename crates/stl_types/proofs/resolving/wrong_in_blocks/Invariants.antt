@@ -6,5 +6,5 @@ use Rattle.stl_types.proofs.resolving.wrong_in_blocks.Given as goal
 
 abbrev pub invariant-loop-block : goal.invariant-loop-block
 invariant-loop-block l =
-    lesser l.found (least (in_contexts operands_24 (record l.scope { block = l.block }) (drop l.block l.blocks)))
-    ≡ least (in_contexts operands_24 (record l.scope { block = 0 }) l.blocks)
+    lesser l.found (least (in_contexts operands_24 (record l.context { block = l.block }) (drop l.block l.blocks)))
+    ≡ least (in_contexts operands_24 (record l.context { block = 0 }) l.blocks)

@@ -14,13 +14,13 @@ loop-block-init c = lesser_first _
 
 pub loop-block-preserved : goal.loop-block-preserved
 loop-block-preserved c =
-    contexts_turn (λ x body. in_body (operand_20 x) body) c.args.scope.now c.args.blocks.now c.loop-block.block c.index-blocks-block.result c.loop-block.found c.in_ok-one.one c.lesser-found.result _
+    contexts_turn (λ x body. in_body (operand_20 x) body) c.args.context.now c.args.blocks.now c.loop-block.block c.index-blocks-block.result c.loop-block.found c.in_ok-one.one c.lesser-found.result _
     c.loop-block-test.true c.index-blocks-block.is
     (c.in_ok-one.ensures
     ∙ ap (λ (x : Context). least (in_body (operand_20 x) c.as_slice.result.now)) c.at-here.ensures
-    ∙ ap (λ (body : List Statement). least (in_body (operand_20 (record c.args.scope.now { block = c.loop-block.block })) body)) c.as_slice.ensures
-    ∙ ap (λ (b : Block). least (in_body (operand_20 (record c.args.scope.now { block = c.loop-block.block })) b.body)) (sym c.index-blocks-block.is))
+    ∙ ap (λ (body : List Statement). least (in_body (operand_20 (record c.args.context.now { block = c.loop-block.block })) body)) c.as_slice.ensures
+    ∙ ap (λ (b : Block). least (in_body (operand_20 (record c.args.context.now { block = c.loop-block.block })) b.body)) (sym c.index-blocks-block.is))
     c.lesser-found.ensures c.loop-block.invariant
 
 pub returns : goal.returns
-returns c = contexts_end (λ x body. in_body (operand_20 x) body) c.args.scope.now c.args.blocks.now c.loop-block.block c.loop-block.found _ c.loop-block-test.false c.loop-block.invariant
+returns c = contexts_end (λ x body. in_body (operand_20 x) body) c.args.context.now c.args.blocks.now c.loop-block.block c.loop-block.found _ c.loop-block-test.false c.loop-block.invariant

@@ -7,5 +7,5 @@ use Rattle.stl_types.proofs.unknown.unknown_in_blocks.Given as goal
 
 abbrev pub invariant-loop-block : goal.invariant-loop-block
 invariant-loop-block l =
-    lesser l.found (least (in_contexts (λ c body. in_body (operand_20 c) body) (record l.scope { block = l.block }) (drop l.block l.blocks)))
-    ≡ least (in_contexts (λ c body. in_body (operand_20 c) body) (record l.scope { block = 0 }) l.blocks)
+    lesser l.found (least (in_contexts (λ c body. in_body (operand_20 c) body) (record l.context { block = l.block }) (drop l.block l.blocks)))
+    ≡ least (in_contexts (λ c body. in_body (operand_20 c) body) (record l.context { block = 0 }) l.blocks)

@@ -10,7 +10,7 @@ use Rattle.stl_types.proofs.unknown.unknown_in_statement.Goals as goal
 
 pub returns : goal.returns
 returns c =
-    let broken : OperandAtLine → List Refusal = operand_20 c.args.scope.now in
+    let broken : OperandAtLine → List Refusal = operand_20 c.args.context.now in
     let actuals : c.in_ok-actuals.actuals ≡ least (flat_map (λ a. broken (record { line = a.line; operand = a.value })) c.args.statement.now.actuals) =
     c.in_ok-actuals.ensures ∙ ap (λ (xs : List Actual). least (flat_map (λ a. broken (record { line = a.line; operand = a.value })) xs)) c.as_slice.ensures in
     c.lesser.ensures ∙ ap (λ (o : Option Refusal). lesser c.in_ok-own.own o) actuals

@@ -6,5 +6,5 @@ use Rattle.stl_codegen.proofs.bodies.Body.append_to.Given as goal
 
 abbrev pub invariant-loop-statement : goal.invariant-loop-statement
 invariant-loop-statement l =
-    Between l.fn.ops.items l.ops.items (flat_map (λ s. ops_here l.scope l.self s) (drop l.statement-index l.self))
-    (flat_map (λ s. ops_here l.scope l.self s) l.self)
+    Between l.fn.ops.items l.ops.items (flat_map (λ s. ops_here l.context l.self s) (drop l.statement-index l.self))
+    (flat_map (λ s. ops_here l.context l.self s) l.self)

@@ -1,5 +1,5 @@
 use Rattle.std.proofs.Common.{◌≡◌, ap, sym, subst, refl, ◌∙◌, ◌∷◌, [], arith, length, ◌<◌, ◌≤◌, ℕ}
-use Rattle.tracked_lock.specs.Views.{times, one_if_number_of_pass, IsMadeOf, HoldsForEach}
+use Rattle.tracked_lock.specs.Views.{times, one_if_number_of_pass, AreEntriesByMaker, HoldsForEach}
 use Rattle.tracked_lock.specs.Passes.{missing_number_count}
 use mathlib.Core.List.{IsPrefix}
 use mathlib.Core.Option.{some-injective}
@@ -46,6 +46,6 @@ returns-clause-ok g c =
       numbers = subst (λ ms. missing_number_count c.args.self.passes ms ≡ 0) made (omega (arith, n, all, is.numbers_is, c.if-p-self.false));
       origin = ap (λ o. o ∷ []) (sym (ap g.V.Storied.origin x) ∙ t.2) ∙ ap (λ l. l.origin) c.self.view_is;
       seen = subst (λ y. IsPrefix c.args.p.seen (story y)) x (subst (λ l. IsPrefix l (story t.0)) (ap (λ v. v.seen) c.p.view_is) t.3);
-      made = subst (λ y. IsMadeOf g.V.Storied.maker (story y) c.args.p.made) x (subst (λ ms. IsMadeOf g.V.Storied.maker (story t.0) ms) made t.4);
+      made = subst (λ y. AreEntriesByMaker g.V.Storied.maker (story y) c.args.p.made) x (subst (λ ms. AreEntriesByMaker g.V.Storied.maker (story t.0) ms) made t.4);
       no_others = subst (λ y. HoldsForEach (λ e. 0 < times (g.V.Storied.maker e) c.args.p.made) (story y)) x (subst (λ ms. HoldsForEach (λ e. 0 < times (g.V.Storied.maker e) ms) (story t.0)) made t.5);
     }

@@ -1,6 +1,6 @@
 use Rattle.std.proofs.Common.{◌≡◌, ◌+◌, ◌≤◌, length}
 use Rattle.controller.specs.Beginning.{with_start_bytes}
-use Rattle.controller.proofs.beginning.tell.Given as goal
+use Rattle.controller.proofs.beginning.set_start_bytes.Given as goal
 
 -- what is left comes to what all do
 abbrev pub invariant-loop-left : goal.invariant-loop-left

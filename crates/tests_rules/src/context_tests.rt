@@ -19,14 +19,14 @@ struct Found {
     callee: Option<Callee>,
 }
 
-/// What the last statement of the scope's block comes to.
-fn last_in(alloc: Global, scope: &Context<'_>) -> Result<Found, Fail> {
-    let blocks = scope.tree().blocks.as_slice();
-    let block = blocks.get(scope.block()).ok_or("no such block")?;
+/// What the last statement of the context's block comes to.
+fn last_in(alloc: Global, context: &Context<'_>) -> Result<Found, Fail> {
+    let blocks = context.tree().blocks.as_slice();
+    let block = blocks.get(context.block()).ok_or("no such block")?;
     let statement = block.body.as_slice().last().ok_or("no statement")?;
-    let seen = scope.resolution(alloc, &statement.operand)?;
-    let resolved = scope.resolved(alloc, statement)?;
-    let callee = scope.callee(alloc, &statement.operand)?;
+    let seen = context.resolution(alloc, &statement.operand)?;
+    let resolved = context.resolved(alloc, statement)?;
+    let callee = context.callee(alloc, &statement.operand)?;
     Ok(Found {
         seen,
         resolved,
@@ -264,25 +264,25 @@ fn no_called_block(rt: HostRuntime) -> Result<(), Fail> {
     Ok(())
 }
 
-/// A scope and a check give back what they are made of: eleven blocks, nine symbols.
-fn parts_are_given_back(rt: &impl Abort, scope: &Context<'_>, tree: &Tree) {
-    let places = (scope.block(), scope.at(10).block());
+/// A context and a check give back what they are made of: eleven blocks, nine symbols.
+fn parts_are_given_back(rt: &impl Abort, context: &Context<'_>, tree: &Tree) {
+    let places = (context.block(), context.at(10).block());
     same(rt, "places", places, (0, 10));
-    same(rt, "symbols", scope.symbols().list().len(), 9);
-    let blocks = (scope.tree().blocks.len(), scope.layouts().list().len());
+    same(rt, "symbols", context.symbols().list().len(), 9);
+    let blocks = (context.tree().blocks.len(), context.layouts().list().len());
     same(rt, "blocks", blocks, (11, 11));
     same(rt, "the tree", tree.blocks.len(), 11);
 }
 
 #[test]
-fn parts_of_a_scope(rt: HostRuntime) -> Result<(), Fail> {
+fn parts_of_a_context(rt: HostRuntime) -> Result<(), Fail> {
     let alloc = rt.alloc();
     let source = with_body(alloc, b"SET;")?;
     let tree = parsed(alloc, source.as_slice())?;
     let symbols = symbols_of(alloc, SYMBOLS)?;
     let layouts = lay_out_sound(alloc, &tree, &symbols)?;
     let checked = check(alloc, &tree, &symbols, &layouts)?;
-    let scope = Context::new(&symbols, &tree, &layouts);
-    parts_are_given_back(&rt, &scope, checked.tree());
+    let context = Context::new(&symbols, &tree, &layouts);
+    parts_are_given_back(&rt, &context, checked.tree());
     Ok(())
 }

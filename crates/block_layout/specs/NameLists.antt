@@ -16,14 +16,14 @@ pub record HasComponents (level : ℕ) (cells : List Cell) (s : NameList) : Type
   pub members : s.members.items ≡ members_of level 0 0 cells
 
 -- the names and places of the components of the cell `c`, which are among the cells behind it
-abbrev pub IsScope : Cell → List Cell → NameList → Type 0
-IsScope c behind s = HasComponents (c.level + 1) behind s
+abbrev pub IsNameList : Cell → List Cell → NameList → Type 0
+IsNameList c behind s = HasComponents (c.level + 1) behind s
 
 -- each sound cell has its components
-abbrev pub AreScopes : List Cell → List NameList → Type 0
-AreScopes cells scopes = (k : ℕ) (c : Cell) (s : NameList) → k < length cells
+abbrev pub AreNameLists : List Cell → List NameList → Type 0
+AreNameLists cells name_lists = (k : ℕ) (c : Cell) (s : NameList) → k < length cells
     → (get_or cells k c).sound ≡ true
-    → IsScope (get_or cells k c) (drop (k + 1) cells) (get_or scopes k s)
+    → IsNameList (get_or cells k c) (drop (k + 1) cells) (get_or name_lists k s)
 
 -- cells that are no parameters
 abbrev pub AreOthers : List Cell → Type 0
@@ -47,16 +47,16 @@ pub record HaveParameters (cells first : List Cell) : Type 0 where
 
 -- sizes and components of cells, and how many of them have all parameters
 pub record AreCellTables (cells : List Cell) (elements : List ℕ) (outer : NameList)
-    (scopes : List NameList)
+    (name_lists : List NameList)
     (bits parameters : ℕ) : Type 0 where
   -- the size of an element of each cell in bits
   pub sized : elements ≡ elements_of cells
   -- the components at level 0
   pub outermost : HasComponents 0 cells outer
   -- there is one list of components for each cell
-  pub counted : length scopes ≡ length cells
+  pub counted : length name_lists ≡ length cells
   -- the components of each sound cell
-  pub inner : AreScopes cells scopes
+  pub inner : AreNameLists cells name_lists
   -- the size of a structure of all cells in bits
   pub whole : bits ≡ structure_bits cells
   -- the size of the structure is no more than the cap of sizes
