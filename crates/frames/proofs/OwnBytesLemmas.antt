@@ -155,18 +155,18 @@ range_and_rest xs a b le =
     ap (λ (ys : List ℕ). slice_range xs a b ++ ys) (sym rest) ∙ take-append-drop (b - a) (drop a xs)
 
 -- the pieces, one behind the other
-joined :
+concat_pieces :
     (starts bytes : List ℕ) → Rises starts (length bytes)
     → concat (bytes_cut starts bytes) ≡ drop (begin starts (length bytes) 0) bytes
-joined [] bytes rises = sym (drop_all (length bytes) bytes (omega arith))
-joined (s ∷ rest) bytes rises =
-    let more = joined rest bytes (λ k. rises (suc k)) in
+concat_pieces [] bytes rises = sym (drop_all (length bytes) bytes (omega arith))
+concat_pieces (s ∷ rest) bytes rises =
+    let more = concat_pieces rest bytes (λ k. rises (suc k)) in
     ap (λ (ys : List ℕ). slice_range bytes s (begin rest (length bytes) 0) ++ ys) more
     ∙ range_and_rest bytes s (begin rest (length bytes) 0) (rises 0)
 
 pub together : (l : LocalData) → IsLaidOut l → concat (own_bytes l) ≡ l.bytes
 together l laid =
-    joined l.starts l.bytes (rises_from l laid) ∙ ap (λ (n : ℕ). drop n l.bytes) laid.begins
+    concat_pieces l.starts l.bytes (rises_from l laid) ∙ ap (λ (n : ℕ). drop n l.bytes) laid.begins
 
 -- ---- one piece more
 

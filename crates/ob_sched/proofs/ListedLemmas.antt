@@ -41,10 +41,10 @@ all-of_class n (x ∷ xs) h =
     of_class-step n x xs true (and_parts (can_wait x.0) (priority_class x.0 == n) parts.0).1
     ∙ ap (λ (ys : List StartRequest). x ∷ ys) (all-of_class n xs parts.1)
 
-listed : (class k n : ℕ) (bins : List Bin) → are_placed_from class bins ≡ true → k < length bins → n ≡ class + k
+waiting_of_class : (class k n : ℕ) (bins : List Bin) → are_placed_from class bins ≡ true → k < length bins → n ≡ class + k
     → waiting_in bins k ≡ of_class n (requests_by_rank bins)
-listed class k n [] h lt e = absurd (omega arith)
-listed class zero n (bin ∷ rest) h lt e =
+waiting_of_class class k n [] h lt e = absurd (omega arith)
+waiting_of_class class zero n (bin ∷ rest) h lt e =
     let parts = and_parts (are_of_class class bin.waiting.items) (are_placed_from (class + 1) rest) h in
     let here : class ≡ n = omega (arith, e) in
     let above = ranked-AtLeast (class + 1) rest parts.1 in
@@ -54,7 +54,7 @@ listed class zero n (bin ∷ rest) h lt e =
     ∙ ap (λ (xs : List StartRequest). xs ++ of_class n bin.waiting.items) (none-above n (requests_by_rank rest) (subst (λ c. AtLeast c (requests_by_rank rest)) next above))
     ∙ all-of_class n bin.waiting.items (subst (λ c. are_of_class c bin.waiting.items ≡ true) here parts.0)
     )
-listed class (suc k) n (bin ∷ rest) h lt e =
+waiting_of_class class (suc k) n (bin ∷ rest) h lt e =
     let parts = and_parts (are_of_class class bin.waiting.items) (are_placed_from (class + 1) rest) h in
     let lower : class < n = omega (arith, e) in
     let next : n ≡ class + 1 + k = omega (arith, e) in
@@ -62,11 +62,11 @@ listed class (suc k) n (bin ∷ rest) h lt e =
     filter-append (λ (request : StartRequest). priority_class request.0 == n) (requests_by_rank rest) bin.waiting.items
     ∙ ap (λ (xs : List StartRequest). of_class n (requests_by_rank rest) ++ xs) (none-below n bin.waiting.items (of_class-Below class n bin.waiting.items lower parts.0))
     ∙ append-nil (of_class n (requests_by_rank rest))
-    ∙ sym (listed (class + 1) k n rest parts.1 (omega arith) next)
+    ∙ sym (waiting_of_class (class + 1) k n rest parts.1 (omega arith) next)
     )
 
 pub listed_by_class : (bins : List Bin) → are_placed_from 0 bins ≡ true → length bins ≡ 32 → IsListedByClass bins (requests_by_rank bins)
-listed_by_class bins placed count n lt = listed 0 n n bins placed (omega (arith, count)) (plain n)
+listed_by_class bins placed count n lt = waiting_of_class 0 n n bins placed (omega (arith, count)) (plain n)
   where
     plain : (n : ℕ) → n ≡ 0 + n
     plain n = omega arith

@@ -29,20 +29,20 @@ waiting_of-cons : (obs : List ℕ) (x : StartRequest) (xs : List StartRequest) �
 waiting_of-cons [] x xs = refl
 waiting_of-cons (ob ∷ obs) x xs = omega (arith, waiting-cons ob x xs, waiting_of-cons obs x xs)
 
-counted : (obs : List ℕ) (x : StartRequest) → is_one_of obs x.0 ≡ true → 1 ≤ counts_of obs x
-counted [] x h = absurd (grind (arith, h))
-counted (ob ∷ obs) x h = by (x.0 == ob) h (counted obs x)
+counts_of-member : (obs : List ℕ) (x : StartRequest) → is_one_of obs x.0 ≡ true → 1 ≤ counts_of obs x
+counts_of-member [] x h = absurd (grind (arith, h))
+counts_of-member (ob ∷ obs) x h = by (x.0 == ob) h (counts_of-member obs x)
   where
     by : (b : Bool) → (b || is_one_of obs x.0) ≡ true → (is_one_of obs x.0 ≡ true → 1 ≤ counts_of obs x) → 1 ≤ (if b then 1 else 0) + counts_of obs x
     by true h more = omega arith
     by false h more = omega (arith, more h)
 
 -- requests of these OBs alone are at most as many
-covered : (obs : List ℕ) (xs : List StartRequest) → list_all (λ (r : StartRequest). is_one_of obs r.0) xs ≡ true → length xs ≤ waiting_of obs xs
-covered obs [] h = omega arith
-covered obs (x ∷ xs) h =
+waiting_of-all : (obs : List ℕ) (xs : List StartRequest) → list_all (λ (r : StartRequest). is_one_of obs r.0) xs ≡ true → length xs ≤ waiting_of obs xs
+waiting_of-all obs [] h = omega arith
+waiting_of-all obs (x ∷ xs) h =
     let parts = and_parts (is_one_of obs x.0) (list_all (λ (r : StartRequest). is_one_of obs r.0) xs) h in
-    omega (arith, waiting_of-cons obs x xs, counted obs x parts.0, covered obs xs parts.1)
+    omega (arith, waiting_of-cons obs x xs, counts_of-member obs x parts.0, waiting_of-all obs xs parts.1)
 
 -- with room in the queue of one of them they are fewer than their queues hold
 fewer : (obs : List ℕ) (ob : ℕ) (xs : List StartRequest) → ((t : ℕ) → waiting_count t xs ≤ queue_length t)
@@ -95,7 +95,7 @@ pub room : (ob : ℕ) (xs : List StartRequest) → can_wait ob ≡ true → are_
 room ob xs known placed within some =
     let less = fewer (members (priority_class ob)) ob xs within some (is_member ob known) in
     let most = queues-le (priority_class ob) in
-    omega (arith, covered (members (priority_class ob)) xs (all xs placed), less, most)
+    omega (arith, waiting_of-all (members (priority_class ob)) xs (all xs placed), less, most)
   where
     all : (xs : List StartRequest) → are_of_class (priority_class ob) xs ≡ true
         → list_all (λ (r : StartRequest). is_one_of (members (priority_class ob)) r.0) xs ≡ true
