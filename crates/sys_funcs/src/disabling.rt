@@ -1,11 +1,11 @@
 ghost use Rattle.std.specs.Prelude.{◌≡◌, true, false};
 ghost use Rattle.ob_sched.specs.OrganizationBlock.{is_interrupt as interrupts};
 ghost use Rattle.ob_sched.specs.Views.{scheduler_of};
-ghost use Rattle.sys_funcs.specs.Disabling.{selected_disabled, first_of_group, is_interrupt_selected as means, selection_error_code as refused, disabled_if_selected};
+ghost use Rattle.sys_funcs.specs.Disabling.{selected_disabled, first_of_group, is_interrupt_selected, selection_error_code, disabled_if_selected};
 ghost use Rattle.sys_funcs.specs.Returned.{LeavesSystemFunctionResult};
 ghost use Rattle.sys_funcs.specs.Functions.{dis_irt as disables, en_irt as enables, disabled_or_error};
 
-use crate::returns::returned;
+use crate::returns::returned_value;
 use frames::Activation;
 use ob_sched::Sched;
 
@@ -26,29 +26,29 @@ fn is_interrupt(ob: u32) -> bool
 }
 
 // The first number of its group.
-fn group_of(ob: u32) -> u32
+fn first_of_group(ob: u32) -> u32
     ensures { result ≡ first_of_group ob }
 {
     ob / 10 * 10
 }
 
 // Whether MODE and OB_NR mean an organization block.
-fn is_meant(mode: u32, ob_nr: u32, ob: u32) -> bool
-    ensures { result ≡ means mode ob_nr ob }
+fn is_interrupt_selected(mode: u32, ob_nr: u32, ob: u32) -> bool
+    ensures { result ≡ is_interrupt_selected mode ob_nr ob }
 {
     is_interrupt(ob)
-        && (mode == 0 || mode == 1 && group_of(ob) == ob_nr || mode == 2 && ob == ob_nr)
+        && (mode == 0 || mode == 1 && first_of_group(ob) == ob_nr || mode == 2 && ob == ob_nr)
 }
 
 // The error code of MODE and OB_NR.
-fn refusal(mode: u32, ob_nr: u32) -> Option<u32>
-    ensures { result ≡ refused mode ob_nr }
+fn selection_error_code(mode: u32, ob_nr: u32) -> Option<u32>
+    ensures { result ≡ selection_error_code mode ob_nr }
 {
     if mode > 2 {
         return Some(WRONG_MODE);
     }
     let means_one = mode == 0
-        || mode == 1 && is_interrupt(ob_nr) && group_of(ob_nr) == ob_nr
+        || mode == 1 && is_interrupt(ob_nr) && first_of_group(ob_nr) == ob_nr
         || mode == 2 && is_interrupt(ob_nr);
     if means_one { None } else { Some(WRONG_OB_NR) }
 }
@@ -56,9 +56,9 @@ fn refusal(mode: u32, ob_nr: u32) -> Option<u32>
 // Disables or enables one organization block, if it is meant.
 fn set_one(s: &mut Sched, mode: u32, ob_nr: u32, ob: u16, disabled: bool)
     ensures { scheduler_of s.new
-        ≡ disabled_if_selected (means mode ob_nr ob) disabled ob (scheduler_of s.old) }
+        ≡ disabled_if_selected (is_interrupt_selected mode ob_nr ob) disabled ob (scheduler_of s.old) }
 {
-    if !is_meant(mode, ob_nr, u32::from(ob)) {
+    if !is_interrupt_selected(mode, ob_nr, u32::from(ob)) {
         return;
     }
     if disabled {
@@ -79,22 +79,16 @@ fn set_all(s: &mut Sched, mode: u32, ob_nr: u32, disabled: bool)
 }
 
 // DIS_IRT and EN_IRT.
-fn set_unless_refused(
-    s: &mut Sched,
-    a: &mut Activation,
-    mode: u32,
-    ob_nr: u32,
-    disabled: bool,
-) -> u32
-    ensures { LeavesSystemFunctionResult (disabled_or_error (refused mode ob_nr) disabled mode ob_nr
+fn disable_or_error(s: &mut Sched, a: &mut Activation, mode: u32, ob_nr: u32, disabled: bool) -> u32
+    ensures { LeavesSystemFunctionResult (disabled_or_error (selection_error_code mode ob_nr) disabled mode ob_nr
         (scheduler_of s.old) a.old)
         (scheduler_of s.new) a.new result }
 {
-    if let Some(code) = refusal(mode, ob_nr) {
-        return returned(a, code);
+    if let Some(code) = selection_error_code(mode, ob_nr) {
+        return returned_value(a, code);
     }
     set_all(s, mode, ob_nr, disabled);
-    returned(a, 0)
+    returned_value(a, 0)
 }
 
 /// SFC 39 DIS_IRT: disables interrupts: all of them (MODE 0, whatever OB_NR is), the group whose first number is OB_NR
@@ -105,7 +99,7 @@ pub fn dis_irt(s: &mut Sched, a: &mut Activation, mode: u32, ob_nr: u32) -> u32
     ensures { LeavesSystemFunctionResult (disables (scheduler_of s.old) a.old mode ob_nr)
         (scheduler_of s.new) a.new result }
 {
-    set_unless_refused(s, a, mode, ob_nr, true)
+    disable_or_error(s, a, mode, ob_nr, true)
 }
 
 /// SFC 40 EN_IRT: enables interrupts, by MODE and OB_NR as DIS_IRT disables them.
@@ -114,5 +108,5 @@ pub fn en_irt(s: &mut Sched, a: &mut Activation, mode: u32, ob_nr: u32) -> u32
     ensures { LeavesSystemFunctionResult (enables (scheduler_of s.old) a.old mode ob_nr)
         (scheduler_of s.new) a.new result }
 {
-    set_unless_refused(s, a, mode, ob_nr, false)
+    disable_or_error(s, a, mode, ob_nr, false)
 }
