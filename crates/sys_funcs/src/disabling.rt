@@ -25,7 +25,7 @@ fn is_interrupt(ob: u32) -> bool
         || (40..=47).contains(&ob)
 }
 
-// The first number of its group.
+// The first organization block number of the group of an interrupt: 10, 20, 30 or 40.
 fn first_of_group(ob: u32) -> u32
     ensures { result ≡ first_of_group ob }
 {
@@ -40,7 +40,7 @@ fn is_interrupt_selected(mode: u32, ob_nr: u32, ob: u32) -> bool
         && (mode == 0 || mode == 1 && first_of_group(ob) == ob_nr || mode == 2 && ob == ob_nr)
 }
 
-// The error code of MODE and OB_NR.
+// The error code of DIS_IRT and EN_IRT by MODE and OB_NR, if these mean no interrupt.
 fn selection_error_code(mode: u32, ob_nr: u32) -> Option<u32>
     ensures { result ≡ selection_error_code mode ob_nr }
 {
@@ -53,10 +53,11 @@ fn selection_error_code(mode: u32, ob_nr: u32) -> Option<u32>
     if means_one { None } else { Some(WRONG_OB_NR) }
 }
 
-// Disables or enables one organization block, if it is meant.
+// Disables or enables one organization block, if MODE and OB_NR mean it.
 fn set_one(s: &mut Sched, mode: u32, ob_nr: u32, ob: u16, disabled: bool)
     ensures { scheduler_of s.new
-        ≡ disabled_if_selected (is_interrupt_selected mode ob_nr ob) disabled ob (scheduler_of s.old) }
+        ≡ disabled_if_selected (is_interrupt_selected mode ob_nr ob) disabled ob
+        (scheduler_of s.old) }
 {
     if !is_interrupt_selected(mode, ob_nr, u32::from(ob)) {
         return;
@@ -68,7 +69,7 @@ fn set_one(s: &mut Sched, mode: u32, ob_nr: u32, ob: u16, disabled: bool)
     }
 }
 
-// Disables or enables the organization blocks that are meant.
+// Disables or enables the organization blocks that MODE and OB_NR mean.
 #[tactic(auto, unfolding(crate::specs::Disabling::selected_disabled))]
 fn set_all(s: &mut Sched, mode: u32, ob_nr: u32, disabled: bool)
     ensures { scheduler_of s.new ≡ selected_disabled disabled mode ob_nr (scheduler_of s.old) }
@@ -78,9 +79,10 @@ fn set_all(s: &mut Sched, mode: u32, ob_nr: u32, disabled: bool)
     }
 }
 
-// DIS_IRT and EN_IRT.
+// DIS_IRT and EN_IRT: disables or enables what MODE and OB_NR mean, or returns their error code.
 fn disable_or_error(s: &mut Sched, a: &mut Activation, mode: u32, ob_nr: u32, disabled: bool) -> u32
-    ensures { LeavesSystemFunctionResult (disabled_or_error (selection_error_code mode ob_nr) disabled mode ob_nr
+    ensures { LeavesSystemFunctionResult
+        (disabled_or_error (selection_error_code mode ob_nr) disabled mode ob_nr
         (scheduler_of s.old) a.old)
         (scheduler_of s.new) a.new result }
 {
@@ -91,9 +93,9 @@ fn disable_or_error(s: &mut Sched, a: &mut Activation, mode: u32, ob_nr: u32, di
     returned_value(a, 0)
 }
 
-/// SFC 39 DIS_IRT: disables interrupts: all of them (MODE 0, whatever OB_NR is), the group whose first number is OB_NR
-/// (MODE 1: 10, 20, 30 or 40), or that of OB_NR (MODE 2). Another MODE is 16#8091; after that another
-/// OB_NR is 16#8090.
+/// SFC 39 DIS_IRT: disables interrupts: all of them (MODE 0, whatever OB_NR is), the group whose
+/// first number is OB_NR (MODE 1: 10, 20, 30 or 40), or that of OB_NR (MODE 2). Another MODE is
+/// 16#8091; after that another OB_NR is 16#8090.
 #[tactic(auto, unfolding(crate::specs::Functions::dis_irt))]
 pub fn dis_irt(s: &mut Sched, a: &mut Activation, mode: u32, ob_nr: u32) -> u32
     ensures { LeavesSystemFunctionResult (disables (scheduler_of s.old) a.old mode ob_nr)

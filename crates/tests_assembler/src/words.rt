@@ -103,7 +103,8 @@ static WORDS: [(&str, u8); 99] = [
     ("RRDA", 0x6E),
 ];
 
-/// The same of timers, counters, calls, returns and data blocks.
+/// Words of timers, counters, calls, returns and data blocks, with one op code whatever their
+/// operand.
 static MORE_WORDS: [(&str, u8); 16] = [
     ("SP", 0x70),
     ("SE", 0x71),
