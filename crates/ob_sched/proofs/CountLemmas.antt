@@ -15,7 +15,7 @@ use Rattle.ob_sched.specs.declared.start_infos.StartInfo.{StartInfo}
 use Rattle.ob_sched.specs.declared.start_infos.StartEvent.{StartEvent}
 use Rattle.ob_sched.specs.declared.start_infos.StartEvent.TheVariants.{CycleTime, Missed, Delay, NotLoaded as OfNotLoaded}
 
--- no millisecond is counted by it
+-- a step of a tick counts no millisecond
 abbrev Keeps : TickState → TickState → Type 0
 Keeps new old = new.passed.ms ≡ old.passed.ms
 
