@@ -51,24 +51,24 @@ map-delay_counted (x ∷ xs) all =
     ap (λ (y : Option ℕ). y ∷ map delay_counted xs) (counted_lasting x (first_of (DelayLasts 2) x xs all))
     ∙ ap (λ (ys : List (Option ℕ)). shorter 1 x ∷ ys) (map-delay_counted xs (rest_of (DelayLasts 2) x xs all))
 
-abbrev AtLeast : ℕ → ℕ → Type 0
-AtLeast ms left = ms ≤ left
+abbrev PeriodLasts : ℕ → ℕ → Type 0
+PeriodLasts ms left = ms ≤ left
 
 later : (left : ℕ) → 2 ≤ left → nat_le left 1 ≡ false
 later left h = grind (arith, nat_tests)
 
-due_from-none : (ob : ℕ) (xs : List ℕ) → All (AtLeast 2) xs → due_from ob xs ≡ []
+due_from-none : (ob : ℕ) (xs : List ℕ) → All (PeriodLasts 2) xs → due_from ob xs ≡ []
 due_from-none ob [] all = refl
 due_from-none ob (x ∷ xs) all =
     let rest = due_from (ob + 1) xs in
-    ap (λ (b : Bool). if b then ob ∷ rest else rest) (later x (first_of (AtLeast 2) x xs all))
-    ∙ due_from-none (ob + 1) xs (rest_of (AtLeast 2) x xs all)
+    ap (λ (b : Bool). if b then ob ∷ rest else rest) (later x (first_of (PeriodLasts 2) x xs all))
+    ∙ due_from-none (ob + 1) xs (rest_of (PeriodLasts 2) x xs all)
 
-periods_counted-less : (ob : ℕ) (xs : List ℕ) → All (AtLeast 2) xs → periods_counted_from ob xs ≡ map (less 1) xs
+periods_counted-less : (ob : ℕ) (xs : List ℕ) → All (PeriodLasts 2) xs → periods_counted_from ob xs ≡ map (less 1) xs
 periods_counted-less ob [] all = refl
 periods_counted-less ob (x ∷ xs) all =
-    ap (λ (b : Bool). (if b then period_of ob else x - 1) ∷ periods_counted_from (ob + 1) xs) (later x (first_of (AtLeast 2) x xs all))
-    ∙ ap (λ (ys : List ℕ). (x - 1) ∷ ys) (periods_counted-less (ob + 1) xs (rest_of (AtLeast 2) x xs all))
+    ap (λ (b : Bool). (if b then period_of ob else x - 1) ∷ periods_counted_from (ob + 1) xs) (later x (first_of (PeriodLasts 2) x xs all))
+    ∙ ap (λ (ys : List ℕ). (x - 1) ∷ ys) (periods_counted-less (ob + 1) xs (rest_of (PeriodLasts 2) x xs all))
 
 -- the stages of a quiet millisecond
 delays_quiet : (mode : Mode) (c : TickState) → All (DelayLasts 2) c.sched.countdowns.delays
@@ -80,7 +80,7 @@ delays_quiet mode c all =
     (ending_from-none 20 c.sched.countdowns.delays all)
     ∙ ap moved (map-delay_counted c.sched.countdowns.delays all)
 
-periods_quiet : (mode : Mode) (active : List ℕ) (c : TickState) → All (AtLeast 2) c.sched.countdowns.periods
+periods_quiet : (mode : Mode) (active : List ℕ) (c : TickState) → All (PeriodLasts 2) c.sched.countdowns.periods
     → periods_passed mode active c ≡ record c { sched = record c.sched { countdowns = periods_shortened 1 c.sched.countdowns } }
 periods_quiet mode active c all =
     let moved : List ℕ → TickState = λ periods.
@@ -117,7 +117,7 @@ run_quiet (Stop cause at) active c lasts e = refl
 RunLastsIn-after : (mode : Mode) (ms : ℕ) (s : Scheduler) (countdowns : Countdowns) (clock : ℕ) → countdowns.periods ≡ s.countdowns.periods → RunLastsIn mode ms s
     → RunLastsIn mode ms (record s { countdowns = countdowns; clock = clock })
 RunLastsIn-after Run ms s countdowns clock e lasts = record {
-  periods = subst (λ (xs : List ℕ). All (AtLeast ms) xs) (sym e) lasts.periods;
+  periods = subst (λ (xs : List ℕ). All (PeriodLasts ms) xs) (sym e) lasts.periods;
   cycle = lasts.cycle;
 }
 RunLastsIn-after Startup ms s countdowns clock e lasts = tt
@@ -162,10 +162,10 @@ delays_last ms [] all k d h = absurd (omega arith)
 delays_last ms (x ∷ xs) all zero d h = DelayLasts-shorter ms x (first_of (DelayLasts (suc ms)) x xs all)
 delays_last ms (x ∷ xs) all (suc k) d h = delays_last ms xs (rest_of (DelayLasts (suc ms)) x xs all) k d (omega arith)
 
-periods_last : (ms : ℕ) (xs : List ℕ) → All (AtLeast (suc ms)) xs → All (AtLeast ms) (map (less 1) xs)
+periods_last : (ms : ℕ) (xs : List ℕ) → All (PeriodLasts (suc ms)) xs → All (PeriodLasts ms) (map (less 1) xs)
 periods_last ms [] all k d h = absurd (omega arith)
-periods_last ms (x ∷ xs) all zero d h = let one = first_of (AtLeast (suc ms)) x xs all in omega (arith, one)
-periods_last ms (x ∷ xs) all (suc k) d h = periods_last ms xs (rest_of (AtLeast (suc ms)) x xs all) k d (omega arith)
+periods_last ms (x ∷ xs) all zero d h = let one = first_of (PeriodLasts (suc ms)) x xs all in omega (arith, one)
+periods_last ms (x ∷ xs) all (suc k) d h = periods_last ms xs (rest_of (PeriodLasts (suc ms)) x xs all) k d (omega arith)
 
 Lasts-waited : (mode : Mode) (ms : ℕ) (c : TickState) → NothingDueFor mode (suc ms) c.sched → NothingDueFor mode ms (after_quiet_ms mode 1 c).sched
 Lasts-waited Run ms c lasts = record {
