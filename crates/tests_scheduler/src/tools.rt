@@ -5,7 +5,7 @@ use std::alloc::Global;
 use std::process::Abort;
 
 /// A scheduler in RUN, with these organization blocks loaded.
-pub(crate) fn running(rt: &impl Abort, alloc: Global, loaded: &[u16]) -> Sched {
+pub(crate) fn running_scheduler(rt: &impl Abort, alloc: Global, loaded: &[u16]) -> Sched {
     let mut sched = Sched::new(alloc, loaded).expect(rt, "memory");
     sched.begin_run();
     sched
