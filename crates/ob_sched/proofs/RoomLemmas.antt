@@ -7,13 +7,14 @@ use Rattle.std.proofs.lemmas.Bool.Decides.{nat_tests}
 use Rattle.ob_sched.specs.OrganizationBlock.{priority_class, can_wait, queue_length}
 use Rattle.ob_sched.specs.StartRequest.{StartRequest, waiting_count}
 use Rattle.ob_sched.specs.Bin.{are_of_class}
-use Rattle.ob_sched.proofs.QueueLemmas.{counts, waiting-cons}
+use Rattle.ob_sched.proofs.QueueLemmas.{request_count, waiting-cons}
 
--- how many of the requests are those of the OBs, and how many may be
+-- how many of the requests are those of some OBs
 abbrev pub waiting_of : List ℕ → List StartRequest → ℕ
 waiting_of [] xs = 0
 waiting_of (ob ∷ obs) xs = waiting_count ob xs + waiting_of obs xs
 
+-- how many requests of some OBs can be pending at once
 abbrev pub queues_of : List ℕ → ℕ
 queues_of [] = 0
 queues_of (ob ∷ obs) = queue_length ob + queues_of obs
@@ -23,7 +24,7 @@ is_listed_ob obs number = list_any (λ ob. number == ob) obs
 
 abbrev counts_of_obs : List ℕ → StartRequest → ℕ
 counts_of_obs [] x = 0
-counts_of_obs (ob ∷ obs) x = counts ob x + counts_of_obs obs x
+counts_of_obs (ob ∷ obs) x = request_count ob x + counts_of_obs obs x
 
 waiting_of-cons : (obs : List ℕ) (x : StartRequest) (xs : List StartRequest) → waiting_of obs (x ∷ xs) ≡ counts_of_obs obs x + waiting_of obs xs
 waiting_of-cons [] x xs = refl
