@@ -221,7 +221,7 @@ impl Countdowns {
     }
 
     /// The organization blocks whose delays end with the next millisecond, by number.
-    pub(crate) fn ending(&self) -> ArrayVec<u16, 4>
+    pub(crate) fn ending_delays(&self) -> ArrayVec<u16, 4>
         ensures ending { result.items ≡ ending_from 20 self.now.delays }
         ensures known { AllPass is_delay result.items }
     {
