@@ -83,7 +83,7 @@ fn register(out: &mut Vec<u8>, text: &str) -> Written {
 }
 
 /// A place that is pointed at: the letters, and what stands in the brackets.
-fn pointed_operand(out: &mut Vec<u8>, letters: &str, inside: &str) -> Written {
+fn put_pointed_place(out: &mut Vec<u8>, letters: &str, inside: &str) -> Written {
     let inside = inside.strip_suffix(']').unwrap_or("");
     match letters {
         "T" => {
@@ -129,7 +129,7 @@ fn number_behind(text: &str, letters: &str) -> Option<u16> {
 }
 
 /// `FC1`, `FB2:5`, `SFC41`.
-fn called_block(out: &mut Vec<u8>, text: &str) -> Written {
+fn put_called_block(out: &mut Vec<u8>, text: &str) -> Written {
     let (block, instance) = text.split_once(':').unwrap_or((text, "0"));
     let instance = decimal(instance).unwrap_or(0);
     for (letters, kind) in [("FC", 2), ("FB", 3), ("SFC", 5)] {
@@ -143,7 +143,7 @@ fn called_block(out: &mut Vec<u8>, text: &str) -> Written {
 }
 
 /// Operands that are a number behind letters: timers, counters, data blocks.
-fn numbered_operand(out: &mut Vec<u8>, text: &str) -> Result<bool, AllocError> {
+fn put_numbered_place(out: &mut Vec<u8>, text: &str) -> Result<bool, AllocError> {
     for (letters, form, what) in [
         ("T", 0x06, 1),
         ("C", 0x06, 2),
@@ -171,21 +171,21 @@ fn operand(out: &mut Vec<u8>, text: &str) -> Written {
         return parameter(out, rest);
     }
     if let Some((letters, inside)) = text.split_once('[') {
-        return pointed_operand(out, letters, inside);
+        return put_pointed_place(out, letters, inside);
     }
     if let Some(condition) = condition_number(text) {
         return out.extend_from_slice(&[0x09, condition]);
     }
-    if numbered_operand(out, text)? {
+    if put_numbered_place(out, text)? {
         return Ok(());
     }
     if text.starts_with("FC") || text.starts_with("FB") || text.starts_with("SFC") {
-        return called_block(out, text);
+        return put_called_block(out, text);
     }
     direct(out, text)
 }
 
-fn passed_operand(out: &mut Vec<u8>, index: &str, actual: &str) -> Written {
+fn put_passed_actual(out: &mut Vec<u8>, index: &str, actual: &str) -> Written {
     out.extend_from_slice(&[0x0B, u8::from_str_radix(index, 10).unwrap_or(255)])?;
     let Some((block, rest)) = in_named_block(actual) else {
         return operand(out, actual);
@@ -218,7 +218,7 @@ fn op(out: &mut Vec<u8>, text: &str, is_last: bool, target: u32) -> Written {
     }
     if name == "PASS" {
         out.push(0x04 | mark)?;
-        return passed_operand(out, first, second);
+        return put_passed_actual(out, first, second);
     }
     if let Some((block, rest)) = in_named_block(first) {
         out.extend_from_slice(&[0x02, 0x0A])?;
@@ -231,7 +231,7 @@ fn op(out: &mut Vec<u8>, text: &str, is_last: bool, target: u32) -> Written {
 }
 
 /// A statement without its label.
-fn unlabelled_statement(statement: &str) -> &str {
+fn without_label(statement: &str) -> &str {
     let text = statement.trim();
     match text.split_once(' ') {
         Some((first, rest)) if first.ends_with(':') => rest,
@@ -252,7 +252,7 @@ fn label_in(statement: &str) -> &str {
 }
 
 fn statement(out: &mut Vec<u8>, text: &str, target: u32) -> Written {
-    let text = unlabelled_statement(text);
+    let text = without_label(text);
     let last = text.split(',').count();
     let mut place = 0_usize;
     for part in text.split(',') {
@@ -285,7 +285,7 @@ fn code_bytes(alloc: Global, code: &str) -> Result<(Vec<u8>, u16), AllocError> {
             continue;
         }
         let mut target = 0;
-        let name = unlabelled_statement(text)
+        let name = without_label(text)
             .split_ascii_whitespace()
             .next()
             .unwrap_or("");
