@@ -24,7 +24,7 @@ use Rattle.block_layout.specs.Members.{component_of_name}
 use Rattle.block_layout.specs.Offsets as offsets
 use Rattle.block_layout.specs.Offsets.{place_of_path, elementary_place, place_at_path_end, variable_place, width_of}
 use Rattle.block_layout.specs.Paths as paths
-use Rattle.block_layout.specs.Paths.{cells_at, elementary_at, folded_path, if_whole, path_end_by_index, is_checkable, kind_of, leaves_array, leaves_from, leaves_structure, leaves_local, path_end_by_name, outermost_path_end, plain_kind, path_end_by_step, structure_of, path_end_behind, path_end_in_data_block, path_end_in_block, walked_local, whole_at}
+use Rattle.block_layout.specs.Paths.{cells_at, elementary_at, folded_path, if_whole, path_end_by_index, is_checkable, kind_of, leaves_array, leaves_from, leaves_structure, leaves_local, path_end_by_name, outermost_path_end, plain_kind, path_end_by_step, structure_of, path_end_behind, path_end_in_data_block, path_end_in_block, path_end_of_local, whole_at}
 use Rattle.block_layout.specs.declared.blocks.BlockLayout.{BlockLayout}
 use Rattle.block_layout.specs.declared.blocks.Section.TheVariants as section
 use Rattle.block_layout.specs.declared.cells.Cell.{Cell}
@@ -37,7 +37,7 @@ use Rattle.block_layout.specs.declared.walks.PathEnd.TheVariants as path_end
 use Rattle.stl_types.specs.Context.{Context, data_number, data_place, in_function, number_of_block}
 use Rattle.stl_types.specs.Forms.{form_of}
 use Rattle.stl_types.specs.Resolution.{resolution_of}
-use Rattle.stl_types.specs.Variables.{data_at, data_path, data_variable, data_walked, variable_in_area, own_at, own_variable, own_walked, parameter_at}
+use Rattle.stl_types.specs.Variables.{data_at, data_path, data_variable, data_at_path_end, variable_in_area, own_at, own_variable, own_at_path_end, parameter_at}
 use Rattle.stl_types.specs.Variables as variables
 use Rattle.stl_types.specs.declared.views.Resolution.TheVariants.{Resolved, Unknown}
 use Rattle.stl_types.specs.declared.views.ResolvedOperand.{ResolvedOperand}
@@ -49,7 +49,7 @@ use Rattle.statement_laws.specs.Operands.{block_id_of_name, cell_width, componen
 use Rattle.statement_laws.specs.Operands as own
 use Rattle.statement_laws.proofs.CoverLemmas.{has_no_name, name_left}
 use Rattle.statement_laws.proofs.SeenLemmas.{block_same, number_known, resolved_parts, resolved_same}
-use Rattle.statement_laws.proofs.VariableLemmas.{function_same, walked_in_whole}
+use Rattle.statement_laws.proofs.VariableLemmas.{function_same, path_in_whole_block}
 
 abbrev There : Option NamedItem → Type 0
 There o = (x : NamedItem) × (o ≡ Some x)
@@ -82,7 +82,7 @@ temporary_component c component (Some kind) v r e =
     area_there kind (elementary_place area.L 0 component.offset (Some kind)) v e
 
 temporary_end : (c : Context) (end : PathEnd) (v : ResolvedOperand)
-    → has_no_name v ≡ false → own_walked c true end ≡ Resolved v
+    → has_no_name v ≡ false → own_at_path_end c true end ≡ Resolved v
     → There (place_in_layout (place_at_path_end c.layouts area.L 0 end))
 temporary_end c (path_end.Reaches component) v r e =
     temporary_component c component (elementary_at c.layouts component) v r e
@@ -100,7 +100,7 @@ static_component c component (Some kind) v r fc e =
     else variable_in_area kind (elementary_place area.Di 0 component.offset (Some kind))) fc) ∙ e)
 
 static_end : (c : Context) (end : PathEnd) (v : ResolvedOperand)
-    → has_no_name v ≡ false → in_function c ≡ false → own_walked c false end ≡ Resolved v
+    → has_no_name v ≡ false → in_function c ≡ false → own_at_path_end c false end ≡ Resolved v
     → There (place_in_layout (place_at_path_end c.layouts area.Di 0 end))
 static_end c (path_end.Reaches component) v r fc e =
     static_component c component (elementary_at c.layouts component) v r fc e
@@ -108,7 +108,7 @@ static_end c path_end.Unknown v r fc e = absurd cc
 static_end c path_end.Unjudged v r fc e = absurd cc
 
 end_is_checkable : (c : Context) (temporary : Bool) (end : PathEnd) (v : ResolvedOperand)
-    → own_walked c temporary end ≡ Resolved v → is_checkable end ≡ true
+    → own_at_path_end c temporary end ≡ Resolved v → is_checkable end ≡ true
 end_is_checkable c temporary (path_end.Reaches component) v e = refl
 end_is_checkable c temporary path_end.Unknown v e = absurd cc
 end_is_checkable c temporary path_end.Unjudged v e = absurd cc
@@ -196,7 +196,7 @@ cell_named c place cell there e =
 reached_cell : (c : Context) (m : Member) (offset : ℕ) (sound : Bool) (cell : Cell)
     (steps : List PathStep) (v : ResolvedOperand)
     → slice_get (components_of_block c) (0 + m.place) ≡ Some cell → is_elementary_component cell ≡ true
-    → own_walked c false (paths.path_end_and_then (if sound then path_end.Reaches (record {
+    → own_at_path_end c false (paths.path_end_and_then (if sound then path_end.Reaches (record {
       block = c.block;
       temporary = false;
       place = 0 + m.place;
@@ -208,7 +208,7 @@ reached_cell c m offset false cell steps v there plain e = absurd cc
 reached_cell c m offset true cell [] v there plain e =
     cell_named c m.place cell (ap (slice_get (components_of_block c)) (sym (zero-add m.place)) ∙ there) plain
 reached_cell c m offset true cell (s ∷ ss) v there plain e =
-    absurd (unknown (sym (ap (λ end. own_walked c false
+    absurd (unknown (sym (ap (λ end. own_at_path_end c false
     (paths.path_end_and_then end (λ next. path_end_behind c.layouts next ss)))
     (step_none c.layouts (record {
       block = c.block;
@@ -224,7 +224,7 @@ reached_cell c m offset true cell (s ∷ ss) v there plain e =
 reached_parameter : (c : Context) (m : Member) (offset : ℕ) (o : Option Cell) (steps : List PathStep)
     (v : ResolvedOperand) → AllByRecursion (λ cell. is_elementary_component cell ≡ true) (components_of_block c)
     → slice_get (components_of_block c) (0 + m.place) ≡ o
-    → own_walked c false (paths.path_end_and_then (paths.path_end_at_cell c.block false (0 + m.place) offset o)
+    → own_at_path_end c false (paths.path_end_and_then (paths.path_end_at_cell c.block false (0 + m.place) offset o)
     (λ component. path_end_behind c.layouts component steps)) ≡ Resolved v
     → There (parameter_named c m.place steps)
 reached_parameter c m offset None steps v plain there e = absurd cc
@@ -235,13 +235,13 @@ reached_parameter c m offset (Some cell) steps v plain there e =
 parameter_there : (c : Context) (name : List ℕ) (steps : List PathStep) (m : Member)
     (v : ResolvedOperand) → AllByRecursion (λ cell. is_elementary_component cell ≡ true) (components_of_block c)
     → component_of_name 0 0 0 name (components_of_block c) ≡ Some m
-    → own_walked c false (paths.path_end_and_then (outermost_path_end c.layouts c.block false 0 name)
+    → own_at_path_end c false (paths.path_end_and_then (outermost_path_end c.layouts c.block false 0 name)
     (λ component. path_end_behind c.layouts component steps)) ≡ Resolved v
     → There (parameter_named c m.place steps)
 unfolding outermost_path_end
 parameter_there c name steps m v plain there e =
     reached_parameter c m _ (slice_get (components_of_block c) (0 + m.place)) steps v plain refl
-    (sym (ap (λ o. own_walked c false
+    (sym (ap (λ o. own_at_path_end c false
     (paths.path_end_and_then (paths.path_end_at_member (components_of_block c) c.block false 0 0 o)
     (λ component. path_end_behind c.layouts component steps)))
     there) ∙ e)
@@ -251,7 +251,7 @@ parameter_there c name steps m v plain there e =
 local_there : (c : Context) (name : List ℕ) (steps : List PathStep)
     (m : Option Member) (v : ResolvedOperand) → has_no_name v ≡ false → HasElementaryParameters c
     → component_of_name 0 0 0 name (components_of_block c) ≡ m
-    → own_walked c (not (is_some m))
+    → own_at_path_end c (not (is_some m))
     (if is_some (whole_at c.layouts c.block)
     then paths.path_end_and_then
     (if is_some m then outermost_path_end c.layouts c.block false 0 name
@@ -274,7 +274,7 @@ local_there c name steps None v r plain there e inside =
     (place_at_path_end c.layouts area.L 0 (path_end_in_block c.layouts c.block true (step.Named name ∷ steps)))
     (stays _ _ (end_is_checkable c true _ v e) inside)
     (temporary_end c (path_end_in_block c.layouts c.block true (step.Named name ∷ steps)) v r
-    (walked_in_whole c true (is_some (whole_at c.layouts c.block))
+    (path_in_whole_block c true (is_some (whole_at c.layouts c.block))
     (path_end_in_block c.layouts c.block true (step.Named name ∷ steps)) v e))
 local_there c name steps (Some m) v r plain there e inside =
     by (is_fc (slice_get c.blocks c.block)) refl
@@ -284,7 +284,7 @@ local_there c name steps (Some m) v r plain there e inside =
         else place_in_layout (variable_place c.layouts area.Di c.block false (step.Named name ∷ steps)))
     by true fc =
         parameter_there c name steps m v (plain fc) there
-        (walked_in_whole c false (is_some (whole_at c.layouts c.block))
+        (path_in_whole_block c false (is_some (whole_at c.layouts c.block))
         (path_end_in_block c.layouts c.block false (step.Named name ∷ steps)) v e)
     by false fc =
         kept (leaves_from c.layouts c.block false (step.Named name ∷ steps))
@@ -292,14 +292,14 @@ local_there c name steps (Some m) v r plain there e inside =
         (stays _ _ (end_is_checkable c false _ v e) inside)
         (static_end c (path_end_in_block c.layouts c.block false (step.Named name ∷ steps)) v r
         (sym (function_same (slice_get c.blocks c.block)) ∙ fc)
-        (walked_in_whole c false (is_some (whole_at c.layouts c.block))
+        (path_in_whole_block c false (is_some (whole_at c.layouts c.block))
         (path_end_in_block c.layouts c.block false (step.Named name ∷ steps)) v e))
 
 variable_there : (c : Context) (name : List ℕ) (steps : List PathStep)
     (v : ResolvedOperand) → has_no_name v ≡ false → HasElementaryParameters c
     → own_variable c name steps ≡ Resolved v
     → not (leaves_local c.layouts c.block name steps) ≡ true → There (variable_named c name steps)
-unfolding walked_local
+unfolding path_end_of_local
 variable_there c name steps v r plain e inside =
     local_there c name steps (component_of_name 0 0 0 name (components_of_block c)) v r plain refl e inside
 
@@ -314,7 +314,7 @@ data_component_there c n component (Some kind) v r e =
     area_there kind (elementary_place area.Db n component.offset (Some kind)) v e
 
 data_end_there : (c : Context) (n : ℕ) (end : PathEnd) (v : ResolvedOperand)
-    → has_no_name v ≡ false → data_walked c n end ≡ Resolved v
+    → has_no_name v ≡ false → data_at_path_end c n end ≡ Resolved v
     → There (place_in_layout (place_at_path_end c.layouts area.Db n end))
 data_end_there c n (path_end.Reaches component) v r e =
     data_component_there c n component (elementary_at c.layouts component) v r e
@@ -335,7 +335,7 @@ data_whole : (c : Context) (id : BlockId) (steps : List PathStep) (place n : ℕ
     (block : Option BlockLayout) (v : ResolvedOperand) → has_no_name v ≡ false
     → is_data_block id.kind ≡ true
     → option_and_then (λ (b : BlockLayout). number_of_block b.id) block ≡ Some n
-    → data_walked c id.number (path_end_in_data_block c.layouts place steps) ≡ Resolved v
+    → data_at_path_end c id.number (path_end_in_data_block c.layouts place steps) ≡ Resolved v
     → not (leaves_structure c.layouts (structure_of c.layouts place) steps) ≡ true
     → There (place_in_layout (option_and_then (offsets.place_in_section c.layouts id section.Global steps)
     (if is_some block then Some place else None)))
@@ -360,7 +360,7 @@ data_known_there : (c : Context) (id : BlockId) (steps : List PathStep)
     (option_and_then (if_whole c.layouts) place)))
 data_known_there c id steps (Some number) (Some place) v r db is d e inside =
     data_whole c id steps place number (whole_at c.layouts place) v r db (sym d)
-    (ap (λ k. data_walked c k (path_end_in_data_block c.layouts place steps)) (sym (is number refl)) ∙ e) inside
+    (ap (λ k. data_at_path_end c k (path_end_in_data_block c.layouts place steps)) (sym (is number refl)) ∙ e) inside
 data_known_there c id steps (Some number) None v r db is d e inside = absurd cc
 data_known_there c id steps None (Some place) v r db is d e inside = absurd cc
 data_known_there c id steps None None v r db is d e inside = absurd cc

@@ -26,7 +26,7 @@ use Rattle.stl_symbols.specs.declared.targets.Target.{Target}
 use Rattle.stl_symbols.specs.declared.targets.Target.TheVariants as target
 use Rattle.block_layout.specs.Blocks.{named_block}
 use Rattle.block_layout.specs.Offsets.{elementary_place}
-use Rattle.block_layout.specs.Paths.{cells_at, folded_path, walked_local, whole_at}
+use Rattle.block_layout.specs.Paths.{cells_at, folded_path, path_end_of_local, whole_at}
 use Rattle.block_layout.specs.declared.blocks.BlockLayout.{BlockLayout}
 use Rattle.block_layout.specs.declared.cells.Cell.{Cell}
 use Rattle.block_layout.specs.declared.walks.ComponentAt.{ComponentAt}
@@ -34,7 +34,7 @@ use Rattle.block_layout.specs.declared.walks.PathEnd.{PathEnd}
 use Rattle.stl_types.specs.Context.{Context, data_number, in_function}
 use Rattle.stl_types.specs.Operands.{is_on_wrong_side}
 use Rattle.stl_types.specs.Resolution.{resolution_of_address, resolution_of_path, resolution_of, whole_called_block}
-use Rattle.stl_types.specs.Variables.{composite_operand, data_variable, data_walked, variable_in_area, is_temporary_variable, own_elementary, own_walked, parameter_at}
+use Rattle.stl_types.specs.Variables.{composite_operand, data_variable, data_at_path_end, variable_in_area, is_temporary_variable, own_elementary, own_at_path_end, parameter_at}
 use Rattle.stl_types.specs.declared.forms.OperandRule.{OperandRule}
 use Rattle.stl_types.specs.declared.views.Resolution.{Resolution}
 use Rattle.stl_types.specs.declared.views.Resolution.TheVariants.{Resolved}
@@ -164,12 +164,12 @@ own_elementary_fits c o false component kind fit = by (in_function c) refl
     by true e = parameter_holds c o component kind (fit.own e)
     by false e = in_area_fits o kind area.Di 0 component.offset (omega arith)
 
-own_fits : (c : Context) (o : Operand) (temporary : Bool) (w : PathEnd) → IsFit c → SeenFits o (own_walked c temporary w)
+own_fits : (c : Context) (o : Operand) (temporary : Bool) (w : PathEnd) → IsFit c → SeenFits o (own_at_path_end c temporary w)
 own_fits c o temporary w fit =
     grind (arith, composite_fits, (λ (component : ComponentAt) (kind : Simple). own_elementary_fits c o temporary component kind fit))
 
 data_walk_fits : (c : Context) (o : Operand) (n : ℕ) (w : PathEnd) → IsWord n
-    → SeenFits o (data_walked c n w)
+    → SeenFits o (data_at_path_end c n w)
 data_walk_fits c o n w h = grind (arith, composite_fits, in_area_fits)
 
 data_variable_fits : (c : Context) (o : Operand) (name : BlockName) (steps : List PathStep)
@@ -182,7 +182,7 @@ path_fits : (c : Context) (o : Operand) (p : PathHead) (steps : List PathStep) �
     → SeenFits o (resolution_of_path c p steps)
 path_fits c o (head.Local name) steps fit =
     own_fits c o (is_temporary_variable c (upper_case_name name))
-    (walked_local c.layouts c.block (upper_case_name name) (folded_path steps)) fit
+    (path_end_of_local c.layouts c.block (upper_case_name name) (folded_path steps)) fit
 path_fits c o (head.InBlock name) steps fit = data_variable_fits c o name (folded_path steps) fit
 path_fits c o (head.Symbol name) steps fit = grind (arith, symbol_fits name c.symbols fit.symbols)
 

@@ -31,7 +31,7 @@ use Rattle.block_layout.specs.Around.{Outside, of_sections, of_structure, declar
 use Rattle.block_layout.specs.Cells.{cell_of, cells_of, components_of, is_temp, layout_element, with_first_cell_opening, returned_cells, section_cells}
 use Rattle.block_layout.specs.Members.{component_of_name}
 use Rattle.block_layout.specs.Offsets.{place_at, elementary_place, width_of}
-use Rattle.block_layout.specs.Paths.{cells_at, elementary_at, path_end_at_cell, path_end_at_member, path_end_and_then, in_sections, path_end_by_index, indexed_behind, is_beyond, kind_of, path_end_by_name, named_behind, named_in, outermost_path_end, plain_kind, path_end_by_step, path_end_behind, walked_local, whole_at, path_end_in_bounds}
+use Rattle.block_layout.specs.Paths.{cells_at, elementary_at, path_end_at_cell, path_end_at_member, path_end_and_then, in_sections, path_end_by_index, indexed_behind, is_beyond, kind_of, path_end_by_name, named_behind, named_in, outermost_path_end, plain_kind, path_end_by_step, path_end_behind, path_end_of_local, whole_at, path_end_in_bounds}
 use Rattle.block_layout.specs.Sizes.{array_bits, capped_size, element_of, plain_bits}
 use Rattle.block_layout.specs.Types.{Types}
 use Rattle.block_layout.specs.declared.blocks.BlockLayout.{BlockLayout}
@@ -380,12 +380,12 @@ on_stays k (path_end.Reaches s) next h g = g s h.0 h.1
 on_stays k path_end.Unknown next h g = tt
 on_stays k path_end.Unjudged next h g = tt
 
-walked_stays : (l : List BlockLayout) (k : ℕ) → ArePlain l k → (ps : List PathStep) (s : ComponentAt)
+path_end_stays : (l : List BlockLayout) (k : ℕ) → ArePlain l k → (ps : List PathStep) (s : ComponentAt)
     → s.block ≡ k → s.temporary ≡ false → Stays k (path_end_behind l s ps)
-walked_stays l k plain [] s e f = (e, f)
-walked_stays l k plain (p ∷ ps) s e f =
+path_end_stays l k plain [] s e f = (e, f)
+path_end_stays l k plain (p ∷ ps) s e f =
     on_stays k (path_end_by_step l s p) (λ next. path_end_behind l next ps) (step_stays l k plain s p e f)
-    (λ next g h. walked_stays l k plain ps next g h)
+    (λ next g h. path_end_stays l k plain ps next g h)
 
 outermost_stays : (l : List BlockLayout) (k offset : ℕ) (name : List ℕ)
     → Stays k (outermost_path_end l k false offset name)
@@ -395,12 +395,12 @@ outermost_stays l k offset name =
 
 pub local_stays : (l : List BlockLayout) (k : ℕ) → ArePlain l k → (name : List ℕ)
     (ps : List PathStep) → is_some (component_of_name 0 0 0 name (cells_at l k false)) ≡ true
-    → is_some (whole_at l k) ≡ true → Stays k (walked_local l k name ps)
-unfolding walked_local
+    → is_some (whole_at l k) ≡ true → Stays k (path_end_of_local l k name ps)
+unfolding path_end_of_local
 local_stays l k plain name ps own whole =
     subst (λ (t : Bool). Stays k (if t then path_end_and_then (in_sections l k name) (λ s. path_end_behind l s ps) else path_end.Unjudged))
     (sym whole)
     (subst (λ (t : Bool). Stays k (path_end_and_then (if t then outermost_path_end l k false 0 name else outermost_path_end l k true 0 name)
     (λ s. path_end_behind l s ps))) (sym own)
     (on_stays k (outermost_path_end l k false 0 name) (λ s. path_end_behind l s ps) (outermost_stays l k 0 name)
-    (λ s e f. walked_stays l k plain ps s e f)))
+    (λ s e f. path_end_stays l k plain ps s e f)))

@@ -51,7 +51,7 @@ use Rattle.block_layout.specs.Lengths.{farthest_actual_end, block_bits, farthest
 use Rattle.block_layout.specs.Measures.{types_of_source}
 use Rattle.block_layout.specs.Members.{component_of_name}
 use Rattle.block_layout.specs.Offsets.{place_at, elementary_place, width_of}
-use Rattle.block_layout.specs.Paths.{cells_at, elementary_at, folded_path, kind_of, leaves_local, shape_block, structure_of, path_end_in_data_block, walked_local, whole_at, whole_block}
+use Rattle.block_layout.specs.Paths.{cells_at, elementary_at, folded_path, kind_of, leaves_local, shape_block, structure_of, path_end_in_data_block, path_end_of_local, whole_at, whole_block}
 use Rattle.block_layout.specs.Rule23.{is_unknown_data, is_unknown_path, is_unknown_shape, names_unknown}
 use Rattle.block_layout.specs.Rule42.{leaves_found, leaves_path, operand_is_outside}
 use Rattle.block_layout.specs.Rule50.{has_too_much_local}
@@ -71,7 +71,7 @@ use Rattle.stl_types.specs.Addresses.{resolved_address, address_in_block, area_f
 use Rattle.stl_types.specs.Context.{Context, data_number, data_place, in_function, is_of_function, number_of_block}
 use Rattle.stl_types.specs.Resolution.{resolution_of_opened_block, resolution_of_path, resolution_of, resolution_of_symbol, target_view}
 use Rattle.stl_types.specs.Unknown.{is_unknown}
-use Rattle.stl_types.specs.Variables.{composite_operand, data_at, date_or_composite, data_path, data_variable, data_walked, variable_in_area, own_at, own_elementary, own_variable, own_walked, parameter_resolution, parameter_at, parameter_index}
+use Rattle.stl_types.specs.Variables.{composite_operand, data_at, date_or_composite, data_path, data_variable, data_at_path_end, variable_in_area, own_at, own_elementary, own_variable, own_at_path_end, parameter_resolution, parameter_at, parameter_index}
 use Rattle.stl_types.specs.declared.views.Resolution.{Resolution}
 use Rattle.stl_types.specs.declared.views.Resolution.TheVariants.{Resolved}
 use Rattle.stl_types.specs.declared.views.Side.TheVariants as side
@@ -495,21 +495,21 @@ module _ (symbols : List Symbol) (t : Tree) (tree : IsSoundTree symbols t) (k : 
       temps : List Cell
       temps = cells_at ls k true
 
-      walked : PathEnd
-      walked = walked_local ls k name steps
+      reached_end : PathEnd
+      reached_end = path_end_of_local ls k name steps
 
       right : AreRight ls
       right = are_right symbols t tree
 
       -- each component that the path reaches is seen
       IsRead : Bool → Type 0
-      IsRead temporary = (s : ComponentAt) → walked ≡ path_end.Reaches s
+      IsRead temporary = (s : ComponentAt) → reached_end ≡ path_end.Reaches s
           → IsSeen a (own_at (context_at symbols t k) temporary s (elementary_at ls s))
 
       reads : (temporary : Bool) (w : PathEnd)
           → ((s : ComponentAt) → w ≡ path_end.Reaches s → IsSeen a (own_at (context_at symbols t k) temporary s (elementary_at ls s)))
-          → Moves w → is_unknown (own_walked (context_at symbols t k) temporary w) ≡ false
-          → IsSeen a (own_walked (context_at symbols t k) temporary w)
+          → Moves w → is_unknown (own_at_path_end (context_at symbols t k) temporary w) ≡ false
+          → IsSeen a (own_at_path_end (context_at symbols t k) temporary w)
       reads temporary (path_end.Reaches s) f m known = f s refl
       reads temporary path_end.Unknown f m known = absurd cc
       reads temporary path_end.Unjudged f m known = absurd m
@@ -571,10 +571,10 @@ module _ (symbols : List Symbol) (t : Tree) (tree : IsSoundTree symbols t) (k : 
           kind false false f g = of_organization (code_kind b.kind code f g) e
 
       by : (there : Bool) → is_some (component_of_name 0 0 0 name cells) ≡ there
-          → is_unknown (own_walked (context_at symbols t k) (not there) walked) ≡ false
-          → IsSeen a (own_walked (context_at symbols t k) (not there) walked)
-      by true e known = reads false walked (own e) (local_moves ls right k name steps whole_here) known
-      by false e known = reads true walked (temporary e) (local_moves ls right k name steps whole_here) known
+          → is_unknown (own_at_path_end (context_at symbols t k) (not there) reached_end) ≡ false
+          → IsSeen a (own_at_path_end (context_at symbols t k) (not there) reached_end)
+      by true e known = reads false reached_end (own e) (local_moves ls right k name steps whole_here) known
+      by false e known = reads true reached_end (temporary e) (local_moves ls right k name steps whole_here) known
 
 -- ---- data blocks
 
@@ -803,7 +803,7 @@ data_seen symbols t tree k a name steps there known stays =
     limit : ℕ
     limit = structure_bits (cells_at ls s.inside false)
 
-    whole : data_variable c name steps ≡ data_walked c d.block.id.number (path_end_in_data_block ls d.place steps)
+    whole : data_variable c name steps ≡ data_at_path_end c d.block.id.number (path_end_in_data_block ls d.place steps)
     whole =
         ap (λ (o : Option ℕ). data_path c steps o (data_place c name)) d.number
         ∙ ap (λ (o : Option ℕ). data_path c steps (Some d.block.id.number) o) d.found
@@ -824,8 +824,8 @@ data_seen symbols t tree k a name steps there known stays =
         place : IsPlaced limit w.offset kind
         place = reached_place ls limit w kind h e
 
-    reads : (w : PathEnd) → Goes ls limit w → is_unknown (data_walked c d.block.id.number w) ≡ false
-        → IsSeen a (data_walked c d.block.id.number w)
+    reads : (w : PathEnd) → Goes ls limit w → is_unknown (data_at_path_end c d.block.id.number w) ≡ false
+        → IsSeen a (data_at_path_end c d.block.id.number w)
     reads (path_end.Reaches w) g u = at w g (elementary_at ls w) refl
     reads path_end.Unknown g u = absurd cc
     reads path_end.Unjudged g u = absurd g
