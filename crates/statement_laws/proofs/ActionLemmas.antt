@@ -2,6 +2,7 @@
 use Rattle.std.proofs.Common.{ℕ, ◌≡◌, ◌==◌, ◌%◌, ◌^◌, Bool, true, false, List, [], ◌∷◌, length, Option, Some, None, unwrap_or, Result, Ok, Err, ok_or, if◌then◌else◌, refl, ◌∙◌, ap}
 use Rattle.std.specs.FinMap as map
 use Rattle.std.proofs.lemmas.Bool.{false≢true}
+use Rattle.plc_base.specs.ErrorCodes as errors
 use Rattle.plc_base.specs.declared.instructions.Check.{Check}
 use Rattle.plc_base.specs.declared.instructions.Check.TheVariants as check
 use Rattle.plc_base.specs.declared.instructions.TimerKind.{TimerKind}
@@ -51,7 +52,7 @@ use Rattle.statement_laws.specs.Effects as own
 use Rattle.statement_laws.specs.Named.{NamedItem, ItemNumber, OpenBlock, OperandPlace}
 use Rattle.statement_laws.specs.Named as named
 use Rattle.statement_laws.specs.Reading as reading
-use Rattle.statement_laws.proofs.FlatLemmas.{bcd_same, flat_number, flat_of, flat_spot, is_read, loaded_same, number_same, numbered_same, place_same, tested_same}
+use Rattle.statement_laws.proofs.FlatLemmas.{bcd_same, flat_number, flat_of, flat_place, is_read, loaded_same, number_same, numbered_same, place_same, tested_same}
 use Rattle.statement_laws.proofs.PlaceLemmas.{standing_same, then_same, there_same, written_same}
 
 -- ---- results
@@ -114,13 +115,13 @@ unnest_same o p = by p.local.inner.brackets
 
 -- what writes a bit, or transfers
 abbrev pub is_written : NamedItem → Bool
-is_written (named.Place spot) = true
+is_written (named.Place place) = true
 is_written (named.Parameter index w) = true
 is_written _ = false
 
 written_place : (x : NamedItem) (p : ExecState) → is_written x ≡ true
     → places.operand_location Writing (flat_of x) p.local p.memory ≡ reading.place_of_operand Writing x p
-written_place (named.Place spot) p e = place_same Writing (named.Place spot) p refl
+written_place (named.Place place) p e = place_same Writing (named.Place place) p refl
 written_place (named.Parameter index w) p e = place_same Writing (named.Parameter index w) p refl
 written_place _ p e = absurd (false≢true e)
 
@@ -213,55 +214,55 @@ error_same code (Err BadBcd) = refl
 
 timer_same : (f : Timer → Option Timer) (n : ItemNumber) (p : ExecState)
     → effect.on_timers p (then_ok (values.number_named (flat_number 1 n) p.local p.memory)
-    (λ which. values.with_timer_error 0x26 (change_at_number f p.timers which)))
+    (λ which. values.with_timer_error errors.no_timer (change_at_number f p.timers which)))
     ≡ own.on_timer f n p
 timer_same f n p =
-    ap (λ z. effect.on_timers p (then_ok z (λ which. values.with_timer_error 0x26 (change_at_number f p.timers which))))
+    ap (λ z. effect.on_timers p (then_ok z (λ which. values.with_timer_error errors.no_timer (change_at_number f p.timers which))))
     (numbered_same 1 n p)
     ∙ by (reading.number_of_item n p)
   where
     changed : (r : Result (List Timer) TimerFault)
-        → effect.on_timers p (values.with_timer_error 0x26 r)
-        ≡ then_ok (own.or_error 0x26 r) (λ all. own.on_regs own.with_logic_string_ended (record p { timers = all }))
+        → effect.on_timers p (values.with_timer_error errors.no_timer r)
+        ≡ then_ok (own.or_error errors.no_timer r) (λ all. own.on_regs own.with_logic_string_ended (record p { timers = all }))
     changed (Ok all) = refl
     changed (Err NoNumber) = refl
     changed (Err BadBcd) = refl
 
     by : (z : Result ℕ ℕ)
-        → effect.on_timers p (then_ok z (λ which. values.with_timer_error 0x26 (change_at_number f p.timers which)))
-        ≡ then_ok z (λ which. then_ok (own.or_error 0x26 (change_at_number f p.timers which))
+        → effect.on_timers p (then_ok z (λ which. values.with_timer_error errors.no_timer (change_at_number f p.timers which)))
+        ≡ then_ok z (λ which. then_ok (own.or_error errors.no_timer (change_at_number f p.timers which))
         (λ all. own.on_regs own.with_logic_string_ended (record p { timers = all })))
     by (Ok which) = changed (change_at_number f p.timers which)
     by (Err e) = refl
 
 counter_same : (f : Counter → Option Counter) (n : ItemNumber) (p : ExecState)
     → effect.on_counters p (then_ok (values.number_named (flat_number 2 n) p.local p.memory)
-    (λ which. values.with_timer_error 0x27 (change_at_number f p.counters which)))
+    (λ which. values.with_timer_error errors.no_counter (change_at_number f p.counters which)))
     ≡ own.on_counter f n p
 counter_same f n p =
-    ap (λ z. effect.on_counters p (then_ok z (λ which. values.with_timer_error 0x27 (change_at_number f p.counters which))))
+    ap (λ z. effect.on_counters p (then_ok z (λ which. values.with_timer_error errors.no_counter (change_at_number f p.counters which))))
     (numbered_same 2 n p)
     ∙ by (reading.number_of_item n p)
   where
     changed : (r : Result (List Counter) TimerFault)
-        → effect.on_counters p (values.with_timer_error 0x27 r)
-        ≡ then_ok (own.or_error 0x27 r) (λ all. own.on_regs own.with_logic_string_ended (record p { counters = all }))
+        → effect.on_counters p (values.with_timer_error errors.no_counter r)
+        ≡ then_ok (own.or_error errors.no_counter r) (λ all. own.on_regs own.with_logic_string_ended (record p { counters = all }))
     changed (Ok all) = refl
     changed (Err NoNumber) = refl
     changed (Err BadBcd) = refl
 
     by : (z : Result ℕ ℕ)
-        → effect.on_counters p (then_ok z (λ which. values.with_timer_error 0x27 (change_at_number f p.counters which)))
-        ≡ then_ok z (λ which. then_ok (own.or_error 0x27 (change_at_number f p.counters which))
+        → effect.on_counters p (then_ok z (λ which. values.with_timer_error errors.no_counter (change_at_number f p.counters which)))
+        ≡ then_ok z (λ which. then_ok (own.or_error errors.no_counter (change_at_number f p.counters which))
         (λ all. own.on_regs own.with_logic_string_ended (record p { counters = all })))
     by (Ok which) = changed (change_at_number f p.counters which)
     by (Err e) = refl
 
 -- by the kind in the operand
-spot_kind : (spot : OperandPlace) → effect.kind_of_numbered_operand (flat_spot spot) ≡ None
-spot_kind (named.Fixed a w byte bit) = refl
-spot_kind (named.ByMemory a w from byte) = refl
-spot_kind (named.ByRegister a w register count) = refl
+place_kind : (place : OperandPlace) → effect.kind_of_numbered_operand (flat_place place) ≡ None
+place_kind (named.Fixed a w byte bit) = refl
+place_kind (named.ByMemory a w from byte) = refl
+place_kind (named.ByRegister a w register count) = refl
 
 number_kind : (kind : ℕ) (n : ItemNumber) → effect.kind_of_numbered_operand (flat_number kind n) ≡ Some kind
 number_kind kind (named.Written n) = refl
@@ -294,9 +295,9 @@ unfolding effect.operation_effect timing.counter_set
 set_same (named.Counter n) p e =
     ap (λ k. effect.set_effect k (flat_number 2 n) p) (number_kind 2 n)
     ∙ counter_same (counters.set_counter (own.rlo_of p) (own.low_word p)) n p
-set_same (named.Place spot) p e =
-    ap (λ k. effect.set_effect k (flat_spot spot) p) (spot_kind spot)
-    ∙ bit_set_same true (named.Place spot) p refl
+set_same (named.Place place) p e =
+    ap (λ k. effect.set_effect k (flat_place place) p) (place_kind place)
+    ∙ bit_set_same true (named.Place place) p refl
 set_same (named.Parameter index w) p e = bit_set_same true (named.Parameter index w) p refl
 set_same _ p e = absurd (false≢true e)
 
@@ -309,9 +310,9 @@ reset_same (named.Timer n) p e =
 reset_same (named.Counter n) p e =
     ap (λ k. effect.reset_effect k (flat_number 2 n) p) (number_kind 2 n)
     ∙ counter_same (λ k. Some (counters.reset_counter (own.rlo_of p) k)) n p
-reset_same (named.Place spot) p e =
-    ap (λ k. effect.reset_effect k (flat_spot spot) p) (spot_kind spot)
-    ∙ bit_set_same false (named.Place spot) p refl
+reset_same (named.Place place) p e =
+    ap (λ k. effect.reset_effect k (flat_place place) p) (place_kind place)
+    ∙ bit_set_same false (named.Place place) p refl
 reset_same (named.Parameter index w) p e = bit_set_same false (named.Parameter index w) p refl
 reset_same _ p e = absurd (false≢true e)
 
@@ -448,8 +449,8 @@ pub transfer_same : (x : NamedItem) (p : ExecState) → is_transferred x ≡ tru
     → effect.operation_effect (transfer_operation x) (flat_of x) p ≡ own.transfers_accumulator x p
 unfolding effect.operation_effect loads.status_transferred
 transfer_same named.StatusWord p e = refl
-transfer_same (named.Place spot) p e =
-    puts_same (if own.is_relay_closed p then 0 else p.local.regs.a1) (named.Place spot) p refl
+transfer_same (named.Place place) p e =
+    puts_same (if own.is_relay_closed p then 0 else p.local.regs.a1) (named.Place place) p refl
 transfer_same (named.Parameter index w) p e =
     puts_same (if own.is_relay_closed p then 0 else p.local.regs.a1) (named.Parameter index w) p refl
 transfer_same _ p e = absurd (false≢true e)
@@ -460,7 +461,7 @@ transfer_same _ p e = absurd (false≢true e)
 abbrev pub is_address : NamedItem → Bool
 is_address named.Nothing = true
 is_address (named.Pointer value) = true
-is_address (named.Place spot) = true
+is_address (named.Place place) = true
 is_address _ = false
 
 address_same : (x : NamedItem) (p : ExecState) → is_address x ≡ true
@@ -502,8 +503,8 @@ lar1_same named.SecondRegister p e = refl
 lar1_same named.Nothing p e = address_to (λ n. record p.local.regs { ar1 = n }) named.Nothing p e
 lar1_same (named.Pointer value) p e =
     address_to (λ n. record p.local.regs { ar1 = n }) (named.Pointer value) p e
-lar1_same (named.Place spot) p e =
-    address_to (λ n. record p.local.regs { ar1 = n }) (named.Place spot) p e
+lar1_same (named.Place place) p e =
+    address_to (λ n. record p.local.regs { ar1 = n }) (named.Place place) p e
 lar1_same _ p e = absurd (false≢true e)
 
 pub lar2_same : (x : NamedItem) (p : ExecState) → is_address x ≡ true
@@ -514,7 +515,7 @@ lar2_same x p e = address_to (λ n. record p.local.regs { ar2 = n }) x p e
 -- TAR1 and TAR2
 abbrev pub is_address_place : NamedItem → Bool
 is_address_place named.Nothing = true
-is_address_place (named.Place spot) = true
+is_address_place (named.Place place) = true
 is_address_place _ = false
 
 puts_address_same : (n : ℕ) (x : NamedItem) (p : ExecState) → is_address_place x ≡ true
@@ -544,7 +545,7 @@ pub tar1_same : (x : NamedItem) (p : ExecState) → is_first_address_place x ≡
 unfolding effect.operation_effect pointer.pointer_effect
 tar1_same named.SecondRegister p e = refl
 tar1_same named.Nothing p e = puts_address_same p.local.regs.ar1 named.Nothing p e
-tar1_same (named.Place spot) p e = puts_address_same p.local.regs.ar1 (named.Place spot) p e
+tar1_same (named.Place place) p e = puts_address_same p.local.regs.ar1 (named.Place place) p e
 tar1_same _ p e = absurd (false≢true e)
 
 pub tar2_same : (x : NamedItem) (p : ExecState) → is_address_place x ≡ true
@@ -586,13 +587,13 @@ opened_same : (di : Bool) (n : ℕ) (p : ExecState)
 opened_same true n p = by (data_blocks.is_block_loaded n p.memory)
   where
     by : (b : Bool) → effect.on_local p (data_blocks.opened_if b 2 n p.local)
-        ≡ (if b then Ok (own.with_open true n p) else Err 0x3A)
+        ≡ (if b then Ok (own.with_open true n p) else Err errors.no_data_block)
     by true = refl
     by false = refl
 opened_same false n p = by (data_blocks.is_block_loaded n p.memory)
   where
     by : (b : Bool) → effect.on_local p (data_blocks.opened_if b 1 n p.local)
-        ≡ (if b then Ok (own.with_open false n p) else Err 0x3A)
+        ≡ (if b then Ok (own.with_open false n p) else Err errors.no_data_block)
     by true = refl
     by false = refl
 
@@ -618,8 +619,8 @@ open_same _ p e = absurd (false≢true e)
 -- ---- number instructions
 
 pub bcd_number_same : (f : Regs → Option Regs) (p : ExecState)
-    → effect.effect_on_regs p (ok_or (f p.local.regs) 0x21) ≡ own.on_bcd f p
-bcd_number_same f p = by (ok_or (f p.local.regs) 0x21)
+    → effect.effect_on_regs p (ok_or (f p.local.regs) errors.bad_bcd) ≡ own.on_bcd f p
+bcd_number_same f p = by (ok_or (f p.local.regs) errors.bad_bcd)
   where
     by : (r : Result Regs ℕ) → effect.effect_on_regs p r ≡ then_ok r (λ z. Ok (own.with_regs z p))
     by (Ok z) = refl

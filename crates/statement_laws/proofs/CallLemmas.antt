@@ -5,6 +5,7 @@ use Rattle.std.specs.Option.{option_map, option_and_then}
 use Rattle.std.proofs.lemmas.Bool.{false≢true}
 use Rattle.std.proofs.lemmas.List.{map-append}
 use Rattle.std.proofs.lemmas.Option.{same_Some}
+use Rattle.plc_base.specs.ErrorCodes as errors
 use Rattle.plc_base.specs.Folding.{upper_case_name}
 use Rattle.plc_base.specs.Kinds.{is_function, is_function_block, is_system_function}
 use Rattle.plc_base.specs.declared.blocks.BlockId.{BlockId}
@@ -116,7 +117,7 @@ in_block_bound : (access : Access) (n : ℕ) (w : Width) (byte bit : ℕ) (p : E
     ≡ own.binding_of access (named.PlaceIn n w byte bit) p
 unfolding bindings.bound_actual own.binding_of
 in_block_bound access n w byte bit p =
-    ap (λ r. if data_blocks.is_block_loaded n p.memory then r else Err 0x3A)
+    ap (λ r. if data_blocks.is_block_loaded n p.memory then r else Err errors.no_data_block)
     (bound_at_same access (reading.location_of_parts area.Db n byte bit w 0) p)
 
 access_same : (param : Param) → bindings.param_access param ≡ own.access_of param

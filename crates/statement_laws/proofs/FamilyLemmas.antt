@@ -1,6 +1,7 @@
 -- Each family does what its mnemonics say.
 use Rattle.std.proofs.Common.{ℕ, ◌≡◌, Bool, true, false, List, Some, None, Ok, Err, if◌then◌else◌, refl, ◌∙◌, ap}
 use Rattle.std.proofs.lemmas.Bool.{false≢true}
+use Rattle.plc_base.specs.ErrorCodes as errors
 use Rattle.plc_base.specs.declared.instructions.Check.TheVariants as check
 use Rattle.plc_base.specs.declared.instructions.TimerKind.TheVariants as timer
 use Rattle.plc_base.specs.declared.places.Area.TheVariants as area
@@ -47,13 +48,13 @@ use Rattle.statement_laws.proofs.VariableLemmas.{view_same}
 
 db_first : (m : Mnemonic) (op : Operation) (n : ℕ) (x : NamedItem) (p : ExecState)
     → ((q : ExecState) → effect.operation_effect op (flat_of x) q ≡ effect_of_operation m x q)
-    → (if data_blocks.is_block_loaded n p.memory then effect.operation_effect op (flat_of x) (effect.with_db_opened n p) else Err 0x3A)
+    → (if data_blocks.is_block_loaded n p.memory then effect.operation_effect op (flat_of x) (effect.with_db_opened n p) else Err errors.no_data_block)
     ≡ then_ok (own.opens_block_number false n p) (λ q. effect_of_operation m x q)
 db_first m op n x p h = by (data_blocks.is_block_loaded n p.memory)
   where
     by : (b : Bool)
-        → (if b then effect.operation_effect op (flat_of x) (effect.with_db_opened n p) else Err 0x3A)
-        ≡ then_ok (if b then Ok (own.with_open false n p) else Err 0x3A) (λ q. effect_of_operation m x q)
+        → (if b then effect.operation_effect op (flat_of x) (effect.with_db_opened n p) else Err errors.no_data_block)
+        ≡ then_ok (if b then Ok (own.with_open false n p) else Err errors.no_data_block) (λ q. effect_of_operation m x q)
     by true = h (own.with_open false n p)
     by false = refl
 
