@@ -16,6 +16,9 @@ use Rattle.flat_code.specs.declared.kinds.JumpOperation.TheVariants as jump
 use Rattle.flat_code.specs.declared.operands.Operand.{Operand as FlatOperand}
 use Rattle.flat_code.specs.declared.operands.Operand.TheVariants as flat
 use Rattle.flat_code.specs.declared.operations.EndOperation.TheVariants as ends
+use Rattle.flat_code.specs.OpCodes.{op_code_of}
+use Rattle.flat_code.specs.declared.operations.Operation.TheVariants as operation
+use Rattle.plc_base.specs.declared.instructions.Check.TheVariants as check
 use Rattle.stl_ast.specs.Statements.{is_empty_statement}
 use Rattle.stl_ast.specs.declared.mnemonics.Mnemonic.{Mnemonic}
 use Rattle.stl_ast.specs.declared.mnemonics.Mnemonic.TheVariants as code
@@ -91,13 +94,13 @@ no_difference : (xs : List ℕ) (codes : Option (List ℕ)) (zones : ℕ) (there
 no_difference xs codes zones there here same count =
     rw (ap₂ are_other_brackets here same ∙ same_few xs) (rw (eq-eqb zones there.zones (sym count)) refl)
 
-codes_by : (bs : List SourceBracket) → codes_of bs ≡ map (λ k. 0x18 + k) (functions bs)
+codes_by : (bs : List SourceBracket) → codes_of bs ≡ map (λ k. op_code_of (operation.Nest check.A) + k) (functions bs)
 codes_by [] = refl
-codes_by (b ∷ bs) = ap (λ (z : List ℕ). (0x18 + b.function) ∷ z) (codes_by bs)
+codes_by (b ∷ bs) = ap (λ (z : List ℕ). (op_code_of (operation.Nest check.A) + b.function) ∷ z) (codes_by bs)
 
 same_functions : (bs ds : List SourceBracket) → functions bs ≡ functions ds → codes_of bs ≡ codes_of ds
 same_functions bs ds e =
-    codes_by bs ∙ ap (λ (z : List ℕ). map (λ k. 0x18 + k) z) e ∙ sym (codes_by ds)
+    codes_by bs ∙ ap (λ (z : List ℕ). map (λ k. op_code_of (operation.Nest check.A) + k) z) e ∙ sym (codes_by ds)
 
 leads_at_once : (most at : ℕ) (ops : List OpData) → leads_to_target most at at ops ≡ true
 leads_at_once most at [] = eq-eqb at at refl

@@ -7,6 +7,9 @@ use Rattle.flat_code.specs.Codes.{size_of_op}
 use Rattle.flat_code.specs.Ops.{OpData}
 use Rattle.flat_code.specs.Placed.{PlacedOp, StatementSpot, before_next, bracket_codes, codes_of_few_brackets, open_behind, brackets_after, is_opening, ops_placed, spot_at, spots_from, zones_behind_op, zones_left}
 use Rattle.flat_code.specs.declared.image_fields.OpenBracket.{OpenBracket}
+use Rattle.flat_code.specs.OpCodes.{op_code_of}
+use Rattle.flat_code.specs.declared.operations.Operation.TheVariants as operation
+use Rattle.flat_code.specs.declared.operations.RelayOperation.TheVariants as relay
 use Rattle.flat_code.proofs.BracketLemmas.{codes_behind, few_codes, codes_opened, few_is, count_behind, count_is}
 use Rattle.sem_kept.specs.Back.{is_target}
 use Rattle.sem_kept.proofs.compiled.Runs.{total, Parted, IsPreparing, IsStatement, AreStatements, flat, bytes_of, bytes_long, extent}
@@ -16,9 +19,9 @@ use Rattle.sem_kept.proofs.compiled.Runs.{total, Parted, IsPreparing, IsStatemen
 -- an op that has nothing to do with brackets and zones and doesn't jump
 pub record IsQuiet (op : OpData) : Type 0 where
   pub opens : is_opening op.code ≡ false
-  pub closes : (op.code == 0x1E) ≡ false
-  pub opens_zone : (op.code == 0x07) ≡ false
-  pub ends_zone : (op.code == 0x08) ≡ false
+  pub closes : (op.code == op_code_of operation.Unnest) ≡ false
+  pub opens_zone : (op.code == op_code_of (operation.Relay relay.Open)) ≡ false
+  pub ends_zone : (op.code == op_code_of (operation.Relay relay.Close)) ≡ false
   pub stays : is_target op.operand ≡ false
 
 -- statements of which only the last op may have to do with brackets and zones, or jump

@@ -18,6 +18,7 @@ use Rattle.flat_code.specs.declared.operations.CallOperation.TheVariants as call
 use Rattle.flat_code.specs.declared.operations.EndOperation.{EndOperation}
 use Rattle.flat_code.specs.declared.operations.EndOperation.TheVariants as ends
 use Rattle.flat_code.specs.declared.operations.Operation.TheVariants as operation
+use Rattle.plc_base.specs.declared.instructions.Check.TheVariants as check
 use Rattle.stl_ast.specs.Statements.{is_call}
 use Rattle.stl_ast.specs.declared.mnemonics.Mnemonic.{Mnemonic}
 use Rattle.stl_ast.specs.declared.mnemonics.Mnemonic.TheVariants as code
@@ -174,7 +175,7 @@ last_resolved c s None h is = by (nests s.code) refl
       stays = refl;
     }
 
-jump_code : (how : JumpOperation) (n target : ℕ) → (last_op (jump_instr how n target)).code ≡ 0x6F
+jump_code : (how : JumpOperation) (n target : ℕ) → (last_op (jump_instr how n target)).code ≡ op_code_of operation.Jump
 jump_code jump.Jl n target = refl
 jump_code _ n target = refl
 
@@ -205,7 +206,7 @@ last_of c body n s h =
         let r = last_resolved c s (resolved_operand c s) h refl in (r.code, r.stays)
     by (Some how) is = (
       subst (IsCodeOf s.code) (sym (jump_code how n (target_of body s.operand)))
-          (other_code s.code 0x6F (apart s.code _ how is (λ n. n.jump)) ((refl, refl), (refl, refl))),
+          (other_code s.code (op_code_of operation.Jump) (apart s.code _ how is (λ n. n.jump)) ((refl, refl), (refl, refl))),
       jump_operand how n (target_of body s.operand),
     )
 
@@ -213,20 +214,20 @@ last_of c body n s h =
 
 -- the codes of brackets
 abbrev pub codes_of : List SourceBracket → List ℕ
-codes_of bs = map (λ b. 0x18 + b.function) bs
+codes_of bs = map (λ b. op_code_of (operation.Nest check.A) + b.function) bs
 
 codes_one : (bs : List SourceBracket) (b : SourceBracket)
-    → codes_of (bs ++ b ∷ []) ≡ codes_of bs ++ (0x18 + b.function) ∷ []
+    → codes_of (bs ++ b ∷ []) ≡ codes_of bs ++ (op_code_of (operation.Nest check.A) + b.function) ∷ []
 codes_one [] b = refl
-codes_one (x ∷ bs) b = ap (λ (z : List ℕ). (0x18 + x.function) ∷ z) (codes_one bs b)
+codes_one (x ∷ bs) b = ap (λ (z : List ℕ). (op_code_of (operation.Nest check.A) + x.function) ∷ z) (codes_one bs b)
 
 codes_take : (n : ℕ) (bs : List SourceBracket) → codes_of (take n bs) ≡ take n (codes_of bs)
 codes_take zero bs = refl
 codes_take (suc n) [] = refl
-codes_take (suc n) (b ∷ bs) = ap (λ (z : List ℕ). (0x18 + b.function) ∷ z) (codes_take n bs)
+codes_take (suc n) (b ∷ bs) = ap (λ (z : List ℕ). (op_code_of (operation.Nest check.A) + b.function) ∷ z) (codes_take n bs)
 
 codes_count : (bs : List SourceBracket) → length (codes_of bs) ≡ length bs
-codes_count bs = length-map bs (λ b. 0x18 + b.function)
+codes_count bs = length-map bs (λ b. op_code_of (operation.Nest check.A) + b.function)
 
 -- the brackets behind a statement, by what it is
 abbrev behind_by : List SourceBracket → (line : ℕ) → Option ℕ → Bool → List SourceBracket
@@ -250,7 +251,7 @@ behind_codes bs body s op h =
         → codes_behind op.code (codes_of bs) ≡ codes_of (behind_by bs s.line o c)
     by (Some function) c g =
         ap (λ (t : Bool). if t then codes_of bs ++ op.code ∷ []
-        else if op.code == 0x1E then take (length (codes_of bs) - 1) (codes_of bs)
+        else if op.code == op_code_of operation.Unnest then take (length (codes_of bs) - 1) (codes_of bs)
         else codes_of bs) g.1
         ∙ ap (λ (k : ℕ). codes_of bs ++ k ∷ []) g.0
         ∙ sym (codes_one bs (record { function = function; line = s.line }))

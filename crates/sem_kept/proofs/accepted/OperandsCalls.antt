@@ -283,16 +283,16 @@ no_system k h = ⊎_elim (λ e. ap is_system_function e) (λ e. ap is_system_fun
 source_code : (k : BlockKind) → (k ≡ kinds.Fc) ⊎ (k ≡ kinds.Fb) → is_code k ≡ true
 source_code k h = ⊎_elim (λ e. ap is_code e) (λ e. ap is_code e) h
 
-not_five : (k : BlockKind) → (k ≡ kinds.Fc) ⊎ (k ≡ kinds.Fb) → (kind_number k == 5) ≡ false
-not_five k h =
-    ⊎_elim (λ e. ap (λ (j : BlockKind). kind_number j == 5) e) (λ e. ap (λ (j : BlockKind). kind_number j == 5) e) h
+no_sfc_number : (k : BlockKind) → (k ≡ kinds.Fc) ⊎ (k ≡ kinds.Fb) → (kind_number k == kind_number kinds.Sfc) ≡ false
+no_sfc_number k h =
+    ⊎_elim (λ e. ap (λ (j : BlockKind). kind_number j == kind_number kinds.Sfc) e) (λ e. ap (λ (j : BlockKind). kind_number j == kind_number kinds.Sfc) e) h
 
 source_flat : (blocks : List BlockSignature) (k : BlockKind) (number : ℕ) → (k ≡ kinds.Fc) ⊎ (k ≡ kinds.Fb)
     → flat_callee blocks (kind_number k) number ≡ block_with (kind_number k) number blocks
 unfolding flat_callee
 source_flat blocks k number h =
     ap (λ (t' : Bool). if t' then option_map callee_of_system (system_params number) else block_with (kind_number k) number blocks)
-    (not_five k h)
+    (no_sfc_number k h)
 
 sound_all : (cells : List Cell)
     → ((place : ℕ) (c : Cell) → slice_get cells place ≡ Some c → c.sound ≡ true)
@@ -463,27 +463,27 @@ lacking false fb all e f g = absurd cc
 
 -- how a call's instance is checked
 no_instance_right : (lens : List (ℕ × ℕ)) (kind il : ℕ) (params : List ParameterRecord)
-    → (kind == 3) ≡ false → is_bad_instance lens (kind, il, params) 0 ≡ false
+    → (kind == kind_number kinds.Fb) ≡ false → is_bad_instance lens (kind, il, params) 0 ≡ false
 no_instance_right lens kind il params e =
     ap (λ (t' : Bool). if t' then (if true then not (is_nothing_in params) else is_short_instance il (length_of_data 0 lens)) else not true) e
 
 bare_right : (lens : List (ℕ × ℕ)) (il : ℕ) (params : List ParameterRecord) → params ≡ []
-    → is_bad_instance lens (3, il, params) 0 ≡ false
+    → is_bad_instance lens (kind_number kinds.Fb, il, params) 0 ≡ false
 bare_right lens il params e = ap (λ (ps : List ParameterRecord). not (is_nothing_in ps)) e
 
 given_right : (lens : List (ℕ × ℕ)) (il n len : ℕ) (params : List ParameterRecord)
     → (n == 0) ≡ false → length_of_data n lens ≡ Some len → nat_lt len il ≡ false
-    → is_bad_instance lens (3, il, params) n ≡ false
+    → is_bad_instance lens (kind_number kinds.Fb, il, params) n ≡ false
 given_right lens il n len params e f g =
     ap (λ (t' : Bool). if t' then not (is_nothing_in params) else is_short_instance il (length_of_data n lens)) e
     ∙ ap (λ (o : Option ℕ). is_short_instance il o) f ∙ g
 
 -- a call of another block than a function block passes all, and has no instance
 call_right : (lens : List (ℕ × ℕ)) (kind il : ℕ) (params : List ParameterRecord) (ops : List OpData)
-    → (kind == 3) ≡ false → are_all_passed 0 params ops ≡ true
+    → (kind == kind_number kinds.Fb) ≡ false → are_all_passed 0 params ops ≡ true
     → is_bad_call lens (Some (kind, il, params)) 0 ops ≡ false
 call_right lens kind il params ops e f =
-    ap (λ (t' : Bool). (not (kind == 3) && not t') || is_bad_instance lens (kind, il, params) 0) f
+    ap (λ (t' : Bool). (not (kind == kind_number kinds.Fb) && not t') || is_bad_instance lens (kind, il, params) 0) f
     ∙ ap (λ (t' : Bool). (not t' && false) || is_bad_instance lens (kind, il, params) 0) e
     ∙ no_instance_right lens kind il params e
 
@@ -555,15 +555,15 @@ second_false : (a b : Bool) → (a && b) ≡ false → a ≡ true → b ≡ fals
 second_false true b e f = e
 second_false false b e f = absurd cc
 
-other_than_three : (k : BlockKind) → is_callable k ≡ true → is_function_block k ≡ false
-    → (kind_number k == 3) ≡ false
-other_than_three kinds.Fc e f = refl
-other_than_three kinds.Sfc e f = refl
-other_than_three _ e f = absurd cc
+no_fb_number : (k : BlockKind) → is_callable k ≡ true → is_function_block k ≡ false
+    → (kind_number k == kind_number kinds.Fb) ≡ false
+no_fb_number kinds.Fc e f = refl
+no_fb_number kinds.Sfc e f = refl
+no_fb_number _ e f = absurd cc
 
-block_three : (k : BlockKind) → is_function_block k ≡ true → kind_number k ≡ 3
-block_three kinds.Fb e = refl
-block_three _ e = absurd cc
+fb_number : (k : BlockKind) → is_function_block k ≡ true → kind_number k ≡ kind_number kinds.Fb
+fb_number kinds.Fb e = refl
+fb_number _ e = absurd cc
 
 -- ---- a call names what it calls
 
@@ -943,11 +943,11 @@ module _ (symbols : List Symbol) (t : Tree) (tree : IsSoundTree symbols t)
           (pass_ops (passed_by m.cal.of_source)) ≡ false
       by None m false e =
           call_right lens (kind_number id.kind) m.cal.il m.cal.params (pass_ops (passed_by m.cal.of_source))
-          (other_than_three id.kind (callable_by id None m.by_view) e) (all_owed how id None m e)
+          (no_fb_number id.kind (callable_by id None m.by_view) e) (all_owed how id None m e)
       by (Some n) m false e = let given = m.by_view in absurd cc
       by None m true e =
-          rw (block_three id.kind e) (bare_right lens m.cal.il m.cal.params (bare_owed how id m e))
-      by (Some n) m true e = rw (block_three id.kind e) (instance_right how id n m e)
+          rw (fb_number id.kind e) (bare_right lens m.cal.il m.cal.params (bare_owed how id m e))
+      by (Some n) m true e = rw (fb_number id.kind e) (instance_right how id n m e)
 
   pub call_fits : CallFits a (lens_of (data_blocks_of t symbols (layouts_of t symbols))) (context_at symbols t k) s
   call_fits how id instance word e =

@@ -13,6 +13,9 @@ use Rattle.flat_code.specs.Operations.{operation_of as operation_of_code}
 use Rattle.flat_code.specs.declared.table.OperandForms.{OperandForms}
 use Rattle.flat_code.specs.declared.operands.Operand.TheVariants as flat
 use Rattle.flat_code.specs.declared.operations.Operation.{Operation}
+use Rattle.flat_code.specs.declared.operations.Operation.TheVariants as operation
+use Rattle.flat_code.specs.declared.operations.RelayOperation.TheVariants as relay
+use Rattle.plc_base.specs.declared.instructions.Check.TheVariants as check
 use Rattle.stl_ast.specs.declared.blocks.PartKind.{PartKind}
 use Rattle.stl_ast.specs.declared.blocks.PartKind.TheVariants as part
 use Rattle.stl_ast.specs.declared.declarations.Simple.{Simple}
@@ -82,15 +85,15 @@ allowed f v e =
 
 -- the op code of an instruction, by what it does to brackets
 abbrev pub IsCodeBy : Option ℕ → Bool → (code : ℕ) → Type 0
-IsCodeBy (Some function) c code = (code ≡ 0x18 + function) × (is_opening code ≡ true)
-IsCodeBy None true code = code ≡ 0x1E
-IsCodeBy None false code = (is_opening code ≡ false) × ((code == 0x1E) ≡ false)
+IsCodeBy (Some function) c code = (code ≡ op_code_of (operation.Nest check.A) + function) × (is_opening code ≡ true)
+IsCodeBy None true code = code ≡ op_code_of operation.Unnest
+IsCodeBy None false code = (is_opening code ≡ false) × ((code == op_code_of operation.Unnest) ≡ false)
 
--- and by what it does to zones
+-- the op code of an instruction, by what it does to zones
 abbrev pub IsZoneCodeBy : (opened ended : Bool) → (code : ℕ) → Type 0
-IsZoneCodeBy true ended code = code ≡ 0x07
-IsZoneCodeBy false true code = code ≡ 0x08
-IsZoneCodeBy false false code = ((code == 0x07) ≡ false) × ((code == 0x08) ≡ false)
+IsZoneCodeBy true ended code = code ≡ op_code_of (operation.Relay relay.Open)
+IsZoneCodeBy false true code = code ≡ op_code_of (operation.Relay relay.Close)
+IsZoneCodeBy false false code = ((code == op_code_of (operation.Relay relay.Open)) ≡ false) × ((code == op_code_of (operation.Relay relay.Close)) ≡ false)
 
 abbrev pub IsCodeOf : Mnemonic → (code : ℕ) → Type 0
 IsCodeOf m code =

@@ -8,6 +8,7 @@ use Rattle.plc_base.specs.declared.places.Area.{Area}
 use Rattle.plc_base.specs.declared.places.Area.TheVariants as area
 use Rattle.plc_base.specs.declared.places.Width.{Width}
 use Rattle.plc_base.specs.declared.places.Width.TheVariants as width
+use Rattle.flat_code.specs.Records.{section_in}
 use Rattle.flat_code.specs.Blocks.{Environment, is_above, is_bad_actual, is_bad_place, is_in_parameter as is_input_parameter, is_odd_bit, is_past_locals, literal_fits, misfits_index, misfits_parameter, parameter_meant}
 use Rattle.flat_code.specs.declared.image_fields.ParameterRecord.{ParameterRecord}
 use Rattle.flat_code.specs.declared.operands.Passed.{Passed}
@@ -174,10 +175,10 @@ place_passes a r area.Db number byte bit w fits same = by (nat_eq number 0)
 place_passes a r _ number byte bit w fits same = (fits, same)
 
 section_input : (f : Formal) (r : ParameterRecord) → IsRecordOf f r
-    → (r.section == 1) ≡ is_input_section f.section
-section_input f r h = ap (λ (n : ℕ). n == 1) h.0 ∙ by f.section h.2
+    → (r.section == section_in) ≡ is_input_section f.section
+section_input f r h = ap (λ (n : ℕ). n == section_in) h.0 ∙ by f.section h.2
   where
-    by : (p : PartKind) → is_parameter p ≡ true → (section_number p == 1) ≡ is_input_section p
+    by : (p : PartKind) → is_parameter p ≡ true → (section_number p == section_in) ≡ is_input_section p
     by part.Input e = refl
     by part.Output e = refl
     by part.InOut e = refl
@@ -207,7 +208,7 @@ view_passes a c f r o (view.Parameter index own declared) e fits h taken = recor
   is = ap (passed_resolution o) e;
   right = fits.0;
   fits = or_from (not (r.width == width_number (width_of declared)))
-      (not (r.section == 1) && is_input_parameter (parameter_meant a index))
+      (not (r.section == section_in) && is_input_parameter (parameter_meant a index))
       (width_same r f (width_of declared) h
       (same_types declared f.kind (and_first (is_same_type declared f.kind) (takes_section f.section own) taken)))
       (ap (λ (t : Bool). not t && is_input_parameter (parameter_meant a index)) (section_input f r h)
@@ -236,7 +237,7 @@ constant_passes a c f r value is has h taken = record {
   actual = passed.Literal (bits_of value);
   is = constant_is c value;
   right = refl;
-  fits = or_from (not (r.section == 1)) (not (literal_fits r.width (bits_of value)))
+  fits = or_from (not (r.section == section_in)) (not (literal_fits r.width (bits_of value)))
       (ap not (section_input f r h ∙ and_first (is_input_section f.section) (fits_elementary_type value f.kind) taken))
       (ap not (ap (λ (n : ℕ). literal_fits n (bits_of value)) h.1
       ∙ literal_width value f.kind is has (and_second (is_input_section f.section) (fits_elementary_type value f.kind) taken)));

@@ -151,7 +151,7 @@ module _ (a : Environment) (lens : List (ℕ × ℕ)) (ss : List StatementSpot) 
       (placed_op at brackets zones before (pass_op p) (pass_ops ps ++ call_op calls.Call block instance ∷ rest))
   pass_fine at brackets zones before p ps block instance rest above bad misfits = record {
     operand = λ still. seven_none _ (or_from (is_stray_pass here p.index) (is_bad_actual a p.actual) stray bad);
-    call = seven_none _ (ap (λ (op : OpData). op.code == 0x78 && misfits_call a op.operand p.index p.actual) last ∙ misfits);
+    call = seven_none _ (ap (λ (op : OpData). op.code == op_code_of (operation.Call calls.Call) && misfits_call a op.operand p.index p.actual) last ∙ misfits);
     mark = refl;
   }
     where
@@ -163,7 +163,7 @@ module _ (a : Environment) (lens : List (ℕ × ℕ)) (ss : List StatementSpot) 
 
       stray : is_stray_pass here p.index ≡ false
       stray =
-          ap (λ (op : OpData). not (op.code == 0x78) || not (is_above p.index (pass_before None before))) last
+          ap (λ (op : OpData). not (op.code == op_code_of (operation.Call calls.Call)) || not (is_above p.index (pass_before None before))) last
           ∙ not_true (is_above p.index (pass_before None before)) above
 
   call_fine : (at : ℕ) (brackets : List OpenBracket) (zones : List ℕ) (before : List OpData) (how : CallOperation)

@@ -13,6 +13,7 @@ use Rattle.plc_base.specs.declared.places.Area.{Area}
 use Rattle.plc_base.specs.declared.places.Area.TheVariants as area
 use Rattle.plc_base.specs.declared.places.Width.{Width}
 use Rattle.plc_base.specs.declared.places.Width.TheVariants as width
+use Rattle.flat_code.specs.Records.{section_in}
 use Rattle.flat_code.specs.Blocks.{Environment, is_bad_place, is_in_parameter as is_input_parameter, is_odd_bit, is_past_locals, lacks_own_parameter, parameter_meant}
 use Rattle.flat_code.specs.Image.{record_of_param}
 use Rattle.flat_code.specs.declared.image_fields.ParameterRecord.{ParameterRecord}
@@ -259,15 +260,15 @@ param_there b l cells place c kind is same each there plain section =
     (params_each cells cells each) there (param_here_is cells c kind section plain))))
 
 section_is_input : (p : PartKind) → is_parameter p ≡ true
-    → (section_number p == 1) ≡ is_input_section p
+    → (section_number p == section_in) ≡ is_input_section p
 section_is_input part.Static e = absurd cc
 section_is_input part.Temp e = absurd cc
 section_is_input _ e = refl
 
-own_there : (a : Environment) (index : ℕ) (q : ParameterRecord) → a.kind ≡ 2
+own_there : (a : Environment) (index : ℕ) (q : ParameterRecord) → a.kind ≡ kind_number kinds.Fc
     → slice_get a.params index ≡ Some q → parameter_meant a index ≡ Some q
 own_there a index q is there =
-    ap (λ (t : Bool). if t then slice_get a.params index else None) (eq-eqb a.kind 2 is) ∙ there
+    ap (λ (t : Bool). if t then slice_get a.params index else None) (eq-eqb a.kind (kind_number kinds.Fc) is) ∙ there
 
 -- ---- addresses and symbols
 

@@ -294,8 +294,8 @@ pub record HasFields (last : ℕ) (b : CodeBlock) : Type 0 where
   pub number : is_block_number b.id.kind b.id.number ≡ true
   pub params : HasParams (kind_number b.id.kind) b.instance_len b.params
   pub local : b.local_len ≤ 1024
-  pub start : kind_number b.id.kind ≡ 1 → 20 ≤ b.local_len
-  pub instance : (if eqb (kind_number b.id.kind) 3 then leb b.instance_len 16384 else eqb b.instance_len 0) ≡ true
+  pub start : kind_number b.id.kind ≡ kind_number kinds.Ob → 20 ≤ b.local_len
+  pub instance : (if eqb (kind_number b.id.kind) (kind_number kinds.Fb) then leb b.instance_len 16384 else eqb b.instance_len 0) ≡ true
   pub lines : AreRisingLines last 1 b.lines
 
 local_there : (symbols : List Symbol) (t : Tree) (k : ℕ) (b : Block) (l : BlockLayout) → IsSound symbols t k b l → l.local_len ≡ local_len (types_of_source symbols t.blocks) b
@@ -307,13 +307,13 @@ unfolding local_len
 local_start y b kind = rw kind (omega arith)
 
 instance_right : (symbols : List Symbol) (t : Tree) (k : ℕ) (b : Block) (l : BlockLayout) (kind : BlockKind) → IsSound symbols t k b l → b.kind ≡ kind → is_code kind ≡ true
-    → (if eqb (kind_number kind) 3 then leb (instance_len b l) 16384 else eqb (instance_len b l) 0) ≡ true
+    → (if eqb (kind_number kind) (kind_number kinds.Fb) then leb (instance_len b l) 16384 else eqb (instance_len b l) 0) ≡ true
 instance_right symbols t k b l kind h same code = by kind same code
   where
     none : is_function_block b.kind ≡ false → eqb (instance_len b l) 0 ≡ true
     none e = ap (λ (s : Bool). eqb (if s then l.length else 0) 0) e
 
-    by : (kind : BlockKind) → b.kind ≡ kind → is_code kind ≡ true → (if eqb (kind_number kind) 3 then leb (instance_len b l) 16384 else eqb (instance_len b l) 0) ≡ true
+    by : (kind : BlockKind) → b.kind ≡ kind → is_code kind ≡ true → (if eqb (kind_number kind) (kind_number kinds.Fb) then leb (instance_len b l) 16384 else eqb (instance_len b l) 0) ≡ true
     by kinds.Ob same code = none (ap is_function_block same)
     by kinds.Fc same code = none (ap is_function_block same)
     by kinds.Fb same code =
@@ -324,13 +324,13 @@ instance_right symbols t k b l kind h same code = by kind same code
     by kinds.Udt same code = absurd cc
     by kinds.Sfc same code = absurd cc
 
-number_one : (k : BlockKind) → is_code k ≡ true → kind_number k ≡ 1 → k ≡ kinds.Ob
-number_one kinds.Ob h e = refl
-number_one kinds.Fc h e = absurd (omega (arith, e))
-number_one kinds.Fb h e = absurd (omega (arith, e))
-number_one kinds.Db h e = absurd cc
-number_one kinds.Udt h e = absurd cc
-number_one kinds.Sfc h e = absurd cc
+ob_kind : (k : BlockKind) → is_code k ≡ true → kind_number k ≡ kind_number kinds.Ob → k ≡ kinds.Ob
+ob_kind kinds.Ob h e = refl
+ob_kind kinds.Fc h e = absurd (omega (arith, e))
+ob_kind kinds.Fb h e = absurd (omega (arith, e))
+ob_kind kinds.Db h e = absurd cc
+ob_kind kinds.Udt h e = absurd cc
+ob_kind kinds.Sfc h e = absurd cc
 
 pub fields_of : (last : ℕ) (symbols : List Symbol) (t : Tree) → AllByRecursion (λ b. AreRisingLines last 1 (statement_lines_of b)) t.blocks
     → (k : ℕ) (b : Block) (l : BlockLayout) (id : BlockId) → IsSound symbols t k b l → l.id ≡ Some id → is_code id.kind ≡ true
@@ -345,7 +345,7 @@ fields_of last symbols t rise k b l id h named code =
       number = not-false (is_block_number id.kind id.number) (ap is_number_beyond_limits (sym found) ∙ h.head.by_44);
       params = params_right symbols t k b l id.kind h kind code;
       local = omega (arith, local, most);
-      start = λ e. let least = local_start (types_of_source symbols t.blocks) b (kind ∙ number_one id.kind code e) in omega (arith, local, least);
+      start = λ e. let least = local_start (types_of_source symbols t.blocks) b (kind ∙ ob_kind id.kind code e) in omega (arith, local, least);
       instance = instance_right symbols t k b l id.kind h kind code;
       lines = lines_stated last (context_at symbols t k) b
           (some_holds (slice_get t.blocks k) b (λ x. AreRisingLines last 1 (statement_lines_of x)) h.block_there (got (λ x. AreRisingLines last 1 (statement_lines_of x)) t.blocks k rise));
@@ -356,7 +356,7 @@ kind_good : (before kind : ℕ) → 1 ≤ kind → kind ≤ 3 → before ≤ kin
 unfolding kind_field field_fault
 kind_good before kind low high rises = grind (arith, nat_tests)
 
-count_good : (kind n : ℕ) → n ≤ 60 → (not (eqb kind 1) || eqb n 0) ≡ true → (parameter_count_layout kind).good n ≡ true
+count_good : (kind n : ℕ) → n ≤ 60 → (not (eqb kind (kind_number kinds.Ob)) || eqb n 0) ≡ true → (parameter_count_layout kind).good n ≡ true
 unfolding parameter_count_layout field_fault
 count_good kind n few none = grind (arith, nat_tests)
 
@@ -365,11 +365,11 @@ number_good : (kind_before before kind number : ℕ) → number < 65536 → has_
 unfolding block_number_layout field_fault
 number_good kind_before before kind number near there rises = and_from _ _ (lt-ltb number 65536 near) (rw there (rw rises refl))
 
-local_good : (kind n : ℕ) → n ≤ 1024 → (not (eqb kind 1) || leb 20 n) ≡ true → (local_length_layout kind).good n ≡ true
+local_good : (kind n : ℕ) → n ≤ 1024 → (not (eqb kind (kind_number kinds.Ob)) || leb 20 n) ≡ true → (local_length_layout kind).good n ≡ true
 unfolding local_length_layout field_fault
 local_good kind n few start = grind (arith, nat_tests)
 
-instance_good : (kind n : ℕ) → n < 65536 → (if eqb kind 3 then leb n 16384 else eqb n 0) ≡ true → (instance_bytes_layout kind).good n ≡ true
+instance_good : (kind n : ℕ) → n < 65536 → (if eqb kind (kind_number kinds.Fb) then leb n 16384 else eqb n 0) ≡ true → (instance_bytes_layout kind).good n ≡ true
 unfolding instance_bytes_layout field_fault
 instance_good kind n near h = and_from _ _ (lt-ltb n 65536 near) (rw h refl)
 
@@ -399,14 +399,14 @@ kind_within kinds.Udt h = absurd cc
 kind_within kinds.Sfc h = absurd cc
 
 -- a test that holds by cases
-implied : (kind : ℕ) (t : Bool) → (kind ≡ 1 → t ≡ true) → (not (eqb kind 1) || t) ≡ true
-implied kind t h = by (eqb kind 1) refl
+implied : (kind : ℕ) (t : Bool) → (kind ≡ kind_number kinds.Ob → t ≡ true) → (not (eqb kind (kind_number kinds.Ob)) || t) ≡ true
+implied kind t h = by (eqb kind (kind_number kinds.Ob)) refl
   where
-    by : (s : Bool) → eqb kind 1 ≡ s → (not s || t) ≡ true
-    by true e = h (eqb-true kind 1 e)
+    by : (s : Bool) → eqb kind (kind_number kinds.Ob) ≡ s → (not s || t) ≡ true
+    by true e = h (eqb-true kind (kind_number kinds.Ob) e)
     by false e = refl
 
-instance_near : (kind n : ℕ) → (if eqb kind 3 then leb n 16384 else eqb n 0) ≡ true → n < 65536
+instance_near : (kind n : ℕ) → (if eqb kind (kind_number kinds.Fb) then leb n 16384 else eqb n 0) ≡ true → n < 65536
 instance_near kind n h = grind (arith, nat_tests)
 
 head_good : (last : ℕ) (before : ℕ × ℕ) (b : CodeBlock) → HasFields last b → HasFaultlessCode b → before.0 ≤ kind_number b.id.kind

@@ -594,16 +594,16 @@ record IsGood (kind instance : ℕ) (p : Param) : Type 0 where
   low : 1 ≤ p.section
   high : p.section ≤ 3
   near : p.byte < 65536
-  byte : (if eqb kind 3 then leb (p.byte + byte_count p.width) instance else eqb p.byte 0) ≡ true
+  byte : (if eqb kind (kind_number kinds.Fb) then leb (p.byte + byte_count p.width) instance else eqb p.byte 0) ≡ true
   bit : p.bit ≤ 7
-  whole : (eqb kind 3 || eqb p.bit 0) ≡ true
+  whole : (eqb kind (kind_number kinds.Fb) || eqb p.bit 0) ≡ true
 
 section_good : (n : ℕ) → 1 ≤ n → n ≤ 3 → section_field.good n ≡ true
 unfolding section_field field_fault
 section_good n low high = grind (arith, nat_tests)
 
 byte_good : (kind instance : ℕ) (w : Width) (byte : ℕ) → byte < 65536
-    → (if eqb kind 3 then leb (byte + byte_count w) instance else eqb byte 0) ≡ true
+    → (if eqb kind (kind_number kinds.Fb) then leb (byte + byte_count w) instance else eqb byte 0) ≡ true
     → (parameter_byte kind instance (width_number w)).good byte ≡ true
 unfolding parameter_byte field_fault
 byte_good kind instance width.Bit byte near h = and_from _ _ (lt-ltb byte 65536 near) (rw h refl)
@@ -611,7 +611,7 @@ byte_good kind instance width.Byte byte near h = and_from _ _ (lt-ltb byte 65536
 byte_good kind instance width.Word byte near h = and_from _ _ (lt-ltb byte 65536 near) (rw h refl)
 byte_good kind instance width.Dword byte near h = and_from _ _ (lt-ltb byte 65536 near) (rw h refl)
 
-bit_good : (kind bit : ℕ) → bit ≤ 7 → (eqb kind 3 || eqb bit 0) ≡ true → (parameter_bit kind).good bit ≡ true
+bit_good : (kind bit : ℕ) → bit ≤ 7 → (eqb kind (kind_number kinds.Fb) || eqb bit 0) ≡ true → (parameter_bit kind).good bit ≡ true
 unfolding parameter_bit field_fault
 bit_good kind bit few whole = grind (arith, nat_tests)
 
@@ -640,7 +640,7 @@ bit_low : (n : ℕ) → n % 8 ≤ 7
 bit_low n = omega arith
 
 -- of no function block
-plain_param : (kind instance : ℕ) (all : List Cell) (c : Cell) → eqb kind 3 ≡ false → AllByRecursion (IsGood kind instance) (param_here false all c)
+plain_param : (kind instance : ℕ) (all : List Cell) (c : Cell) → eqb kind (kind_number kinds.Fb) ≡ false → AllByRecursion (IsGood kind instance) (param_here false all c)
 plain_param kind instance all c other = by (is_parameter c.section) (one c.of)
   where
     one : (e : Element) → AllByRecursion (IsGood kind instance) (param_of false all c e)
@@ -665,7 +665,7 @@ plain_param kind instance all c other = by (is_parameter c.section) (one c.of)
     by true h = h
     by false h = tt
 
-plain_params : (kind instance : ℕ) (all cs : List Cell) → eqb kind 3 ≡ false → AllByRecursion (IsGood kind instance) (flat_map (λ c. param_here false all c) cs)
+plain_params : (kind instance : ℕ) (all cs : List Cell) → eqb kind (kind_number kinds.Fb) ≡ false → AllByRecursion (IsGood kind instance) (flat_map (λ c. param_here false all c) cs)
 plain_params kind instance all [] other = tt
 plain_params kind instance all (c ∷ cs) other =
     all_append (IsGood kind instance) (param_here false all c) (flat_map (λ c. param_here false all c) cs)
@@ -676,10 +676,10 @@ abbrev look_in : List Cell → List ℕ → Option Member
 look_in all name = component_of_name 0 0 0 name all
 
 placed_param : (instance : ℕ) (all : List Cell) (c : Cell) → instance ≤ 16384 → IsPlacedIn (look_in all) instance c
-    → AllByRecursion (IsGood 3 instance) (param_here true all c)
+    → AllByRecursion (IsGood (kind_number kinds.Fb) instance) (param_here true all c)
 placed_param instance all c short placed = by (is_parameter c.section) refl
   where
-    one : (e : Element) → c.of ≡ e → is_parameter c.section ≡ true → AllByRecursion (IsGood 3 instance) (param_of true all c e)
+    one : (e : Element) → c.of ≡ e → is_parameter c.section ≡ true → AllByRecursion (IsGood (kind_number kinds.Fb) instance) (param_of true all c e)
     one (element.Plain k) of is =
         let within = placed is k of in (
           record {
@@ -697,15 +697,15 @@ placed_param instance all c short placed = by (is_parameter c.section) refl
     one (element.Udt block bits) of is = tt
     one element.Unknown of is = tt
 
-    by : (t : Bool) → is_parameter c.section ≡ t → AllByRecursion (IsGood 3 instance) (if t then param_of true all c c.of else [])
+    by : (t : Bool) → is_parameter c.section ≡ t → AllByRecursion (IsGood (kind_number kinds.Fb) instance) (if t then param_of true all c c.of else [])
     by true is = one c.of refl is
     by false is = tt
 
 placed_params : (instance : ℕ) (all cs : List Cell) → instance ≤ 16384 → AllByRecursion (IsPlacedIn (look_in all) instance) cs
-    → AllByRecursion (IsGood 3 instance) (flat_map (λ c. param_here true all c) cs)
+    → AllByRecursion (IsGood (kind_number kinds.Fb) instance) (flat_map (λ c. param_here true all c) cs)
 placed_params instance all [] short placed = tt
 placed_params instance all (c ∷ cs) short placed =
-    all_append (IsGood 3 instance) (param_here true all c) (flat_map (λ c. param_here true all c) cs)
+    all_append (IsGood (kind_number kinds.Fb) instance) (param_here true all c) (flat_map (λ c. param_here true all c) cs)
     (placed_param instance all c short placed.0) (placed_params instance all cs short placed.1)
 
 -- ---- the order in an image
@@ -726,7 +726,7 @@ reordered_length (Some k) (x ∷ xs) = length-append xs (x ∷ []) ∙ omega ari
 pub record HasParams (kind instance : ℕ) (ps : List Param) : Type 0 where
   pub few : length ps ≤ 60
   pub good : good_params kind instance ps ≡ true
-  pub none : kind ≡ 1 → ps ≡ []
+  pub none : kind ≡ kind_number kinds.Ob → ps ≡ []
 
 pub structure_end : (cells : List Cell) → structure_bits cells / 8 ≤ 16384
     → (components_end 0 0 cells < largest_size) × (components_end 0 0 cells ≤ 8 * (structure_bits cells / 8))
@@ -784,7 +784,7 @@ no_params y b l are kind formed =
 
 -- and those of a function block
 instance_params : (symbols : List Symbol) (t : Tree) (k : ℕ) (b : Block) (l : BlockLayout) → IsSound symbols t k b l → b.kind ≡ kinds.Fb
-    → AllByRecursion (IsGood 3 l.length) (params_of b l)
+    → AllByRecursion (IsGood (kind_number kinds.Fb) l.length) (params_of b l)
 unfolding params_of block_layout length_of_block
 instance_params symbols t k b l h kind =
     let y : Types = types_of_source symbols t.blocks in
@@ -804,10 +804,10 @@ instance_params symbols t k b l h kind =
     let end = structure_end cells (subst (λ (n : ℕ). n ≤ 16384) len short) in
     let placed = parameters_placed (look_in cells) (structure_bits cells / 8) 0 0 [] cells (omega arith) end.0 end.1 (λ n out. refl) once all in
     let instance = is_instance kind in
-    subst (λ (t : Bool). AllByRecursion (IsGood 3 l.length) (return_last b.result (flat_map (λ c. param_here t l.components c) l.components))) (sym instance)
-    (reordered (IsGood 3 l.length) b.result (flat_map (λ c. param_here true l.components c) l.components)
-    (subst (λ (cs : List Cell). AllByRecursion (IsGood 3 l.length) (flat_map (λ c. param_here true cs c) cs)) (sym are)
-    (subst (λ (n : ℕ). AllByRecursion (IsGood 3 n) (flat_map (λ c. param_here true cells c) cells)) (sym len)
+    subst (λ (t : Bool). AllByRecursion (IsGood (kind_number kinds.Fb) l.length) (return_last b.result (flat_map (λ c. param_here t l.components c) l.components))) (sym instance)
+    (reordered (IsGood (kind_number kinds.Fb) l.length) b.result (flat_map (λ c. param_here true l.components c) l.components)
+    (subst (λ (cs : List Cell). AllByRecursion (IsGood (kind_number kinds.Fb) l.length) (flat_map (λ c. param_here true cs c) cs)) (sym are)
+    (subst (λ (n : ℕ). AllByRecursion (IsGood (kind_number kinds.Fb) n) (flat_map (λ c. param_here true cells c) cells)) (sym len)
     (placed_params (structure_bits cells / 8) cells cells (subst (λ (n : ℕ). n ≤ 16384) len short) placed))))
   where
     is_instance : b.kind ≡ kinds.Fb → is_function_block b.kind ≡ true
@@ -819,7 +819,7 @@ instance_params symbols t k b l h kind =
 
 -- ---- whatever block it is
 
-other_params : (kind instance : ℕ) (b : Block) (l : BlockLayout) → eqb kind 3 ≡ false → is_function_block b.kind ≡ false
+other_params : (kind instance : ℕ) (b : Block) (l : BlockLayout) → eqb kind (kind_number kinds.Fb) ≡ false → is_function_block b.kind ≡ false
     → AllByRecursion (IsGood kind instance) (params_of b l)
 unfolding params_of
 other_params kind instance b l other h =
