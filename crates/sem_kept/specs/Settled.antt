@@ -82,8 +82,8 @@ pub record IsResolvedStatement (c : Context) (body : List Statement) (s : Statem
   pub actuals : AllByRecursion (NamesWhatIsPassed c) s.actuals
 
 -- what the block at a place is checked and compiled by
-abbrev pub context_of : List Symbol → Tree → ℕ → Context
-context_of symbols t k = record {
+abbrev pub context_at : List Symbol → Tree → ℕ → Context
+context_at symbols t k = record {
   symbols = symbols;
   blocks = t.blocks;
   layouts = layouts_of t symbols;
@@ -96,4 +96,4 @@ abbrev pub StatementsSettle : Type 0
 StatementsSettle =
     (source file : List ℕ) (symbols : List Symbol) (t : Tree) → IsAccepted source file symbols t
     → AreBytes source → (k : ℕ) (b : Block) → slice_get t.blocks k ≡ Some b
-    → AllByRecursion (IsResolvedStatement (context_of symbols t k) b.body) b.body
+    → AllByRecursion (IsResolvedStatement (context_at symbols t k) b.body) b.body

@@ -48,8 +48,8 @@ use Rattle.flat_code.specs.declared.operands.Passed.{Passed}
 use Rattle.flat_code.specs.declared.operations.CallOperation.{CallOperation}
 use Rattle.flat_code.specs.declared.operations.CallOperation.TheVariants as how_called
 use Rattle.sem_kept.specs.Accepted.{IsAccepted}
-use Rattle.sem_kept.specs.Settled.{HasCalled, HasInstruction, HasLabel, HasOperand, NamesWhatIsPassed, IsResolvedStatement, context_of}
-use Rattle.sem_kept.proofs.accepted.Accepted.{IsSound, IsSoundActual, IsSoundStatement, all_mapped, right_tree}
+use Rattle.sem_kept.specs.Settled.{HasCalled, HasInstruction, HasLabel, HasOperand, NamesWhatIsPassed, IsResolvedStatement, context_at}
+use Rattle.sem_kept.proofs.accepted.Accepted.{IsSoundBlock, IsSoundActual, IsSoundStatement, all_mapped, right_tree}
 use Rattle.block_layout.proofs.CommonLemmas.{all_there}
 use Rattle.sem_kept.proofs.accepted.OperandsCells.{cells_are, layout_of_block}
 use Rattle.block_layout.proofs.LayoutLemmas.{measured_symbols}
@@ -69,7 +69,7 @@ use Rattle.statement_laws.proofs.JumpLemmas.{ends_act, jump_lists_act, plain_jum
 use Rattle.statement_laws.proofs.NumberLemmas.{families_are_all}
 use Rattle.statement_laws.proofs.SeenLemmas.{block_same, number_known, resolved_parts, resolved_same}
 use Rattle.statement_laws.proofs.VariableCover.{path_there, variables_are_named}
-use Rattle.statement_laws.proofs.WordLemmas.{Has, StatementHas, words_known}
+use Rattle.statement_laws.proofs.WordLemmas.{HasKnownWord, StatementHasKnownWord, words_known}
 
 -- ---- variables
 
@@ -84,7 +84,7 @@ plain_cell cell h =
     ap₂ (λ (bounds : List Bounds) (of : Element). nat_eq 0 (length bounds) && is_some (plain_kind of)) h.single h.plain
 
 plain_parameters : (symbols : List Symbol) (t : Tree) (k : ℕ) (b : Block) (l : BlockLayout)
-    → IsSound symbols t k b l → HasElementaryParameters (context_of symbols t k)
+    → IsSoundBlock symbols t k b l → HasElementaryParameters (context_at symbols t k)
 plain_parameters symbols t k b l block fc =
     subst (AllByRecursion (λ (cell : Cell). is_elementary_component cell ≡ true))
     (sym (cells_are symbols t k b l block false))
@@ -96,7 +96,7 @@ plain_parameters symbols t k b l block fc =
 -- no index of a path lies outside its array
 
 found_same : (symbols : List Symbol) (t : Tree) (k : ℕ) (name : BlockName)
-    → data_place (context_of symbols t k) name
+    → data_place (context_at symbols t k) name
     ≡ found_block (types_of_source symbols t.blocks).symbols (types_of_source symbols t.blocks).ids is_data_block name
 found_same symbols t k name =
     ap (λ (is : List (Option BlockId)). found_block symbols is is_data_block name) (ids_same symbols t)
@@ -110,7 +110,7 @@ leaves_same l (Some place) steps = refl
 
 stays : (symbols : List Symbol) (t : Tree) (k : ℕ) (o : Operand)
     → operand_is_outside (types_of_source symbols t.blocks) (layouts_of t symbols) k o ≡ false
-    → stays_inside (context_of symbols t k) o ≡ true
+    → stays_inside (context_at symbols t k) o ≡ true
 stays symbols t k (operand.Named (head.Local name) steps) e = ap not e
 stays symbols t k (operand.Named (head.InBlock name) steps) e =
     ap not (ap (λ (o : Option ℕ). leaves_structure (layouts_of t symbols)
@@ -183,13 +183,13 @@ call_named c name db v e = block_named c name db v e
 -- ---- operands of statements
 
 operand_named : (c : Context) (s : Statement) (v : ResolvedOperand) → HasElementaryParameters c
-    → stays_inside c s.operand ≡ true → StatementHas s → resolved_operand c s ≡ Some v → IsNamed c s.operand
+    → stays_inside c s.operand ≡ true → StatementHasKnownWord s → resolved_operand c s ≡ Some v → IsNamed c s.operand
 operand_named c s v plain inside word r = by s.operand refl word
   where
     seen : resolution_of c s.operand ≡ Resolved v
     seen = (resolved_parts c s v r).1
 
-    by : (o : Operand) → s.operand ≡ o → Has o → IsNamed c s.operand
+    by : (o : Operand) → s.operand ≡ o → HasKnownWord o → IsNamed c s.operand
     by (operand.Called name db) e h =
         let called = call_named c name db v (sym (ap (resolution_of c) e) ∙ seen) in
         (named.Called called.id called.instance, ap (named_by c) e ∙ called.names)
@@ -255,7 +255,7 @@ actual_named c a plain inside passed = by (resolution_of c a.value) refl passed.
 -- what is known of a statement of an accepted source
 record IsKnown (c : Context) (body : List Statement) (s : Statement) : Type 0 where
   inside : stays_inside c s.operand ≡ true
-  word : StatementHas s
+  word : StatementHasKnownWord s
   settled : IsResolvedStatement c body s
   passed : AllByRecursion (λ (a : Actual). stays_inside c a.value ≡ true) s.actuals
 
@@ -474,15 +474,15 @@ does_as_written c body plain s h some n = record {
 
 module _ (symbols : List Symbol) (t : Tree) (k : ℕ) where
   actuals_inside : (actuals : List Actual)
-      → AllByRecursion (IsSoundActual (types_of_source symbols t.blocks) (context_of symbols t k)) actuals
-      → AllByRecursion (λ (a : Actual). stays_inside (context_of symbols t k) a.value ≡ true) actuals
+      → AllByRecursion (IsSoundActual (types_of_source symbols t.blocks) (context_at symbols t k)) actuals
+      → AllByRecursion (λ (a : Actual). stays_inside (context_at symbols t k) a.value ≡ true) actuals
   actuals_inside [] h = tt
   actuals_inside (a ∷ actuals) h = (stays symbols t k a.value h.0.inside, actuals_inside actuals h.1)
 
   all_known : (body ss : List Statement)
-      → AllByRecursion (IsSoundStatement (types_of_source symbols t.blocks) (context_of symbols t k)) ss
-      → AllByRecursion StatementHas ss → AllByRecursion (IsResolvedStatement (context_of symbols t k) body) ss
-      → AllByRecursion (IsKnown (context_of symbols t k) body) ss
+      → AllByRecursion (IsSoundStatement (types_of_source symbols t.blocks) (context_at symbols t k)) ss
+      → AllByRecursion StatementHasKnownWord ss → AllByRecursion (IsResolvedStatement (context_at symbols t k) body) ss
+      → AllByRecursion (IsKnown (context_at symbols t k) body) ss
   all_known body [] sound words settled = tt
   all_known body (s ∷ ss) sound words settled = (
     record {
@@ -501,13 +501,13 @@ record IsKnownBlock (c : Context) (b : Block) : Type 0 where
 
 block_known : (source file : List ℕ) (symbols : List Symbol) (t : Tree) → IsAccepted source file symbols t
     → AreBytes source → (k : ℕ) (b : Block) → slice_get t.blocks k ≡ Some b
-    → IsKnownBlock (context_of symbols t k) b
+    → IsKnownBlock (context_at symbols t k) b
 block_known source file symbols t accepted bytes k b there =
     let laid = layout_of_block symbols t (right_tree source file symbols t accepted) k b there in
     record {
       plain = plain_parameters symbols t k b laid.0 laid.2;
       statements = all_known symbols t k b.body b.body laid.2.statements
-          (all_there (λ (b : Block). AllByRecursion StatementHas b.body) t.blocks k b
+          (all_there (λ (b : Block). AllByRecursion StatementHasKnownWord b.body) t.blocks k b
           (words_known source accepted.tokens t accepted.parsed) there)
           (statements_settle source file symbols t accepted bytes k b there);
     }
@@ -515,12 +515,12 @@ block_known source file symbols t accepted bytes k b there =
 pub accepted_operands_are_named : AcceptedOperandsAreNamed
 accepted_operands_are_named source file symbols t accepted bytes k b there =
     let known = block_known source file symbols t accepted bytes k b there in
-    all_mapped (IsKnown (context_of symbols t k) b.body) (IsNamedStatement (context_of symbols t k))
-    (statement_named (context_of symbols t k) b.body known.plain) b.body known.statements
+    all_mapped (IsKnown (context_at symbols t k) b.body) (IsNamedStatement (context_at symbols t k))
+    (statement_named (context_at symbols t k) b.body known.plain) b.body known.statements
 
 pub accepted_statements_act : AcceptedStatementsAct
 accepted_statements_act source file symbols t accepted bytes k b there =
     let known = block_known source file symbols t accepted bytes k b there in
-    all_mapped (IsKnown (context_of symbols t k) b.body)
-    (λ (s : Statement). is_empty_statement s.code ≡ false → (n : ℕ) → DoesAsWritten (context_of symbols t k) b.body n s)
-    (does_as_written (context_of symbols t k) b.body known.plain) b.body known.statements
+    all_mapped (IsKnown (context_at symbols t k) b.body)
+    (λ (s : Statement). is_empty_statement s.code ≡ false → (n : ℕ) → DoesAsWritten (context_at symbols t k) b.body n s)
+    (does_as_written (context_at symbols t k) b.body known.plain) b.body known.statements

@@ -226,29 +226,29 @@ actual_passed c a h =
 
 -- ---- the parameters in their order
 
-abbrev Known : Context → Option Actual → Type 0
-Known c None = Unit {0}
-Known c (Some a) = IsNamedActual c a
+abbrev IsKnownActual : Context → Option Actual → Type 0
+IsKnownActual c None = Unit {0}
+IsKnownActual c (Some a) = IsNamedActual c a
 
 found_same : (c : Context) (name : List ℕ) (actuals : List Actual)
     → AllByRecursion (IsNamedActual c) actuals
     → (find (λ (a : Actual). bytes_eq (upper_case_name a.name) name) actuals ≡ own.actual_named name actuals)
-    × Known c (own.actual_named name actuals)
+    × IsKnownActual c (own.actual_named name actuals)
 found_same c name [] h = (refl, tt)
 found_same c name (a ∷ actuals) h =
     by (bytes_eq (upper_case_name a.name) name) (found_same c name actuals h.1)
   where
     by : (b : Bool)
         → (find (λ (a : Actual). bytes_eq (upper_case_name a.name) name) actuals ≡ own.actual_named name actuals)
-        × Known c (own.actual_named name actuals)
+        × IsKnownActual c (own.actual_named name actuals)
         → ((if b then Some a else find (λ (a : Actual). bytes_eq (upper_case_name a.name) name) actuals)
         ≡ (if b then Some a else own.actual_named name actuals))
-        × Known c (if b then Some a else own.actual_named name actuals)
+        × IsKnownActual c (if b then Some a else own.actual_named name actuals)
     by true more = (refl, h.0)
     by false more = more
 
 one_same : (c : Context) (params : List Param) (index : ℕ) (o : Option Actual) (rest : List Passing)
-    (before : List Binding) (p : ExecState) → Known c o
+    (before : List Binding) (p : ExecState) → IsKnownActual c o
     → bindings.bound_params params (passed_actual c index o ++ rest) before p.local p.memory
     ≡ own.binds_parameter (own.named_in_call c o) (slice_get params index) index before p
     (λ more. bindings.bound_params params rest more p.local p.memory)

@@ -41,7 +41,7 @@ use Rattle.statement_laws.proofs.FlatLemmas.{flat_of}
 use Rattle.statement_laws.proofs.FlatLemmas as flat_lemmas
 use Rattle.statement_laws.proofs.RuleLemmas.{as_open, holds, loads_all}
 use Rattle.statement_laws.proofs.RuleLemmas as rules
-use Rattle.statement_laws.proofs.SeenLemmas.{about, opened_first, opens_first, operand_flat, resolved_parts, rule_by, view_named}
+use Rattle.statement_laws.proofs.SeenLemmas.{about, opened_first, opens_first, operand_flat, resolved_parts, rule_with_constant, view_named}
 use Rattle.statement_laws.proofs.VariableLemmas.{view_same}
 
 -- ---- from operations to statements
@@ -67,20 +67,20 @@ first_opened m op (named.PlaceIn n w byte bit) p h = db_first m op n (named_fixe
 first_opened m op _ p h = h p
 
 -- what an instruction that goes on does, whose operand names this
-pub record Acted (m : Mnemonic) (o : Operand) (v : ResolvedOperand) (x : NamedItem) : Type 0 where
+pub record IsAction (m : Mnemonic) (o : Operand) (v : ResolvedOperand) (x : NamedItem) : Type 0 where
   pub no_jump : jump_operation_of m ≡ None
   pub no_call : call_operation_of m ≡ None
   pub no_end : end_operation_of m ≡ None
   pub same : (q : ExecState) → effect.operation_effect (operation_for m o v) (flat_of (as_open x)) q ≡ effect_of_operation m (as_open x) q
 
 -- what is known of it
-pub record Given (m : Mnemonic) (o : Operand) (v : ResolvedOperand) (x : NamedItem) : Type 0 where
-  pub rule : rule_by (form_of m) (about o) v ≡ None
+pub record IsTakenOperand (m : Mnemonic) (o : Operand) (v : ResolvedOperand) (x : NamedItem) : Type 0 where
+  pub rule : rule_with_constant (form_of m) (about o) v ≡ None
   pub there : view_named (about o) v ≡ Some x
 
 pub acts : (c : Context) (body : List Statement) (n : ℕ) (s : Statement) (v : ResolvedOperand) (x : NamedItem)
     → resolved_operand c s ≡ Some v → named_by c s.operand ≡ Some x
-    → (Given s.code s.operand v x → Acted s.code s.operand v x)
+    → (IsTakenOperand s.code s.operand v x → IsAction s.code s.operand v x)
     → Acts (instruction c body n s) (effect_of_statement s.code x)
 unfolding instruction
 acts c body n s v x e is h program next a w =
@@ -100,18 +100,18 @@ acts c body n s v x e is h program next a w =
     there : view_named (about s.operand) v ≡ Some x
     there = view_same c s.operand v x ((resolved_parts c s v e).1) is
 
-    acted : Acted s.code s.operand v x
+    acted : IsAction s.code s.operand v x
     acted = h (record { rule = (resolved_parts c s v e).0; there = there })
 
 -- an operation that is the same whatever its operand
 acted : (m : Mnemonic) (o : Operand) (v : ResolvedOperand) (x : NamedItem)
     → jump_operation_of m ≡ None → call_operation_of m ≡ None → end_operation_of m ≡ None
     → ((q : ExecState) → effect.operation_effect (operation_for m o v) (flat_of (as_open x)) q ≡ effect_of_operation m (as_open x) q)
-    → Acted m o v x
+    → IsAction m o v x
 acted m o v x j c e h = record { no_jump = j; no_call = c; no_end = e; same = h }
 
 bit_logic : (m : Mnemonic) (o : Operand) (v : ResolvedOperand) (x : NamedItem) → is_bit_logic m ≡ true
-    → Given m o v x → Acted m o v x
+    → IsTakenOperand m o v x → IsAction m o v x
 unfolding operation_for effect_of_operation form_of effect.operation_effect
 bit_logic code.A o v x is g =
     acted code.A o v x refl refl refl
@@ -161,7 +161,7 @@ bit_logic code.Close o v x is g =
 bit_logic code.Assign o v x is g =
     acted code.Assign o v x refl refl refl
     (λ q. action_lemmas.assign_same (as_open x) q
-    (holds action_lemmas.is_written (about o) v x (rules.writes_bit (about o) v g.rule) g.there))
+    (holds action_lemmas.is_place_to_write (about o) v x (rules.writes_bit (about o) v g.rule) g.there))
 bit_logic code.S o v x is g =
     acted code.S o v x refl refl refl
     (λ q. action_lemmas.set_same (as_open x) q
@@ -173,11 +173,11 @@ bit_logic code.R o v x is g =
 bit_logic code.Fp o v x is g =
     acted code.Fp o v x refl refl refl
     (λ q. action_lemmas.edge_same true (as_open x) q
-    (holds action_lemmas.is_written (about o) v x (rules.writes_bit (about o) v g.rule) g.there))
+    (holds action_lemmas.is_place_to_write (about o) v x (rules.writes_bit (about o) v g.rule) g.there))
 bit_logic code.Fn o v x is g =
     acted code.Fn o v x refl refl refl
     (λ q. action_lemmas.edge_same false (as_open x) q
-    (holds action_lemmas.is_written (about o) v x (rules.writes_bit (about o) v g.rule) g.there))
+    (holds action_lemmas.is_place_to_write (about o) v x (rules.writes_bit (about o) v g.rule) g.there))
 bit_logic code.Set o v x is g =
     acted code.Set o v x refl refl refl
     (λ q. refl)
@@ -197,7 +197,7 @@ bit_logic_acts c body n s v x is e names =
     acts c body n s v x e names (λ g. bit_logic s.code s.operand v x is g)
 
 load_or_transfer : (m : Mnemonic) (o : Operand) (v : ResolvedOperand) (x : NamedItem) → is_load_or_transfer m ≡ true
-    → Given m o v x → Acted m o v x
+    → IsTakenOperand m o v x → IsAction m o v x
 unfolding operation_for effect_of_operation form_of effect.operation_effect pointer.pointer_effect
 load_or_transfer code.L o v x is g =
     acted code.L o v x refl refl refl
@@ -244,7 +244,7 @@ load_or_transfer_acts c body n s v x is e names =
     acts c body n s v x e names (λ g. load_or_transfer s.code s.operand v x is g)
 
 number_instruction : (m : Mnemonic) (o : Operand) (v : ResolvedOperand) (x : NamedItem) → is_number_instruction m ≡ true
-    → Given m o v x → Acted m o v x
+    → IsTakenOperand m o v x → IsAction m o v x
 unfolding operation_for effect_of_operation form_of effect.operation_effect numbers.number_effect numbers.word_logic_effect
 number_instruction code.Tak o v x is g =
     acted code.Tak o v x refl refl refl
@@ -331,32 +331,32 @@ number_instruction code.Negd o v x is g =
 number_instruction code.Aw o v x is g =
     acted code.Aw o v x refl refl refl
     (λ q. action_lemmas.logic_same logic.Aw 16 (word_logic.accumulator_anded 16) (as_open x) q
-    (holds action_lemmas.is_count (about o) v x (rules.combines simple.Word (about o) v g.rule) g.there)
+    (holds action_lemmas.is_shift_count (about o) v x (rules.combines simple.Word (about o) v g.rule) g.there)
     (λ k. refl))
 number_instruction code.Ow o v x is g =
     acted code.Ow o v x refl refl refl
     (λ q. action_lemmas.logic_same logic.Ow 16 (word_logic.accumulator_ored 16) (as_open x) q
-    (holds action_lemmas.is_count (about o) v x (rules.combines simple.Word (about o) v g.rule) g.there)
+    (holds action_lemmas.is_shift_count (about o) v x (rules.combines simple.Word (about o) v g.rule) g.there)
     (λ k. refl))
 number_instruction code.Xow o v x is g =
     acted code.Xow o v x refl refl refl
     (λ q. action_lemmas.logic_same logic.Xow 16 (word_logic.accumulator_xored 16) (as_open x) q
-    (holds action_lemmas.is_count (about o) v x (rules.combines simple.Word (about o) v g.rule) g.there)
+    (holds action_lemmas.is_shift_count (about o) v x (rules.combines simple.Word (about o) v g.rule) g.there)
     (λ k. refl))
 number_instruction code.Ad o v x is g =
     acted code.Ad o v x refl refl refl
     (λ q. action_lemmas.logic_same logic.Ad 32 (word_logic.accumulator_anded 32) (as_open x) q
-    (holds action_lemmas.is_count (about o) v x (rules.combines simple.Dword (about o) v g.rule) g.there)
+    (holds action_lemmas.is_shift_count (about o) v x (rules.combines simple.Dword (about o) v g.rule) g.there)
     (λ k. refl))
 number_instruction code.Od o v x is g =
     acted code.Od o v x refl refl refl
     (λ q. action_lemmas.logic_same logic.Od 32 (word_logic.accumulator_ored 32) (as_open x) q
-    (holds action_lemmas.is_count (about o) v x (rules.combines simple.Dword (about o) v g.rule) g.there)
+    (holds action_lemmas.is_shift_count (about o) v x (rules.combines simple.Dword (about o) v g.rule) g.there)
     (λ k. refl))
 number_instruction code.Xod o v x is g =
     acted code.Xod o v x refl refl refl
     (λ q. action_lemmas.logic_same logic.Xod 32 (word_logic.accumulator_xored 32) (as_open x) q
-    (holds action_lemmas.is_count (about o) v x (rules.combines simple.Dword (about o) v g.rule) g.there)
+    (holds action_lemmas.is_shift_count (about o) v x (rules.combines simple.Dword (about o) v g.rule) g.there)
     (λ k. refl))
 number_instruction _ o v x is g = absurd (false≢true is)
 
@@ -365,7 +365,7 @@ number_instruction_acts c body n s v x is e names =
     acts c body n s v x e names (λ g. number_instruction s.code s.operand v x is g)
 
 comparison : (m : Mnemonic) (o : Operand) (v : ResolvedOperand) (x : NamedItem) → is_comparison m ≡ true
-    → Given m o v x → Acted m o v x
+    → IsTakenOperand m o v x → IsAction m o v x
 unfolding operation_for effect_of_operation form_of effect.operation_effect
 comparison code.EqI o v x is g =
     acted code.EqI o v x refl refl refl
@@ -410,47 +410,47 @@ comparison_acts c body n s v x is e names =
     acts c body n s v x e names (λ g. comparison s.code s.operand v x is g)
 
 shift : (m : Mnemonic) (o : Operand) (v : ResolvedOperand) (x : NamedItem) → is_shift m ≡ true
-    → Given m o v x → Acted m o v x
+    → IsTakenOperand m o v x → IsAction m o v x
 unfolding operation_for effect_of_operation form_of effect.operation_effect numbers.number_effect numbers.shift_effect
 shift code.Ssi o v x is g =
     acted code.Ssi o v x refl refl refl
     (λ q. action_lemmas.shift_same shift_word.Ssi (shifts.shifted_signed 16) (as_open x) q
-    (holds action_lemmas.is_count (about o) v x (rules.shifts 15 (about o) v g.rule) g.there)
+    (holds action_lemmas.is_shift_count (about o) v x (rules.shifts 15 (about o) v g.rule) g.there)
     (λ k. refl))
 shift code.Ssd o v x is g =
     acted code.Ssd o v x refl refl refl
     (λ q. action_lemmas.shift_same shift_word.Ssd (shifts.shifted_signed 32) (as_open x) q
-    (holds action_lemmas.is_count (about o) v x (rules.shifts 32 (about o) v g.rule) g.there)
+    (holds action_lemmas.is_shift_count (about o) v x (rules.shifts 32 (about o) v g.rule) g.there)
     (λ k. refl))
 shift code.Slw o v x is g =
     acted code.Slw o v x refl refl refl
     (λ q. action_lemmas.shift_same shift_word.Slw (shifts.shifted_left 16) (as_open x) q
-    (holds action_lemmas.is_count (about o) v x (rules.shifts 15 (about o) v g.rule) g.there)
+    (holds action_lemmas.is_shift_count (about o) v x (rules.shifts 15 (about o) v g.rule) g.there)
     (λ k. refl))
 shift code.Srw o v x is g =
     acted code.Srw o v x refl refl refl
     (λ q. action_lemmas.shift_same shift_word.Srw (shifts.shifted_right 16) (as_open x) q
-    (holds action_lemmas.is_count (about o) v x (rules.shifts 15 (about o) v g.rule) g.there)
+    (holds action_lemmas.is_shift_count (about o) v x (rules.shifts 15 (about o) v g.rule) g.there)
     (λ k. refl))
 shift code.Sld o v x is g =
     acted code.Sld o v x refl refl refl
     (λ q. action_lemmas.shift_same shift_word.Sld (shifts.shifted_left 32) (as_open x) q
-    (holds action_lemmas.is_count (about o) v x (rules.shifts 32 (about o) v g.rule) g.there)
+    (holds action_lemmas.is_shift_count (about o) v x (rules.shifts 32 (about o) v g.rule) g.there)
     (λ k. refl))
 shift code.Srd o v x is g =
     acted code.Srd o v x refl refl refl
     (λ q. action_lemmas.shift_same shift_word.Srd (shifts.shifted_right 32) (as_open x) q
-    (holds action_lemmas.is_count (about o) v x (rules.shifts 32 (about o) v g.rule) g.there)
+    (holds action_lemmas.is_shift_count (about o) v x (rules.shifts 32 (about o) v g.rule) g.there)
     (λ k. refl))
 shift code.Rld o v x is g =
     acted code.Rld o v x refl refl refl
     (λ q. action_lemmas.shift_same shift_word.Rld rotations.rotated_left (as_open x) q
-    (holds action_lemmas.is_count (about o) v x (rules.shifts 32 (about o) v g.rule) g.there)
+    (holds action_lemmas.is_shift_count (about o) v x (rules.shifts 32 (about o) v g.rule) g.there)
     (λ k. refl))
 shift code.Rrd o v x is g =
     acted code.Rrd o v x refl refl refl
     (λ q. action_lemmas.shift_same shift_word.Rrd rotations.rotated_right (as_open x) q
-    (holds action_lemmas.is_count (about o) v x (rules.shifts 32 (about o) v g.rule) g.there)
+    (holds action_lemmas.is_shift_count (about o) v x (rules.shifts 32 (about o) v g.rule) g.there)
     (λ k. refl))
 shift code.Rlda o v x is g =
     acted code.Rlda o v x refl refl refl
@@ -465,28 +465,28 @@ shift_acts c body n s v x is e names =
     acts c body n s v x e names (λ g. shift s.code s.operand v x is g)
 
 timing : (m : Mnemonic) (o : Operand) (v : ResolvedOperand) (x : NamedItem) → is_timing m ≡ true
-    → Given m o v x → Acted m o v x
+    → IsTakenOperand m o v x → IsAction m o v x
 unfolding operation_for effect_of_operation form_of
 timing code.Sp o v x is g =
     acted code.Sp o v x refl refl refl
     (λ q. action_lemmas.start_same timer.Sp (as_open x) q
-    (holds action_lemmas.is_timer (about o) v x (rules.starts_timer (about o) v g.rule) g.there))
+    (holds action_lemmas.names_timer (about o) v x (rules.starts_timer (about o) v g.rule) g.there))
 timing code.Se o v x is g =
     acted code.Se o v x refl refl refl
     (λ q. action_lemmas.start_same timer.Se (as_open x) q
-    (holds action_lemmas.is_timer (about o) v x (rules.starts_timer (about o) v g.rule) g.there))
+    (holds action_lemmas.names_timer (about o) v x (rules.starts_timer (about o) v g.rule) g.there))
 timing code.Sd o v x is g =
     acted code.Sd o v x refl refl refl
     (λ q. action_lemmas.start_same timer.Sd (as_open x) q
-    (holds action_lemmas.is_timer (about o) v x (rules.starts_timer (about o) v g.rule) g.there))
+    (holds action_lemmas.names_timer (about o) v x (rules.starts_timer (about o) v g.rule) g.there))
 timing code.Ss o v x is g =
     acted code.Ss o v x refl refl refl
     (λ q. action_lemmas.start_same timer.Ss (as_open x) q
-    (holds action_lemmas.is_timer (about o) v x (rules.starts_timer (about o) v g.rule) g.there))
+    (holds action_lemmas.names_timer (about o) v x (rules.starts_timer (about o) v g.rule) g.there))
 timing code.Sf o v x is g =
     acted code.Sf o v x refl refl refl
     (λ q. action_lemmas.start_same timer.Sf (as_open x) q
-    (holds action_lemmas.is_timer (about o) v x (rules.starts_timer (about o) v g.rule) g.there))
+    (holds action_lemmas.names_timer (about o) v x (rules.starts_timer (about o) v g.rule) g.there))
 timing code.Fr o v x is g =
     acted code.Fr o v x refl refl refl
     (λ q. action_lemmas.free_same (as_open x) q
@@ -494,11 +494,11 @@ timing code.Fr o v x is g =
 timing code.Cu o v x is g =
     acted code.Cu o v x refl refl refl
     (λ q. action_lemmas.up_same (as_open x) q
-    (holds action_lemmas.is_counter (about o) v x (rules.steps_counter (about o) v g.rule) g.there))
+    (holds action_lemmas.names_counter (about o) v x (rules.steps_counter (about o) v g.rule) g.there))
 timing code.Cd o v x is g =
     acted code.Cd o v x refl refl refl
     (λ q. action_lemmas.down_same (as_open x) q
-    (holds action_lemmas.is_counter (about o) v x (rules.steps_counter (about o) v g.rule) g.there))
+    (holds action_lemmas.names_counter (about o) v x (rules.steps_counter (about o) v g.rule) g.there))
 timing _ o v x is g = absurd (false≢true is)
 
 pub timing_acts : TimingActs
@@ -506,7 +506,7 @@ timing_acts c body n s v x is e names =
     acts c body n s v x e names (λ g. timing s.code s.operand v x is g)
 
 relay : (m : Mnemonic) (o : Operand) (v : ResolvedOperand) (x : NamedItem) → is_relay m ≡ true
-    → Given m o v x → Acted m o v x
+    → IsTakenOperand m o v x → IsAction m o v x
 unfolding operation_for effect_of_operation form_of effect.operation_effect
 relay code.Mcra o v x is g =
     acted code.Mcra o v x refl refl refl
@@ -527,12 +527,12 @@ relay_acts c body n s v x is e names =
     acts c body n s v x e names (λ g. relay s.code s.operand v x is g)
 
 data_block : (m : Mnemonic) (o : Operand) (v : ResolvedOperand) (x : NamedItem) → is_data_block_instruction m ≡ true
-    → Given m o v x → Acted m o v x
+    → IsTakenOperand m o v x → IsAction m o v x
 unfolding operation_for effect_of_operation form_of effect.operation_effect data_blocks.registers_exchanged
 data_block code.Opn o v x is g =
     acted code.Opn o v x refl refl refl
     (λ q. action_lemmas.open_same (as_open x) q
-    (holds action_lemmas.is_data_block (about o) v x (rules.opens (about o) v g.rule) g.there))
+    (holds action_lemmas.names_data_block (about o) v x (rules.opens (about o) v g.rule) g.there))
 data_block code.Cdb o v x is g =
     acted code.Cdb o v x refl refl refl
     (λ q. refl)
@@ -543,7 +543,7 @@ data_block_acts c body n s v x is e names =
     acts c body n s v x e names (λ g. data_block s.code s.operand v x is g)
 
 idle : (m : Mnemonic) (o : Operand) (v : ResolvedOperand) (x : NamedItem) → is_idle m ≡ true
-    → Given m o v x → Acted m o v x
+    → IsTakenOperand m o v x → IsAction m o v x
 unfolding operation_for effect_of_operation form_of effect.operation_effect
 idle code.Nop o v x is g =
     acted code.Nop o v x refl refl refl

@@ -86,11 +86,11 @@ bound_same (Some (binding.AtPlace place w frame)) = refl
 bound_same (Some _) = refl
 
 -- what is named isn't in a data block that the statement opens first
-abbrev pub is_open : NamedItem → Bool
-is_open (named.PlaceIn block w byte bit) = false
-is_open _ = true
+abbrev pub opens_no_block : NamedItem → Bool
+opens_no_block (named.PlaceIn block w byte bit) = false
+opens_no_block _ = true
 
-pub place_same : (access : Access) (x : NamedItem) (p : ExecState) → is_open x ≡ true
+pub place_same : (access : Access) (x : NamedItem) (p : ExecState) → opens_no_block x ≡ true
     → places.operand_location access (flat_of x) p.local p.memory ≡ own.place_of_operand access x p
 unfolding places.operand_location own.place_of_operand
 place_same access (named.Place place) p e = found_same access place p

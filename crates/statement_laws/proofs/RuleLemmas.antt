@@ -21,9 +21,9 @@ use Rattle.stl_codegen.specs.Operations as codegen
 use Rattle.statement_laws.specs.Named.{NamedItem}
 use Rattle.statement_laws.specs.Named as named
 use Rattle.statement_laws.specs.Operands.{named_fixed_place, place_by}
-use Rattle.statement_laws.proofs.ActionLemmas.{add_operation, is_added_address, is_address, is_address_place, is_constant, is_count, is_counter, is_data_block, is_first_address, is_first_address_place, is_freed, is_loaded, is_reset, is_set, is_timer, is_transferred, is_written, load_address_operation, load_operation, or_operation, store_address_operation, transfer_operation}
+use Rattle.statement_laws.proofs.ActionLemmas.{add_operation_for, is_added_address, is_address, is_address_place, is_constant, is_shift_count, names_counter, names_data_block, is_first_address, is_first_address_place, is_freed, is_loaded, is_reset, is_set, names_timer, is_transferred, is_place_to_write, load_address_operation, load_operation_for, or_operation_for, store_address_operation, transfer_operation_for}
 use Rattle.statement_laws.proofs.FlatLemmas.{is_read}
-use Rattle.statement_laws.proofs.SeenLemmas.{about, on_named, rule_by, view_named}
+use Rattle.statement_laws.proofs.SeenLemmas.{about, on_named, rule_with_constant, view_named}
 
 -- the place in the DB register, once its data block is open
 abbrev pub as_open : NamedItem → NamedItem
@@ -50,15 +50,15 @@ pub refused : {n : ℕ} → Some n ≡ None → ⊥
 refused e = cc
 
 -- what holds of what is named, if anything is
-abbrev pub Holds : (NamedItem → Bool) → Option Literal → ResolvedOperand → Type 0
-Holds f k v = on_named true (λ x. f (as_open x)) (view_named k v) ≡ true
+abbrev pub HoldsOfItem : (NamedItem → Bool) → Option Literal → ResolvedOperand → Type 0
+HoldsOfItem f k v = on_named true (λ x. f (as_open x)) (view_named k v) ≡ true
 
 pub holds : (f : NamedItem → Bool) (k : Option Literal) (v : ResolvedOperand) (x : NamedItem)
-    → Holds f k v → view_named k v ≡ Some x → f (as_open x) ≡ true
+    → HoldsOfItem f k v → view_named k v ≡ Some x → f (as_open x) ≡ true
 holds f k v x h e = sym (ap (on_named true (λ x. f (as_open x))) e) ∙ h
 
 pub reads_bit : (k : Option Literal) (v : ResolvedOperand)
-    → rule_by form.ReadsBit k v ≡ None → Holds is_read k v
+    → rule_with_constant form.ReadsBit k v ≡ None → HoldsOfItem is_read k v
 unfolding rule_of_resolved_operand takes_operand takes_constant
 reads_bit None (view.Direct place width side declared) e =
     ap is_read (place_open place.area place.number width place.byte place.bit)
@@ -79,7 +79,7 @@ reads_bit (Some value) _ e = refl
 reads_bit None _ e = absurd (refused e)
 
 pub reads_bit_or_bare : (k : Option Literal) (v : ResolvedOperand)
-    → rule_by form.ReadsBitOrBare k v ≡ None → Holds is_read k v
+    → rule_with_constant form.ReadsBitOrBare k v ≡ None → HoldsOfItem is_read k v
 unfolding rule_of_resolved_operand takes_operand takes_constant
 reads_bit_or_bare None view.Nothing e = refl
 reads_bit_or_bare None (view.Direct place width side declared) e =
@@ -101,10 +101,10 @@ reads_bit_or_bare (Some value) _ e = refl
 reads_bit_or_bare None _ e = absurd (refused e)
 
 pub writes_bit : (k : Option Literal) (v : ResolvedOperand)
-    → rule_by form.WritesBit k v ≡ None → Holds is_written k v
+    → rule_with_constant form.WritesBit k v ≡ None → HoldsOfItem is_place_to_write k v
 unfolding rule_of_resolved_operand takes_operand takes_constant
 writes_bit None (view.Direct place width side declared) e =
-    ap is_written (place_open place.area place.number width place.byte place.bit)
+    ap is_place_to_write (place_open place.area place.number width place.byte place.bit)
 writes_bit None (view.Parameter index section declared) e = refl
 writes_bit None (view.ByMemory a width from byte) e = refl
 writes_bit None (view.ByRegister a width r count) e = refl
@@ -117,7 +117,7 @@ writes_bit (Some value) _ e = refl
 writes_bit None _ e = absurd (refused e)
 
 pub sets : (k : Option Literal) (v : ResolvedOperand)
-    → rule_by form.Sets k v ≡ None → Holds is_set k v
+    → rule_with_constant form.Sets k v ≡ None → HoldsOfItem is_set k v
 unfolding rule_of_resolved_operand takes_operand takes_constant
 sets None (view.Direct place width side declared) e =
     ap is_set (place_open place.area place.number width place.byte place.bit)
@@ -135,7 +135,7 @@ sets (Some value) _ e = refl
 sets None _ e = absurd (refused e)
 
 pub resets : (k : Option Literal) (v : ResolvedOperand)
-    → rule_by form.Resets k v ≡ None → Holds is_reset k v
+    → rule_with_constant form.Resets k v ≡ None → HoldsOfItem is_reset k v
 unfolding rule_of_resolved_operand takes_operand takes_constant
 resets None (view.Direct place width side declared) e =
     ap is_reset (place_open place.area place.number width place.byte place.bit)
@@ -155,7 +155,7 @@ resets (Some value) _ e = refl
 resets None _ e = absurd (refused e)
 
 pub transfers : (k : Option Literal) (v : ResolvedOperand)
-    → rule_by form.Transfers k v ≡ None → Holds is_transferred k v
+    → rule_with_constant form.Transfers k v ≡ None → HoldsOfItem is_transferred k v
 unfolding rule_of_resolved_operand takes_operand takes_constant
 transfers None (view.Direct place width side declared) e =
     ap is_transferred (place_open place.area place.number width place.byte place.bit)
@@ -172,7 +172,7 @@ transfers (Some value) _ e = refl
 transfers None _ e = absurd (refused e)
 
 pub loads_ar1 : (k : Option Literal) (v : ResolvedOperand)
-    → rule_by form.LoadsAr1 k v ≡ None → Holds is_first_address k v
+    → rule_with_constant form.LoadsAr1 k v ≡ None → HoldsOfItem is_first_address k v
 unfolding rule_of_resolved_operand takes_operand takes_constant
 loads_ar1 None view.Nothing e = refl
 loads_ar1 None (view.Direct place width side declared) e =
@@ -188,7 +188,7 @@ loads_ar1 (Some value) _ e = refl
 loads_ar1 None _ e = absurd (refused e)
 
 pub loads_ar2 : (k : Option Literal) (v : ResolvedOperand)
-    → rule_by form.LoadsAr2 k v ≡ None → Holds is_address k v
+    → rule_with_constant form.LoadsAr2 k v ≡ None → HoldsOfItem is_address k v
 unfolding rule_of_resolved_operand takes_operand takes_constant
 loads_ar2 None view.Nothing e = refl
 loads_ar2 None (view.Direct place width side declared) e =
@@ -203,7 +203,7 @@ loads_ar2 (Some value) _ e = refl
 loads_ar2 None _ e = absurd (refused e)
 
 pub stores_ar1 : (k : Option Literal) (v : ResolvedOperand)
-    → rule_by form.StoresAr1 k v ≡ None → Holds is_first_address_place k v
+    → rule_with_constant form.StoresAr1 k v ≡ None → HoldsOfItem is_first_address_place k v
 unfolding rule_of_resolved_operand takes_operand takes_constant
 stores_ar1 None view.Nothing e = refl
 stores_ar1 None (view.Direct place width side declared) e =
@@ -218,7 +218,7 @@ stores_ar1 (Some value) _ e = refl
 stores_ar1 None _ e = absurd (refused e)
 
 pub stores_ar2 : (k : Option Literal) (v : ResolvedOperand)
-    → rule_by form.StoresAr2 k v ≡ None → Holds is_address_place k v
+    → rule_with_constant form.StoresAr2 k v ≡ None → HoldsOfItem is_address_place k v
 unfolding rule_of_resolved_operand takes_operand takes_constant
 stores_ar2 None view.Nothing e = refl
 stores_ar2 None (view.Direct place width side declared) e =
@@ -232,7 +232,7 @@ stores_ar2 (Some value) _ e = refl
 stores_ar2 None _ e = absurd (refused e)
 
 pub adds_to_ar : (k : Option Literal) (v : ResolvedOperand)
-    → rule_by form.AddsToAr k v ≡ None → Holds is_added_address k v
+    → rule_with_constant form.AddsToAr k v ≡ None → HoldsOfItem is_added_address k v
 unfolding rule_of_resolved_operand takes_operand takes_constant
 adds_to_ar None view.Nothing e = refl
 adds_to_ar None (view.Pointer a byte bit) e = refl
@@ -245,7 +245,7 @@ adds_to_ar (Some value) _ e = refl
 adds_to_ar None _ e = absurd (refused e)
 
 pub counts : (most : ℕ) (k : Option Literal) (v : ResolvedOperand)
-    → rule_by (form.Counts most) k v ≡ None → Holds is_constant k v
+    → rule_with_constant (form.Counts most) k v ≡ None → HoldsOfItem is_constant k v
 unfolding rule_of_resolved_operand takes_operand takes_constant
 counts most None view.Composite e = refl
 counts most None view.Date e = refl
@@ -256,7 +256,7 @@ counts most (Some value) _ e = refl
 counts most None _ e = absurd (refused e)
 
 pub shifts : (most : ℕ) (k : Option Literal) (v : ResolvedOperand)
-    → rule_by (form.Shifts most) k v ≡ None → Holds is_count k v
+    → rule_with_constant (form.Shifts most) k v ≡ None → HoldsOfItem is_shift_count k v
 unfolding rule_of_resolved_operand takes_operand takes_constant
 shifts most None view.Nothing e = refl
 shifts most None view.Composite e = refl
@@ -268,7 +268,7 @@ shifts most (Some value) _ e = refl
 shifts most None _ e = absurd (refused e)
 
 pub adds : (k : Option Literal) (v : ResolvedOperand)
-    → rule_by form.Adds k v ≡ None → Holds is_constant k v
+    → rule_with_constant form.Adds k v ≡ None → HoldsOfItem is_constant k v
 unfolding rule_of_resolved_operand takes_operand takes_constant
 adds None view.Composite e = refl
 adds None view.Date e = refl
@@ -279,7 +279,7 @@ adds (Some value) _ e = refl
 adds None _ e = absurd (refused e)
 
 pub combines : (kind : Simple) (k : Option Literal) (v : ResolvedOperand)
-    → rule_by (form.Combines kind) k v ≡ None → Holds is_count k v
+    → rule_with_constant (form.Combines kind) k v ≡ None → HoldsOfItem is_shift_count k v
 unfolding rule_of_resolved_operand takes_operand takes_constant
 combines kind None view.Nothing e = refl
 combines kind None view.Composite e = refl
@@ -291,7 +291,7 @@ combines kind (Some value) _ e = refl
 combines kind None _ e = absurd (refused e)
 
 pub starts_timer : (k : Option Literal) (v : ResolvedOperand)
-    → rule_by form.StartsTimer k v ≡ None → Holds is_timer k v
+    → rule_with_constant form.StartsTimer k v ≡ None → HoldsOfItem names_timer k v
 unfolding rule_of_resolved_operand takes_operand takes_constant
 starts_timer None (view.Timer number) e = refl
 starts_timer None (view.NumberBy numbered.Timer from byte) e = refl
@@ -304,7 +304,7 @@ starts_timer (Some value) _ e = refl
 starts_timer None _ e = absurd (refused e)
 
 pub enables : (k : Option Literal) (v : ResolvedOperand)
-    → rule_by form.Enables k v ≡ None → Holds is_freed k v
+    → rule_with_constant form.Enables k v ≡ None → HoldsOfItem is_freed k v
 unfolding rule_of_resolved_operand takes_operand takes_constant
 enables None (view.Timer number) e = refl
 enables None (view.Counter number) e = refl
@@ -319,7 +319,7 @@ enables (Some value) _ e = refl
 enables None _ e = absurd (refused e)
 
 pub steps_counter : (k : Option Literal) (v : ResolvedOperand)
-    → rule_by form.StepsCounter k v ≡ None → Holds is_counter k v
+    → rule_with_constant form.StepsCounter k v ≡ None → HoldsOfItem names_counter k v
 unfolding rule_of_resolved_operand takes_operand takes_constant
 steps_counter None (view.Counter number) e = refl
 steps_counter None (view.NumberBy numbered.Counter from byte) e = refl
@@ -332,7 +332,7 @@ steps_counter (Some value) _ e = refl
 steps_counter None _ e = absurd (refused e)
 
 pub opens : (k : Option Literal) (v : ResolvedOperand)
-    → rule_by form.Opens k v ≡ None → Holds is_data_block k v
+    → rule_with_constant form.Opens k v ≡ None → HoldsOfItem names_data_block k v
 unfolding rule_of_resolved_operand takes_operand takes_constant
 opens None (view.NumberBy numbered.Db from byte) e = refl
 opens None (view.NumberBy numbered.Di from byte) e = refl
@@ -346,9 +346,9 @@ opens (Some value) _ e = refl
 opens None _ e = absurd (refused e)
 
 or_seen : (k : Option Literal) (v : ResolvedOperand)
-    → codegen.or_operation v ≡ on_named (codegen.or_operation v) (λ x. or_operation (as_open x)) (view_named k v)
+    → codegen.or_operation v ≡ on_named (codegen.or_operation v) (λ x. or_operation_for (as_open x)) (view_named k v)
 or_seen None (view.Direct place width side declared) =
-    sym (ap or_operation (place_open place.area place.number width place.byte place.bit))
+    sym (ap or_operation_for (place_open place.area place.number width place.byte place.bit))
 or_seen None (view.NumberBy numbered.Timer from byte) = refl
 or_seen None (view.NumberBy numbered.Counter from byte) = refl
 or_seen None (view.NumberBy numbered.Db from byte) = refl
@@ -363,14 +363,14 @@ or_seen (Some value) view.Constant = refl
 or_seen _ _ = refl
 
 pub or_named : (k : Option Literal) (v : ResolvedOperand) (x : NamedItem) → view_named k v ≡ Some x
-    → codegen.or_operation v ≡ or_operation (as_open x)
+    → codegen.or_operation v ≡ or_operation_for (as_open x)
 or_named k v x e =
-    or_seen k v ∙ ap (on_named (codegen.or_operation v) (λ x. or_operation (as_open x))) e
+    or_seen k v ∙ ap (on_named (codegen.or_operation v) (λ x. or_operation_for (as_open x))) e
 
 load_seen : (k : Option Literal) (v : ResolvedOperand)
-    → codegen.load_operation v ≡ on_named (codegen.load_operation v) (λ x. load_operation (as_open x)) (view_named k v)
+    → codegen.load_operation v ≡ on_named (codegen.load_operation v) (λ x. load_operation_for (as_open x)) (view_named k v)
 load_seen None (view.Direct place width side declared) =
-    sym (ap load_operation (place_open place.area place.number width place.byte place.bit))
+    sym (ap load_operation_for (place_open place.area place.number width place.byte place.bit))
 load_seen None (view.NumberBy numbered.Timer from byte) = refl
 load_seen None (view.NumberBy numbered.Counter from byte) = refl
 load_seen None (view.NumberBy numbered.Db from byte) = refl
@@ -385,14 +385,14 @@ load_seen (Some value) view.Constant = refl
 load_seen _ _ = refl
 
 pub load_named : (k : Option Literal) (v : ResolvedOperand) (x : NamedItem) → view_named k v ≡ Some x
-    → codegen.load_operation v ≡ load_operation (as_open x)
+    → codegen.load_operation v ≡ load_operation_for (as_open x)
 load_named k v x e =
-    load_seen k v ∙ ap (on_named (codegen.load_operation v) (λ x. load_operation (as_open x))) e
+    load_seen k v ∙ ap (on_named (codegen.load_operation v) (λ x. load_operation_for (as_open x))) e
 
 transfer_seen : (k : Option Literal) (v : ResolvedOperand)
-    → codegen.transfer_operation v ≡ on_named (codegen.transfer_operation v) (λ x. transfer_operation (as_open x)) (view_named k v)
+    → codegen.transfer_operation v ≡ on_named (codegen.transfer_operation v) (λ x. transfer_operation_for (as_open x)) (view_named k v)
 transfer_seen None (view.Direct place width side declared) =
-    sym (ap transfer_operation (place_open place.area place.number width place.byte place.bit))
+    sym (ap transfer_operation_for (place_open place.area place.number width place.byte place.bit))
 transfer_seen None (view.NumberBy numbered.Timer from byte) = refl
 transfer_seen None (view.NumberBy numbered.Counter from byte) = refl
 transfer_seen None (view.NumberBy numbered.Db from byte) = refl
@@ -407,9 +407,9 @@ transfer_seen (Some value) view.Constant = refl
 transfer_seen _ _ = refl
 
 pub transfer_named : (k : Option Literal) (v : ResolvedOperand) (x : NamedItem) → view_named k v ≡ Some x
-    → codegen.transfer_operation v ≡ transfer_operation (as_open x)
+    → codegen.transfer_operation v ≡ transfer_operation_for (as_open x)
 transfer_named k v x e =
-    transfer_seen k v ∙ ap (on_named (codegen.transfer_operation v) (λ x. transfer_operation (as_open x))) e
+    transfer_seen k v ∙ ap (on_named (codegen.transfer_operation v) (λ x. transfer_operation_for (as_open x))) e
 
 load_address_seen : (k : Option Literal) (v : ResolvedOperand)
     → codegen.load_pointer_operation v ≡ on_named (codegen.load_pointer_operation v) (λ x. load_address_operation (as_open x)) (view_named k v)
@@ -457,9 +457,9 @@ store_address_named k v x e =
 
 plain_add : (v : ResolvedOperand)
     → operation.Add adding.Word
-    ≡ on_named (operation.Add adding.Word) (λ x. add_operation (as_open x)) (view_named None v)
+    ≡ on_named (operation.Add adding.Word) (λ x. add_operation_for (as_open x)) (view_named None v)
 plain_add (view.Direct place width side declared) =
-    sym (ap add_operation (place_open place.area place.number width place.byte place.bit))
+    sym (ap add_operation_for (place_open place.area place.number width place.byte place.bit))
 plain_add (view.NumberBy numbered.Timer from byte) = refl
 plain_add (view.NumberBy numbered.Counter from byte) = refl
 plain_add (view.NumberBy numbered.Db from byte) = refl
@@ -474,7 +474,7 @@ plain_add _ = refl
 
 add_seen : (o : Operand) (v : ResolvedOperand)
     → codegen.add_operation o
-    ≡ on_named (codegen.add_operation o) (λ x. add_operation (as_open x)) (view_named (about o) v)
+    ≡ on_named (codegen.add_operation o) (λ x. add_operation_for (as_open x)) (view_named (about o) v)
 add_seen (operand.Constant (literal.Long value)) view.Constant = refl
 add_seen (operand.Constant (literal.Long value)) _ = refl
 add_seen (operand.Constant _) view.Constant = refl
@@ -482,9 +482,9 @@ add_seen (operand.Constant _) _ = refl
 add_seen _ v = plain_add v
 
 pub add_named : (o : Operand) (v : ResolvedOperand) (x : NamedItem) → view_named (about o) v ≡ Some x
-    → codegen.add_operation o ≡ add_operation (as_open x)
+    → codegen.add_operation o ≡ add_operation_for (as_open x)
 add_named o v x e =
-    add_seen o v ∙ ap (on_named (codegen.add_operation o) (λ x. add_operation (as_open x))) e
+    add_seen o v ∙ ap (on_named (codegen.add_operation o) (λ x. add_operation_for (as_open x))) e
 
 -- all but a place in a data block that is to be opened can be loaded
 pub loads_all : (x : NamedItem) → is_loaded (as_open x) ≡ true

@@ -219,12 +219,12 @@ opened_first k v x e = opens_same k v ∙ ap (on_named (codegen.block_opened_by_
 -- ---- what the rules leave
 
 -- the rule that a view breaks with a form, where the operand is this constant or none
-abbrev pub rule_by : OperandRule → Option Literal → ResolvedOperand → Option ℕ
-rule_by f (Some value) v = if takes_constant f value then None else Some 25
-rule_by f None v = rule_of_resolved_operand f v
+abbrev pub rule_with_constant : OperandRule → Option Literal → ResolvedOperand → Option ℕ
+rule_with_constant f (Some value) v = if takes_constant f value then None else Some 25
+rule_with_constant f None v = rule_of_resolved_operand f v
 
 rule_same : (c : Context) (f : OperandRule) (o : Operand) (v : ResolvedOperand)
-    → resolution_of c o ≡ Resolved v → operand_rule c f o ≡ rule_by f (about o) v
+    → resolution_of c o ≡ Resolved v → operand_rule c f o ≡ rule_with_constant f (about o) v
 rule_same c f (operand.Constant value) v e = refl
 rule_same c f o v e = ap (rule_of_resolution f) e
 
@@ -239,7 +239,7 @@ resolution_same None Unjudged v e = absurd cc
 resolution_same (Some rule) n v e = absurd cc
 
 pub resolved_parts : (c : Context) (s : Statement) (v : ResolvedOperand) → resolved_operand c s ≡ Some v
-    → (rule_by (form_of s.code) (about s.operand) v ≡ None) × (resolution_of c s.operand ≡ Resolved v)
+    → (rule_with_constant (form_of s.code) (about s.operand) v ≡ None) × (resolution_of c s.operand ≡ Resolved v)
 unfolding resolved_operand
 resolved_parts c s v e =
     let parts = resolution_same (statement_rule c s) (resolution_of c s.operand) v e in
@@ -297,12 +297,12 @@ pointer_same (Some letters.Pq) byte bit = refl
 -- ---- data blocks by their numbers
 
 -- the number of the block at a place, where it breaks no rule itself
-abbrev number_at : List BlockLayout → Option ℕ → Option ℕ
-number_at ls place =
+abbrev number_of_whole_block : List BlockLayout → Option ℕ → Option ℕ
+number_of_whole_block ls place =
     option_and_then (λ b. number_of_block b.id) (option_and_then (whole_at ls) place)
 
 shifted : (l : BlockLayout) (ls : List BlockLayout) (place : Option ℕ)
-    → number_at (l ∷ ls) (option_map (λ k. suc k) place) ≡ number_at ls place
+    → number_of_whole_block (l ∷ ls) (option_map (λ k. suc k) place) ≡ number_of_whole_block ls place
 shifted l ls None = refl
 shifted l ls (Some k) = refl
 
@@ -317,7 +317,7 @@ same_number id (Some other) n is e =
     by false h = absurd cc
 
 placed_number : (id : BlockId) (ls : List BlockLayout) (n : ℕ)
-    → number_at ls (place_of_block id (map (λ b. b.id) ls)) ≡ Some n → id.number ≡ n
+    → number_of_whole_block ls (place_of_block id (map (λ b. b.id) ls)) ≡ Some n → id.number ≡ n
 placed_number id [] n e = absurd cc
 placed_number id (l ∷ ls) n e = by (is_id id l.id) refl e (placed_number id ls n)
   where
@@ -329,9 +329,9 @@ placed_number id (l ∷ ls) n e = by (is_id id l.id) refl e (placed_number id ls
     here false h = h
 
     by : (first : Bool) → is_id id l.id ≡ first
-        → number_at (l ∷ ls) (if first then Some 0
+        → number_of_whole_block (l ∷ ls) (if first then Some 0
         else option_map (λ k. suc k) (place_of_block id (map (λ (b : BlockLayout). b.id) ls))) ≡ Some n
-        → (number_at ls (place_of_block id (map (λ (b : BlockLayout). b.id) ls)) ≡ Some n
+        → (number_of_whole_block ls (place_of_block id (map (λ (b : BlockLayout). b.id) ls)) ≡ Some n
         → id.number ≡ n)
         → id.number ≡ n
     by true is h more = same_number id l.id n is (here l.broken h)
@@ -340,25 +340,25 @@ placed_number id (l ∷ ls) n e = by (is_id id l.id) refl e (placed_number id ls
         (sym (shifted l ls (place_of_block id (map (λ (b : BlockLayout). b.id) ls))) ∙ h)
 
 known_number : (id : BlockId) (ls : List BlockLayout) (n : ℕ)
-    → number_at ls (known_block id (map (λ b. b.id) ls)) ≡ Some n → id.number ≡ n
+    → number_of_whole_block ls (known_block id (map (λ b. b.id) ls)) ≡ Some n → id.number ≡ n
 known_number id ls n e = by (is_block_number id.kind id.number) e
   where
     by : (right : Bool)
-        → number_at ls (if right then place_of_block id (map (λ (b : BlockLayout). b.id) ls) else None)
+        → number_of_whole_block ls (if right then place_of_block id (map (λ (b : BlockLayout). b.id) ls) else None)
         ≡ Some n
         → id.number ≡ n
     by true h = placed_number id ls n h
     by false h = absurd cc
 
 meant_number : (ls : List BlockLayout) (o : Option BlockId) (n : ℕ)
-    → number_at ls (option_and_then (λ id. known_block id (map (λ b. b.id) ls))
+    → number_of_whole_block ls (option_and_then (λ id. known_block id (map (λ b. b.id) ls))
     (of_kind is_data_block o)) ≡ Some n
     → option_map (λ id. id.number) o ≡ Some n
 meant_number ls None n e = absurd cc
 meant_number ls (Some id) n e = by (is_data_block id.kind) e
   where
     by : (right : Bool)
-        → number_at ls (option_and_then (λ id. known_block id (map (λ (b : BlockLayout). b.id) ls))
+        → number_of_whole_block ls (option_and_then (λ id. known_block id (map (λ (b : BlockLayout). b.id) ls))
         (if right then Some id else None)) ≡ Some n
         → Some id.number ≡ Some n
     by true h = ap Some (known_number id ls n h)

@@ -51,8 +51,8 @@ use Rattle.statement_laws.proofs.CoverLemmas.{has_no_name, name_left}
 use Rattle.statement_laws.proofs.SeenLemmas.{block_same, number_known, resolved_parts, resolved_same}
 use Rattle.statement_laws.proofs.VariableLemmas.{function_same, path_in_whole_block}
 
-abbrev There : Option NamedItem → Type 0
-There o = (x : NamedItem) × (o ≡ Some x)
+abbrev IsSomeItem : Option NamedItem → Type 0
+IsSomeItem o = (x : NamedItem) × (o ≡ Some x)
 
 -- ---- what isn't elementary is refused
 
@@ -67,7 +67,7 @@ composite_refused v (Some cell) r e = by cell.of e
     by _ h = false≢true (sym (ap has_no_name (resolved_same view.Composite v h) ∙ r))
 
 area_there : (kind : Simple) (o : Option (Place × Width)) (v : ResolvedOperand)
-    → variable_in_area kind o ≡ Resolved v → There (place_in_layout o)
+    → variable_in_area kind o ≡ Resolved v → IsSomeItem (place_in_layout o)
 area_there kind None v e = absurd cc
 area_there kind (Some p) v e = (named_place p.0 p.1, refl)
 
@@ -75,7 +75,7 @@ area_there kind (Some p) v e = (named_place p.0 p.1, refl)
 
 temporary_component : (c : Context) (component : ComponentAt) (o : Option Simple)
     (v : ResolvedOperand) → has_no_name v ≡ false → own_at c true component o ≡ Resolved v
-    → There (place_in_layout (elementary_place area.L 0 component.offset o))
+    → IsSomeItem (place_in_layout (elementary_place area.L 0 component.offset o))
 temporary_component c component None v r e =
     absurd (composite_refused v (slice_get (cells_at c.layouts component.block component.temporary) component.place) r e)
 temporary_component c component (Some kind) v r e =
@@ -83,7 +83,7 @@ temporary_component c component (Some kind) v r e =
 
 temporary_end : (c : Context) (end : PathEnd) (v : ResolvedOperand)
     → has_no_name v ≡ false → own_at_path_end c true end ≡ Resolved v
-    → There (place_in_layout (place_at_path_end c.layouts area.L 0 end))
+    → IsSomeItem (place_in_layout (place_at_path_end c.layouts area.L 0 end))
 temporary_end c (path_end.Reaches component) v r e =
     temporary_component c component (elementary_at c.layouts component) v r e
 temporary_end c path_end.Unknown v r e = absurd cc
@@ -91,7 +91,7 @@ temporary_end c path_end.Unjudged v r e = absurd cc
 
 static_component : (c : Context) (component : ComponentAt) (o : Option Simple)
     (v : ResolvedOperand) → has_no_name v ≡ false → in_function c ≡ false
-    → own_at c false component o ≡ Resolved v → There (place_in_layout (elementary_place area.Di 0 component.offset o))
+    → own_at c false component o ≡ Resolved v → IsSomeItem (place_in_layout (elementary_place area.Di 0 component.offset o))
 static_component c component None v r fc e =
     absurd (composite_refused v (slice_get (cells_at c.layouts component.block component.temporary) component.place) r e)
 static_component c component (Some kind) v r fc e =
@@ -101,7 +101,7 @@ static_component c component (Some kind) v r fc e =
 
 static_end : (c : Context) (end : PathEnd) (v : ResolvedOperand)
     → has_no_name v ≡ false → in_function c ≡ false → own_at_path_end c false end ≡ Resolved v
-    → There (place_in_layout (place_at_path_end c.layouts area.Di 0 end))
+    → IsSomeItem (place_in_layout (place_at_path_end c.layouts area.Di 0 end))
 static_end c (path_end.Reaches component) v r fc e =
     static_component c component (elementary_at c.layouts component) v r fc e
 static_end c path_end.Unknown v r fc e = absurd cc
@@ -119,8 +119,8 @@ stays true true j h = absurd (false≢true h)
 stays true false j h = refl
 stays false left j h = absurd (false≢true j)
 
-kept : (left : Bool) (o : Option (Place × Width)) → left ≡ false → There (place_in_layout o)
-    → There (place_in_layout (if left then None else o))
+kept : (left : Bool) (o : Option (Place × Width)) → left ≡ false → IsSomeItem (place_in_layout o)
+    → IsSomeItem (place_in_layout (if left then None else o))
 kept true o e h = absurd cc
 kept false o e h = h
 
@@ -180,7 +180,7 @@ parameter_width false kind e = absurd (false≢true e)
 
 cell_named : (c : Context) (place : ℕ) (cell : Cell)
     → slice_get (components_of_block c) place ≡ Some cell → is_elementary_component cell ≡ true
-    → There (parameter_named c place [])
+    → IsSomeItem (parameter_named c place [])
 cell_named c place cell there e =
     let found = parameter_width (nat_eq 0 (length cell.bounds)) (plain_kind cell.of) e in (
       named_as.Parameter
@@ -203,7 +203,7 @@ reached_cell : (c : Context) (m : Member) (offset : ℕ) (sound : Bool) (cell : 
       depth = 0;
       offset = offset;
     }) else path_end.Unjudged) (λ component. path_end_behind c.layouts component steps)) ≡ Resolved v
-    → There (parameter_named c m.place steps)
+    → IsSomeItem (parameter_named c m.place steps)
 reached_cell c m offset false cell steps v there plain e = absurd cc
 reached_cell c m offset true cell [] v there plain e =
     cell_named c m.place cell (ap (slice_get (components_of_block c)) (sym (zero-add m.place)) ∙ there) plain
@@ -226,7 +226,7 @@ reached_parameter : (c : Context) (m : Member) (offset : ℕ) (o : Option Cell) 
     → slice_get (components_of_block c) (0 + m.place) ≡ o
     → own_at_path_end c false (paths.path_end_and_then (paths.path_end_at_cell c.block false (0 + m.place) offset o)
     (λ component. path_end_behind c.layouts component steps)) ≡ Resolved v
-    → There (parameter_named c m.place steps)
+    → IsSomeItem (parameter_named c m.place steps)
 reached_parameter c m offset None steps v plain there e = absurd cc
 reached_parameter c m offset (Some cell) steps v plain there e =
     reached_cell c m offset cell.sound cell steps v there
@@ -237,7 +237,7 @@ parameter_there : (c : Context) (name : List ℕ) (steps : List PathStep) (m : M
     → component_of_name 0 0 0 name (components_of_block c) ≡ Some m
     → own_at_path_end c false (paths.path_end_and_then (outermost_path_end c.layouts c.block false 0 name)
     (λ component. path_end_behind c.layouts component steps)) ≡ Resolved v
-    → There (parameter_named c m.place steps)
+    → IsSomeItem (parameter_named c m.place steps)
 unfolding outermost_path_end
 parameter_there c name steps m v plain there e =
     reached_parameter c m _ (slice_get (components_of_block c) (0 + m.place)) steps v plain refl
@@ -268,7 +268,7 @@ local_there : (c : Context) (name : List ℕ) (steps : List PathStep)
     (if is_some m then outermost_path_end c.layouts c.block false 0 name
     else outermost_path_end c.layouts c.block true 0 name)
     (λ component. leaves_array c.layouts component steps)) ≡ true
-    → There (variable_by c name steps m)
+    → IsSomeItem (variable_by c name steps m)
 local_there c name steps None v r plain there e inside =
     kept (leaves_from c.layouts c.block true (step.Named name ∷ steps))
     (place_at_path_end c.layouts area.L 0 (path_end_in_block c.layouts c.block true (step.Named name ∷ steps)))
@@ -280,7 +280,7 @@ local_there c name steps (Some m) v r plain there e inside =
     by (is_fc (slice_get c.blocks c.block)) refl
   where
     by : (fc : Bool) → is_fc (slice_get c.blocks c.block) ≡ fc
-        → There (if fc then parameter_named c m.place steps
+        → IsSomeItem (if fc then parameter_named c m.place steps
         else place_in_layout (variable_place c.layouts area.Di c.block false (step.Named name ∷ steps)))
     by true fc =
         parameter_there c name steps m v (plain fc) there
@@ -298,7 +298,7 @@ local_there c name steps (Some m) v r plain there e inside =
 variable_there : (c : Context) (name : List ℕ) (steps : List PathStep)
     (v : ResolvedOperand) → has_no_name v ≡ false → HasElementaryParameters c
     → own_variable c name steps ≡ Resolved v
-    → not (leaves_local c.layouts c.block name steps) ≡ true → There (variable_named c name steps)
+    → not (leaves_local c.layouts c.block name steps) ≡ true → IsSomeItem (variable_named c name steps)
 unfolding path_end_of_local
 variable_there c name steps v r plain e inside =
     local_there c name steps (component_of_name 0 0 0 name (components_of_block c)) v r plain refl e inside
@@ -307,7 +307,7 @@ variable_there c name steps v r plain e inside =
 
 data_component_there : (c : Context) (n : ℕ) (component : ComponentAt) (o : Option Simple)
     (v : ResolvedOperand) → has_no_name v ≡ false → data_at c n component o ≡ Resolved v
-    → There (place_in_layout (elementary_place area.Db n component.offset o))
+    → IsSomeItem (place_in_layout (elementary_place area.Db n component.offset o))
 data_component_there c n component None v r e =
     absurd (composite_refused v (slice_get (cells_at c.layouts component.block component.temporary) component.place) r e)
 data_component_there c n component (Some kind) v r e =
@@ -315,7 +315,7 @@ data_component_there c n component (Some kind) v r e =
 
 data_end_there : (c : Context) (n : ℕ) (end : PathEnd) (v : ResolvedOperand)
     → has_no_name v ≡ false → data_at_path_end c n end ≡ Resolved v
-    → There (place_in_layout (place_at_path_end c.layouts area.Db n end))
+    → IsSomeItem (place_in_layout (place_at_path_end c.layouts area.Db n end))
 data_end_there c n (path_end.Reaches component) v r e =
     data_component_there c n component (elementary_at c.layouts component) v r e
 data_end_there c n path_end.Unknown v r e = absurd cc
@@ -337,11 +337,11 @@ data_whole : (c : Context) (id : BlockId) (steps : List PathStep) (place n : ℕ
     → option_and_then (λ (b : BlockLayout). number_of_block b.id) block ≡ Some n
     → data_at_path_end c id.number (path_end_in_data_block c.layouts place steps) ≡ Resolved v
     → not (leaves_structure c.layouts (structure_of c.layouts place) steps) ≡ true
-    → There (place_in_layout (option_and_then (offsets.place_in_section c.layouts id section.Global steps)
+    → IsSomeItem (place_in_layout (option_and_then (offsets.place_in_section c.layouts id section.Global steps)
     (if is_some block then Some place else None)))
 data_whole c id steps place n None v r db d e inside = absurd cc
 data_whole c id steps place n (Some b) v r db d e inside =
-    subst (λ (k : Bool). There (place_in_layout
+    subst (λ (k : Bool). IsSomeItem (place_in_layout
     (if k then offsets.component_place c.layouts id.number place steps else None))) (sym db)
     (kept (leaves_structure c.layouts (structure_of c.layouts place) steps)
     (place_at_path_end c.layouts area.Db id.number (path_end_in_data_block c.layouts place steps))
@@ -356,7 +356,7 @@ data_known_there : (c : Context) (id : BlockId) (steps : List PathStep)
     (option_and_then (whole_at c.layouts) place)
     → data_path c steps number place ≡ Resolved v
     → not (leaves_structure c.layouts (option_and_then (structure_of c.layouts) place) steps) ≡ true
-    → There (place_in_layout (option_and_then (offsets.place_in_section c.layouts id section.Global steps)
+    → IsSomeItem (place_in_layout (option_and_then (offsets.place_in_section c.layouts id section.Global steps)
     (option_and_then (if_whole c.layouts) place)))
 data_known_there c id steps (Some number) (Some place) v r db is d e inside =
     data_whole c id steps place number (whole_at c.layouts place) v r db (sym d)
@@ -382,7 +382,7 @@ data_named_there : (c : Context) (o : Option BlockId) (steps : List PathStep)
     → not (leaves_structure c.layouts (option_and_then (structure_of c.layouts)
     (option_and_then (λ id. known_block id (map (λ b. b.id) c.layouts)) (of_kind is_data_block o)))
     steps) ≡ true
-    → There (place_in_layout (option_and_then (λ id. place_of_path c.layouts id section.Global steps) o))
+    → IsSomeItem (place_in_layout (option_and_then (λ id. place_of_path c.layouts id section.Global steps) o))
 unfolding place_of_path
 data_named_there c None steps (Some number) v r is d e inside = absurd cc
 data_named_there c None steps None v r is d e inside = absurd cc
@@ -402,7 +402,7 @@ data_named_there c (Some id) steps number v r is d e inside =
         (option_and_then (λ (id : BlockId). known_block id (map (λ (b : BlockLayout). b.id) c.layouts))
         (if db then Some id else None)))
         steps) ≡ true
-        → There (place_in_layout (option_and_then (offsets.place_in_section c.layouts id section.Global steps)
+        → IsSomeItem (place_in_layout (option_and_then (offsets.place_in_section c.layouts id section.Global steps)
         (option_and_then (if_whole c.layouts)
         (known_block id (map (λ (b : BlockLayout). b.id) c.layouts)))))
     by true db d e inside =
@@ -414,9 +414,9 @@ component_there : (c : Context) (name : BlockName) (steps : List PathStep)
     (v : ResolvedOperand) → has_no_name v ≡ false → data_variable c name steps ≡ Resolved v
     → not (leaves_structure c.layouts (option_and_then (structure_of c.layouts) (data_place c name)) steps)
     ≡ true
-    → There (component_named c name steps)
+    → IsSomeItem (component_named c name steps)
 component_there c name steps v r e inside =
-    subst (λ o. There (place_in_layout
+    subst (λ o. IsSomeItem (place_in_layout
     (option_and_then (λ id. place_of_path c.layouts id section.Global steps) o)))
     (block_same c name)
     (data_named_there c (named_block c.symbols name) steps (data_number c name) v r
@@ -428,7 +428,7 @@ component_there c name steps v r e inside =
 
 pub path_there : (c : Context) (o : Operand) (v : ResolvedOperand)
     → HasElementaryParameters c → is_variable o ≡ true → stays_inside c o ≡ true
-    → has_no_name v ≡ false → resolution_of c o ≡ Resolved v → There (named_by c o)
+    → has_no_name v ≡ false → resolution_of c o ≡ Resolved v → IsSomeItem (named_by c o)
 unfolding resolution_of named_by
 path_there c (operand.Named (head.Local name) steps) v plain is inside r e =
     variable_there c (upper_case_name name) (folded_path steps) v r plain e inside

@@ -19,7 +19,7 @@ use Rattle.stl_list.specs.DataBlocks.{listed_data}
 use Rattle.stl_list.specs.Listing.{listed_tree}
 use Rattle.stl_list.specs.Signatures.{Signature}
 use Rattle.sem_kept.specs.Accepted.{program_in}
-use Rattle.sem_kept.proofs.accepted.Accepted.{context_at}
+use Rattle.sem_kept.specs.Settled.{context_at}
 use Rattle.sem_kept.proofs.accepted.RecordData.{got}
 use Rattle.listing_laws.specs.Declared.{signatures_in}
 use Rattle.listing_laws.specs.OwnData.{AreOwnDataKept, IsOneOfDataBlocks, IsOwnDataAgain}

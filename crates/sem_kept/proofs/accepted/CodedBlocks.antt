@@ -14,7 +14,7 @@ use Rattle.flat_code.specs.declared.operations.EndOperation.TheVariants as end
 use Rattle.stl_codegen.specs.Compiled.{SourceInstruction, StatedBlock, operand_with_target, op_with_target, compiled_block, offset_from, offset_of_statement, ops_in, placed_ops}
 use Rattle.stl_codegen.specs.Emitted.{ops_of}
 use Rattle.sem_kept.proofs.accepted.Accepted.{all_mapped}
-use Rattle.sem_kept.proofs.accepted.CodedOps.{IsGood, IsGoodPart, IsGoodStatement}
+use Rattle.sem_kept.proofs.accepted.CodedOps.{IsOpAtAnyTarget, IsGoodPart, IsGoodStatement}
 use Rattle.sem_kept.specs.Coded.{IsBlockCoded}
 
 abbrev pub AreGood : List SourceInstruction → Type 0
@@ -26,19 +26,19 @@ returning_at line = record { instr = Returns end.Be; line = line }
 
 -- ---- each is an op
 
-statement_ops : (ops : List OpData) → IsGoodStatement ops → AllByRecursion IsGood ops
+statement_ops : (ops : List OpData) → IsGoodStatement ops → AllByRecursion IsOpAtAnyTarget ops
 statement_ops ops h =
-    subst (AllByRecursion IsGood) (sym h.whole)
-    (all_append IsGood h.front (h.final ∷ []) (all_mapped IsGoodPart IsGood (λ op k. k.good) h.front h.parts) (h.good, tt))
+    subst (AllByRecursion IsOpAtAnyTarget) (sym h.whole)
+    (all_append IsOpAtAnyTarget h.front (h.final ∷ []) (all_mapped IsGoodPart IsOpAtAnyTarget (λ op k. k.good) h.front h.parts) (h.good, tt))
 
-all_good : (ss : List SourceInstruction) → AreGood ss → AllByRecursion IsGood (ops_in ss)
+all_good : (ss : List SourceInstruction) → AreGood ss → AllByRecursion IsOpAtAnyTarget (ops_in ss)
 all_good [] h = tt
 all_good (s ∷ ss) h =
-    all_append IsGood (ops_of s.instr) (ops_in ss) (statement_ops (ops_of s.instr) h.0)
+    all_append IsOpAtAnyTarget (ops_of s.instr) (ops_in ss) (statement_ops (ops_of s.instr) h.0)
     (all_good ss h.1)
 
 ops_aimed : (f : ℕ → ℕ) (ops : List OpData) → ((n : ℕ) → f n < 4294967296)
-    → AllByRecursion IsGood ops → are_ops (map (op_with_target f) ops) ≡ true
+    → AllByRecursion IsOpAtAnyTarget ops → are_ops (map (op_with_target f) ops) ≡ true
 ops_aimed f [] small h = refl
 ops_aimed f (op ∷ ops) small h =
     and_from (is_op op.code (operand_with_target f op.operand)) (are_ops (map (op_with_target f) ops)) (h.0 f small)

@@ -48,8 +48,8 @@ use Rattle.sem_kept.specs.Jumps.{AllLandRight, LandsRight, jump_fault_of}
 use Rattle.plc_base.proofs.TruthLemmas.{or_met_behind}
 use Rattle.sem_kept.proofs.accepted.JumpsCode.{AreQuiet, IsFound, IsQuiet, codes_after, count_after, found_by, left_after, open_after, placed_all, spot_there}
 use Rattle.flat_code.proofs.BracketLemmas.{codes_behind, codes_fault, codes_opened, count_behind, count_fault, count_is, fault_is, few_codes, few_is, no_zones, none_left, zone_fault_is}
-use Rattle.sem_kept.proofs.accepted.JumpsRules.{AreAlike, AreRightFrom, HasList, IsRightAt, IsTarget, behind_more, by_29, by_31, by_47, by_49, few_open, functions, has_list, right_body, same_landings, target_is, target_past, zones_more}
-use Rattle.sem_kept.proofs.accepted.JumpsOperations.{IsLastOf, TakesRight, behind_codes, behind_count, bracket_right, codes_of, front_quiet, jumps_to, last_of, last_op, zone_right}
+use Rattle.sem_kept.proofs.accepted.JumpsRules.{AreNestedAlike, AreRightFrom, HasList, IsRightAt, IsLabelOfJump, behind_more, by_29, by_31, by_47, by_49, few_open, functions, has_list, right_body, same_landings, target_is, target_past, zones_more}
+use Rattle.sem_kept.proofs.accepted.JumpsOperations.{IsLastOf, TakesRight, behind_codes, behind_count, bracket_right, codes_of_source_brackets, front_quiet, leads_to_label, last_of, last_op_of_instr, zone_right}
 
 -- ---- small facts
 
@@ -94,11 +94,11 @@ no_difference : (xs : List ℕ) (codes : Option (List ℕ)) (zones : ℕ) (there
 no_difference xs codes zones there here same count =
     rw (ap₂ are_other_brackets here same ∙ same_few xs) (rw (eq-eqb zones there.zones (sym count)) refl)
 
-codes_by : (bs : List SourceBracket) → codes_of bs ≡ map (λ k. op_code_of (operation.Nest check.A) + k) (functions bs)
+codes_by : (bs : List SourceBracket) → codes_of_source_brackets bs ≡ map (λ k. op_code_of (operation.Nest check.A) + k) (functions bs)
 codes_by [] = refl
 codes_by (b ∷ bs) = ap (λ (z : List ℕ). (op_code_of (operation.Nest check.A) + b.function) ∷ z) (codes_by bs)
 
-same_functions : (bs ds : List SourceBracket) → functions bs ≡ functions ds → codes_of bs ≡ codes_of ds
+same_functions : (bs ds : List SourceBracket) → functions bs ≡ functions ds → codes_of_source_brackets bs ≡ codes_of_source_brackets ds
 same_functions bs ds e =
     codes_by bs ∙ ap (λ (z : List ℕ). map (λ k. op_code_of (operation.Nest check.A) + k) z) e ∙ sym (codes_by ds)
 
@@ -164,8 +164,8 @@ abbrev code_from : Context → (body : List Statement) → (ret : SourceInstruct
 code_from c body ret f n ss = the_code f (stated_from c body n ss ++ ret ∷ [])
 
 -- the statement of a number
-abbrev stated : Context → List Statement → (n : ℕ) → Statement → SourceInstruction
-stated c body n s = record { instr = instruction c body n s; line = s.line }
+abbrev statement_of_number : Context → List Statement → (n : ℕ) → Statement → SourceInstruction
+statement_of_number c body n s = record { instr = instruction c body n s; line = s.line }
 
 stated_append : (c : Context) (body : List Statement) (n : ℕ) (xs ys : List Statement)
     → stated_from c body n (xs ++ ys) ≡ stated_from c body n xs ++ stated_from c body (n + count_of_statements xs) ys
@@ -177,13 +177,13 @@ stated_append c body n (x ∷ xs) ys =
         → stated_from c body n (xs ++ ys) ≡ stated_from c body n xs ++ stated_from c body (n + count_of_statements xs) ys
         → stated_from c body (suc n) (xs ++ ys)
         ≡ stated_from c body (suc n) xs ++ stated_from c body (suc n + count_of_statements xs) ys
-        → (if e then stated_from c body n (xs ++ ys) else stated c body n x ∷ stated_from c body (suc n) (xs ++ ys))
-        ≡ (if e then stated_from c body n xs else stated c body n x ∷ stated_from c body (suc n) xs)
+        → (if e then stated_from c body n (xs ++ ys) else statement_of_number c body n x ∷ stated_from c body (suc n) (xs ++ ys))
+        ≡ (if e then stated_from c body n xs else statement_of_number c body n x ∷ stated_from c body (suc n) xs)
         ++ stated_from c body (n + ((if e then 0 else 1) + count_of_statements xs)) ys
     by true same next =
         same ∙ ap (λ (k : ℕ). stated_from c body n xs ++ stated_from c body k ys) (omega arith)
     by false same next =
-        ap (λ (z : List SourceInstruction). stated c body n x ∷ z)
+        ap (λ (z : List SourceInstruction). statement_of_number c body n x ∷ z)
         (next ∙ ap (λ (k : ℕ). stated_from c body (suc n) xs ++ stated_from c body k ys) (omega arith))
 
 stated_count : (c : Context) (body : List Statement) (n : ℕ) (xs : List Statement)
@@ -194,7 +194,7 @@ stated_count c body n (x ∷ xs) =
   where
     by : (e : Bool) → length (stated_from c body n xs) ≡ count_of_statements xs
         → length (stated_from c body (suc n) xs) ≡ count_of_statements xs
-        → length (if e then stated_from c body n xs else stated c body n x ∷ stated_from c body (suc n) xs)
+        → length (if e then stated_from c body n xs else statement_of_number c body n x ∷ stated_from c body (suc n) xs)
         ≡ (if e then 0 else 1) + count_of_statements xs
     by true same next = omega (arith, same)
     by false same next = omega (arith, next)
@@ -216,7 +216,7 @@ ends_one c body pre n s e =
     ∙ ap (λ (k : ℕ). ends_of c body pre + k) (by (is_empty_statement s.code))
   where
     by : (empty : Bool)
-        → ends_at (if empty then [] else stated c body n s ∷ []) ≡ bytes_by c body n s empty
+        → ends_at (if empty then [] else statement_of_number c body n s ∷ []) ≡ bytes_by c body n s empty
     by true = refl
     by false = omega arith
 
@@ -246,27 +246,27 @@ count_more pre s e =
 -- the brackets behind statements
 stated_codes : (f : ℕ → ℕ) (c : Context) (body : List Statement) (n : ℕ) (bs : List SourceBracket)
     (xs : List Statement) → AllByRecursion TakesRight xs
-    → codes_after (aimed_parts f (parts (stated_from c body n xs))) (codes_of bs)
-    ≡ codes_of (brackets_behind_all bs xs)
+    → codes_after (aimed_parts f (parts (stated_from c body n xs))) (codes_of_source_brackets bs)
+    ≡ codes_of_source_brackets (brackets_behind_all bs xs)
 stated_codes f c body n bs [] h = refl
 stated_codes f c body n bs (x ∷ xs) h =
     by (is_empty_statement x.code) refl (stated_codes f c body n (brackets_behind bs x) xs h.1)
     (stated_codes f c body (suc n) (brackets_behind bs x) xs h.1)
   where
     by : (e : Bool) → is_empty_statement x.code ≡ e
-        → codes_after (aimed_parts f (parts (stated_from c body n xs))) (codes_of (brackets_behind bs x))
-        ≡ codes_of (brackets_behind_all (brackets_behind bs x) xs)
-        → codes_after (aimed_parts f (parts (stated_from c body (suc n) xs))) (codes_of (brackets_behind bs x))
-        ≡ codes_of (brackets_behind_all (brackets_behind bs x) xs)
+        → codes_after (aimed_parts f (parts (stated_from c body n xs))) (codes_of_source_brackets (brackets_behind bs x))
+        ≡ codes_of_source_brackets (brackets_behind_all (brackets_behind bs x) xs)
+        → codes_after (aimed_parts f (parts (stated_from c body (suc n) xs))) (codes_of_source_brackets (brackets_behind bs x))
+        ≡ codes_of_source_brackets (brackets_behind_all (brackets_behind bs x) xs)
         → codes_after (aimed_parts f (parts
-        (if e then stated_from c body n xs else stated c body n x ∷ stated_from c body (suc n) xs))) (codes_of bs)
-        ≡ codes_of (brackets_behind_all (brackets_behind bs x) xs)
+        (if e then stated_from c body n xs else statement_of_number c body n x ∷ stated_from c body (suc n) xs))) (codes_of_source_brackets bs)
+        ≡ codes_of_source_brackets (brackets_behind_all (brackets_behind bs x) xs)
     by true is same next =
-        ap (λ (z : List SourceBracket). codes_after (aimed_parts f (parts (stated_from c body n xs))) (codes_of z))
+        ap (λ (z : List SourceBracket). codes_after (aimed_parts f (parts (stated_from c body n xs))) (codes_of_source_brackets z))
         (sym (empty_behind bs x is)) ∙ same
     by false is same next =
         ap (codes_after (aimed_parts f (parts (stated_from c body (suc n) xs))))
-        (behind_codes bs body x (last_op (instruction c body n x)) (last_of c body n x h.0)) ∙ next
+        (behind_codes bs body x (last_op_of_instr (instruction c body n x)) (last_of c body n x h.0)) ∙ next
 
 -- and how many zones are
 stated_zones : (f : ℕ → ℕ) (c : Context) (body : List Statement) (n : ℕ) (zones : List ℕ)
@@ -287,7 +287,7 @@ stated_zones f c body n zones (x ∷ xs) h =
         → counted_after (stated_from c body (suc n) xs) (length (zones_behind zones x))
         ≡ length (zones_behind_all (zones_behind zones x) xs)
         → counted_after
-        (if e then stated_from c body n xs else stated c body n x ∷ stated_from c body (suc n) xs)
+        (if e then stated_from c body n xs else statement_of_number c body n x ∷ stated_from c body (suc n) xs)
         (length zones)
         ≡ length (zones_behind_all (zones_behind zones x) xs)
     by true is same next =
@@ -295,7 +295,7 @@ stated_zones f c body n zones (x ∷ xs) h =
         (sym (empty_zones zones x is)) ∙ same
     by false is same next =
         ap (counted_after (stated_from c body (suc n) xs))
-        (behind_count zones body x (last_op (instruction c body n x)) (last_of c body n x h.0))
+        (behind_count zones body x (last_op_of_instr (instruction c body n x)) (last_of c body n x h.0))
         ∙ next
 
 -- ---- where a label is
@@ -361,7 +361,7 @@ spot_behind f front s rest =
 spot_of : (c : Context) (body : List Statement) (ret : SourceInstruction) (f : ℕ → ℕ) (pre rest : List Statement)
     → body ≡ pre ++ rest → AllByRecursion TakesRight pre
     → IsFound (spot_at (statement_spots (the_code f (whole c body ret))) (ends_of c body pre))
-    (few_codes (codes_of (brackets_behind_all [] pre))) (length (zones_behind_all [] pre))
+    (few_codes (codes_of_source_brackets (brackets_behind_all [] pre))) (length (zones_behind_all [] pre))
 spot_of c body ret f pre rest e takes =
     let h = has_first (stated_from c body (count_of_statements pre) rest) ret in
     found_by _ _ _ _ _ _
@@ -427,7 +427,7 @@ listed_on : (c : Context) (body : List Statement) (ret : SourceInstruction) (nam
     → leads_to_target left (place c body ret (n + further)) at (code_from c body ret (place c body ret) n ss) ≡ true)
     → leads_to_target left (place c body ret (n + ((if empty then 0 else 1) + further))) at
     (the_code (place c body ret) ((if empty then stated_from c body n ss
-    else stated c body n s ∷ stated_from c body (suc n) ss) ++ ret ∷ [])) ≡ true
+    else statement_of_number c body n s ∷ stated_from c body (suc n) ss) ++ ret ∷ [])) ≡ true
 listed_on c body ret name left pre s ss at n is_at is_n further true is h more =
     ap (λ (k : ℕ). leads_to_target left (place c body ret k) at (code_from c body ret (place c body ret) n ss))
     (omega arith)
@@ -518,17 +518,17 @@ pub record IsRightBody (body : List Statement) : Type 0 where
   pub by_49 : by_49 [] body ≡ []
 
 -- a label is where its jump leads, with the same brackets and as many zones
-abbrev Lands : Context → (body : List Statement) → (ret : SourceInstruction) → (pre : List Statement) → (name : List ℕ)
+abbrev LandsAlike : Context → (body : List Statement) → (ret : SourceInstruction) → (pre : List Statement) → (name : List ℕ)
     → Type 0
-Lands c body ret pre name =
+LandsAlike c body ret pre name =
     IsFound (spot_at (statement_spots (the_code (place c body ret) (whole c body ret)))
-    (place c body ret (target_in name body))) (few_codes (codes_of (brackets_behind_all [] pre)))
+    (place c body ret (target_in name body))) (few_codes (codes_of_source_brackets (brackets_behind_all [] pre)))
     (length (zones_behind_all [] pre))
 
 lands : (c : Context) (body : List Statement) (ret : SourceInstruction) (pre : List Statement) (s : Statement)
     (post : List Statement) (name : List ℕ)
     → IsRightBody body → body ≡ pre ++ s ∷ post → IsRightAt body pre s post
-    → s.operand ≡ operand.Label name → Lands c body ret pre name
+    → s.operand ≡ operand.Label name → LandsAlike c body ret pre name
 lands c body ret pre s post name all e right label =
     found_by _ _ _ _ _ _
     (ap (spot_at (statement_spots (the_code f (whole c body ret))))
@@ -543,10 +543,10 @@ lands c body ret pre s post name all e right label =
     f : ℕ → ℕ
     f = place c body ret
 
-    there : IsTarget body empty_nesting name
+    there : IsLabelOfJump body empty_nesting name
     there = target_is body name (ap (is_unknown_label (labels_of body)) (sym label) ∙ right.known)
 
-    same : AreAlike pre there.before
+    same : AreNestedAlike pre there.before
     same = same_landings body pre there.before s post name right label
         (few_open body pre (s ∷ post) e all.by_31)
         (few_open body there.before there.rest there.whole all.by_31) there.landing
@@ -571,11 +571,11 @@ listed c body ret pre s post name at n e is is_at is_n has =
         ∙ ap (λ (k : ℕ). k + target_in name post) (sym is_n)
 
 -- a place in the code: where statements end, and what is open there
-record IsPlace (c : Context) (body pre : List Statement) (at n : ℕ) (bs : List OpenBracket)
+record IsPlaceInCode (c : Context) (body pre : List Statement) (at n : ℕ) (bs : List OpenBracket)
     (zones : List ℕ) : Type 0 where
   is_at : at ≡ ends_of c body pre
   is_n : n ≡ count_of_statements pre
-  codes : bracket_codes bs ≡ codes_of (brackets_behind_all [] pre)
+  codes : bracket_codes bs ≡ codes_of_source_brackets (brackets_behind_all [] pre)
   count : length zones ≡ length (zones_behind_all [] pre)
 
 -- a statement at its place
@@ -583,12 +583,12 @@ record IsHere (c : Context) (body pre : List Statement) (s : Statement) (post : 
     (at n : ℕ) (bs : List OpenBracket) (zones : List ℕ) : Type 0 where
   whole : body ≡ pre ++ s ∷ post
   full : is_empty_statement s.code ≡ false
-  stands : IsPlace c body pre at n bs zones
+  stands : IsPlaceInCode c body pre at n bs zones
   takes : TakesRight s
   right : IsRightAt body pre s post
 
-abbrev front_of : Context → List Statement → SourceInstruction → (n : ℕ) → Statement → List OpData
-front_of c body ret n s =
+abbrev front_ops : Context → List Statement → SourceInstruction → (n : ℕ) → Statement → List OpData
+front_ops c body ret n s =
     (aimed_part (place c body ret) (parted (instruction c body n s))).front
 
 abbrev end_of : Context → List Statement → SourceInstruction → (n : ℕ) → Statement → OpData
@@ -597,7 +597,7 @@ end_of c body ret n s = (aimed_part (place c body ret) (parted (instruction c bo
 abbrev placed_end : Context → List Statement → SourceInstruction → Statement → List Statement → (at n : ℕ)
     → List OpenBracket → (zones : List ℕ) → List OpData → PlacedOp
 placed_end c body ret s post at n bs zones done = record {
-  at = at + total (front_of c body ret n s);
+  at = at + total (front_ops c body ret n s);
   brackets = bs;
   zones = zones;
   before = done;
@@ -609,7 +609,7 @@ placed_end c body ret s post at n bs zones done = record {
 ends_here : (c : Context) (body : List Statement) (ret : SourceInstruction) (pre : List Statement) (s : Statement)
     (post : List Statement) (at n : ℕ) (bs : List OpenBracket) (zones : List ℕ)
     → IsHere c body pre s post at n bs zones
-    → at + total (front_of c body ret n s) + size_of_op (end_of c body ret n s) ≡ ends_of c body (pre ++ s ∷ [])
+    → at + total (front_ops c body ret n s) + size_of_op (end_of c body ret n s) ≡ ends_of c body (pre ++ s ∷ [])
 ends_here c body ret pre s post at n bs zones h =
     let end = ends_more c body pre n s h.full h.stands.is_n in
     let long = aimed_bytes (place c body ret) (parted (instruction c body n s)) in
@@ -633,7 +633,7 @@ jump_lands c body ret pre s post at n bs zones done all h how is =
     let number = count_more pre s h.full in
     let same = h.stands.is_n in
     ap (λ (o : Operand). jump_fault ss p (jump_number how) (place c body ret (target_of body o))) label.1
-    ∙ jump_right ss p (jump_number how) target (codes_of (brackets_behind_all [] pre))
+    ∙ jump_right ss p (jump_number how) target (codes_of_source_brackets (brackets_behind_all [] pre))
     (length (zones_behind_all [] pre))
     (list_right how p target (λ jl.
     listed c body ret pre s post name (p.at + size_of_op p.op) (suc n) h.whole h.full
@@ -656,7 +656,7 @@ last_lands c body ret pre s post at n bs zones done all h = record {
 }
   where
     op : OpData
-    op = last_op (instruction c body n s)
+    op = last_op_of_instr (instruction c body n s)
 
     last : IsLastOf body s op
     last = last_of c body n s h.takes
@@ -667,7 +667,7 @@ last_lands c body ret pre s post at n bs zones done all h = record {
     p : PlacedOp
     p = placed_end c body ret s post at n bs zones done
 
-    by : (j : Option JumpOperation) → jump_operation_of s.code ≡ j → jumps_to body s j op.operand
+    by : (j : Option JumpOperation) → jump_operation_of s.code ≡ j → leads_to_label body s j op.operand
         → jump_fault_of ss p (operand_with_target (place c body ret) op.operand) ≡ None
     by None is stays = stays_right ss p (place c body ret) op.operand stays
     by (Some how) is there =
@@ -696,13 +696,13 @@ AllLand c body ret at bs zones ops =
 -- behind an empty statement it is the same
 past_empty : (c : Context) (body pre : List Statement) (s : Statement) (at n : ℕ)
     (bs : List OpenBracket) (zones : List ℕ) → is_empty_statement s.code ≡ true
-    → IsPlace c body pre at n bs zones
-    → IsPlace c body (pre ++ s ∷ []) at n bs zones
+    → IsPlaceInCode c body pre at n bs zones
+    → IsPlaceInCode c body (pre ++ s ∷ []) at n bs zones
 past_empty c body pre s at n bs zones is h = record {
   is_at = h.is_at ∙ sym (ends_empty c body pre s is);
   is_n = h.is_n ∙ sym (count_empty pre s is);
   codes = h.codes
-      ∙ ap codes_of
+      ∙ ap codes_of_source_brackets
       (sym (behind_more [] pre (s ∷ []) ∙ empty_behind (brackets_behind_all [] pre) s is));
   count = h.count
       ∙ ap (λ (z : List ℕ). length z)
@@ -713,19 +713,19 @@ past_empty c body pre s at n bs zones is h = record {
 past_end : (c : Context) (body : List Statement) (ret : SourceInstruction) (pre : List Statement)
     (s : Statement) (post : List Statement) (at n : ℕ) (bs : List OpenBracket) (zones : List ℕ)
     → IsHere c body pre s post at n bs zones
-    → IsPlace c body (pre ++ s ∷ [])
-    (at + total (front_of c body ret n s) + size_of_op (end_of c body ret n s)) (suc n)
-    (brackets_after (at + total (front_of c body ret n s)) (end_of c body ret n s).code bs)
-    (zones_past (at + total (front_of c body ret n s)) (end_of c body ret n s).code zones)
+    → IsPlaceInCode c body (pre ++ s ∷ [])
+    (at + total (front_ops c body ret n s) + size_of_op (end_of c body ret n s)) (suc n)
+    (brackets_after (at + total (front_ops c body ret n s)) (end_of c body ret n s).code bs)
+    (zones_past (at + total (front_ops c body ret n s)) (end_of c body ret n s).code zones)
 past_end c body ret pre s post at n bs zones h = record {
   is_at = ends_here c body ret pre s post at n bs zones h;
   is_n = let number = count_more pre s h.full in let is_n = h.stands.is_n in
       omega (arith, number, is_n);
   codes = codes_opened from op.code bs ∙ ap (codes_behind op.code) h.stands.codes
-      ∙ behind_codes (brackets_behind_all [] pre) body s (last_op (instruction c body n s)) last
-      ∙ ap codes_of (sym (behind_more [] pre (s ∷ [])));
+      ∙ behind_codes (brackets_behind_all [] pre) body s (last_op_of_instr (instruction c body n s)) last
+      ∙ ap codes_of_source_brackets (sym (behind_more [] pre (s ∷ [])));
   count = count_is from op.code zones ∙ ap (count_behind op.code) h.stands.count
-      ∙ behind_count (zones_behind_all [] pre) body s (last_op (instruction c body n s)) last
+      ∙ behind_count (zones_behind_all [] pre) body s (last_op_of_instr (instruction c body n s)) last
       ∙ ap (λ (z : List ℕ). length z) (sym (zones_more [] pre (s ∷ [])));
 }
   where
@@ -733,23 +733,23 @@ past_end c body ret pre s post at n bs zones h = record {
     op = end_of c body ret n s
 
     from : ℕ
-    from = at + total (front_of c body ret n s)
+    from = at + total (front_ops c body ret n s)
 
-    last : IsLastOf body s (last_op (instruction c body n s))
+    last : IsLastOf body s (last_op_of_instr (instruction c body n s))
     last = last_of c body n s h.takes
 
 -- a statement, and those behind it
 next_lands : (c : Context) (body : List Statement) (ret : SourceInstruction) (pre : List Statement) (s : Statement)
     (post : List Statement) (at n : ℕ) (bs : List OpenBracket) (zones : List ℕ) → IsRightBody body
-    → body ≡ pre ++ s ∷ post → IsPlace c body pre at n bs zones → TakesRight s
+    → body ≡ pre ++ s ∷ post → IsPlaceInCode c body pre at n bs zones → TakesRight s
     → IsRightAt body pre s post
     → ((at n : ℕ) (bs : List OpenBracket) (zones : List ℕ)
-    → IsPlace c body (pre ++ s ∷ []) at n bs zones
+    → IsPlaceInCode c body (pre ++ s ∷ []) at n bs zones
     → AllLand c body ret at bs zones (code_from c body ret (place c body ret) n post))
     → (empty : Bool) → is_empty_statement s.code ≡ empty
     → AllLand c body ret at bs zones
     (the_code (place c body ret) ((if empty then stated_from c body n post
-    else stated c body n s ∷ stated_from c body (suc n) post) ++ ret ∷ []))
+    else statement_of_number c body n s ∷ stated_from c body (suc n) post) ++ ret ∷ []))
 next_lands c body ret pre s post at n bs zones all e h takes right more true is =
     more at n bs zones (past_empty c body pre s at n bs zones is h)
 next_lands c body ret pre s post at n bs zones all e h takes right more false is =
@@ -768,7 +768,7 @@ next_lands c body ret pre s post at n bs zones all e h takes right more false is
     i = instruction c body n s
 
     front : List OpData
-    front = front_of c body ret n s
+    front = front_ops c body ret n s
 
     op : OpData
     op = end_of c body ret n s
@@ -790,7 +790,7 @@ returning_at line = record { instr = Returns ends.Be; line = line }
 
 body_lands : (c : Context) (body : List Statement) (line : ℕ) (pre post : List Statement) (at n : ℕ)
     (bs : List OpenBracket) (zones : List ℕ) → IsRightBody body
-    → body ≡ pre ++ post → IsPlace c body pre at n bs zones
+    → body ≡ pre ++ post → IsPlaceInCode c body pre at n bs zones
     → AllByRecursion TakesRight post → AreRightFrom body pre post
     → AllLand c body (returning_at line) at bs zones
     (code_from c body (returning_at line) (place c body (returning_at line)) n post)
@@ -832,7 +832,7 @@ all_closed c body line f all =
     ∙ codes_more (aimed_parts f (parts (stated_from c body 0 body)))
     (aimed_parts f (parts (returning_at line ∷ []))) []
     ∙ stated_codes f c body 0 [] body all.takes
-    ∙ ap codes_of (none_open (brackets_behind_all [] body) all.by_30))
+    ∙ ap codes_of_source_brackets (none_open (brackets_behind_all [] body) all.by_30))
 
 zones_closed : (c : Context) (body : List Statement) (line : ℕ) (f : ℕ → ℕ) → IsRightBody body
     → zones_left 0 [] (the_code f (whole c body (returning_at line))) ≡ []

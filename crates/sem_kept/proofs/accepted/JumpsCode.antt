@@ -12,7 +12,7 @@ use Rattle.flat_code.specs.declared.operations.Operation.TheVariants as operatio
 use Rattle.flat_code.specs.declared.operations.RelayOperation.TheVariants as relay
 use Rattle.flat_code.proofs.BracketLemmas.{codes_behind, few_codes, codes_opened, few_is, count_behind, count_is}
 use Rattle.sem_kept.specs.Back.{is_target}
-use Rattle.sem_kept.proofs.compiled.Runs.{total, Parted, IsPreparing, IsStatement, AreStatements, flat, bytes_of, bytes_long, extent}
+use Rattle.sem_kept.proofs.compiled.Runs.{total, Parted, IsPreparing, IsPartedStatement, AreStatements, flat, bytes_of, bytes_long, extent}
 
 -- ---- ops that prepare
 
@@ -66,7 +66,7 @@ spots_inside at bs zones (x ∷ front) op rest quiet fs last =
 
 -- a statement, and those behind it
 spots_next : (at : ℕ) (bs : List OpenBracket) (zones : List ℕ) (p : Parted) (rest : List OpData)
-    → AllByRecursion IsQuiet p.front → IsStatement p
+    → AllByRecursion IsQuiet p.front → IsPartedStatement p
     → spots_from at true bs zones (p.front ++ p.end ∷ rest)
     ≡ record { at = at; codes = codes_of_few_brackets bs; zones = length zones }
     ∷ spots_from (at + bytes_of p) true (brackets_after (at + total p.front) p.end.code bs)
@@ -117,7 +117,7 @@ found_by a b codes others zones more e same count h = record {
 -- the statement behind others is found by its offset
 pub spot_there : (at : ℕ) (bs : List OpenBracket) (zones : List ℕ) (ps : List Parted) (p : Parted)
     (qs : List Parted)
-    → AreStatements ps → AreQuiet ps → AllByRecursion IsQuiet p.front → IsStatement p
+    → AreStatements ps → AreQuiet ps → AllByRecursion IsQuiet p.front → IsPartedStatement p
     → IsFound (spot_at (spots_from at true bs zones (flat (ps ++ p ∷ qs))) (at + extent ps))
     (few_codes (codes_after ps (bracket_codes bs))) (count_after ps (length zones))
 spot_there at bs zones [] p qs hs quiets quiet h = record {

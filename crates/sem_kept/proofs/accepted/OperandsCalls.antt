@@ -79,8 +79,8 @@ use Rattle.stl_codegen.specs.Passed.{passed_actual, passed_place, passed_resolut
 use Rattle.stl_codegen.specs.Operations.{call_operation_of}
 use Rattle.sem_kept.specs.Coded.{OperandHasBytes, StatementHasBytes}
 use Rattle.sem_kept.specs.Operands.{ArePassed, InstrFits, PassesAlone}
-use Rattle.sem_kept.specs.Settled.{NamesWhatIsPassed}
-use Rattle.sem_kept.proofs.accepted.Accepted.{IsSound, IsSoundActual, IsSoundCall, IsSoundStatement, IsSoundTree, context_at}
+use Rattle.sem_kept.specs.Settled.{NamesWhatIsPassed, context_at}
+use Rattle.sem_kept.proofs.accepted.Accepted.{IsSoundBlock, IsSoundActual, IsSoundCall, IsSoundStatement, IsSoundTree}
 use Rattle.sem_kept.proofs.accepted.OperandsCells.{are_right, cells_are, layout_of_block}
 use Rattle.block_layout.proofs.SoundnessLemmas.{block_unbroken}
 use Rattle.block_layout.proofs.BlockLemmas.{known_there}
@@ -89,8 +89,8 @@ use Rattle.sem_kept.proofs.accepted.OperandsFormals.{Distinct, IsFoundIn, IsSyst
 use Rattle.sem_kept.proofs.accepted.OperandsInstr.{CallFits}
 use Rattle.sem_kept.proofs.accepted.OperandsMembers.{called_block, instance_found}
 use Rattle.sem_kept.proofs.accepted.OperandsPassed.{IsGoodActual, Passes, passed_from, supplied_passes}
-use Rattle.sem_kept.proofs.accepted.OperandsSymbols.{SymbolFits}
-use Rattle.sem_kept.proofs.accepted.OperandsViews.{EndsBy, IsChecked, IsData, IsThere, Surrounds, block_own, data_block_kind, data_length, data_there, function_block_kind, id_there, id_there_is, ids_same, instance_length, layout_components, layout_id, layout_length, layout_shape, not_none, operand_seen, whole_is}
+use Rattle.sem_kept.proofs.accepted.OperandsSymbols.{IsRightSymbol}
+use Rattle.sem_kept.proofs.accepted.OperandsViews.{EndsBy, IsChecked, IsKnownDataBlock, IsThere, Surrounds, block_own, data_block_kind, data_length, data_there, function_block_kind, id_there, id_there_is, ids_same, instance_length, layout_components, layout_id, layout_length, layout_shape, not_none, operand_seen, whole_is}
 use Rattle.sem_kept.proofs.accepted.Shared.{call_form, callable_by, calls_called}
 use Rattle.block_layout.proofs.CommonLemmas.{or_first, or_second}
 
@@ -185,24 +185,24 @@ none_passed c i (f ∷ fs) = none_passed c (suc i) fs
 
 -- ---- what a call names
 
-abbrev IsInstanceOf : Context → Option BlockName → Option ℕ → Type 0
-IsInstanceOf c None None = Unit {0}
-IsInstanceOf c (Some name) (Some n) = data_number c name ≡ Some n
-IsInstanceOf c None (Some n) = ⊥
-IsInstanceOf c (Some name) None = ⊥
+abbrev IsNumberOfInstance : Context → Option BlockName → Option ℕ → Type 0
+IsNumberOfInstance c None None = Unit {0}
+IsNumberOfInstance c (Some name) (Some n) = data_number c name ≡ Some n
+IsNumberOfInstance c None (Some n) = ⊥
+IsNumberOfInstance c (Some name) None = ⊥
 
 record IsCall (c : Context) (name : BlockName) (inst : Option BlockName) (id : BlockId)
     (instance : Option ℕ) : Type 0 where
   named : named_block c.symbols name ≡ Some id
   whole : is_system_function id.kind ≡ false → (p : ℕ) × (whole_place c id ≡ Some p)
-  with_instance : IsInstanceOf c inst instance
+  with_instance : IsNumberOfInstance c inst instance
   seen : resolution_of c (operand.Called name inst) ≡ Resolved (view.Called id instance)
 
 -- ---- what is called
 
--- the signatures of the blocks of a program
-abbrev signatures : List Symbol → Tree → List BlockSignature
-signatures symbols t =
+-- the signatures_of_source of the blocks of a program
+abbrev signatures_of_source : List Symbol → Tree → List BlockSignature
+signatures_of_source symbols t =
     map signature_of (map record_of_block (map compiled_block (code_blocks_of t symbols (layouts_of t symbols))))
 
 -- the formal parameters of what is called, in the order of its code
@@ -336,7 +336,7 @@ source_called : (symbols : List Symbol) (t : Tree) → IsSoundTree symbols t →
     (name : BlockName) (inst : Option BlockName) (id : BlockId) (p : ℕ)
     → named_block symbols name ≡ Some id → (id.kind ≡ kinds.Fc) ⊎ (id.kind ≡ kinds.Fb)
     → whole_place (context_at symbols t k) id ≡ Some p
-    → IsCallee symbols t k (signatures symbols t) (operand.Called name inst) id
+    → IsCallee symbols t k (signatures_of_source symbols t) (operand.Called name inst) id
 source_called symbols t tree k name inst id p named kind whole = record {
   of_source = record { id = id; place = Some p; formals = formals };
   is = callee_source symbols t k name inst id p named kind whole
@@ -344,7 +344,7 @@ source_called symbols t tree k name inst id p named kind whole = record {
   same = refl;
   il = instance_len there.block there.layout;
   params = map record_of_param (params_of there.block there.layout);
-  flat = source_flat (signatures symbols t) id.kind id.number kind
+  flat = source_flat (signatures_of_source symbols t) id.kind id.number kind
       ∙ called_block symbols t tree p there.block there.layout id there.sound is_there (source_code id.kind kind);
   matched = subst (λ (o : Option Block). Matched (in_parameter_order o formals) (map record_of_param (params_of there.block there.layout)))
       (sym there.sound.block_there)
@@ -413,9 +413,9 @@ callee_there : (symbols : List Symbol) (t : Tree) → IsSoundTree symbols t → 
     (name : BlockName) (inst : Option BlockName) (id : BlockId) (instance : Option ℕ)
     → IsCall (context_at symbols t k) name inst id instance → is_callable id.kind ≡ true
     → is_unknown_function (named_block symbols name) ≡ false
-    → IsCallee symbols t k (signatures symbols t) (operand.Called name inst) id
+    → IsCallee symbols t k (signatures_of_source symbols t) (operand.Called name inst) id
 callee_there symbols t tree k name inst id instance call callable known =
-    ⊎_elim (λ is. system_called symbols t k (signatures symbols t) name inst id call.named is known)
+    ⊎_elim (λ is. system_called symbols t k (signatures_of_source symbols t) name inst id call.named is known)
     (λ kind. source_called symbols t tree k name inst id (call.whole (no_system id.kind kind)).0 call.named kind
     (call.whole (no_system id.kind kind)).1) (call_kind id.kind callable)
 
@@ -536,11 +536,11 @@ operand_called (operand.Called name inst) e = (name, inst, refl)
 operand_called _ e = absurd cc
 
 -- an instance by its name
-instance_none : (c : Context) (inst : Option BlockName) → IsInstanceOf c inst None → inst ≡ None
+instance_none : (c : Context) (inst : Option BlockName) → IsNumberOfInstance c inst None → inst ≡ None
 instance_none c None h = refl
 instance_none c (Some name) h = absurd h
 
-instance_some : (c : Context) (inst : Option BlockName) (n : ℕ) → IsInstanceOf c inst (Some n)
+instance_some : (c : Context) (inst : Option BlockName) (n : ℕ) → IsNumberOfInstance c inst (Some n)
     → (name : BlockName) × (inst ≡ Some name) × (data_number c name ≡ Some n)
 instance_some c None n h = absurd h
 instance_some c (Some name) n h = (name, refl, h)
@@ -612,7 +612,7 @@ block_whole symbols t tree k (Some id) e =
 -- and so is the instance that is named
 instance_known : (symbols : List Symbol) (t : Tree) → IsSoundTree symbols t → (k : ℕ) (id : BlockId)
     (inst : Option BlockName) → is_unknown_instance (types_of_source symbols t.blocks) inst ≡ false
-    → (n : Option ℕ) × IsInstanceOf (context_at symbols t k) inst n
+    → (n : Option ℕ) × IsNumberOfInstance (context_at symbols t k) inst n
     × (resolution_of_call (Some id) inst (instance_of_name (context_at symbols t k) inst) ≡ Resolved (view.Called id n))
 instance_known symbols t tree k id None e = (None, tt, refl)
 instance_known symbols t tree k id (Some name) e =
@@ -643,7 +643,7 @@ call_there symbols t tree k name inst there = (
         (ap (λ (ss : List Symbol). is_unknown_id y (named_block ss name)) (sym (measured_symbols symbols t.blocks))
         ∙ or_first (is_unknown_called y name) (is_unknown_instance y inst) there)
 
-    given : (n : Option ℕ) × IsInstanceOf (context_at symbols t k) inst n
+    given : (n : Option ℕ) × IsNumberOfInstance (context_at symbols t k) inst n
         × (resolution_of_call (Some block.id) inst (instance_of_name (context_at symbols t k) inst) ≡ Resolved (view.Called block.id n))
     given = instance_known symbols t tree k block.id inst (or_second (is_unknown_called y name) (is_unknown_instance y inst) there)
 
@@ -717,10 +717,10 @@ all_passed_on a c formals (x ∷ xs) good named =
     (good_passed a c formals x good.0 named.0, all_passed_on a c formals xs good.1 named.1)
 
 module _ (symbols : List Symbol) (t : Tree) (tree : IsSoundTree symbols t)
-    (fit : AllByRecursion SymbolFits symbols) (k : ℕ) (b : Block) (l : BlockLayout)
-    (block : IsSound symbols t k b l) (code : is_code b.kind ≡ true)
+    (fit : AllByRecursion IsRightSymbol symbols) (k : ℕ) (b : Block) (l : BlockLayout)
+    (block : IsSoundBlock symbols t k b l) (code : is_code b.kind ≡ true)
     (a : Environment) (around : Surrounds symbols t b l a)
-    (blocks : a.blocks ≡ signatures symbols t)
+    (blocks : a.blocks ≡ signatures_of_source symbols t)
     (s : Statement) (sound : IsSoundStatement (types_of_source symbols t.blocks) (context_at symbols t k) s)
     (ends : EndsBy a.local_len s) (bytes : StatementHasBytes s) where
   -- what the call passes to it
@@ -755,13 +755,13 @@ module _ (symbols : List Symbol) (t : Tree) (tree : IsSoundTree symbols t)
       )
 
   -- what is known of the call
-  record IsMade (how : CallOperation) (id : BlockId) (instance : Option ℕ) : Type 0 where
+  record IsMadeCall (how : CallOperation) (id : BlockId) (instance : Option ℕ) : Type 0 where
     name : BlockName
     inst : Option BlockName
     operand_is : s.operand ≡ operand.Called name inst
     call : IsCall (context_at symbols t k) name inst id instance
     by_view : is_called_view (view.Called id instance) ≡ true
-    cal : IsCallee symbols t k (signatures symbols t) (operand.Called name inst) id
+    cal : IsCallee symbols t k (signatures_of_source symbols t) (operand.Called name inst) id
     rules : IsSoundCall (context_at symbols t k) cal.of_source s
 
   call_found : (name : BlockName) (inst : Option BlockName) → s.operand ≡ operand.Called name inst
@@ -771,7 +771,7 @@ module _ (symbols : List Symbol) (t : Tree) (tree : IsSoundTree symbols t)
 
   made : (how : CallOperation) (id : BlockId) (instance : Option ℕ) → call_operation_of s.code ≡ Some how
       → resolution_of (context_at symbols t k) s.operand ≡ Resolved (view.Called id instance)
-      → IsMade how id instance
+      → IsMadeCall how id instance
   made how id instance word e = record {
     name = o.0;
     inst = o.1;
@@ -804,24 +804,24 @@ module _ (symbols : List Symbol) (t : Tree) (tree : IsSoundTree symbols t)
       by_view : is_called_view (view.Called id instance) ≡ true
       by_view = calls_called (view.Called id instance) rule
 
-      cal : IsCallee symbols t k (signatures symbols t) (operand.Called o.0 o.1) id
+      cal : IsCallee symbols t k (signatures_of_source symbols t) (operand.Called o.0 o.1) id
       cal = callee_there symbols t tree k o.0 o.1 id instance call (callable_by id instance by_view)
           (ap (calls_unknown (context_at symbols t k)) (sym o.2) ∙ sound.one_of_nine)
 
   -- what it passes
-  passings_are : (how : CallOperation) (id : BlockId) (instance : Option ℕ) (m : IsMade how id instance)
+  passings_are : (how : CallOperation) (id : BlockId) (instance : Option ℕ) (m : IsMadeCall how id instance)
       → passings_to (context_at symbols t k) s (callee_of (context_at symbols t k) s.operand)
       ≡ passed_by m.cal.of_source
   passings_are how id instance m =
       ap (passings_to (context_at symbols t k) s) (ap (callee_of (context_at symbols t k)) m.operand_is ∙ m.cal.is)
 
-  goods : (how : CallOperation) (id : BlockId) (instance : Option ℕ) (m : IsMade how id instance)
+  goods : (how : CallOperation) (id : BlockId) (instance : Option ℕ) (m : IsMadeCall how id instance)
       → AllByRecursion (IsGoodActual a (context_at symbols t k) m.cal.of_source.formals) s.actuals
   goods how id instance m =
       good_actuals m.cal.of_source.formals s.actuals
       sound.well_formed.actuals sound.actuals ends.1 bytes.actuals m.rules.fits
 
-  passes_right : (how : CallOperation) (id : BlockId) (instance : Option ℕ) (m : IsMade how id instance)
+  passes_right : (how : CallOperation) (id : BlockId) (instance : Option ℕ) (m : IsMadeCall how id instance)
       → ArePassed a (Some (kind_number id.kind, m.cal.il, m.cal.params)) None
       (passed_by m.cal.of_source)
   passes_right how id instance m =
@@ -831,7 +831,7 @@ module _ (symbols : List Symbol) (t : Tree) (tree : IsSoundTree symbols t)
       (λ n e. refl) m.cal.matched m.cal.found refl refl
 
   -- UC and CC call blocks without parameters
-  nothing_owed : (how : CallOperation) (id : BlockId) (instance : Option ℕ) (m : IsMade how id instance)
+  nothing_owed : (how : CallOperation) (id : BlockId) (instance : Option ℕ) (m : IsMadeCall how id instance)
       → has_actuals s.code ≡ false → m.cal.params ≡ []
   nothing_owed how id instance m e =
       no_params (ordered_formals t m.cal.of_source) m.cal.params
@@ -842,7 +842,7 @@ module _ (symbols : List Symbol) (t : Tree) (tree : IsSoundTree symbols t)
       (not (has_actuals s.code) && has_formals m.cal.of_source.formals) m.rules.bare))))
       m.cal.matched
 
-  all_owed : (how : CallOperation) (id : BlockId) (instance : Option ℕ) (m : IsMade how id instance)
+  all_owed : (how : CallOperation) (id : BlockId) (instance : Option ℕ) (m : IsMadeCall how id instance)
       → is_function_block id.kind ≡ false
       → are_all_passed 0 m.cal.params (pass_ops (passed_by m.cal.of_source)) ≡ true
   all_owed how id instance m other = by (has_actuals s.code) refl
@@ -864,7 +864,7 @@ module _ (symbols : List Symbol) (t : Tree) (tree : IsSoundTree symbols t)
           (ap (λ (z : BlockId). is_function_block z.kind) m.cal.same ∙ other)))))
 
   -- the instance of a function block
-  instance_right : (how : CallOperation) (id : BlockId) (n : ℕ) (m : IsMade how id (Some n))
+  instance_right : (how : CallOperation) (id : BlockId) (n : ℕ) (m : IsMadeCall how id (Some n))
       → is_function_block id.kind ≡ true
       → is_bad_instance lens (3, m.cal.il, m.cal.params) n ≡ false
   instance_right how id n m fb =
@@ -883,7 +883,7 @@ module _ (symbols : List Symbol) (t : Tree) (tree : IsSoundTree symbols t)
       operand_is : s.operand ≡ operand.Called m.name (Some at.0)
       operand_is = m.operand_is ∙ ap (λ (i : Option BlockName). operand.Called m.name i) at.1
 
-      d : IsData symbols t k at.0
+      d : IsKnownDataBlock symbols t k at.0
       d = data_there symbols t tree k at.0
           (or_second (is_unknown_called y m.name) (is_unknown_instance y (Some at.0))
           (ap (names_unknown y) (sym operand_is) ∙ sound.there))
@@ -920,7 +920,7 @@ module _ (symbols : List Symbol) (t : Tree) (tree : IsSoundTree symbols t)
           (layout_of_block symbols t tree fb_at.0 fb_at.1 fb_at.3).2.well_formed of_block
 
   -- CALL names one
-  bare_owed : (how : CallOperation) (id : BlockId) (m : IsMade how id None) → is_function_block id.kind ≡ true
+  bare_owed : (how : CallOperation) (id : BlockId) (m : IsMadeCall how id None) → is_function_block id.kind ≡ true
       → m.cal.params ≡ []
   bare_owed how id m fb = by (has_actuals s.code) refl
     where
@@ -934,11 +934,11 @@ module _ (symbols : List Symbol) (t : Tree) (tree : IsSoundTree symbols t)
           (ap has_no_instance (m.operand_is ∙ ap (λ (i : Option BlockName). operand.Called m.name i)
           (instance_none (context_at symbols t k) m.inst m.call.with_instance))))
 
-  call_bad : (how : CallOperation) (id : BlockId) (instance : Option ℕ) (m : IsMade how id instance)
+  call_bad : (how : CallOperation) (id : BlockId) (instance : Option ℕ) (m : IsMadeCall how id instance)
       → is_bad_call lens (Some (kind_number id.kind, m.cal.il, m.cal.params)) (instance_number_or_zero instance) (pass_ops (passed_by m.cal.of_source)) ≡ false
   call_bad how id instance m = by instance m (is_function_block id.kind) refl
     where
-      by : (instance : Option ℕ) (m : IsMade how id instance) (fb : Bool) → is_function_block id.kind ≡ fb
+      by : (instance : Option ℕ) (m : IsMadeCall how id instance) (fb : Bool) → is_function_block id.kind ≡ fb
           → is_bad_call lens (Some (kind_number id.kind, m.cal.il, m.cal.params)) (instance_number_or_zero instance)
           (pass_ops (passed_by m.cal.of_source)) ≡ false
       by None m false e =
@@ -959,7 +959,7 @@ module _ (symbols : List Symbol) (t : Tree) (tree : IsSoundTree symbols t)
             (sym flat_is) (call_bad how id instance m),
       )
     where
-      m : IsMade how id instance
+      m : IsMadeCall how id instance
       m = made how id instance word e
 
       ps : List Passing
@@ -984,7 +984,7 @@ module _ (symbols : List Symbol) (t : Tree) (tree : IsSoundTree symbols t)
       (found.0, found.1, ap (resolution_of (context_at symbols t k)) o.2 ∙ found.2.seen)
 
   called_made : (how : CallOperation) (word : call_operation_of s.code ≡ Some how)
-      → IsMade how (called_is how word).0 (called_is how word).1
+      → IsMadeCall how (called_is how word).0 (called_is how word).1
   called_made how word =
       made how (called_is how word).0 (called_is how word).1 word (called_is how word).2
 

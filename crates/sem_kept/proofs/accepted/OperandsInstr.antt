@@ -31,8 +31,8 @@ use Rattle.stl_codegen.specs.Instruction.{call_instr, end_instr, filler_instruct
 use Rattle.stl_codegen.specs.Operands.{flat_operand_of}
 use Rattle.stl_codegen.specs.Operations.{call_operation_of, end_operation_of, jump_operation_of, operation_for}
 use Rattle.sem_kept.specs.Operands.{InstrFits, IsOperandRightFor}
-use Rattle.sem_kept.proofs.accepted.OperandsViews.{IsSeen}
-use Rattle.sem_kept.proofs.accepted.OperandsOperations.{ViewFits, allowed, opened_fits, operand_fits, operation_is}
+use Rattle.sem_kept.proofs.accepted.OperandsViews.{ResolvesRight}
+use Rattle.sem_kept.proofs.accepted.OperandsOperations.{IsRightOperand, allowed, opened_fits, operand_fits, operation_is}
 
 jump_fits : (a : Environment) (lens : List (ℕ × ℕ)) (how : JumpOperation) (n target : ℕ)
     → InstrFits a lens (jump_instr how n target)
@@ -69,7 +69,7 @@ constant_right a m value = tt
 
 -- the operand that a statement does its instruction on
 right_for : (a : Environment) (c : Context) (m : Mnemonic) (o : Operand) (v : ResolvedOperand)
-    → resolution_of c o ≡ Resolved v → operand_rule c (form_of m) o ≡ None → ViewFits a v
+    → resolution_of c o ≡ Resolved v → operand_rule c (form_of m) o ≡ None → IsRightOperand a v
     → IsOperandRightFor a (op_with_end_mark (operation_for m o v) (flat_operand_of o v)) (flat_operand_of o v)
 right_for a c m (operand.Constant value) v e h fits =
     subst (λ (w : ResolvedOperand). IsOperandRightFor a (op_with_end_mark (operation_for m (operand.Constant value) w) (flat_operand_of (operand.Constant value) w)) (flat_operand_of (operand.Constant value) w))
@@ -77,7 +77,7 @@ right_for a c m (operand.Constant value) v e h fits =
 right_for a c m o v e h fits = operand_fits a m o v (allowed (form_of m) v (seen_rule c (form_of m) o v e h)) fits
 
 does_fits : (a : Environment) (lens : List (ℕ × ℕ)) (c : Context) (s : Statement) (v : ResolvedOperand)
-    → resolution_of c s.operand ≡ Resolved v → statement_rule c s ≡ None → ViewFits a v
+    → resolution_of c s.operand ≡ Resolved v → statement_rule c s ≡ None → IsRightOperand a v
     → (how : Option EndOperation) → InstrFits a lens (end_instr s v how)
 does_fits a lens c s v e h fits None = (
   (operation_is s.code s.operand v).prepares,
@@ -107,7 +107,7 @@ call_view_fits a lens c s how calls is _ e = filler_fits a lens
 
 pub instr_fits : (a : Environment) (lens : List (ℕ × ℕ)) (c : Context) (body : List Statement) (n : ℕ)
     (s : Statement) → statement_rule c s ≡ None
-    → (is_call s.code ≡ false → IsSeen a (resolution_of c s.operand)) → CallFits a lens c s
+    → (is_call s.code ≡ false → ResolvesRight a (resolution_of c s.operand)) → CallFits a lens c s
     → InstrFits a lens (instruction c body n s)
 unfolding instruction
 instr_fits a lens c body n s allowed seen_fits calls = by (jump_operation_of s.code)
@@ -120,7 +120,7 @@ instr_fits a lens c body n s allowed seen_fits calls = by (jump_operation_of s.c
     whether : (o : Option CallOperation) → call_operation_of s.code ≡ o
         → InstrFits a lens (resolved_instr c s (resolved_view (resolution_of c s.operand)))
     whether None is =
-        let found : IsSeen a (resolution_of c s.operand) = seen_fits (no_call s.code is) in
+        let found : ResolvesRight a (resolution_of c s.operand) = seen_fits (no_call s.code is) in
         rw (found.is, is) (does_fits a lens c s found.view found.is allowed found.fits (end_operation_of s.code))
     whether (Some how) is = called how is (resolution_of c s.operand) refl
 

@@ -49,7 +49,7 @@ use Rattle.sem_kept.specs.Operands.{IsOpenedFor, IsOperandRightFor}
 -- ---- what the rules of operands leave
 
 -- an operand that its instruction takes
-pub record IsAllowed (f : OperandRule) (v : ResolvedOperand) : Type 0 where
+pub record IsTakenBy (f : OperandRule) (v : ResolvedOperand) : Type 0 where
   pub single : is_composite v ≡ false
   pub taken : takes_operand f v ≡ true
   pub wide : has_width f (width_in v) ≡ true
@@ -65,7 +65,7 @@ rule_by composite a b c d e =
     else if e then Some 39
     else None
 
-pub allowed : (f : OperandRule) (v : ResolvedOperand) → rule_of_resolved_operand f v ≡ None → IsAllowed f v
+pub allowed : (f : OperandRule) (v : ResolvedOperand) → rule_of_resolved_operand f v ≡ None → IsTakenBy f v
 unfolding rule_of_resolved_operand
 allowed f v e =
     let all = chosen (composite_rule f v) (is_composite v) (takes_operand f v) (has_width f (width_in v))
@@ -260,7 +260,7 @@ widths code.Tar2 o w h k = dword_only (operation_takes code.Tar2 o) refl w k
 widths _ o w h k = absurd cc
 
 no_lack : (m : Mnemonic) (o : Operand) (v : ResolvedOperand) (w : Width) → is_in_memory v ≡ true
-    → width_in v ≡ Some w → IsAllowed (form_of m) v
+    → width_in v ≡ Some w → IsTakenBy (form_of m) v
     → lacks_width (op_with_end_mark (operation_for m o v) (flat_operand_of o v)) w ≡ false
 no_lack m o v w mem is h =
     ap (λ (x : Operation). not (has_width_of (takes_of (op_code_of x)) w)) (memory_word m o v mem)
@@ -298,13 +298,13 @@ abbrev pub HasWidth : Width → Option Simple → Type 0
 HasWidth w None = Unit {0}
 HasWidth w (Some kind) = w ≡ width_of kind
 
-abbrev pub ViewFits : Environment → ResolvedOperand → Type 0
-ViewFits a (view.Direct place w s declared) =
+abbrev pub IsRightOperand : Environment → ResolvedOperand → Type 0
+IsRightOperand a (view.Direct place w s declared) =
     (is_bad_place a place.area w place.byte place.bit ≡ false) × HasWidth w declared
-ViewFits a (view.Parameter index section declared) =
+IsRightOperand a (view.Parameter index section declared) =
     (lacks_own_parameter (parameter_meant a index) (width_of declared) ≡ false)
     × (is_input_parameter (parameter_meant a index) ≡ is_input_section section)
-ViewFits a _ = Unit {0}
+IsRightOperand a _ = Unit {0}
 
 numbered_fits : (a : Environment) (w : Operation) (what : Numbered) (from : Area) (byte : ℕ)
     → IsOperandRightFor a (op_with_end_mark w (numbered_operand what from byte)) (numbered_operand what from byte)
@@ -319,8 +319,8 @@ register_fits a w register.Dilg = tt
 register_fits a w register.Dino = tt
 register_fits a w _ = tt
 
-pub operand_fits : (a : Environment) (m : Mnemonic) (o : Operand) (v : ResolvedOperand) → IsAllowed (form_of m) v
-    → ViewFits a v
+pub operand_fits : (a : Environment) (m : Mnemonic) (o : Operand) (v : ResolvedOperand) → IsTakenBy (form_of m) v
+    → IsRightOperand a v
     → IsOperandRightFor a (op_with_end_mark (operation_for m o v) (flat_operand_of o v)) (flat_operand_of o v)
 unfolding flat_operand_of
 operand_fits a m o (view.Direct place w s declared) h fits =

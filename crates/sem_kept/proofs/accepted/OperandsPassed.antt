@@ -49,8 +49,8 @@ use Rattle.sem_kept.specs.Operands.{ArePassed}
 use Rattle.sem_kept.proofs.accepted.Accepted.{there}
 use Rattle.sem_kept.proofs.accepted.CodedBits.{constant_taken}
 use Rattle.sem_kept.proofs.accepted.OperandsFormals.{IsFoundIn, IsRecordOf, Matched}
-use Rattle.sem_kept.proofs.accepted.OperandsViews.{IsSeen}
-use Rattle.sem_kept.proofs.accepted.OperandsOperations.{HasWidth, ViewFits}
+use Rattle.sem_kept.proofs.accepted.OperandsViews.{ResolvesRight}
+use Rattle.sem_kept.proofs.accepted.OperandsOperations.{HasWidth, IsRightOperand}
 use Rattle.block_layout.proofs.CommonLemmas.{or_first}
 
 -- ---- literals
@@ -191,7 +191,7 @@ own_section false true e = absurd cc
 own_section false false e = refl
 
 view_passes : (a : Environment) (c : Context) (f : Formal) (r : ParameterRecord) (o : Operand) (v : ResolvedOperand)
-    → resolution_of c o ≡ Resolved v → ViewFits a v → IsRecordOf f r → fits_view f v ≡ true → Passes a c r o
+    → resolution_of c o ≡ Resolved v → IsRightOperand a v → IsRecordOf f r → fits_view f v ≡ true → Passes a c r o
 unfolding fits_view
 view_passes a c f r o (view.Direct place w side declared) e fits h taken = record {
   actual = passed_place place w;
@@ -219,7 +219,7 @@ view_passes a c f r o (view.Parameter index own declared) e fits h taken = recor
 view_passes a c f r o _ e fits h taken = absurd cc
 
 other_passes : (a : Environment) (c : Context) (f : Formal) (r : ParameterRecord) (o : Operand)
-    → IsSeen a (resolution_of c o) → IsRecordOf f r → fits_resolution f (resolution_of c o) ≡ true → Passes a c r o
+    → ResolvesRight a (resolution_of c o) → IsRecordOf f r → fits_resolution f (resolution_of c o) ≡ true → Passes a c r o
 other_passes a c f r o s h taken =
     view_passes a c f r o s.view s.is s.fits h (ap (fits_resolution f) (sym s.is) ∙ taken)
 
@@ -244,7 +244,7 @@ constant_passes a c f r value is has h taken = record {
 }
 
 pub passes : (a : Environment) (c : Context) (f : Formal) (r : ParameterRecord) (o : Operand)
-    → IsSeen a (resolution_of c o) → IsOperand o → OperandHasBytes o → IsRecordOf f r
+    → ResolvesRight a (resolution_of c o) → IsOperand o → OperandHasBytes o → IsRecordOf f r
     → fits_operand c f o ≡ true → Passes a c r o
 unfolding fits_operand
 passes a c f r (operand.Constant value) s is has h taken = constant_passes a c f r value is has h taken
@@ -254,7 +254,7 @@ passes a c f r o s is has h taken = other_passes a c f r o s h taken
 
 -- an actual parameter of a call, by the parameters of what is called
 pub record IsGoodActual (a : Environment) (c : Context) (formals : List Formal) (x : Actual) : Type 0 where
-  pub seen : IsSeen a (resolution_of c x.value)
+  pub seen : ResolvesRight a (resolution_of c x.value)
   pub well : IsOperand x.value
   pub bytes : OperandHasBytes x.value
   pub fits : misfits_formal c x (formal_named formals x.name) ≡ false

@@ -63,16 +63,16 @@ plain_of (Plain k) kind e = ap Plain (let same : k ≡ kind = cc in same)
 plain_of _ kind e = absurd cc
 
 -- a component that is elementary: all its indices are there
-pub record IsElementary (s : ComponentAt) (c : Cell) (kind : Simple) : Type 0 where
+pub record IsElementaryComponent (s : ComponentAt) (c : Cell) (kind : Simple) : Type 0 where
   pub whole : drop s.depth c.bounds ≡ []
   pub plain : c.of ≡ Plain kind
 
 pub elementary : (s : ComponentAt) (c : Cell) (kind : Simple) → kind_of s (Some c) ≡ Some kind
-    → IsElementary s c kind
+    → IsElementaryComponent s c kind
 elementary s c kind e = by (nat_eq s.depth (length c.bounds)) refl e
   where
     by : (t : Bool) → nat_eq s.depth (length c.bounds) ≡ t
-        → (if t then plain_kind c.of else None) ≡ Some kind → IsElementary s c kind
+        → (if t then plain_kind c.of else None) ≡ Some kind → IsElementaryComponent s c kind
     by true is h =
         let same : s.depth ≡ length c.bounds = eqb-true s.depth (length c.bounds) is in
         record {
@@ -92,7 +92,7 @@ reached_place l limit s kind h e = record {
       is.whole h.within);
 }
   where
-    is : IsElementary s h.cell kind
+    is : IsElementaryComponent s h.cell kind
     is = elementary s h.cell kind (ap (λ (o : Option Cell). kind_of s o) (sym h.there) ∙ e)
 
 pub placed_sees : (a : Area) (number offset limit : ℕ) (kind : Simple) → IsPlaced limit offset kind

@@ -80,16 +80,17 @@ use Rattle.stl_types.specs.declared.views.ResolvedOperand.{ResolvedOperand}
 use Rattle.stl_types.specs.declared.views.ResolvedOperand.TheVariants as view
 use Rattle.stl_codegen.specs.Generated.{param_at_bits, param_here, param_of, params_of, section_number}
 use Rattle.stl_codegen.specs.Instruction.{return_last}
-use Rattle.sem_kept.proofs.accepted.Accepted.{IsSound, IsSoundTree, context_at}
+use Rattle.sem_kept.specs.Settled.{context_at}
+use Rattle.sem_kept.proofs.accepted.Accepted.{IsSoundBlock, IsSoundTree}
 use Rattle.block_layout.proofs.BlockLemmas.{IsFoundBlock, found_there, kind_there}
 use Rattle.block_layout.proofs.CommonLemmas.{IsOrigin, all_there, origin, or_second}
 use Rattle.sem_kept.proofs.accepted.OperandsCells.{are_right, cells_are, layout_of_block}
 use Rattle.block_layout.proofs.LayoutLemmas.{measured_ids, measured_symbols}
 use Rattle.block_layout.proofs.ContainmentLemmas.{Moves, data_goes, local_goes, local_moves}
-use Rattle.sem_kept.proofs.accepted.OperandsPlaces.{AreParameters, GivesOne, IsElementary, IsParameterCell, IsPlaced, Stays, count_each, data_fits, elementary, function_components, in_its_order, instance_fits, local_fits, local_stays, one_each, placed_sees, reached_place}
-use Rattle.sem_kept.proofs.accepted.OperandsSymbols.{SymbolFits, TargetFits, named_fits}
+use Rattle.sem_kept.proofs.accepted.OperandsPlaces.{AreParameters, GivesOne, IsElementaryComponent, IsParameterCell, IsPlaced, Stays, count_each, data_fits, elementary, function_components, in_its_order, instance_fits, local_fits, local_stays, one_each, placed_sees, reached_place}
+use Rattle.sem_kept.proofs.accepted.OperandsSymbols.{IsRightSymbol, IsRightTarget, named_fits}
 use Rattle.block_layout.proofs.AlignmentLemmas.{AreRight, Goes, Lies, structure_even}
-use Rattle.sem_kept.proofs.accepted.OperandsOperations.{ViewFits}
+use Rattle.sem_kept.proofs.accepted.OperandsOperations.{IsRightOperand}
 
 -- ---- what surrounds a block
 
@@ -196,19 +197,19 @@ no_components y b h is =
 -- ---- what is seen
 
 -- an operand is seen, and what it names fits
-pub record IsSeen (a : Environment) (s : Resolution) : Type 0 where
+pub record ResolvesRight (a : Environment) (s : Resolution) : Type 0 where
   pub view : ResolvedOperand
   pub is : s ≡ Resolved view
-  pub fits : ViewFits a view
+  pub fits : IsRightOperand a view
 
-view_seen : (a : Environment) (v : ResolvedOperand) → ViewFits a v → IsSeen a (Resolved v)
+view_seen : (a : Environment) (v : ResolvedOperand) → IsRightOperand a v → ResolvesRight a (Resolved v)
 view_seen a v fits = record { view = v; is = refl; fits = fits }
 
-composite_seen : (a : Environment) (o : Option Cell) → IsSeen a (Resolved (composite_operand o))
+composite_seen : (a : Environment) (o : Option Cell) → ResolvesRight a (Resolved (composite_operand o))
 composite_seen a None = view_seen a view.Composite tt
 composite_seen a (Some c) = by c.of
   where
-    by : (e : Element) → IsSeen a (Resolved (date_or_composite e))
+    by : (e : Element) → ResolvesRight a (Resolved (date_or_composite e))
     by DateAndTime = view_seen a view.Date tt
     by _ = view_seen a view.Composite tt
 
@@ -294,7 +295,7 @@ outside_locals : (a : Environment) (ar : Area) (w : Width) (byte : ℕ) → has_
 outside_locals a area.L w byte h = absurd cc
 outside_locals a _ w byte h = refl
 
-target_fits : (a : Environment) (x : Target) → TargetFits x → ViewFits a (target_view x)
+target_fits : (a : Environment) (x : Target) → IsRightTarget x → IsRightOperand a (target_view x)
 target_fits a (target.Variable place w) h = (
   or_from (is_odd_bit w place.bit) (is_past_locals a place.area w place.byte) h.0
       (outside_locals a place.area w place.byte h.1),
@@ -341,24 +342,24 @@ no_component name e = absurd cc
 -- ---- the layout of a block
 
 pub layout_length : (symbols : List Symbol) (t : Tree) (p : ℕ) (b : Block) (l : BlockLayout)
-    → IsSound symbols t p b l → l.length ≡ length_of_block (types_of_source symbols t.blocks) t.blocks b
+    → IsSoundBlock symbols t p b l → l.length ≡ length_of_block (types_of_source symbols t.blocks) t.blocks b
 unfolding block_layout
 layout_length symbols t p b l h = ap (λ (z : BlockLayout). z.length) h.layout
 
 pub layout_components : (symbols : List Symbol) (t : Tree) (p : ℕ) (b : Block) (l : BlockLayout)
-    → IsSound symbols t p b l → l.components ≡ components_of (types_of_source symbols t.blocks) b
+    → IsSoundBlock symbols t p b l → l.components ≡ components_of (types_of_source symbols t.blocks) b
 unfolding block_layout
 layout_components symbols t p b l h = ap (λ (z : BlockLayout). z.components) h.layout
 
 pub layout_local : (symbols : List Symbol) (t : Tree) (p : ℕ) (b : Block) (l : BlockLayout)
-    → IsSound symbols t p b l → l.local_len ≡ local_len (types_of_source symbols t.blocks) b
+    → IsSoundBlock symbols t p b l → l.local_len ≡ local_len (types_of_source symbols t.blocks) b
 unfolding block_layout
 layout_local symbols t p b l h = ap (λ (z : BlockLayout). z.local_len) h.layout
 
 -- ---- the block's own variables
 
 module _ (symbols : List Symbol) (t : Tree) (tree : IsSoundTree symbols t) (k : ℕ) (b : Block)
-    (l : BlockLayout) (block : IsSound symbols t k b l) (code : is_code b.kind ≡ true)
+    (l : BlockLayout) (block : IsSoundBlock symbols t k b l) (code : is_code b.kind ≡ true)
     (a : Environment) (around : Surrounds symbols t b l a) where
   whole_here : is_some (whole_at (layouts_of t symbols) k) ≡ true
   whole_here = ap is_some (whole_is (layouts_of t symbols) k l block.layout_there block.whole)
@@ -378,7 +379,7 @@ module _ (symbols : List Symbol) (t : Tree) (tree : IsSoundTree symbols t) (k : 
   -- a temporary variable
   temporary_seen : (s : ComponentAt) → Lies (layouts_of t symbols) (structure_bits (cells_at (layouts_of t symbols) k true)) s
       → (o : Option Simple) → elementary_at (layouts_of t symbols) s ≡ o
-      → IsSeen a (own_at (context_at symbols t k) true s o)
+      → ResolvesRight a (own_at (context_at symbols t k) true s o)
   temporary_seen s h None e = composite_seen a (slice_get (cells_at (layouts_of t symbols) s.block s.temporary) s.place)
   temporary_seen s h (Some kind) e = record {
     view = view.Direct (place_at area.L 0 s.offset) (width_of kind) side.Both (Some kind);
@@ -412,7 +413,7 @@ module _ (symbols : List Symbol) (t : Tree) (tree : IsSoundTree symbols t) (k : 
   instance_seen : (limit : ℕ) → limit ≤ 131072 → is_function b.kind ≡ false → (s : ComponentAt)
       → Lies (layouts_of t symbols) limit s
       → (o : Option Simple) → elementary_at (layouts_of t symbols) s ≡ o
-      → IsSeen a (own_at (context_at symbols t k) false s o)
+      → ResolvesRight a (own_at (context_at symbols t k) false s o)
   instance_seen limit few other s h None e = composite_seen a (slice_get (cells_at (layouts_of t symbols) s.block s.temporary) s.place)
   instance_seen limit few other s h (Some kind) e = record {
     view = view.Direct (place_at area.Di 0 s.offset) (width_of kind) side.Both (Some kind);
@@ -429,7 +430,7 @@ module _ (symbols : List Symbol) (t : Tree) (tree : IsSoundTree symbols t) (k : 
   -- a parameter of a function
   parameter_seen : b.kind ≡ kinds.Fc → (s : ComponentAt) → s.block ≡ k → s.temporary ≡ false
       → (o : Option Simple) → elementary_at (layouts_of t symbols) s ≡ o
-      → IsSeen a (own_at (context_at symbols t k) false s o)
+      → ResolvesRight a (own_at (context_at symbols t k) false s o)
   parameter_seen is s at own None e = composite_seen a (slice_get (cells_at (layouts_of t symbols) s.block s.temporary) s.place)
   parameter_seen is s at own (Some kind) e =
       by (slice_get (cells_at (layouts_of t symbols) k false) s.place) refl
@@ -445,7 +446,7 @@ module _ (symbols : List Symbol) (t : Tree) (tree : IsSoundTree symbols t) (k : 
           (function_components (types_of_source symbols t.blocks) b block.well_formed is)
 
       found : (c : Cell) → slice_get (cells_at (layouts_of t symbols) k false) s.place ≡ Some c
-          → IsElementary s c kind → IsSeen a (own_elementary (context_at symbols t k) false s kind)
+          → IsElementaryComponent s c kind → ResolvesRight a (own_elementary (context_at symbols t k) false s kind)
       found c there elem = record {
         view = view.Parameter index c.section kind;
         is =
@@ -476,7 +477,7 @@ module _ (symbols : List Symbol) (t : Tree) (tree : IsSoundTree symbols t) (k : 
 
       by : (o : Option Cell) → slice_get (cells_at (layouts_of t symbols) k false) s.place ≡ o
           → kind_of s o ≡ Some kind
-          → IsSeen a (own_elementary (context_at symbols t k) false s kind)
+          → ResolvesRight a (own_elementary (context_at symbols t k) false s kind)
       by None there f = absurd cc
       by (Some c) there f = found c there (elementary s c kind f)
 
@@ -484,7 +485,7 @@ module _ (symbols : List Symbol) (t : Tree) (tree : IsSoundTree symbols t) (k : 
   own_seen : (name : List ℕ) (steps : List PathStep)
       → is_unknown (own_variable (context_at symbols t k) name steps) ≡ false
       → leaves_local (layouts_of t symbols) k name steps ≡ false
-      → IsSeen a (own_variable (context_at symbols t k) name steps)
+      → ResolvesRight a (own_variable (context_at symbols t k) name steps)
   own_seen name steps known stays = by (is_some (component_of_name 0 0 0 name cells)) refl known
     where
       ls : List BlockLayout
@@ -505,12 +506,12 @@ module _ (symbols : List Symbol) (t : Tree) (tree : IsSoundTree symbols t) (k : 
       -- each component that the path reaches is seen
       IsRead : Bool → Type 0
       IsRead temporary = (s : ComponentAt) → reached_end ≡ path_end.Reaches s
-          → IsSeen a (own_at (context_at symbols t k) temporary s (elementary_at ls s))
+          → ResolvesRight a (own_at (context_at symbols t k) temporary s (elementary_at ls s))
 
       reads : (temporary : Bool) (w : PathEnd)
-          → ((s : ComponentAt) → w ≡ path_end.Reaches s → IsSeen a (own_at (context_at symbols t k) temporary s (elementary_at ls s)))
+          → ((s : ComponentAt) → w ≡ path_end.Reaches s → ResolvesRight a (own_at (context_at symbols t k) temporary s (elementary_at ls s)))
           → Moves w → is_unknown (own_at_path_end (context_at symbols t k) temporary w) ≡ false
-          → IsSeen a (own_at_path_end (context_at symbols t k) temporary w)
+          → ResolvesRight a (own_at_path_end (context_at symbols t k) temporary w)
       reads temporary (path_end.Reaches s) f m known = f s refl
       reads temporary path_end.Unknown f m known = absurd cc
       reads temporary path_end.Unjudged f m known = absurd m
@@ -573,7 +574,7 @@ module _ (symbols : List Symbol) (t : Tree) (tree : IsSoundTree symbols t) (k : 
 
       by : (there : Bool) → is_some (component_of_name 0 0 0 name cells) ≡ there
           → is_unknown (own_at_path_end (context_at symbols t k) (not there) reached_end) ≡ false
-          → IsSeen a (own_at_path_end (context_at symbols t k) (not there) reached_end)
+          → ResolvesRight a (own_at_path_end (context_at symbols t k) (not there) reached_end)
       by true e known = reads false reached_end (own e) (local_moves ls right k name steps whole_here) known
       by false e known = reads true reached_end (temporary e) (local_moves ls right k name steps whole_here) known
 
@@ -604,10 +605,10 @@ pub record IsThere (symbols : List Symbol) (t : Tree) (kinds : BlockKind → Boo
   pub is : layout.id ≡ Some id
   pub kind : kinds id.kind ≡ true
   pub same : block.kind ≡ id.kind
-  pub sound : IsSound symbols t p block layout
+  pub sound : IsSoundBlock symbols t p block layout
 
 pub layout_id : (symbols : List Symbol) (t : Tree) (p : ℕ) (b : Block) (l : BlockLayout)
-    → IsSound symbols t p b l → l.id ≡ id_of symbols b
+    → IsSoundBlock symbols t p b l → l.id ≡ id_of symbols b
 unfolding block_layout
 layout_id symbols t p b l h =
     ap (λ (z : BlockLayout). z.id) h.layout
@@ -632,7 +633,7 @@ id_there symbols t tree kinds p id there kind = record {
     from = origin (λ b. id_of symbols b) t.blocks p (Some id)
         (ap (λ (ids : List (Option BlockId)). slice_get ids p) (sym (measured_ids symbols t.blocks)) ∙ there)
 
-    laid : (l : BlockLayout) × (slice_get (layouts_of t symbols) p ≡ Some l) × IsSound symbols t p from.of l
+    laid : (l : BlockLayout) × (slice_get (layouts_of t symbols) p ≡ Some l) × IsSoundBlock symbols t p from.of l
     laid = layout_of_block symbols t tree p from.of from.there
 
 pub id_there_is : (symbols : List Symbol) (t : Tree) (tree : IsSoundTree symbols t)
@@ -661,7 +662,7 @@ place_same symbols t k name =
     (sym (measured_symbols symbols t.blocks))
 
 -- the data block of a name that is known
-pub record IsData (symbols : List Symbol) (t : Tree) (k : ℕ) (name : BlockName) : Type 0 where
+pub record IsKnownDataBlock (symbols : List Symbol) (t : Tree) (k : ℕ) (name : BlockName) : Type 0 where
   pub place : ℕ
   pub found : data_place (context_at symbols t k) name ≡ Some place
   pub listed : found_block (types_of_source symbols t.blocks).symbols (types_of_source symbols t.blocks).ids is_data_block name ≡ Some place
@@ -670,7 +671,7 @@ pub record IsData (symbols : List Symbol) (t : Tree) (k : ℕ) (name : BlockName
 
 pub data_there : (symbols : List Symbol) (t : Tree) → IsSoundTree symbols t → (k : ℕ)
     (name : BlockName) → is_unknown_data (types_of_source symbols t.blocks) name ≡ false
-    → IsData symbols t k name
+    → IsKnownDataBlock symbols t k name
 data_there symbols t tree k name e = record {
   place = place.0;
   found = found;
@@ -717,7 +718,7 @@ shape_found y (Some n) other e = (n, by (found_block y.symbols y.ids has_structu
     by (Some m) e = ap (λ (i : ℕ). Some i) (let same : m ≡ other = cc in same)
 
 pub layout_shape : (symbols : List Symbol) (t : Tree) (p : ℕ) (b : Block) (l : BlockLayout)
-    → IsSound symbols t p b l → l.shape ≡ shape_of (types_of_source symbols t.blocks) b
+    → IsSoundBlock symbols t p b l → l.shape ≡ shape_of (types_of_source symbols t.blocks) b
 unfolding block_layout
 layout_shape symbols t p b l h = ap (λ (z : BlockLayout). z.shape) h.layout
 
@@ -735,7 +736,7 @@ structured symbols t tree p d = by (shape_of y d.block) refl
     kind = d.same ∙ data_block_kind d.id.kind d.kind
 
     -- the structure is that of this block
-    made : (inside : ℕ) (b : Block) (l : BlockLayout) → IsSound symbols t inside b l → (sh : Shape)
+    made : (inside : ℕ) (b : Block) (l : BlockLayout) → IsSoundBlock symbols t inside b l → (sh : Shape)
         → shape_of y d.block ≡ sh → shape_block ls p sh ≡ Some inside
         → shape_bits y t.blocks d.block sh ≡ structure_bits (components_of y b) → IsStructured symbols t p
     made inside b l sound sh e is bits = record {
@@ -784,9 +785,9 @@ pub data_seen : (symbols : List Symbol) (t : Tree) → IsSoundTree symbols t →
     → is_unknown (data_variable (context_at symbols t k) name steps) ≡ false
     → leaves_found (layouts_of t symbols)
     (found_block (types_of_source symbols t.blocks).symbols (types_of_source symbols t.blocks).ids is_data_block name) steps ≡ false
-    → IsSeen a (data_variable (context_at symbols t k) name steps)
+    → ResolvesRight a (data_variable (context_at symbols t k) name steps)
 data_seen symbols t tree k a name steps there known stays =
-    subst (IsSeen a) (sym whole) (reads (path_end_in_data_block ls d.place steps) goes
+    subst (ResolvesRight a) (sym whole) (reads (path_end_in_data_block ls d.place steps) goes
     (subst (λ (s : Resolution). is_unknown s ≡ false) whole known))
   where
     ls : List BlockLayout
@@ -795,7 +796,7 @@ data_seen symbols t tree k a name steps there known stays =
     c : Context
     c = context_at symbols t k
 
-    d : IsData symbols t k name
+    d : IsKnownDataBlock symbols t k name
     d = data_there symbols t tree k name there
 
     s : IsStructured symbols t d.place
@@ -814,7 +815,7 @@ data_seen symbols t tree k a name steps there known stays =
         (omega arith) (subst (λ (o : Option ℕ). leaves_found ls o steps ≡ false) d.listed stays)
 
     at : (w : ComponentAt) → Lies ls limit w → (o : Option Simple) → elementary_at ls w ≡ o
-        → IsSeen a (data_at c d.block.id.number w o)
+        → ResolvesRight a (data_at c d.block.id.number w o)
     at w h None e = composite_seen a (slice_get (cells_at ls w.block w.temporary) w.place)
     at w h (Some kind) e = record {
       view = view.Direct (place_at area.Db d.block.id.number w.offset) (width_of kind) side.Both (Some kind);
@@ -826,7 +827,7 @@ data_seen symbols t tree k a name steps there known stays =
         place = reached_place ls limit w kind h e
 
     reads : (w : PathEnd) → Goes ls limit w → is_unknown (data_at_path_end c d.block.id.number w) ≡ false
-        → IsSeen a (data_at_path_end c d.block.id.number w)
+        → ResolvesRight a (data_at_path_end c d.block.id.number w)
     reads (path_end.Reaches w) g u = at w g (elementary_at ls w) refl
     reads path_end.Unknown g u = absurd cc
     reads path_end.Unjudged g u = absurd g
@@ -841,11 +842,11 @@ pub record IsChecked (symbols : List Symbol) (t : Tree) (k : ℕ) (o : Operand) 
   pub inside : operand_is_outside (types_of_source symbols t.blocks) (layouts_of t symbols) k o ≡ false
 
 module _ (symbols : List Symbol) (t : Tree) (tree : IsSoundTree symbols t)
-    (fit : AllByRecursion SymbolFits symbols) (k : ℕ) (b : Block) (l : BlockLayout)
-    (block : IsSound symbols t k b l) (code : is_code b.kind ≡ true)
+    (fit : AllByRecursion IsRightSymbol symbols) (k : ℕ) (b : Block) (l : BlockLayout)
+    (block : IsSoundBlock symbols t k b l) (code : is_code b.kind ≡ true)
     (a : Environment) (around : Surrounds symbols t b l a) where
   symbol_fits : (name : List ℕ) (o : Option Symbol) → symbol_named name symbols ≡ o
-      → is_unknown (resolution_of_symbol o) ≡ false → IsSeen a (resolution_of_symbol o)
+      → is_unknown (resolution_of_symbol o) ≡ false → ResolvesRight a (resolution_of_symbol o)
   symbol_fits name None e known = absurd cc
   symbol_fits name (Some s) e known = record {
     view = target_view s.target;
@@ -857,7 +858,7 @@ module _ (symbols : List Symbol) (t : Tree) (tree : IsSoundTree symbols t)
       → is_unknown (resolution_of_path (context_at symbols t k) p steps) ≡ false
       → is_unknown_path (types_of_source symbols t.blocks) p ≡ false
       → leaves_path (types_of_source symbols t.blocks) (layouts_of t symbols) k p steps ≡ false
-      → IsSeen a (resolution_of_path (context_at symbols t k) p steps)
+      → ResolvesRight a (resolution_of_path (context_at symbols t k) p steps)
   path_fits (head.Local name) steps known there inside =
       own_seen symbols t tree k b l block code a around (upper_case_name name) (folded_path steps) known inside
   path_fits (head.InBlock name) steps known there inside =
@@ -866,7 +867,7 @@ module _ (symbols : List Symbol) (t : Tree) (tree : IsSoundTree symbols t)
       symbol_fits name (symbol_named name symbols) refl known
 
   pub operand_seen : (o : Operand) → IsChecked symbols t k o → names_called_block o ≡ false
-      → local_end o ≤ a.local_len → IsSeen a (resolution_of (context_at symbols t k) o)
+      → local_end o ≤ a.local_len → ResolvesRight a (resolution_of (context_at symbols t k) o)
   unfolding resolution_of
   operand_seen (operand.Direct None ar w byte bit) h other ends =
       view_seen a _ (address_fits a ar w byte bit h.well_formed.2 ends, tt)
@@ -876,7 +877,7 @@ module _ (symbols : List Symbol) (t : Tree) (tree : IsSoundTree symbols t)
     fits = (address_fits a ar w byte bit h.well_formed.2 ends, tt);
   }
     where
-      d : IsData symbols t k name
+      d : IsKnownDataBlock symbols t k name
       d = data_there symbols t tree k name h.there
   operand_seen (operand.Named p steps) h other ends = path_fits p steps h.known h.there h.inside
   operand_seen (operand.OpenBlock di name) h other ends = record {
@@ -885,7 +886,7 @@ module _ (symbols : List Symbol) (t : Tree) (tree : IsSoundTree symbols t)
     fits = tt;
   }
     where
-      d : IsData symbols t k name
+      d : IsKnownDataBlock symbols t k name
       d = data_there symbols t tree k name h.there
   operand_seen (operand.Called name instance) h other ends = absurd cc
   operand_seen _ h other ends = view_seen a _ tt

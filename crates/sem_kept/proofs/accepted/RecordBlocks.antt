@@ -45,7 +45,8 @@ use Rattle.stl_codegen.specs.Generated.{code_block, code_block_of, code_blocks_o
 use Rattle.stl_codegen.specs.Instruction.{instruction}
 use Rattle.stl_codegen.specs.Order.{is_code_before, is_data_before, is_id_before}
 use Rattle.sem_kept.specs.Records.{HasFaultlessCode}
-use Rattle.sem_kept.proofs.accepted.Accepted.{AllLaid, IsSound, IsSoundTree, context_at}
+use Rattle.sem_kept.specs.Settled.{context_at}
+use Rattle.sem_kept.proofs.accepted.Accepted.{AllLaid, IsSoundBlock, IsSoundTree}
 use Rattle.sem_kept.proofs.accepted.RecordData.{got, id_there, length_there, types_symbols}
 use Rattle.sem_kept.proofs.accepted.RecordOrder.{AreApart, Differ, Rise, rise_sorted}
 use Rattle.sem_kept.proofs.accepted.RecordParams.{HasParams, params_right}
@@ -92,7 +93,7 @@ module _ {A : Type 0} (of : Context → Block → BlockLayout → List A) (wante
 
   -- an item of a later block
   later : (x : A) (i : BlockId) (k : ℕ) → Named x i → wanted i.kind ≡ true → slice_get (types_of_source symbols t.blocks).ids k ≡ Some (Some i)
-      → (j : ℕ) (bs : List Block) (ls : List BlockLayout) → k < j → AllLaid (IsSound symbols t) j bs ls
+      → (j : ℕ) (bs : List Block) (ls : List BlockLayout) → k < j → AllLaid (IsSoundBlock symbols t) j bs ls
       → AllByRecursion (Differ lt x) (each_block of (context_at symbols t j) bs ls)
   later x i k named is there j [] ls low h = tt
   later x i k named is there j (b ∷ bs) [] low h = tt
@@ -109,7 +110,7 @@ module _ {A : Type 0} (of : Context → Block → BlockLayout → List A) (wante
           (ap (λ (o : Option BlockId). is_earlier (option_and_then (λ d. place_of_block d (types_of_source symbols t.blocks).ids) o) (length h.0.before)) (sym found) ∙ h.0.head.by_22)
           (omega (arith, count, low)) there
 
-  apart : (k : ℕ) (bs : List Block) (ls : List BlockLayout) → AllLaid (IsSound symbols t) k bs ls
+  apart : (k : ℕ) (bs : List Block) (ls : List BlockLayout) → AllLaid (IsSoundBlock symbols t) k bs ls
       → AreApart lt (each_block of (context_at symbols t k) bs ls)
   apart k [] ls h = tt
   apart k (b ∷ bs) [] h = tt
@@ -298,7 +299,7 @@ pub record HasFields (last : ℕ) (b : CodeBlock) : Type 0 where
   pub instance : (if eqb (kind_number b.id.kind) (kind_number kinds.Fb) then leb b.instance_len 16384 else eqb b.instance_len 0) ≡ true
   pub lines : AreRisingLines last 1 b.lines
 
-local_there : (symbols : List Symbol) (t : Tree) (k : ℕ) (b : Block) (l : BlockLayout) → IsSound symbols t k b l → l.local_len ≡ local_len (types_of_source symbols t.blocks) b
+local_there : (symbols : List Symbol) (t : Tree) (k : ℕ) (b : Block) (l : BlockLayout) → IsSoundBlock symbols t k b l → l.local_len ≡ local_len (types_of_source symbols t.blocks) b
 unfolding block_layout
 local_there symbols t k b l h = ap (λ (x : BlockLayout). x.local_len) h.layout
 
@@ -306,7 +307,7 @@ local_start : (y : Types) (b : Block) → b.kind ≡ kinds.Ob → 20 ≤ local_l
 unfolding local_len
 local_start y b kind = rw kind (omega arith)
 
-instance_right : (symbols : List Symbol) (t : Tree) (k : ℕ) (b : Block) (l : BlockLayout) (kind : BlockKind) → IsSound symbols t k b l → b.kind ≡ kind → is_code kind ≡ true
+instance_right : (symbols : List Symbol) (t : Tree) (k : ℕ) (b : Block) (l : BlockLayout) (kind : BlockKind) → IsSoundBlock symbols t k b l → b.kind ≡ kind → is_code kind ≡ true
     → (if eqb (kind_number kind) (kind_number kinds.Fb) then leb (instance_len b l) 16384 else eqb (instance_len b l) 0) ≡ true
 instance_right symbols t k b l kind h same code = by kind same code
   where
@@ -333,7 +334,7 @@ ob_kind kinds.Udt h e = absurd cc
 ob_kind kinds.Sfc h e = absurd cc
 
 pub fields_of : (last : ℕ) (symbols : List Symbol) (t : Tree) → AllByRecursion (λ b. AreRisingLines last 1 (statement_lines_of b)) t.blocks
-    → (k : ℕ) (b : Block) (l : BlockLayout) (id : BlockId) → IsSound symbols t k b l → l.id ≡ Some id → is_code id.kind ≡ true
+    → (k : ℕ) (b : Block) (l : BlockLayout) (id : BlockId) → IsSoundBlock symbols t k b l → l.id ≡ Some id → is_code id.kind ≡ true
     → HasFields last (compiled_block (code_block (context_at symbols t k) b l id))
 fields_of last symbols t rise k b l id h named code =
     let found : id_of (types_of_source symbols t.blocks).symbols b ≡ Some id = sym (id_there symbols t k b l h) ∙ named in

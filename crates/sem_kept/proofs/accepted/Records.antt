@@ -25,7 +25,7 @@ use Rattle.sem_kept.specs.Records.{HasFaultlessCode, HasCounts, IsOfBytes, Recor
 use Rattle.sem_kept.proofs.accepted.Accepted.{IsSoundTree, all_both, right_tree, sound_code_blocks}
 use Rattle.sem_kept.proofs.accepted.RecordBlocks.{HasFields, IsRightBlock, code_blocks_rise, counted, data_blocks_rise, fields_of, first_good, next_good}
 use Rattle.sem_kept.proofs.accepted.RecordData.{data_blocks_right}
-use Rattle.sem_kept.proofs.accepted.RecordNames.{AreNamed, OfBytes, names_right, symbols_named}
+use Rattle.sem_kept.proofs.accepted.RecordNames.{HaveNameEntries, OfBytes, names_right, symbols_named}
 use Rattle.sem_kept.proofs.accepted.RecordOrder.{good_all}
 
 -- ---- a program of right records
@@ -74,7 +74,7 @@ all_from [] h = tt
 all_from (b ∷ bytes) h = (h 0, all_from bytes (λ i. h (suc i)))
 
 pub file_named : (language : Language) (file : List ℕ) (symbols : List Symbol)
-    → symbols_in language file ≡ Ok symbols → IsOfBytes file → AreNamed symbols
+    → symbols_in language file ≡ Ok symbols → IsOfBytes file → HaveNameEntries symbols
 file_named language file symbols are bytes = symbols_named language file symbols (all_from file bytes) are
 
 pub right_by : LinesRise → RecordsAreRight

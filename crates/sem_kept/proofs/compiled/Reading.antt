@@ -26,7 +26,7 @@ use Rattle.stl_codegen.specs.Compiled.{SourceInstruction, ops_in, offset_from, o
 use Rattle.stl_codegen.specs.Instruction.{numbers_from}
 use Rattle.machine.specs.Moved.{aimed_instr}
 use Rattle.sem_kept.specs.Back.{aimed_statement, goes_to_next_statement, is_target, IsInstanceNumber, is_ju, IsJu, IsList, IsGeneratedInstruction, AreCompiled, IsReadBack}
-use Rattle.sem_kept.proofs.compiled.Runs.{total, total_append, op_behind, op_at_end, size_aimed, total_aimed, Parted, IsPreparing, IsStatement, AreStatements, flat, bytes_of, bytes_long, extent, total_flat, extent_append, flat_append, line_at, line_at_end, offset_is, offset_past}
+use Rattle.sem_kept.proofs.compiled.Runs.{total, total_append, op_behind, op_at_end, size_aimed, total_aimed, Parted, IsPreparing, IsPartedStatement, AreStatements, flat, bytes_of, bytes_long, extent, total_flat, extent_append, flat_append, line_at, line_at_end, offset_is, offset_past}
 
 -- ---- the ops of a statement, in parts
 
@@ -53,7 +53,7 @@ opening_prepares : (use_db : Option ℕ) → AllByRecursion IsPreparing (use_db_
 opening_prepares None = tt
 opening_prepares (Some number) = (refl, tt)
 
-pub is_statement : (i : Instr) → IsStatement (parted i)
+pub is_statement : (i : Instr) → IsPartedStatement (parted i)
 is_statement (Does use_db w o) = record { front = opening_prepares use_db; end = refl }
 is_statement (Jumps how target) = record { front = tt; end = refl }
 is_statement (JumpsByList targets otherwise) = record { front = tt; end = refl }
@@ -111,7 +111,7 @@ aimed_prepares : (f : ℕ → ℕ) (ops : List OpData) → AllByRecursion IsPrep
 aimed_prepares f [] h = tt
 aimed_prepares f (op ∷ ops) h = (h.0, aimed_prepares f ops h.1)
 
-pub aimed_is : (f : ℕ → ℕ) (p : Parted) → IsStatement p → IsStatement (aimed_part f p)
+pub aimed_is : (f : ℕ → ℕ) (p : Parted) → IsPartedStatement p → IsPartedStatement (aimed_part f p)
 aimed_is f p h = record { front = aimed_prepares f p.front h.front; end = h.end }
 
 pub aimed_are : (f : ℕ → ℕ) (ps : List Parted) → AreStatements ps → AreStatements (aimed_parts f ps)
@@ -183,7 +183,7 @@ run_of (suc most) xs (x ∷ front) op ys fs last few =
     run_more most xs front x op ys fs.0 (run_of most (xs ++ x ∷ []) front op ys fs.1 last (omega (arith, few)))
 
 pub run_is :
-    (ps : List Parted) (p : Parted) (qs : List Parted) → IsStatement p → length p.front ≤ 63
+    (ps : List Parted) (p : Parted) (qs : List Parted) → IsPartedStatement p → length p.front ≤ 63
     → op_run_at most_ops_of_statement (flat (ps ++ p ∷ qs)) (extent ps)
     ≡ Some (record { before = p.front; last = p.end; next = extent ps + bytes_of p })
 run_is ps p qs h few =

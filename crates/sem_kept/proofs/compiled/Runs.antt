@@ -78,12 +78,12 @@ pub record Parted : Type 0 where
 abbrev pub IsPreparing : OpData → Type 0
 IsPreparing op = op.last ≡ false
 
-pub record IsStatement (p : Parted) : Type 0 where
+pub record IsPartedStatement (p : Parted) : Type 0 where
   pub front : AllByRecursion IsPreparing p.front
   pub end : p.end.last ≡ true
 
 abbrev pub AreStatements : List Parted → Type 0
-AreStatements ps = AllByRecursion IsStatement ps
+AreStatements ps = AllByRecursion IsPartedStatement ps
 
 abbrev pub flat : List Parted → List OpData
 flat [] = []
@@ -172,7 +172,7 @@ offset_behind at n (x ∷ front) op ys fs last =
     rw moved (rw fs.0 (offset_behind (at + size_of_op x) n front op ys fs.1 last))
 
 pub offset_next :
-    (at n : ℕ) (p : Parted) (ys : List OpData) → IsStatement p
+    (at n : ℕ) (p : Parted) (ys : List OpData) → IsPartedStatement p
     → offset_from at true (p.front ++ p.end ∷ ys) (suc n) ≡ offset_from (at + bytes_of p) true ys n
 unfolding size_of_op op_bytes
 offset_next at n p ys h = by p.front h.front

@@ -48,7 +48,7 @@ use Rattle.sem_kept.specs.Statements.{IsCompilable}
 use Rattle.sem_kept.specs.Verified.{VerifiedIsCompilable}
 use Rattle.sem_kept.proofs.compiled.Instructions.{IsMade, instruction_made}
 use Rattle.sem_kept.proofs.compiled.Reading.{parted, parts, is_statement, ops_in_parts, parts_append, parts_count, parts_are, aimed_part, aimed_is, the_code, ends_at, ends_append, position, the_code_is}
-use Rattle.sem_kept.proofs.compiled.Runs.{total, size_aimed, total_aimed, Parted, IsPreparing, IsStatement, AreStatements, flat, bytes_of, bytes_long, extent, offset_next}
+use Rattle.sem_kept.proofs.compiled.Runs.{total, size_aimed, total_aimed, Parted, IsPreparing, IsPartedStatement, AreStatements, flat, bytes_of, bytes_long, extent, offset_next}
 
 -- ---- what the source gives
 
@@ -228,7 +228,7 @@ offset_first at p ops = by p.front
 
 -- only one statement has the offset at which a statement begins
 offset_one : (at n : ℕ) (ps : List Parted) (q : Parted) (qs : List Parted)
-    → AreStatements ps → IsStatement q
+    → AreStatements ps → IsPartedStatement q
     → offset_from at true (flat (ps ++ q ∷ qs)) n ≡ at + extent ps → n ≡ length ps
 offset_one at zero [] q qs h k e = refl
 offset_one at (suc n) [] q qs h k e =
