@@ -28,17 +28,17 @@ use Rattle.stl_types.specs.Resolution.{resolution_of_address, resolution_of_path
 use Rattle.stl_types.specs.Variables.{composite_operand, data_at, data_path, data_at_path_end, date_or_composite, own_at, own_at_path_end, parameter_at, parameter_resolution, variable_in_area}
 use Rattle.stl_types.specs.declared.views.Resolution.{Resolution}
 use Rattle.stl_types.specs.declared.views.Resolution.TheVariants.{Resolved}
-use Rattle.stl_types.specs.declared.views.ResolvedOperand.TheVariants as view
+use Rattle.stl_types.specs.declared.views.ResolvedOperand.TheVariants as resolved
 
 -- one of these, or nothing that is seen; the data block of a place has such a number
 abbrev pub IsReached : (ℕ → Type 0) → Resolution → Type 0
-IsReached P (Resolved (view.Direct place width side declared)) = P place.number
-IsReached P (Resolved (view.Parameter index section declared)) = Unit {0}
-IsReached P (Resolved view.Composite) = Unit {0}
-IsReached P (Resolved view.Date) = Unit {0}
-IsReached P (Resolved (view.Timer number)) = Unit {0}
-IsReached P (Resolved (view.Counter number)) = Unit {0}
-IsReached P (Resolved view.Block) = Unit {0}
+IsReached P (Resolved (resolved.Direct place width side declared)) = P place.number
+IsReached P (Resolved (resolved.Parameter index section declared)) = Unit {0}
+IsReached P (Resolved resolved.Composite) = Unit {0}
+IsReached P (Resolved resolved.Date) = Unit {0}
+IsReached P (Resolved (resolved.Timer number)) = Unit {0}
+IsReached P (Resolved (resolved.Counter number)) = Unit {0}
+IsReached P (Resolved resolved.Block) = Unit {0}
 IsReached P (Resolved _) = ⊥
 IsReached P _ = Unit {0}
 

@@ -22,7 +22,7 @@ use Rattle.stl_types.specs.Parameters.{Callee, callee_of}
 use Rattle.stl_types.specs.Resolution.{resolution_of}
 use Rattle.stl_types.specs.Resolved.{resolved_operand}
 use Rattle.stl_types.specs.declared.views.ResolvedOperand.{ResolvedOperand}
-use Rattle.stl_types.specs.declared.views.ResolvedOperand.TheVariants as view
+use Rattle.stl_types.specs.declared.views.ResolvedOperand.TheVariants as resolved
 use Rattle.stl_codegen.specs.Operations.{call_operation_of, jump_operation_of}
 use Rattle.stl_codegen.specs.Passed.{passed_resolution}
 use Rattle.sem_kept.specs.Accepted.{IsAccepted}
@@ -46,7 +46,7 @@ pub record HasCalled (c : Context) (s : Statement) : Type 0 where
   -- the number of the data block that is its instance, where the call names one
   pub instance : Option ℕ
   -- the operand names this block, with this instance
-  pub called : resolved_operand c s ≡ Some (view.Called id instance)
+  pub called : resolved_operand c s ≡ Some (resolved.Called id instance)
   -- the block that is called, with its parameters
   pub callee : Callee
   -- it is the block that is found by the operand

@@ -38,7 +38,7 @@ use Rattle.stl_types.specs.Resolved.{resolved_operand}
 use Rattle.stl_types.specs.declared.views.Resolution.{Resolution}
 use Rattle.stl_types.specs.declared.views.Resolution.TheVariants.{Resolved, Unknown, Unjudged}
 use Rattle.stl_types.specs.declared.views.ResolvedOperand.{ResolvedOperand}
-use Rattle.stl_types.specs.declared.views.ResolvedOperand.TheVariants as view
+use Rattle.stl_types.specs.declared.views.ResolvedOperand.TheVariants as resolved
 use Rattle.stl_codegen.specs.Instruction.{instruction}
 use Rattle.stl_codegen.specs.Operations.{call_operation_of, jump_operation_of}
 use Rattle.stl_codegen.specs.Passed.{passed_resolution, passed_view}
@@ -67,7 +67,7 @@ use Rattle.statement_laws.proofs.CoverLemmas.{has_no_name, named_there, operands
 use Rattle.statement_laws.proofs.FamilyLemmas as families
 use Rattle.statement_laws.proofs.JumpLemmas.{ends_act, jump_lists_act, plain_jumps_act}
 use Rattle.statement_laws.proofs.NumberLemmas.{families_are_all}
-use Rattle.statement_laws.proofs.SeenLemmas.{block_same, number_known, resolved_parts, resolved_same}
+use Rattle.statement_laws.proofs.ResolutionLemmas.{block_same, number_known, resolved_parts, resolved_same}
 use Rattle.statement_laws.proofs.VariableCover.{path_there, variables_are_named}
 use Rattle.statement_laws.proofs.WordLemmas.{HasKnownWord, StatementHasKnownWord, words_known}
 
@@ -128,7 +128,7 @@ stays symbols t k _ e = refl
 record NamesBlock (c : Context) (name : BlockName) (db : Option BlockName) (v : ResolvedOperand) : Type 0 where
   id : BlockId
   instance : Option ℕ
-  seen : v ≡ view.Called id instance
+  resolves : v ≡ resolved.Called id instance
   names : named_by c (operand.Called name db) ≡ Some (named.Called id instance)
 
 placed_same : (id other : BlockId) (place : Option ℕ) → id_at id place ≡ Some other → Some id ≡ Some other
@@ -155,7 +155,7 @@ block_named c name None v e = bare (whole_called_block c (named_block c.symbols 
     bare (Some id) is h = record {
       id = id;
       instance = None;
-      seen = sym (resolved_same (view.Called id None) v h);
+      resolves = sym (resolved_same (resolved.Called id None) v h);
       names = ap (option_map (λ (id : BlockId). named.Called id None))
           (sym (block_same c name) ∙ whole_same c (named_block c.symbols name) id is);
     }
@@ -169,7 +169,7 @@ block_named c name (Some db) v e =
     both (Some id) (Some number) is d h = record {
       id = id;
       instance = Some number;
-      seen = sym (resolved_same (view.Called id (Some number)) v h);
+      resolves = sym (resolved_same (resolved.Called id (Some number)) v h);
       names = ap₂ with_instance
           (sym (block_same c name) ∙ whole_same c (named_block c.symbols name) id is)
           (number_known c db number d);
@@ -186,12 +186,12 @@ operand_named : (c : Context) (s : Statement) (v : ResolvedOperand) → HasEleme
     → stays_inside c s.operand ≡ true → StatementHasKnownWord s → resolved_operand c s ≡ Some v → IsNamed c s.operand
 operand_named c s v plain inside word r = by s.operand refl word
   where
-    seen : resolution_of c s.operand ≡ Resolved v
-    seen = (resolved_parts c s v r).1
+    resolves : resolution_of c s.operand ≡ Resolved v
+    resolves = (resolved_parts c s v r).1
 
     by : (o : Operand) → s.operand ≡ o → HasKnownWord o → IsNamed c s.operand
     by (operand.Called name db) e h =
-        let called = call_named c name db v (sym (ap (resolution_of c) e) ∙ seen) in
+        let called = call_named c name db v (sym (ap (resolution_of c) e) ∙ resolves) in
         (named.Called called.id called.instance, ap (named_by c) e ∙ called.names)
     by (operand.Named (head.Local name) steps) e h =
         variables_are_named c s v plain (ap is_variable e) inside r
@@ -209,9 +209,9 @@ label_named c body s h = (named.Label, ap (named_by c) h.is)
 
 -- what is passed is named
 passed_named : (o : Operand) (v : ResolvedOperand) (p : Passed) → passed_view o v ≡ Some p → has_no_name v ≡ false
-passed_named o (view.Direct place width side declared) p e = refl
-passed_named o (view.Parameter index section declared) p e = refl
-passed_named o view.Constant p e = refl
+passed_named o (resolved.Direct place width side declared) p e = refl
+passed_named o (resolved.Parameter index section declared) p e = refl
+passed_named o resolved.Constant p e = refl
 passed_named o _ p e = absurd cc
 
 -- it is no register
@@ -246,7 +246,7 @@ actual_named c a plain inside passed = by (resolution_of c a.value) refl passed.
     by : (r : Resolution) → resolution_of c a.value ≡ r → passed_resolution a.value r ≡ Some passed.0 → IsNamedActual c a
     by (Resolved v) e h =
         let there = value_named c a.value v passed.0 plain inside e h in
-        record { view = v; seen = e; named = there.0; names = there.1 }
+        record { resolved_value = v; resolves = e; item = there.0; names = there.1 }
     by Unknown e h = absurd cc
     by Unjudged e h = absurd cc
 
@@ -272,7 +272,7 @@ actuals_named c (a ∷ actuals) plain inside passed = (
 found_operand : (c : Context) (s : Statement) (o : Option CallOperation) → HasOperand c s o
     → (v : ResolvedOperand) × (resolved_operand c s ≡ Some v)
 found_operand c s None h = h
-found_operand c s (Some how) h = (view.Called h.id h.instance, h.called)
+found_operand c s (Some how) h = (resolved.Called h.id h.instance, h.called)
 
 statement_operand : (c : Context) (body : List Statement) (s : Statement) → HasElementaryParameters c
     → IsKnown c body s → (o : Option JumpOperation) → HasInstruction c body s o → IsNamed c s.operand
@@ -300,7 +300,7 @@ call_settled c body s is settled =
     let call = call_is s.code is in
     subst (HasOperand c s) call.is (subst (HasInstruction c body s) call.no_jump settled.instruction)
 
-same_id : (a b : BlockId) (m n : Option ℕ) → view.Called a m ≡ view.Called b n → a ≡ b
+same_id : (a b : BlockId) (m n : Option ℕ) → resolved.Called a m ≡ resolved.Called b n → a ≡ b
 same_id a b m n e = cc
 
 called_named : (c : Context) (s : Statement) → HasCalled c s → NamesCalled c s
@@ -309,8 +309,8 @@ called_named c s h = by s.operand refl (h.found)
   where
     by : (o : Operand) → s.operand ≡ o → callee_of c o ≡ Some h.callee → NamesCalled c s
     by (operand.Called name db) e f =
-        let block = call_named c name db (view.Called h.id h.instance)
-        (sym (ap (resolution_of c) e) ∙ (resolved_parts c s (view.Called h.id h.instance) h.called).1) in
+        let block = call_named c name db (resolved.Called h.id h.instance)
+        (sym (ap (resolution_of c) e) ∙ (resolved_parts c s (resolved.Called h.id h.instance) h.called).1) in
         record {
           name = name;
           db = db;
@@ -320,7 +320,7 @@ called_named c s h = by s.operand refl (h.found)
           names = block.names;
           callee = h.callee;
           found = f;
-          same = h.same ∙ same_id h.id block.id h.instance block.instance block.seen;
+          same = h.same ∙ same_id h.id block.id h.instance block.instance block.resolves;
         }
     by _ e f = absurd cc
 
@@ -453,7 +453,7 @@ called_on c body n s plain h is =
     record {
       called = called;
       actuals = actuals;
-      acts = calls_act c body n s (view.Called has.id has.instance) called.name called.db called.id called.instance
+      acts = calls_act c body n s (resolved.Called has.id has.instance) called.name called.db called.id called.instance
           called.callee is called.is has.called called.names called.found actuals;
     }
 

@@ -41,7 +41,7 @@ use Rattle.statement_laws.proofs.FlatLemmas.{flat_of}
 use Rattle.statement_laws.proofs.FlatLemmas as flat_lemmas
 use Rattle.statement_laws.proofs.RuleLemmas.{as_open, holds, loads_all}
 use Rattle.statement_laws.proofs.RuleLemmas as rules
-use Rattle.statement_laws.proofs.SeenLemmas.{about, opened_first, opens_first, operand_flat, resolved_parts, rule_with_constant, view_named}
+use Rattle.statement_laws.proofs.ResolutionLemmas.{about, opened_first, opens_first, operand_flat, resolved_parts, rule_with_constant, view_named}
 use Rattle.statement_laws.proofs.VariableLemmas.{view_same}
 
 -- ---- from operations to statements

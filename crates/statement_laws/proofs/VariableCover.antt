@@ -41,14 +41,14 @@ use Rattle.stl_types.specs.Variables.{data_at, data_path, data_variable, data_at
 use Rattle.stl_types.specs.Variables as variables
 use Rattle.stl_types.specs.declared.views.Resolution.TheVariants.{Resolved, Unknown}
 use Rattle.stl_types.specs.declared.views.ResolvedOperand.{ResolvedOperand}
-use Rattle.stl_types.specs.declared.views.ResolvedOperand.TheVariants as view
+use Rattle.stl_types.specs.declared.views.ResolvedOperand.TheVariants as resolved
 use Rattle.statement_laws.specs.Laws.{HasElementaryParameters, VariablesAreNamed, is_elementary_component, is_variable, stays_inside}
 use Rattle.statement_laws.specs.Named.{NamedItem}
 use Rattle.statement_laws.specs.Named as named_as
 use Rattle.statement_laws.specs.Operands.{block_id_of_name, cell_width, component_named, components_of_block, has_result, is_fc, named_by, parameter_named, named_place, place_in_layout, variable_by, variable_named}
 use Rattle.statement_laws.specs.Operands as own
 use Rattle.statement_laws.proofs.CoverLemmas.{has_no_name, name_left}
-use Rattle.statement_laws.proofs.SeenLemmas.{block_same, number_known, resolved_parts, resolved_same}
+use Rattle.statement_laws.proofs.ResolutionLemmas.{block_same, number_known, resolved_parts, resolved_same}
 use Rattle.statement_laws.proofs.VariableLemmas.{function_same, path_in_whole_block}
 
 abbrev IsSomeItem : Option NamedItem → Type 0
@@ -59,12 +59,12 @@ IsSomeItem o = (x : NamedItem) × (o ≡ Some x)
 composite_refused : (v : ResolvedOperand) (o : Option Cell) → has_no_name v ≡ false
     → Resolved (variables.composite_operand o) ≡ Resolved v → ⊥
 composite_refused v None r e =
-    false≢true (sym (ap has_no_name (resolved_same view.Composite v e) ∙ r))
+    false≢true (sym (ap has_no_name (resolved_same resolved.Composite v e) ∙ r))
 composite_refused v (Some cell) r e = by cell.of e
   where
     by : (of : Element) → Resolved (variables.date_or_composite of) ≡ Resolved v → ⊥
-    by element.DateAndTime h = false≢true (sym (ap has_no_name (resolved_same view.Date v h) ∙ r))
-    by _ h = false≢true (sym (ap has_no_name (resolved_same view.Composite v h) ∙ r))
+    by element.DateAndTime h = false≢true (sym (ap has_no_name (resolved_same resolved.Date v h) ∙ r))
+    by _ h = false≢true (sym (ap has_no_name (resolved_same resolved.Composite v h) ∙ r))
 
 area_there : (kind : Simple) (o : Option (Place × Width)) (v : ResolvedOperand)
     → variable_in_area kind o ≡ Resolved v → IsSomeItem (place_in_layout o)

@@ -39,12 +39,12 @@ use Rattle.stl_types.specs.Variables as variables
 use Rattle.stl_types.specs.declared.views.Resolution.TheVariants.{Resolved, Unjudged}
 use Rattle.stl_types.specs.declared.views.Side.TheVariants as side
 use Rattle.stl_types.specs.declared.views.ResolvedOperand.{ResolvedOperand}
-use Rattle.stl_types.specs.declared.views.ResolvedOperand.TheVariants as view
+use Rattle.stl_types.specs.declared.views.ResolvedOperand.TheVariants as resolved
 use Rattle.statement_laws.specs.Named.{NamedItem}
 use Rattle.statement_laws.specs.Named as named
 use Rattle.statement_laws.specs.Operands.{block_id_of_name, block_number, cell_width, component_named, components_of_block, named_fixed_place, has_result, is_fc, place_in_layout, named_by, numbered_item, parameter_named, named_place, pointer_constant_bits, variable_by, variable_named, with_instance}
 use Rattle.statement_laws.specs.Operands as own
-use Rattle.statement_laws.proofs.SeenLemmas.{about, block_same, carry, direct_named, in_block_same, left_same, letters_same, number_in_same, number_known, opened_named, pointer_same, register_same, resolved_same, symbol_same, view_named}
+use Rattle.statement_laws.proofs.ResolutionLemmas.{about, block_same, carry, direct_named, in_block_same, left_same, letters_same, number_in_same, number_known, opened_named, pointer_same, register_same, resolved_same, symbol_same, view_named}
 
 -- ---- places
 
@@ -52,7 +52,7 @@ area_same : (kind : Simple) (o : Option (Place × Width)) (v : ResolvedOperand) 
     → variable_in_area kind o ≡ Resolved v → place_in_layout o ≡ Some x → view_named None v ≡ Some x
 area_same kind None v x e n = absurd cc
 area_same kind (Some p) v x e n =
-    carry None (view.Direct p.0 p.1 side.Both (Some kind)) v (named_place p.0 p.1) x refl e n
+    carry None (resolved.Direct p.0 p.1 side.Both (Some kind)) v (named_place p.0 p.1) x refl e n
 
 -- a place that lies within its arrays
 inside : (b : Bool) (o : Option (Place × Width)) (x : NamedItem)
@@ -128,7 +128,7 @@ parameter_kind : (c : Context) (at : ℕ) (cell : Cell) (kind : Option Simple) (
     → view_named None v ≡ Some x
 parameter_kind c at cell None v x component p f there e n = absurd cc
 parameter_kind c at cell (Some kind) v x component p f there e n =
-    carry None (view.Parameter (variables.parameter_index (length (components_of_block c)) at (slice_get c.blocks c.block)) cell.section kind)
+    carry None (resolved.Parameter (variables.parameter_index (length (components_of_block c)) at (slice_get c.blocks c.block)) cell.section kind)
     v
     (named.Parameter
     (own.parameter_index_in_call (has_result (slice_get c.blocks c.block)) (length (components_of_block c)) at)
@@ -389,7 +389,7 @@ plain_call : (c : Context) (o : Option BlockId) (v : ResolvedOperand) (x : Named
     → option_map (λ id. named.Called id None) o ≡ Some x → view_named None v ≡ Some x
 plain_call c None v x e n = absurd cc
 plain_call c (Some id) v x e n =
-    carry None (view.Called id None) v (named.Called id None) x refl
+    carry None (resolved.Called id None) v (named.Called id None) x refl
     (whole_called c id None None v e) n
 
 instance_call : (c : Context) (o : Option BlockId) (db : BlockName) (number : Option ℕ)
@@ -403,7 +403,7 @@ instance_call c (Some id) db None v x d e n =
     unjudged : Unjudged ≡ Resolved v → ⊥
     unjudged h = cc
 instance_call c (Some id) db (Some number) v x d e n =
-    carry None (view.Called id (Some number)) v (named.Called id (Some number)) x refl
+    carry None (resolved.Called id (Some number)) v (named.Called id (Some number)) x refl
     (whole_called c id (Some db) (Some number) v e)
     (ap (with_instance (Some id)) (sym (number_known c db number d)) ∙ n)
 
@@ -412,16 +412,16 @@ instance_call c (Some id) db (Some number) v x d e n =
 pub view_same : (c : Context) (o : Operand) (v : ResolvedOperand) (x : NamedItem)
     → resolution_of c o ≡ Resolved v → named_by c o ≡ Some x → view_named (about o) v ≡ Some x
 unfolding resolution_of named_by
-view_same c operand.Nothing v x e n = carry None view.Nothing v named.Nothing x refl e n
+view_same c operand.Nothing v x e n = carry None resolved.Nothing v named.Nothing x refl e n
 view_same c (operand.Direct None a w byte bit) v x e n =
     carry None (resolved_address 0 a w byte bit) v (named_fixed_place (own.area_by_letters a) w byte bit) x
     (direct_named a w byte bit) e n
 view_same c (operand.Direct (Some name) a w byte bit) v x e n =
     in_block_same c name a w byte bit v x (data_number c name) refl e n
 view_same c (operand.Timer number) v x e n =
-    carry None (view.Timer number) v (named.Timer (named.Written number)) x refl e n
+    carry None (resolved.Timer number) v (named.Timer (named.Written number)) x refl e n
 view_same c (operand.Counter number) v x e n =
-    carry None (view.Counter number) v (named.Counter (named.Written number)) x refl e n
+    carry None (resolved.Counter number) v (named.Counter (named.Written number)) x refl e n
 view_same c (operand.Named (head.Symbol name) steps) v x e n =
     symbol_same (symbol_named name c.symbols) v x e n
 view_same c (operand.Named (head.Local name) steps) v x e n =
@@ -429,28 +429,28 @@ view_same c (operand.Named (head.Local name) steps) v x e n =
 view_same c (operand.Named (head.InBlock name) steps) v x e n =
     component_same c name (folded_path steps) v x e n
 view_same c (operand.ByMemory a w from byte) v x e n =
-    carry None (view.ByMemory (area_for_letters a) w (area_for_letters from) byte) v
+    carry None (resolved.ByMemory (area_for_letters a) w (area_for_letters from) byte) v
     (named.Place (named.ByMemory (own.area_by_letters a) w (own.area_by_letters from) byte)) x
     (ap₂ (λ a from. Some (named.Place (named.ByMemory a w from byte))) (letters_same a) (letters_same from))
     e n
 view_same c (operand.NumberBy what from byte) v x e n =
-    carry None (view.NumberBy what (area_for_letters from) byte) v
+    carry None (resolved.NumberBy what (area_for_letters from) byte) v
     (numbered_item what (named.InWord (own.area_by_letters from) byte)) x
     (ap Some (number_in_same what from byte)) e n
 view_same c (operand.ByRegister a w r count) v x e n =
-    carry None (view.ByRegister (area_left a) w r count) v
+    carry None (resolved.ByRegister (area_left a) w r count) v
     (named.Place (named.ByRegister (option_map own.area_by_letters a) w r count)) x
     (ap (λ a. Some (named.Place (named.ByRegister a w r count))) (left_same a)) e n
 view_same c (operand.Pointer a byte bit) v x e n =
-    carry None (view.Pointer (area_left a) byte bit) v (named.Pointer (pointer_constant_bits a byte bit)) x
+    carry None (resolved.Pointer (area_left a) byte bit) v (named.Pointer (pointer_constant_bits a byte bit)) x
     (ap (λ b. Some (named.Pointer b)) (pointer_same a byte bit)) e n
 view_same c (operand.Constant value) v x e n =
-    carry (Some value) view.Constant v (named.Constant value) x refl e n
-view_same c (operand.Label name) v x e n = carry None view.Label v named.Label x refl e n
+    carry (Some value) resolved.Constant v (named.Constant value) x refl e n
+view_same c (operand.Label name) v x e n = carry None resolved.Label v named.Label x refl e n
 view_same c (operand.OfStatus flag) v x e n =
-    carry None (view.OfStatus flag) v (named.Condition flag) x refl e n
+    carry None (resolved.OfStatus flag) v (named.Condition flag) x refl e n
 view_same c (operand.Other name) v x e n =
-    ap (view_named None) (sym (resolved_same (view.Register (register_for_word name)) v e))
+    ap (view_named None) (sym (resolved_same (resolved.Register (register_for_word name)) v e))
     ∙ register_same (is_same_name name (codes "STW")) (is_same_name name (codes "DBLG"))
     (is_same_name name (codes "DBNO")) (is_same_name name (codes "DILG"))
     (is_same_name name (codes "DINO")) (is_same_name name (codes "AR2")) x n

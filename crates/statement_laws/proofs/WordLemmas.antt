@@ -53,7 +53,7 @@ use Rattle.stl_parser.specs.declared.statements.BareStatement.{BareStatement}
 use Rattle.stl_parser.specs.declared.tables.AddressKind.{AddressKind}
 use Rattle.stl_parser.specs.declared.tables.AddressKind.TheVariants as address
 use Rattle.stl_parser.specs.declared.tables.OperandSyntax.{OperandSyntax}
-use Rattle.stl_parser.specs.declared.tables.OperandSyntax.TheVariants as form
+use Rattle.stl_parser.specs.declared.tables.OperandSyntax.TheVariants as operand_syntax
 use Rattle.stl_parser.specs.declared.tables.HeadWord.{HeadWord}
 use Rattle.stl_parser.specs.declared.tables.Keyword.{Keyword}
 use Rattle.stl_parser.specs.declared.tables.Keyword.TheVariants as keyword
@@ -398,11 +398,11 @@ call_has source code tokens =
 behind_word_has : (source : List ℕ) (f : OperandSyntax) (code : Mnemonic) (tokens : List Token)
     → IfSome (states.behind_word source f code tokens) BareHasKnownWord
 unfolding states.behind_word
-behind_word_has source form.Operand code tokens = with_operand_has source code tokens
-behind_word_has source form.Jump code tokens = jump_has source code tokens
-behind_word_has source form.Open code tokens = open_has source code tokens
-behind_word_has source form.BlockCall code tokens = block_call_has source code tokens
-behind_word_has source form.Call code tokens = call_has source code tokens
+behind_word_has source operand_syntax.Operand code tokens = with_operand_has source code tokens
+behind_word_has source operand_syntax.Jump code tokens = jump_has source code tokens
+behind_word_has source operand_syntax.Open code tokens = open_has source code tokens
+behind_word_has source operand_syntax.BlockCall code tokens = block_call_has source code tokens
+behind_word_has source operand_syntax.Call code tokens = call_has source code tokens
 
 opening_has : (source : List ℕ) (t : Token) (rest : List Token)
     → IfSome (states.opening_instruction source t rest) BareHasKnownWord

@@ -40,12 +40,12 @@ use Rattle.stl_types.specs.Parameters.{Callee, callee_of}
 use Rattle.stl_types.specs.Resolved.{resolved_operand}
 use Rattle.stl_types.specs.Resolution.{resolution_of}
 use Rattle.stl_types.specs.declared.forms.OperandRule.{OperandRule}
-use Rattle.stl_types.specs.declared.forms.OperandRule.TheVariants as form
+use Rattle.stl_types.specs.declared.forms.OperandRule.TheVariants as operand_rules
 use Rattle.stl_types.specs.declared.parameters.Formal.{Formal}
 use Rattle.stl_types.specs.declared.views.Resolution.{Resolution}
 use Rattle.stl_types.specs.declared.views.Resolution.TheVariants.{Resolved}
 use Rattle.stl_types.specs.declared.views.ResolvedOperand.{ResolvedOperand}
-use Rattle.stl_types.specs.declared.views.ResolvedOperand.TheVariants as view
+use Rattle.stl_types.specs.declared.views.ResolvedOperand.TheVariants as resolved
 use Rattle.stl_codegen.proofs.OpLemmas.{jumps, jump_ops}
 use Rattle.stl_codegen.specs.Compiled.{operand_with_target}
 use Rattle.stl_codegen.specs.Emitted.{call_op, end_op, op_with_end_mark, instance_number_or_zero, jump_op, use_db_ops, ops_of, pass_ops, preparing_op}
@@ -102,7 +102,7 @@ alone op good last = record {
 
 -- what the rules say of an operand and what it names
 abbrev RuleAllows : OperandRule → Operand → ResolvedOperand → Type 0
-RuleAllows f (operand.Constant value) v = (takes_constant f value ≡ true) × (v ≡ view.Constant)
+RuleAllows f (operand.Constant value) v = (takes_constant f value ≡ true) × (v ≡ resolved.Constant)
 RuleAllows f _ v = rule_of_resolved_operand f v ≡ None
 
 still_view : (o : Operand) (v : ResolvedOperand) (f : ℕ → ℕ) → operand_with_target f (flat_operand_of o v) ≡ flat_operand_of o v
@@ -122,8 +122,8 @@ by_rule m o v j c e n fits rule =
 
 by_constant : (m : Mnemonic) (value : Literal) → IsLiteral value → HasBytes value
     → takes_constant (form_of m) value ≡ true
-    → is_instruction (operation_for m (operand.Constant value) view.Constant)
-    (flat_operand_of (operand.Constant value) view.Constant) ≡ true
+    → is_instruction (operation_for m (operand.Constant value) resolved.Constant)
+    (flat_operand_of (operand.Constant value) resolved.Constant) ≡ true
 unfolding is_instruction flat_operand_of
 by_constant m value is has h = grind (arith, nat_tests, constant_taken m value is has h, bits_small value is has)
 
@@ -287,10 +287,10 @@ actual_seen c (a ∷ actuals) fit are has =
     (seen_fits c a.value fit are.0.value has.0, actual_seen c actuals fit are.1 has.1)
 
 call_view_good : (c : Context) (s : Statement) (how : CallOperation) (v : ResolvedOperand) → ContextFits c
-    → IsGoodSource c s → NumbersFit s.operand v → rule_of_resolved_operand form.Calls v ≡ None
+    → IsGoodSource c s → NumbersFit s.operand v → rule_of_resolved_operand operand_rules.Calls v ≡ None
     → IsGoodStatement (ops_of (call_instr c s how v))
 unfolding ops_of
-call_view_good c s how (view.Called id instance) fit good fits rule =
+call_view_good c s how (resolved.Called id instance) fit good fits rule =
     let passed = passings_good c s (callee_of c s.operand)
     (actual_seen c s.actuals fit good.formed.actuals good.has.actuals) good.callee in
     record {
@@ -330,7 +330,7 @@ view_good c s v fit good some no_jump rule e = by (call_operation_of s.code) ref
         → IsGoodStatement (ops_of (view_instr c s v how))
     by (Some how) is =
         call_view_good c s how v fit good fits
-        (rule_there c form.Calls s.operand v no_call_constant
+        (rule_there c operand_rules.Calls s.operand v no_call_constant
         (ap (λ (f : OperandRule). operand_rule c f s.operand) (sym (call_form s.code how is)) ∙ rule) e)
     by None is = ended (end_operation_of s.code) is refl
 

@@ -16,7 +16,7 @@ use Rattle.stl_ast.specs.declared.operands.Operand.{Operand}
 use Rattle.stl_types.specs.Forms.{form_of}
 use Rattle.stl_types.specs.Operands.{takes_operand as form_takes}
 use Rattle.stl_types.specs.declared.views.ResolvedOperand.{ResolvedOperand}
-use Rattle.stl_types.specs.declared.views.ResolvedOperand.TheVariants as view
+use Rattle.stl_types.specs.declared.views.ResolvedOperand.TheVariants as resolved
 use Rattle.stl_codegen.specs.Operands.{flat_operand_of, pointer_bits}
 use Rattle.stl_codegen.specs.Operations.{jump_operation_of, call_operation_of, end_operation_of, operation_for}
 
@@ -34,7 +34,7 @@ pointer_near a byte bit k j = grind arith
 
 -- its numbers
 abbrev pub PointerFits : ResolvedOperand → Type 0
-PointerFits (view.Pointer a byte bit) = (byte ≤ 65535) × (bit ≤ 7)
+PointerFits (resolved.Pointer a byte bit) = (byte ≤ 65535) × (bit ≤ 7)
 PointerFits _ = Unit {0}
 
 -- ---- by instruction

@@ -39,7 +39,7 @@ use Rattle.stl_types.specs.declared.forms.OperandRule.{OperandRule}
 use Rattle.stl_types.specs.declared.views.Resolution.{Resolution}
 use Rattle.stl_types.specs.declared.views.Resolution.TheVariants.{Resolved}
 use Rattle.stl_types.specs.declared.views.ResolvedOperand.{ResolvedOperand}
-use Rattle.stl_types.specs.declared.views.ResolvedOperand.TheVariants as view
+use Rattle.stl_types.specs.declared.views.ResolvedOperand.TheVariants as resolved
 use Rattle.stl_codegen.specs.Operands.{constant_bits, flat_operand_of}
 use Rattle.stl_parser.proofs.OptionLemmas.{both}
 use Rattle.sem_kept.specs.Coded.{OperandHasBytes}
@@ -56,17 +56,17 @@ PlaceFits place = IsWord place.number × IsWord place.byte × (place.bit ≤ 7)
 
 -- the numbers of a view, and the bits of a constant
 abbrev pub NumbersFit : Operand → ResolvedOperand → Type 0
-NumbersFit o (view.Direct place w side declared) = PlaceFits place
-NumbersFit o (view.Parameter index section declared) = index < 256
-NumbersFit o (view.ByMemory a w from byte) = (holds_pointers from ≡ true) × IsWord byte
-NumbersFit o (view.ByRegister a w r bits) = (1 ≤ r) × (r ≤ 2) × (bits < 4294967296)
-NumbersFit o (view.Timer n) = IsWord n
-NumbersFit o (view.Counter n) = IsWord n
-NumbersFit o (view.NumberBy what from byte) = (holds_pointers from ≡ true) × IsWord byte
-NumbersFit o view.Constant = constant_bits o ≤ 4294967295
-NumbersFit o (view.Pointer a byte bit) = IsWord byte × (bit ≤ 7)
-NumbersFit o (view.OpenBlock di n) = IsWord n
-NumbersFit o (view.Called id instance) = IsWord id.number × IfSome instance IsWord
+NumbersFit o (resolved.Direct place w side declared) = PlaceFits place
+NumbersFit o (resolved.Parameter index section declared) = index < 256
+NumbersFit o (resolved.ByMemory a w from byte) = (holds_pointers from ≡ true) × IsWord byte
+NumbersFit o (resolved.ByRegister a w r bits) = (1 ≤ r) × (r ≤ 2) × (bits < 4294967296)
+NumbersFit o (resolved.Timer n) = IsWord n
+NumbersFit o (resolved.Counter n) = IsWord n
+NumbersFit o (resolved.NumberBy what from byte) = (holds_pointers from ≡ true) × IsWord byte
+NumbersFit o resolved.Constant = constant_bits o ≤ 4294967295
+NumbersFit o (resolved.Pointer a byte bit) = IsWord byte × (bit ≤ 7)
+NumbersFit o (resolved.OpenBlock di n) = IsWord n
+NumbersFit o (resolved.Called id instance) = IsWord id.number × IfSome instance IsWord
 NumbersFit o _ = Unit {0}
 
 abbrev pub ResolvedNumbersFit : Operand → Resolution → Type 0
@@ -74,7 +74,7 @@ ResolvedNumbersFit o (Resolved v) = NumbersFit o v
 ResolvedNumbersFit o _ = Unit {0}
 
 pub pointer_fits : (o : Operand) (v : ResolvedOperand) → NumbersFit o v → PointerFits v
-pointer_fits o (view.Pointer a byte bit) f = f
+pointer_fits o (resolved.Pointer a byte bit) f = f
 pointer_fits o _ f = tt
 
 -- ---- the payload of an operand

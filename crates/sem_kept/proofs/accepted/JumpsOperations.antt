@@ -34,9 +34,9 @@ use Rattle.stl_types.specs.Resolution.{resolution_of}
 use Rattle.stl_types.specs.Zones.{ends_no_zone, ends_zone, is_ninth_zone, opens_zone, zones_behind}
 use Rattle.stl_types.specs.declared.brackets.SourceBracket.{SourceBracket}
 use Rattle.stl_types.specs.declared.forms.OperandRule.{OperandRule}
-use Rattle.stl_types.specs.declared.forms.OperandRule.TheVariants as form
+use Rattle.stl_types.specs.declared.forms.OperandRule.TheVariants as operand_rules
 use Rattle.stl_types.specs.declared.views.ResolvedOperand.{ResolvedOperand}
-use Rattle.stl_types.specs.declared.views.ResolvedOperand.TheVariants as view
+use Rattle.stl_types.specs.declared.views.ResolvedOperand.TheVariants as resolved
 use Rattle.stl_codegen.specs.Emitted.{use_db_ops as opening_op, pass_ops}
 use Rattle.stl_codegen.specs.Instruction.{call_instr, end_instr, instr_by, instruction, jump_instr, resolved_instr, target_of, view_instr}
 use Rattle.stl_codegen.specs.Operations.{call_operation_of, end_operation_of, jump_operation_of}
@@ -78,7 +78,7 @@ other_code m code none other = by (bracket_function m) (is_closing_bracket m) (o
 
 -- what opens or closes a bracket or a zone takes nothing, and neither jumps nor calls nor ends
 pub record IsNesting (m : Mnemonic) : Type 0 where
-  pub form : form_of m ≡ form.Bare
+  pub form : form_of m ≡ operand_rules.Bare
   pub jump : jump_operation_of m ≡ None
   pub call : call_operation_of m ≡ None
   pub end : end_operation_of m ≡ None
@@ -134,7 +134,7 @@ last_end s v (Some how) is = record {
 
 last_call : (c : Context) (s : Statement) (how : CallOperation) (v : ResolvedOperand) → call_operation_of s.code ≡ Some how
     → IsLast s.code (last_op_of_instr (call_instr c s how v))
-last_call c s how (view.Called id instance) is = record {
+last_call c s how (resolved.Called id instance) is = record {
   code = other_code s.code (op_code_of (operation.Call how)) (apart s.code _ how is (λ n. n.call)) (call_code how);
   stays = refl;
 }
@@ -152,16 +152,16 @@ last_view c s v (Some how) is = last_call c s how v is
 abbrev resolved_by : Context → OperandRule → Operand → Option ResolvedOperand
 resolved_by c f o = if is_none (operand_rule c f o) then resolved_view (resolution_of c o) else None
 
-bare_resolved : (c : Context) → resolved_by c form.Bare operand.Nothing ≡ Some view.Nothing
+bare_resolved : (c : Context) → resolved_by c operand_rules.Bare operand.Nothing ≡ Some resolved.Nothing
 unfolding resolution_of rule_of_resolved_operand takes_operand
 bare_resolved c = refl
 
 nests_resolved : (c : Context) (s : Statement) → TakesRight s → nests s.code ≡ true
-    → resolved_operand c s ≡ Some view.Nothing
+    → resolved_operand c s ≡ Some resolved.Nothing
 unfolding resolved_operand
 nests_resolved c s h is =
     ap (λ (f : OperandRule). resolved_by c f s.operand) (nesting s.code is).form
-    ∙ ap (resolved_by c form.Bare) (h.bare is) ∙ bare_resolved c
+    ∙ ap (resolved_by c operand_rules.Bare) (h.bare is) ∙ bare_resolved c
 
 last_resolved : (c : Context) (s : Statement) (v : Option ResolvedOperand) → TakesRight s → resolved_operand c s ≡ v
     → IsLast s.code (last_op_of_instr (resolved_instr c s v))

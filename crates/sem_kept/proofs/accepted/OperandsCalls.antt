@@ -65,12 +65,12 @@ use Rattle.stl_types.specs.Operands.{operand_rule, rule_of_resolved_operand, rul
 use Rattle.stl_types.specs.Parameters.{Callee, callee_at, callee_by, callee_of, formals_of, is_sound_formal, source_callee, system_callee, system_formals}
 use Rattle.stl_types.specs.Resolution.{resolution_of_call, id_at, instance_number as instance_of_name, resolution_of, whole_called_block}
 use Rattle.stl_types.specs.declared.forms.OperandRule.{OperandRule}
-use Rattle.stl_types.specs.declared.forms.OperandRule.TheVariants as form
+use Rattle.stl_types.specs.declared.forms.OperandRule.TheVariants as operand_rules
 use Rattle.stl_types.specs.declared.parameters.Formal.{Formal}
 use Rattle.stl_types.specs.declared.views.Resolution.{Resolution}
 use Rattle.stl_types.specs.declared.views.Resolution.TheVariants.{Resolved}
 use Rattle.stl_types.specs.declared.views.ResolvedOperand.{ResolvedOperand}
-use Rattle.stl_types.specs.declared.views.ResolvedOperand.TheVariants as view
+use Rattle.stl_types.specs.declared.views.ResolvedOperand.TheVariants as resolved
 use Rattle.stl_codegen.specs.Compiled.{compiled_block}
 use Rattle.stl_codegen.specs.Emitted.{instance_number_or_zero, pass_ops, preparing_op}
 use Rattle.stl_codegen.specs.Generated.{code_blocks_of, data_blocks_of, instance_len, params_of}
@@ -196,7 +196,7 @@ record IsCall (c : Context) (name : BlockName) (inst : Option BlockName) (id : B
   named : named_block c.symbols name ≡ Some id
   whole : is_system_function id.kind ≡ false → (p : ℕ) × (whole_place c id ≡ Some p)
   with_instance : IsNumberOfInstance c inst instance
-  seen : resolution_of c (operand.Called name inst) ≡ Resolved (view.Called id instance)
+  seen : resolution_of c (operand.Called name inst) ≡ Resolved (resolved.Called id instance)
 
 -- ---- what is called
 
@@ -613,7 +613,7 @@ block_whole symbols t tree k (Some id) e =
 instance_known : (symbols : List Symbol) (t : Tree) → IsSoundTree symbols t → (k : ℕ) (id : BlockId)
     (inst : Option BlockName) → is_unknown_instance (types_of_source symbols t.blocks) inst ≡ false
     → (n : Option ℕ) × IsNumberOfInstance (context_at symbols t k) inst n
-    × (resolution_of_call (Some id) inst (instance_of_name (context_at symbols t k) inst) ≡ Resolved (view.Called id n))
+    × (resolution_of_call (Some id) inst (instance_of_name (context_at symbols t k) inst) ≡ Resolved (resolved.Called id n))
 instance_known symbols t tree k id None e = (None, tt, refl)
 instance_known symbols t tree k id (Some name) e =
     let d = data_there symbols t tree k name e in
@@ -644,18 +644,18 @@ call_there symbols t tree k name inst there = (
         ∙ or_first (is_unknown_called y name) (is_unknown_instance y inst) there)
 
     given : (n : Option ℕ) × IsNumberOfInstance (context_at symbols t k) inst n
-        × (resolution_of_call (Some block.id) inst (instance_of_name (context_at symbols t k) inst) ≡ Resolved (view.Called block.id n))
+        × (resolution_of_call (Some block.id) inst (instance_of_name (context_at symbols t k) inst) ≡ Resolved (resolved.Called block.id n))
     given = instance_known symbols t tree k block.id inst (or_second (is_unknown_called y name) (is_unknown_instance y inst) there)
 
 -- a call is one of what it is seen as
 call_of : (c : Context) (name : BlockName) (inst : Option BlockName) (id j : BlockId) (instance i : Option ℕ)
-    → IsCall c name inst j i → resolution_of c (operand.Called name inst) ≡ Resolved (view.Called id instance)
+    → IsCall c name inst j i → resolution_of c (operand.Called name inst) ≡ Resolved (resolved.Called id instance)
     → IsCall c name inst id instance
 call_of c name inst id j instance i call e =
     subst (λ (z : BlockId). IsCall c name inst z instance) one.0
     (subst (λ (n : Option ℕ). IsCall c name inst j n) one.1 call)
   where
-    same : Resolved (view.Called j i) ≡ Resolved (view.Called id instance) → (j ≡ id) × (i ≡ instance)
+    same : Resolved (resolved.Called j i) ≡ Resolved (resolved.Called id instance) → (j ≡ id) × (i ≡ instance)
     same e = (cc, cc)
 
     one : (j ≡ id) × (i ≡ instance)
@@ -679,8 +679,8 @@ formal_there (f ∷ fs) name e = by (bytes_eq name f.name) e (formal_there fs na
 view_passed : (f : Formal) (o : Operand) (v : ResolvedOperand) → fits_view f v ≡ true
     → (p : Passed) × (passed_view o v ≡ Some p)
 unfolding fits_view
-view_passed f o (view.Direct place w side declared) e = (passed_place place w, refl)
-view_passed f o (view.Parameter index own declared) e = (passed.Parameter index (width_of declared), refl)
+view_passed f o (resolved.Direct place w side declared) e = (passed_place place w, refl)
+view_passed f o (resolved.Parameter index own declared) e = (passed.Parameter index (width_of declared), refl)
 view_passed f o _ e = absurd cc
 
 constant_passed : (c : Context) (value : Literal)
@@ -760,7 +760,7 @@ module _ (symbols : List Symbol) (t : Tree) (tree : IsSoundTree symbols t)
     inst : Option BlockName
     operand_is : s.operand ≡ operand.Called name inst
     call : IsCall (context_at symbols t k) name inst id instance
-    by_view : is_called_view (view.Called id instance) ≡ true
+    by_view : is_called_view (resolved.Called id instance) ≡ true
     cal : IsCallee symbols t k (signatures_of_source symbols t) (operand.Called name inst) id
     rules : IsSoundCall (context_at symbols t k) cal.of_source s
 
@@ -770,7 +770,7 @@ module _ (symbols : List Symbol) (t : Tree) (tree : IsSoundTree symbols t)
       call_there symbols t tree k name inst (ap (names_unknown (types_of_source symbols t.blocks)) (sym e) ∙ sound.there)
 
   made : (how : CallOperation) (id : BlockId) (instance : Option ℕ) → call_operation_of s.code ≡ Some how
-      → resolution_of (context_at symbols t k) s.operand ≡ Resolved (view.Called id instance)
+      → resolution_of (context_at symbols t k) s.operand ≡ Resolved (resolved.Called id instance)
       → IsMadeCall how id instance
   made how id instance word e = record {
     name = o.0;
@@ -785,7 +785,7 @@ module _ (symbols : List Symbol) (t : Tree) (tree : IsSoundTree symbols t)
       o : (name : BlockName) × (inst : Option BlockName) × (s.operand ≡ operand.Called name inst)
       o = operand_called s.operand (sound.well_formed.called ∙ calls_are s.code how word)
 
-      seen_is : resolution_of (context_at symbols t k) (operand.Called o.0 o.1) ≡ Resolved (view.Called id instance)
+      seen_is : resolution_of (context_at symbols t k) (operand.Called o.0 o.1) ≡ Resolved (resolved.Called id instance)
       seen_is = ap (resolution_of (context_at symbols t k)) (sym o.2) ∙ e
 
       found : (id : BlockId) × (instance : Option ℕ) × IsCall (context_at symbols t k) o.0 o.1 id instance
@@ -794,15 +794,15 @@ module _ (symbols : List Symbol) (t : Tree) (tree : IsSoundTree symbols t)
       call : IsCall (context_at symbols t k) o.0 o.1 id instance
       call = call_of (context_at symbols t k) o.0 o.1 id found.0 instance found.1 found.2 seen_is
 
-      rule : rule_of_resolved_operand form.Calls (view.Called id instance) ≡ None
+      rule : rule_of_resolved_operand operand_rules.Calls (resolved.Called id instance) ≡ None
       rule =
-          ap (λ (f : OperandRule). rule_of_resolved_operand f (view.Called id instance)) (sym (call_form s.code how word))
+          ap (λ (f : OperandRule). rule_of_resolved_operand f (resolved.Called id instance)) (sym (call_form s.code how word))
           ∙ ap (λ (x : Resolution). rule_of_resolution (form_of s.code) x) (sym seen_is)
           ∙ ap (λ (x : Operand). operand_rule (context_at symbols t k) (form_of s.code) x) (sym o.2)
           ∙ sound.allowed
 
-      by_view : is_called_view (view.Called id instance) ≡ true
-      by_view = calls_called (view.Called id instance) rule
+      by_view : is_called_view (resolved.Called id instance) ≡ true
+      by_view = calls_called (resolved.Called id instance) rule
 
       cal : IsCallee symbols t k (signatures_of_source symbols t) (operand.Called o.0 o.1) id
       cal = callee_there symbols t tree k o.0 o.1 id instance call (callable_by id instance by_view)
@@ -977,7 +977,7 @@ module _ (symbols : List Symbol) (t : Tree) (tree : IsSoundTree symbols t)
   -- it names what it calls
   pub called_is : (how : CallOperation) → call_operation_of s.code ≡ Some how
       → (id : BlockId) × (instance : Option ℕ)
-      × (resolution_of (context_at symbols t k) s.operand ≡ Resolved (view.Called id instance))
+      × (resolution_of (context_at symbols t k) s.operand ≡ Resolved (resolved.Called id instance))
   called_is how word =
       let o = operand_called s.operand (sound.well_formed.called ∙ calls_are s.code how word) in
       let found = call_found o.0 o.1 o.2 in

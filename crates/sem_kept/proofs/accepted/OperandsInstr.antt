@@ -25,7 +25,7 @@ use Rattle.stl_types.specs.declared.forms.OperandRule.{OperandRule}
 use Rattle.stl_types.specs.declared.views.Resolution.{Resolution}
 use Rattle.stl_types.specs.declared.views.Resolution.TheVariants.{Resolved}
 use Rattle.stl_types.specs.declared.views.ResolvedOperand.{ResolvedOperand}
-use Rattle.stl_types.specs.declared.views.ResolvedOperand.TheVariants as view
+use Rattle.stl_types.specs.declared.views.ResolvedOperand.TheVariants as resolved
 use Rattle.stl_codegen.specs.Emitted.{op_with_end_mark}
 use Rattle.stl_codegen.specs.Instruction.{call_instr, end_instr, filler_instruction, instr_by, instruction, jump_instr, passings_to, resolved_instr, target_of}
 use Rattle.stl_codegen.specs.Operands.{flat_operand_of}
@@ -53,7 +53,7 @@ seen_rule : (c : Context) (f : OperandRule) (o : Operand) (v : ResolvedOperand) 
     → rule_of_resolution f (resolution_of c o) ≡ None → rule_of_resolved_operand f v ≡ None
 seen_rule c f o v e h = ap (λ (s : Resolution). rule_of_resolution f s) (sym e) ∙ h
 
-constant_seen : (c : Context) (value : Literal) → resolution_of c (operand.Constant value) ≡ Resolved view.Constant
+constant_seen : (c : Context) (value : Literal) → resolution_of c (operand.Constant value) ≡ Resolved resolved.Constant
 unfolding resolution_of
 constant_seen c value = refl
 
@@ -62,8 +62,8 @@ sees_same v w e = cc
 
 constant_right : (a : Environment) (m : Mnemonic) (value : Literal)
     → IsOperandRightFor a
-    (op_with_end_mark (operation_for m (operand.Constant value) view.Constant) (flat_operand_of (operand.Constant value) view.Constant))
-    (flat_operand_of (operand.Constant value) view.Constant)
+    (op_with_end_mark (operation_for m (operand.Constant value) resolved.Constant) (flat_operand_of (operand.Constant value) resolved.Constant))
+    (flat_operand_of (operand.Constant value) resolved.Constant)
 unfolding flat_operand_of
 constant_right a m value = tt
 
@@ -73,7 +73,7 @@ right_for : (a : Environment) (c : Context) (m : Mnemonic) (o : Operand) (v : Re
     → IsOperandRightFor a (op_with_end_mark (operation_for m o v) (flat_operand_of o v)) (flat_operand_of o v)
 right_for a c m (operand.Constant value) v e h fits =
     subst (λ (w : ResolvedOperand). IsOperandRightFor a (op_with_end_mark (operation_for m (operand.Constant value) w) (flat_operand_of (operand.Constant value) w)) (flat_operand_of (operand.Constant value) w))
-    (sees_same view.Constant v (sym (constant_seen c value) ∙ e)) (constant_right a m value)
+    (sees_same resolved.Constant v (sym (constant_seen c value) ∙ e)) (constant_right a m value)
 right_for a c m o v e h fits = operand_fits a m o v (allowed (form_of m) v (seen_rule c (form_of m) o v e h)) fits
 
 does_fits : (a : Environment) (lens : List (ℕ × ℕ)) (c : Context) (s : Statement) (v : ResolvedOperand)
@@ -96,13 +96,13 @@ resolved_is c s h =
 abbrev pub CallFits : Environment → List (ℕ × ℕ) → Context → Statement → Type 0
 CallFits a lens c s =
     (how : CallOperation) (id : BlockId) (instance : Option ℕ) → call_operation_of s.code ≡ Some how
-    → resolution_of c s.operand ≡ Resolved (view.Called id instance)
+    → resolution_of c s.operand ≡ Resolved (resolved.Called id instance)
     → InstrFits a lens (Calls how id instance (passings_to c s (callee_of c s.operand)))
 
 call_view_fits : (a : Environment) (lens : List (ℕ × ℕ)) (c : Context) (s : Statement) (how : CallOperation)
     → CallFits a lens c s → call_operation_of s.code ≡ Some how
     → (v : ResolvedOperand) → resolution_of c s.operand ≡ Resolved v → InstrFits a lens (call_instr c s how v)
-call_view_fits a lens c s how calls is (view.Called id instance) e = calls how id instance is e
+call_view_fits a lens c s how calls is (resolved.Called id instance) e = calls how id instance is e
 call_view_fits a lens c s how calls is _ e = filler_fits a lens
 
 pub instr_fits : (a : Environment) (lens : List (ℕ × ℕ)) (c : Context) (body : List Statement) (n : ℕ)

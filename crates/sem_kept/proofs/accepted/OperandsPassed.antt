@@ -40,7 +40,7 @@ use Rattle.stl_types.specs.Resolution.{resolution_of}
 use Rattle.stl_types.specs.declared.parameters.Formal.{Formal}
 use Rattle.stl_types.specs.declared.views.Resolution.TheVariants.{Resolved}
 use Rattle.stl_types.specs.declared.views.ResolvedOperand.{ResolvedOperand}
-use Rattle.stl_types.specs.declared.views.ResolvedOperand.TheVariants as view
+use Rattle.stl_types.specs.declared.views.ResolvedOperand.TheVariants as resolved
 use Rattle.stl_codegen.specs.Generated.{section_number}
 use Rattle.stl_codegen.specs.Passed.{passed_actual, passed_place, passed_resolution, passings_from, actual_of_formal, with_index}
 use Rattle.stl_codegen.specs.Operations.{operation_for}
@@ -193,7 +193,7 @@ own_section false false e = refl
 view_passes : (a : Environment) (c : Context) (f : Formal) (r : ParameterRecord) (o : Operand) (v : ResolvedOperand)
     → resolution_of c o ≡ Resolved v → IsRightOperand a v → IsRecordOf f r → fits_view f v ≡ true → Passes a c r o
 unfolding fits_view
-view_passes a c f r o (view.Direct place w side declared) e fits h taken = record {
+view_passes a c f r o (resolved.Direct place w side declared) e fits h taken = record {
   actual = passed_place place w;
   is = ap (passed_resolution o) e;
   right = (place_passes a r place.area place.number place.byte place.bit w fits.0 same).0;
@@ -203,7 +203,7 @@ view_passes a c f r o (view.Direct place w side declared) e fits h taken = recor
     same : not (r.width == width_number w) ≡ false
     same = width_same r f w h (typed_width f w declared
         (and_first (fits_type f w declared) (takes_side f.section side) taken) fits.1)
-view_passes a c f r o (view.Parameter index own declared) e fits h taken = record {
+view_passes a c f r o (resolved.Parameter index own declared) e fits h taken = record {
   actual = passed.Parameter index (width_of declared);
   is = ap (passed_resolution o) e;
   right = fits.0;

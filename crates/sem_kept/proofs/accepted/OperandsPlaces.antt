@@ -45,7 +45,7 @@ use Rattle.block_layout.specs.declared.walks.PathEnd.TheVariants as path_end
 use Rattle.stl_types.specs.Variables.{behind_others, variable_in_area}
 use Rattle.stl_types.specs.declared.views.Resolution.TheVariants.{Resolved}
 use Rattle.stl_types.specs.declared.views.Side.TheVariants as side
-use Rattle.stl_types.specs.declared.views.ResolvedOperand.TheVariants as view
+use Rattle.stl_types.specs.declared.views.ResolvedOperand.TheVariants as resolved
 use Rattle.stl_codegen.specs.Instruction.{return_last}
 use Rattle.sem_kept.proofs.accepted.Accepted.{there}
 use Rattle.block_layout.proofs.AlignmentLemmas.{Lies, Meets, MeetsKind}
@@ -98,7 +98,7 @@ reached_place l limit s kind h e = record {
 pub placed_sees : (a : Area) (number offset limit : ℕ) (kind : Simple) → IsPlaced limit offset kind
     → limit ≤ 524280
     → variable_in_area kind (elementary_place a number offset (Some kind))
-    ≡ Resolved (view.Direct (place_at a number offset) (width_of kind) side.Both (Some kind))
+    ≡ Resolved (resolved.Direct (place_at a number offset) (width_of kind) side.Both (Some kind))
 placed_sees a number offset limit kind h few =
     ap (λ (t : Bool). variable_in_area kind (if t then Some (place_at a number offset, width_of kind) else None))
     (le-leb (offset / 8) 65535 (small offset (plain_bits kind) limit h.within few))

@@ -77,7 +77,7 @@ use Rattle.stl_types.specs.declared.views.Resolution.{Resolution}
 use Rattle.stl_types.specs.declared.views.Resolution.TheVariants.{Resolved}
 use Rattle.stl_types.specs.declared.views.Side.TheVariants as side
 use Rattle.stl_types.specs.declared.views.ResolvedOperand.{ResolvedOperand}
-use Rattle.stl_types.specs.declared.views.ResolvedOperand.TheVariants as view
+use Rattle.stl_types.specs.declared.views.ResolvedOperand.TheVariants as resolved
 use Rattle.stl_codegen.specs.Generated.{param_at_bits, param_here, param_of, params_of, section_number}
 use Rattle.stl_codegen.specs.Instruction.{return_last}
 use Rattle.sem_kept.specs.Settled.{context_at}
@@ -206,12 +206,12 @@ view_seen : (a : Environment) (v : ResolvedOperand) → IsRightOperand a v → R
 view_seen a v fits = record { view = v; is = refl; fits = fits }
 
 composite_seen : (a : Environment) (o : Option Cell) → ResolvesRight a (Resolved (composite_operand o))
-composite_seen a None = view_seen a view.Composite tt
+composite_seen a None = view_seen a resolved.Composite tt
 composite_seen a (Some c) = by c.of
   where
     by : (e : Element) → ResolvesRight a (Resolved (date_or_composite e))
-    by DateAndTime = view_seen a view.Date tt
-    by _ = view_seen a view.Composite tt
+    by DateAndTime = view_seen a resolved.Date tt
+    by _ = view_seen a resolved.Composite tt
 
 -- ---- parameters
 
@@ -382,7 +382,7 @@ module _ (symbols : List Symbol) (t : Tree) (tree : IsSoundTree symbols t) (k : 
       → ResolvesRight a (own_at (context_at symbols t k) true s o)
   temporary_seen s h None e = composite_seen a (slice_get (cells_at (layouts_of t symbols) s.block s.temporary) s.place)
   temporary_seen s h (Some kind) e = record {
-    view = view.Direct (place_at area.L 0 s.offset) (width_of kind) side.Both (Some kind);
+    view = resolved.Direct (place_at area.L 0 s.offset) (width_of kind) side.Both (Some kind);
     is = placed_sees area.L 0 s.offset (structure_bits (cells_at (layouts_of t symbols) k true)) kind at
         (few (structure_bits (cells_at (layouts_of t symbols) k true)) a.local_len within short);
     fits = (
@@ -416,7 +416,7 @@ module _ (symbols : List Symbol) (t : Tree) (tree : IsSoundTree symbols t) (k : 
       → ResolvesRight a (own_at (context_at symbols t k) false s o)
   instance_seen limit few other s h None e = composite_seen a (slice_get (cells_at (layouts_of t symbols) s.block s.temporary) s.place)
   instance_seen limit few other s h (Some kind) e = record {
-    view = view.Direct (place_at area.Di 0 s.offset) (width_of kind) side.Both (Some kind);
+    view = resolved.Direct (place_at area.Di 0 s.offset) (width_of kind) side.Both (Some kind);
     is =
         ap (λ (t' : Bool). if t' then parameter_at (context_at symbols t k) s kind
         else variable_in_area kind (elementary_place area.Di 0 s.offset (Some kind))) (function_here ∙ other)
@@ -448,7 +448,7 @@ module _ (symbols : List Symbol) (t : Tree) (tree : IsSoundTree symbols t) (k : 
       found : (c : Cell) → slice_get (cells_at (layouts_of t symbols) k false) s.place ≡ Some c
           → IsElementaryComponent s c kind → ResolvesRight a (own_elementary (context_at symbols t k) false s kind)
       found c there elem = record {
-        view = view.Parameter index c.section kind;
+        view = resolved.Parameter index c.section kind;
         is =
             ap (λ (t' : Bool). if t' then parameter_at (context_at symbols t k) s kind
             else variable_in_area kind (elementary_place area.Di 0 s.offset (Some kind)))
@@ -818,7 +818,7 @@ data_seen symbols t tree k a name steps there known stays =
         → ResolvesRight a (data_at c d.block.id.number w o)
     at w h None e = composite_seen a (slice_get (cells_at ls w.block w.temporary) w.place)
     at w h (Some kind) e = record {
-      view = view.Direct (place_at area.Db d.block.id.number w.offset) (width_of kind) side.Both (Some kind);
+      view = resolved.Direct (place_at area.Db d.block.id.number w.offset) (width_of kind) side.Both (Some kind);
       is = placed_sees area.Db d.block.id.number w.offset limit kind place (let small = s.small in omega (arith, small));
       fits = (data_fits a w.offset limit kind place, refl);
     }
@@ -881,7 +881,7 @@ module _ (symbols : List Symbol) (t : Tree) (tree : IsSoundTree symbols t)
       d = data_there symbols t tree k name h.there
   operand_seen (operand.Named p steps) h other ends = path_fits p steps h.known h.there h.inside
   operand_seen (operand.OpenBlock di name) h other ends = record {
-    view = view.OpenBlock di d.block.id.number;
+    view = resolved.OpenBlock di d.block.id.number;
     is = ap (λ (o : Option ℕ). resolution_of_opened_block di o) d.number;
     fits = tt;
   }

@@ -52,13 +52,13 @@ use Rattle.stl_types.specs.Parameters.{callee_of}
 use Rattle.stl_types.specs.Resolved.{resolved_view}
 use Rattle.stl_types.specs.Resolution.{resolution_of_call, resolution_of_address, resolution_of_opened_block, resolution_of_path, register_for_word, resolution_of}
 use Rattle.stl_types.specs.declared.forms.OperandRule.{OperandRule}
-use Rattle.stl_types.specs.declared.forms.OperandRule.TheVariants as form
+use Rattle.stl_types.specs.declared.forms.OperandRule.TheVariants as operand_rules
 use Rattle.stl_types.specs.declared.views.Register.{Register}
 use Rattle.stl_types.specs.declared.views.Register.TheVariants as register
 use Rattle.stl_types.specs.declared.views.Resolution.{Resolution}
 use Rattle.stl_types.specs.declared.views.Resolution.TheVariants.{Unjudged, Resolved, Unknown}
 use Rattle.stl_types.specs.declared.views.ResolvedOperand.{ResolvedOperand}
-use Rattle.stl_types.specs.declared.views.ResolvedOperand.TheVariants as view
+use Rattle.stl_types.specs.declared.views.ResolvedOperand.TheVariants as resolved
 use Rattle.stl_codegen.specs.Compiled.{SourceInstruction, operand_with_target, op_with_target, code_in, lines_in, ops_in, placed_ops}
 use Rattle.stl_codegen.specs.Emitted.{call_op, op_with_end_mark, use_db_ops, ops_of, pass_ops, preparing_op}
 use Rattle.stl_codegen.specs.Generated.{return_statement, stated_from, statements_of}
@@ -237,11 +237,11 @@ place_fits place h = by (is_in_named_block place)
 reached_fits : (P : ℕ → Type 0) (n : ℕ) (o : Operand) → ((place : Place) → P place.number → opened_size (opened_by_place place) ≤ n)
     → (s : Resolution) → IsReached P s → ResolvedOpsFit (7 + n) o s
 unfolding flat_operand_of
-reached_fits P n o few (Resolved (view.Direct place w side declared)) h = omega (arith, few place h)
-reached_fits P n o few (Resolved (view.ByRegister a w register bits)) h = absurd h
-reached_fits P n o few (Resolved (view.NumberBy what from byte)) h = absurd h
-reached_fits P n o few (Resolved (view.Register which)) h = absurd h
-reached_fits P n o few (Resolved view.Constant) h = absurd h
+reached_fits P n o few (Resolved (resolved.Direct place w side declared)) h = omega (arith, few place h)
+reached_fits P n o few (Resolved (resolved.ByRegister a w register bits)) h = absurd h
+reached_fits P n o few (Resolved (resolved.NumberBy what from byte)) h = absurd h
+reached_fits P n o few (Resolved (resolved.Register which)) h = absurd h
+reached_fits P n o few (Resolved resolved.Constant) h = absurd h
 reached_fits P n o few (Resolved _) h = omega arith
 reached_fits P n o few _ h = tt
 
@@ -324,14 +324,14 @@ least_op _ = omega arith
 
 -- what isn't seen, a label and what is called: an operand of seven bytes
 abbrev IsWide : ℕ → Resolution → Type 0
-IsWide n (Resolved view.Label) = 7 ≤ n
-IsWide n (Resolved (view.Called id instance)) = 7 ≤ n
+IsWide n (Resolved resolved.Label) = 7 ≤ n
+IsWide n (Resolved (resolved.Called id instance)) = 7 ≤ n
 IsWide n (Resolved _) = Unit {0}
 IsWide n _ = 7 ≤ n
 
 any_wide : (n : ℕ) (s : Resolution) → 7 ≤ n → IsWide n s
-any_wide n (Resolved view.Label) h = h
-any_wide n (Resolved (view.Called id instance)) h = h
+any_wide n (Resolved resolved.Label) h = h
+any_wide n (Resolved (resolved.Called id instance)) h = h
 any_wide n (Resolved _) h = tt
 any_wide n _ h = h
 
@@ -354,9 +354,9 @@ operand_wide c (operand.Called name instance) h = any_wide _ _ (omega arith)
 operand_wide c _ h = tt
 
 -- what a jump takes
-jump_wide : (n : ℕ) (v : ResolvedOperand) → rule_of_resolved_operand form.Jumps v ≡ None → IsWide n (Resolved v) → 7 ≤ n
+jump_wide : (n : ℕ) (v : ResolvedOperand) → rule_of_resolved_operand operand_rules.Jumps v ≡ None → IsWide n (Resolved v) → 7 ≤ n
 unfolding rule_of_resolved_operand takes_operand
-jump_wide n view.Label h wide = wide
+jump_wide n resolved.Label h wide = wide
 jump_wide n _ h wide = absurd cc
 
 view_holds : (n : ℕ) (o : Operand) (s : Resolution) (v : ResolvedOperand) → s ≡ Resolved v → ResolvedOpsFit n o s
@@ -385,7 +385,7 @@ jump_fits c n s how is jumps target =
   where
     by : (x : Resolution) → resolution_of c s.operand ≡ x → IsWide (op_size s.operand) x → 7 ≤ op_size s.operand
     by (Resolved v) e wide =
-        jump_wide (op_size s.operand) v (rule_there c form.Jumps s.operand v no_jump_constant
+        jump_wide (op_size s.operand) v (rule_there c operand_rules.Jumps s.operand v no_jump_constant
         (ap (λ (f : OperandRule). operand_rule c f s.operand) (sym (jump_form s.code how jumps)) ∙ is.allowed) e)
         wide
     by _ e wide = wide
@@ -393,7 +393,7 @@ jump_fits c n s how is jumps target =
 called_view_fits : (c : Context) (s : Statement) (how : CallOperation) (v : ResolvedOperand)
     → is_operand_of_call v ≡ true → IsWide (op_size s.operand) (Resolved v) → PassesFew c s
     → bytes_in (ops_of (call_instr c s how v)) ≤ op_size s.operand + 11 * length s.actuals
-called_view_fits c s how (view.Called id instance) h wide few =
+called_view_fits c s how (resolved.Called id instance) h wide few =
     omega (arith, calls_sized how id instance (passings_to c s (callee_of c s.operand)), wide, few)
 called_view_fits c s how _ h wide few = absurd cc
 
@@ -415,7 +415,7 @@ view_instr_fits : (c : Context) (s : Statement) (v : ResolvedOperand) (how : Opt
 view_instr_fits c s v None calls fine is e wide =
     omega (arith, end_fits c s v (end_operation_of s.code) fine e)
 view_instr_fits c s v (Some how) calls fine is e wide =
-    called_view_fits c s how v (calls_called v (rule_there c form.Calls s.operand v no_call_constant
+    called_view_fits c s how v (calls_called v (rule_there c operand_rules.Calls s.operand v no_call_constant
     (ap (λ (f : OperandRule). operand_rule c f s.operand) (sym (call_form s.code how calls)) ∙ is.allowed) e)) wide is.few
 
 filler_sized : bytes_in (ops_of filler_instruction) ≡ 6
