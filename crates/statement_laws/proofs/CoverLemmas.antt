@@ -26,7 +26,7 @@ use Rattle.statement_laws.specs.Named.{NamedItem}
 use Rattle.statement_laws.specs.Named as named
 use Rattle.statement_laws.specs.Operands.{block_number, named_by, place_by, register_named, target_named}
 use Rattle.statement_laws.specs.Operands as own
-use Rattle.statement_laws.proofs.RuleLemmas.{refused}
+use Rattle.statement_laws.proofs.RuleLemmas.{some_is_not_none}
 use Rattle.statement_laws.proofs.ResolutionLemmas.{about, number_known, resolved_parts, resolved_same, rule_with_constant}
 
 -- something is there
@@ -74,9 +74,9 @@ has_no_name _ = false
 
 taken_named : (f : OperandRule) (v : ResolvedOperand) → rule_of_resolved_operand f v ≡ None → has_no_name v ≡ false
 unfolding rule_of_resolved_operand
-taken_named f resolved.Block e = absurd (refused (sym (block_refused f) ∙ e))
-taken_named f resolved.Composite e = absurd (refused e)
-taken_named f resolved.Date e = absurd (refused e)
+taken_named f resolved.Block e = absurd (some_is_not_none (sym (block_refused f) ∙ e))
+taken_named f resolved.Composite e = absurd (some_is_not_none e)
+taken_named f resolved.Date e = absurd (some_is_not_none e)
 taken_named f _ e = refl
 
 -- what an instruction takes is none of them

@@ -14,16 +14,16 @@ use Rattle.statement_laws.specs.Laws.{FamiliesAreAll, StatementsAreNumbered}
 abbrev statement_of_number : Context → List Statement → ℕ → Statement → SourceInstruction
 statement_of_number c body n s = record { instr = instruction c body n s; line = s.line }
 
-numbered : (c : Context) (body : List Statement) (n : ℕ) (front : List Statement) (s : Statement)
+number_of_statement_at : (c : Context) (body : List Statement) (n : ℕ) (front : List Statement) (s : Statement)
     (rest : List Statement) (tail : List SourceInstruction) → is_empty_statement s.code ≡ false
     → slice_get (stated_from c body n (front ++ s ∷ rest) ++ tail) (numbered_statement_count front)
     ≡ Some (statement_of_number c body (n + numbered_statement_count front) s)
-numbered c body n [] s rest tail e =
+number_of_statement_at c body n [] s rest tail e =
     ap (λ b. slice_get ((if b then stated_from c body n rest
     else statement_of_number c body n s ∷ stated_from c body (suc n) rest) ++ tail) 0) e
     ∙ ap (λ k. Some (statement_of_number c body k s)) (sym (add-zero n))
-numbered c body n (t ∷ ts) s rest tail e =
-    by (is_empty_statement t.code) (numbered c body n ts s rest tail e) (numbered c body (suc n) ts s rest tail e)
+number_of_statement_at c body n (t ∷ ts) s rest tail e =
+    by (is_empty_statement t.code) (number_of_statement_at c body n ts s rest tail e) (number_of_statement_at c body (suc n) ts s rest tail e)
   where
     by : (b : Bool)
         → slice_get (stated_from c body n (ts ++ s ∷ rest) ++ tail) (numbered_statement_count ts)
@@ -67,7 +67,7 @@ unfolding statements_of
 statements_are_numbered c b = record {
   each = λ front s rest is e.
       ap (λ ss. slice_get (stated_from c b.body 0 ss ++ return_statement b ∷ []) (numbered_statement_count front)) is
-      ∙ numbered c b.body 0 front s rest (return_statement b ∷ []) e
+      ∙ number_of_statement_at c b.body 0 front s rest (return_statement b ∷ []) e
       ∙ ap (λ k. Some (statement_of_number c b.body k s)) (zero-add (numbered_statement_count front));
   last = ap (slice_get (statements_of c b)) (sym (length_same c b.body 0 b.body))
       ∙ behind (stated_from c b.body 0 b.body) (return_statement b);

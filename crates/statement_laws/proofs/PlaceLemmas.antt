@@ -80,9 +80,9 @@ standing_same from byte w p =
 
 -- ---- pointers
 
-whole_same : (w : Width) (n : ℕ) → places.is_aligned w n ≡ own.is_whole w n
-whole_same widths.Bit n = refl
-whole_same _ n = refl
+suits_same : (w : Width) (n : ℕ) → places.is_aligned w n ≡ own.suits_width w n
+suits_same widths.Bit n = refl
+suits_same _ n = refl
 
 bit_error : (access : Access) → places.error_of access errors.alignment_error ≡ own.pointer_bit_error access
 bit_error Reading = refl
@@ -102,10 +102,10 @@ pub pointed_same : (access : Access) (a : Area) (w : Width) (n : ℕ) (p : ExecS
     → places.pointer_location access a w n p.local ≡ own.place_of_pointer access a w n p
 unfolding places.pointer_location own.place_of_pointer
 pointed_same access a w n p =
-    if_same (places.is_aligned w n) (own.is_whole w n)
+    if_same (places.is_aligned w n) (own.suits_width w n)
     (places.location_at_pointer a w n p.local) (own.place_in_area a (own.byte_of_pointer n) (own.bit_of_pointer n) w p)
     (Err (places.error_of access errors.alignment_error)) (Err (own.pointer_bit_error access))
-    (whole_same w n) (lying_same a (own.byte_of_pointer n) (own.bit_of_pointer n) w p) (ap Err (bit_error access))
+    (suits_same w n) (lying_same a (own.byte_of_pointer n) (own.bit_of_pointer n) w p) (ap Err (bit_error access))
 
 peripheral_same : (a : Area) (w : Width)
     → (places.is_area_p a && places.is_bit_width w) ≡ own.is_peripheral_bit a w
@@ -133,11 +133,11 @@ pub crossing_same : (access : Access) (w : Width) (address n : ℕ) (p : ExecSta
     → places.area_crossing_location access w address n p.local ≡ own.place_of_crossing access w address n p
 unfolding places.area_crossing_location own.place_of_crossing
 crossing_same access w address n p =
-    if_same (places.is_aligned w n) (own.is_whole w n)
+    if_same (places.is_aligned w n) (own.suits_width w n)
     (places.location_in_named_area access (place_at_pointer address) w n p.local)
     (own.in_area_of access (own.area_of_address address) w n p)
     (Err (places.error_of access errors.alignment_error)) (Err (own.pointer_bit_error access))
-    (whole_same w n) (named_same access (place_at_pointer address) w n p) (ap Err (bit_error access))
+    (suits_same w n) (named_same access (place_at_pointer address) w n p) (ap Err (bit_error access))
 
 -- ---- writing
 

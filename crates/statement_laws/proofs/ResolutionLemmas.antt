@@ -301,10 +301,10 @@ abbrev number_of_whole_block : List BlockLayout → Option ℕ → Option ℕ
 number_of_whole_block ls place =
     option_and_then (λ b. number_of_block b.id) (option_and_then (whole_at ls) place)
 
-shifted : (l : BlockLayout) (ls : List BlockLayout) (place : Option ℕ)
+number_behind_first : (l : BlockLayout) (ls : List BlockLayout) (place : Option ℕ)
     → number_of_whole_block (l ∷ ls) (option_map (λ k. suc k) place) ≡ number_of_whole_block ls place
-shifted l ls None = refl
-shifted l ls (Some k) = refl
+number_behind_first l ls None = refl
+number_behind_first l ls (Some k) = refl
 
 same_number : (id : BlockId) (o : Option BlockId) (n : ℕ) → is_id id o ≡ true
     → number_of_block o ≡ Some n → id.number ≡ n
@@ -337,7 +337,7 @@ placed_number id (l ∷ ls) n e = by (is_id id l.id) refl e (placed_number id ls
     by true is h more = same_number id l.id n is (here l.broken h)
     by false is h more =
         more
-        (sym (shifted l ls (place_of_block id (map (λ (b : BlockLayout). b.id) ls))) ∙ h)
+        (sym (number_behind_first l ls (place_of_block id (map (λ (b : BlockLayout). b.id) ls))) ∙ h)
 
 known_number : (id : BlockId) (ls : List BlockLayout) (n : ℕ)
     → number_of_whole_block ls (known_block id (map (λ b. b.id) ls)) ≡ Some n → id.number ≡ n

@@ -46,8 +46,8 @@ place_open area.P n w byte bit = refl
 place_open area.Di n w byte bit = refl
 place_open area.L n w byte bit = refl
 
-pub refused : {n : ℕ} → Some n ≡ None → ⊥
-refused e = cc
+pub some_is_not_none : {n : ℕ} → Some n ≡ None → ⊥
+some_is_not_none e = cc
 
 -- what holds of what is named, if anything is
 abbrev pub HoldsOfItem : (NamedItem → Bool) → Option Literal → ResolvedOperand → Type 0
@@ -76,7 +76,7 @@ reads_bit None resolved.Constant e = refl
 reads_bit None resolved.Block e = refl
 reads_bit (Some value) resolved.Constant e = refl
 reads_bit (Some value) _ e = refl
-reads_bit None _ e = absurd (refused e)
+reads_bit None _ e = absurd (some_is_not_none e)
 
 pub reads_bit_or_bare : (k : Option Literal) (v : ResolvedOperand)
     → rule_with_constant operand_rules.ReadsBitOrBare k v ≡ None → HoldsOfItem is_read k v
@@ -98,7 +98,7 @@ reads_bit_or_bare None resolved.Constant e = refl
 reads_bit_or_bare None resolved.Block e = refl
 reads_bit_or_bare (Some value) resolved.Constant e = refl
 reads_bit_or_bare (Some value) _ e = refl
-reads_bit_or_bare None _ e = absurd (refused e)
+reads_bit_or_bare None _ e = absurd (some_is_not_none e)
 
 pub writes_bit : (k : Option Literal) (v : ResolvedOperand)
     → rule_with_constant operand_rules.WritesBit k v ≡ None → HoldsOfItem is_place_to_write k v
@@ -112,9 +112,9 @@ writes_bit None resolved.Composite e = refl
 writes_bit None resolved.Date e = refl
 writes_bit None resolved.Constant e = refl
 writes_bit None resolved.Block e = refl
-writes_bit (Some value) resolved.Constant e = absurd (refused e)
+writes_bit (Some value) resolved.Constant e = absurd (some_is_not_none e)
 writes_bit (Some value) _ e = refl
-writes_bit None _ e = absurd (refused e)
+writes_bit None _ e = absurd (some_is_not_none e)
 
 pub sets : (k : Option Literal) (v : ResolvedOperand)
     → rule_with_constant operand_rules.Sets k v ≡ None → HoldsOfItem is_set k v
@@ -130,9 +130,9 @@ sets None resolved.Composite e = refl
 sets None resolved.Date e = refl
 sets None resolved.Constant e = refl
 sets None resolved.Block e = refl
-sets (Some value) resolved.Constant e = absurd (refused e)
+sets (Some value) resolved.Constant e = absurd (some_is_not_none e)
 sets (Some value) _ e = refl
-sets None _ e = absurd (refused e)
+sets None _ e = absurd (some_is_not_none e)
 
 pub resets : (k : Option Literal) (v : ResolvedOperand)
     → rule_with_constant operand_rules.Resets k v ≡ None → HoldsOfItem is_reset k v
@@ -150,9 +150,9 @@ resets None resolved.Composite e = refl
 resets None resolved.Date e = refl
 resets None resolved.Constant e = refl
 resets None resolved.Block e = refl
-resets (Some value) resolved.Constant e = absurd (refused e)
+resets (Some value) resolved.Constant e = absurd (some_is_not_none e)
 resets (Some value) _ e = refl
-resets None _ e = absurd (refused e)
+resets None _ e = absurd (some_is_not_none e)
 
 pub transfers : (k : Option Literal) (v : ResolvedOperand)
     → rule_with_constant operand_rules.Transfers k v ≡ None → HoldsOfItem is_transferred k v
@@ -167,9 +167,9 @@ transfers None resolved.Composite e = refl
 transfers None resolved.Date e = refl
 transfers None resolved.Constant e = refl
 transfers None resolved.Block e = refl
-transfers (Some value) resolved.Constant e = absurd (refused e)
+transfers (Some value) resolved.Constant e = absurd (some_is_not_none e)
 transfers (Some value) _ e = refl
-transfers None _ e = absurd (refused e)
+transfers None _ e = absurd (some_is_not_none e)
 
 pub loads_ar1 : (k : Option Literal) (v : ResolvedOperand)
     → rule_with_constant operand_rules.LoadsAr1 k v ≡ None → HoldsOfItem is_first_address k v
@@ -183,9 +183,9 @@ loads_ar1 None resolved.Composite e = refl
 loads_ar1 None resolved.Date e = refl
 loads_ar1 None resolved.Constant e = refl
 loads_ar1 None resolved.Block e = refl
-loads_ar1 (Some value) resolved.Constant e = absurd (refused e)
+loads_ar1 (Some value) resolved.Constant e = absurd (some_is_not_none e)
 loads_ar1 (Some value) _ e = refl
-loads_ar1 None _ e = absurd (refused e)
+loads_ar1 None _ e = absurd (some_is_not_none e)
 
 pub loads_ar2 : (k : Option Literal) (v : ResolvedOperand)
     → rule_with_constant operand_rules.LoadsAr2 k v ≡ None → HoldsOfItem is_address k v
@@ -198,9 +198,9 @@ loads_ar2 None resolved.Composite e = refl
 loads_ar2 None resolved.Date e = refl
 loads_ar2 None resolved.Constant e = refl
 loads_ar2 None resolved.Block e = refl
-loads_ar2 (Some value) resolved.Constant e = absurd (refused e)
+loads_ar2 (Some value) resolved.Constant e = absurd (some_is_not_none e)
 loads_ar2 (Some value) _ e = refl
-loads_ar2 None _ e = absurd (refused e)
+loads_ar2 None _ e = absurd (some_is_not_none e)
 
 pub stores_ar1 : (k : Option Literal) (v : ResolvedOperand)
     → rule_with_constant operand_rules.StoresAr1 k v ≡ None → HoldsOfItem is_first_address_place k v
@@ -213,9 +213,9 @@ stores_ar1 None resolved.Composite e = refl
 stores_ar1 None resolved.Date e = refl
 stores_ar1 None resolved.Constant e = refl
 stores_ar1 None resolved.Block e = refl
-stores_ar1 (Some value) resolved.Constant e = absurd (refused e)
+stores_ar1 (Some value) resolved.Constant e = absurd (some_is_not_none e)
 stores_ar1 (Some value) _ e = refl
-stores_ar1 None _ e = absurd (refused e)
+stores_ar1 None _ e = absurd (some_is_not_none e)
 
 pub stores_ar2 : (k : Option Literal) (v : ResolvedOperand)
     → rule_with_constant operand_rules.StoresAr2 k v ≡ None → HoldsOfItem is_address_place k v
@@ -227,9 +227,9 @@ stores_ar2 None resolved.Composite e = refl
 stores_ar2 None resolved.Date e = refl
 stores_ar2 None resolved.Constant e = refl
 stores_ar2 None resolved.Block e = refl
-stores_ar2 (Some value) resolved.Constant e = absurd (refused e)
+stores_ar2 (Some value) resolved.Constant e = absurd (some_is_not_none e)
 stores_ar2 (Some value) _ e = refl
-stores_ar2 None _ e = absurd (refused e)
+stores_ar2 None _ e = absurd (some_is_not_none e)
 
 pub adds_to_ar : (k : Option Literal) (v : ResolvedOperand)
     → rule_with_constant operand_rules.AddsToAr k v ≡ None → HoldsOfItem is_added_address k v
@@ -240,9 +240,9 @@ adds_to_ar None resolved.Composite e = refl
 adds_to_ar None resolved.Date e = refl
 adds_to_ar None resolved.Constant e = refl
 adds_to_ar None resolved.Block e = refl
-adds_to_ar (Some value) resolved.Constant e = absurd (refused e)
+adds_to_ar (Some value) resolved.Constant e = absurd (some_is_not_none e)
 adds_to_ar (Some value) _ e = refl
-adds_to_ar None _ e = absurd (refused e)
+adds_to_ar None _ e = absurd (some_is_not_none e)
 
 pub counts : (most : ℕ) (k : Option Literal) (v : ResolvedOperand)
     → rule_with_constant (operand_rules.Counts most) k v ≡ None → HoldsOfItem is_constant k v
@@ -253,7 +253,7 @@ counts most None resolved.Constant e = refl
 counts most None resolved.Block e = refl
 counts most (Some value) resolved.Constant e = refl
 counts most (Some value) _ e = refl
-counts most None _ e = absurd (refused e)
+counts most None _ e = absurd (some_is_not_none e)
 
 pub shifts : (most : ℕ) (k : Option Literal) (v : ResolvedOperand)
     → rule_with_constant (operand_rules.Shifts most) k v ≡ None → HoldsOfItem is_shift_count k v
@@ -265,7 +265,7 @@ shifts most None resolved.Constant e = refl
 shifts most None resolved.Block e = refl
 shifts most (Some value) resolved.Constant e = refl
 shifts most (Some value) _ e = refl
-shifts most None _ e = absurd (refused e)
+shifts most None _ e = absurd (some_is_not_none e)
 
 pub adds : (k : Option Literal) (v : ResolvedOperand)
     → rule_with_constant operand_rules.Adds k v ≡ None → HoldsOfItem is_constant k v
@@ -276,7 +276,7 @@ adds None resolved.Constant e = refl
 adds None resolved.Block e = refl
 adds (Some value) resolved.Constant e = refl
 adds (Some value) _ e = refl
-adds None _ e = absurd (refused e)
+adds None _ e = absurd (some_is_not_none e)
 
 pub combines : (kind : Simple) (k : Option Literal) (v : ResolvedOperand)
     → rule_with_constant (operand_rules.Combines kind) k v ≡ None → HoldsOfItem is_shift_count k v
@@ -288,7 +288,7 @@ combines kind None resolved.Constant e = refl
 combines kind None resolved.Block e = refl
 combines kind (Some value) resolved.Constant e = refl
 combines kind (Some value) _ e = refl
-combines kind None _ e = absurd (refused e)
+combines kind None _ e = absurd (some_is_not_none e)
 
 pub starts_timer : (k : Option Literal) (v : ResolvedOperand)
     → rule_with_constant operand_rules.StartsTimer k v ≡ None → HoldsOfItem names_timer k v
@@ -299,9 +299,9 @@ starts_timer None resolved.Composite e = refl
 starts_timer None resolved.Date e = refl
 starts_timer None resolved.Constant e = refl
 starts_timer None resolved.Block e = refl
-starts_timer (Some value) resolved.Constant e = absurd (refused e)
+starts_timer (Some value) resolved.Constant e = absurd (some_is_not_none e)
 starts_timer (Some value) _ e = refl
-starts_timer None _ e = absurd (refused e)
+starts_timer None _ e = absurd (some_is_not_none e)
 
 pub enables : (k : Option Literal) (v : ResolvedOperand)
     → rule_with_constant operand_rules.Enables k v ≡ None → HoldsOfItem is_freed k v
@@ -314,9 +314,9 @@ enables None resolved.Composite e = refl
 enables None resolved.Date e = refl
 enables None resolved.Constant e = refl
 enables None resolved.Block e = refl
-enables (Some value) resolved.Constant e = absurd (refused e)
+enables (Some value) resolved.Constant e = absurd (some_is_not_none e)
 enables (Some value) _ e = refl
-enables None _ e = absurd (refused e)
+enables None _ e = absurd (some_is_not_none e)
 
 pub steps_counter : (k : Option Literal) (v : ResolvedOperand)
     → rule_with_constant operand_rules.StepsCounter k v ≡ None → HoldsOfItem names_counter k v
@@ -327,9 +327,9 @@ steps_counter None resolved.Composite e = refl
 steps_counter None resolved.Date e = refl
 steps_counter None resolved.Constant e = refl
 steps_counter None resolved.Block e = refl
-steps_counter (Some value) resolved.Constant e = absurd (refused e)
+steps_counter (Some value) resolved.Constant e = absurd (some_is_not_none e)
 steps_counter (Some value) _ e = refl
-steps_counter None _ e = absurd (refused e)
+steps_counter None _ e = absurd (some_is_not_none e)
 
 pub opens : (k : Option Literal) (v : ResolvedOperand)
     → rule_with_constant operand_rules.Opens k v ≡ None → HoldsOfItem names_data_block k v
@@ -341,9 +341,9 @@ opens None resolved.Composite e = refl
 opens None resolved.Date e = refl
 opens None resolved.Constant e = refl
 opens None resolved.Block e = refl
-opens (Some value) resolved.Constant e = absurd (refused e)
+opens (Some value) resolved.Constant e = absurd (some_is_not_none e)
 opens (Some value) _ e = refl
-opens None _ e = absurd (refused e)
+opens None _ e = absurd (some_is_not_none e)
 
 or_seen : (k : Option Literal) (v : ResolvedOperand)
     → codegen.or_operation v ≡ on_named (codegen.or_operation v) (λ x. or_operation_for (as_open x)) (view_named k v)

@@ -119,10 +119,10 @@ stays true true j h = absurd (false≢true h)
 stays true false j h = refl
 stays false left j h = absurd (false≢true j)
 
-kept : (left : Bool) (o : Option (Place × Width)) → left ≡ false → IsSomeItem (place_in_layout o)
+item_inside : (left : Bool) (o : Option (Place × Width)) → left ≡ false → IsSomeItem (place_in_layout o)
     → IsSomeItem (place_in_layout (if left then None else o))
-kept true o e h = absurd cc
-kept false o e h = h
+item_inside true o e h = absurd cc
+item_inside false o e h = h
 
 -- ---- parameters of a function
 
@@ -270,7 +270,7 @@ local_there : (c : Context) (name : List ℕ) (steps : List PathStep)
     (λ component. leaves_array c.layouts component steps)) ≡ true
     → IsSomeItem (variable_by c name steps m)
 local_there c name steps None v r plain there e inside =
-    kept (leaves_from c.layouts c.block true (step.Named name ∷ steps))
+    item_inside (leaves_from c.layouts c.block true (step.Named name ∷ steps))
     (place_at_path_end c.layouts area.L 0 (path_end_in_block c.layouts c.block true (step.Named name ∷ steps)))
     (stays _ _ (end_is_checkable c true _ v e) inside)
     (temporary_end c (path_end_in_block c.layouts c.block true (step.Named name ∷ steps)) v r
@@ -287,7 +287,7 @@ local_there c name steps (Some m) v r plain there e inside =
         (path_in_whole_block c false (is_some (whole_at c.layouts c.block))
         (path_end_in_block c.layouts c.block false (step.Named name ∷ steps)) v e)
     by false fc =
-        kept (leaves_from c.layouts c.block false (step.Named name ∷ steps))
+        item_inside (leaves_from c.layouts c.block false (step.Named name ∷ steps))
         (place_at_path_end c.layouts area.Di 0 (path_end_in_block c.layouts c.block false (step.Named name ∷ steps)))
         (stays _ _ (end_is_checkable c false _ v e) inside)
         (static_end c (path_end_in_block c.layouts c.block false (step.Named name ∷ steps)) v r
@@ -343,7 +343,7 @@ data_whole c id steps place n None v r db d e inside = absurd cc
 data_whole c id steps place n (Some b) v r db d e inside =
     subst (λ (k : Bool). IsSomeItem (place_in_layout
     (if k then offsets.component_place c.layouts id.number place steps else None))) (sym db)
-    (kept (leaves_structure c.layouts (structure_of c.layouts place) steps)
+    (item_inside (leaves_structure c.layouts (structure_of c.layouts place) steps)
     (place_at_path_end c.layouts area.Db id.number (path_end_in_data_block c.layouts place steps))
     (left_structure c.layouts (structure_of c.layouts place) steps inside)
     (data_end_there c id.number (path_end_in_data_block c.layouts place steps) v r e))

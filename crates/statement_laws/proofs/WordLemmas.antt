@@ -65,12 +65,12 @@ use Rattle.statement_laws.specs.Operands.{register_named}
 
 -- ---- letters of either case
 
-raised : (c : ℕ) → to_ascii_uppercase (to_ascii_lowercase c) ≡ to_ascii_uppercase c
-raised c = grind (arith, nat_tests)
+upper_of_lower : (c : ℕ) → to_ascii_uppercase (to_ascii_lowercase c) ≡ to_ascii_uppercase c
+upper_of_lower c = grind (arith, nat_tests)
 
 all_raised : (bytes : List ℕ) → str_to_ascii_uppercase (str_to_ascii_lowercase bytes) ≡ str_to_ascii_uppercase bytes
 all_raised [] = refl
-all_raised (c ∷ cs) = ap₂ (λ (d : ℕ) (ds : List ℕ). d ∷ ds) (raised c) (all_raised cs)
+all_raised (c ∷ cs) = ap₂ (λ (d : ℕ) (ds : List ℕ). d ∷ ds) (upper_of_lower c) (all_raised cs)
 
 -- a word that is an entry's but for case has its name
 same_word : (a b : List ℕ) → str_eq_ignore_ascii_case a b ≡ true → is_same_name a b ≡ true
@@ -81,11 +81,11 @@ same_word a b e =
     upper : str_to_ascii_uppercase a ≡ str_to_ascii_uppercase b
     upper = sym (all_raised a) ∙ ap str_to_ascii_uppercase ((bytes_eq-Decides (str_to_ascii_lowercase a) (str_to_ascii_lowercase b)).0 e) ∙ all_raised b
 
--- what is made of whatever was read
-made : {A B : Type 0} (o : Option A) (f : A → B) (P : B → Type 0) → ((x : A) → P (f x))
+-- what is mapped_holds of whatever was read
+mapped_holds : {A B : Type 0} (o : Option A) (f : A → B) (P : B → Type 0) → ((x : A) → P (f x))
     → IfSome (option_map f o) P
-made None f P h = tt
-made (Some x) f P h = h x
+mapped_holds None f P h = tt
+mapped_holds (Some x) f P h = h x
 
 then_made : {A B : Type 0} (o : Option A) (f : A → Option B) (P : B → Type 0)
     → ((x : A) → IfSome (f x) P) → IfSome (option_and_then f o) P
@@ -102,12 +102,12 @@ HasKnownWord _ = Unit {0}
 register_has : (source : List ℕ) (a : Option Letters) (w : Width) (tokens : List Token)
     → IfSome (reads.operand_by_register source a w tokens) HasKnownWord
 unfolding reads.operand_by_register
-register_has source a w tokens = made (reads.register_pointer source tokens) _ HasKnownWord (λ p. tt)
+register_has source a w tokens = mapped_holds (reads.register_pointer source tokens) _ HasKnownWord (λ p. tt)
 
 path_has : (source : List ℕ) (h : PathHead) (tokens : List Token)
     → IfSome (reads.path_of source h tokens) HasKnownWord
 unfolding reads.path_of
-path_has source h tokens = made (complete_reading (reads.steps_from source [] tokens)) _ HasKnownWord (λ steps. tt)
+path_has source h tokens = mapped_holds (complete_reading (reads.steps_from source [] tokens)) _ HasKnownWord (λ steps. tt)
 
 block_path_has : (source : List ℕ) (name : BlockName) (tokens : List Token)
     → IfSome (reads.block_path source name tokens) HasKnownWord
@@ -115,14 +115,14 @@ unfolding reads.block_path
 block_path_has source name [] = tt
 block_path_has source name (w ∷ rest) =
     passed (has_kind w kind.Word) _ HasKnownWord
-    (λ test. made (complete_reading (reads.steps_from source _ rest)) _ HasKnownWord (λ steps. tt))
+    (λ test. mapped_holds (complete_reading (reads.steps_from source _ rest)) _ HasKnownWord (λ steps. tt))
 
 in_block_has : (source : List ℕ) (name : BlockName) (tokens : List Token)
     → IfSome (reads.operand_in_block source name tokens) HasKnownWord
 unfolding reads.operand_in_block
 in_block_has source name tokens =
     either _ (reads.block_path source name tokens) HasKnownWord
-    (made (reads.block_place source tokens) _ HasKnownWord (λ p. tt)) (block_path_has source name tokens)
+    (mapped_holds (reads.block_place source tokens) _ HasKnownWord (λ p. tt)) (block_path_has source name tokens)
 
 behind_block_has : (source : List ℕ) (name : BlockName) (tokens : List Token)
     → IfSome (reads.operand_behind_block source name tokens) HasKnownWord
@@ -141,7 +141,7 @@ data_block_has source n (t ∷ rest) =
 area_has : (source : List ℕ) (a : Letters) (w : Width) (byte : ℕ) (rest : List Token)
     → IfSome (reads.area_operand source a w byte rest) HasKnownWord
 unfolding reads.area_operand
-area_has source a w byte rest = made (reads.place_bit source w rest) _ HasKnownWord (λ bit. tt)
+area_has source a w byte rest = mapped_holds (reads.place_bit source w rest) _ HasKnownWord (λ bit. tt)
 
 direct_has : (source : List ℕ) (a : AddressKind) (n : ℕ) (rest : List Token)
     → IfSome (reads.direct_address_operand source a n rest) HasKnownWord
@@ -158,14 +158,14 @@ direct_has source (address.Block true) n (t ∷ rest) = tt
 number_has : (source : List ℕ) (what : Numbered) (tokens : List Token)
     → IfSome (reads.operand_by_memory_number source what tokens) HasKnownWord
 unfolding reads.operand_by_memory_number
-number_has source what tokens = made (reads.memory_pointer source false tokens) _ HasKnownWord (λ p. tt)
+number_has source what tokens = mapped_holds (reads.memory_pointer source false tokens) _ HasKnownWord (λ p. tt)
 
 area_by_has : (source : List ℕ) (a : Letters) (w : Width) (tokens : List Token)
     → IfSome (reads.operand_by_pointer source a w tokens) HasKnownWord
 unfolding reads.operand_by_pointer
 area_by_has source a w tokens =
     either _ (reads.operand_by_register source (Some a) w tokens) HasKnownWord
-    (made (reads.memory_pointer source true tokens) _ HasKnownWord (λ p. tt))
+    (mapped_holds (reads.memory_pointer source true tokens) _ HasKnownWord (λ p. tt))
     (register_has source (Some a) w tokens)
 
 indirect_has : (source : List ℕ) (a : AddressKind) (tokens : List Token)
@@ -181,7 +181,7 @@ area_pointer_has : (source : List ℕ) (a : AddressKind) (byte : ℕ) (rest : Li
     → IfSome (reads.area_pointer source a byte rest) HasKnownWord
 unfolding reads.area_pointer
 area_pointer_has source (address.Area a width.Bit) byte rest =
-    made (bit_of source rest) _ HasKnownWord (λ bit. tt)
+    mapped_holds (bit_of source rest) _ HasKnownWord (λ bit. tt)
 area_pointer_has source (address.Area a width.Byte) byte rest = tt
 area_pointer_has source (address.Area a width.Word) byte rest = tt
 area_pointer_has source (address.Area a width.Dword) byte rest = tt
@@ -194,7 +194,7 @@ plain_pointer_has : (source : List ℕ) (tokens : List Token)
 unfolding reads.plain_pointer
 plain_pointer_has source [] = tt
 plain_pointer_has source (n ∷ rest) =
-    then_made (number_of source n) _ HasKnownWord (λ byte. made (bit_of source rest) _ HasKnownWord (λ bit. tt))
+    then_made (number_of source n) _ HasKnownWord (λ byte. mapped_holds (bit_of source rest) _ HasKnownWord (λ bit. tt))
 
 pointer_has : (source : List ℕ) (tokens : List Token) → IfSome (reads.pointer_constant_operand source tokens) HasKnownWord
 unfolding reads.pointer_constant_operand
@@ -204,7 +204,7 @@ pointer_has source tokens =
 
 condition_has : (source : List ℕ) (t : Token) → IfSome (reads.condition_of source t) HasKnownWord
 unfolding reads.condition_of
-condition_has source t = made (look_up flags (text_of source t)) _ HasKnownWord (λ flag. tt)
+condition_has source t = mapped_holds (look_up flags (text_of source t)) _ HasKnownWord (λ flag. tt)
 
 -- ---- registers
 
@@ -351,7 +351,7 @@ unfolding reads.operand_of
 operand_has source [] = tt
 operand_has source (t ∷ rest) =
     either (option_map operand.Constant (literal_of source (t ∷ rest))) _ HasKnownWord
-    (made (literal_of source (t ∷ rest)) _ HasKnownWord (λ l. tt))
+    (mapped_holds (literal_of source (t ∷ rest)) _ HasKnownWord (λ l. tt))
     (kind_has source t rest (t ∷ rest) t.kind)
 
 -- ---- statements
@@ -385,7 +385,7 @@ block_call_has : (source : List ℕ) (code : Mnemonic) (tokens : List Token)
     → IfSome (states.block_call_of source code tokens) BareHasKnownWord
 unfolding states.block_call_of
 block_call_has source code tokens =
-    made (complete_reading (block_at source tokens)) _ BareHasKnownWord (λ name. tt)
+    mapped_holds (complete_reading (block_at source tokens)) _ BareHasKnownWord (λ name. tt)
 
 call_has : (source : List ℕ) (code : Mnemonic) (tokens : List Token)
     → IfSome (states.call_of source code tokens) BareHasKnownWord
@@ -393,7 +393,7 @@ unfolding states.call_of
 call_has source code tokens =
     then_made (block_at source tokens) _ BareHasKnownWord
     (λ b. then_made (states.instance_at source b.0 b.1) _ BareHasKnownWord
-    (λ i. made (states.actuals_of source i.1) _ BareHasKnownWord (λ actuals. tt)))
+    (λ i. mapped_holds (states.actuals_of source i.1) _ BareHasKnownWord (λ actuals. tt)))
 
 behind_word_has : (source : List ℕ) (f : OperandSyntax) (code : Mnemonic) (tokens : List Token)
     → IfSome (states.behind_word source f code tokens) BareHasKnownWord
@@ -485,7 +485,7 @@ inside_has source p line inside =
     (either (clauses.statement_clause source line inside) _ InsideHas
     (mapped (states.statement_of source line inside) _ ReadHas InsideHas
     (statement_has source line inside) (λ r k. k))
-    (made (clauses.setting_of source line inside) _ InsideHas (λ s. tt)))
+    (mapped_holds (clauses.setting_of source line inside) _ InsideHas (λ s. tt)))
 
 plain_has : (source : List ℕ) (p : ClausePlace) (line : ℕ) (tokens : List Token)
     → IfSome (clauses.plain_clause source p line tokens) FirstClauseHas
@@ -493,7 +493,7 @@ unfolding clauses.plain_clause clauses.structure_clause clauses.semicolon_clause
 plain_has source p line tokens =
     either (clauses.structure_clause source p tokens) _ FirstClauseHas
     (both (clauses.takes_parameters p) None _ FirstClauseHas tt
-    (made (structure_at source (clauses.level_at p) tokens) _ FirstClauseHas (λ r. tt)))
+    (mapped_holds (structure_at source (clauses.level_at p) tokens) _ FirstClauseHas (λ r. tt)))
     (then_made (clauses.until_semicolon source tokens) _ FirstClauseHas
     (λ cut.
     mapped (clauses.inside_clause source p line cut.0) _ InsideHas FirstClauseHas
@@ -515,7 +515,7 @@ keyword_has : (source : List ℕ) (p : ClausePlace) (line : ℕ) (k : Keyword) (
 unfolding clauses.keyword_clause clauses.head_clause clauses.structure_end clauses.inner_end
 keyword_has source p line (keyword.Opens k) rest =
     then_made (clauses.block_of_kind_at source k rest) _ FirstClauseHas
-    (λ b. made (clauses.result_at source k b.1) _ FirstClauseHas (λ r. tt))
+    (λ b. mapped_holds (clauses.result_at source k b.1) _ FirstClauseHas (λ r. tt))
 keyword_has source p line (keyword.Ends k) rest = tt
 keyword_has source p line (keyword.Section k) rest = tt
 keyword_has source p line keyword.EndSection rest = tt
@@ -535,7 +535,7 @@ free_word_has : (source : List ℕ) (p : ClausePlace) (t : Token) (rest tokens :
 unfolding clauses.free_word_clause clauses.head_word_clause
 free_word_has source p t rest tokens (Some w) =
     both (clauses.is_outer p) _ _ FirstClauseHas
-    (made (clauses.head_word_at source w rest) _ FirstClauseHas (λ behind. tt))
+    (mapped_holds (clauses.head_word_at source w rest) _ FirstClauseHas (λ behind. tt))
     (other_clause_has source p t.line tokens)
 free_word_has source p t rest tokens None = other_clause_has source p t.line tokens
 

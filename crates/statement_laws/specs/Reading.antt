@@ -126,9 +126,9 @@ bit_of_pointer pointer = pointer % 8
 
 -- a pointer suits a width: any pointer a bit, and one to bit 0 of its byte a byte, word or
 -- double word
-abbrev pub is_whole : Width → (pointer : ℕ) → Bool
-is_whole widths.Bit pointer = true
-is_whole _ pointer = bit_of_pointer pointer == 0
+abbrev pub suits_width : Width → (pointer : ℕ) → Bool
+suits_width widths.Bit pointer = true
+suits_width _ pointer = bit_of_pointer pointer == 0
 
 -- the error of a pointer to a byte, word or double word that has a bit: 16#28 where it is
 -- read, 16#29 where it is written
@@ -146,7 +146,7 @@ pointer_area_error Writing = errors.bad_area + 1
 unfoldable pub place_of_pointer :
     Access → Area → Width → (pointer : ℕ) → ExecState → Result Location ℕ
 place_of_pointer access a width pointer p =
-    if is_whole width pointer
+    if suits_width width pointer
     then place_in_area a (byte_of_pointer pointer) (bit_of_pointer pointer) width p
     else Err (pointer_bit_error access)
 
@@ -175,7 +175,7 @@ in_area_of access (Some a) width pointer p =
 unfoldable pub place_of_crossing :
     Access → Width → (address pointer : ℕ) → ExecState → Result Location ℕ
 place_of_crossing access width address pointer p =
-    if is_whole width pointer then in_area_of access (area_of_address address) width pointer p
+    if suits_width width pointer then in_area_of access (area_of_address address) width pointer p
     else Err (pointer_bit_error access)
 
 -- what the address register of a number holds: 1 is AR1, 2 is AR2

@@ -56,7 +56,7 @@ use Rattle.block_layout.proofs.BlockLemmas.{known_there, place_there}
 use Rattle.block_layout.proofs.LayoutLemmas.{measured_symbols}
 use Rattle.sem_kept.proofs.accepted.OperandsFormals.{Distinct, IsFoundIn, Matched, block_formals, found_each, fresh_distinct, return_all, source_matched, system_matched}
 use Rattle.sem_kept.proofs.accepted.OperandsMembers.{code_block_there, one_block}
-use Rattle.sem_kept.proofs.accepted.OperandsOperations.{allowed}
+use Rattle.sem_kept.proofs.accepted.OperandsOperations.{taken_by_rule}
 use Rattle.sem_kept.proofs.accepted.OperandsPlaces.{AreParameters, function_components}
 use Rattle.sem_kept.proofs.accepted.OperandsViews.{IsThere, id_there, id_there_is, ids_same, layout_id}
 use Rattle.sem_kept.proofs.accepted.Shared.{callable_by}
@@ -406,7 +406,7 @@ module _ (symbols : List Symbol) (t : Tree) (tree : IsSoundTree symbols t) where
         at = resolved_seen c s (view.Called id instance) e
 
         taken : takes_operand (form_of s.code) (view.Called id instance) ≡ true
-        taken = (allowed (form_of s.code) (view.Called id instance) (rule_called c (form_of s.code) s.operand id instance at h.allowed)).taken
+        taken = (taken_by_rule (form_of s.code) (view.Called id instance) (rule_called c (form_of s.code) s.operand id instance at h.allowed)).taken
 
         calls : form_of s.code ≡ form.Calls
         calls = taken_calls (form_of s.code) id instance taken

@@ -31,7 +31,7 @@ use Rattle.sem_kept.specs.Settled.{context_at}
 use Rattle.sem_kept.proofs.accepted.Accepted.{IsSoundBlock, IsSoundTree, right_tree}
 use Rattle.sem_kept.proofs.accepted.Initial.{initial_values_are_whole}
 use Rattle.sem_kept.proofs.accepted.OperandsCells.{IsLaid as LaidBlock, block_of_layout}
-use Rattle.sem_kept.proofs.accepted.OperandsViews.{IsStructured, IsThere, layout_id, structured, whole_is}
+use Rattle.sem_kept.proofs.accepted.OperandsViews.{IsStructured, IsThere, layout_id, structure_known, whole_is}
 use Rattle.block_layout.proofs.BlockLemmas.{kind_there}
 use Rattle.listing_laws.proofs.declared.Blocks.{IsLaidInstance, fb_kind, laid_instance}
 use Rattle.listing_laws.proofs.declared.Own.{whole_writes}
@@ -186,7 +186,7 @@ source_instance source file symbols t accepted bytes k b l id h is db n instance
     }
 
     shaped : IsStructured symbols t k
-    shaped = structured symbols t tree k there
+    shaped = structure_known symbols t tree k there
 
     inside : shaped.inside ≡ q
     inside = some_same shaped.inside q (sym shaped.is ∙ structure)

@@ -68,7 +68,7 @@ use Rattle.sem_kept.proofs.accepted.CodedSources.{context_fit, formals_few}
 use Rattle.sem_kept.proofs.accepted.CodedSymbols.{symbols_fit as symbols_coded}
 use Rattle.sem_kept.proofs.accepted.OperandsCalls.{call_fits}
 use Rattle.block_layout.proofs.CommonLemmas.{all_there}
-use Rattle.sem_kept.proofs.accepted.OperandsOperations.{allowed}
+use Rattle.sem_kept.proofs.accepted.OperandsOperations.{taken_by_rule}
 use Rattle.sem_kept.proofs.accepted.OperandsSymbols.{symbols_fit}
 use Rattle.sem_kept.proofs.accepted.OperandsViews.{EndsBy, Surrounds, ends_by, holds_locals}
 use Rattle.sem_kept.proofs.accepted.Settled.{statements_settle}
@@ -301,7 +301,7 @@ module _ (source file : List ℕ) (symbols : List Symbol) (t : Tree) (accepted :
 
     is_word : is_call s.code ≡ true
     is_word = form_calls s.code
-        (taken_calls (form_of s.code) cid instance (allowed (form_of s.code) (view.Called cid instance) (rule_called c (form_of s.code) s.operand cid instance sees sound_here.allowed)).taken)
+        (taken_calls (form_of s.code) cid instance (taken_by_rule (form_of s.code) (view.Called cid instance) (rule_called c (form_of s.code) s.operand cid instance sees sound_here.allowed)).taken)
 
     how : (how : CallOperation) × (call_operation_of s.code ≡ Some how)
     how = call_word s.code is_word

@@ -68,12 +68,12 @@ overlong_front f (x ∷ front) final rest count at parts last few more =
     (overlong_front f front final rest (suc count) (at + size_of_op (op_with_target f x)) parts.1 last
     (omega (arith, few)) more))
 
-parted : (f : ℕ → ℕ) (front : List OpData) (final : OpData) (rest : List OpData)
+size_of_parts : (f : ℕ → ℕ) (front : List OpData) (final : OpData) (rest : List OpData)
     → map (op_with_target f) ((front ++ final ∷ []) ++ rest)
     ≡ map (op_with_target f) front ++ op_with_target f final ∷ map (op_with_target f) rest
-parted f [] final rest = refl
-parted f (x ∷ front) final rest =
-    ap (λ (l : List OpData). op_with_target f x ∷ l) (parted f front final rest)
+size_of_parts f [] final rest = refl
+size_of_parts f (x ∷ front) final rest =
+    ap (λ (l : List OpData). op_with_target f x ∷ l) (size_of_parts f front final rest)
 
 not_overlong : (f : ℕ → ℕ) (ss : List SourceInstruction) (at : ℕ) → AreGood ss
     → overlong_statement 0 at (map (op_with_target f) (ops_in ss)) ≡ None
@@ -82,7 +82,7 @@ not_overlong f (s ∷ ss) at h =
     let cut : map (op_with_target f) (ops_of s.instr ++ ops_in ss)
     ≡ map (op_with_target f) h.0.front ++ op_with_target f h.0.final ∷ map (op_with_target f) (ops_in ss) =
     ap (λ (l : List OpData). map (op_with_target f) (l ++ ops_in ss)) h.0.whole
-    ∙ parted f h.0.front h.0.final (ops_in ss) in
+    ∙ size_of_parts f h.0.front h.0.final (ops_in ss) in
     subst (λ (l : List OpData). overlong_statement 0 at l ≡ None) (sym cut)
     (overlong_front f h.0.front h.0.final (map (op_with_target f) (ops_in ss)) 0 at h.0.parts h.0.last
     (omega (arith, h.0.few)) (λ next. not_overlong f ss next h.1))

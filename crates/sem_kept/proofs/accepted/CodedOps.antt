@@ -54,10 +54,10 @@ use Rattle.stl_codegen.specs.Operands.{block_opened_by_operand, flat_operand_of}
 use Rattle.stl_codegen.specs.Passed.{passed_actual, passed_resolution, passed_view, passings_from, actual_of_formal, with_index}
 use Rattle.stl_codegen.specs.Operations.{call_operation_of, end_operation_of, jump_operation_of, operation_for}
 use Rattle.sem_kept.proofs.accepted.CodedBits.{bits_small, constant_taken}
-use Rattle.sem_kept.proofs.accepted.CodedTables.{taken, operation_is_op}
+use Rattle.sem_kept.proofs.accepted.CodedTables.{operation_is_taken, operation_is_op}
 use Rattle.sem_kept.proofs.accepted.CodedViews.{ContextFits, IsWord, ResolvedNumbersFit, NumbersFit, direct_fits, found_holds, payload_right, pointer_fits, seen_fits, word_fits}
 use Rattle.sem_kept.specs.Coded.{HasBytes, OperandHasBytes, StatementHasBytes}
-use Rattle.sem_kept.proofs.accepted.OperandsOperations.{allowed}
+use Rattle.sem_kept.proofs.accepted.OperandsOperations.{taken_by_rule}
 use Rattle.sem_kept.proofs.accepted.Shared.{call_form, no_call_constant, rule_callable, rule_there}
 
 -- ---- ops that stay ops wherever they lead
@@ -114,10 +114,10 @@ by_rule : (m : Mnemonic) (o : Operand) (v : ResolvedOperand) → jump_operation_
     → is_instruction (operation_for m o v) (flat_operand_of o v) ≡ true
 unfolding is_instruction
 by_rule m o v j c e n fits rule =
-    let all = allowed (form_of m) v rule in
+    let all = taken_by_rule (form_of m) v rule in
     and_from (admits (takes_of_operation (operation_for m o v)) (flat_operand_of o v))
     (payload_fits (flat_operand_of o v))
-    (taken m o v j c e n (pointer_fits o v fits) all.taken)
+    (operation_is_taken m o v j c e n (pointer_fits o v fits) all.taken)
     (payload_right (form_of m) o v all.side fits)
 
 by_constant : (m : Mnemonic) (value : Literal) → IsLiteral value → HasBytes value
@@ -130,13 +130,13 @@ by_constant m value is has h = grind (arith, nat_tests, constant_taken m value i
 is_taken : (m : Mnemonic) (o : Operand) (v : ResolvedOperand) → jump_operation_of m ≡ None → call_operation_of m ≡ None
     → end_operation_of m ≡ None → is_empty_statement m ≡ false → IsOperand o → OperandHasBytes o → NumbersFit o v
     → RuleAllows (form_of m) o v → is_instruction (operation_for m o v) (flat_operand_of o v) ≡ true
-is_taken m (operand.Constant value) v j c e n is has fits allowed =
+is_taken m (operand.Constant value) v j c e n is has fits taken_by_rule =
     subst
     (λ (x : ResolvedOperand).
     is_instruction (operation_for m (operand.Constant value) x) (flat_operand_of (operand.Constant value) x)
     ≡ true)
-    (sym allowed.1) (by_constant m value is has allowed.0)
-is_taken m o v j c e n is has fits allowed = by_rule m o v j c e n fits allowed
+    (sym taken_by_rule.1) (by_constant m value is has taken_by_rule.0)
+is_taken m o v j c e n is has fits taken_by_rule = by_rule m o v j c e n fits taken_by_rule
 
 allowed_by : (c : Context) (f : OperandRule) (o : Operand) (v : ResolvedOperand) → operand_rule c f o ≡ None
     → resolution_of c o ≡ Resolved v → RuleAllows f o v

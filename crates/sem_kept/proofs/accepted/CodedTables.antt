@@ -40,9 +40,9 @@ PointerFits _ = Unit {0}
 -- ---- by instruction
 
 -- an instruction that goes on takes what its form does
-pub taken : (m : Mnemonic) (o : Operand) (v : ResolvedOperand) → jump_operation_of m ≡ None → call_operation_of m ≡ None
+pub operation_is_taken : (m : Mnemonic) (o : Operand) (v : ResolvedOperand) → jump_operation_of m ≡ None → call_operation_of m ≡ None
     → end_operation_of m ≡ None → is_empty_statement m ≡ false → PointerFits v → form_takes (form_of m) v ≡ true
     → admits (takes_of_operation (operation_for m o v)) (flat_operand_of o v) ≡ true
 unfolding form_of operation_for form_takes admits flat_operand_of
-taken code.Empty o v j c e n f h = absurd cc
-taken _ o v j c e n f h = grind (arith, pointer_near, nat_tests)
+operation_is_taken code.Empty o v j c e n f h = absurd cc
+operation_is_taken _ o v j c e n f h = grind (arith, pointer_near, nat_tests)

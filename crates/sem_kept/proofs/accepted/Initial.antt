@@ -63,7 +63,7 @@ use Rattle.block_layout.proofs.SoundnessLemmas.{IsUnbroken, Unbroken, block_unbr
 use Rattle.sem_kept.proofs.accepted.OperandsCells.{are_right, block_of_layout, cells_are}
 use Rattle.block_layout.proofs.ContainmentLemmas.{data_goes, element_parts, element_plain, element_structure, element_udt, structure_fits, udt_fits}
 use Rattle.sem_kept.proofs.accepted.OperandsPlaces.{reached_place}
-use Rattle.sem_kept.proofs.accepted.OperandsViews.{IsStructured, IsThere, layout_id, structured, whole_is}
+use Rattle.sem_kept.proofs.accepted.OperandsViews.{IsStructured, IsThere, layout_id, structure_known, whole_is}
 use Rattle.block_layout.proofs.AlignmentLemmas.{AreRight, Goes, IsRightCell, IsSettled, Lies, Meets, MeetsKind, UdtEven, element_within, here_within, index_meets, settled_even, start_meets, structure_ends, structure_even}
 use Rattle.block_layout.proofs.OffsetLemmas.{end_step, step_grows}
 use Rattle.block_layout.proofs.BlockLemmas.{kind_there}
@@ -360,15 +360,15 @@ kind_begins n simple.Dword e = inr (omega (arith, e), refl)
 kind_begins n simple.Dint e = inr (omega (arith, e), refl)
 kind_begins n simple.Time e = inr (omega (arith, e), refl)
 
-zipped : (limit : ℕ) (kind : Simple) (offsets values : List ℕ)
+zip_is_kept : (limit : ℕ) (kind : Simple) (offsets values : List ℕ)
     → AllByRecursion (Begins limit (plain_bits kind) (Plain kind) []) offsets
     → AllByRecursion (λ v. v < 2 ^ plain_bits kind) values
     → AllByRecursion (IsKept limit) (writes_at (plain_bits kind) offsets values)
-zipped limit kind [] values h v = tt
-zipped limit kind (o ∷ os) [] h v = tt
-zipped limit kind (o ∷ os) (x ∷ xs) h v = (
+zip_is_kept limit kind [] values h v = tt
+zip_is_kept limit kind (o ∷ os) [] h v = tt
+zip_is_kept limit kind (o ∷ os) (x ∷ xs) h v = (
   record { within = h.0.within; begins = kind_begins o kind h.0.even; fits = v.0 },
-  zipped limit kind os xs h.1 v.1,
+  zip_is_kept limit kind os xs h.1 v.1,
 )
 
 values_fit : (most : ℕ) (presets : List Preset) → AllByRecursion (λ p. p.value < most) presets
@@ -445,7 +445,7 @@ module _ (l : List BlockLayout) (limit : ℕ) (near : limit < largest_size)
           → AreKept (writes_at (plain_bits kind) (element_starts c.bounds (element_of c cs) (s ∷ []))
           (preset_values c.presets))
       one kind e s k =
-          zipped limit kind (element_starts c.bounds (element_of c cs) (s ∷ [])) (preset_values c.presets)
+          zip_is_kept limit kind (element_starts c.bounds (element_of c cs) (s ∷ [])) (preset_values c.presets)
           (subst (λ (n : ℕ). AllByRecursion (Begins limit n (Plain kind) [])
           (element_starts c.bounds (element_of c cs) (s ∷ []))) (element_plain c cs kind e)
           (subst (λ (of : Element). AllByRecursion (Begins limit (element_of c cs) of [])
@@ -808,7 +808,7 @@ module _ (source file : List ℕ) (symbols : List Symbol) (t : Tree)
   unfolding initial_bytes
   written k l id there is kind =
       let d = data_of k l id there is kind in
-      let s = structured symbols t tree k d in
+      let s = structure_known symbols t tree k d in
       let long : l.length ≡ structure_bits (cells_at ls s.inside false) / 8
       = sym (ap (λ (o : Option BlockLayout). length_at o) there) ∙ s.long in
       record {

@@ -42,8 +42,8 @@ use Rattle.stl_codegen.specs.Generated.{stated_from, statements_of}
 use Rattle.stl_codegen.specs.Instruction.{count_of_statement, instr_by, instruction, target_in, target_of}
 use Rattle.stl_codegen.specs.Operations.{jump_operation_of}
 use Rattle.sem_kept.specs.Back.{is_target}
-use Rattle.sem_kept.proofs.compiled.Reading.{aimed_append, aimed_are, aimed_bytes, aimed_extent, aimed_is, aimed_part, aimed_parts, ends_append, ends_at, is_statement, parted, parts, parts_append, parts_are, position, position_is, the_code, the_code_is}
-use Rattle.sem_kept.proofs.compiled.Runs.{Parted, bytes_of, flat as flat_parts, size_aimed, total}
+use Rattle.sem_kept.proofs.compiled.Reading.{aimed_append, aimed_are, aimed_bytes, aimed_extent, aimed_is, aimed_part, aimed_parts, ends_append, ends_at, is_statement, parts_of_instr, parts, parts_append, parts_are, position, position_is, the_code, the_code_is}
+use Rattle.sem_kept.proofs.compiled.Runs.{InstrParts, bytes_of, flat as flat_parts, size_aimed, total}
 use Rattle.sem_kept.specs.Jumps.{AllLandRight, LandsRight, jump_fault_of}
 use Rattle.plc_base.proofs.TruthLemmas.{or_met_behind}
 use Rattle.sem_kept.proofs.accepted.JumpsCode.{AreQuiet, IsFound, IsQuiet, codes_after, count_after, found_by, left_after, open_after, placed_all, spot_there}
@@ -115,12 +115,12 @@ jl_code : (m : Mnemonic) → jump_operation_of m ≡ Some jump.Jl → is_list_ju
 jl_code code.Jl e = refl
 jl_code _ e = absurd cc
 
-codes_more : (ps qs : List Parted) (codes : List ℕ)
+codes_more : (ps qs : List InstrParts) (codes : List ℕ)
     → codes_after (ps ++ qs) codes ≡ codes_after qs (codes_after ps codes)
 codes_more [] qs codes = refl
 codes_more (p ∷ ps) qs codes = codes_more ps qs (codes_behind p.end.code codes)
 
-counts_more : (ps qs : List Parted) (count : ℕ)
+counts_more : (ps qs : List InstrParts) (count : ℕ)
     → count_after (ps ++ qs) count ≡ count_after qs (count_after ps count)
 counts_more [] qs count = refl
 counts_more (p ∷ ps) qs count = counts_more ps qs (count_behind p.end.code count)
@@ -145,8 +145,8 @@ aimed_quiet f (op ∷ ops) h = (one op h.0, aimed_quiet f ops h.1)
       stays = stays op.operand q.stays;
     }
 
-part_quiet : (f : ℕ → ℕ) (i : Instr) → AllByRecursion IsQuiet (aimed_part f (parted i)).front
-part_quiet f i = aimed_quiet f (parted i).front (front_quiet i)
+part_quiet : (f : ℕ → ℕ) (i : Instr) → AllByRecursion IsQuiet (aimed_part f (parts_of_instr i)).front
+part_quiet f i = aimed_quiet f (parts_of_instr i).front (front_quiet i)
 
 parts_quiet : (f : ℕ → ℕ) (ss : List SourceInstruction) → AreQuiet (aimed_parts f (parts ss))
 parts_quiet f [] = tt
@@ -205,7 +205,7 @@ ends_of c body pre = ends_at (stated_from c body 0 pre)
 
 -- a statement more
 abbrev bytes_by : Context → (body : List Statement) → (n : ℕ) → Statement → (empty : Bool) → ℕ
-bytes_by c body n s empty = if empty then 0 else bytes_of (parted (instruction c body n s))
+bytes_by c body n s empty = if empty then 0 else bytes_of (parts_of_instr (instruction c body n s))
 
 ends_one : (c : Context) (body pre : List Statement) (n : ℕ) (s : Statement) → n ≡ count_of_statements pre
     → ends_of c body (pre ++ s ∷ []) ≡ ends_of c body pre + bytes_by c body n s (is_empty_statement s.code)
@@ -234,7 +234,7 @@ count_empty pre s e =
 
 ends_more : (c : Context) (body pre : List Statement) (n : ℕ) (s : Statement) → is_empty_statement s.code ≡ false
     → n ≡ count_of_statements pre
-    → ends_of c body (pre ++ s ∷ []) ≡ ends_of c body pre + bytes_of (parted (instruction c body n s))
+    → ends_of c body (pre ++ s ∷ []) ≡ ends_of c body pre + bytes_of (parts_of_instr (instruction c body n s))
 ends_more c body pre n s e is =
     ends_one c body pre n s is ∙ ap (λ (t : Bool). ends_of c body pre + bytes_by c body n s t) e
 
@@ -342,19 +342,19 @@ spot_behind : (f : ℕ → ℕ) (front : List SourceInstruction) (s : SourceInst
     (count_after (aimed_parts f (parts front)) 0)
 spot_behind f front s rest =
     found_by _ _ _ _ _ _
-    (ap (λ (z : List Parted). spot_at (statement_spots (flat_parts z)) (ends_at front)) cut
-    ∙ ap (spot_at (statement_spots (flat_parts (ps ++ aimed_part f (parted s.instr) ∷ aimed_parts f (parts rest)))))
+    (ap (λ (z : List InstrParts). spot_at (statement_spots (flat_parts z)) (ends_at front)) cut
+    ∙ ap (spot_at (statement_spots (flat_parts (ps ++ aimed_part f (parts_of_instr s.instr) ∷ aimed_parts f (parts rest)))))
     (sym (aimed_extent f (parts front)) ∙ omega arith))
     refl refl
-    (spot_there 0 [] [] ps (aimed_part f (parted s.instr)) (aimed_parts f (parts rest))
+    (spot_there 0 [] [] ps (aimed_part f (parts_of_instr s.instr)) (aimed_parts f (parts rest))
     (aimed_are f (parts front) (parts_are front)) (parts_quiet f front) (part_quiet f s.instr)
-    (aimed_is f (parted s.instr) (is_statement s.instr)))
+    (aimed_is f (parts_of_instr s.instr) (is_statement s.instr)))
   where
-    ps : List Parted
+    ps : List InstrParts
     ps = aimed_parts f (parts front)
 
     cut : aimed_parts f (parts (front ++ s ∷ rest))
-        ≡ ps ++ aimed_part f (parted s.instr) ∷ aimed_parts f (parts rest)
+        ≡ ps ++ aimed_part f (parts_of_instr s.instr) ∷ aimed_parts f (parts rest)
     cut = ap (aimed_parts f) (parts_append front (s ∷ rest))
         ∙ aimed_append f (parts front) (parts (s ∷ rest))
 
@@ -374,7 +374,7 @@ spot_of c body ret f pre rest e takes =
 -- ---- the list of a JL
 
 abbrev ops_with : (ℕ → ℕ) → Instr → List OpData → List OpData
-ops_with f i rest = (aimed_part f (parted i)).front ++ (aimed_part f (parted i)).end ∷ rest
+ops_with f i rest = (aimed_part f (parts_of_instr i)).front ++ (aimed_part f (parts_of_instr i)).end ∷ rest
 
 ju_instruction : (c : Context) (body : List Statement) (n : ℕ) (s : Statement)
     → is_unconditional_jump s.code ≡ true
@@ -384,7 +384,7 @@ ju_instruction c body n s e = ap (instr_by c body n s) (ju_code s.code e)
 
 -- a list goes on behind a JU
 ju_leads : (f : ℕ → ℕ) (most target at there : ℕ) (rest : List OpData)
-    → leads_to_target most target (at + bytes_of (parted (Jumps jump.Ju there))) rest ≡ true
+    → leads_to_target most target (at + bytes_of (parts_of_instr (Jumps jump.Ju there))) rest ≡ true
     → leads_to_target (suc most) target at (ops_with f (Jumps jump.Ju there) rest) ≡ true
 ju_leads f most target at there rest led =
     let long = size_aimed f (jump_op jump.Ju there) in
@@ -436,8 +436,8 @@ listed_on c body ret name left pre s ss at n is_at is_n further false is h more 
     let r = ju_left left s.code (λ next. is_list_to next name ss) h in
     let ju = ju_instruction c body n s r.ju in
     let there = target_of body s.operand in
-    let long : bytes_of (parted (instruction c body n s)) ≡ bytes_of (parted (Jumps jump.Ju there)) =
-    ap (λ (i : Instr). bytes_of (parted i)) ju in
+    let long : bytes_of (parts_of_instr (instruction c body n s)) ≡ bytes_of (parts_of_instr (Jumps jump.Ju there)) =
+    ap (λ (i : Instr). bytes_of (parts_of_instr i)) ju in
     let end = ends_more c body pre n s is is_n in
     let number = count_more pre s is in
     let rest : List OpData = code_from c body ret (place c body ret) (suc n) ss in
@@ -445,9 +445,9 @@ listed_on c body ret name left pre s ss at n is_at is_n further false is h more 
     ap (λ (k : ℕ). leads_to_target k target at (ops_with (place c body ret) (instruction c body n s) rest)) r.is
     ∙ ap (λ (i : Instr). leads_to_target (suc r.fewer) target at (ops_with (place c body ret) i rest)) ju
     ∙ ju_leads (place c body ret) r.fewer target at there rest
-    (ap (λ (k : ℕ). leads_to_target r.fewer (place c body ret k) (at + bytes_of (parted (Jumps jump.Ju there))) rest)
+    (ap (λ (k : ℕ). leads_to_target r.fewer (place c body ret k) (at + bytes_of (parts_of_instr (Jumps jump.Ju there))) rest)
     (omega arith)
-    ∙ more r.fewer (at + bytes_of (parted (Jumps jump.Ju there))) (suc n)
+    ∙ more r.fewer (at + bytes_of (parts_of_instr (Jumps jump.Ju there))) (suc n)
     (omega (arith, long, end, is_at)) (omega (arith, number, is_n)) r.more)
 
 -- the statements from here on are a list up to a label, and so are their ops
@@ -552,14 +552,14 @@ lands c body ret pre s post name all e right label =
         (few_open body there.before there.rest there.whole all.by_31) there.landing
 
 -- the list of a JL is there
-listed : (c : Context) (body : List Statement) (ret : SourceInstruction) (pre : List Statement) (s : Statement)
+list_lands : (c : Context) (body : List Statement) (ret : SourceInstruction) (pre : List Statement) (s : Statement)
     (post : List Statement) (name : List ℕ) (at n : ℕ)
     → body ≡ pre ++ s ∷ post → is_empty_statement s.code ≡ false
     → at ≡ ends_of c body (pre ++ s ∷ []) → n ≡ count_of_statements (pre ++ s ∷ [])
     → HasList body pre s name post
     → leads_to_target 255 (place c body ret (target_in name body)) at
     (code_from c body ret (place c body ret) n post) ≡ true
-listed c body ret pre s post name at n e is is_at is_n has =
+list_lands c body ret pre s post name at n e is is_at is_n has =
     ap (λ (k : ℕ). leads_to_target 255 (place c body ret k) at (code_from c body ret (place c body ret) n post)) target
     ∙ leads_from c body ret name 255 (pre ++ s ∷ []) post at n cut is_at is_n has.leads
   where
@@ -589,10 +589,10 @@ record IsHere (c : Context) (body pre : List Statement) (s : Statement) (post : 
 
 abbrev front_ops : Context → List Statement → SourceInstruction → (n : ℕ) → Statement → List OpData
 front_ops c body ret n s =
-    (aimed_part (place c body ret) (parted (instruction c body n s))).front
+    (aimed_part (place c body ret) (parts_of_instr (instruction c body n s))).front
 
 abbrev end_of : Context → List Statement → SourceInstruction → (n : ℕ) → Statement → OpData
-end_of c body ret n s = (aimed_part (place c body ret) (parted (instruction c body n s))).end
+end_of c body ret n s = (aimed_part (place c body ret) (parts_of_instr (instruction c body n s))).end
 
 abbrev placed_end : Context → List Statement → SourceInstruction → Statement → List Statement → (at n : ℕ)
     → List OpenBracket → (zones : List ℕ) → List OpData → PlacedOp
@@ -612,7 +612,7 @@ ends_here : (c : Context) (body : List Statement) (ret : SourceInstruction) (pre
     → at + total (front_ops c body ret n s) + size_of_op (end_of c body ret n s) ≡ ends_of c body (pre ++ s ∷ [])
 ends_here c body ret pre s post at n bs zones h =
     let end = ends_more c body pre n s h.full h.stands.is_n in
-    let long = aimed_bytes (place c body ret) (parted (instruction c body n s)) in
+    let long = aimed_bytes (place c body ret) (parts_of_instr (instruction c body n s)) in
     let here = h.stands.is_at in
     omega (arith, end, long, here)
 
@@ -636,7 +636,7 @@ jump_lands c body ret pre s post at n bs zones done all h how is =
     ∙ jump_right ss p (jump_number how) target (codes_of_source_brackets (brackets_behind_all [] pre))
     (length (zones_behind_all [] pre))
     (list_right how p target (λ jl.
-    listed c body ret pre s post name (p.at + size_of_op p.op) (suc n) h.whole h.full
+    list_lands c body ret pre s post name (p.at + size_of_op p.op) (suc n) h.whole h.full
     (ends_here c body ret pre s post at n bs zones h) (omega (arith, number, same))
     (has_list body pre s name post h.right (jl_code s.code (is ∙ ap (λ (j : JumpOperation). Some j) jl)) label.1)))
     (few_is bs ∙ ap few_codes h.stands.codes) h.stands.count
@@ -755,7 +755,7 @@ next_lands c body ret pre s post at n bs zones all e h takes right more true is 
 next_lands c body ret pre s post at n bs zones all e h takes right more false is =
     placed_all (LandsRight (statement_spots (the_code f (whole c body ret)))) at bs zones [] front op
     (code_from c body ret f (suc n) post) (part_quiet f i)
-    (aimed_is f (parted i) (is_statement i)).front (aimed_is f (parted i) (is_statement i)).end
+    (aimed_is f (parts_of_instr i) (is_statement i)).front (aimed_is f (parts_of_instr i) (is_statement i)).end
     (quiet_lands (statement_spots (the_code f (whole c body ret))))
     (λ done. last_lands c body ret pre s post at n bs zones done all here)
     (more (from + size_of_op op) (suc n) (brackets_after from op.code bs) (zones_past from op.code zones)
@@ -828,7 +828,7 @@ all_closed c body line f all =
     none_left (open_behind 0 [] (the_code f (whole c body (returning_at line))))
     (open_after 0 [] (aimed_parts f (parts (whole c body (returning_at line))))
     (parts_quiet f (whole c body (returning_at line)))
-    ∙ ap (λ (z : List Parted). codes_after z []) (whole_parts c body line f)
+    ∙ ap (λ (z : List InstrParts). codes_after z []) (whole_parts c body line f)
     ∙ codes_more (aimed_parts f (parts (stated_from c body 0 body)))
     (aimed_parts f (parts (returning_at line ∷ []))) []
     ∙ stated_codes f c body 0 [] body all.takes
@@ -840,7 +840,7 @@ zones_closed c body line f all =
     no_zones (zones_left 0 [] (the_code f (whole c body (returning_at line))))
     (left_after 0 [] (aimed_parts f (parts (whole c body (returning_at line))))
     (parts_quiet f (whole c body (returning_at line)))
-    ∙ ap (λ (z : List Parted). count_after z 0) (whole_parts c body line f)
+    ∙ ap (λ (z : List InstrParts). count_after z 0) (whole_parts c body line f)
     ∙ counts_more (aimed_parts f (parts (stated_from c body 0 body)))
     (aimed_parts f (parts (returning_at line ∷ []))) 0
     ∙ stated_zones f c body 0 [] body all.takes

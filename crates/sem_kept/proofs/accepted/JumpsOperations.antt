@@ -42,7 +42,7 @@ use Rattle.stl_codegen.specs.Instruction.{call_instr, end_instr, instr_by, instr
 use Rattle.stl_codegen.specs.Operations.{call_operation_of, end_operation_of, jump_operation_of}
 use Rattle.sem_kept.specs.Back.{is_target}
 use Rattle.sem_kept.proofs.compiled.Instructions.{no_target}
-use Rattle.sem_kept.proofs.compiled.Reading.{parted}
+use Rattle.sem_kept.proofs.compiled.Reading.{parts_of_instr}
 use Rattle.sem_kept.proofs.accepted.OperandsOperations.{IsCodeBy, IsCodeOf, IsOtherCode, IsZoneCodeBy, operation_is}
 use Rattle.sem_kept.proofs.accepted.JumpsCode.{IsQuiet}
 use Rattle.flat_code.proofs.BracketLemmas.{codes_behind, codes_fault, count_behind, count_ended, count_fault, count_opened}
@@ -116,7 +116,7 @@ end_code _ = ((refl, refl), (refl, refl))
 -- ---- the last op of a statement
 
 abbrev pub last_op_of_instr : Instr → OpData
-last_op_of_instr i = (parted i).end
+last_op_of_instr i = (parts_of_instr i).end
 
 -- what is known of the last op of a statement that doesn't jump
 record IsLast (m : Mnemonic) (op : OpData) : Type 0 where
@@ -329,7 +329,7 @@ opening_quiet None = tt
 opening_quiet (Some number) =
     (record { opens = refl; closes = refl; opens_zone = refl; ends_zone = refl; stays = refl }, tt)
 
-pub front_quiet : (i : Instr) → AllByRecursion IsQuiet (parted i).front
+pub front_quiet : (i : Instr) → AllByRecursion IsQuiet (parts_of_instr i).front
 front_quiet (Does use_db w o) = opening_quiet use_db
 front_quiet (Calls how block instance passings) = passing_quiet passings
 front_quiet _ = tt

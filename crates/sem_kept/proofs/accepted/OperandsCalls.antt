@@ -145,8 +145,8 @@ module _ (a : Environment) (c : Context) (formals : List Formal) (actuals : List
 
 -- ---- what is supplied
 
-swapped : (xs ys : List ℕ) → bytes_eq xs ys ≡ true → bytes_eq ys xs ≡ true
-swapped xs ys e = ap (λ (zs : List ℕ). bytes_eq zs xs) (sym (same_bytes xs ys e)) ∙ bytes_itself xs
+bytes_eq_back : (xs ys : List ℕ) → bytes_eq xs ys ≡ true → bytes_eq ys xs ≡ true
+bytes_eq_back xs ys e = ap (λ (zs : List ℕ). bytes_eq zs xs) (sym (same_bytes xs ys e)) ∙ bytes_itself xs
 
 supplied_there : (actuals : List Actual) (f : Formal)
     → is_some (name_place f.name (map (λ (x : Actual). upper_case_name x.name) actuals)) ≡ true
@@ -165,7 +165,7 @@ supplied_there (z ∷ zs) f e =
         → (x : Actual) × ((if s then Some z else find (λ x. bytes_eq (upper_case_name x.name) f.name) zs) ≡ Some x)
     by true t g h e more = (z, refl)
     by false true g h e more =
-        let other : bytes_eq (upper_case_name z.name) f.name ≡ true = swapped f.name (upper_case_name z.name) h in
+        let other : bytes_eq (upper_case_name z.name) f.name ≡ true = bytes_eq_back f.name (upper_case_name z.name) h in
         absurd cc
     by false false g h e more =
         more (some_suc (name_place f.name (map (λ (x : Actual). upper_case_name x.name) zs)) e)

@@ -32,7 +32,7 @@ use Rattle.stl_codegen.specs.Operands.{flat_operand_of}
 use Rattle.stl_codegen.specs.Operations.{call_operation_of, end_operation_of, jump_operation_of, operation_for}
 use Rattle.sem_kept.specs.Operands.{InstrFits, IsOperandRightFor}
 use Rattle.sem_kept.proofs.accepted.OperandsViews.{ResolvesRight}
-use Rattle.sem_kept.proofs.accepted.OperandsOperations.{IsRightOperand, allowed, opened_fits, operand_fits, operation_is}
+use Rattle.sem_kept.proofs.accepted.OperandsOperations.{IsRightOperand, taken_by_rule, opened_fits, operand_fits, operation_is}
 
 jump_fits : (a : Environment) (lens : List (ℕ × ℕ)) (how : JumpOperation) (n target : ℕ)
     → InstrFits a lens (jump_instr how n target)
@@ -74,7 +74,7 @@ right_for : (a : Environment) (c : Context) (m : Mnemonic) (o : Operand) (v : Re
 right_for a c m (operand.Constant value) v e h fits =
     subst (λ (w : ResolvedOperand). IsOperandRightFor a (op_with_end_mark (operation_for m (operand.Constant value) w) (flat_operand_of (operand.Constant value) w)) (flat_operand_of (operand.Constant value) w))
     (sees_same resolved.Constant v (sym (constant_seen c value) ∙ e)) (constant_right a m value)
-right_for a c m o v e h fits = operand_fits a m o v (allowed (form_of m) v (seen_rule c (form_of m) o v e h)) fits
+right_for a c m o v e h fits = operand_fits a m o v (taken_by_rule (form_of m) v (seen_rule c (form_of m) o v e h)) fits
 
 does_fits : (a : Environment) (lens : List (ℕ × ℕ)) (c : Context) (s : Statement) (v : ResolvedOperand)
     → resolution_of c s.operand ≡ Resolved v → statement_rule c s ≡ None → IsRightOperand a v
@@ -110,7 +110,7 @@ pub instr_fits : (a : Environment) (lens : List (ℕ × ℕ)) (c : Context) (bod
     → (is_call s.code ≡ false → ResolvesRight a (resolution_of c s.operand)) → CallFits a lens c s
     → InstrFits a lens (instruction c body n s)
 unfolding instruction
-instr_fits a lens c body n s allowed seen_fits calls = by (jump_operation_of s.code)
+instr_fits a lens c body n s taken_by_rule seen_fits calls = by (jump_operation_of s.code)
   where
     called : (how : CallOperation) → call_operation_of s.code ≡ Some how → (x : Resolution) → resolution_of c s.operand ≡ x
         → InstrFits a lens (resolved_instr c s (resolved_view x))
@@ -121,9 +121,9 @@ instr_fits a lens c body n s allowed seen_fits calls = by (jump_operation_of s.c
         → InstrFits a lens (resolved_instr c s (resolved_view (resolution_of c s.operand)))
     whether None is =
         let found : ResolvesRight a (resolution_of c s.operand) = seen_fits (no_call s.code is) in
-        rw (found.is, is) (does_fits a lens c s found.view found.is allowed found.fits (end_operation_of s.code))
+        rw (found.is, is) (does_fits a lens c s found.view found.is taken_by_rule found.fits (end_operation_of s.code))
     whether (Some how) is = called how is (resolution_of c s.operand) refl
 
     by : (o : Option JumpOperation) → InstrFits a lens (instr_by c body n s o)
     by (Some how) = jump_fits a lens how n (target_of body s.operand)
-    by None = rw (resolved_is c s allowed) (whether (call_operation_of s.code) refl)
+    by None = rw (resolved_is c s taken_by_rule) (whether (call_operation_of s.code) refl)

@@ -65,9 +65,9 @@ rule_by composite a b c d e =
     else if e then Some 39
     else None
 
-pub allowed : (f : OperandRule) (v : ResolvedOperand) → rule_of_resolved_operand f v ≡ None → IsTakenBy f v
+pub taken_by_rule : (f : OperandRule) (v : ResolvedOperand) → rule_of_resolved_operand f v ≡ None → IsTakenBy f v
 unfolding rule_of_resolved_operand
-allowed f v e =
+taken_by_rule f v e =
     let all = chosen (composite_rule f v) (is_composite v) (takes_operand f v) (has_width f (width_in v))
     (is_on_wrong_side f v) (form_writes_operand f && is_input v) e in
     record { single = all.0; taken = all.1; wide = all.2; side = all.3; unwritten = all.4 }

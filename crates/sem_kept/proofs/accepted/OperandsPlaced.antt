@@ -38,8 +38,8 @@ ends_here : (op : OpData) (rest : List OpData) → op.last ≡ true → ending_o
 ends_here op [] e = refl
 ends_here op (next ∷ ops) e = rw e refl
 
-marked : (w : Operation) (o : Operand) → prepares_statement (op_code_of w) ≡ false → mark_fault (op_with_end_mark w o) ≡ None
-marked w o e = rw e refl
+no_mark_fault : (w : Operation) (o : Operand) → prepares_statement (op_code_of w) ≡ false → mark_fault (op_with_end_mark w o) ≡ None
+no_mark_fault w o e = rw e refl
 
 -- an operand that isn't a jump's stays as it is
 aimed_still : (f : ℕ → ℕ) (a : Environment) (op : OpData) (o : Operand) → IsOperandRightFor a op o
@@ -128,7 +128,7 @@ module _ (a : Environment) (lens : List (ℕ × ℕ)) (ss : List StatementSpot) 
   does_fine at brackets zones before w o rest own right behind =
       let p = placed_op at brackets zones before (op_with_end_mark w o) rest in
       last_fine at brackets zones before (op_with_end_mark w o) rest refl
-      (record { operand = λ still. right_operand a ss p o right; call = right_call a lens p o right; mark = marked w o own })
+      (record { operand = λ still. right_operand a ss p o right; call = right_call a lens p o right; mark = no_mark_fault w o own })
       behind
 
   use_db_fine : (at number : ℕ) (brackets : List OpenBracket) (zones : List ℕ) (w : Operation) (o : Operand)

@@ -722,9 +722,9 @@ pub layout_shape : (symbols : List Symbol) (t : Tree) (p : ℕ) (b : Block) (l :
 unfolding block_layout
 layout_shape symbols t p b l h = ap (λ (z : BlockLayout). z.shape) h.layout
 
-pub structured : (symbols : List Symbol) (t : Tree) → IsSoundTree symbols t → (p : ℕ)
+pub structure_known : (symbols : List Symbol) (t : Tree) → IsSoundTree symbols t → (p : ℕ)
     → IsThere symbols t is_data_block p → IsStructured symbols t p
-structured symbols t tree p d = by (shape_of y d.block) refl
+structure_known symbols t tree p d = by (shape_of y d.block) refl
   where
     y : Types
     y = types_of_source symbols t.blocks
@@ -800,7 +800,7 @@ data_seen symbols t tree k a name steps there known stays =
     d = data_there symbols t tree k name there
 
     s : IsStructured symbols t d.place
-    s = structured symbols t tree d.place d.block
+    s = structure_known symbols t tree d.place d.block
 
     limit : ℕ
     limit = structure_bits (cells_at ls s.inside false)

@@ -47,7 +47,7 @@ use Rattle.stl_codegen.specs.Order.{is_code_before, is_data_before, is_id_before
 use Rattle.sem_kept.specs.Records.{HasFaultlessCode}
 use Rattle.sem_kept.specs.Settled.{context_at}
 use Rattle.sem_kept.proofs.accepted.Accepted.{AllLaid, IsSoundBlock, IsSoundTree}
-use Rattle.sem_kept.proofs.accepted.RecordData.{got, id_there, length_there, types_symbols}
+use Rattle.sem_kept.proofs.accepted.RecordData.{holds_at, id_there, length_there, types_symbols}
 use Rattle.sem_kept.proofs.accepted.RecordOrder.{AreApart, Differ, Rise, rise_sorted}
 use Rattle.sem_kept.proofs.accepted.RecordParams.{HasParams, params_right}
 use Rattle.block_layout.proofs.BlockLemmas.{kind_there}
@@ -349,7 +349,7 @@ fields_of last symbols t rise k b l id h named code =
       start = λ e. let least = local_start (types_of_source symbols t.blocks) b (kind ∙ ob_kind id.kind code e) in omega (arith, local, least);
       instance = instance_right symbols t k b l id.kind h kind code;
       lines = lines_stated last (context_at symbols t k) b
-          (some_holds (slice_get t.blocks k) b (λ x. AreRisingLines last 1 (statement_lines_of x)) h.block_there (got (λ x. AreRisingLines last 1 (statement_lines_of x)) t.blocks k rise));
+          (some_holds (slice_get t.blocks k) b (λ x. AreRisingLines last 1 (statement_lines_of x)) h.block_there (holds_at (λ x. AreRisingLines last 1 (statement_lines_of x)) t.blocks k rise));
     }
 
 -- the fields one by one
@@ -469,9 +469,9 @@ marks_there x =
 -- ---- a whole record
 
 -- as many values as there are
-pub counted : {S A : Type 0} (l : S → Layout A) (next : S → A → S) (s : S) (xs : List A) → good_many l next s (length xs) xs ≡ all_good l next s xs
-counted l next s [] = refl
-counted l next s (x ∷ xs) = ap (λ (t : Bool). (l s).good x && t) (counted l next (next s x) xs)
+pub all_counted_by : {S A : Type 0} (l : S → Layout A) (next : S → A → S) (s : S) (xs : List A) → good_many l next s (length xs) xs ≡ all_good l next s xs
+all_counted_by l next s [] = refl
+all_counted_by l next s (x ∷ xs) = ap (λ (t : Bool). (l s).good x && t) (all_counted_by l next (next s x) xs)
 
 nothing_stops : (with_code_faults : Bool) (ops : List OpData) → code_fault ops ≡ None → stop_at with_code_faults ops [] ≡ None
 nothing_stops true ops h = h
@@ -493,10 +493,10 @@ block_good : (last : ℕ) (with_code_faults : Bool) (before : ℕ × ℕ) (b : C
 unfolding block_layout_of plain_block block_rows code_and_lines parameters_layout lines_layout
 block_good last with_code_faults before b near h c marks low rises =
     and_from _ _ (head_good last before b h c low rises)
-    (and_from _ _ (counted (λ s. parameter_layout (kind_number b.id.kind) b.instance_len) same_state 0 (map record_of_param b.params) ∙ h.params.good)
+    (and_from _ _ (all_counted_by (λ s. parameter_layout (kind_number b.id.kind) b.instance_len) same_state 0 (map record_of_param b.params) ∙ h.params.good)
     (and_from _ _ (code_good with_code_faults b.code c.ops c.ends)
     (and_from _ _ (marks_good with_code_faults (end_marks b.code) (length b.lines) marks)
-    (counted (line_field with_code_faults) line_after 0 b.lines ∙ lines_good with_code_faults last 0 1 b.lines near (omega arith) (omega arith) h.lines))))
+    (all_counted_by (line_field with_code_faults) line_after 0 b.lines ∙ lines_good with_code_faults last 0 1 b.lines near (omega arith) (omega arith) h.lines))))
 
 -- ---- all of them
 

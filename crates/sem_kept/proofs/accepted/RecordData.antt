@@ -121,10 +121,10 @@ types_symbols symbols blocks = refl
 abbrev HasNumberInLimits : BlockLayout → Type 0
 HasNumberInLimits l = is_number_beyond_limits l.id ≡ false
 
-pub got : {A : Type 0} (P : A → Type 0) (xs : List A) (i : ℕ) → AllByRecursion P xs → IfSome (slice_get xs i) P
-got P [] i h = tt
-got P (x ∷ xs) zero h = h.0
-got P (x ∷ xs) (suc i) h = got P xs i h.1
+pub holds_at : {A : Type 0} (P : A → Type 0) (xs : List A) (i : ℕ) → AllByRecursion P xs → IfSome (slice_get xs i) P
+holds_at P [] i h = tt
+holds_at P (x ∷ xs) zero h = h.0
+holds_at P (x ∷ xs) (suc i) h = holds_at P xs i h.1
 
 number_within : (id : BlockId) → is_function_block id.kind ≡ true → is_number_beyond_limits (Some id) ≡ false → id.number ≤ 2047
 number_within id fb within = by id.kind fb within
@@ -148,7 +148,7 @@ function_number (Some id) within = by (is_function_block id.kind) refl
 instance_within : (layouts : List BlockLayout) (s : Shape) → AllByRecursion HasNumberInLimits layouts → number_of_instance (instance_in layouts s) ≤ 2048
 instance_within layouts shape.Own h = omega arith
 instance_within layouts shape.Unknown h = omega arith
-instance_within layouts (shape.Of block) h = by (slice_get layouts block) (got HasNumberInLimits layouts block h)
+instance_within layouts (shape.Of block) h = by (slice_get layouts block) (holds_at HasNumberInLimits layouts block h)
   where
     by : (o : Option BlockLayout) → IfSome o HasNumberInLimits → number_of_instance (option_and_then (λ l. function_block_number l.id) o) ≤ 2048
     by None k = omega arith

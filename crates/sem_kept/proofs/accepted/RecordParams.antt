@@ -710,10 +710,10 @@ placed_params instance all (c ∷ cs) short placed =
 
 -- ---- the order in an image
 
-reordered : {A : Type 0} (P : A → Type 0) (r : Option Simple) (xs : List A) → AllByRecursion P xs → AllByRecursion P (return_last r xs)
-reordered P None xs h = h
-reordered P (Some k) [] h = tt
-reordered P (Some k) (x ∷ xs) h = all_append P xs (x ∷ []) h.1 (h.0, tt)
+all_in_return_order : {A : Type 0} (P : A → Type 0) (r : Option Simple) (xs : List A) → AllByRecursion P xs → AllByRecursion P (return_last r xs)
+all_in_return_order P None xs h = h
+all_in_return_order P (Some k) [] h = tt
+all_in_return_order P (Some k) (x ∷ xs) h = all_append P xs (x ∷ []) h.1 (h.0, tt)
 
 reordered_length : {A : Type 0} (r : Option Simple) (xs : List A) → length (return_last r xs) ≡ length xs
 reordered_length None xs = refl
@@ -805,7 +805,7 @@ instance_params symbols t k b l h kind =
     let placed = parameters_placed (look_in cells) (structure_bits cells / 8) 0 0 [] cells (omega arith) end.0 end.1 (λ n out. refl) once all in
     let instance = is_instance kind in
     subst (λ (t : Bool). AllByRecursion (IsGoodParam (kind_number kinds.Fb) l.length) (return_last b.result (flat_map (λ c. param_here t l.components c) l.components))) (sym instance)
-    (reordered (IsGoodParam (kind_number kinds.Fb) l.length) b.result (flat_map (λ c. param_here true l.components c) l.components)
+    (all_in_return_order (IsGoodParam (kind_number kinds.Fb) l.length) b.result (flat_map (λ c. param_here true l.components c) l.components)
     (subst (λ (cs : List Cell). AllByRecursion (IsGoodParam (kind_number kinds.Fb) l.length) (flat_map (λ c. param_here true cs c) cs)) (sym are)
     (subst (λ (n : ℕ). AllByRecursion (IsGoodParam (kind_number kinds.Fb) n) (flat_map (λ c. param_here true cells c) cells)) (sym len)
     (placed_params (structure_bits cells / 8) cells cells (subst (λ (n : ℕ). n ≤ 16384) len short) placed))))
@@ -824,7 +824,7 @@ other_params : (kind instance : ℕ) (b : Block) (l : BlockLayout) → eqb kind 
 unfolding params_of
 other_params kind instance b l other h =
     subst (λ (t : Bool). AllByRecursion (IsGoodParam kind instance) (return_last b.result (flat_map (λ c. param_here t l.components c) l.components))) (sym h)
-    (reordered (IsGoodParam kind instance) b.result (flat_map (λ c. param_here false l.components c) l.components)
+    (all_in_return_order (IsGoodParam kind instance) b.result (flat_map (λ c. param_here false l.components c) l.components)
     (plain_params kind instance l.components l.components other))
 
 pub params_right : (symbols : List Symbol) (t : Tree) (k : ℕ) (b : Block) (l : BlockLayout) (kind : BlockKind) → IsSoundBlock symbols t k b l

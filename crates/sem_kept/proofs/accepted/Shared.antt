@@ -32,7 +32,7 @@ use Rattle.stl_types.specs.declared.views.ResolvedOperand.TheVariants as resolve
 use Rattle.stl_codegen.specs.Generated.{stated_from}
 use Rattle.stl_codegen.specs.Instruction.{instruction}
 use Rattle.stl_codegen.specs.Operations.{call_operation_of, jump_operation_of}
-use Rattle.sem_kept.proofs.accepted.OperandsOperations.{allowed}
+use Rattle.sem_kept.proofs.accepted.OperandsOperations.{taken_by_rule}
 
 -- ---- statements
 
@@ -110,7 +110,7 @@ no_call_constant value = refl
 -- what is called can be
 pub calls_called : (v : ResolvedOperand) → rule_of_resolved_operand operand_rules.Calls v ≡ None → is_operand_of_call v ≡ true
 unfolding takes_operand
-calls_called v e = (allowed operand_rules.Calls v e).taken
+calls_called v e = (taken_by_rule operand_rules.Calls v e).taken
 
 pub callable_by : (id : BlockId) (instance : Option ℕ) → is_operand_of_call (resolved.Called id instance) ≡ true
     → is_callable id.kind ≡ true

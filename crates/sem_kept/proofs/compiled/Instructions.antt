@@ -75,13 +75,13 @@ no_target o _ = refl
 
 -- ---- what is called
 
--- what is taken is seen, and breaks no rule
-taken : (r : Option ℕ) (x : Resolution) (v : ResolvedOperand)
+-- what is resolved_by_rule is seen, and breaks no rule
+resolved_by_rule : (r : Option ℕ) (x : Resolution) (v : ResolvedOperand)
     → (if is_none r then resolved_view x else None) ≡ Some v → (r ≡ None) × (x ≡ Resolved v)
-taken None (Resolved w) v e = (refl, cc)
-taken None Unknown v e = absurd cc
-taken None Unjudged v e = absurd cc
-taken (Some rule) x v e = absurd cc
+resolved_by_rule None (Resolved w) v e = (refl, cc)
+resolved_by_rule None Unknown v e = absurd cc
+resolved_by_rule None Unjudged v e = absurd cc
+resolved_by_rule (Some rule) x v e = absurd cc
 
 -- an operand that names a called block breaks the rule of what it names
 rule_none : (c : Context) (f : OperandRule) (o : Operand) (id : BlockId) (i : Option ℕ)
@@ -252,7 +252,7 @@ called_made : (c : Context) (n : ℕ) (s : Statement) (how : CallOperation) (v :
     → resolved_operand c s ≡ Some v → call_operation_of s.code ≡ Some how → IsMade n (call_instr c s how v)
 unfolding resolved_operand
 called_made c n s how (resolved.Called id i) is e =
-    let t = taken (statement_rule c s) (resolution_of c s.operand) (resolved.Called id i) is in
+    let t = resolved_by_rule (statement_rule c s) (resolution_of c s.operand) (resolved.Called id i) is in
     let rule : rule_of_resolved_operand (form_of s.code) (resolved.Called id i) ≡ None =
     rule_none c (form_of s.code) s.operand id i t.0 t.1 in
     let calls_form : form_of s.code ≡ operand_rules.Calls = call_form s.code how e in (
