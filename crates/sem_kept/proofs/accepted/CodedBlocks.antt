@@ -10,19 +10,16 @@ use Rattle.flat_code.specs.Forms.{passed_coding, direct_coding}
 use Rattle.flat_code.specs.Instr.{Returns}
 use Rattle.flat_code.specs.Ops.{OpData, is_op, op_bytes}
 use Rattle.flat_code.specs.declared.operands.Operand.{Operand as FlatOperand}
-use Rattle.flat_code.specs.declared.operations.EndOperation.TheVariants as end
 use Rattle.stl_codegen.specs.Compiled.{SourceInstruction, StatedBlock, operand_with_target, op_with_target, compiled_block, offset_from, offset_of_statement, ops_in, placed_ops}
 use Rattle.stl_codegen.specs.Emitted.{ops_of}
+use Rattle.sem_kept.proofs.compiled.Reading.{return_at}
+use Rattle.sem_kept.proofs.compiled.Runs.{total, total_append}
 use Rattle.sem_kept.proofs.accepted.Accepted.{all_mapped}
 use Rattle.sem_kept.proofs.accepted.CodedOps.{IsOpAtAnyTarget, IsGoodPart, IsGoodStatement}
 use Rattle.sem_kept.specs.Coded.{IsBlockCoded}
 
 abbrev pub AreGood : List SourceInstruction → Type 0
 AreGood ss = AllByRecursion (λ s. IsGoodStatement (ops_of s.instr)) ss
-
--- the last statement of a block returns
-abbrev pub returning_at : ℕ → SourceInstruction
-returning_at line = record { instr = Returns end.Be; line = line }
 
 -- ---- each is an op
 
@@ -96,11 +93,11 @@ ends_behind (x ∷ []) (y ∷ ys) h = h
 ends_behind (x ∷ z ∷ xs) ys h = ends_behind (z ∷ xs) ys h
 
 ends_right : (f : ℕ → ℕ) (ss : List SourceInstruction) (line : ℕ)
-    → ends_by_be (map (op_with_target f) (ops_in (ss ++ returning_at line ∷ []))) ≡ true
+    → ends_by_be (map (op_with_target f) (ops_in (ss ++ return_at line ∷ []))) ≡ true
 unfolding ops_of
 ends_right f [] line = refl
 ends_right f (s ∷ ss) line =
-    let behind = ops_in (ss ++ returning_at line ∷ []) in
+    let behind = ops_in (ss ++ return_at line ∷ []) in
     subst (λ (l : List OpData). ends_by_be l ≡ true)
     (sym (map-append (op_with_target f) (ops_of s.instr) behind))
     (ends_behind (map (op_with_target f) (ops_of s.instr)) (map (op_with_target f) behind)
@@ -110,15 +107,6 @@ no_fault : (ops : List OpData) → overlong_statement 0 0 ops ≡ None → ends_
 no_fault ops few right = rw (few, right)
 
 -- ---- offsets are small
-
--- how many bytes ops take
-abbrev total : List OpData → ℕ
-total [] = 0
-total (op ∷ ops) = size_of_op op + total ops
-
-total_append : (xs ys : List OpData) → total (xs ++ ys) ≡ total xs + total ys
-total_append [] ys = omega arith
-total_append (x ∷ xs) ys = omega (arith, total_append xs ys)
 
 offset_within : (at : ℕ) (begins : Bool) (ops : List OpData) (n : ℕ)
     → offset_from at begins ops n ≤ at + total ops
@@ -156,7 +144,7 @@ offsets_small ss h few n = omega (arith, offset_within 0 true (ops_in ss) n, sta
 -- ---- THE CODE OF A BLOCK
 
 pub block_coded : (b : StatedBlock) (inner : List SourceInstruction) (line : ℕ)
-    → b.statements ≡ inner ++ returning_at line ∷ [] → AreGood b.statements
+    → b.statements ≡ inner ++ return_at line ∷ [] → AreGood b.statements
     → length b.statements ≤ 65535 → IsBlockCoded (compiled_block b)
 unfolding placed_ops
 block_coded b inner line whole good few =

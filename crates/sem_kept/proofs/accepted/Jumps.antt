@@ -15,7 +15,6 @@ use Rattle.flat_code.specs.declared.kinds.JumpOperation.{JumpOperation}
 use Rattle.flat_code.specs.declared.kinds.JumpOperation.TheVariants as jump
 use Rattle.flat_code.specs.declared.operands.Operand.{Operand as FlatOperand}
 use Rattle.flat_code.specs.declared.operands.Operand.TheVariants as flat
-use Rattle.flat_code.specs.declared.operations.EndOperation.TheVariants as ends
 use Rattle.flat_code.specs.OpCodes.{op_code_of}
 use Rattle.flat_code.specs.declared.operations.Operation.TheVariants as operation
 use Rattle.plc_base.specs.declared.instructions.Check.TheVariants as check
@@ -42,7 +41,7 @@ use Rattle.stl_codegen.specs.Generated.{stated_from, statements_of}
 use Rattle.stl_codegen.specs.Instruction.{count_of_statement, instr_by, instruction, target_in, target_of}
 use Rattle.stl_codegen.specs.Operations.{jump_operation_of}
 use Rattle.sem_kept.specs.Back.{is_target}
-use Rattle.sem_kept.proofs.compiled.Reading.{aimed_append, aimed_are, aimed_bytes, aimed_extent, aimed_is, aimed_part, aimed_parts, ends_append, ends_at, is_statement, parts_of_instr, parts, parts_append, parts_are, position, position_is, the_code, the_code_is}
+use Rattle.sem_kept.proofs.compiled.Reading.{aimed_append, aimed_are, aimed_bytes, aimed_extent, aimed_is, aimed_part, aimed_parts, ends_append, ends_at, is_statement, parts_of_instr, parts, parts_append, parts_are, position, position_is, the_code, the_code_is, ops_with, return_at}
 use Rattle.sem_kept.proofs.compiled.Runs.{InstrParts, bytes_of, flat as flat_parts, size_aimed, total}
 use Rattle.sem_kept.specs.Jumps.{AllLandRight, LandsRight, jump_fault_of}
 use Rattle.plc_base.proofs.TruthLemmas.{or_met_behind}
@@ -372,9 +371,6 @@ spot_of c body ret f pre rest e takes =
     (spot_behind f (stated_from c body 0 pre) h.first h.rest)
 
 -- ---- the list of a JL
-
-abbrev ops_with : (ℕ → ℕ) → Instr → List OpData → List OpData
-ops_with f i rest = (aimed_part f (parts_of_instr i)).front ++ (aimed_part f (parts_of_instr i)).end ∷ rest
 
 ju_instruction : (c : Context) (body : List Statement) (n : ℕ) (s : Statement)
     → is_unconditional_jump s.code ≡ true
@@ -785,19 +781,16 @@ next_lands c body ret pre s post at n bs zones all e h takes right more false is
       right = right;
     }
 
-abbrev returning_at : ℕ → SourceInstruction
-returning_at line = record { instr = Returns ends.Be; line = line }
-
 body_lands : (c : Context) (body : List Statement) (line : ℕ) (pre post : List Statement) (at n : ℕ)
     (bs : List OpenBracket) (zones : List ℕ) → IsRightBody body
     → body ≡ pre ++ post → IsPlaceInCode c body pre at n bs zones
     → AllByRecursion TakesRight post → AreRightFrom body pre post
-    → AllLand c body (returning_at line) at bs zones
-    (code_from c body (returning_at line) (place c body (returning_at line)) n post)
+    → AllLand c body (return_at line) at bs zones
+    (code_from c body (return_at line) (place c body (return_at line)) n post)
 body_lands c body line pre [] at n bs zones all e h takes right =
     (record { jump = refl; brackets = refl; zones = refl }, tt)
 body_lands c body line pre (s ∷ post) at n bs zones all e h takes right =
-    next_lands c body (returning_at line) pre s post at n bs zones all e h takes.0 right.0
+    next_lands c body (return_at line) pre s post at n bs zones all e h takes.0 right.0
     (λ at n bs zones h.
     body_lands c body line (pre ++ s ∷ []) post at n bs zones all
     (e ∙ sym (append_assoc pre (s ∷ []) post)) h takes.1 right.1)
@@ -815,39 +808,39 @@ all_ended (line ∷ lines) e = absurd cc
 
 -- the parts of a body's statements, and of the one that returns
 whole_parts : (c : Context) (body : List Statement) (line : ℕ) (f : ℕ → ℕ)
-    → aimed_parts f (parts (whole c body (returning_at line)))
+    → aimed_parts f (parts (whole c body (return_at line)))
     ≡ aimed_parts f (parts (stated_from c body 0 body))
-    ++ aimed_parts f (parts (returning_at line ∷ []))
+    ++ aimed_parts f (parts (return_at line ∷ []))
 whole_parts c body line f =
-    ap (aimed_parts f) (parts_append (stated_from c body 0 body) (returning_at line ∷ []))
-    ∙ aimed_append f (parts (stated_from c body 0 body)) (parts (returning_at line ∷ []))
+    ap (aimed_parts f) (parts_append (stated_from c body 0 body) (return_at line ∷ []))
+    ∙ aimed_append f (parts (stated_from c body 0 body)) (parts (return_at line ∷ []))
 
 all_closed : (c : Context) (body : List Statement) (line : ℕ) (f : ℕ → ℕ) → IsRightBody body
-    → open_behind 0 [] (the_code f (whole c body (returning_at line))) ≡ []
+    → open_behind 0 [] (the_code f (whole c body (return_at line))) ≡ []
 all_closed c body line f all =
-    none_left (open_behind 0 [] (the_code f (whole c body (returning_at line))))
-    (open_after 0 [] (aimed_parts f (parts (whole c body (returning_at line))))
-    (parts_quiet f (whole c body (returning_at line)))
+    none_left (open_behind 0 [] (the_code f (whole c body (return_at line))))
+    (open_after 0 [] (aimed_parts f (parts (whole c body (return_at line))))
+    (parts_quiet f (whole c body (return_at line)))
     ∙ ap (λ (z : List InstrParts). codes_after z []) (whole_parts c body line f)
     ∙ codes_more (aimed_parts f (parts (stated_from c body 0 body)))
-    (aimed_parts f (parts (returning_at line ∷ []))) []
+    (aimed_parts f (parts (return_at line ∷ []))) []
     ∙ stated_codes f c body 0 [] body all.takes
     ∙ ap codes_of_source_brackets (none_open (brackets_behind_all [] body) all.by_30))
 
 zones_closed : (c : Context) (body : List Statement) (line : ℕ) (f : ℕ → ℕ) → IsRightBody body
-    → zones_left 0 [] (the_code f (whole c body (returning_at line))) ≡ []
+    → zones_left 0 [] (the_code f (whole c body (return_at line))) ≡ []
 zones_closed c body line f all =
-    no_zones (zones_left 0 [] (the_code f (whole c body (returning_at line))))
-    (left_after 0 [] (aimed_parts f (parts (whole c body (returning_at line))))
-    (parts_quiet f (whole c body (returning_at line)))
+    no_zones (zones_left 0 [] (the_code f (whole c body (return_at line))))
+    (left_after 0 [] (aimed_parts f (parts (whole c body (return_at line))))
+    (parts_quiet f (whole c body (return_at line)))
     ∙ ap (λ (z : List InstrParts). count_after z 0) (whole_parts c body line f)
     ∙ counts_more (aimed_parts f (parts (stated_from c body 0 body)))
-    (aimed_parts f (parts (returning_at line ∷ []))) 0
+    (aimed_parts f (parts (return_at line ∷ []))) 0
     ∙ stated_zones f c body 0 [] body all.takes
     ∙ ap (λ (z : List ℕ). length z) (all_ended (zones_behind_all [] body) all.by_48))
 
 whole_lands : (c : Context) (body : List Statement) (line : ℕ) → IsRightBody body
-    → AllLandRight (the_code (place c body (returning_at line)) (whole c body (returning_at line)))
+    → AllLandRight (the_code (place c body (return_at line)) (whole c body (return_at line)))
 whole_lands c body line all = record {
   each = body_lands c body line [] body 0 0 [] [] all refl
       (record { is_at = refl; is_n = refl; codes = refl; count = refl }) all.takes
@@ -860,8 +853,8 @@ whole_lands c body line all = record {
         by_47 = all.by_47;
         by_49 = all.by_49;
       }));
-  closed = all_closed c body line (place c body (returning_at line)) all;
-  ended = zones_closed c body line (place c body (returning_at line)) all;
+  closed = all_closed c body line (place c body (return_at line)) all;
+  ended = zones_closed c body line (place c body (return_at line)) all;
 }
 
 -- the code of a block
@@ -869,5 +862,5 @@ pub lands_right : (c : Context) (b : Block) → IsRightBody b.body
     → AllLandRight (code_in (statements_of c b))
 unfolding statements_of
 lands_right c b all =
-    subst AllLandRight (sym (the_code_is (whole c b.body (returning_at b.end_line))))
+    subst AllLandRight (sym (the_code_is (whole c b.body (return_at b.end_line))))
     (whole_lands c b.body b.end_line all)

@@ -36,6 +36,7 @@ use Rattle.flat_code.proofs.CheckLemmas.{contents_good, zero_word_good}
 use Rattle.stl_codegen.specs.Generated.{generated_data_block, data_block_of, data_blocks_of, each_block, function_block_number, instance_in}
 use Rattle.stl_codegen.specs.Order.{is_data_before}
 use Rattle.block_layout.proofs.HeadLemmas.{AllHeads, heads_none}
+use Rattle.sem_kept.specs.Initial.{writes_of}
 use Rattle.sem_kept.specs.Settled.{context_at}
 use Rattle.sem_kept.proofs.accepted.Accepted.{AllLaid, IsSoundBlock, IsSoundTree, sound_data_blocks}
 use Rattle.sem_kept.proofs.accepted.RecordNames.{IsByte, OfBytes}
@@ -93,9 +94,6 @@ written_bytes bytes (w ∷ ws) h = written_bytes (bytes_with_write bytes w) ws (
 zero_bytes : (n : ℕ) → OfBytes (replicate n 0)
 zero_bytes zero = tt
 zero_bytes (suc n) = (omega arith, zero_bytes n)
-
-abbrev writes_of : List BlockLayout → List Block → ℕ → List Write
-writes_of l blocks block = structure_writes l (structure_of l block) ++ setting_writes l block (settings_at (slice_get blocks block))
 
 initial_are : (l : List BlockLayout) (blocks : List Block) (block : ℕ) → OfBytes (initial_bytes l blocks block)
 unfolding initial_bytes

@@ -22,6 +22,7 @@ use Rattle.flat_code.specs.declared.operations.Operation.{Operation}
 use Rattle.flat_code.specs.declared.operations.Operation.TheVariants as operation
 use Rattle.machine.specs.Flat.{OpRun, op_run_at, with_op, most_ops_of_statement, use_db_of, passings_of, list_of, most_listed, instance_named, instr_of, fetched_of, statement_fetched}
 use Rattle.stl_codegen.specs.Emitted.{ops_of, op_with_end_mark, use_db_ops, pass_ops, jump_op, call_op, end_op, instance_number_or_zero}
+use Rattle.flat_code.specs.declared.operations.EndOperation.TheVariants as ends
 use Rattle.stl_codegen.specs.Compiled.{SourceInstruction, ops_in, offset_from, offset_of_statement, operand_with_target, op_with_target, placed_ops, code_in, lines_in}
 use Rattle.stl_codegen.specs.Instruction.{numbers_from}
 use Rattle.machine.specs.Moved.{aimed_instr}
@@ -86,6 +87,14 @@ parts_are (s ∷ ss) = (is_statement s.instr, parts_are ss)
 
 abbrev pub aimed_part : (ℕ → ℕ) → InstrParts → InstrParts
 aimed_part f p = record { front = map (op_with_target f) p.front; end = op_with_target f p.end }
+
+-- the ops of an instruction with offsets as targets, with these ops behind them
+abbrev pub ops_with : (ℕ → ℕ) → Instr → List OpData → List OpData
+ops_with f i rest = (aimed_part f (parts_of_instr i)).front ++ (aimed_part f (parts_of_instr i)).end ∷ rest
+
+-- the last statement of a block, which returns as BE does; line is that of the END clause
+abbrev pub return_at : (line : ℕ) → SourceInstruction
+return_at line = record { instr = Returns ends.Be; line = line }
 
 abbrev pub aimed_parts : (ℕ → ℕ) → List InstrParts → List InstrParts
 aimed_parts f [] = []

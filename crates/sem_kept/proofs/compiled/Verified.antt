@@ -47,7 +47,7 @@ use Rattle.sem_kept.specs.Back.{is_target, is_ju, IsJu, IsList, IsGeneratedInstr
 use Rattle.sem_kept.specs.Statements.{IsCompilable}
 use Rattle.sem_kept.specs.Verified.{VerifiedIsCompilable}
 use Rattle.sem_kept.proofs.compiled.Instructions.{IsMade, instruction_made}
-use Rattle.sem_kept.proofs.compiled.Reading.{parts_of_instr, parts, is_statement, ops_in_parts, parts_append, parts_count, parts_are, aimed_part, aimed_is, the_code, ends_at, ends_append, position, the_code_is}
+use Rattle.sem_kept.proofs.compiled.Reading.{parts_of_instr, parts, is_statement, ops_in_parts, parts_append, parts_count, parts_are, aimed_part, aimed_is, the_code, ends_at, ends_append, position, the_code_is, ops_with, return_at}
 use Rattle.sem_kept.proofs.compiled.Runs.{total, size_aimed, total_aimed, InstrParts, IsPreparing, IsPartedStatement, AreStatements, flat, bytes_of, bytes_long, extent, offset_next}
 
 -- ---- what the source gives
@@ -55,10 +55,6 @@ use Rattle.sem_kept.proofs.compiled.Runs.{total, size_aimed, total_aimed, InstrP
 abbrev AreMade : (n : ℕ) → List SourceInstruction → Type 0
 AreMade n [] = Unit {0}
 AreMade n (s ∷ ss) = IsMade n s.instr × AreMade (suc n) ss
-
--- the last statement of a block returns
-abbrev return_at : ℕ → SourceInstruction
-return_at line = record { instr = Returns ends.Be; line = line }
 
 record IsMadeBlock (b : StatedBlock) : Type 0 where
   inner : List SourceInstruction
@@ -304,9 +300,6 @@ other_jump : (how : JumpOperation) (target : ℕ) → is_ju (Jumps how target) �
     → is_ju_operand (operand.Jump (jump_number how) target) ≡ false
 other_jump jump.Ju target h = absurd cc
 other_jump _ target h = refl
-
-abbrev ops_with : (ℕ → ℕ) → Instr → List OpData → List OpData
-ops_with f i rest = (aimed_part f (parts_of_instr i)).front ++ (aimed_part f (parts_of_instr i)).end ∷ rest
 
 -- a statement that isn't JU ends the list
 list_stops : (f : ℕ → ℕ) (n most target from : ℕ) (i : Instr) (rest : List OpData)
