@@ -3,10 +3,8 @@ use Rattle.std.proofs.Common.{ℕ, ◌≡◌, nat_eq, Bool, true, false, not, �
 use Rattle.std.specs.List.{AllByRecursion}
 use Rattle.std.specs.Option.{option_map, option_and_then}
 use Rattle.std.proofs.lemmas.Bool.{false≢true}
-use Rattle.plc_base.specs.Kinds.{is_data_block, is_function, is_system_function}
+use Rattle.plc_base.specs.Kinds.{is_data_block, is_system_function}
 use Rattle.plc_base.specs.declared.blocks.BlockId.{BlockId}
-use Rattle.plc_base.specs.declared.blocks.BlockKind.{BlockKind}
-use Rattle.plc_base.specs.declared.blocks.BlockKind.TheVariants as kinds
 use Rattle.stl_ast.specs.Literals.{AreBytes}
 use Rattle.stl_ast.specs.Statements.{is_empty_statement}
 use Rattle.stl_ast.specs.declared.blocks.Block.{Block}
@@ -54,7 +52,7 @@ use Rattle.block_layout.proofs.CommonLemmas.{all_there}
 use Rattle.sem_kept.proofs.accepted.OperandsCells.{cells_are, layout_of_block}
 use Rattle.block_layout.proofs.LayoutLemmas.{measured_symbols}
 use Rattle.sem_kept.proofs.accepted.OperandsPlaces.{IsParameterCell, function_components}
-use Rattle.sem_kept.proofs.accepted.OperandsViews.{ids_same}
+use Rattle.sem_kept.proofs.accepted.OperandsViews.{function_kind, ids_same}
 use Rattle.sem_kept.proofs.accepted.Settled.{statements_settle}
 use Rattle.statement_laws.specs.Accepted.{AcceptedOperandsAreNamed, AcceptedStatementsAct, ActsOnItsOperand, CallsNamed, DoesAsWritten, IsNamed, IsNamedStatement, JumpsByList, JumpsToLabel, NamesCalled, is_no_branch}
 use Rattle.statement_laws.specs.Effects.{effect_of_statement}
@@ -74,10 +72,6 @@ use Rattle.statement_laws.proofs.WordLemmas.{HasKnownWord, StatementHasKnownWord
 -- ---- variables
 
 -- the parameters of a function are of elementary type
-
-function_kind : (k : BlockKind) → is_function k ≡ true → k ≡ kinds.Fc
-function_kind kinds.Fc e = refl
-function_kind _ e = absurd (false≢true e)
 
 plain_cell : (cell : Cell) → IsParameterCell cell → is_elementary_component cell ≡ true
 plain_cell cell h =

@@ -29,8 +29,8 @@ use Rattle.statement_laws.specs.Operands as own
 use Rattle.statement_laws.proofs.RuleLemmas.{some_is_not_none}
 use Rattle.statement_laws.proofs.ResolutionLemmas.{about, number_known, resolved_parts, resolved_same, rule_with_constant}
 
--- something is there
-abbrev IsSomeItem : Option NamedItem → Type 0
+-- something is named
+abbrev pub IsSomeItem : Option NamedItem → Type 0
 IsSomeItem o = (x : NamedItem) × (o ≡ Some x)
 
 there : (o : Option NamedItem) → is_some o ≡ true → IsSomeItem o

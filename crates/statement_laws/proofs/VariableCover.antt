@@ -47,12 +47,9 @@ use Rattle.statement_laws.specs.Named.{NamedItem}
 use Rattle.statement_laws.specs.Named as named_as
 use Rattle.statement_laws.specs.Operands.{block_id_of_name, cell_width, component_named, components_of_block, has_result, is_fc, named_by, parameter_named, named_place, place_in_layout, variable_by, variable_named}
 use Rattle.statement_laws.specs.Operands as own
-use Rattle.statement_laws.proofs.CoverLemmas.{has_no_name, name_left}
+use Rattle.statement_laws.proofs.CoverLemmas.{IsSomeItem, has_no_name, name_left}
 use Rattle.statement_laws.proofs.ResolutionLemmas.{block_same, number_known, resolved_parts, resolved_same}
 use Rattle.statement_laws.proofs.VariableLemmas.{function_same, path_in_whole_block}
-
-abbrev IsSomeItem : Option NamedItem → Type 0
-IsSomeItem o = (x : NamedItem) × (o ≡ Some x)
 
 -- ---- what isn't elementary is refused
 

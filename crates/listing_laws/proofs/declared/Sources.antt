@@ -28,7 +28,7 @@ use Rattle.block_layout.specs.declared.cells.Cell.{Cell}
 use Rattle.block_layout.specs.declared.cells.Element.{Element}
 use Rattle.block_layout.specs.declared.cells.Element.TheVariants.{Plain}
 use Rattle.stl_codegen.specs.Generated.{param_at_bits, param_bits, param_here, param_of, section_number}
-use Rattle.sem_kept.proofs.accepted.RecordParams.{AllBefore, AreCellsOnce, IsElementaryDeclaration as IsElementaryDeclared, IsNew, NotIn, before_front, before_rest, outer_levels, parameter_sound, seen_by}
+use Rattle.sem_kept.proofs.accepted.RecordParams.{AllBefore, AreCellsOnce, IsElementary as IsElementaryDeclared, IsNew, NotIn, before_front, before_rest, outer_levels, parameter_sound, seen_by}
 
 -- ---- cells of parameters
 

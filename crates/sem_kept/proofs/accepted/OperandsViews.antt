@@ -313,7 +313,7 @@ code_kind : (k : BlockKind) → is_code k ≡ true → is_function k ≡ false �
 code_kind kinds.Ob e f g = refl
 code_kind _ e f g = absurd cc
 
-function_kind : (k : BlockKind) → is_function k ≡ true → k ≡ kinds.Fc
+pub function_kind : (k : BlockKind) → is_function k ≡ true → k ≡ kinds.Fc
 function_kind kinds.Fc e = refl
 function_kind _ e = absurd cc
 
