@@ -21,21 +21,21 @@ use Rattle.stl_ast.specs.declared.declarations.Declaration.{Declaration}
 use Rattle.stl_ast.specs.declared.declarations.Simple.{Simple}
 use Rattle.block_layout.specs.Around.{Outside, declarations_before_next}
 use Rattle.block_layout.specs.Cells.{cell_of, cells_of, is_temp, layout_element, with_first_cell_opening, section_cells}
-use Rattle.block_layout.specs.Listed.{CellNamesDiffer, IsElementaryDeclaration}
+use Rattle.block_layout.specs.Listed.{CellNamesDiffer, IsElementary}
 use Rattle.block_layout.specs.Offsets.{width_of}
 use Rattle.block_layout.specs.Types.{Types}
 use Rattle.block_layout.specs.declared.cells.Cell.{Cell}
 use Rattle.block_layout.specs.declared.cells.Element.{Element}
 use Rattle.block_layout.specs.declared.cells.Element.TheVariants.{Plain}
 use Rattle.stl_codegen.specs.Generated.{param_at_bits, param_bits, param_here, param_of, section_number}
-use Rattle.sem_kept.proofs.accepted.RecordParams.{AllBefore, AreCellsOnce, IsElementary as IsElementaryDeclared, IsNew, NotIn, before_front, before_rest, outer_levels, parameter_sound, seen_by}
+use Rattle.sem_kept.proofs.accepted.RecordParams.{AllBefore, AreCellsOnce, IsElementaryDeclaration, IsNew, NotIn, before_front, before_rest, outer_levels, parameter_sound, seen_by}
 
 -- ---- cells of parameters
 
 -- the cell of a parameter in a section, the first of it or not
 pub record IsParameterCell (kind : PartKind) (opens : Bool) (c : Cell) : Type 0 where
   pub simple : Simple
-  pub elementary : IsElementaryDeclaration c simple
+  pub elementary : IsElementary c simple
   pub section : c.section ≡ kind
   pub begins : c.opens ≡ opens
 
@@ -45,7 +45,7 @@ AreParameters kind opens [] = Unit {0}
 AreParameters kind opens (c ∷ cs) = IsParameterCell kind opens c × AreParameters kind false cs
 
 parameter_section : (y : Types) (o : Outside) (kind : PartKind) (before ds : List Declaration) → o.depth ≡ 0
-    → AllByRecursion (λ d. (d.level ≡ 0) × IsElementaryDeclared d) ds → AllBefore (IsNew o) before ds
+    → AllByRecursion (λ d. (d.level ≡ 0) × IsElementaryDeclaration d) ds → AllBefore (IsNew o) before ds
     → AreParameters kind false (cells_of y o kind before ds)
 unfolding cell_of
 parameter_section y o kind before [] shallow h new = tt
