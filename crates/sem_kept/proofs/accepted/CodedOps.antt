@@ -336,14 +336,14 @@ view_good c s v fit good some no_jump rule e = by (call_operation_of s.code) ref
 
 record IsResolved (c : Context) (s : Statement) (v : ResolvedOperand) : Type 0 where
   rule : statement_rule c s ≡ None
-  seen : resolution_of c s.operand ≡ Resolved v
+  resolves : resolution_of c s.operand ≡ Resolved v
 
 resolved_parts : (c : Context) (s : Statement) (v : ResolvedOperand) → resolved_operand c s ≡ Some v
     → IsResolved c s v
 unfolding resolved_operand
 resolved_parts c s v e = grind arith
 
--- THE OPS OF A STATEMENT
+-- the ops of a statement are good
 pub statement_good : (c : Context) (body : List Statement) (n : ℕ) (s : Statement) → ContextFits c
     → IsGoodSource c s → is_empty_statement s.code ≡ false
     → IsGoodStatement (ops_of (instruction c body n s))
@@ -354,7 +354,7 @@ statement_good c body n s fit good some = by (jump_operation_of s.code) refl
         → IsGoodStatement (ops_of (resolved_instr c s v))
     resolves None no_jump e = filler_good
     resolves (Some v) no_jump e =
-        let r = resolved_parts c s v e in view_good c s v fit good some no_jump r.rule r.seen
+        let r = resolved_parts c s v e in view_good c s v fit good some no_jump r.rule r.resolves
 
     by : (how : Option JumpOperation) → jump_operation_of s.code ≡ how
         → IsGoodStatement (ops_of (instr_by c body n s how))

@@ -196,7 +196,7 @@ record IsCall (c : Context) (name : BlockName) (inst : Option BlockName) (id : B
   named : named_block c.symbols name ≡ Some id
   whole : is_system_function id.kind ≡ false → (p : ℕ) × (whole_place c id ≡ Some p)
   with_instance : IsNumberOfInstance c inst instance
-  seen : resolution_of c (operand.Called name inst) ≡ Resolved (resolved.Called id instance)
+  resolves : resolution_of c (operand.Called name inst) ≡ Resolved (resolved.Called id instance)
 
 -- ---- what is called
 
@@ -578,14 +578,14 @@ record IsWholeBlock (c : Context) (o : Option BlockId) : Type 0 where
   id : BlockId
   is : o ≡ Some id
   whole : is_system_function id.kind ≡ false → (p : ℕ) × (whole_place c id ≡ Some p)
-  seen : whole_called_block c o ≡ Some id
+  found : whole_called_block c o ≡ Some id
 
 block_whole : (symbols : List Symbol) (t : Tree) → IsSoundTree symbols t → (k : ℕ)
     (o : Option BlockId) → is_unknown_id (types_of_source symbols t.blocks) o ≡ false
     → IsWholeBlock (context_at symbols t k) o
 block_whole symbols t tree k None e = absurd cc
 block_whole symbols t tree k (Some id) e =
-    let r = by (is_system_function id.kind) refl e in record { id = id; is = refl; whole = r.0; seen = r.1 }
+    let r = by (is_system_function id.kind) refl e in record { id = id; is = refl; whole = r.0; found = r.1 }
   where
     by : (sys : Bool) → is_system_function id.kind ≡ sys
         → (if sys then false else is_none (known_block id (types_of_source symbols t.blocks).ids)) ≡ false
@@ -629,7 +629,7 @@ call_there symbols t tree k name inst there = (
     named = block.is;
     whole = block.whole;
     with_instance = given.1;
-    seen = seen_called (context_at symbols t k) name inst
+    resolves = seen_called (context_at symbols t k) name inst
         ∙ ap (λ (z : Option BlockId). resolution_of_call z inst (instance_of_name (context_at symbols t k) inst)) block.seen
         ∙ given.2;
   },
@@ -659,7 +659,7 @@ call_of c name inst id j instance i call e =
     same e = (cc, cc)
 
     one : (j ≡ id) × (i ≡ instance)
-    one = same (sym call.seen ∙ e)
+    one = same (sym call.resolves ∙ e)
 
 -- ---- an actual parameter names what is passed
 
@@ -705,7 +705,7 @@ good_passed : (a : Environment) (c : Context) (formals : List Formal) (x : Actua
 good_passed a c formals x good named =
     let f = formal_there formals (upper_case_name x.name)
     (not-false (list_any (λ (f : Formal). bytes_eq (upper_case_name x.name) f.name) formals) named) in
-    operand_passed c f.0 x.value good.seen.view good.seen.is
+    operand_passed c f.0 x.value good.resolves.operand good.resolves.is
     (not-false (fits_operand c f.0 x.value) (ap (misfits_formal c x) (sym f.1) ∙ good.fits))
 
 all_passed_on : (a : Environment) (c : Context) (formals : List Formal) (xs : List Actual)
@@ -746,7 +746,7 @@ module _ (symbols : List Symbol) (t : Tree) (tree : IsSoundTree symbols t)
         inside = sound.0.inside;
       } in (
         record {
-          seen = operand_seen symbols t tree fit k b l block code a around x.value h well.0.no_block ends.0;
+          resolves = operand_seen symbols t tree fit k b l block code a around x.value h well.0.no_block ends.0;
           well = well.0.value;
           bytes = bytes.0;
           fits = fits.0;
@@ -981,7 +981,7 @@ module _ (symbols : List Symbol) (t : Tree) (tree : IsSoundTree symbols t)
   called_is how word =
       let o = operand_called s.operand (sound.well_formed.called ∙ calls_are s.code how word) in
       let found = call_found o.0 o.1 o.2 in
-      (found.0, found.1, ap (resolution_of (context_at symbols t k)) o.2 ∙ found.2.seen)
+      (found.0, found.1, ap (resolution_of (context_at symbols t k)) o.2 ∙ found.2.resolves)
 
   called_made : (how : CallOperation) (word : call_operation_of s.code ≡ Some how)
       → IsMadeCall how (called_is how word).0 (called_is how word).1

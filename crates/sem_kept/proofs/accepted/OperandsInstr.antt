@@ -121,7 +121,7 @@ instr_fits a lens c body n s taken_by_rule seen_fits calls = by (jump_operation_
         → InstrFits a lens (resolved_instr c s (resolved_view (resolution_of c s.operand)))
     whether None is =
         let found : ResolvesRight a (resolution_of c s.operand) = seen_fits (no_call s.code is) in
-        rw (found.is, is) (does_fits a lens c s found.view found.is taken_by_rule found.fits (end_operation_of s.code))
+        rw (found.is, is) (does_fits a lens c s found.operand found.is taken_by_rule found.fits (end_operation_of s.code))
     whether (Some how) is = called how is (resolution_of c s.operand) refl
 
     by : (o : Option JumpOperation) → InstrFits a lens (instr_by c body n s o)

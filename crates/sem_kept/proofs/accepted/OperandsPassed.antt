@@ -221,7 +221,7 @@ view_passes a c f r o _ e fits h taken = absurd cc
 other_passes : (a : Environment) (c : Context) (f : Formal) (r : ParameterRecord) (o : Operand)
     → ResolvesRight a (resolution_of c o) → IsRecordOf f r → fits_resolution f (resolution_of c o) ≡ true → Passes a c r o
 other_passes a c f r o s h taken =
-    view_passes a c f r o s.view s.is s.fits h (ap (fits_resolution f) (sym s.is) ∙ taken)
+    view_passes a c f r o s.operand s.is s.fits h (ap (fits_resolution f) (sym s.is) ∙ taken)
 
 constant_is : (c : Context) (value : Literal)
     → passed_resolution (operand.Constant value) (resolution_of c (operand.Constant value))
@@ -254,7 +254,7 @@ passes a c f r o s is has h taken = other_passes a c f r o s h taken
 
 -- an actual parameter of a call, by the parameters of what is called
 pub record IsGoodActual (a : Environment) (c : Context) (formals : List Formal) (x : Actual) : Type 0 where
-  pub seen : ResolvesRight a (resolution_of c x.value)
+  pub resolves : ResolvesRight a (resolution_of c x.value)
   pub well : IsOperand x.value
   pub bytes : OperandHasBytes x.value
   pub fits : misfits_formal c x (formal_named formals x.name) ≡ false
@@ -280,7 +280,7 @@ pub supplied_passes : (a : Environment) (c : Context) (formals : List Formal) (a
     → AllByRecursion (IsGoodActual a c formals) actuals → IsFoundIn formals f → IsRecordOf f r
     → actual_of_formal actuals f ≡ Some x → Passes a c r x.value
 supplied_passes a c formals actuals f r x good found h e =
-    passes a c f r x.value one.0.seen one.0.well one.0.bytes h
+    passes a c f r x.value one.0.resolves one.0.well one.0.bytes h
     (not-false (fits_operand c f x.value)
     (ap (misfits_formal c x) (sym (found (upper_case_name x.name) one.1)) ∙ one.0.fits))
   where

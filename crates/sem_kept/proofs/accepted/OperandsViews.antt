@@ -1,4 +1,4 @@
--- What the operands of a source that breaks no rule name: each is seen, and fits its block.
+-- What the operands of a source that breaks no rule name: each resolves, and fits its block.
 use Rattle.std.proofs.Common.{ℕ, zero, suc, ◌≡◌, ◌<◌, ◌≤◌, ◌+◌, ◌/◌, ◌%◌, max, List, [], ◌∷◌, ◌++◌, Option, Some, None, is_some, Bool, true, false, not, refl, sym, ◌∙◌, ap, subst, arith, length, map, if◌then◌else◌, ltb-false, le-ltb, eq-eqb}
 use Rattle.std.specs.Prelude.{◌==◌}
 use Rattle.std.specs.List.{AllByRecursion, flat_map, slice_get}
@@ -194,16 +194,16 @@ no_components y b h is =
     shaped : IsShapeOf kinds.Ob b.shape b.instance_of b.components
     shaped = subst (λ (k : BlockKind). IsShapeOf k b.shape b.instance_of b.components) is h.shaped
 
--- ---- what is seen
+-- ---- what operands resolve to
 
--- an operand is seen, and what it names fits
+-- an operand resolves, and what it names fits
 pub record ResolvesRight (a : Environment) (s : Resolution) : Type 0 where
-  pub view : ResolvedOperand
-  pub is : s ≡ Resolved view
-  pub fits : IsRightOperand a view
+  pub operand : ResolvedOperand
+  pub is : s ≡ Resolved operand
+  pub fits : IsRightOperand a operand
 
 view_seen : (a : Environment) (v : ResolvedOperand) → IsRightOperand a v → ResolvesRight a (Resolved v)
-view_seen a v fits = record { view = v; is = refl; fits = fits }
+view_seen a v fits = record { operand = v; is = refl; fits = fits }
 
 composite_seen : (a : Environment) (o : Option Cell) → ResolvesRight a (Resolved (composite_operand o))
 composite_seen a None = view_seen a resolved.Composite tt
@@ -382,7 +382,7 @@ module _ (symbols : List Symbol) (t : Tree) (tree : IsSoundTree symbols t) (k : 
       → ResolvesRight a (own_at (context_at symbols t k) true s o)
   temporary_seen s h None e = composite_seen a (slice_get (cells_at (layouts_of t symbols) s.block s.temporary) s.place)
   temporary_seen s h (Some kind) e = record {
-    view = resolved.Direct (place_at area.L 0 s.offset) (width_of kind) side.Both (Some kind);
+    operand = resolved.Direct (place_at area.L 0 s.offset) (width_of kind) side.Both (Some kind);
     is = placed_sees area.L 0 s.offset (structure_bits (cells_at (layouts_of t symbols) k true)) kind at
         (few (structure_bits (cells_at (layouts_of t symbols) k true)) a.local_len within short);
     fits = (
@@ -416,7 +416,7 @@ module _ (symbols : List Symbol) (t : Tree) (tree : IsSoundTree symbols t) (k : 
       → ResolvesRight a (own_at (context_at symbols t k) false s o)
   instance_seen limit few other s h None e = composite_seen a (slice_get (cells_at (layouts_of t symbols) s.block s.temporary) s.place)
   instance_seen limit few other s h (Some kind) e = record {
-    view = resolved.Direct (place_at area.Di 0 s.offset) (width_of kind) side.Both (Some kind);
+    operand = resolved.Direct (place_at area.Di 0 s.offset) (width_of kind) side.Both (Some kind);
     is =
         ap (λ (t' : Bool). if t' then parameter_at (context_at symbols t k) s kind
         else variable_in_area kind (elementary_place area.Di 0 s.offset (Some kind))) (function_here ∙ other)
@@ -448,7 +448,7 @@ module _ (symbols : List Symbol) (t : Tree) (tree : IsSoundTree symbols t) (k : 
       found : (c : Cell) → slice_get (cells_at (layouts_of t symbols) k false) s.place ≡ Some c
           → IsElementaryComponent s c kind → ResolvesRight a (own_elementary (context_at symbols t k) false s kind)
       found c there elem = record {
-        view = resolved.Parameter index c.section kind;
+        operand = resolved.Parameter index c.section kind;
         is =
             ap (λ (t' : Bool). if t' then parameter_at (context_at symbols t k) s kind
             else variable_in_area kind (elementary_place area.Di 0 s.offset (Some kind)))
@@ -503,7 +503,7 @@ module _ (symbols : List Symbol) (t : Tree) (tree : IsSoundTree symbols t) (k : 
       right : AreRight ls
       right = are_right symbols t tree
 
-      -- each component that the path reaches is seen
+      -- each component that the path reaches resolves
       IsRead : Bool → Type 0
       IsRead temporary = (s : ComponentAt) → reached_end ≡ path_end.Reaches s
           → ResolvesRight a (own_at (context_at symbols t k) temporary s (elementary_at ls s))
@@ -818,7 +818,7 @@ data_seen symbols t tree k a name steps there known stays =
         → ResolvesRight a (data_at c d.block.id.number w o)
     at w h None e = composite_seen a (slice_get (cells_at ls w.block w.temporary) w.place)
     at w h (Some kind) e = record {
-      view = resolved.Direct (place_at area.Db d.block.id.number w.offset) (width_of kind) side.Both (Some kind);
+      operand = resolved.Direct (place_at area.Db d.block.id.number w.offset) (width_of kind) side.Both (Some kind);
       is = placed_sees area.Db d.block.id.number w.offset limit kind place (let small = s.small in omega (arith, small));
       fits = (data_fits a w.offset limit kind place, refl);
     }
@@ -849,7 +849,7 @@ module _ (symbols : List Symbol) (t : Tree) (tree : IsSoundTree symbols t)
       → is_unknown (resolution_of_symbol o) ≡ false → ResolvesRight a (resolution_of_symbol o)
   symbol_fits name None e known = absurd cc
   symbol_fits name (Some s) e known = record {
-    view = target_view s.target;
+    operand = target_view s.target;
     is = refl;
     fits = target_fits a s.target (named_fits name symbols s fit e);
   }
@@ -872,7 +872,7 @@ module _ (symbols : List Symbol) (t : Tree) (tree : IsSoundTree symbols t)
   operand_seen (operand.Direct None ar w byte bit) h other ends =
       view_seen a _ (address_fits a ar w byte bit h.well_formed.2 ends, tt)
   operand_seen (operand.Direct (Some name) ar w byte bit) h other ends = record {
-    view = resolved_address d.block.id.number ar w byte bit;
+    operand = resolved_address d.block.id.number ar w byte bit;
     is = ap (λ (o : Option ℕ). address_in_block o ar w byte bit) d.number;
     fits = (address_fits a ar w byte bit h.well_formed.2 ends, tt);
   }
@@ -881,7 +881,7 @@ module _ (symbols : List Symbol) (t : Tree) (tree : IsSoundTree symbols t)
       d = data_there symbols t tree k name h.there
   operand_seen (operand.Named p steps) h other ends = path_fits p steps h.known h.there h.inside
   operand_seen (operand.OpenBlock di name) h other ends = record {
-    view = resolved.OpenBlock di d.block.id.number;
+    operand = resolved.OpenBlock di d.block.id.number;
     is = ap (λ (o : Option ℕ). resolution_of_opened_block di o) d.number;
     fits = tt;
   }

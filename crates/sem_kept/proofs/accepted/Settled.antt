@@ -84,7 +84,7 @@ module _ (symbols : List Symbol) (t : Tree) (tree : IsSoundTree symbols t)
 
       whether : (o : Option CallOperation) → call_operation_of s.code ≡ o
           → HasOperand (context_at symbols t k) s o
-      whether None is = (found.view, resolves ∙ ap resolved_view found.is)
+      whether None is = (found.operand, resolves ∙ ap resolved_view found.is)
         where
           found : ResolvesRight here (resolution_of (context_at symbols t k) s.operand)
           found = operand_seen symbols t tree fit k b l block code here surrounded s.operand
