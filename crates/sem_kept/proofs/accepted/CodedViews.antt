@@ -10,6 +10,7 @@ use Rattle.plc_base.specs.declared.places.Area.{Area}
 use Rattle.plc_base.specs.declared.places.Area.TheVariants as area
 use Rattle.plc_base.specs.declared.places.Place.{Place}
 use Rattle.plc_base.specs.declared.places.Width.{Width}
+use Rattle.flat_code.specs.Kinds.{ar1_number, ar2_number}
 use Rattle.flat_code.specs.Forms.{direct_coding, holds_pointers, payload_fits}
 use Rattle.stl_ast.specs.Operands.{IsAnyName, IsBitOf, IsOperand}
 use Rattle.stl_ast.specs.declared.blocks.PathStep.{PathStep}
@@ -59,7 +60,7 @@ abbrev pub NumbersFit : Operand → ResolvedOperand → Type 0
 NumbersFit o (resolved.Direct place w side declared) = PlaceFits place
 NumbersFit o (resolved.Parameter index section declared) = index < 256
 NumbersFit o (resolved.ByMemory a w from byte) = (holds_pointers from ≡ true) × IsWord byte
-NumbersFit o (resolved.ByRegister a w r bits) = (1 ≤ r) × (r ≤ 2) × (bits < 4294967296)
+NumbersFit o (resolved.ByRegister a w r bits) = (ar1_number ≤ r) × (r ≤ ar2_number) × (bits < 4294967296)
 NumbersFit o (resolved.Timer n) = IsWord n
 NumbersFit o (resolved.Counter n) = IsWord n
 NumbersFit o (resolved.NumberBy what from byte) = (holds_pointers from ≡ true) × IsWord byte

@@ -630,7 +630,7 @@ call_there symbols t tree k name inst there = (
     whole = block.whole;
     with_instance = given.1;
     resolves = seen_called (context_at symbols t k) name inst
-        ∙ ap (λ (z : Option BlockId). resolution_of_call z inst (instance_of_name (context_at symbols t k) inst)) block.seen
+        ∙ ap (λ (z : Option BlockId). resolution_of_call z inst (instance_of_name (context_at symbols t k) inst)) block.found
         ∙ given.2;
   },
 )

@@ -353,7 +353,7 @@ fields_of last symbols t rise k b l id h named code =
     }
 
 -- the fields one by one
-kind_good : (before kind : ℕ) → 1 ≤ kind → kind ≤ 3 → before ≤ kind → (kind_field before).good kind ≡ true
+kind_good : (before kind : ℕ) → kind_number kinds.Ob ≤ kind → kind ≤ kind_number kinds.Fb → before ≤ kind → (kind_field before).good kind ≡ true
 unfolding kind_field field_fault
 kind_good before kind low high rises = grind (arith, nat_tests)
 
@@ -391,7 +391,7 @@ number_there kinds.Db n code h = absurd cc
 number_there kinds.Udt n code h = absurd cc
 number_there kinds.Sfc n code h = absurd cc
 
-kind_within : (k : BlockKind) → is_code k ≡ true → (1 ≤ kind_number k) × (kind_number k ≤ 3)
+kind_within : (k : BlockKind) → is_code k ≡ true → (kind_number kinds.Ob ≤ kind_number k) × (kind_number k ≤ kind_number kinds.Fb)
 kind_within kinds.Ob h = (omega arith, omega arith)
 kind_within kinds.Fc h = (omega arith, omega arith)
 kind_within kinds.Fb h = (omega arith, omega arith)

@@ -55,6 +55,7 @@ use Rattle.block_layout.specs.declared.cells.Element.{Element}
 use Rattle.block_layout.specs.declared.cells.Element.TheVariants as element
 use Rattle.block_layout.specs.Sizes.{largest_size}
 use Rattle.block_layout.specs.declared.members.Member.{Member}
+use Rattle.flat_code.specs.Records.{section_in, section_in_out}
 use Rattle.flat_code.specs.Checking.{good_params}
 use Rattle.flat_code.specs.Faults.{field_fault}
 use Rattle.flat_code.specs.Image.{parameter_layout, parameter_bit, parameter_byte, parameter_rows, record_of_param, section_field}
@@ -591,14 +592,14 @@ all_count y b h =
 -- ---- the fields of a record
 
 record IsGoodParam (kind instance : ℕ) (p : Param) : Type 0 where
-  low : 1 ≤ p.section
-  high : p.section ≤ 3
+  low : section_in ≤ p.section
+  high : p.section ≤ section_in_out
   near : p.byte < 65536
   byte : (if eqb kind (kind_number kinds.Fb) then leb (p.byte + byte_count p.width) instance else eqb p.byte 0) ≡ true
   bit : p.bit ≤ 7
   whole : (eqb kind (kind_number kinds.Fb) || eqb p.bit 0) ≡ true
 
-section_good : (n : ℕ) → 1 ≤ n → n ≤ 3 → section_field.good n ≡ true
+section_good : (n : ℕ) → section_in ≤ n → n ≤ section_in_out → section_field.good n ≡ true
 unfolding section_field field_fault
 section_good n low high = grind (arith, nat_tests)
 
@@ -629,7 +630,7 @@ all_good_params kind instance (p ∷ ps) h = and_from _ _ (param_good kind insta
 
 -- ---- from cells to parameters
 
-section_low : (p : PartKind) → (1 ≤ section_number p) × (section_number p ≤ 3)
+section_low : (p : PartKind) → (section_in ≤ section_number p) × (section_number p ≤ section_in_out)
 section_low part.Input = (omega arith, omega arith)
 section_low part.Output = (omega arith, omega arith)
 section_low part.InOut = (omega arith, omega arith)
