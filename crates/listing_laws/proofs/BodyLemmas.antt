@@ -52,7 +52,7 @@ use Rattle.print_laws.specs.Reading.{FitsSyntax, IsArea, IsAreaOf, IsBlockOf, Is
 use Rattle.print_laws.specs.Standing.{IsNonTitleName as IsCutName}
 use Rattle.listing_laws.proofs.FormLemmas.{labels_printed, typed_printed}
 use Rattle.listing_laws.proofs.NameLemmas.{either_way, parameter_is, signed_long, system_named}
-use Rattle.listing_laws.specs.Bodies.{AreBodiesPrinted, AreWords, IsCallBy, IsNoBit, IsOpenedIn, IsPlace, IsLastOperandPrinted, IsSourceRun, PassesPlace, Prepares}
+use Rattle.listing_laws.specs.Bodies.{AreBodiesPrinted, AreWords, IsCallBy, IsNoBit, IsOpenedIn, IsPlace, IsLastOperandPrinted, IsSourceRun, PassesPlace, PreparesPlace}
 
 -- ---- areas
 
@@ -390,12 +390,12 @@ for_printed : (line : ℕ) (formals : List Formal) (o : Option Formal) (p : Pass
 for_printed line formals None p named f e place = tt
 for_printed line formals (Some f) p named name e place = (record { line_is = refl; word = name; value = passed_printed formals f p named e place }, tt)
 
-here_printed : (line : ℕ) (formals called : List Formal) (o : FlatOperand) → AreWords formals → AreWords called → payload_fits o ≡ true → Prepares o → AllByRecursion (IsPrintedActual line) (actual_here line formals called o)
+here_printed : (line : ℕ) (formals called : List Formal) (o : FlatOperand) → AreWords formals → AreWords called → payload_fits o ≡ true → PreparesPlace o → AllByRecursion (IsPrintedActual line) (actual_here line formals called o)
 unfolding passed_coding
 here_printed line formals called (flat.Pass index p) named others e place = for_printed line formals (slice_get called index) p named (named_word called index others) (and_parts _ (actual_fits p) e).1 place
 here_printed line formals called _ named others e place = tt
 
-before_printed : (line : ℕ) (formals called : List Formal) (before : List OpData) → AreWords formals → AreWords called → AllByRecursion IsOp before → AllByRecursion (λ op. Prepares op.operand) before
+before_printed : (line : ℕ) (formals called : List Formal) (before : List OpData) → AreWords formals → AreWords called → AllByRecursion IsOp before → AllByRecursion (λ op. PreparesPlace op.operand) before
     → AllByRecursion (IsPrintedActual line) (actuals_before line formals called before)
 unfolding is_op
 before_printed line formals called [] named others h k = tt
@@ -436,7 +436,7 @@ timer_printed kind number h = either_way IsPrintedOperand (kind == 1) (operand.T
 
 -- operand and actual parameters of the last op of a statement
 fits : (ss : List Signature) (line : ℕ) (formals : List Formal) (starts : List ℕ) (before : List OpData) (code : ℕ) (o : FlatOperand) → AreBlocksWords ss → AreWords formals
-    → AllByRecursion IsOp before → AllByRecursion (λ op. Prepares op.operand) before → code < 128 → admits (takes_of code) o ≡ true → payload_fits o ≡ true → IsLastOperandPrinted before code o
+    → AllByRecursion IsOp before → AllByRecursion (λ op. PreparesPlace op.operand) before → code < 128 → admits (takes_of code) o ≡ true → payload_fits o ≡ true → IsLastOperandPrinted before code o
     → is_empty_statement (word_by code o) ≡ false
     → FitsSyntax line (syntax_of (word_by code o)) (operand_by formals starts (block_opened_by_ops before) (operation_of code) o) (actuals_by ss line formals before o)
 unfolding operand_by plain_operand actuals_by admits

@@ -294,24 +294,24 @@ quiet_attribute s t e = quiet_plain s t (plain_by_rank t.kind 10 e refl refl)
 
 -- ---- words
 
-is_word_class : (k : TokenKind) (text : List ℕ) → nat_eq (kind_rank k) (kind_rank kind.Word) ≡ true → class_of k text ≡ class.Word
+word_class_of_kind : (k : TokenKind) (text : List ℕ) → nat_eq (kind_rank k) (kind_rank kind.Word) ≡ true → class_of k text ≡ class.Word
 unfolding class_of
-is_word_class kind.Word text e = refl
-is_word_class kind.Number text e = absurd (false≢true e)
-is_word_class kind.Quoted text e = absurd (false≢true e)
-is_word_class kind.Local text e = absurd (false≢true e)
-is_word_class kind.Characters text e = absurd (false≢true e)
-is_word_class kind.Based text e = absurd (false≢true e)
-is_word_class kind.NumberLiteral text e = absurd (false≢true e)
-is_word_class kind.TimeLiteral text e = absurd (false≢true e)
-is_word_class kind.Mark text e = absurd (false≢true e)
-is_word_class kind.SignWord text e = absurd (false≢true e)
-is_word_class kind.Attribute text e = absurd (false≢true e)
-is_word_class kind.Title text e = absurd (false≢true e)
+word_class_of_kind kind.Word text e = refl
+word_class_of_kind kind.Number text e = absurd (false≢true e)
+word_class_of_kind kind.Quoted text e = absurd (false≢true e)
+word_class_of_kind kind.Local text e = absurd (false≢true e)
+word_class_of_kind kind.Characters text e = absurd (false≢true e)
+word_class_of_kind kind.Based text e = absurd (false≢true e)
+word_class_of_kind kind.NumberLiteral text e = absurd (false≢true e)
+word_class_of_kind kind.TimeLiteral text e = absurd (false≢true e)
+word_class_of_kind kind.Mark text e = absurd (false≢true e)
+word_class_of_kind kind.SignWord text e = absurd (false≢true e)
+word_class_of_kind kind.Attribute text e = absurd (false≢true e)
+word_class_of_kind kind.Title text e = absurd (false≢true e)
 
 word_class : (s : List ℕ) (t : Token) → has_kind t kind.Word ≡ true → class_in s t ≡ class.Word
 unfolding has_kind
-word_class s t e = is_word_class t.kind (text_of s t) e
+word_class s t e = word_class_of_kind t.kind (text_of s t) e
 
 calm_word : (before : TokenClass) (text : List ℕ) → is_block_word text ≡ false → calm_of before class.Word text ≡ true
 calm_word before text e = rw e (or_true (not (may_be_keyword before)))

@@ -24,6 +24,7 @@ use Rattle.de_mnemonics.specs.Tables.{WordPairs, common_jumps, block_end_words, 
 use Rattle.de_mnemonics.specs.Words.{digits_of_word, exchanged_word, instruction_partner, letter_count_of_word, letters_of_word, numbered_partner, operand_partner, partner_in_table, translated_word}
 use Rattle.de_mnemonics.proofs.CaseLemmas.{same_among, same_text}
 use Rattle.de_mnemonics.proofs.WordLemmas.{letters_end}
+use Rattle.translation_laws.specs.Statements.{is_number_class}
 use Rattle.translation_laws.proofs.LetterLemmas.{same_letters}
 
 -- ---- neighbours
@@ -686,10 +687,6 @@ path_opens place.Path b x n e = in_path (is_component b n) (is_operand_place b x
 path_opens place.Inside b x n e = in_path (is_component b n) (is_operand_place b x n) (opens_path place.Inside b) e
 
 -- ---- no name stands behind a number
-
-abbrev pub is_number_class : TokenClass → Bool
-is_number_class class.Number = true
-is_number_class _ = false
 
 -- behind a number no path begins
 abbrev pub IsFit : TokenPlace → TokenClass → Type 0

@@ -27,7 +27,8 @@ use Rattle.de_mnemonics.specs.Words.{marked_name, operand_partner, translated_wo
 use Rattle.translation_laws.specs.Alike.{AreTokensAlike, ComesBackInRole, IsSameWordButForCase, IsOperandWordAsLocal as IsNamedToken, IsSameToken, TreesAlike}
 use Rattle.translation_laws.specs.Rewritten.{AreRewrittenTexts, IsRewrittenText, RewritingKeepsTokens, RewritesSource, ShowRewrittenTexts, kind_of_rewritten, rewritten_source}
 use Rattle.translation_laws.specs.RoundTrip.{ComesBackWithTree, RoundTrips}
-use Rattle.translation_laws.proofs.RoleLemmas.{IsFit, IsNear, fits_next, is_number_class, is_word_kind, kind_plain, path_no_number, role_plain}
+use Rattle.translation_laws.specs.Statements.{is_number_class}
+use Rattle.translation_laws.proofs.RoleLemmas.{IsFit, IsNear, fits_next, is_word_kind, kind_plain, path_no_number, role_plain}
 use Rattle.translation_laws.proofs.BackLemmas.{IsOperandWord, Spellings, StepBack, TextBack, same_is_word, token_back, token_near, word_kind}
 
 -- ---- the texts that a translation writes

@@ -33,16 +33,16 @@ use Rattle.sem_kept.proofs.accepted.RecordParams.{AllBefore, AreOnce, IsElementa
 -- ---- cells of parameters
 
 -- the cell of a parameter in a section, the first of it or not
-pub record IsParameterCell (kind : PartKind) (opens : Bool) (c : Cell) : Type 0 where
+pub record IsSectionCell (kind : PartKind) (opens : Bool) (c : Cell) : Type 0 where
   pub simple : Simple
   pub elementary : IsElementary c simple
   pub section : c.section ≡ kind
   pub begins : c.opens ≡ opens
 
--- those of a section, of which the first is its first one or not
+-- the cells of the parameters of a section, of which the first is its first one or not
 abbrev pub AreParameters : PartKind → (opens : Bool) → List Cell → Type 0
 AreParameters kind opens [] = Unit {0}
-AreParameters kind opens (c ∷ cs) = IsParameterCell kind opens c × AreParameters kind false cs
+AreParameters kind opens (c ∷ cs) = IsSectionCell kind opens c × AreParameters kind false cs
 
 parameter_section : (y : Types) (o : Outside) (kind : PartKind) (before ds : List Declaration) → o.depth ≡ 0
     → AllByRecursion (λ d. (d.level ≡ 0) × IsElementaryDeclared d) ds → AllBefore (IsNew o) before ds
@@ -272,7 +272,7 @@ abbrev pub made : (in_instance : Bool) → (all : List Cell) → (section : ℕ)
 made in_instance all section [] = []
 made in_instance all section (c ∷ cs) = param_at_bits section (cell_width c.of) (param_bits in_instance all c) ∷ made in_instance all section cs
 
-made_here : (in_instance : Bool) (all : List Cell) (kind : PartKind) (opens : Bool) (c : Cell) → is_parameter kind ≡ true → IsParameterCell kind opens c
+made_here : (in_instance : Bool) (all : List Cell) (kind : PartKind) (opens : Bool) (c : Cell) → is_parameter kind ≡ true → IsSectionCell kind opens c
     → param_here in_instance all c ≡ param_at_bits (section_number kind) (cell_width c.of) (param_bits in_instance all c) ∷ []
 made_here in_instance all kind opens c is h =
     let back = sym h.elementary.of in

@@ -208,10 +208,10 @@ block_shape : (y : Types) (blocks before : List Block) (b : Block) → (block_la
 unfolding block_layout
 block_shape y blocks before b = refl
 
-data_id : (y : Types) (blocks before : List Block) (ss : List Signature) (line number : ℕ) (bytes : List ℕ) (n : ℕ)
+instance_id : (y : Types) (blocks before : List Block) (ss : List Signature) (line number : ℕ) (bytes : List ℕ) (n : ℕ)
     → (block_layout y blocks before (listed_data ss line number bytes (Some n))).id ≡ Some (record { kind = kinds.Db; number = number })
 unfolding block_layout
-data_id y blocks before ss line number bytes n = refl
+instance_id y blocks before ss line number bytes n = refl
 
 code_id : (y : Types) (blocks before : List Block) (ss : List Signature) (reached : ℕ) (b : CodeBlock) (n : ℕ) → b.id ≡ function_block n
     → (block_layout y blocks before (listed_block ss reached b)).id ≡ Some (function_block n)
@@ -399,7 +399,7 @@ module _ (others : List Symbol) (t : Tree) (ss : List Signature) (n : ℕ) (b : 
         → data_block_of (context_at others t k) l l.id ≡ record { number = number; instance_of = Some n; bytes = bytes } ∷ []
     data_back set =
         let named : l.id ≡ Some (record { kind = kinds.Db; number = number }) =
-        ap (λ (x : BlockLayout). x.id) own_layout.layout ∙ data_id y t.blocks own_layout.before ss line number bytes n in
+        ap (λ (x : BlockLayout). x.id) own_layout.layout ∙ instance_id y t.blocks own_layout.before ss line number bytes n in
         let of_block : other.layout.id ≡ Some (function_block n) =
         ap (λ (x : BlockLayout). x.id) other_layout.layout ∙ code_id y t.blocks other_layout.before ss h.reached b n h.id in
         let instance : instance_in ls l.shape ≡ Some n =

@@ -56,6 +56,7 @@ use Rattle.listing_laws.specs.Declared.{signatures_in}
 use Rattle.listing_laws.specs.Instructions.{HasAgain, IsInstructionKept}
 use Rattle.listing_laws.specs.LabelRules.{LeadsWithin}
 use Rattle.listing_laws.specs.ListedBodies.{AreKeptFrom}
+use Rattle.listing_laws.specs.Operands.{IsOpenedAgain}
 use Rattle.listing_laws.specs.Statements.{jumps_to, statement_offset, run_of}
 use Rattle.listing_laws.proofs.LabelLemmas.{labels_reached}
 use Rattle.listing_laws.proofs.RunLemmas.{numbers_found}
@@ -65,7 +66,7 @@ use Rattle.listing_laws.proofs.remade.Calls.{call_again, callable_here, called_i
 use Rattle.listing_laws.proofs.remade.Parameters.{source_sound}
 use Rattle.listing_laws.proofs.remade.Right.{operands_right}
 use Rattle.listing_laws.proofs.remade.Splits.{IsStated, all_split, split_holds, stated}
-use Rattle.listing_laws.proofs.ruled.Calling.{IsInstanceAgain, StandsCalled, called_again, called_plain, no_zero, rule_called, same_kind, sees_called}
+use Rattle.listing_laws.proofs.ruled.Calling.{StandsCalled, called_again, called_plain, no_zero, rule_called, same_kind, sees_called}
 use Rattle.listing_laws.proofs.ruled.Instructions.{instructions_kept, jumped, jumps_kept, resolves, rule_broken, what_seen}
 use Rattle.listing_laws.proofs.ruled.Marks.{lines_length}
 use Rattle.listing_laws.proofs.ruled.Rules.{taken_view}
@@ -106,7 +107,7 @@ smaller n count h = omega (arith, h)
 
 -- ---- calls
 
-numbered : (listed : Context) (instance : Option ℕ) → IsInstanceAgain listed instance → IsInstanceNumbered instance
+numbered : (listed : Context) (instance : Option ℕ) → IsOpenedAgain listed instance → IsInstanceNumbered instance
 numbered listed None h e = absurd cc
 numbered listed (Some n) h e = no_zero listed (subst (λ m. data_number listed (name_of_data_block m) ≡ Some m) (same n e) h)
   where
@@ -243,8 +244,8 @@ module _ (source file : List ℕ) (symbols : List Symbol) (t : Tree) (accepted :
         whole =
             subst (λ (i : BlockId). is_data_type i.kind ≡ false → whole_called_block listed (Some i) ≡ Some i) (sym (same_id h.id st.id h.instance st.instance st.is)) st.whole plain
 
-        instance_there : IsInstanceAgain listed h.instance
-        instance_there = subst (IsInstanceAgain listed) (sym (same_instance h.id st.id h.instance st.instance st.is)) st.again
+        instance_there : IsOpenedAgain listed h.instance
+        instance_there = subst (IsOpenedAgain listed) (sym (same_instance h.id st.id h.instance st.instance st.is)) st.again
 
         found : IsFoundAgain c listed own (called_formals ss h.id) s h.id h.instance h.callee
         found = call_again source file symbols t accepted bytes file_bytes others clean again place b l id made s front rest split h.id h.instance h.callee h.called h.found

@@ -48,7 +48,7 @@ use Rattle.listing_laws.specs.Statements.{statement_offset}
 use Rattle.listing_laws.proofs.right.Instances.{instance_there}
 use Rattle.listing_laws.proofs.right.Named.{AreTypesOf}
 use Rattle.listing_laws.proofs.right.Numbered.{landings_kept, lists_kept, numbered_from}
-use Rattle.listing_laws.proofs.right.Placed.{IsBodyOf, all_readable, body_again, body_is, few_stated, listed_as, source_block, source_settled}
+use Rattle.listing_laws.proofs.right.Placed.{IsBodyOf, all_readable, body_in_listing, body_is, few_stated, listed_as, source_block, source_settled}
 use Rattle.listing_laws.proofs.right.Statements.{IsInstanceKept, IsRightAgain, statement_right}
 use Rattle.listing_laws.proofs.right.Words.{crossing, right_from}
 use Rattle.listing_laws.proofs.ruled.Labels.{labels_once}
@@ -238,7 +238,7 @@ body_right signatures stated y y' c listed b is e few settled sound source types
       (subst (λ (ss : List SourceInstruction). AllByRecursion (λ s. LeadsWithin (length ss) s.instr) ss) (sym e) (jumps_within c b));
   by_27 = labels_once signatures (lines_in stated.statements) stated few;
   by_29 = nested.closing ∙ source.by_29;
-  by_30 = nested.left ∙ source.by_30;
+  by_30 = nested.brackets_left ∙ source.by_30;
   by_31 = nested.eighth ∙ source.by_31;
   by_32 = ap (lists_from []) is.is ∙ lists_kept b.body sur.targets (listed_as sur (statement_offset stated.statements) c b.body) (right_from b.body source) is.placed;
   by_33 = ap crossing is.is ∙ landings_kept b.body sur.targets (listed_as sur (statement_offset stated.statements) c b.body) is.placed source.by_33;
@@ -279,7 +279,7 @@ instances_kept symbols t tree k (s ∷ ss) sound others again own has = (instanc
 pub made_right : (source file : List ℕ) (symbols : List Symbol) (t : Tree) → IsAccepted source file symbols t → AreBytes source → (again place : ℕ) (b : Block) (l : BlockLayout) (id : BlockId)
     → (made : IsMadeOf symbols t again place b l id) → (y : Types) (others : List Symbol) → AreTypesOf y (again_at symbols t others again)
     → IsBodyReady (context_at symbols t place) (again_at symbols t others again) (signatures_in (program_in symbols t)) (formals_of_block (signatures_in (program_in symbols t)) id) b.body
-    → IsRightBody y (again_at symbols t others again) (body_again symbols t again place b l id made)
+    → IsRightBody y (again_at symbols t others again) (body_in_listing symbols t again place b l id made)
 made_right source file symbols t accepted bytes again place b l id made y others types ready =
     let c = context_at symbols t place in
     let listed = again_at symbols t others again in

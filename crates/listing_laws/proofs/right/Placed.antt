@@ -333,12 +333,12 @@ pub source_settled : (source file : List ℕ) (symbols : List Symbol) (t : Tree)
 source_settled source file symbols t accepted bytes again place b l id made = statements_settle source file symbols t accepted bytes place b made.source.block
 
 -- the body of the listed block
-abbrev pub body_again : (symbols : List Symbol) (t : Tree) (again place : ℕ) (b : Block) (l : BlockLayout) (id : BlockId) → IsMadeOf symbols t again place b l id → List Statement
-body_again symbols t again place b l id made = (listed_block (signatures_in (program_in symbols t)) made.reached (compiled_block (code_block (context_at symbols t place) b l id))).body
+abbrev pub body_in_listing : (symbols : List Symbol) (t : Tree) (again place : ℕ) (b : Block) (l : BlockLayout) (id : BlockId) → IsMadeOf symbols t again place b l id → List Statement
+body_in_listing symbols t again place b l id made = (listed_block (signatures_in (program_in symbols t)) made.reached (compiled_block (code_block (context_at symbols t place) b l id))).body
 
 pub body_is : (source file : List ℕ) (symbols : List Symbol) (t : Tree) → IsAccepted source file symbols t → AreBytes source → (again place : ℕ) (b : Block) (l : BlockLayout) (id : BlockId)
     → (made : IsMadeOf symbols t again place b l id)
-    → IsBodyOf (context_at symbols t place) b (signatures_in (program_in symbols t)) (code_block (context_at symbols t place) b l id) (body_again symbols t again place b l id made)
+    → IsBodyOf (context_at symbols t place) b (signatures_in (program_in symbols t)) (code_block (context_at symbols t place) b l id) (body_in_listing symbols t again place b l id made)
 body_is source file symbols t accepted bytes again place b l id made =
     let c = context_at symbols t place in
     let stated = code_block c b l id in

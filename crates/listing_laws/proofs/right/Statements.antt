@@ -239,7 +239,7 @@ does_right y c listed sur f k s v types has right some jumps calls ends e =
     let sees = what_seen c s v e in
     let both = stands c listed sur.formals s.operand v has right sees in
     let acted = operands_kept c listed sur.formals sur.starts f s.code s.operand v (record { some = some; jumps = jumps; calls = calls; ends = ends }) (rule_broken c s v e) sees both.1 both.0 in
-    right_instr y listed sur f k (operand_instruction s.code s.operand v) acted.found types (acting_none s.operand v) acted.sees
+    right_instr y listed sur f k (operand_instruction s.code s.operand v) acted.found types (acting_none s.operand v) acted.resolves
     (ap (λ (m : Mnemonic). operand_rule listed (form_of m) (listed_statement sur k (run_of f (operand_instruction s.code s.operand v))).operand) (acting_word f s.code s.operand v some jumps calls ends) ∙ acted.right)
 
 end_right : (y : Types) (listed : Context) (sur : ListingContext) (f : ℕ → ℕ) (k : ℕ) (m : Mnemonic) (how : EndOperation)

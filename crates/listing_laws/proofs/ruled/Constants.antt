@@ -37,7 +37,7 @@ acted : (c : Context) (m : Mnemonic) (value again : Literal) â†’ takes_constant 
 unfolding resolution_of flat_operand_of
 acted c m value again taken bits operation = record {
   found = view.Constant;
-  sees = refl;
+  resolves = refl;
   right = rw taken refl;
   opened = refl;
   operation = operation;
@@ -163,7 +163,7 @@ pub pointer_loaded : (c : Context) (o : Operand) (a : Option Area) (byte bit : â
 unfolding resolution_of flat_operand_of operation_for form_of takes_constant bits_of
 pointer_loaded c o a byte bit = record {
   found = view.Constant;
-  sees = refl;
+  resolves = refl;
   right = refl;
   opened = refl;
   operation = refl;

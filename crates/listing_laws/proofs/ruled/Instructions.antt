@@ -114,7 +114,7 @@ does_again c listed sur f again n k s v has right some jumps calls ends e =
           word = word;
           right = rule;
           instr =
-              comes_to listed again n listing acted.found None (ap jump_operation_of word ∙ jumps) (ap call_operation_of word ∙ calls) (ap end_operation_of word ∙ ends) (resolves listed listing acted.found rule acted.sees)
+              comes_to listed again n listing acted.found None (ap jump_operation_of word ∙ jumps) (ap call_operation_of word ∙ calls) (ap end_operation_of word ∙ ends) (resolves listed listing acted.found rule acted.resolves)
               ∙ ap (λ (m : Mnemonic). operand_instruction m listing.operand acted.found) word
               ∙ ap (λ (x : Option ℕ). Does x (operation_for s.code listing.operand acted.found) (flat_operand_of listing.operand acted.found)) acted.opened
               ∙ ap (λ (w : Operation). Does (block_opened_by_operand v) w (flat_operand_of listing.operand acted.found)) acted.operation

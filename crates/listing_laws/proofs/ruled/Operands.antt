@@ -44,7 +44,7 @@ use Rattle.stl_codegen.specs.Operands.{is_db, numbered_operand, block_opened_by_
 use Rattle.stl_codegen.specs.Operations.{call_operation_of, jump_operation_of, operation_for}
 use Rattle.stl_list.specs.Constants.{instruction_constant}
 use Rattle.stl_list.specs.Operands.{name_of_data_block, direct_operand, implied_operand, letters_for_area, block_opened_by_ops as opened_first, operand_by, own_parameter, plain_operand, read_letters, operation_writes_operand}
-use Rattle.listing_laws.specs.Operands.{AreOperandsKept, IsActedAgain, IsConstantCoded, IsConstantSeen, IsOpenedAgain, IsParameterAgain, StandsAgain}
+use Rattle.listing_laws.specs.Operands.{AreOperandsKept, IsActedAgain, IsConstantCoded, IsConstantResolved, IsOpenedAgain, IsParameterAgain, StandsAgain}
 use Rattle.listing_laws.proofs.ruled.Constants.{constant_again, pointer_acts}
 use Rattle.listing_laws.proofs.ruled.Rules.{IsOther, is_taken, no_adding, none_broken, taken_view, unchanged}
 
@@ -138,7 +138,7 @@ place_again c m o place width side declared h k w e = by (opened_by_place place)
     by : (found : Option ℕ) → opened_by_place place ≡ found → IsOpenedAgain c found → IsActedAgain c m o (direct_operand found w place.area width place.byte place.bit) (view.Direct place width side declared)
     by None g k = record {
       found = view.Direct (at (area_for_letters (letters_for_area w place.area)) 0 place) width (side_of (letters_for_area w place.area)) None;
-      sees = refl;
+      resolves = refl;
       right = place_right (form_of m) place (at (area_for_letters (letters_for_area w place.area)) 0 place) place.area w width side declared h e;
       opened = none_named (is_db (area_for_letters (letters_for_area w place.area))) ∙ sym g;
       operation = place_operation m o _ place (at (area_for_letters (letters_for_area w place.area)) 0 place) width side (side_of (letters_for_area w place.area)) declared None h;
@@ -149,7 +149,7 @@ place_again c m o place width side declared h k w e = by (opened_by_place place)
         ap (λ (x : Option ℕ). address_in_block x (letters_for_area w place.area) width place.byte place.bit) k in
         record {
           found = view.Direct (at (area_for_letters (letters_for_area w place.area)) n place) width (side_of (letters_for_area w place.area)) None;
-          sees = sees;
+          resolves = sees;
           right = ap (rule_of_resolution (form_of m)) sees ∙ place_right (form_of m) place (at (area_for_letters (letters_for_area w place.area)) n place) place.area w width side declared h e;
           opened = ap (λ (a : Area). opened_by_place (at a n place)) (area_again w place.area) ∙ is_named (is_db place.area) place.number n g ∙ sym g;
           operation = place_operation m o _ place (at (area_for_letters (letters_for_area w place.area)) n place) width side (side_of (letters_for_area w place.area)) declared None h;
@@ -182,7 +182,7 @@ parameter_again c m o formals index section kind h k =
     let sees : resolution_of c (own_parameter formals index) ≡ Resolved (view.Parameter index k.section_again k.kind_again) = k.named in
     record {
       found = view.Parameter index k.section_again k.kind_again;
-      sees = sees;
+      resolves = sees;
       right =
           ap (rule_of_resolution (form_of m)) sees
           ∙ none_broken (form_of m) (view.Parameter index k.section_again k.kind_again) refl
@@ -337,7 +337,7 @@ pub rule_is : (c : Context) (f : OperandRule) (o : Operand) (v : ResolvedOperand
 rule_is c f (operand.Constant value) v n e h = absurd n
 rule_is c f _ v n e h = sym (ap (rule_of_resolution f) e) ∙ h
 
-is_other : (o : Operand) (v : ResolvedOperand) → IsNoConstant o → IsConstantSeen o v → IsOther v
+is_other : (o : Operand) (v : ResolvedOperand) → IsNoConstant o → IsConstantResolved o v → IsOther v
 is_other (operand.Constant value) v n h = absurd n
 is_other _ view.Constant n h = h
 is_other _ _ n h = tt
@@ -360,13 +360,13 @@ unfolding operand_by flat_operand_of
 constant_acts c listed formals starts f m value v h e k = rw e (constant_again listed m value k (allowed (takes_constant (form_of m) value) h))
 
 no_constant_acts : (c listed : Context) (formals : List Formal) (starts : List ℕ) (f : ℕ → ℕ) (m : Mnemonic) (o : Operand) (v : ResolvedOperand) → IsNoConstant o
-    → jump_operation_of m ≡ None → call_operation_of m ≡ None → operand_rule c (form_of m) o ≡ None → resolution_of c o ≡ Resolved v → IsConstantSeen o v → StandsAgain listed formals v
+    → jump_operation_of m ≡ None → call_operation_of m ≡ None → operand_rule c (form_of m) o ≡ None → resolution_of c o ≡ Resolved v → IsConstantResolved o v → StandsAgain listed formals v
     → IsActedAgain listed m o (operand_by formals starts (block_opened_by_operand v) (operation_for m o v) (operand_with_target f (flat_operand_of o v))) v
 no_constant_acts c listed formals starts f m o v n jumps calls h sees k stands =
     by_view listed formals starts f m o v jumps calls (rule_is c (form_of m) o v n sees h) (is_other o v n k) stands
 
 by_operand : (c listed : Context) (formals : List Formal) (starts : List ℕ) (f : ℕ → ℕ) (m : Mnemonic) (o : Operand) (v : ResolvedOperand)
-    → jump_operation_of m ≡ None → call_operation_of m ≡ None → operand_rule c (form_of m) o ≡ None → resolution_of c o ≡ Resolved v → IsConstantSeen o v → StandsAgain listed formals v
+    → jump_operation_of m ≡ None → call_operation_of m ≡ None → operand_rule c (form_of m) o ≡ None → resolution_of c o ≡ Resolved v → IsConstantResolved o v → StandsAgain listed formals v
     → IsActedAgain listed m o (operand_by formals starts (block_opened_by_operand v) (operation_for m o v) (operand_with_target f (flat_operand_of o v))) v
 by_operand c listed formals starts f m (operand.Constant value) v jumps calls h sees k stands = constant_acts c listed formals starts f m value v h k.0 k.1
 by_operand c listed formals starts f m operand.Nothing v jumps calls h sees k stands = no_constant_acts c listed formals starts f m operand.Nothing v tt jumps calls h sees k stands

@@ -88,7 +88,7 @@ pub unchanged : (c : Context) (m : Mnemonic) (o again : Operand) (v : ResolvedOp
     → operand_rule c (form_of m) again ≡ rule_of_resolution (form_of m) (resolution_of c again) → resolution_of c again ≡ Resolved v → IsActedAgain c m o again v
 unchanged c m o again v other h e sees = record {
   found = v;
-  sees = sees;
+  resolves = sees;
   right = e ∙ ap (rule_of_resolution (form_of m)) sees ∙ h;
   opened = refl;
   operation = same_operation m o again v h;

@@ -97,8 +97,8 @@ at_back (z ∷ front) f xs n k x size e =
 
 -- ---- a listed block
 
--- what it owes whatever stands before it
-record IsFine (y : Types) (blocks : List Block) (b : Block) : Type 0 where
+-- a block breaks none of the rules of one block, whatever stands before it
+record IsBlockRight (y : Types) (blocks : List Block) (b : Block) : Type 0 where
   by_23 : has_unknown_head y b ≡ false
   by_43 : (before : List Block) → contains_itself y blocks before b ≡ false
   by_44 : has_wrong_number y.symbols b ≡ false
@@ -120,7 +120,7 @@ code_known : (y : Types) (ss : List Signature) (reached : ℕ) (b : CodeBlock) �
 code_known y ss reached b = ap (λ (t : Bool). is_none (if t then Some b.id else None) || false) (own_kind b.id.kind)
 
 abbrev IsFineCode : (y : Types) (blocks : List Block) (ss : List Signature) → CodeBlock → Type 0
-IsFineCode y blocks ss b = (line : ℕ) → IsFine y blocks (listed_block ss line b)
+IsFineCode y blocks ss b = (line : ℕ) → IsBlockRight y blocks (listed_block ss line b)
 
 codes_fine : (y : Types) (blocks : List Block) (ss : List Signature) → ((id : BlockId) → length (formals_of_block ss id) ≤ 60) → (bs : List CodeBlock)
     → AllByRecursion (λ b. (line : ℕ) → IsHeadRight y (listed_block ss line b)) bs → AllByRecursion (λ b. (line : ℕ) → is_too_long y blocks (listed_block ss line b) ≡ false) bs
@@ -147,7 +147,7 @@ bodies_fine ss [] h = tt
 bodies_fine ss (x ∷ xs) h = (λ line. few_statements ss line x h.0.lines, bodies_fine ss xs h.1)
 
 listed_fine : (y : Types) (blocks : List Block) (ss : List Signature) (reached : ℕ) (bs : List CodeBlock) → AllByRecursion (IsFineCode y blocks ss) bs
-    → AllByRecursion (IsFine y blocks) (listed_blocks ss reached bs)
+    → AllByRecursion (IsBlockRight y blocks) (listed_blocks ss reached bs)
 listed_fine y blocks ss reached [] h = tt
 listed_fine y blocks ss reached (b ∷ bs) h = (h.0 reached, listed_fine y blocks ss (line_behind_statements reached b.lines) bs h.1)
 
@@ -232,7 +232,7 @@ datas_fine : (y : Types) (blocks : List Block) (p : Program) (line : ℕ) (ds : 
     → AllByRecursion (λ d. IsHeadRight y (listed_data (signatures_in p) line d.number d.bytes d.instance_of)) ds
     → AllByRecursion (λ d. AreDeclarationsRight y (listed_data (signatures_in p) line d.number d.bytes d.instance_of)) ds
     → AllByRecursion (IsStored (in_lines p.code_blocks)) ds → AllByRecursion (IsLaidAgain y blocks p line) ds
-    → AllByRecursion (λ d. IsFine y blocks (listed_data (signatures_in p) line d.number d.bytes d.instance_of)) ds
+    → AllByRecursion (λ d. IsBlockRight y blocks (listed_data (signatures_in p) line d.number d.bytes d.instance_of)) ds
 datas_fine y blocks p line [] heads declared stored laid = tt
 datas_fine y blocks p line (d ∷ ds) heads declared stored laid =
     let bare = data_bare (signatures_in p) line d.number d.bytes d.instance_of in (
@@ -251,7 +251,7 @@ datas_fine y blocks p line (d ∷ ds) heads declared stored laid =
 
 -- ---- all heads
 
-sound_heads : (y : Types) (blocks before bs : List Block) → AllHeads (λ before b. is_block_twice y before b ≡ false) before bs → AllByRecursion (IsFine y blocks) bs
+sound_heads : (y : Types) (blocks before bs : List Block) → AllHeads (λ before b. is_block_twice y before b ≡ false) before bs → AllByRecursion (IsBlockRight y blocks) bs
     → AllHeads (λ before b. is_one_too_many before b ≡ false) before bs → AllHeads (λ before b. exceeds_total y blocks before b ≡ false) before bs → AllHeads (IsSoundHead y blocks) before bs
 sound_heads y blocks before [] once fine few short = tt
 sound_heads y blocks before (b ∷ bs) once fine few short = (
@@ -270,7 +270,7 @@ sound_heads y blocks before (b ∷ bs) once fine few short = (
   sound_heads y blocks (b ∷ before) bs once.1 fine.1 few.1 short.1,
 )
 
-all_declared : (y : Types) (blocks bs : List Block) → AllByRecursion (IsFine y blocks) bs → AllByRecursion (AreDeclarationsRight y) bs
+all_declared : (y : Types) (blocks bs : List Block) → AllByRecursion (IsBlockRight y blocks) bs → AllByRecursion (AreDeclarationsRight y) bs
 all_declared y blocks [] h = tt
 all_declared y blocks (b ∷ bs) h = (h.0.declared, all_declared y blocks bs h.1)
 
@@ -421,9 +421,9 @@ right_listing source file symbols t accepted bytes file_bytes others = record {
     laid : AllByRecursion (IsLaidAgain y blocks p (data_line p)) p.data_blocks
     laid = datas_laid y blocks p (data_line p) p.data_blocks ready stored (own_data source file symbols t accepted bytes file_bytes)
 
-    fine : AllByRecursion (IsFine y blocks) blocks
+    fine : AllByRecursion (IsBlockRight y blocks) blocks
     fine =
-        tree_fine (IsFine y blocks) p (listed_fine y blocks ss 1 (in_lines p.code_blocks) (lines_all (IsFineCode y blocks ss) p.code_blocks fine_codes))
+        tree_fine (IsBlockRight y blocks) p (listed_fine y blocks ss 1 (in_lines p.code_blocks) (lines_all (IsFineCode y blocks ss) p.code_blocks fine_codes))
         (datas_fine y blocks p (data_line p) p.data_blocks (listed_heads source file symbols t accepted bytes file_bytes y (data_line p)).1
         (listed_right source file symbols t accepted bytes file_bytes y (data_line p)).1 stored laid)
 
@@ -486,7 +486,7 @@ unfolding block_layout
 data_at y blocks before p ls place d there layout laid = record {
   layout = block_layout y blocks before (listed_in p d);
   block = there;
-  laid = layout;
+  layout_is = layout;
   id = data_named y.symbols (signatures_in p) (data_line p) d.number d.bytes d.instance_of;
   size = laid.size;
   shape = laid.shape;

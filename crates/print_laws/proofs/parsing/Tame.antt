@@ -38,7 +38,8 @@ use Rattle.stl_print.specs.Names.{block_name_pieces}
 use Rattle.stl_print.specs.Operands.{bit_pieces, register_operand_pieces, direct_pieces, instance_pieces, operand_pieces, opened_block_pieces, path_head_pieces, pointer_byte_pieces}
 use Rattle.stl_print.specs.Statements.{actual_pieces, actuals_pieces, further_actuals}
 use Rattle.stl_print.specs.Words.{letters_of_address, area_letters, bit_letter, block_letters, flag_kind, flag_text, numbered_letters, size_letter, truth_word, width_letter}
-use Rattle.print_laws.specs.Reading.{IsCallOperand, IsDataBlock, IsFunctionBlock, IsBlockByNumber, IsOpenOperand, IsPrintedActual, IsPrintedLiteral, IsPrintedOperand, IsJumpOperand}
+use Rattle.print_laws.specs.Reading.{IsCallOperand, IsDataBlock, IsFunctionBlock, IsOpenOperand, IsPrintedActual, IsPrintedLiteral, IsPrintedOperand, IsJumpOperand}
+use Rattle.print_laws.specs.Standing.{IsNumberedBlock}
 use Rattle.print_laws.proofs.parsing.Numbers.{numeral}
 use Rattle.print_laws.proofs.parsing.Actuals.{passed_printed}
 use Rattle.print_laws.proofs.parsing.Shown.{lacks, line_past, mark_is}
@@ -317,17 +318,17 @@ opened_tame g (operand.OfStatus f) h is = absurd is
 opened_tame g (operand.Other name) h is = absurd is
 opened_tame g (operand.Called name instance) h is = absurd is
 
-pub numbered_tame : (g : _) (name : BlockName) → flat (gap_text g) ≡ true → IsBlockByNumber name → all_tame (block_name_pieces g name) ≡ true
+pub numbered_tame : (g : _) (name : BlockName) → flat (gap_text g) ≡ true → IsNumberedBlock name → all_tame (block_name_pieces g name) ≡ true
 unfolding block_name_pieces
 numbered_tame g (block.Number id) h is = rw (h, flat_block id.kind, flat_number id.number is) refl
 numbered_tame g (block.Quoted name) h is = absurd is
 
 -- a block of a kind has a number
-pub of_data : (name : BlockName) → IsDataBlock name → IsBlockByNumber name
+pub of_data : (name : BlockName) → IsDataBlock name → IsNumberedBlock name
 of_data (block.Number id) h = h.1
 of_data (block.Quoted name) h = absurd h
 
-pub of_function : (name : BlockName) → IsFunctionBlock name → IsBlockByNumber name
+pub of_function : (name : BlockName) → IsFunctionBlock name → IsNumberedBlock name
 of_function (block.Number id) h = h.1
 of_function (block.Quoted name) h = absurd h
 
