@@ -333,13 +333,13 @@ source_data t symbols =
     data_are (first_context symbols (layouts_of t symbols) t.blocks) t.blocks (types_of_source symbols t.blocks) [] t.blocks
     ∙ ap (λ (z : List Symbol). data_ids (ids_of z t.blocks)) (source_symbols symbols t.blocks)
 
-numbered : (k : BlockKind) (n : ℕ) → is_block_number k n ≡ true → is_system_function k ≡ false
-numbered kinds.Ob n h = refl
-numbered kinds.Fc n h = refl
-numbered kinds.Fb n h = refl
-numbered kinds.Db n h = refl
-numbered kinds.Sfc n h = absurd cc
-numbered kinds.Udt n h = refl
+no_system_number : (k : BlockKind) (n : ℕ) → is_block_number k n ≡ true → is_system_function k ≡ false
+no_system_number kinds.Ob n h = refl
+no_system_number kinds.Fc n h = refl
+no_system_number kinds.Fb n h = refl
+no_system_number kinds.Db n h = refl
+no_system_number kinds.Sfc n h = absurd cc
+no_system_number kinds.Udt n h = refl
 
 same_there : (t : Tree) (symbols : List Symbol) (id : BlockId) → is_data_type id.kind ≡ false → is_system_function id.kind ≡ false
     → is_some (place_of_block id (map (λ i. Some i) (program_ids (source_program t symbols)))) ≡ is_some (place_of_block id (ids_of symbols t.blocks))
@@ -361,7 +361,7 @@ blocks_kept t symbols listed id plain =
     by : (b : Bool) → is_block_number id.kind id.number ≡ b
         → is_some (if b then place_of_block id (map (λ i. Some i) (program_ids (source_program t symbols))) else None)
         ≡ is_some (if b then place_of_block id (ids_of symbols t.blocks) else None)
-    by true e = same_there t symbols id plain (numbered id.kind id.number e)
+    by true e = same_there t symbols id plain (no_system_number id.kind id.number e)
     by false e = refl
 
 -- ---- each at its place
@@ -567,12 +567,12 @@ no_data kinds.Fc h = refl
 no_data kinds.Fb h = refl
 no_data _ h = absurd cc
 
-crossed : (ds : List DataBlock) (ids : List BlockId) → AllByRecursion HasCode ids → AllByRecursion (λ x. AllByRecursion (λ y. NotSame y x) (map (λ d. data_id d.number) ds)) ids
-crossed ds [] h = tt
-crossed ds (id ∷ ids) h = (
+data_and_code_apart : (ds : List DataBlock) (ids : List BlockId) → AllByRecursion HasCode ids → AllByRecursion (λ x. AllByRecursion (λ y. NotSame y x) (map (λ d. data_id d.number) ds)) ids
+data_and_code_apart ds [] h = tt
+data_and_code_apart ds (id ∷ ids) h = (
   all_mapped (λ y. NotSame y id) (λ (d : DataBlock). data_id d.number) ds
       (all_any (λ (d : DataBlock). NotSame (data_id d.number) id) ds (λ d. ap (λ (b : Bool). b && nat_eq d.number id.number) (no_data id.kind h.0))),
-  crossed ds ids h.1,
+  data_and_code_apart ds ids h.1,
 )
 
 source_have_code : (t : Tree) (symbols : List Symbol) → AllByRecursion HasCode (map (λ x. x.id) (codes_of t symbols))
@@ -584,7 +584,7 @@ program_apart t symbols h =
     (pairs_joined NotSame (map (λ b. b.id) (in_lines (map compiled_block (sorted_list is_code_before (codes_of t symbols))))) (map (λ d. data_id d.number) (sorted_list is_data_before (stored_of t symbols)))
     (code_pairs (codes_of t symbols) (subst (Pairs NotSame) (sym (source_codes t symbols)) (codes_apart (ids_of symbols t.blocks) h)))
     (data_pairs (stored_of t symbols) (subst (Pairs NotSame) (sym (source_data t symbols)) (data_apart (ids_of symbols t.blocks) h)))
-    (crossed (sorted_list is_data_before (stored_of t symbols)) (map (λ b. b.id) (in_lines (map compiled_block (sorted_list is_code_before (codes_of t symbols)))))
+    (data_and_code_apart (sorted_list is_data_before (stored_of t symbols)) (map (λ b. b.id) (in_lines (map compiled_block (sorted_list is_code_before (codes_of t symbols)))))
     (code_program HasCode (codes_of t symbols) (source_have_code t symbols))))
 
 right_number : (id : BlockId) → is_number_beyond_limits (Some id) ≡ false → IsRight id
@@ -609,10 +609,10 @@ program_right t symbols h =
     (subst (AllByRecursion IsRight) (sym (source_data t symbols)) (all_weaken (λ id. is_number_beyond_limits (Some id) ≡ false) IsRight (data_ids is) right_number (data_all (λ i. is_number_beyond_limits i ≡ false) is h)))))
 
 -- the first place of one that no other is
-got : {A : Type 0} (P : A → Type 0) (xs : List A) (k : ℕ) (x : A) → AllByRecursion P xs → slice_get xs k ≡ Some x → P x
-got P [] k x h e = absurd cc
-got P (y ∷ xs) zero x h e = let same : y ≡ x = cc in subst P same h.0
-got P (y ∷ xs) (suc k) x h e = got P xs k x h.1 e
+holds_at : {A : Type 0} (P : A → Type 0) (xs : List A) (k : ℕ) (x : A) → AllByRecursion P xs → slice_get xs k ≡ Some x → P x
+holds_at P [] k x h e = absurd cc
+holds_at P (y ∷ xs) zero x h e = let same : y ≡ x = cc in subst P same h.0
+holds_at P (y ∷ xs) (suc k) x h e = holds_at P xs k x h.1 e
 
 pub place_of : (ids : List BlockId) (k : ℕ) (id : BlockId) → Pairs NotSame ids → slice_get ids k ≡ Some id → place_of_block id (map (λ i. Some i) ids) ≡ Some k
 place_of [] k id apart e = absurd cc
@@ -621,13 +621,13 @@ place_of (i ∷ ids) zero id apart e =
     let here : is_same_block id i ≡ true = ap (is_same_block id) same ∙ id_itself id in
     rw here refl
 place_of (i ∷ ids) (suc k) id apart e =
-    let other : is_same_block id i ≡ false = got (λ j. NotSame j i) ids k id apart.0 e in
+    let other : is_same_block id i ≡ false = holds_at (λ j. NotSame j i) ids k id apart.0 e in
     rw (other, place_of ids k id apart.1 e) refl
 
 pub blocks_found : AreBlocksFound
 blocks_found t symbols listed k id none_22 none_44 e =
     let ids : List BlockId = program_ids (source_program t symbols) in
-    let right = got IsRight ids k id (program_right t symbols (source_right symbols t.blocks none_44)) e in
+    let right = holds_at IsRight ids k id (program_right t symbols (source_right symbols t.blocks none_44)) e in
     ap (known_block id) (ids_listed listed (source_program t symbols))
     ∙ ap (λ (b : Bool). if b then place_of_block id (map (λ i. Some i) ids) else None) right
     ∙ place_of ids k id (program_apart t symbols (source_apart symbols t.blocks none_22)) e

@@ -24,7 +24,7 @@ use Rattle.stl_parser.specs.Frame.{next_place, next_place_in_body}
 use Rattle.stl_parser.specs.Tables.{head_words, keywords, look_up}
 use Rattle.stl_parser.specs.Terminals.{has_kind}
 use Rattle.de_mnemonics.specs.Words.{operand_partner}
-use Rattle.translation_laws.proofs.AgreeAlikeLemmas.{Equal, Follows, IsNamedPair, OpensNone, Pair, chained, lefts, rights, some_follows, something, then_mapped}
+use Rattle.translation_laws.proofs.AgreeAlikeLemmas.{Equal, Follows, IsNamedPair, OpensNone, Pair, agree_chained, lefts, rights, some_follows, something, then_mapped}
 use Rattle.translation_laws.proofs.LikeAlikeLemmas.{line_like}
 use Rattle.translation_laws.proofs.TypeAlikeLemmas.{declaration_agrees}
 use Rattle.translation_laws.proofs.ClauseAlikeLemmas.{keyword_agrees, note_rests, structure_clause_agrees}
@@ -123,7 +123,7 @@ module _ (s e : List ℕ) where
   unfolding declaration_clause declaration_of declared_name_at
   declarations_none k [] h kinds none = refl
   declarations_none k (p ∷ ps) h kinds none =
-      none_too {R = λ x y. Unit {0}} _ _ (chained _ _ (declaration_agrees s e (Weak s e) (weak_closed s e) (weak_apart s e) 0 p ps h kinds) (λ d f same. something tt)) none
+      none_too {R = λ x y. Unit {0}} _ _ (agree_chained _ _ (declaration_agrees s e (Weak s e) (weak_closed s e) (weak_apart s e) 0 p ps h kinds) (λ d f same. something tt)) none
 
   statement_found : (line : ℕ) (ps : List (Pair s e)) → AreStatement s e ps → Follows Equal (statement_clause s line (lefts ps)) (statement_clause e line (rights ps))
   unfolding statement_clause

@@ -348,14 +348,14 @@ quiet_key s t k e =
     quiet_word s t parts.0 (same_block_word (text_of s t) (key_text k) parts.1 ∙ key_is_free k)
 
 -- a test that goes by no case holds of a word where it holds of all texts of the table that the word is in
-listed : {X : Type 0} (table : List (List ℕ × X)) (word : List ℕ) (test : List ℕ → Bool)
+found_in_table : {X : Type 0} (table : List (List ℕ × X)) (word : List ℕ) (test : List ℕ → Bool)
     → ((a b : List ℕ) → str_eq_ignore_ascii_case a b ≡ true → test a ≡ test b) → list_all (λ e. test e.0) table ≡ true
     → IfSome (look_up table word) (λ x. test word ≡ true)
 unfolding look_up
-listed [] word test same all = tt
-listed {X} (p ∷ ps) word test same all =
+found_in_table [] word test same all = tt
+found_in_table {X} (p ∷ ps) word test same all =
     let parts = and_parts (test p.0) (list_all (λ e. test e.0) ps) all in
-    by_test (str_eq_ignore_ascii_case word p.0) refl parts.0 (listed ps word test same parts.1)
+    by_test (str_eq_ignore_ascii_case word p.0) refl parts.0 (found_in_table ps word test same parts.1)
   where
     by_test : (b : Bool) → str_eq_ignore_ascii_case word p.0 ≡ b → test p.0 ≡ true
         → IfSome (option_map (λ q. q.1) (find (λ q. str_eq_ignore_ascii_case word q.0) ps)) (λ x. test word ≡ true)
@@ -372,7 +372,7 @@ same_free a b e = rw (same_block_word a b e, same_class a b e) refl
 
 free_word : {X : Type 0} (table : List (List ℕ × X)) (text : List ℕ) → list_all (λ e. is_free e.0) table ≡ true
     → IfSome (look_up table text) (λ x. is_free text ≡ true)
-free_word table text all = listed table text is_free same_free all
+free_word table text all = found_in_table table text is_free same_free all
 
 block_kinds_free : list_all (λ e. is_free e.0) block_kinds ≡ true
 unfolding block_kinds is_word_in_list code_openings data_openings begin_words class_of_mark mark_text
@@ -468,9 +468,9 @@ free_letters word =
     (λ x e. false_from_ne_true (is_block_word word) (λ is. false≢true (sym (block_word_names_none word is) ∙ ap is_some e)))
 
 -- where a test passes, and where it fails
-tested : {A : Type 0} (b : Bool) (x y : Option A) (P : A → Type 0) → (b ≡ true → IfSome x P) → (b ≡ false → IfSome y P) → IfSome (if b then x else y) P
-tested true x y P h k = h refl
-tested false x y P h k = k refl
+branch_holds : {A : Type 0} (b : Bool) (x y : Option A) (P : A → Type 0) → (b ≡ true → IfSome x P) → (b ≡ false → IfSome y P) → IfSome (if b then x else y) P
+branch_holds true x y P h k = h refl
+branch_holds false x y P h k = k refl
 
 -- ---- readers
 
@@ -519,7 +519,7 @@ module _ (s : List ℕ) (P Q : List Token → Type 0) (on : GoesOn s P Q) where
   unfolding signed_number_at
   signed sign [] h = tt
   signed sign (t ∷ rest) h =
-      tested (is_mark s sign mark.Minus) (option_map (λ n. (pos 0 -ℤ pos n, rest)) (number_up_to (greatest_number true) s t)) _ Ended
+      branch_holds (is_mark s sign mark.Minus) (option_map (λ n. (pos 0 -ℤ pos n, rest)) (number_up_to (greatest_number true) s t)) _ Ended
       (λ is. mapped (number_up_to (greatest_number true) s t) (λ n. (pos 0 -ℤ pos n, rest)) (λ n. IsQuiet s t) Ended (quiet_up_to (greatest_number true) t) (λ n q. passed_quiet t rest q (h (quiet_minus s sign is))))
       (λ isnt. passed (is_mark s sign mark.Plus) (option_map (λ n. (pos n, rest)) (number_of s t)) Ended
       (λ is. mapped (number_of s t) (λ n. (pos n, rest)) (λ n. IsQuiet s t) Ended (quiet_of t) (λ n q. passed_quiet t rest q (h (quiet_plus s sign is)))))
@@ -540,7 +540,7 @@ module _ (s : List ℕ) (P Q : List Token → Type 0) (on : GoesOn s P Q) where
   truth_quiet : (t : Token) → IfSome (truth_of s t) (λ l. IsQuiet s t)
   unfolding truth_of
   truth_quiet t =
-      tested (is_key s t key.True) (Some (literal.Truth true)) _ (λ l. IsQuiet s t) (λ is. quiet_key s t key.True is)
+      branch_holds (is_key s t key.True) (Some (literal.Truth true)) _ (λ l. IsQuiet s t) (λ is. quiet_key s t key.True is)
       (λ isnt. passed (is_key s t key.False) (Some (literal.Truth false)) (λ l. IsQuiet s t) (λ is. quiet_key s t key.False is))
 
   literal_quiet : (t : Token) (k : TokenKind) → t.kind ≡ k → IfSome (literal_token s t k) (λ l. IsQuiet s t)
@@ -575,7 +575,7 @@ module _ (s : List ℕ) (P Q : List Token → Type 0) (on : GoesOn s P Q) where
   bytes_more : (a b : ℕ) (t : Token) (rest : List Token) → P (t ∷ rest) → IfSome (bytes_behind s a b t rest) Ended
   unfolding bytes_behind
   bytes_more a b t rest h =
-      tested (is_mark s t mark.CloseParen) (Some (literal.Bytes (a ∷ b ∷ []), rest)) _ Ended (λ is. passed_quiet t rest (quiet_close_paren s t is) h)
+      branch_holds (is_mark s t mark.CloseParen) (Some (literal.Bytes (a ∷ b ∷ []), rest)) _ Ended (λ is. passed_quiet t rest (quiet_close_paren s t is) h)
       (λ isnt. passed (is_mark s t mark.Comma) (last_bytes s a b rest) Ended (λ is. bytes_last a b rest (step_quiet t rest (quiet_comma s t is) h)))
 
   bytes_read : (ts : List Token) → P ts → IfSome (bytes_at s ts) Ended
@@ -594,7 +594,7 @@ module _ (s : List ℕ) (P Q : List Token → Type 0) (on : GoesOn s P Q) where
   long_read : (t : Token) (rest : List Token) → P (t ∷ rest) → IfSome (long_literal s t rest) Ended
   unfolding long_literal
   long_read t rest h =
-      tested (is_mark s t mark.Bytes) (bytes_at s rest) _ Ended (λ is. bytes_read rest (step_quiet t rest (quiet_bytes s t is) h))
+      branch_holds (is_mark s t mark.Bytes) (bytes_at s rest) _ Ended (λ is. bytes_read rest (step_quiet t rest (quiet_bytes s t is) h))
       (λ isnt. mapped (signed_number_at s t rest) _ Ended Ended (signed t rest (λ q. step_quiet t rest q h)) (λ r q. q))
 
   literal_read : (ts : List Token) → P ts → IfSome (literal_at s ts) Ended
@@ -706,7 +706,7 @@ module _ (s : List ℕ) (P Q : List Token → Type 0) (on : GoesOn s P Q) where
   unfolding simple_at
   simple t rest h =
       passed (has_kind t kind.Word) _ Ended
-      (λ word. tested (is_key s t key.DateAndTime) _ _ Ended (λ is. passed_quiet t rest (quiet_key s t key.DateAndTime is) h)
+      (λ word. branch_holds (is_key s t key.DateAndTime) _ _ Ended (λ is. passed_quiet t rest (quiet_key s t key.DateAndTime is) h)
       (λ isnt. mapped (look_up simple_types (text_of s t)) _ (λ k. is_free (text_of s t) ≡ true) Ended (free_word simple_types (text_of s t) simple_types_free)
       (λ k free. passed_quiet t rest (quiet_text s t free) h)))
 
@@ -836,7 +836,7 @@ module _ (s : List ℕ) (P Q : List Token → Type 0) (on : GoesOn s P Q) where
   unfolding step_at
   path_step [] h = tt
   path_step (t ∷ rest) h =
-      tested (is_mark s t mark.Dot) (name_step s rest) _ Ended (λ is. name t rest (sign_dot s t is) h)
+      branch_holds (is_mark s t mark.Dot) (name_step s rest) _ Ended (λ is. name t rest (sign_dot s t is) h)
       (λ isnt. passed (is_mark s t mark.OpenBracket) _ Ended
       (λ is. chained (int_at s rest) _ Ended Ended (int_behind rest (step_quiet t rest (quiet_open_bracket s t is) h)) (λ r k. index r.0 r.1 (weaker r.1 k))))
 
@@ -866,7 +866,7 @@ module _ (s : List ℕ) (P Q : List Token → Type 0) (on : GoesOn s P Q) where
   unfolding result_type
   type_behind [] h = tt
   type_behind (t ∷ rest) h =
-      tested (is_key s t key.Void) (Some (None, rest)) _ Ended (λ is. passed_quiet t rest (quiet_key s t key.Void is) h)
+      branch_holds (is_key s t key.Void) (Some (None, rest)) _ Ended (λ is. passed_quiet t rest (quiet_key s t key.Void is) h)
       (λ isnt. mapped (look_up simple_types (text_of s t)) _ (λ k. is_free (text_of s t) ≡ true) Ended (free_word simple_types (text_of s t) simple_types_free)
       (λ k free. passed_quiet t rest (quiet_text s t free) h))
 

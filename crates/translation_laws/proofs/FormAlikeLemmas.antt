@@ -218,14 +218,14 @@ abbrev pub AreFormed : List ℕ → List Token → Type 0
 AreFormed s [] = Unit {0}
 AreFormed s (t ∷ ts) = IsFormed s t × AreFormed s ts
 
-followed : (s : List ℕ) (from : ℕ) (minus : Bool) (ts : List Token) → TokensFollow s (λ from minus. IsEndOfTokens s from) from minus ts → AreFormed s ts
-followed s from minus [] h = tt
-followed s from minus (t ∷ ts) h =
-    ((drop (t.end - t.start) (drop t.start s), h.0.longest.fits.fits), followed s t.end (is_minus t.kind (text_of s t)) ts h.1)
+tokens_formed_from : (s : List ℕ) (from : ℕ) (minus : Bool) (ts : List Token) → TokensFollow s (λ from minus. IsEndOfTokens s from) from minus ts → AreFormed s ts
+tokens_formed_from s from minus [] h = tt
+tokens_formed_from s from minus (t ∷ ts) h =
+    ((drop (t.end - t.start) (drop t.start s), h.0.longest.fits.fits), tokens_formed_from s t.end (is_minus t.kind (text_of s t)) ts h.1)
 
-pub formed : (s : List ℕ) (ts : List Token) → AreTokens s ts → AreFormed s ts
+pub tokens_formed : (s : List ℕ) (ts : List Token) → AreTokens s ts → AreFormed s ts
 unfolding AreTokens
-formed s ts are = followed s 0 false ts are
+tokens_formed s ts are = tokens_formed_from s 0 false ts are
 
 -- the word of a jump is a word, and one for the walk
 jump_word : (s : List ℕ) (t : Token) (m : Mnemonic × OperandSyntax) → IsFormed s t → look_up mnemonics (text_of s t) ≡ Some m → is_jump_form m ≡ true

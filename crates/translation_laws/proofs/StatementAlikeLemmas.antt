@@ -35,7 +35,7 @@ use Rattle.stl_parser.specs.Parts.{parts_from}
 use Rattle.stl_parser.specs.Statements.{actual_at, actuals_behind, actuals_end, actuals_of, after_paren, behind_word, block_call_of, call_of, one_token_instruction, data_block_at, instance_at, instruction_of, is_long_label, jump_of, labelled_statement, may_be_of_kind, next_actual, open_of, opening_instruction, statement_without_actuals, statement_with_label, statement_of, unlabelled_statement, value_ends, value_length, value_of, statement_with_operand, zone_end_of}
 use Rattle.stl_parser.specs.Tables.{addresses, look_up, mnemonics, opening_mnemonics}
 use Rattle.stl_parser.specs.Terminals.{has_kind, is_key, is_mark, key_text, kind_rank}
-use Rattle.translation_laws.proofs.AgreeAlikeLemmas.{Agree, Behind, Equal, Follows, Pair, Rests, IsSamePair, also, counts, decided, guarded, equal, goes_on, lefts, mapped, nothing, of_none, parts_follow, rest, rights, something, tested, then_decided, then_either, then_goes_on, then_mapped, then_nothing, whole_follows, whole_same}
+use Rattle.translation_laws.proofs.AgreeAlikeLemmas.{Agree, Behind, Equal, Follows, Pair, Rests, IsSamePair, also, counts, agree_decided, agree_guarded, equal, goes_on, lefts, agree_mapped, nothing, of_none, parts_follow, rest, rights, something, agree_tested, then_decided, then_either, then_goes_on, then_mapped, then_nothing, whole_follows, whole_same}
 use Rattle.translation_laws.proofs.LikeAlikeLemmas.{key_like, kind_like, mark_like, no_key, no_mark, of_kind, same_kind, text_like}
 use Rattle.translation_laws.proofs.NumberAlikeLemmas.{block_agrees}
 use Rattle.translation_laws.proofs.OperandAlikeLemmas.{Fits, HeadForeign, HeadSame, JoinedTo, apart, closed, first, foreign_none, operand_follows, operand_same_or, second}
@@ -149,7 +149,7 @@ module _ (s e : List ℕ) where
 
   actuals_end_agree : (ps : List (Pair s e)) → Fits s e ps → Agree (Rests s e (Fits s e)) (actuals_end s (lefts ps)) (actuals_end e (rights ps))
   unfolding actuals_end
-  actuals_end_agree (p ∷ []) h = tested (mark_like s e p mark.CloseParen) (λ is. something (rest s e (Fits s e) [] tt))
+  actuals_end_agree (p ∷ []) h = agree_tested (mark_like s e p mark.CloseParen) (λ is. something (rest s e (Fits s e) [] tt))
   actuals_end_agree _ h = nothing
 
   actuals_behind_follow : (ps : List (Pair s e)) → Fits s e ps → Follows Equal (actuals_behind s (lefts ps)) (actuals_behind e (rights ps))
@@ -171,14 +171,14 @@ module _ (s e : List ℕ) where
 
   data_block_agrees : (ps : List (Pair s e)) → Fits s e ps → Agree (Behind s e (Fits s e) {X = BlockName}) (data_block_at s (lefts ps)) (data_block_at e (rights ps))
   unfolding data_block_at
-  data_block_agrees ps h = goes_on _ _ (blocks ps h) (λ x qs k. guarded (may_be_of_kind x is_data_block) (something (refl, rest s e (Fits s e) qs k)))
+  data_block_agrees ps h = goes_on _ _ (blocks ps h) (λ x qs k. agree_guarded (may_be_of_kind x is_data_block) (something (refl, rest s e (Fits s e) qs k)))
 
   instance_agrees : (name : BlockName) (ps : List (Pair s e)) → Fits s e ps → Agree (Behind s e (Fits s e) {X = Option BlockName}) (instance_at s name (lefts ps)) (instance_at e name (rights ps))
   unfolding instance_at
   instance_agrees name [] h = something (refl, rest s e (Fits s e) [] tt)
   instance_agrees name (p ∷ ps) h =
-      decided (mark_like s e p mark.Comma)
-      (λ is. guarded (may_be_of_kind name is_function_block) (mapped _ _ (data_block_agrees ps h.2) (λ x y k. (ap Some k.0, k.1))))
+      agree_decided (mark_like s e p mark.Comma)
+      (λ is. agree_guarded (may_be_of_kind name is_function_block) (agree_mapped _ _ (data_block_agrees ps h.2) (λ x y k. (ap Some k.0, k.1))))
       (λ isnt. something (refl, rest s e (Fits s e) (p ∷ ps) h))
 
   call_follows : (code : Mnemonic) (ps : List (Pair s e)) → Fits s e ps → Follows Equal (call_of s code (lefts ps)) (call_of e code (rights ps))

@@ -39,7 +39,7 @@ use Rattle.translation_laws.proofs.LikeAlikeLemmas.{same_kind}
 use Rattle.translation_laws.proofs.BodyAlikeLemmas.{Weak, body_gives}
 use Rattle.translation_laws.proofs.CalmLemmas.{AreCalm, IsCalmClause, calm_of, is_statement, last_class}
 use Rattle.translation_laws.proofs.ClauseAlikeLemmas.{NoteKind}
-use Rattle.translation_laws.proofs.FormAlikeLemmas.{AreFormed, formed, start_front, statement_from, statement_walked}
+use Rattle.translation_laws.proofs.FormAlikeLemmas.{AreFormed, tokens_formed, start_front, statement_from, statement_walked}
 use Rattle.translation_laws.proofs.FrameAlikeLemmas.{Stands, is_body, is_note, is_quiet, place_after, quiet_place}
 use Rattle.translation_laws.proofs.StatementAlikeLemmas.{lefts_drop, lefts_take}
 use Rattle.translation_laws.proofs.StepAlikeLemmas.{AllSame, IsFound, clause_gives, cut_at, inside_no_begin, next_drop}
@@ -451,7 +451,7 @@ alike_by frame s e ts us t are alike is =
       clauses = is.clauses;
       reads = subst (λ (l : List Token). ReadsClauses e clause_place.Outside l is.clauses clause_place.Outside []) z.right
           (reads_alike frame s e is.clauses clause_place.Outside place.Outside class.Other z.pairs
-          (subst (λ (l : List Token). AreFormed s l) (sym z.left) (formed s ts are)) (refl, refl) z.walk
+          (subst (λ (l : List Token). AreFormed s l) (sym z.left) (tokens_formed s ts are)) (refl, refl) z.walk
           (subst (λ (l : List Token). ReadsClauses s clause_place.Outside l is.clauses clause_place.Outside []) (sym z.left) is.reads));
       those = is.those;
     }

@@ -196,15 +196,15 @@ joined_fold all labels (l ∷ ls) steps joined =
     joined_fold all (labels_after_link labels l) ls (λ m n h. steps m n (inr h)) (joined_link all labels l (λ m n h. steps m n (inl h)) joined)
 
 -- at first each has its own
-counted : (a n m x : ℕ) → slice_get (range_with_len a n) m ≡ Some x → x ≡ a + m
-counted a zero m x e = absurd cc
-counted a (suc n) zero x e = let same : a ≡ x = same_Some a x e in omega (arith, same)
-counted a (suc n) (suc m) x e = let rest = counted (a + 1) n m x e in omega (arith, rest)
+range_at : (a n m x : ℕ) → slice_get (range_with_len a n) m ≡ Some x → x ≡ a + m
+range_at a zero m x e = absurd cc
+range_at a (suc n) zero x e = let same : a ≡ x = same_Some a x e in omega (arith, same)
+range_at a (suc n) (suc m) x e = let rest = range_at (a + 1) n m x e in omega (arith, rest)
 
 joined_first : (all : List Link) (count : ℕ) → AreJoined all (range_with_len 0 count)
 joined_first all count m n x e f =
-    let one = counted 0 count m x e in
-    let two = counted 0 count n x f in
+    let one = range_at 0 count m x e in
+    let two = range_at 0 count n x f in
     ([], omega (arith, one, two))
 
 labels_long : (count : ℕ) (ls : List Link) → length (chain_labels count ls) ≡ count
@@ -259,7 +259,7 @@ few_fold count labels (l ∷ ls) few = few_fold count (labels_after_link labels 
 
 few_first : (count : ℕ) → AreFew count (range_with_len 0 count)
 few_first count m x e =
-    let at = counted 0 count m x e in
+    let at = range_at 0 count m x e in
     let within = slice_get_within (range_with_len 0 count) m x e in
     let long = length-range_with_len 0 count in
     omega (arith, at, within, long)

@@ -47,10 +47,10 @@ input_is n = by (n == 1) (n == 2)
 section_is : (f : Formal) (r : ParameterRecord) → IsListedAs f r → is_input_section f.section ≡ (r.section == 1)
 section_is f r h = ap is_input_section h.section ∙ input_is r.section
 
-taken : (s own : Bool) → (not s && own) ≡ false → (s || not own) ≡ true
-taken true own e = refl
-taken false true e = absurd cc
-taken false false e = refl
+section_taken : (s own : Bool) → (not s && own) ≡ false → (s || not own) ≡ true
+section_taken true own e = refl
+section_taken false true e = absurd cc
+section_taken false false e = refl
 
 in_block_is : (a : Environment) (number : ℕ) (g : Area) (w : Width) (byte bit : ℕ) → is_bad_actual a (passed.InBlock number g w byte bit) ≡ false → g ≡ area.Db
 in_block_is a number area.Db w byte bit e = refl
@@ -77,7 +77,7 @@ fitting_listed a c own f r (passed.Parameter index w) h few right fits backed =
       backed.0,
       width_is backed.0 backed.1 w backed.3 (ap (λ o. lacks_own_parameter o w) (sym backed.2) ∙ right),
       backed.4,
-      taken (is_input_section f.section) (is_input_section backed.0.section)
+      section_taken (is_input_section f.section) (is_input_section backed.0.section)
           (ap (λ (t : Bool). not t && is_input_section backed.0.section) (section_is f r h)
           ∙ ap (λ (t : Bool). not (r.section == 1) && t) (section_is backed.0 backed.1 backed.3)
           ∙ ap (λ o. not (r.section == 1) && is_in_parameter o) (sym backed.2) ∙ parts.1),

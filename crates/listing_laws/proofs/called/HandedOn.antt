@@ -257,13 +257,13 @@ module _ (types : BlockId → List Simple) where
       let long = long_compiled bs h.lengths in
       blocks_fine (map compiled_block bs) long [] 0 bs refl refl long h.calls
 
-parted : (P Q : Link → Type 0) (ls : List Link) → AllByRecursion (λ (l : Link). P l × Q l) ls → AllByRecursion P ls × AllByRecursion Q ls
-parted P Q [] h = (tt, tt)
-parted P Q (l ∷ ls) h = let rest = parted P Q ls h.1 in ((h.0.0, rest.0), (h.0.1, rest.1))
+all_parted : (P Q : Link → Type 0) (ls : List Link) → AllByRecursion (λ (l : Link). P l × Q l) ls → AllByRecursion P ls × AllByRecursion Q ls
+all_parted P Q [] h = (tt, tt)
+all_parted P Q (l ∷ ls) h = let rest = all_parted P Q ls h.1 in ((h.0.0, rest.0), (h.0.1, rest.1))
 
 pub links_handed_on : AreLinksHandedOn
 links_handed_on types blocks h =
-    parted (IsLinkBelow (total_parameter_count (map compiled_block blocks))) (IsKeptBy (declared_type_in types (map compiled_block blocks))) (links (map compiled_block blocks)) (all_fine types blocks h)
+    all_parted (IsLinkBelow (total_parameter_count (map compiled_block blocks))) (IsKeptBy (declared_type_in types (map compiled_block blocks))) (links (map compiled_block blocks)) (all_fine types blocks h)
 
 pub types_listed : AreTypesListed
 types_listed types blocks h =

@@ -60,7 +60,7 @@ use Rattle.listing_laws.proofs.declared.Right.{code_right, data_right}
 use Rattle.listing_laws.proofs.declared.Sections.{AreGrouped}
 use Rattle.listing_laws.specs.Rules.{AreDeclarationsRight, AreListedDeclarationsRight, AreListedHeadsRight, AreListedInstancesShort, IsHeadRight}
 use Rattle.listing_laws.proofs.declared.Locals.{body_near}
-use Rattle.listing_laws.proofs.declared.Sources.{HasSections, has_sections, made, made_sections, sections_apart}
+use Rattle.listing_laws.proofs.declared.Sources.{HasSections, has_sections, section_params, made_sections, sections_apart}
 
 -- ---- a block of the source that is no function block
 
@@ -74,11 +74,11 @@ pub record IsOrdinary (b : CodeBlock) : Type 0 where
   pub plain : AllByRecursion IsPlain b.params
   pub last : AreOf 2 groups.last
 
-made_of : (all : List Cell) (section : ℕ) (cs : List Cell) → AreOf section (made false all section cs)
+made_of : (all : List Cell) (section : ℕ) (cs : List Cell) → AreOf section (section_params false all section cs)
 made_of all section [] = tt
 made_of all section (c ∷ cs) = (refl, made_of all section cs)
 
-made_plain : (all : List Cell) (section : ℕ) (cs : List Cell) → AllByRecursion IsPlain (made false all section cs)
+made_plain : (all : List Cell) (section : ℕ) (cs : List Cell) → AllByRecursion IsPlain (section_params false all section cs)
 made_plain all section [] = tt
 made_plain all section (c ∷ cs) = ((refl, refl), made_plain all section cs)
 
@@ -295,10 +295,10 @@ laid_instance symbols t k b l id h e code fb = record {
     has_length : instance_len b l ≡ l.length
     has_length = ap (λ (s : Bool). if s then l.length else 0) own_fb
 
-pub sourced : (symbols : List Symbol) (t : Tree) (k : ℕ) (b : Block) (l : BlockLayout) (id : BlockId) → IsSound symbols t k b l → l.id ≡ Some id → is_code id.kind ≡ true
+pub is_sourced : (symbols : List Symbol) (t : Tree) (k : ℕ) (b : Block) (l : BlockLayout) (id : BlockId) → IsSound symbols t k b l → l.id ≡ Some id → is_code id.kind ≡ true
     → IsSourced (compiled_block (code_block (context_at symbols t k) b l id))
 unfolding block_layout params_of
-sourced symbols t k b l id h e code = record {
+is_sourced symbols t k b l id h e code = record {
   code = code;
   few = few;
   is_even = ap (λ n. n % 2) long ∙ (local_of y b own_code).0;
@@ -355,13 +355,13 @@ sourced symbols t k b l id h e code = record {
         own_fb = ap is_function_block kind ∙ fb
 
         ins : List Param
-        ins = made false l.components 1 parts.ins
+        ins = section_params false l.components 1 parts.ins
 
         outs : List Param
-        outs = made false l.components 2 parts.outs
+        outs = section_params false l.components 2 parts.outs
 
         both : List Param
-        both = made false l.components 3 parts.both
+        both = section_params false l.components 3 parts.both
 
         are : params_of b l ≡ (ins ++ (outs ++ both)) ++ returned_params b.result
         are =
@@ -524,7 +524,7 @@ are_declared_again source file symbols t accepted bytes file_bytes =
     let p = program_in symbols t in
     let blocks = code_blocks_of t symbols (layouts_of t symbols) in
     let verified = (accepted_verifies source file symbols t accepted bytes file_bytes).1 in
-    let from = all_compiled IsSourced blocks (sound_code_blocks symbols t (λ x. IsSourced (compiled_block x)) tree (sourced symbols t)) in
+    let from = all_compiled IsSourced blocks (sound_code_blocks symbols t (λ x. IsSourced (compiled_block x)) tree (is_sourced symbols t)) in
     all_again (chains_of p.code_blocks) (signatures_in p) (lens_of p.data_blocks) (map record_of_block p.code_blocks) p.code_blocks verified.blocks from
     (all_known (chains_of p.code_blocks) 0 p.code_blocks (rise_after blocks (code_blocks_rise symbols t tree)) (kinds_wide p (all_codes p.code_blocks from) verified))
 
@@ -537,7 +537,7 @@ codes_known source file symbols t accepted bytes file_bytes =
     let p = program_in symbols t in
     let blocks = code_blocks_of t symbols (layouts_of t symbols) in
     let verified = (accepted_verifies source file symbols t accepted bytes file_bytes).1 in
-    let from = all_compiled IsSourced blocks (sound_code_blocks symbols t (λ x. IsSourced (compiled_block x)) tree (sourced symbols t)) in
+    let from = all_compiled IsSourced blocks (sound_code_blocks symbols t (λ x. IsSourced (compiled_block x)) tree (is_sourced symbols t)) in
     all_both IsSourced (IsKnown (chains_of p.code_blocks) (signatures_in p)) p.code_blocks from
     (all_known (chains_of p.code_blocks) 0 p.code_blocks (rise_after blocks (code_blocks_rise symbols t tree)) (kinds_wide p (all_codes p.code_blocks from) verified))
 
@@ -546,7 +546,7 @@ pub codes_wide : (source file : List ℕ) (symbols : List Symbol) (t : Tree) →
 codes_wide source file symbols t accepted bytes file_bytes =
     let tree = right_tree source file symbols t accepted in
     let blocks = code_blocks_of t symbols (layouts_of t symbols) in
-    let from = all_compiled IsSourced blocks (sound_code_blocks symbols t (λ x. IsSourced (compiled_block x)) tree (sourced symbols t)) in
+    let from = all_compiled IsSourced blocks (sound_code_blocks symbols t (λ x. IsSourced (compiled_block x)) tree (is_sourced symbols t)) in
     kinds_wide (program_in symbols t) (all_codes (program_in symbols t).code_blocks from) (accepted_verifies source file symbols t accepted bytes file_bytes).1
 
 -- no block has the kind and number of one behind it
@@ -564,8 +564,8 @@ fronts_apart front back b rise = by front (rise_after (front ++ b ∷ back) rise
 
 -- ---- the rules of declarations
 
-pub grouped : (c : Chains) (ss : List Signature) (b : CodeBlock) → IsSourced b → IsKnown c ss b → AreGrouped (formals_of_block ss b.id)
-grouped c ss b s known = subst AreGrouped (sym known.are) (by s.shape)
+pub formals_grouped : (c : Chains) (ss : List Signature) (b : CodeBlock) → IsSourced b → IsKnown c ss b → AreGrouped (formals_of_block ss b.id)
+formals_grouped c ss b s known = subst AreGrouped (sym known.are) (by s.shape)
   where
     by : HasShape b → AreGrouped (formals_from c (is_function b.id.kind) false 0 known.first b.params)
     by (OfInstance fb i) = (all_listed c (is_function b.id.kind) known.first b.params (instance_groups b (is_function b.id.kind) i s.few) known.wide).groups
@@ -574,7 +574,7 @@ grouped c ss b s known = subst AreGrouped (sym known.are) (by s.shape)
 codes_right : (c : Chains) (ss : List Signature) (y : Types) (line : ℕ) (bs : List CodeBlock) → AllByRecursion IsSourced bs → AllByRecursion (IsKnown c ss) bs
     → AllByRecursion (λ b. AreDeclarationsRight y (listed_block ss line b)) bs
 codes_right c ss y line [] h k = tt
-codes_right c ss y line (b ∷ bs) (one, more) (known, knowns) = (code_right y ss line b (grouped c ss b one known), codes_right c ss y line bs more knowns)
+codes_right c ss y line (b ∷ bs) (one, more) (known, knowns) = (code_right y ss line b (formals_grouped c ss b one known), codes_right c ss y line bs more knowns)
 
 datas_right : (ss : List Signature) (y : Types) (line : ℕ) (ds : List DataBlock) → AllByRecursion (λ d. AreDeclarationsRight y (listed_data ss line d.number d.bytes d.instance_of)) ds
 datas_right ss y line [] = tt
@@ -587,7 +587,7 @@ listed_right source file symbols t accepted bytes file_bytes y line =
     let p = program_in symbols t in
     let blocks = code_blocks_of t symbols (layouts_of t symbols) in
     let verified = (accepted_verifies source file symbols t accepted bytes file_bytes).1 in
-    let from = all_compiled IsSourced blocks (sound_code_blocks symbols t (λ x. IsSourced (compiled_block x)) tree (sourced symbols t)) in (
+    let from = all_compiled IsSourced blocks (sound_code_blocks symbols t (λ x. IsSourced (compiled_block x)) tree (is_sourced symbols t)) in (
       codes_right (chains_of p.code_blocks) (signatures_in p) y line p.code_blocks from
           (all_known (chains_of p.code_blocks) 0 p.code_blocks (rise_after blocks (code_blocks_rise symbols t tree)) (kinds_wide p (all_codes p.code_blocks from) verified)),
       datas_right (signatures_in p) y line p.data_blocks,
@@ -658,7 +658,7 @@ listed_heads source file symbols t accepted bytes file_bytes y line =
     let tree = right_tree source file symbols t accepted in
     let p = program_in symbols t in
     let blocks = code_blocks_of t symbols (layouts_of t symbols) in
-    let from = all_compiled IsSourced blocks (sound_code_blocks symbols t (λ x. IsSourced (compiled_block x)) tree (sourced symbols t)) in (
+    let from = all_compiled IsSourced blocks (sound_code_blocks symbols t (λ x. IsSourced (compiled_block x)) tree (is_sourced symbols t)) in (
       heads_right (signatures_in p) y line p.code_blocks from (are_declared_again source file symbols t accepted bytes file_bytes),
       data_heads (signatures_in p) y line p.data_blocks (sound_data_blocks symbols t IsNumbered tree (data_numbered symbols t)),
     )
@@ -666,13 +666,13 @@ listed_heads source file symbols t accepted bytes file_bytes y line =
 not_long : (n : ℕ) → n ≤ 16384 → nat_lt 16384 n ≡ false
 not_long n h = grind (arith, nat_tests)
 
-unstructured : (k : BlockKind) → is_code k ≡ true → is_function_block k ≡ false → is_structured k ≡ false
-unstructured kinds.Ob e f = refl
-unstructured kinds.Fc e f = refl
-unstructured kinds.Fb e f = absurd cc
-unstructured kinds.Db e f = absurd cc
-unstructured kinds.Udt e f = absurd cc
-unstructured kinds.Sfc e f = absurd cc
+code_unstructured : (k : BlockKind) → is_code k ≡ true → is_function_block k ≡ false → is_structured k ≡ false
+code_unstructured kinds.Ob e f = refl
+code_unstructured kinds.Fc e f = refl
+code_unstructured kinds.Fb e f = absurd cc
+code_unstructured kinds.Db e f = absurd cc
+code_unstructured kinds.Udt e f = absurd cc
+code_unstructured kinds.Sfc e f = absurd cc
 
 no_length : (y : Types) (blocks : List Block) (b : Block) → is_structured b.kind ≡ false → length_of_block y blocks b ≡ 0
 unfolding length_of_block
@@ -683,7 +683,7 @@ short_code ss y blocks line b s again = by s.shape
   where
     by : HasShape b → nat_lt 16384 (length_of_block y blocks (listed_block ss line b)) ≡ false
     by (OfInstance fb i) = ap (nat_lt 16384) (again.instance_len y blocks line fb) ∙ not_long b.instance_len i.short
-    by (Ordinary fb o) = ap (nat_lt 16384) (no_length y blocks (listed_block ss line b) (unstructured b.id.kind s.code fb)) ∙ refl
+    by (Ordinary fb o) = ap (nat_lt 16384) (no_length y blocks (listed_block ss line b) (code_unstructured b.id.kind s.code fb)) ∙ refl
 
 short_codes : (ss : List Signature) (y : Types) (blocks : List Block) (line : ℕ) (bs : List CodeBlock) → AllByRecursion IsSourced bs → AllByRecursion (IsDeclaredAgain ss) bs
     → AllByRecursion (λ b. nat_lt 16384 (length_of_block y blocks (listed_block ss line b)) ≡ false) bs
@@ -695,5 +695,5 @@ listed_short source file symbols t accepted bytes file_bytes y others line =
     let tree = right_tree source file symbols t accepted in
     let p = program_in symbols t in
     let blocks = code_blocks_of t symbols (layouts_of t symbols) in
-    let from = all_compiled IsSourced blocks (sound_code_blocks symbols t (λ x. IsSourced (compiled_block x)) tree (sourced symbols t)) in
+    let from = all_compiled IsSourced blocks (sound_code_blocks symbols t (λ x. IsSourced (compiled_block x)) tree (is_sourced symbols t)) in
     short_codes (signatures_in p) y others line p.code_blocks from (are_declared_again source file symbols t accepted bytes file_bytes)

@@ -176,10 +176,10 @@ pub behind_all : {A : Type 0} (xs : List A) (y : A) (ys : List A) → slice_get 
 behind_all [] y ys = refl
 behind_all (x ∷ xs) y ys = behind_all xs y ys
 
-pub mapped : {A B : Type 0} (f : A → B) (xs : List A) (j : ℕ) (x : A) → slice_get xs j ≡ Some x → slice_get (map f xs) j ≡ Some (f x)
-mapped f [] j x e = absurd cc
-mapped f (z ∷ zs) zero x e = let same : z ≡ x = cc in ap (λ y. Some (f y)) same
-mapped f (z ∷ zs) (suc j) x e = mapped f zs j x e
+pub slice_get_mapped : {A B : Type 0} (f : A → B) (xs : List A) (j : ℕ) (x : A) → slice_get xs j ≡ Some x → slice_get (map f xs) j ≡ Some (f x)
+slice_get_mapped f [] j x e = absurd cc
+slice_get_mapped f (z ∷ zs) zero x e = let same : z ≡ x = cc in ap (λ y. Some (f y)) same
+slice_get_mapped f (z ∷ zs) (suc j) x e = slice_get_mapped f zs j x e
 
 pub listed_there : (p : Program) (ss : List Signature) (j : ℕ) (b : CodeBlock) → slice_get (in_lines p.code_blocks) j ≡ Some b → (bs : List Block)
     → IsListedAt ss (listed_blocks ss 1 (in_lines p.code_blocks) ++ bs) j b

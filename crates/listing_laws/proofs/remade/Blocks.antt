@@ -37,7 +37,7 @@ use Rattle.listing_laws.specs.Declared.{signatures_in}
 use Rattle.listing_laws.specs.Passings.{AreNamedApart, in_upper_case}
 use Rattle.listing_laws.proofs.BlockLemmas.{all_sorted}
 use Rattle.listing_laws.proofs.called.Names.{own_names_apart}
-use Rattle.listing_laws.proofs.declared.Blocks.{HasShape, IsKnown, IsSourced, OfInstance, Ordinary, codes_known, grouped}
+use Rattle.listing_laws.proofs.declared.Blocks.{HasShape, IsKnown, IsSourced, OfInstance, Ordinary, codes_known, formals_grouped}
 use Rattle.listing_laws.proofs.declared.Groups.{AreOf, Ends, HasEnd, HasGroups, Returns}
 use Rattle.listing_laws.proofs.declared.Kept.{instance_groups}
 use Rattle.listing_laws.proofs.declared.Sections.{AreGrouped, IsLast, Nothing as NoLast, Returned as LastReturned}
@@ -207,7 +207,7 @@ listed_code source file symbols t accepted bytes file_bytes others clean again p
         made.ordered
 
     groups : AreGrouped (formals_of_block ss cb.id)
-    groups = grouped c ss cb both.0 both.1
+    groups = formals_grouped c ss cb both.0 both.1
 
     outputs : AllByRecursion (λ f. f.name ≡ return_name → f.section ≡ part.Output) (formals_of_block ss cb.id)
     outputs = subst (AllByRecursion (λ f. f.name ≡ return_name → f.section ≡ part.Output)) (sym both.1.are)

@@ -69,11 +69,11 @@ use Rattle.listing_laws.specs.Passings.{BreaksNone, FitsListed, IsListedCall}
 use Rattle.listing_laws.specs.CallsAgain.{IsCalledAgain, IsFoundAgain}
 use Rattle.listing_laws.specs.Statements.{run_of}
 use Rattle.listing_laws.proofs.called.Calls.{calls_listed, calls_whole, instances_right, statements_listed}
-use Rattle.listing_laws.proofs.called.Passings.{actuals_right, all_actuals, calls_complete, sees, undated}
+use Rattle.listing_laws.proofs.called.Passings.{actuals_right, all_actuals, calls_complete, sees, operand_undated}
 use Rattle.listing_laws.proofs.right.Named.{AreTypesOf, IsBare, bare_inside, operand_bare, passed_bare, seen_there}
 use Rattle.listing_laws.proofs.right.Placed.{labels_seen, listed_as, readable}
 use Rattle.listing_laws.proofs.ruled.Calling.{rule_called, same_kind}
-use Rattle.listing_laws.proofs.ruled.Instructions.{acting_word, comes_to, end_operand, end_taken, jump_taken, jumped, leap_operand, nothing_seen, rule_broken, what_seen}
+use Rattle.listing_laws.proofs.ruled.Instructions.{acting_word, comes_to, end_operand, end_taken, jump_taken, jump_instruction, leap_operand, nothing_seen, rule_broken, what_seen}
 use Rattle.listing_laws.proofs.ruled.Marks.{call_comes, calls_block, word_is}
 use Rattle.listing_laws.proofs.ruled.Operands.{operands_kept}
 use Rattle.listing_laws.proofs.ruled.Rules.{taken_view}
@@ -215,7 +215,7 @@ jump_right y c listed sur f body k s how types h word =
     name = label_of_number (number_at sur.starts (f (target_of body s.operand)))
 
     is : instruction c body k s ≡ jump_instr how k n
-    is = jumped c body k s how h
+    is = jump_instruction c body k s how h
 
     shown : (listed_statement sur k (run_of f (jump_instr how k n))).operand ≡ operand.Label name
     shown = leap_operand sur k f how k n
@@ -452,7 +452,7 @@ called_right y c listed sur f k s how id instance callee types has h e is_call s
     breaks = actuals_right listed sur.formals called q.found ps again is_listed
 
     undated_in : (p : Passing) (g : Formal) → slice_get called p.index ≡ Some g → FitsListed listed sur.formals g p.actual → is_resolved_date (resolution_of listed (passed_operand sur.formals g p.actual)) ≡ false
-    undated_in p g at fits = undated listed sur.formals g p.actual fits
+    undated_in p g at fits = operand_undated listed sur.formals g p.actual fits
 
     sound_call : IsSoundCall listed q.found again
     sound_call = record {

@@ -54,13 +54,13 @@ use Rattle.listing_laws.specs.Whole.{AreBlocksRightAgain, AreDataLaid, HasShapeA
 use Rattle.listing_laws.proofs.HeadLemmas.{blocks_once}
 use Rattle.listing_laws.proofs.IdLemmas.{blocks_found, source_ids, source_symbols}
 use Rattle.listing_laws.proofs.OrderLemmas.{all_sorted, length_sorted}
-use Rattle.listing_laws.proofs.declared.Blocks.{IsSourced, are_declared_again, listed_heads, listed_right, listed_short, sourced}
+use Rattle.listing_laws.proofs.declared.Blocks.{IsSourced, are_declared_again, listed_heads, listed_right, listed_short, is_sourced}
 use Rattle.listing_laws.proofs.declared.OwnData.{own_data}
 use Rattle.listing_laws.proofs.unbroken.Bodies.{few_statements}
 use Rattle.listing_laws.proofs.unbroken.Heads.{blocks_right, heads_whole}
 use Rattle.listing_laws.proofs.unbroken.Instances.{HasFunctionBlock, IsStored, all_stored, data_long, structure_long}
 use Rattle.listing_laws.proofs.unbroken.Parameters.{few_formals, few_parameters}
-use Rattle.listing_laws.proofs.unbroken.Sums.{both_summed, counted, data_size, few_data, short_data, source_bytes}
+use Rattle.listing_laws.proofs.unbroken.Sums.{both_summed, data_block_count, data_size, few_data, short_data, source_bytes}
 
 -- ---- lists
 
@@ -290,11 +290,11 @@ codes_no_data : (ss : List Signature) (reached : ℕ) (bs : List CodeBlock) → 
 codes_no_data ss reached [] h = tt
 codes_no_data ss reached (b ∷ bs) h = (no_data b.id.kind h.0, codes_no_data ss (line_behind_statements reached b.lines) bs h.1)
 
-data_counted : (ss : List Signature) (line : ℕ) (ds : List DataBlock) → AllByRecursion (λ d. counted (listed_data ss line d.number d.bytes d.instance_of) ≡ 1) ds
+data_counted : (ss : List Signature) (line : ℕ) (ds : List DataBlock) → AllByRecursion (λ d. data_block_count (listed_data ss line d.number d.bytes d.instance_of) ≡ 1) ds
 data_counted ss line [] = tt
 data_counted ss line (d ∷ ds) = (by d.instance_of, data_counted ss line ds)
   where
-    by : (o : Option ℕ) → counted (listed_data ss line d.number d.bytes o) ≡ 1
+    by : (o : Option ℕ) → data_block_count (listed_data ss line d.number d.bytes o) ≡ 1
     by None = refl
     by (Some of) = refl
 
@@ -345,7 +345,7 @@ tree_fine P p h k =
 tree_counted : (p : Program) → AllByRecursion (λ b. is_code b.id.kind ≡ true) (in_lines p.code_blocks) → data_blocks (listed_tree p).blocks ≡ length p.data_blocks
 unfolding listed_tree
 tree_counted p h =
-    both_summed counted (λ b e. ap (λ (t : Bool). cond {A = ℕ} t 1 0) e) (λ d. 1) (listed_in p)
+    both_summed data_block_count (λ b e. ap (λ (t : Bool). cond {A = ℕ} t 1 0) e) (λ d. 1) (listed_in p)
     (listed_blocks (signatures_in p) 1 (in_lines p.code_blocks)) p.data_blocks (codes_no_data (signatures_in p) 1 (in_lines p.code_blocks) h)
     (data_counted (signatures_in p) (data_line p) p.data_blocks)
     ∙ summed_ones p.data_blocks
@@ -364,7 +364,7 @@ few_counted codes datas names h = grind (arith, nat_tests)
 right_listing : (source file : List ℕ) (symbols : List Symbol) (t : Tree) → IsAccepted source file symbols t → AreBytes source → AreBytes file → (others : List Symbol) → IsRightListing symbols t others
 right_listing source file symbols t accepted bytes file_bytes others = record {
   heads = sound_heads y blocks [] blocks (heads_once y blocks (blocks_once t symbols others tree.by_layout.by_22)) fine
-      (few_data [] blocks (omega (arith, counted, most)))
+      (few_data [] blocks (omega (arith, data_count, most)))
       (short_data y blocks [] blocks (omega (arith, measured, long)));
   declared = all_declared y blocks blocks fine;
   laid = laid;
@@ -389,7 +389,7 @@ right_listing source file symbols t accepted bytes file_bytes others = record {
     small = accepted_is_small source file symbols t accepted
 
     from : AllByRecursion IsSourced p.code_blocks
-    from = all_into IsSourced compiled_block (code_blocks_of t symbols (layouts_of t symbols)) (sound_code_blocks symbols t (λ x. IsSourced (compiled_block x)) tree (sourced symbols t))
+    from = all_into IsSourced compiled_block (code_blocks_of t symbols (layouts_of t symbols)) (sound_code_blocks symbols t (λ x. IsSourced (compiled_block x)) tree (is_sourced symbols t))
 
     codes : AllByRecursion (λ b. is_code b.id.kind ≡ true) (in_lines p.code_blocks)
     codes = lines_all (λ b. is_code b.id.kind ≡ true) p.code_blocks (all_mapped IsSourced (λ b. is_code b.id.kind ≡ true) (λ b s. s.code) p.code_blocks from)
@@ -427,8 +427,8 @@ right_listing source file symbols t accepted bytes file_bytes others = record {
         (datas_fine y blocks p (data_line p) p.data_blocks (listed_heads source file symbols t accepted bytes file_bytes y (data_line p)).1
         (listed_right source file symbols t accepted bytes file_bytes y (data_line p)).1 stored laid)
 
-    counted : data_blocks blocks ≡ length p.data_blocks
-    counted = tree_counted p codes
+    data_count : data_blocks blocks ≡ length p.data_blocks
+    data_count = tree_counted p codes
 
     most : length p.data_blocks ≤ 256
     most = few_counted (length p.code_blocks) (length p.data_blocks) (length p.names) small.counts

@@ -276,34 +276,34 @@ instance_call source from line at g code (block.Number id) instance actuals here
 
 -- ---- what stands behind an instruction word that is one token
 
-called : (source : List ℕ) (from line at : ℕ) (g : Gap) (code : Mnemonic) (o : Operand) (actuals : List Actual) → line ≡ at
+call_read : (source : List ℕ) (from line at : ℕ) (g : Gap) (code : Mnemonic) (o : Operand) (actuals : List Actual) → line ≡ at
     → flat (gap_text g) ≡ true → IsCallOperand o → AllByRecursion (IsPrintedActual at) actuals → Texts source from line (operand_pieces g o ++ actuals_pieces actuals)
     → behind_word source form.Call code (tokens_of from line (operand_pieces g o ++ actuals_pieces actuals))
     ≡ Some (record { code = code; operand = o; actuals = actuals; long = false })
 unfolding operand_pieces instance_pieces
-called source from line at g code (operand.Called (block.Number id) None) actuals here one h all t =
+call_read source from line at g code (operand.Called (block.Number id) None) actuals here one h all t =
     subst (λ (ps : List Piece). Texts source from line (ps ++ actuals_pieces actuals)
     → behind_word source form.Call code (tokens_of from line (ps ++ actuals_pieces actuals))
     ≡ Some (record { code = code; operand = operand.Called (block.Number id) None; actuals = actuals; long = false }))
     (sym (append-nil (block_name_pieces g (block.Number id))))
     (λ u. alone_call source from line at g code id actuals here h all (numbered_tame g (block.Number id) one h) u) t
-called source from line at g code (operand.Called (block.Quoted n) None) actuals here one h all t = absurd h
-called source from line at g code (operand.Called name (Some instance)) actuals here one h all t =
+call_read source from line at g code (operand.Called (block.Quoted n) None) actuals here one h all t = absurd h
+call_read source from line at g code (operand.Called name (Some instance)) actuals here one h all t =
     instance_call source from line at g code name instance actuals here h.0 h.1 all (called_tame g (operand.Called name (Some instance)) one h) t
-called source from line at g code operand.Nothing actuals here one h all t = absurd h
-called source from line at g code (operand.Direct name area w byte bit) actuals here one h all t = absurd h
-called source from line at g code (operand.Timer n) actuals here one h all t = absurd h
-called source from line at g code (operand.Counter n) actuals here one h all t = absurd h
-called source from line at g code (operand.Named p steps) actuals here one h all t = absurd h
-called source from line at g code (operand.ByMemory area w place byte) actuals here one h all t = absurd h
-called source from line at g code (operand.NumberBy what place byte) actuals here one h all t = absurd h
-called source from line at g code (operand.ByRegister area w register bits) actuals here one h all t = absurd h
-called source from line at g code (operand.Pointer area byte bit) actuals here one h all t = absurd h
-called source from line at g code (operand.Constant l) actuals here one h all t = absurd h
-called source from line at g code (operand.Label name) actuals here one h all t = absurd h
-called source from line at g code (operand.OfStatus f) actuals here one h all t = absurd h
-called source from line at g code (operand.Other name) actuals here one h all t = absurd h
-called source from line at g code (operand.OpenBlock di name) actuals here one h all t = absurd h
+call_read source from line at g code operand.Nothing actuals here one h all t = absurd h
+call_read source from line at g code (operand.Direct name area w byte bit) actuals here one h all t = absurd h
+call_read source from line at g code (operand.Timer n) actuals here one h all t = absurd h
+call_read source from line at g code (operand.Counter n) actuals here one h all t = absurd h
+call_read source from line at g code (operand.Named p steps) actuals here one h all t = absurd h
+call_read source from line at g code (operand.ByMemory area w place byte) actuals here one h all t = absurd h
+call_read source from line at g code (operand.NumberBy what place byte) actuals here one h all t = absurd h
+call_read source from line at g code (operand.ByRegister area w register bits) actuals here one h all t = absurd h
+call_read source from line at g code (operand.Pointer area byte bit) actuals here one h all t = absurd h
+call_read source from line at g code (operand.Constant l) actuals here one h all t = absurd h
+call_read source from line at g code (operand.Label name) actuals here one h all t = absurd h
+call_read source from line at g code (operand.OfStatus f) actuals here one h all t = absurd h
+call_read source from line at g code (operand.Other name) actuals here one h all t = absurd h
+call_read source from line at g code (operand.OpenBlock di name) actuals here one h all t = absurd h
 
 pub behind_read : (source : List ℕ) (from line at : ℕ) (g : Gap) (s : PrintedSyntax) (code : Mnemonic) (o : Operand) (actuals : List Actual) → line ≡ at
     → flat (gap_text g) ≡ true → (s ≡ bracket → ⊥) → FitsSyntax at s o actuals → Texts source from line (operand_pieces g o ++ actuals_pieces actuals)
@@ -318,5 +318,5 @@ behind_read source from line at g opens code o actuals here one apart h t =
     nothing_behind source from line g form.Open code o actuals h.1 (λ u. open_read source from line g code o h.0 u) t
 behind_read source from line at g block_call code o actuals here one apart h t =
     nothing_behind source from line g form.BlockCall code o actuals h.1 (λ u. block_call_read source from line g code o h.0 u) t
-behind_read source from line at g call code o actuals here one apart h t = called source from line at g code o actuals here one h.0 h.1 t
+behind_read source from line at g call code o actuals here one apart h t = call_read source from line at g code o actuals here one h.0 h.1 t
 behind_read source from line at g empty code o actuals here one apart h t = absurd h

@@ -61,18 +61,18 @@ tame_joined (p ∷ ps) qs a b =
     let parts : (tame p ≡ true) × (all_tame ps ≡ true) = and_parts (tame p) (all_tame ps) a in
     and_from (tame p) (all_tame (ps ++ qs)) parts.0 (tame_joined ps qs parts.1 b)
 
-folded : (a : ℕ) (text : List ℕ) → flat text ≡ true → fold (λ n b. n + newlines_of b) a text ≡ a
-folded a [] h = refl
-folded a (b ∷ text) h =
+fold_flat : (a : ℕ) (text : List ℕ) → flat text ≡ true → fold (λ n b. n + newlines_of b) a text ≡ a
+fold_flat a [] h = refl
+fold_flat a (b ∷ text) h =
     let parts : (not (b == newline) ≡ true) × (flat text ≡ true) = and_parts (not (b == newline)) (flat text) h in
-    folded (a + newlines_of b) text parts.1 ∙ by (b == newline) parts.0
+    fold_flat (a + newlines_of b) text parts.1 ∙ by (b == newline) parts.0
   where
     by : (c : Bool) → not c ≡ true → a + (if c then 1 else 0) ≡ a
     by false e = omega arith
     by true e = absurd cc
 
 pub flat_ends : (text : List ℕ) → flat text ≡ true → sum_by newlines_of text ≡ 0
-flat_ends text h = folded 0 text h
+flat_ends text h = fold_flat 0 text h
 
 pub tame_lacks : (ps : List Piece) → all_tame ps ≡ true → lacks mark.Semicolon ps ≡ true
 tame_lacks [] h = refl
