@@ -4,7 +4,8 @@ use Rattle.std.specs.Prelude.{codes, MatchOption, option_map, nat_le, nat_lt, �
 use Rattle.std.specs.List.{AllByRecursion}
 use Rattle.std.proofs.lemmas.Bool.{agree_below_at, and_parts, cond_both, eqb-true, false≢true, leb-true, ltb-true}
 use Rattle.plc_base.proofs.ListLemmas.{all_append}
-use Rattle.plc_base.specs.Kinds.{is_same_block, is_system_function}
+use Rattle.plc_base.specs.Kinds.{is_same_block, is_system_function, kind_number}
+use Rattle.plc_base.specs.declared.blocks.BlockKind.TheVariants as kinds
 use Rattle.plc_base.specs.declared.blocks.BlockId.{BlockId}
 use Rattle.plc_base.specs.declared.places.Area.TheVariants as area
 use Rattle.plc_base.specs.declared.places.Area.{Area}
@@ -405,10 +406,10 @@ before_printed line formals called (op ∷ before) named others (one, more) (pla
 
 -- ---- calls
 
-instance_called : (kind number instance : ℕ) → IsNumber number → IsNumber instance → (instance ≡ 0) ⊎ (kind ≡ 3) → IsCallOperand (operand.Called (block.Number (called_id kind number)) (instance_name instance))
+instance_called : (kind number instance : ℕ) → IsNumber number → IsNumber instance → (instance ≡ 0) ⊎ (kind ≡ kind_number kinds.Fb) → IsCallOperand (operand.Called (block.Number (called_id kind number)) (instance_name instance))
 instance_called kind number instance n i (inl none) = subst (λ (k : ℕ). IsCallOperand (operand.Called (block.Number (called_id kind number)) (instance_name k))) (sym none) n
 instance_called kind number instance n i (inr fb) = subst (λ (k : ℕ). IsCallOperand (operand.Called (block.Number (called_id k number)) (instance_name instance))) (sym fb)
-    (either_way (λ o. IsCallOperand (operand.Called (block.Number (called_id 3 number)) o)) (instance == 0) None (Some (name_of_data_block instance)) n ((refl, n), (refl, i)))
+    (either_way (λ o. IsCallOperand (operand.Called (block.Number (called_id (kind_number kinds.Fb) number)) o)) (instance == 0) None (Some (name_of_data_block instance)) n ((refl, n), (refl, i)))
 
 -- CALL with its actual parameters, or UC and CC
 called_fits : (line code kind number instance : ℕ) (formals called : List Formal) (before : List OpData) → code < 128 → is_call_form (takes_of code) ≡ true → IsNumber number → IsNumber instance

@@ -95,7 +95,7 @@ pub record IsSourceRun (r : Run) : Type 0 where
 abbrev pub AreWords : List Formal → Type 0
 AreWords formals = AllByRecursion (λ f. is_word f.name ≡ true) formals
 
--- no jump leads to the last of so many statements, the END clause
+-- no jump leads to the last of `count` statements, the END clause
 abbrev pub IsEndFree : (count : ℕ) → CodeBlock → Type 0
 IsEndFree count b =
     (n : ℕ) → suc n ≡ count

@@ -63,7 +63,7 @@ block_listed P of ss reached [] ds i b h e = data_listed P of ds i b h e
 block_listed P of ss reached (c ∷ cs) ds zero b h e = let same : listed_block ss reached c ≡ b = cc in Bare (ap (λ (x : Block). x.settings) (sym same))
 block_listed P of ss reached (c ∷ cs) ds (suc i) b h e = block_listed P of ss (line_behind_statements reached c.lines) cs ds i b h e
 
--- a setting of the block at a place breaks no rule of settings
+-- a setting, of the block at a place, breaks no rule of settings
 record BreaksNoSettingRule (l : List BlockLayout) (k : ℕ) (s : Setting) : Type 0 where
   known : sets_unknown l k s ≡ false
   fit : setting_misfits l k s ≡ false

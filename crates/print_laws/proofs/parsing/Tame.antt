@@ -38,7 +38,7 @@ use Rattle.stl_print.specs.Names.{block_name_pieces}
 use Rattle.stl_print.specs.Operands.{bit_pieces, register_operand_pieces, direct_pieces, instance_pieces, operand_pieces, opened_block_pieces, path_head_pieces, pointer_byte_pieces}
 use Rattle.stl_print.specs.Statements.{actual_pieces, actuals_pieces, further_actuals}
 use Rattle.stl_print.specs.Words.{letters_of_address, area_letters, bit_letter, block_letters, flag_kind, flag_text, numbered_letters, size_letter, truth_word, width_letter}
-use Rattle.print_laws.specs.Reading.{IsCallOperand, IsDataBlock, IsFunctionBlock, IsOpenOperand, IsPrintedActual, IsPrintedLiteral, IsPrintedOperand, IsJumpOperand}
+use Rattle.print_laws.specs.Reading.{IsAddressRegister, IsCallOperand, IsDataBlock, IsFunctionBlock, IsOpenOperand, IsPrintedActual, IsPrintedLiteral, IsPrintedOperand, IsJumpOperand}
 use Rattle.print_laws.specs.Standing.{IsNumberedBlock}
 use Rattle.print_laws.proofs.parsing.Numbers.{numeral}
 use Rattle.print_laws.proofs.parsing.Actuals.{passed_printed}
@@ -221,7 +221,7 @@ direct_tame g (Some (block.Number id)) area width.Dword byte bit h is =
     rw (h, flat_block id.kind, flat_number id.number is.0.0.1, flat_letters area width.Dword, flat_number byte is.2) refl
 direct_tame g (Some (block.Quoted n)) area w byte bit h is = absurd is.0.0
 
-flat_register : (register : ℕ) → (register ≡ 1) ⊎ (register ≡ 2) → flat (decimal register) ≡ true
+flat_register : (register : ℕ) → IsAddressRegister register → flat (decimal register) ≡ true
 flat_register register (inl e) = flat_number register (omega (arith, e))
 flat_register register (inr e) = flat_number register (omega (arith, e))
 
