@@ -132,7 +132,7 @@ through of ss ts h e = h ss ∙ ap (λ (ms : List NestingMark). of (map stub ms)
 pub nestings_kept : AreNestingsKept
 nestings_kept ss ts e = record {
   closing = through (λ us. with_brackets (λ brackets s. broken_if (closes_no_bracket brackets s) s.line 29) [] us) ss ts (λ us. marks_walked (λ brackets s. broken_if (closes_no_bracket brackets s) s.line 29) brackets_behind closing_sees [] us) e;
-  left = through brackets_left_open ss ts (λ us. ap (λ (brackets : List SourceBracket). flat_map (λ b. broken_if true b.line 30) brackets) (brackets_left [] us)) e;
+  brackets_left = through brackets_left_open ss ts (λ us. ap (λ (brackets : List SourceBracket). flat_map (λ b. broken_if true b.line 30) brackets) (brackets_left [] us)) e;
   eighth = through (λ us. with_brackets (λ brackets s. broken_if (is_eighth_bracket brackets s) s.line 31) [] us) ss ts (λ us. marks_walked (λ brackets s. broken_if (is_eighth_bracket brackets s) s.line 31) brackets_behind eighth_sees [] us) e;
   ending = through (λ us. with_zones (λ zones s. broken_if (ends_no_zone zones s) s.line 47) [] us) ss ts (λ us. marks_walked (λ zones s. broken_if (ends_no_zone zones s) s.line 47) zones_behind ending_sees [] us) e;
   zones_left = through zones_left_open ss ts (λ us. ap (λ (zones : List ℕ). flat_map (λ line. broken_if true line 48) zones) (zones_left [] us)) e;
