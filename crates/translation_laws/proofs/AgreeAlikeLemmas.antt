@@ -207,12 +207,12 @@ goes_on {o = None} {o' = Some y} f g a h = absurd a.agree
 goes_on {o = Some x} {o' = None} f g a h = absurd a.agree
 
 -- two values that are the same, and what follows
-abbrev pub Numbered : (s e : List ℕ) (F : List (Pair s e) → Type 0) {X : Type 0} → X × ℕ × List Token → X × ℕ × List Token → Type 0
-Numbered s e F p q = (p.0 ≡ q.0) × (p.1 ≡ q.1) × Rests s e F p.2 q.2
+abbrev pub SameValueAndRest : (s e : List ℕ) (F : List (Pair s e) → Type 0) {X : Type 0} → X × ℕ × List Token → X × ℕ × List Token → Type 0
+SameValueAndRest s e F p q = (p.0 ≡ q.0) × (p.1 ≡ q.1) × Rests s e F p.2 q.2
 
 pub numbers_on : {s e : List ℕ} {F : List (Pair s e) → Type 0} {X Y : Type 0} {Q : Y → Y → Type 0} {o o' : Option (X × ℕ × List Token)}
     (f g : X × ℕ × List Token → Option Y)
-    → Agree (Numbered s e F) o o' → ((x : X) (n : ℕ) (ps : List (Pair s e)) → F ps → Agree Q (f (x, n, lefts ps)) (g (x, n, rights ps)))
+    → Agree (SameValueAndRest s e F) o o' → ((x : X) (n : ℕ) (ps : List (Pair s e)) → F ps → Agree Q (f (x, n, lefts ps)) (g (x, n, rights ps)))
     → Agree Q (option_and_then f o) (option_and_then g o')
 numbers_on {o = None} {o' = None} f g a h = nothing
 numbers_on {o = Some (x, n, ts)} {o' = Some (y, m, us)} f g a h =

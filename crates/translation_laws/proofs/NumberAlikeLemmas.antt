@@ -24,7 +24,7 @@ use Rattle.stl_parser.specs.Terminals.{has_kind}
 use Rattle.stl_parser.specs.Values.{based_value, duration_literal, long_or_count}
 use Rattle.translation_laws.specs.Alike.{IsOperandWordAsLocal, IsSameToken}
 use Rattle.de_mnemonics.specs.Words.{operand_partner}
-use Rattle.translation_laws.proofs.AgreeAlikeLemmas.{Agree, Behind, IsNamedPair, Like, Numbered, OpensNone, Pair, agree_chained, agree_chosen, either, equal, lefts, agree_mapped, nothing, rest, rights, something, agree_tested, whole_same}
+use Rattle.translation_laws.proofs.AgreeAlikeLemmas.{Agree, Behind, IsNamedPair, Like, SameValueAndRest, OpensNone, Pair, agree_chained, agree_chosen, either, equal, lefts, agree_mapped, nothing, rest, rights, something, agree_tested, whole_same}
 use Rattle.translation_laws.proofs.LikeAlikeLemmas.{itself, key_like, kind_like, mark_like, named_no_key, number_like, of_kind, same_kind, text_like}
 use Rattle.translation_laws.proofs.TextAlikeLemmas.{Same, decimal_same, is_operand, no_address, no_address_letters, no_block, no_block_letters}
 use Rattle.translation_laws.proofs.LookUpLemmas.{same_looked_up}
@@ -141,14 +141,14 @@ module _ (s e : List ℕ) (F : List (Pair s e) → Type 0) (closed : (p : Pair s
   -- ---- letters and a number
 
   glued_agrees : {X : Type 0} (table : List (List ℕ × X)) (a b : List ℕ) → Same a b → (ps : List (Pair s e)) → F ps
-      → Agree (Numbered s e F {X = X}) (glued_letters_and_number table a (lefts ps)) (glued_letters_and_number table b (rights ps))
+      → Agree (SameValueAndRest s e F {X = X}) (glued_letters_and_number table a (lefts ps)) (glued_letters_and_number table b (rights ps))
   unfolding glued_letters_and_number
   glued_agrees table a b is ps h =
       agree_chained _ _ (equal _ _ (same_looked_up table (take (letter_count a) a) (take (letter_count b) b) (same_letters a b is)))
       (λ x y k. agree_mapped _ _ (equal _ _ (decimal_same (greatest_number false) a b is)) (λ n m l. (k, l, rest s e F ps h)))
 
   separate_agrees : {X : Type 0} (table : List (List ℕ × X)) (a b : List ℕ) → Same a b → (ps : List (Pair s e)) → F ps
-      → Agree (Numbered s e F {X = X}) (separate_letters_and_number table s a (lefts ps)) (separate_letters_and_number table e b (rights ps))
+      → Agree (SameValueAndRest s e F {X = X}) (separate_letters_and_number table s a (lefts ps)) (separate_letters_and_number table e b (rights ps))
   unfolding separate_letters_and_number
   separate_agrees table a b is [] h = nothing
   separate_agrees table a b is (p ∷ ps) h =
@@ -184,19 +184,19 @@ module _ (s e : List ℕ) (F : List (Pair s e) → Type 0) (closed : (p : Pair s
 
   numbered_agrees : {X : Type 0} (table : List (List ℕ × X)) (p : Pair s e) (ps : List (Pair s e)) → F ps
       → (IsNamedPair p → IsNone table (text_of s p.left) (lefts ps))
-      → Agree (Numbered s e F {X = X}) (letters_and_number_at table s (p.left ∷ lefts ps)) (letters_and_number_at table e (p.right ∷ rights ps))
+      → Agree (SameValueAndRest s e F {X = X}) (letters_and_number_at table s (p.left ∷ lefts ps)) (letters_and_number_at table e (p.right ∷ rights ps))
   unfolding letters_and_number_at
   numbered_agrees {X = X} table p ps h none = by p.like
     where
       two : (x y : Bool) → x ≡ y → Same (text_of s p.left) (text_of e p.right)
-          → Agree (Numbered s e F {X = X}) (if x then option_or (glued_letters_and_number table (text_of s p.left) (lefts ps)) (separate_letters_and_number table s (text_of s p.left) (lefts ps)) else None)
+          → Agree (SameValueAndRest s e F {X = X}) (if x then option_or (glued_letters_and_number table (text_of s p.left) (lefts ps)) (separate_letters_and_number table s (text_of s p.left) (lefts ps)) else None)
           (if y then option_or (glued_letters_and_number table (text_of e p.right) (rights ps)) (separate_letters_and_number table e (text_of e p.right) (rights ps)) else None)
       two x y same text =
           agree_chosen same
           (either (glued_agrees table (text_of s p.left) (text_of e p.right) text ps h) (separate_agrees table (text_of s p.left) (text_of e p.right) text ps h)) nothing
 
       by : Like s e p.left p.right
-          → Agree (Numbered s e F {X = X}) (if has_kind p.left kind.Word then option_or (glued_letters_and_number table (text_of s p.left) (lefts ps)) (separate_letters_and_number table s (text_of s p.left) (lefts ps)) else None)
+          → Agree (SameValueAndRest s e F {X = X}) (if has_kind p.left kind.Word then option_or (glued_letters_and_number table (text_of s p.left) (lefts ps)) (separate_letters_and_number table s (text_of s p.left) (lefts ps)) else None)
           (if has_kind p.right kind.Word then option_or (glued_letters_and_number table (text_of e p.right) (rights ps)) (separate_letters_and_number table e (text_of e p.right) (rights ps)) else None)
       by (inl k) = two (has_kind p.left kind.Word) (has_kind p.right kind.Word) (same_kind s e p.left p.right kind.Word k) (itself (text_of s p.left) (text_of e p.right) k.text)
       by (inr (inl k)) = two (has_kind p.left kind.Word) (has_kind p.right kind.Word) (of_kind p.left kind.Word kind.Word k.word ∙ sym (of_kind p.right kind.Word kind.Word k.other)) k.text
@@ -204,7 +204,7 @@ module _ (s e : List ℕ) (F : List (Pair s e) → Type 0) (closed : (p : Pair s
           let found = none k in
           rw (of_kind p.left kind.Word kind.Word k.named.word, of_kind p.right kind.Local kind.Word k.named.other, found.0, found.1) nothing
 
-  pub block_number_agrees : (ps : List (Pair s e)) → F ps → Agree (Numbered s e F {X = BlockKind}) (block_number_at s (lefts ps)) (block_number_at e (rights ps))
+  pub block_number_agrees : (ps : List (Pair s e)) → F ps → Agree (SameValueAndRest s e F {X = BlockKind}) (block_number_at s (lefts ps)) (block_number_at e (rights ps))
   unfolding block_number_at letters_and_number_at
   block_number_agrees [] h = nothing
   block_number_agrees (p ∷ ps) h = numbered_agrees block_kinds p ps (closed p ps h) (λ named. by named.named.operand)
@@ -236,7 +236,7 @@ module _ (s e : List ℕ) (F : List (Pair s e) → Type 0) (closed : (p : Pair s
       let found = named_none p ps h named in
       rw (of_kind p.left kind.Word kind.Word named.named.word, found.0, found.1) refl
 
-  pub address_agrees : (ps : List (Pair s e)) → F ps → Agree (Numbered s e F {X = AddressKind}) (address_at s (lefts ps)) (address_at e (rights ps))
+  pub address_agrees : (ps : List (Pair s e)) → F ps → Agree (SameValueAndRest s e F {X = AddressKind}) (address_at s (lefts ps)) (address_at e (rights ps))
   unfolding address_at letters_and_number_at
   address_agrees [] h = nothing
   address_agrees (p ∷ ps) h = numbered_agrees addresses p ps (closed p ps h) (λ named. named_none p ps h named)

@@ -33,7 +33,7 @@ use Rattle.stl_parser.specs.Tables.{addresses, flags, look_up, registers}
 use Rattle.stl_parser.specs.Terminals.{has_kind, is_mark}
 use Rattle.translation_laws.specs.Alike.{IsSameWordButForCase, IsSameToken}
 use Rattle.de_mnemonics.specs.Words.{operand_partner}
-use Rattle.translation_laws.proofs.AgreeAlikeLemmas.{Agree, Behind, Equal, Follows, IsName, IsNamedPair, IsSamePair, Numbered, OpensNone, Pair, Rests, also, agree_chained, counts, agree_decided, equal, goes_on, if_same, lefts, nothing, numbers_on, of_none, parts_agree, rest, rights, same_option, something, agree_tested, whole_same}
+use Rattle.translation_laws.proofs.AgreeAlikeLemmas.{Agree, Behind, Equal, Follows, IsName, IsNamedPair, IsSamePair, SameValueAndRest, OpensNone, Pair, Rests, also, agree_chained, counts, agree_decided, equal, goes_on, if_same, lefts, nothing, numbers_on, of_none, parts_agree, rest, rights, same_option, something, agree_tested, whole_same}
 use Rattle.translation_laws.proofs.LikeAlikeLemmas.{itself, key_like, mark_like, named_no_key, no_mark, of_kind, same_kind}
 use Rattle.translation_laws.proofs.NumberAlikeLemmas.{address_agrees, bit_same, int_agrees, literal_same, named_no_address, no_truth, number_of_like}
 use Rattle.translation_laws.proofs.TextAlikeLemmas.{Same, address_word_same, english_word, is_operand, no_address, no_address_letters, no_flag, no_register}
@@ -46,14 +46,14 @@ IsKnown {s = s} {e = e} p =
 
 -- what two tokens that stand side by side say of each other: behind a `.` and before `:=` they are the same, and no number stands
 -- behind a name
-pub record Joined {s e : List ℕ} (p q : Pair s e) : Type 0 where
+pub record SideBySide {s e : List ℕ} (p q : Pair s e) : Type 0 where
   pub dotted : is_mark s p.left mark.Dot ≡ true → IsSamePair q
   pub assigned : is_mark s q.left mark.Assign ≡ true → IsSamePair p
   pub apart : IsNamedPair p → is_operand English (text_of s p.left) ≡ false → OpensNone q
 
 abbrev pub JoinedTo : {s e : List ℕ} → Pair s e → List (Pair s e) → Type 0
 JoinedTo p [] = Unit {0}
-JoinedTo p (q ∷ qs) = Joined p q
+JoinedTo p (q ∷ qs) = SideBySide p q
 
 -- the tokens behind an instruction word
 abbrev pub Fits : (s e : List ℕ) → List (Pair s e) → Type 0
@@ -84,7 +84,7 @@ module _ (s e : List ℕ) where
   dotted_head p [] h is = tt
   dotted_head p (q ∷ qs) h is = h.1.dotted is
 
-  addressed : (ps : List (Pair s e)) → Fits s e ps → Agree (Numbered s e (Fits s e) {X = AddressKind}) (address_at s (lefts ps)) (address_at e (rights ps))
+  addressed : (ps : List (Pair s e)) → Fits s e ps → Agree (SameValueAndRest s e (Fits s e) {X = AddressKind}) (address_at s (lefts ps)) (address_at e (rights ps))
   addressed ps h = address_agrees s e (Fits s e) closed apart ps h
 
   bits : (ps : List (Pair s e)) → bit_of s (lefts ps) ≡ bit_of e (rights ps)

@@ -166,8 +166,8 @@ module _ (frame : Frame) (s e : List ℕ) where
       → is_some (operand_partner English (text_of s p.left)) ≡ false → OpensNone q
   tail_apart all p q ps h named isnt = h.weak.0 named isnt
 
-  abbrev Found : List (Pair s e) → Clause × List Token × Bool → Option (Clause × List Token × Bool) → Type 0
-  Found all r o = IsFound s e (IsTail all) (tail_closed all) (tail_apart all) r o
+  abbrev IsFoundHere : List (Pair s e) → Clause × List Token × Bool → Option (Clause × List Token × Bool) → Type 0
+  IsFoundHere all r o = IsFound s e (IsTail all) (tail_closed all) (tail_apart all) r o
 
   -- the same clause of the other source, and where the walk stands behind it
   pub record IsStep (cp : ClausePlace) (c : Clause) (next : ClausePlace) (rest : List Token) (ps : List (Pair s e)) : Type 0 where
@@ -185,7 +185,7 @@ module _ (frame : Frame) (s e : List ℕ) where
 
   -- what was found, with the walk behind it
   joined : (cp : ClausePlace) (c : Clause) (next : ClausePlace) (rest : List Token) (ps qs : List (Pair s e)) (n : ℕ) (pl : TokenPlace) (b : TokenClass)
-      → Found ps (c, rest, false) (clause_at e cp (rights ps)) → drop n ps ≡ qs → lefts qs ≡ rest → Walk s e pl b qs → Stands next pl b → IsStep cp c next rest ps
+      → IsFoundHere ps (c, rest, false) (clause_at e cp (rights ps)) → drop n ps ≡ qs → lefts qs ≡ rest → Walk s e pl b qs → Stands next pl b → IsStep cp c next rest ps
   joined cp c next rest ps qs n pl b f at left walk stands =
       let r = f.rests in
       let same : r.pairs ≡ qs = sym r.fits.at ∙ same_drop r.fits.count n ps

@@ -190,11 +190,11 @@ module _ (s e : List ℕ) (F : List (Pair s e) → Type 0) (closed : (p : Pair s
   HeadKind (p ∷ ps) = has_kind p.left kind.Word ≡ has_kind p.right kind.Word
 
   -- the token of a declared name, and what follows
-  abbrev Declared : Pair s e → Token × List Token → Token × List Token → Type 0
-  Declared p x y = (x.0 ≡ p.left) × (y.0 ≡ p.right) × Rests s e F x.1 y.1
+  abbrev NameAndRest : Pair s e → Token × List Token → Token × List Token → Type 0
+  NameAndRest p x y = (x.0 ≡ p.left) × (y.0 ≡ p.right) × Rests s e F x.1 y.1
 
   declared_agrees : (p : Pair s e) (ps : List (Pair s e)) → F (p ∷ ps) → HeadKind (p ∷ ps)
-      → Agree (Declared p) (declared_name_at s (p.left ∷ lefts ps)) (declared_name_at e (p.right ∷ rights ps))
+      → Agree (NameAndRest p) (declared_name_at s (p.left ∷ lefts ps)) (declared_name_at e (p.right ∷ rights ps))
   unfolding declared_name_at
   declared_agrees p ps h kinds =
       agree_tested kinds (λ is. agree_mapped _ _ (colon_behind (after_attribute (lefts ps)) (after_attribute (rights ps)) (attribute_rests ps (closed p ps h))) (λ x y k. (refl, refl, k)))
@@ -210,11 +210,11 @@ module _ (s e : List ℕ) (F : List (Pair s e) → Type 0) (closed : (p : Pair s
   declaration_is level p arrays t x y k same = rw (same.line, same.text, k) refl
 
   -- the declaration of a name
-  abbrev Named : Pair s e → Declaration → Declaration → Type 0
-  Named p x y = IsSamePair p → x ≡ y
+  abbrev SameDeclaration : Pair s e → Declaration → Declaration → Type 0
+  SameDeclaration p x y = IsSamePair p → x ≡ y
 
   declared_on : {Y : Type 0} {Q : Y → Y → Type 0} (p : Pair s e) (o o' : Option (Token × List Token)) (f g : Token × List Token → Option Y)
-      → Agree (Declared p) o o' → ((qs : List (Pair s e)) → F qs → Agree Q (f (p.left, lefts qs)) (g (p.right, rights qs)))
+      → Agree (NameAndRest p) o o' → ((qs : List (Pair s e)) → F qs → Agree Q (f (p.left, lefts qs)) (g (p.right, rights qs)))
       → Agree Q (option_and_then f o) (option_and_then g o')
   declared_on p None None f g a h = nothing
   declared_on p (Some (t, ts)) (Some (u, us)) f g a h =
@@ -223,14 +223,14 @@ module _ (s e : List ℕ) (F : List (Pair s e) → Type 0) (closed : (p : Pair s
   declared_on p (Some x) None f g a h = absurd a.agree
 
   pub structure_agrees : (level : ℕ) (p : Pair s e) (ps : List (Pair s e)) → F (p ∷ ps) → HeadKind (p ∷ ps)
-      → Agree (λ x y. Named p x.0 y.0 × Rests s e F x.1 y.1) (structure_at s level (p.left ∷ lefts ps)) (structure_at e level (p.right ∷ rights ps))
+      → Agree (λ x y. SameDeclaration p x.0 y.0 × Rests s e F x.1 y.1) (structure_at s level (p.left ∷ lefts ps)) (structure_at e level (p.right ∷ rights ps))
   unfolding structure_at
   structure_agrees level p ps h kinds =
       declared_on p _ _ _ _ (declared_agrees p ps h kinds)
       (λ qs k. goes_on _ _ (arrays_agree qs k) (λ a rs l. agree_mapped _ _ (struct_agrees rs l) (λ x y m. (declaration_is level p a element.Structure [] [] refl, m))))
 
   pub declaration_agrees : (level : ℕ) (p : Pair s e) (ps : List (Pair s e)) → F (p ∷ ps) → HeadKind (p ∷ ps)
-      → Agree (Named p) (declaration_of s level (p.left ∷ lefts ps)) (declaration_of e level (p.right ∷ rights ps))
+      → Agree (SameDeclaration p) (declaration_of s level (p.left ∷ lefts ps)) (declaration_of e level (p.right ∷ rights ps))
   unfolding declaration_of
   declaration_agrees level p ps h kinds =
       declared_on p _ _ _ _ (declared_agrees p ps h kinds)

@@ -422,12 +422,12 @@ dword_rest g n ps end r =
     (both_pass is_comment_byte (codes "DW#16#") (digits_in_base 16 8 n) refl (hex_plain 8 n))) (hard true ps end r)
 
 -- digits with a sign or none
-record Signed (text : List ℕ) : Type 0 where
+record IsSignedDigits (text : List ℕ) : Type 0 where
   some : 0 < length text
   words : list_all is_word_byte (behind_sign text) ≡ true
   plain : list_all is_comment_byte text ≡ true
 
-signed_digits : (v : ℤ) (unit : List ℕ) → IsLong v → list_all is_word_byte unit ≡ true → Signed (signed_decimal v ++ unit)
+signed_digits : (v : ℤ) (unit : List ℕ) → IsLong v → list_all is_word_byte unit ≡ true → IsSignedDigits (signed_decimal v ++ unit)
 unfolding behind_sign is_sign is_comment_byte is_source_byte is_separator
 signed_digits (pos n) unit h e =
     let d = numeral n (omega (arith, h)) in
@@ -446,8 +446,8 @@ signed_digits (negsuc n) unit h e =
       plain = and_from (is_comment_byte minus_sign) (list_all is_comment_byte (decimal (suc n) ++ unit)) refl (all_weaker is_word_byte is_comment_byte word_plain (decimal (suc n) ++ unit) words);
     }
 
-signed_alone : (v : ℤ) → IsLong v → Signed (signed_decimal v)
-signed_alone v h = subst Signed (append-nil (signed_decimal v)) (signed_digits v [] h refl)
+signed_alone : (v : ℤ) → IsLong v → IsSignedDigits (signed_decimal v)
+signed_alone v h = subst IsSignedDigits (append-nil (signed_decimal v)) (signed_digits v [] h refl)
 
 pub long_rest : (g : Gap) (v : ℤ) (ps : List Piece) (end : List ℕ) → IsLong v → Rest true ps end → Rest (opens g) (token_piece g kind.NumberLiteral (codes "L#" ++ signed_decimal v) ∷ ps) end
 unfolding rule_broken_by_token is_minus is_separator is_comment_byte is_source_byte
