@@ -32,7 +32,7 @@ use Rattle.stl_types.specs.Resolved.{resolved_operand}
 use Rattle.stl_types.specs.declared.parameters.Formal.{Formal}
 use Rattle.stl_types.specs.declared.views.Resolution.TheVariants.{Resolved}
 use Rattle.stl_types.specs.declared.views.Resolution.{Resolution}
-use Rattle.stl_types.specs.declared.views.ResolvedOperand.TheVariants as resolved
+use Rattle.stl_types.specs.declared.views.ResolvedOperand.TheVariants as view
 use Rattle.stl_types.specs.declared.views.ResolvedOperand.{ResolvedOperand}
 use Rattle.stl_codegen.specs.Compiled.{SourceInstruction, StatedBlock, operand_with_target, compiled_block}
 use Rattle.stl_codegen.specs.Emitted.{pass_ops}
@@ -65,9 +65,9 @@ place_acts place = cond_both (is_in_named_block place) (Some place.number) None 
 
 view_acts : (o : Operand) (v : ResolvedOperand) → ActsInOpened (block_opened_by_operand v) (flat_operand_of o v)
 unfolding flat_operand_of
-view_acts o (resolved.Direct place width side declared) = place_acts place
-view_acts o (resolved.NumberBy what from byte) = acts_freely _
-view_acts o (resolved.Register which) = acts_freely _
+view_acts o (view.Direct place width side declared) = place_acts place
+view_acts o (view.NumberBy what from byte) = acts_freely _
+view_acts o (view.Register which) = acts_freely _
 view_acts o _ = tt
 
 passed_in : (place : Place) (w : Width) → PassesInOpened (passed_place place w)
@@ -86,9 +86,9 @@ OpensInstr (Calls how block instance passings) = ArePassedIn passings
 OpensInstr _ = Unit {0}
 
 indexed_in : (index : ℕ) (o : Operand) (v : ResolvedOperand) → ArePassedIn (with_index index (passed_view o v))
-indexed_in index o (resolved.Direct place width side declared) = (passed_in place width, tt)
-indexed_in index o (resolved.Parameter own section declared) = (tt, tt)
-indexed_in index o resolved.Constant = (tt, tt)
+indexed_in index o (view.Direct place width side declared) = (passed_in place width, tt)
+indexed_in index o (view.Parameter own section declared) = (tt, tt)
+indexed_in index o view.Constant = (tt, tt)
 indexed_in index o _ = tt
 
 seen_in : (index : ℕ) (o : Operand) (r : Resolution) → ArePassedIn (with_index index (passed_resolution o r))
@@ -109,7 +109,7 @@ callee_in c s None = tt
 callee_in c s (Some callee) = passings_in c s.actuals 0 (in_parameter_order (source_block_at c.blocks callee.place) callee.formals)
 
 call_opens : (c : Context) (s : Statement) (how : CallOperation) (v : ResolvedOperand) → OpensInstr (call_instr c s how v)
-call_opens c s how (resolved.Called id instance) = callee_in c s (callee_of c s.operand)
+call_opens c s how (view.Called id instance) = callee_in c s (callee_of c s.operand)
 call_opens c s how _ = tt
 
 end_opens : (s : Statement) (v : ResolvedOperand) (how : Option EndOperation) → OpensInstr (end_instr s v how)

@@ -18,7 +18,7 @@ use Rattle.stl_types.specs.Context.{Context, whole_data_place}
 use Rattle.stl_types.specs.Parameters.{Callee, callee_of}
 use Rattle.stl_types.specs.Resolved.{resolved_operand}
 use Rattle.stl_types.specs.declared.parameters.Formal.{Formal}
-use Rattle.stl_types.specs.declared.views.ResolvedOperand.TheVariants as resolved
+use Rattle.stl_types.specs.declared.views.ResolvedOperand.TheVariants as view
 use Rattle.stl_codegen.specs.Instruction.{instruction}
 use Rattle.stl_codegen.specs.Operations.{call_operation_of}
 use Rattle.stl_codegen.specs.Emitted.{pass_ops}
@@ -62,8 +62,7 @@ AreCallsKept =
     (c : Context) (body : List Statement) (n : ℕ) (s : Statement) (how : CallOperation)
     (id : BlockId)
     (instance : Option ℕ) (own called : List Formal) (callee : Callee) (ps : List Passing)
-    → call_operation_of s.code ≡ Some how
-    → resolved_operand c s ≡ Some (resolved.Called id instance)
+    → call_operation_of s.code ≡ Some how → resolved_operand c s ≡ Some (view.Called id instance)
     → callee_of c s.operand ≡ Some callee → IsListedCall c own called callee ps s
     → instruction c body n s ≡ Calls how id instance ps
 

@@ -18,7 +18,7 @@ use Rattle.stl_types.specs.Context.{Context}
 use Rattle.stl_types.specs.Parameters.{Callee, callee_of}
 use Rattle.stl_types.specs.Resolved.{resolved_operand}
 use Rattle.stl_types.specs.declared.parameters.Formal.{Formal}
-use Rattle.stl_types.specs.declared.views.ResolvedOperand.TheVariants as resolved
+use Rattle.stl_types.specs.declared.views.ResolvedOperand.TheVariants as view
 use Rattle.stl_codegen.specs.Instruction.{source_block_at, in_parameter_order, instruction, passings_to}
 use Rattle.stl_list.specs.Operands.{name_of_data_block}
 use Rattle.stl_list.specs.Signatures.{Signature, called_formals, formals_of_block}
@@ -67,8 +67,7 @@ abbrev pub IsCalledAgain : (c listed : Context) → List Signature → (own : Li
     → Type 0
 IsCalledAgain c listed signatures own s =
     (id : BlockId) (instance : Option ℕ) (callee : Callee)
-    → resolved_operand c s ≡ Some (resolved.Called id instance)
-    → callee_of c s.operand ≡ Some callee
+    → resolved_operand c s ≡ Some (view.Called id instance) → callee_of c s.operand ≡ Some callee
     → IsFoundAgain c listed own (called_formals signatures id) s id instance callee
 
 -- what each statement of an accepted source calls is found in the listing of its program, where no

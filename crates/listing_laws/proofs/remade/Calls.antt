@@ -49,7 +49,7 @@ use Rattle.stl_types.specs.Resolved.{resolved_operand}
 use Rattle.stl_types.specs.Variables.{own_variable}
 use Rattle.stl_types.specs.declared.parameters.Formal.{Formal}
 use Rattle.stl_types.specs.declared.views.Resolution.TheVariants.{Resolved}
-use Rattle.stl_types.specs.declared.views.ResolvedOperand.TheVariants as resolved
+use Rattle.stl_types.specs.declared.views.ResolvedOperand.TheVariants as view
 use Rattle.stl_codegen.specs.Compiled.{StatedBlock, compiled_block}
 use Rattle.stl_codegen.specs.Emitted.{instance_number_or_zero, ops_of, pass_ops}
 use Rattle.stl_codegen.specs.Generated.{code_block, code_blocks_of, data_blocks_of, params_of}
@@ -128,10 +128,10 @@ other_number kinds.Udt e f = absurd cc
 -- ---- what a call passes
 
 pub called_instr : (c : Context) (body : List Statement) (n : ℕ) (s : Statement) (how : CallOperation) (id : BlockId) (instance : Option ℕ) (callee : Callee) → call_operation_of s.code ≡ Some how
-    → resolved_operand c s ≡ Some (resolved.Called id instance) → callee_of c s.operand ≡ Some callee → instruction c body n s ≡ Calls how id instance (passings_to c s (Some callee))
+    → resolved_operand c s ≡ Some (view.Called id instance) → callee_of c s.operand ≡ Some callee → instruction c body n s ≡ Calls how id instance (passings_to c s (Some callee))
 unfolding instruction
 called_instr c body n s how id instance callee word e found =
-    ap (instr_by c body n s) (no_jump s.code how word) ∙ ap (resolved_instr c s) e ∙ ap (view_instr c s (resolved.Called id instance)) word
+    ap (instr_by c body n s) (no_jump s.code how word) ∙ ap (resolved_instr c s) e ∙ ap (view_instr c s (view.Called id instance)) word
     ∙ ap (λ (o : Option Callee). Calls how id instance (passings_to c s o)) found
 
 not_true : (t : Bool) → not t ≡ false → t ≡ true
@@ -266,7 +266,7 @@ module _ (source file : List ℕ) (symbols : List Symbol) (t : Tree) (accepted :
     formal : Formal
     there : slice_get own index ≡ Some formal
     as_listed : IsListedAs formal r
-    sees : resolution_of listed (own_named own index) ≡ Resolved (resolved.Parameter index formal.section formal.kind)
+    sees : resolution_of listed (own_named own index) ≡ Resolved (view.Parameter index formal.section formal.kind)
 
   own_there : (index : ℕ) (r : ParameterRecord) → parameter_meant here index ≡ Some r → IsOwn index r
   own_there index r e = by (kind_number b.kind == kind_number kinds.Fc) refl e
@@ -287,7 +287,7 @@ module _ (source file : List ℕ) (symbols : List Symbol) (t : Tree) (accepted :
   -- ---- a statement that calls
 
   module _ (s : Statement) (front rest : List Statement) (split : b.body ≡ front ++ s ∷ rest) (cid : BlockId) (instance : Option ℕ) (callee : Callee)
-      (res : resolved_operand c s ≡ Some (resolved.Called cid instance)) (found : callee_of c s.operand ≡ Some callee) where
+      (res : resolved_operand c s ≡ Some (view.Called cid instance)) (found : callee_of c s.operand ≡ Some callee) where
     abbrev called : List Formal
     called = called_formals ss cid
 
@@ -297,12 +297,12 @@ module _ (source file : List ℕ) (symbols : List Symbol) (t : Tree) (accepted :
     sound_here : IsSoundStatement (types_of_source symbols t.blocks) c s
     sound_here = split_holds (IsSoundStatement (types_of_source symbols t.blocks) c) b.body front s rest sound.statements split
 
-    sees : resolution_of c s.operand ≡ Resolved (resolved.Called cid instance)
-    sees = resolved_seen c s (resolved.Called cid instance) res
+    sees : resolution_of c s.operand ≡ Resolved (view.Called cid instance)
+    sees = resolved_seen c s (view.Called cid instance) res
 
     is_word : is_call s.code ≡ true
     is_word = form_calls s.code
-        (taken_calls (form_of s.code) cid instance (allowed (form_of s.code) (resolved.Called cid instance) (rule_called c (form_of s.code) s.operand cid instance sees sound_here.allowed)).taken)
+        (taken_calls (form_of s.code) cid instance (allowed (form_of s.code) (view.Called cid instance) (rule_called c (form_of s.code) s.operand cid instance sees sound_here.allowed)).taken)
 
     how : (how : CallOperation) × (call_operation_of s.code ≡ Some how)
     how = call_word s.code is_word
@@ -326,17 +326,17 @@ module _ (source file : List ℕ) (symbols : List Symbol) (t : Tree) (accepted :
         ap (λ (z : Callee). z.id) (same_Some callee has_called.callee (sym found ∙ has_called.found)) ∙ has_called.same
         ∙ sym (same cid has_called.id instance has_called.instance (sym res ∙ has_called.called))
       where
-        same : (i j : BlockId) (m n : Option ℕ) → Some (resolved.Called i m) ≡ Some (resolved.Called j n) → i ≡ j
+        same : (i j : BlockId) (m n : Option ℕ) → Some (view.Called i m) ≡ Some (view.Called j n) → i ≡ j
         same i j m n e = cc
 
     -- the block in the listing
     whole_again : is_data_type cid.kind ≡ false → whole_called_block listed (Some cid) ≡ Some cid
     whole_again plain =
-        let st = sees_called c listed own s.operand (resolved.Called cid instance) has calls is_called sees in
+        let st = sees_called c listed own s.operand (view.Called cid instance) has calls is_called sees in
         let one : cid ≡ st.id = same cid st.id instance st.instance st.is in
         subst (λ (i : BlockId). is_data_type i.kind ≡ false → whole_called_block listed (Some i) ≡ Some i) (sym one) st.whole plain
       where
-        same : (i j : BlockId) (m n : Option ℕ) → resolved.Called i m ≡ resolved.Called j n → i ≡ j
+        same : (i j : BlockId) (m n : Option ℕ) → view.Called i m ≡ view.Called j n → i ≡ j
         same i j m n e = cc
 
     plain_kind : (k : BlockKind) → is_callable k ≡ true → is_data_type k ≡ false

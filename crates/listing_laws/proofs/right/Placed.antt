@@ -26,7 +26,7 @@ use Rattle.stl_types.specs.Resolution.{resolution_of}
 use Rattle.stl_types.specs.Resolved.{resolved_operand, resolved_view}
 use Rattle.stl_types.specs.declared.views.Resolution.TheVariants.{Resolved}
 use Rattle.stl_types.specs.declared.views.ResolvedOperand.{ResolvedOperand}
-use Rattle.stl_types.specs.declared.views.ResolvedOperand.TheVariants as resolved
+use Rattle.stl_types.specs.declared.views.ResolvedOperand.TheVariants as view
 use Rattle.stl_codegen.specs.Bodies.{count_of_statements}
 use Rattle.stl_codegen.specs.Compiled.{SourceInstruction, StatedBlock, compiled_block, lines_in}
 use Rattle.stl_codegen.specs.Generated.{code_block, return_statement, stated_from, statements_of}
@@ -58,7 +58,7 @@ use Rattle.listing_laws.proofs.ruled.Within.{Stays, resolved_stays, stated_count
 
 -- ---- a statement that is settled
 
-pub labels_seen : (c : Context) (name : List ℕ) → resolution_of c (operand.Label name) ≡ Resolved resolved.Label
+pub labels_seen : (c : Context) (name : List ℕ) → resolution_of c (operand.Label name) ≡ Resolved view.Label
 unfolding resolution_of
 labels_seen c name = refl
 
@@ -67,11 +67,11 @@ some_view c body s h e = by (jump_operation_of s.code) h.instruction
   where
     by_call : (how : Option CallOperation) → HasOperand c s how → (v : ResolvedOperand) × (resolved_operand c s ≡ Some v)
     by_call None o = o
-    by_call (Some how) o = (resolved.Called o.id o.instance, o.called)
+    by_call (Some how) o = (view.Called o.id o.instance, o.called)
 
     by : (how : Option JumpOperation) → HasInstruction c body s how → (v : ResolvedOperand) × (resolved_operand c s ≡ Some v)
     by None o = by_call (call_operation_of s.code) o
-    by (Some how) o = (resolved.Label, e ∙ ap (λ (x : Operand). resolved_view (resolution_of c x)) o.is ∙ ap resolved_view (labels_seen c o.name))
+    by (Some how) o = (view.Label, e ∙ ap (λ (x : Operand). resolved_view (resolution_of c x)) o.is ∙ ap resolved_view (labels_seen c o.name))
 
 not_none : {A : Type 0} (x : A) → None ≡ Some x → ⊥
 not_none x e = absurd cc

@@ -22,7 +22,7 @@ use Rattle.stl_types.specs.Resolved.{resolved_operand}
 use Rattle.stl_types.specs.declared.views.Register.{Register}
 use Rattle.stl_types.specs.declared.views.Register.TheVariants as register
 use Rattle.stl_types.specs.declared.views.ResolvedOperand.{ResolvedOperand}
-use Rattle.stl_types.specs.declared.views.ResolvedOperand.TheVariants as resolved
+use Rattle.stl_types.specs.declared.views.ResolvedOperand.TheVariants as view
 use Rattle.stl_codegen.specs.Bodies.{count_of_statements}
 use Rattle.stl_codegen.specs.Generated.{return_statement, stated_from, statements_of}
 use Rattle.stl_codegen.specs.Instruction.{call_instr, count_of_statement, end_instr, instr_by, instruction, jump_instr, resolved_instr, target_in, target_of, view_instr}
@@ -76,8 +76,8 @@ number_stays numbered.Di from byte n = refl
 
 operand_stays : (o : Operand) (v : ResolvedOperand) (n : ℕ) → goes_to n (flat_operand_of o v) ≡ false
 unfolding flat_operand_of
-operand_stays o (resolved.Register which) n = register_stays which n
-operand_stays o (resolved.NumberBy what from byte) n = number_stays what from byte n
+operand_stays o (view.Register which) n = register_stays which n
+operand_stays o (view.NumberBy what from byte) n = number_stays what from byte n
 operand_stays o _ n = refl
 
 abbrev pub Stays : Instr → Type 0
@@ -88,7 +88,7 @@ end_stays s v None n = operand_stays s.operand v n
 end_stays s v (Some how) n = refl
 
 call_stays : (c : Context) (s : Statement) (how : CallOperation) (v : ResolvedOperand) → Stays (call_instr c s how v)
-call_stays c s how (resolved.Called id instance) n = refl
+call_stays c s how (view.Called id instance) n = refl
 call_stays c s how _ n = refl
 
 view_stays : (c : Context) (s : Statement) (v : ResolvedOperand) (how : Option CallOperation) → Stays (view_instr c s v how)
