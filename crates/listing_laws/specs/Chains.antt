@@ -110,7 +110,8 @@ pub record AreTypesAsDeclared (blocks : List CodeBlock) (declared : ℕ → Simp
   pub ends : (m n : ℕ) → HasStep (links blocks) m n → (w : Width)
       → kind_at (chains_of blocks) m w ≡ kind_at (chains_of blocks) n w
   -- what is passed to a system function has the type that it asks for
-  pub seeds : (n : ℕ) (type : Simple) → LinksHaveType (links blocks) n type → is_listed_type type ≡ true
+  pub seeds : (n : ℕ) (type : Simple) → LinksHaveType (links blocks) n type
+      → is_listed_type type ≡ true
       → kind_at (chains_of blocks) n (width_of type) ≡ type
 
 -- a listing says of the types of parameters what was declared, where the declared types agree with
