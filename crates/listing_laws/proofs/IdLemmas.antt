@@ -609,10 +609,10 @@ program_right t symbols h =
     (subst (AllByRecursion IsRight) (sym (source_data t symbols)) (all_weaken (λ id. is_number_beyond_limits (Some id) ≡ false) IsRight (data_ids is) right_number (data_all (λ i. is_number_beyond_limits i ≡ false) is h)))))
 
 -- the first place of one that no other is
-holds_at : {A : Type 0} (P : A → Type 0) (xs : List A) (k : ℕ) (x : A) → AllByRecursion P xs → slice_get xs k ≡ Some x → P x
-holds_at P [] k x h e = absurd cc
-holds_at P (y ∷ xs) zero x h e = let same : y ≡ x = cc in subst P same h.0
-holds_at P (y ∷ xs) (suc k) x h e = holds_at P xs k x h.1 e
+got : {A : Type 0} (P : A → Type 0) (xs : List A) (k : ℕ) (x : A) → AllByRecursion P xs → slice_get xs k ≡ Some x → P x
+got P [] k x h e = absurd cc
+got P (y ∷ xs) zero x h e = let same : y ≡ x = cc in subst P same h.0
+got P (y ∷ xs) (suc k) x h e = got P xs k x h.1 e
 
 pub place_of : (ids : List BlockId) (k : ℕ) (id : BlockId) → Pairs NotSame ids → slice_get ids k ≡ Some id → place_of_block id (map (λ i. Some i) ids) ≡ Some k
 place_of [] k id apart e = absurd cc
@@ -621,13 +621,13 @@ place_of (i ∷ ids) zero id apart e =
     let here : is_same_block id i ≡ true = ap (is_same_block id) same ∙ id_itself id in
     rw here refl
 place_of (i ∷ ids) (suc k) id apart e =
-    let other : is_same_block id i ≡ false = holds_at (λ j. NotSame j i) ids k id apart.0 e in
+    let other : is_same_block id i ≡ false = got (λ j. NotSame j i) ids k id apart.0 e in
     rw (other, place_of ids k id apart.1 e) refl
 
 pub blocks_found : AreBlocksFound
 blocks_found t symbols listed k id none_22 none_44 e =
     let ids : List BlockId = program_ids (source_program t symbols) in
-    let right = holds_at IsRight ids k id (program_right t symbols (source_right symbols t.blocks none_44)) e in
+    let right = got IsRight ids k id (program_right t symbols (source_right symbols t.blocks none_44)) e in
     ap (known_block id) (ids_listed listed (source_program t symbols))
     ∙ ap (λ (b : Bool). if b then place_of_block id (map (λ i. Some i) ids) else None) right
     ∙ place_of ids k id (program_apart t symbols (source_apart symbols t.blocks none_22)) e

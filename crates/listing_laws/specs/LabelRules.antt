@@ -11,8 +11,7 @@ use Rattle.stl_list.specs.Signatures.{Signature}
 use Rattle.stl_list.specs.Statements.{body_of}
 use Rattle.listing_laws.specs.Statements.{jumps_to}
 
--- no two statements of the listed body of a compiled block, with at most 93,312 statements, have one
--- label
+-- no two statements of the listed body of a block have one label
 abbrev pub AreStatementLabelsOnce : Type 0
 AreStatementLabelsOnce =
     (signatures : List Signature) (lines : List ℕ) (b : StatedBlock)

@@ -296,10 +296,10 @@ laid_instance symbols t k b l id h e code fb = record {
     has_length : instance_len b l ≡ l.length
     has_length = ap (λ (s : Bool). if s then l.length else 0) own_fb
 
-pub is_sourced : (symbols : List Symbol) (t : Tree) (k : ℕ) (b : Block) (l : BlockLayout) (id : BlockId) → IsSound symbols t k b l → l.id ≡ Some id → is_code id.kind ≡ true
+pub sourced : (symbols : List Symbol) (t : Tree) (k : ℕ) (b : Block) (l : BlockLayout) (id : BlockId) → IsSound symbols t k b l → l.id ≡ Some id → is_code id.kind ≡ true
     → IsSourced (compiled_block (code_block (context_at symbols t k) b l id))
 unfolding block_layout params_of
-is_sourced symbols t k b l id h e code = record {
+sourced symbols t k b l id h e code = record {
   code = code;
   few = few;
   is_even = ap (λ n. n % 2) long ∙ (local_of y b own_code).0;
@@ -525,7 +525,7 @@ are_declared_again source file symbols t accepted bytes file_bytes =
     let p = program_in symbols t in
     let blocks = code_blocks_of t symbols (layouts_of t symbols) in
     let verified = (accepted_verifies source file symbols t accepted bytes file_bytes).1 in
-    let from = all_compiled IsSourced blocks (sound_code_blocks symbols t (λ x. IsSourced (compiled_block x)) tree (is_sourced symbols t)) in
+    let from = all_compiled IsSourced blocks (sound_code_blocks symbols t (λ x. IsSourced (compiled_block x)) tree (sourced symbols t)) in
     all_again (chains_of p.code_blocks) (signatures_in p) (lens_of p.data_blocks) (map record_of_block p.code_blocks) p.code_blocks verified.blocks from
     (all_known (chains_of p.code_blocks) 0 p.code_blocks (rise_after blocks (code_blocks_rise symbols t tree)) (kinds_wide p (all_codes p.code_blocks from) verified))
 
@@ -538,7 +538,7 @@ codes_known source file symbols t accepted bytes file_bytes =
     let p = program_in symbols t in
     let blocks = code_blocks_of t symbols (layouts_of t symbols) in
     let verified = (accepted_verifies source file symbols t accepted bytes file_bytes).1 in
-    let from = all_compiled IsSourced blocks (sound_code_blocks symbols t (λ x. IsSourced (compiled_block x)) tree (is_sourced symbols t)) in
+    let from = all_compiled IsSourced blocks (sound_code_blocks symbols t (λ x. IsSourced (compiled_block x)) tree (sourced symbols t)) in
     all_both IsSourced (IsKnown (chains_of p.code_blocks) (signatures_in p)) p.code_blocks from
     (all_known (chains_of p.code_blocks) 0 p.code_blocks (rise_after blocks (code_blocks_rise symbols t tree)) (kinds_wide p (all_codes p.code_blocks from) verified))
 
@@ -547,7 +547,7 @@ pub codes_wide : (source file : List ℕ) (symbols : List Symbol) (t : Tree) →
 codes_wide source file symbols t accepted bytes file_bytes =
     let tree = right_tree source file symbols t accepted in
     let blocks = code_blocks_of t symbols (layouts_of t symbols) in
-    let from = all_compiled IsSourced blocks (sound_code_blocks symbols t (λ x. IsSourced (compiled_block x)) tree (is_sourced symbols t)) in
+    let from = all_compiled IsSourced blocks (sound_code_blocks symbols t (λ x. IsSourced (compiled_block x)) tree (sourced symbols t)) in
     kinds_wide (program_in symbols t) (all_codes (program_in symbols t).code_blocks from) (accepted_verifies source file symbols t accepted bytes file_bytes).1
 
 -- no block has the kind and number of one behind it
@@ -588,7 +588,7 @@ listed_right source file symbols t accepted bytes file_bytes y line =
     let p = program_in symbols t in
     let blocks = code_blocks_of t symbols (layouts_of t symbols) in
     let verified = (accepted_verifies source file symbols t accepted bytes file_bytes).1 in
-    let from = all_compiled IsSourced blocks (sound_code_blocks symbols t (λ x. IsSourced (compiled_block x)) tree (is_sourced symbols t)) in (
+    let from = all_compiled IsSourced blocks (sound_code_blocks symbols t (λ x. IsSourced (compiled_block x)) tree (sourced symbols t)) in (
       codes_right (chains_of p.code_blocks) (signatures_in p) y line p.code_blocks from
           (all_known (chains_of p.code_blocks) 0 p.code_blocks (rise_after blocks (code_blocks_rise symbols t tree)) (kinds_wide p (all_codes p.code_blocks from) verified)),
       datas_right (signatures_in p) y line p.data_blocks,
@@ -659,7 +659,7 @@ listed_heads source file symbols t accepted bytes file_bytes y line =
     let tree = right_tree source file symbols t accepted in
     let p = program_in symbols t in
     let blocks = code_blocks_of t symbols (layouts_of t symbols) in
-    let from = all_compiled IsSourced blocks (sound_code_blocks symbols t (λ x. IsSourced (compiled_block x)) tree (is_sourced symbols t)) in (
+    let from = all_compiled IsSourced blocks (sound_code_blocks symbols t (λ x. IsSourced (compiled_block x)) tree (sourced symbols t)) in (
       heads_right (signatures_in p) y line p.code_blocks from (are_declared_again source file symbols t accepted bytes file_bytes),
       data_heads (signatures_in p) y line p.data_blocks (sound_data_blocks symbols t IsNumbered tree (data_numbered symbols t)),
     )
@@ -696,5 +696,5 @@ listed_short source file symbols t accepted bytes file_bytes y others line =
     let tree = right_tree source file symbols t accepted in
     let p = program_in symbols t in
     let blocks = code_blocks_of t symbols (layouts_of t symbols) in
-    let from = all_compiled IsSourced blocks (sound_code_blocks symbols t (λ x. IsSourced (compiled_block x)) tree (is_sourced symbols t)) in
+    let from = all_compiled IsSourced blocks (sound_code_blocks symbols t (λ x. IsSourced (compiled_block x)) tree (sourced symbols t)) in
     short_codes (signatures_in p) y others line p.code_blocks from (are_declared_again source file symbols t accepted bytes file_bytes)

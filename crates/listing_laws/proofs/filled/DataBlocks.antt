@@ -30,7 +30,7 @@ use Rattle.listing_laws.specs.Declared.{signatures_in}
 use Rattle.listing_laws.specs.Instances.{AreDataBlocksAgain, data_again}
 use Rattle.listing_laws.specs.OwnData.{IsOwnDataAgain}
 use Rattle.listing_laws.proofs.OrderLemmas.{all_sorted, in_order, order_sorted}
-use Rattle.listing_laws.proofs.declared.Blocks.{IsSourced, all_codes, all_compiled, own_kind, is_sourced}
+use Rattle.listing_laws.proofs.declared.Blocks.{IsSourced, all_codes, all_compiled, own_kind, sourced}
 use Rattle.listing_laws.proofs.declared.OwnData.{laid_in, own_data}
 use Rattle.listing_laws.proofs.declared.OwnKept.{layout_there}
 use Rattle.listing_laws.proofs.filled.Listed.{IsAgain, all_instances}
@@ -167,7 +167,7 @@ data_blocks_again source file symbols t accepted bytes file_bytes others whole =
     codes : AllByRecursion (λ b. is_code b.id.kind ≡ true) p.code_blocks
     codes =
         let blocks = code_blocks_of t symbols (layouts_of t symbols) in
-        all_codes p.code_blocks (all_compiled IsSourced blocks (sound_code_blocks symbols t (λ x. IsSourced (compiled_block x)) (right_tree source file symbols t accepted) (is_sourced symbols t)))
+        all_codes p.code_blocks (all_compiled IsSourced blocks (sound_code_blocks symbols t (λ x. IsSourced (compiled_block x)) (right_tree source file symbols t accepted) (sourced symbols t)))
 
     Comes : DataBlock → Type 0
     Comes d = (k : ℕ) (l : BlockLayout) → slice_get again.blocks k ≡ Some (data_again symbols t line d) → slice_get ls k ≡ Some l → data_block_of (context_at others again k) l l.id ≡ d ∷ []

@@ -38,7 +38,7 @@ use Rattle.listing_laws.specs.Instances.{AreInstancesAgain, AreInstancesLong, Is
 use Rattle.listing_laws.proofs.CompiledLemmas.{written_compiled}
 use Rattle.listing_laws.proofs.IdLemmas.{blocks_found, source_symbols}
 use Rattle.listing_laws.proofs.RangeLemmas.{IsListedData, program_listed}
-use Rattle.listing_laws.proofs.declared.Blocks.{IsKnown, IsLaidInstance, IsSourced, all_codes, all_compiled, all_known, kinds_wide, laid_instance, rise_after, is_sourced}
+use Rattle.listing_laws.proofs.declared.Blocks.{IsKnown, IsLaidInstance, IsSourced, all_codes, all_compiled, all_known, kinds_wide, laid_instance, rise_after, sourced}
 use Rattle.listing_laws.proofs.declared.Groups.{AreListed, all_listed}
 use Rattle.listing_laws.proofs.declared.Kept.{IsKeptInstance, instance_groups, instance_kept, own_length}
 use Rattle.listing_laws.proofs.declared.OwnData.{not_long}
@@ -110,7 +110,7 @@ module _ (source file : List ℕ) (symbols : List Symbol) (t : Tree) (accepted :
   ready =
       let blocks = code_blocks_of t symbols (layouts_of t symbols) in
       let verified = (accepted_verifies source file symbols t accepted bytes file_bytes).1 in
-      let from = all_compiled IsSourced blocks (sound_code_blocks symbols t (λ x. IsSourced (compiled_block x)) tree (is_sourced symbols t)) in
+      let from = all_compiled IsSourced blocks (sound_code_blocks symbols t (λ x. IsSourced (compiled_block x)) tree (sourced symbols t)) in
       let after = rise_after blocks (code_blocks_rise symbols t tree) in
       all_uncompiled (IsReady (chains_of p.code_blocks) ss p.code_blocks) blocks
       (all_ready (chains_of p.code_blocks) ss p.code_blocks p.code_blocks (all_known (chains_of p.code_blocks) 0 p.code_blocks after (kinds_wide p (all_codes p.code_blocks from) verified))
@@ -141,7 +141,7 @@ module _ (source file : List ℕ) (symbols : List Symbol) (t : Tree) (accepted :
     laid = laid_instance symbols t s.place s.block s.layout (function_block n) s.sound s.is refl refl
 
     few : length b.params ≤ 60
-    few = (is_sourced symbols t s.place s.block s.layout (function_block n) s.sound s.is refl).few
+    few = (sourced symbols t s.place s.block s.layout (function_block n) s.sound s.is refl).few
 
     kept : IsKeptInstance (types_of_source others again.blocks) ss listed_block_there.reached b laid.instance.cells
     kept =

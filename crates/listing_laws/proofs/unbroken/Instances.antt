@@ -206,9 +206,9 @@ found_block_of symbols t tree size number (shape.Of place) e long = by (slice_ge
                 let same : id.number ≡ number = cc in
                 from_block symbols t size place b.block l id number (sound_at symbols t tree place b.block l b.there laid) named fb same (long place refl)
 
-data_stored : (symbols : List Symbol) (t : Tree) → IsSoundTree symbols t → (k : ℕ) (b : Block) (l : BlockLayout) (id : BlockId) → IsSound symbols t k b l → l.id ≡ Some id → is_data_block id.kind ≡ true
+stored : (symbols : List Symbol) (t : Tree) → IsSoundTree symbols t → (k : ℕ) (b : Block) (l : BlockLayout) (id : BlockId) → IsSound symbols t k b l → l.id ≡ Some id → is_data_block id.kind ≡ true
     → IsStored (in_lines (program_in symbols t).code_blocks) (generated_data_block (context_at symbols t k) l id)
-data_stored symbols t tree k b l id h named db =
+stored symbols t tree k b l id h named db =
     let y = types_of_source symbols t.blocks in
     let long = bytes_long symbols t k b l id h in
     let most : length_of_block y t.blocks b ≤ 16384 = ltb-false 16384 (length_of_block y t.blocks b) h.head.by_51 in
@@ -220,4 +220,4 @@ data_stored symbols t tree k b l id h named db =
     }
 
 pub all_stored : (symbols : List Symbol) (t : Tree) → IsSoundTree symbols t → AllByRecursion (IsStored (in_lines (program_in symbols t).code_blocks)) (program_in symbols t).data_blocks
-all_stored symbols t tree = sound_data_blocks symbols t (IsStored (in_lines (program_in symbols t).code_blocks)) tree (data_stored symbols t tree)
+all_stored symbols t tree = sound_data_blocks symbols t (IsStored (in_lines (program_in symbols t).code_blocks)) tree (stored symbols t tree)

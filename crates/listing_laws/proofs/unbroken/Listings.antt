@@ -54,7 +54,7 @@ use Rattle.listing_laws.specs.Whole.{AreBlocksRightAgain, AreDataLaid, HasShapeA
 use Rattle.listing_laws.proofs.HeadLemmas.{blocks_once}
 use Rattle.listing_laws.proofs.IdLemmas.{blocks_found, source_ids, source_symbols}
 use Rattle.listing_laws.proofs.OrderLemmas.{all_sorted, length_sorted}
-use Rattle.listing_laws.proofs.declared.Blocks.{IsSourced, are_declared_again, listed_heads, listed_right, listed_short, is_sourced}
+use Rattle.listing_laws.proofs.declared.Blocks.{IsSourced, are_declared_again, listed_heads, listed_right, listed_short, sourced}
 use Rattle.listing_laws.proofs.declared.OwnData.{own_data}
 use Rattle.listing_laws.proofs.unbroken.Bodies.{few_statements}
 use Rattle.listing_laws.proofs.unbroken.Heads.{blocks_right, heads_whole}
@@ -389,7 +389,7 @@ right_listing source file symbols t accepted bytes file_bytes others = record {
     small = accepted_is_small source file symbols t accepted
 
     from : AllByRecursion IsSourced p.code_blocks
-    from = all_into IsSourced compiled_block (code_blocks_of t symbols (layouts_of t symbols)) (sound_code_blocks symbols t (λ x. IsSourced (compiled_block x)) tree (is_sourced symbols t))
+    from = all_into IsSourced compiled_block (code_blocks_of t symbols (layouts_of t symbols)) (sound_code_blocks symbols t (λ x. IsSourced (compiled_block x)) tree (sourced symbols t))
 
     codes : AllByRecursion (λ b. is_code b.id.kind ≡ true) (in_lines p.code_blocks)
     codes = lines_all (λ b. is_code b.id.kind ≡ true) p.code_blocks (all_mapped IsSourced (λ b. is_code b.id.kind ≡ true) (λ b s. s.code) p.code_blocks from)
