@@ -25,7 +25,7 @@ use Rattle.stl_parser.specs.declared.keywords.ClauseWord.TheVariants as key
 use Rattle.stl_parser.specs.declared.statements.BareStatement.{BareStatement}
 use Rattle.stl_parser.specs.declared.tables.AddressKind.{AddressKind}
 use Rattle.stl_parser.specs.declared.tables.OperandSyntax.{OperandSyntax}
-use Rattle.stl_parser.specs.declared.tables.OperandSyntax.TheVariants as form
+use Rattle.stl_parser.specs.declared.tables.OperandSyntax.TheVariants as operand_syntax
 use Rattle.stl_parser.specs.declared.keywords.ClauseWord.{ClauseWord}
 use Rattle.stl_parser.specs.Addresses.{address_at, block_at, block_number_at, glued_letters_and_number, letter_count, letters_and_number_at, quoted_block_at, separate_letters_and_number}
 use Rattle.stl_parser.specs.Literals.{literal_at, literal_of, literal_token, long_literal, truth_of, text_between_quotes}
@@ -226,16 +226,16 @@ module _ (s e : List ℕ) where
 
   -- of a jump the first token behind the word is the same
   abbrev pub Labels : OperandSyntax → List (Pair s e) → Type 0
-  Labels form.Jump ps = HeadSame s e ps
+  Labels operand_syntax.Jump ps = HeadSame s e ps
   Labels _ ps = Unit {0}
 
   behind_follows : (f : OperandSyntax) (code : Mnemonic) (ps : List (Pair s e)) → Fits s e ps → Labels f ps → Follows Equal (behind_word s f code (lefts ps)) (behind_word e f code (rights ps))
   unfolding behind_word
-  behind_follows form.Operand code ps h same = with_operand_follows code ps h
-  behind_follows form.Jump code ps h same = jump_follows code ps h same
-  behind_follows form.Open code ps h same = open_follows code ps h
-  behind_follows form.BlockCall code ps h same = also (equal _ _ (block_call_same code ps h))
-  behind_follows form.Call code ps h same = call_follows code ps h
+  behind_follows operand_syntax.Operand code ps h same = with_operand_follows code ps h
+  behind_follows operand_syntax.Jump code ps h same = jump_follows code ps h same
+  behind_follows operand_syntax.Open code ps h same = open_follows code ps h
+  behind_follows operand_syntax.BlockCall code ps h same = also (equal _ _ (block_call_same code ps h))
+  behind_follows operand_syntax.Call code ps h same = call_follows code ps h
 
   -- ---- instructions
 
@@ -339,11 +339,11 @@ module _ (s e : List ℕ) where
 
   paren_behind : (f : OperandSyntax) (code : Mnemonic) (t : Token) (ts : List Token) → is_mark s t mark.OpenParen ≡ true → behind_word s f code (t ∷ ts) ≡ None
   unfolding behind_word block_call_of call_of
-  paren_behind form.Operand code t ts is = paren_with code t ts is
-  paren_behind form.Jump code t ts is = paren_jump code t ts is
-  paren_behind form.Open code t ts is = paren_open code t ts is
-  paren_behind form.BlockCall code t ts is = rw (paren_block t ts is) refl
-  paren_behind form.Call code t ts is = rw (paren_block t ts is) refl
+  paren_behind operand_syntax.Operand code t ts is = paren_with code t ts is
+  paren_behind operand_syntax.Jump code t ts is = paren_jump code t ts is
+  paren_behind operand_syntax.Open code t ts is = paren_open code t ts is
+  paren_behind operand_syntax.BlockCall code t ts is = rw (paren_block t ts is) refl
+  paren_behind operand_syntax.Call code t ts is = rw (paren_block t ts is) refl
 
   nothing_of : {X Y : Type 0} (o : Option X) → option_and_then {T = X} {U = Y} (λ x. None) o ≡ None
   nothing_of None = refl
@@ -493,7 +493,7 @@ module _ (s e : List ℕ) where
       or_none _ _ (ap (option_map operand.Constant) (zone_literal w u us is))
       (ap (λ k. operand_by_kind s w (u ∷ us) (w ∷ u ∷ us) k) (is_word w key.Mcr is) ∙ zone_rest w u us is word)
 
-  closing : (t : Token) → is_mark s t mark.CloseParen ≡ true → look_up mnemonics (text_of s t) ≡ Some (mnemonic.Close, form.Operand)
+  closing : (t : Token) → is_mark s t mark.CloseParen ≡ true → look_up mnemonics (text_of s t) ≡ Some (mnemonic.Close, operand_syntax.Operand)
   unfolding look_up mnemonics is_mark mark_text
   closing t is = same_looked_up mnemonics (text_of s t) (codes ")") (second (has_kind t kind.Mark) (str_eq_ignore_ascii_case (text_of s t) (codes ")")) is)
 

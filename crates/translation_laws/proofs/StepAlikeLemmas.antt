@@ -22,7 +22,7 @@ use Rattle.stl_parser.specs.declared.clauses.Clause.TheVariants as clause
 use Rattle.stl_parser.specs.declared.places.ClausePlace.{ClausePlace}
 use Rattle.stl_parser.specs.declared.tables.HeadWord.{HeadWord}
 use Rattle.stl_parser.specs.declared.tables.OperandSyntax.{OperandSyntax}
-use Rattle.stl_parser.specs.declared.tables.OperandSyntax.TheVariants as form
+use Rattle.stl_parser.specs.declared.tables.OperandSyntax.TheVariants as operand_syntax
 use Rattle.stl_parser.specs.declared.tables.Keyword.{Keyword}
 use Rattle.stl_parser.specs.Clauses.{base_block_at, behind_note, clause_at, clause_by_kind, declaration_clause, first_step, free_word_clause, head_word_clause, in_data_head, inside_clause, is_outer, keyword_clause, level_at, other_clause, plain_clause, semicolon_clause, semicolon_place, setting_clause, setting_of, statement_clause, structure_clause, takes_parameters, until_semicolon, value_behind, word_clause}
 use Rattle.stl_parser.specs.Declarations.{declaration_of, declared_name_at}
@@ -130,12 +130,12 @@ module _ (s e : List ℕ) where
       }
 
   labels_same : (f : OperandSyntax) (ps : List (Pair s e)) → AllSame ps → Labels s e f ps
-  labels_same form.Jump [] h = tt
-  labels_same form.Jump (p ∷ ps) h = h.0
-  labels_same form.Operand ps h = tt
-  labels_same form.Open ps h = tt
-  labels_same form.BlockCall ps h = tt
-  labels_same form.Call ps h = tt
+  labels_same operand_syntax.Jump [] h = tt
+  labels_same operand_syntax.Jump (p ∷ ps) h = h.0
+  labels_same operand_syntax.Operand ps h = tt
+  labels_same operand_syntax.Open ps h = tt
+  labels_same operand_syntax.BlockCall ps h = tt
+  labels_same operand_syntax.Call ps h = tt
 
   first_same : (p : Pair s e) (ps : List (Pair s e)) → IsSamePair p → AllSame ps → IsFirst s e p ps
   first_same p ps same h = record {

@@ -38,7 +38,7 @@ use Rattle.stl_parser.specs.declared.statements.BareStatement.{BareStatement}
 use Rattle.stl_parser.specs.declared.tables.AddressKind.{AddressKind}
 use Rattle.stl_parser.specs.declared.tables.AddressKind.TheVariants as address
 use Rattle.stl_parser.specs.declared.tables.OperandSyntax.{OperandSyntax}
-use Rattle.stl_parser.specs.declared.tables.OperandSyntax.TheVariants as form
+use Rattle.stl_parser.specs.declared.tables.OperandSyntax.TheVariants as operand_syntax
 use Rattle.stl_parser.proofs.OptionLemmas.{all_push, both, chained, either, entry_passes, mapped, none_holds, parts_hold, passed, weakened, whole_holds}
 use Rattle.stl_types.specs.Addresses.{area_for_letters}
 use Rattle.listing_laws.proofs.naming.Places.{mapped_holds, no_bit, no_bit_is}
@@ -321,11 +321,11 @@ open_plain source code (t ∷ u ∷ rest) = with_operand_plain source code (t �
 
 behind_word_plain : (source : List ℕ) (f : OperandSyntax) (code : Mnemonic) (tokens : List Token) → IfSome (stated.behind_word source f code tokens) BareIsNoBit
 unfolding stated.behind_word
-behind_word_plain source form.Operand code tokens = with_operand_plain source code tokens
-behind_word_plain source form.Jump code tokens = jump_plain source code tokens
-behind_word_plain source form.Open code tokens = open_plain source code tokens
-behind_word_plain source form.BlockCall code tokens = block_call_plain source code tokens
-behind_word_plain source form.Call code tokens = call_plain source code tokens
+behind_word_plain source operand_syntax.Operand code tokens = with_operand_plain source code tokens
+behind_word_plain source operand_syntax.Jump code tokens = jump_plain source code tokens
+behind_word_plain source operand_syntax.Open code tokens = open_plain source code tokens
+behind_word_plain source operand_syntax.BlockCall code tokens = block_call_plain source code tokens
+behind_word_plain source operand_syntax.Call code tokens = call_plain source code tokens
 
 opening_plain : (source : List ℕ) (t : Token) (rest : List Token) → IfSome (stated.opening_instruction source t rest) BareIsNoBit
 unfolding stated.opening_instruction

@@ -29,7 +29,7 @@ use Rattle.stl_parser.specs.Terminals.{has_kind, is_mark, kind_rank}
 use Rattle.stl_parser.specs.declared.clauses.Clause.TheVariants as clause
 use Rattle.stl_parser.specs.declared.places.ClausePlace.TheVariants as place
 use Rattle.stl_parser.specs.declared.tables.OperandSyntax.{OperandSyntax}
-use Rattle.stl_parser.specs.declared.tables.OperandSyntax.TheVariants as form
+use Rattle.stl_parser.specs.declared.tables.OperandSyntax.TheVariants as operand_syntax
 use Rattle.stl_print.specs.Declarations.{setting_pieces}
 use Rattle.stl_print.specs.Gaps.{gap_text}
 use Rattle.stl_print.specs.Literals.{literal_pieces}
@@ -106,13 +106,13 @@ no_block_at source u us e = let no = no_word u e in rw (no.0, no.1) refl
 no_behind : (source : List ℕ) (f : OperandSyntax) (m : Mnemonic) (u : Token) (us : List Token) → u.kind ≡ kind.Mark → operand_of source (u ∷ us) ≡ None
     → behind_word source f m (u ∷ us) ≡ None
 unfolding behind_word statement_with_operand jump_of open_of block_call_of call_of
-no_behind source form.Operand m u us e none = rw none refl
-no_behind source form.Jump m u [] e none = rw ((no_word u e).0, none) refl
-no_behind source form.Jump m u (v ∷ us) e none = rw none refl
-no_behind source form.Open m u [] e none = rw ((no_word u e).1, none) refl
-no_behind source form.Open m u (v ∷ us) e none = rw none refl
-no_behind source form.BlockCall m u us e none = rw (no_block_at source u us e) refl
-no_behind source form.Call m u us e none = rw (no_block_at source u us e) refl
+no_behind source operand_syntax.Operand m u us e none = rw none refl
+no_behind source operand_syntax.Jump m u [] e none = rw ((no_word u e).0, none) refl
+no_behind source operand_syntax.Jump m u (v ∷ us) e none = rw none refl
+no_behind source operand_syntax.Open m u [] e none = rw ((no_word u e).1, none) refl
+no_behind source operand_syntax.Open m u (v ∷ us) e none = rw none refl
+no_behind source operand_syntax.BlockCall m u us e none = rw (no_block_at source u us e) refl
+no_behind source operand_syntax.Call m u us e none = rw (no_block_at source u us e) refl
 
 no_closed : (source : List ℕ) (w u : Token) (us : List Token) → u.kind ≡ kind.Mark → operand_of source (u ∷ us) ≡ None → one_token_instruction source w (u ∷ us) ≡ None
 unfolding one_token_instruction
