@@ -11,6 +11,7 @@ use Rattle.plc_base.specs.declared.places.Area.TheVariants as area
 use Rattle.plc_base.specs.declared.places.Area.{Area}
 use Rattle.plc_base.specs.declared.places.Width.TheVariants as width
 use Rattle.plc_base.specs.declared.places.Width.{Width}
+use Rattle.flat_code.specs.Kinds.{timer_kind, counter_kind}
 use Rattle.flat_code.specs.Forms.{passed_coding, actual_fits, is_crossing_area, direct_coding, holds_pointers, is_memory_area, payload_fits}
 use Rattle.flat_code.specs.Operations.{operation_of}
 use Rattle.flat_code.specs.Ops.{IsOp, OpData, is_op}
@@ -310,13 +311,13 @@ neither false true h = false≢true h
 neither false false h = false≢true h
 
 kind_plain : (t : OperandForms) (kind : ℕ) → takes_kind t kind ≡ true → is_plain_takes t ≡ true
-kind_plain takes.NoCode kind h = absurd (neither (kind == 1) (kind == 2) h)
-kind_plain takes.Nothing kind h = absurd (neither (kind == 1) (kind == 2) h)
-kind_plain takes.UseDb kind h = absurd (neither (kind == 1) (kind == 2) h)
-kind_plain takes.Pass kind h = absurd (neither (kind == 1) (kind == 2) h)
-kind_plain takes.Jump kind h = absurd (neither (kind == 1) (kind == 2) h)
-kind_plain takes.Call kind h = absurd (neither (kind == 1) (kind == 2) h)
-kind_plain takes.Open kind h = absurd (neither (kind == 1) (kind == 2) h)
+kind_plain takes.NoCode kind h = absurd (neither (kind == timer_kind) (kind == counter_kind) h)
+kind_plain takes.Nothing kind h = absurd (neither (kind == timer_kind) (kind == counter_kind) h)
+kind_plain takes.UseDb kind h = absurd (neither (kind == timer_kind) (kind == counter_kind) h)
+kind_plain takes.Pass kind h = absurd (neither (kind == timer_kind) (kind == counter_kind) h)
+kind_plain takes.Jump kind h = absurd (neither (kind == timer_kind) (kind == counter_kind) h)
+kind_plain takes.Call kind h = absurd (neither (kind == timer_kind) (kind == counter_kind) h)
+kind_plain takes.Open kind h = absurd (neither (kind == timer_kind) (kind == counter_kind) h)
 kind_plain _ kind h = refl
 
 -- ---- statements by what stands behind their word
@@ -433,7 +434,7 @@ one_or_two (suc (suc zero)) h k = inr refl
 one_or_two (suc (suc (suc n))) h k = let most = leb-true (suc (suc (suc n))) 2 k in absurd (omega (arith, most))
 
 timer_printed : (kind number : ℕ) → number ≤ 65535 → IsPrintedOperand (timer_or_counter kind number)
-timer_printed kind number h = either_way IsPrintedOperand (kind == 1) (operand.Timer number) (operand.Counter number) h h
+timer_printed kind number h = either_way IsPrintedOperand (kind == timer_kind) (operand.Timer number) (operand.Counter number) h h
 
 -- operand and actual parameters of the last op of a statement
 fits : (ss : List Signature) (line : ℕ) (formals : List Formal) (starts : List ℕ) (before : List OpData) (code : ℕ) (o : FlatOperand) → AreBlocksWords ss → AreWords formals

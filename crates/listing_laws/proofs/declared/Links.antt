@@ -343,7 +343,7 @@ record IsAmong (a : Environment) (blocks : List CodeBlock) (first : ℕ) (b : Co
 call_good : (a : Environment) (blocks : List CodeBlock) (first : ℕ) (b : CodeBlock) (kind number instance : ℕ) (before : List OpData) → IsAmong a blocks first b → IsCalledRight a (flat.Called kind number instance)
     → AllByRecursion (λ op. IsPassedRight a (flat.Called kind number instance) op.operand) before → AllByRecursion (IsGoodLink (widths blocks)) (call_links blocks (called_id kind number) first before)
 unfolding callee_among
-call_good a blocks first b kind number instance before among (s, found) h = by (nat_eq kind 5) refl found
+call_good a blocks first b kind number instance before among (s, found) h = by (nat_eq kind (kind_number kinds.Sfc)) refl found
   where
     ws : List Width
     ws = widths blocks
@@ -351,7 +351,7 @@ call_good a blocks first b kind number instance before among (s, found) h = by (
     last : FlatOperand
     last = flat.Called kind number instance
 
-    by : (t : Bool) → nat_eq kind 5 ≡ t → (if t then option_map callee_of_system (system_params number) else block_with kind number a.blocks) ≡ Some s
+    by : (t : Bool) → nat_eq kind (kind_number kinds.Sfc) ≡ t → (if t then option_map callee_of_system (system_params number) else block_with kind number a.blocks) ≡ Some s
         → AllByRecursion (IsGoodLink ws) (call_links blocks (called_id kind number) first before)
     by true e f = system
       where

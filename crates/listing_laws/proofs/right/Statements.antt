@@ -6,6 +6,7 @@ use Rattle.std.specs.Option.{is_none, option_and_then}
 use Rattle.std.proofs.lemmas.Option.{same_Some}
 use Rattle.plc_base.specs.Kinds.{is_callable, is_function, is_function_block, is_system_function}
 use Rattle.plc_base.specs.declared.blocks.BlockId.{BlockId}
+use Rattle.flat_code.specs.Kinds.{timer_kind}
 use Rattle.flat_code.specs.Instr.{Calls, Does, Instr, Jumps, JumpsByList, Passing, Returns}
 use Rattle.flat_code.specs.Ops.{OpData}
 use Rattle.flat_code.specs.declared.kinds.JumpOperation.{JumpOperation}
@@ -163,7 +164,7 @@ operand_none : (formals : List Formal) (starts : List ℕ) (opened : Option ℕ)
 unfolding operand_by plain_operand
 operand_none formals starts opened w flat.Nothing h = implied_none w
 operand_none formals starts opened w (flat.Literal value) h = constant_none w value
-operand_none formals starts opened w (flat.Numbered kind number) h = timer_none (kind == 1) number
+operand_none formals starts opened w (flat.Numbered kind number) h = timer_none (kind == timer_kind) number
 operand_none formals starts opened w (flat.Called kind number instance) h = absurd h
 operand_none formals starts opened w _ h = refl
 

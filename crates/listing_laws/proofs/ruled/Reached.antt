@@ -8,6 +8,7 @@ use Rattle.std.proofs.lemmas.Bool.Decides.{nat_tests}
 use Rattle.std.proofs.lemmas.Slice.Eq.{bytes_eq-Decides}
 use Rattle.plc_base.specs.Least.{broken_if}
 use Rattle.plc_base.specs.declared.refusals.Refusal.{Refusal}
+use Rattle.flat_code.specs.Kinds.{timer_kind}
 use Rattle.flat_code.specs.Instr.{Calls, Does, Instr, Jumps, JumpsByList, Returns}
 use Rattle.flat_code.specs.declared.operands.Operand.{Operand as FlatOperand}
 use Rattle.flat_code.specs.declared.operands.Operand.TheVariants as flat
@@ -131,7 +132,7 @@ unfolding operand_by plain_operand
 no_unknown labels formals starts opened w flat.Nothing h = implied_no w labels
 no_unknown labels formals starts opened w (flat.Literal value) h = constant_no w value labels
 no_unknown labels formals starts opened w (flat.Jump kind target) h = none_is (name_place (label_of_number (number_at starts target)) labels) h
-no_unknown labels formals starts opened w (flat.Numbered kind number) h = timer_no (kind == 1) number labels
+no_unknown labels formals starts opened w (flat.Numbered kind number) h = timer_no (kind == timer_kind) number labels
 no_unknown labels formals starts opened w _ h = refl
 
 -- ---- all statements
