@@ -334,13 +334,13 @@ source_data t symbols =
     data_are (first_context symbols (layouts_of t symbols) t.blocks) t.blocks (types_of_source symbols t.blocks) [] t.blocks
     ∙ ap (λ (z : List Symbol). data_ids (ids_of z t.blocks)) (source_symbols symbols t.blocks)
 
-numbered : (k : BlockKind) (n : ℕ) → is_block_number k n ≡ true → is_system_function k ≡ false
-numbered kinds.Ob n h = refl
-numbered kinds.Fc n h = refl
-numbered kinds.Fb n h = refl
-numbered kinds.Db n h = refl
-numbered kinds.Sfc n h = absurd cc
-numbered kinds.Udt n h = refl
+no_system_number : (k : BlockKind) (n : ℕ) → is_block_number k n ≡ true → is_system_function k ≡ false
+no_system_number kinds.Ob n h = refl
+no_system_number kinds.Fc n h = refl
+no_system_number kinds.Fb n h = refl
+no_system_number kinds.Db n h = refl
+no_system_number kinds.Sfc n h = absurd cc
+no_system_number kinds.Udt n h = refl
 
 same_there : (t : Tree) (symbols : List Symbol) (id : BlockId) → is_data_type id.kind ≡ false → is_system_function id.kind ≡ false
     → is_some (place_of_block id (map (λ i. Some i) (program_ids (program_in symbols t)))) ≡ is_some (place_of_block id (ids_of symbols t.blocks))
@@ -362,7 +362,7 @@ blocks_kept t symbols listed id plain =
     by : (b : Bool) → is_block_number id.kind id.number ≡ b
         → is_some (if b then place_of_block id (map (λ i. Some i) (program_ids (program_in symbols t))) else None)
         ≡ is_some (if b then place_of_block id (ids_of symbols t.blocks) else None)
-    by true e = same_there t symbols id plain (numbered id.kind id.number e)
+    by true e = same_there t symbols id plain (no_system_number id.kind id.number e)
     by false e = refl
 
 -- ---- each at its place
@@ -568,12 +568,12 @@ no_data kinds.Fc h = refl
 no_data kinds.Fb h = refl
 no_data _ h = absurd cc
 
-crossed : (ds : List DataBlock) (ids : List BlockId) → AllByRecursion HasCode ids → AllByRecursion (λ x. AllByRecursion (λ y. NotSame y x) (map (λ d. data_id d.number) ds)) ids
-crossed ds [] h = tt
-crossed ds (id ∷ ids) h = (
+data_and_code_apart : (ds : List DataBlock) (ids : List BlockId) → AllByRecursion HasCode ids → AllByRecursion (λ x. AllByRecursion (λ y. NotSame y x) (map (λ d. data_id d.number) ds)) ids
+data_and_code_apart ds [] h = tt
+data_and_code_apart ds (id ∷ ids) h = (
   all_mapped (λ y. NotSame y id) (λ (d : DataBlock). data_id d.number) ds
       (all_any (λ (d : DataBlock). NotSame (data_id d.number) id) ds (λ d. ap (λ (b : Bool). b && nat_eq d.number id.number) (no_data id.kind h.0))),
-  crossed ds ids h.1,
+  data_and_code_apart ds ids h.1,
 )
 
 source_have_code : (t : Tree) (symbols : List Symbol) → AllByRecursion HasCode (map (λ x. x.id) (codes_of t symbols))
@@ -585,7 +585,7 @@ program_apart t symbols h =
     (pairs_joined NotSame (map (λ b. b.id) (in_lines (map compiled_block (sorted_list is_code_before (codes_of t symbols))))) (map (λ d. data_id d.number) (sorted_list is_data_before (stored_of t symbols)))
     (code_pairs (codes_of t symbols) (subst (Pairs NotSame) (sym (source_codes t symbols)) (codes_apart (ids_of symbols t.blocks) h)))
     (data_pairs (stored_of t symbols) (subst (Pairs NotSame) (sym (source_data t symbols)) (data_apart (ids_of symbols t.blocks) h)))
-    (crossed (sorted_list is_data_before (stored_of t symbols)) (map (λ b. b.id) (in_lines (map compiled_block (sorted_list is_code_before (codes_of t symbols)))))
+    (data_and_code_apart (sorted_list is_data_before (stored_of t symbols)) (map (λ b. b.id) (in_lines (map compiled_block (sorted_list is_code_before (codes_of t symbols)))))
     (code_program HasCode (codes_of t symbols) (source_have_code t symbols))))
 
 right_number : (id : BlockId) → is_number_beyond_limits (Some id) ≡ false → IsRight id

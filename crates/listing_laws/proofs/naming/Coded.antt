@@ -259,7 +259,7 @@ bare_seen c (operand.Called name None) e h = by (whole_called_block c (named_blo
 bare_seen c (operand.Called name (Some instance)) e h = absurd (false≢true (sym h))
 bare_seen c _ e h = absurd (false≢true e)
 
-fb_number : (k : BlockKind) → is_function_block k ≡ true → kind_number k ≡ 3
+fb_number : (k : BlockKind) → is_function_block k ≡ true → kind_number k ≡ kind_number kinds.Fb
 fb_number kinds.Fb e = refl
 fb_number kinds.Ob e = absurd (false≢true e)
 fb_number kinds.Fc e = absurd (false≢true e)
@@ -267,7 +267,7 @@ fb_number kinds.Db e = absurd (false≢true e)
 fb_number kinds.Sfc e = absurd (false≢true e)
 fb_number kinds.Udt e = absurd (false≢true e)
 
-instance_of : (id : BlockId) (instance : Option ℕ) → is_called_view (view.Called id instance) ≡ true → (instance_number_or_zero instance ≡ 0) ⊎ (kind_number id.kind ≡ 3)
+instance_of : (id : BlockId) (instance : Option ℕ) → is_called_view (view.Called id instance) ≡ true → (instance_number_or_zero instance ≡ 0) ⊎ (kind_number id.kind ≡ kind_number kinds.Fb)
 instance_of id None e = inl refl
 instance_of id (Some n) e = inr (fb_number id.kind e)
 

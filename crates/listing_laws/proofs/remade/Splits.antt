@@ -80,10 +80,10 @@ stated_among c body n (x ∷ front) s rest some = by (is_empty_statement x.code)
       is = ap (λ z. record { instr = instruction c body n x; line = x.line } ∷ z) next.is;
     }
 
-pub stated : (c : Context) (b : Block) (front : List Statement) (s : Statement) (rest : List Statement) → b.body ≡ front ++ s ∷ rest → is_empty_statement s.code ≡ false
+pub statement_stated : (c : Context) (b : Block) (front : List Statement) (s : Statement) (rest : List Statement) → b.body ≡ front ++ s ∷ rest → is_empty_statement s.code ≡ false
     → IsStated c b.body (statements_of c b) s
 unfolding statements_of
-stated c b front s rest e some =
+statement_stated c b front s rest e some =
     let inner = subst (λ z. IsStated c b.body (stated_from c b.body 0 z) s) (sym e) (stated_among c b.body 0 front s rest some) in
     record {
       before = inner.before;

@@ -6,6 +6,7 @@ use Rattle.plc_base.specs.Folding.{upper_case_name}
 use Rattle.plc_base.specs.Kinds.{is_data_block, is_system_function}
 use Rattle.plc_base.specs.declared.blocks.BlockId.{BlockId}
 use Rattle.plc_base.specs.declared.places.Width.{Width}
+use Rattle.flat_code.specs.Kinds.{timer_kind}
 use Rattle.flat_code.specs.declared.operands.Operand.{Operand as FlatOperand}
 use Rattle.flat_code.specs.declared.operands.Operand.TheVariants as flat
 use Rattle.flat_code.specs.declared.operands.Passed.{Passed}
@@ -175,7 +176,7 @@ unfolding operand_by plain_operand
 operand_bare formals starts opened w flat.Nothing = implied_bare w
 operand_bare formals starts opened w (flat.Literal value) = constant_bare w value
 operand_bare formals starts opened w (flat.Parameter index width) = refl
-operand_bare formals starts opened w (flat.Numbered kind number) = timer_bare (kind == 1) number
+operand_bare formals starts opened w (flat.Numbered kind number) = timer_bare (kind == timer_kind) number
 operand_bare formals starts opened w _ = tt
 
 -- the value of a listed actual parameter

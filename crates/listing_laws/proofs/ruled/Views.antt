@@ -37,7 +37,7 @@ use Rattle.stl_types.specs.declared.views.ResolvedOperand.{ResolvedOperand}
 use Rattle.stl_types.specs.declared.views.ResolvedOperand.TheVariants as view
 use Rattle.stl_codegen.specs.Operands.{is_db, opened_by_place}
 use Rattle.listing_laws.specs.Instructions.{HasAgain, IsRightOperand}
-use Rattle.listing_laws.specs.Operands.{IsConstantCoded, IsConstantSeen, IsOpenedAgain, IsPointer, StandsAgain}
+use Rattle.listing_laws.specs.Operands.{IsConstantCoded, IsConstantResolved, IsOpenedAgain, IsPointer, StandsAgain}
 
 -- what is known of what is named. Only a path into the block's own variables may name a parameter
 abbrev IsSeen : (own : Bool) → Context → ResolvedOperand → Type 0
@@ -210,13 +210,13 @@ view_is x v e = cc
 
 -- what stands there, and whether it is a constant
 abbrev Both : Context → List Formal → Operand → ResolvedOperand → Type 0
-Both listed formals o v = StandsAgain listed formals v × IsConstantSeen o v
+Both listed formals o v = StandsAgain listed formals v × IsConstantResolved o v
 
 abbrev IsPlain : Operand → Type 0
 IsPlain (operand.Constant value) = ⊥
 IsPlain _ = Unit {0}
 
-other_by : (own : Bool) (listed : Context) (o : Operand) (v : ResolvedOperand) → IsPlain o → IsSeen own listed v → IsConstantSeen o v
+other_by : (own : Bool) (listed : Context) (o : Operand) (v : ResolvedOperand) → IsPlain o → IsSeen own listed v → IsConstantResolved o v
 other_by own listed (operand.Constant value) v n h = absurd n
 other_by own listed _ view.Constant n h = h
 other_by own listed _ _ n h = tt

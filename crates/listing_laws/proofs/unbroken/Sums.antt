@@ -32,8 +32,8 @@ use Rattle.listing_laws.proofs.unbroken.Instances.{bytes_long}
 
 -- ---- from the sum of all to each of them
 
-abbrev pub counted : Block → ℕ
-counted b = cond (is_data_block b.kind) 1 0
+abbrev pub data_block_count : Block → ℕ
+data_block_count b = cond (is_data_block b.kind) 1 0
 
 not_many : (is : Bool) (n m : ℕ) → n + (cond is 1 0 + m) ≤ 256 → (is && nat_le 256 n) ≡ false
 not_many true n m h = grind (arith, nat_tests)
@@ -42,8 +42,8 @@ not_many false n m h = refl
 pub few_data : (before bs : List Block) → data_blocks before + data_blocks bs ≤ 256 → AllHeads (λ before b. is_one_too_many before b ≡ false) before bs
 few_data before [] h = tt
 few_data before (b ∷ bs) h =
-    let here = sum_by-cons counted b bs in
-    let front = sum_by-cons counted b before in (
+    let here = sum_by-cons data_block_count b bs in
+    let front = sum_by-cons data_block_count b before in (
       not_many (is_data_block b.kind) (data_blocks before) (data_blocks bs) (omega (arith, h, here)),
       few_data (b ∷ before) bs (omega (arith, h, here, front)),
     )
