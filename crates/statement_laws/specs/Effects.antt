@@ -3,7 +3,7 @@
 -- to what the block holds.
 use Rattle.std.specs.Prelude.{ℕ, ◌+◌, ◌-◌, ◌%◌, ◌^◌, ◌==◌, nat_lt, Bool, true, false, ◌&&◌, not, is_some, List, [], ◌∷◌, length, Option, Some, None, Result, Ok, Err, ok_or, unwrap_or, if◌then◌else◌}
 use Rattle.std.specs.FinMap as map
-use Rattle.plc_base.specs.ErrorCodes as errors
+use Rattle.statement_laws.specs.ErrorNumbers as errors
 use Rattle.plc_base.specs.Widths.{bit_count}
 use Rattle.plc_base.specs.declared.instructions.Check.{Check}
 use Rattle.plc_base.specs.declared.instructions.Check.TheVariants as check
@@ -35,7 +35,6 @@ use Rattle.timers_counters.specs.Numbered.{change_at_number}
 use Rattle.timers_counters.specs.Timer as timers
 use Rattle.timers_counters.specs.declared.faults.TimerFault.{TimerFault}
 use Rattle.timers_counters.specs.declared.faults.TimerFault.TheVariants.{BadBcd, NoNumber}
-use Rattle.flat_code.specs.Placed.{most_brackets, most_zones}
 use Rattle.frames.specs.FrameData.{FrameData}
 use Rattle.frames.specs.Relay.{is_zone_closed, zone_ended, zone_opened}
 use Rattle.frames.specs.declared.relay.Relay.{Relay}
@@ -104,7 +103,7 @@ with_bracket_list brackets p = with_inner (record p.local.inner { brackets = bra
 -- A( to XN(: a bracket opens; none is an eighth
 abbrev pub opens_bracket : Check → ExecState → Result ExecState ℕ
 opens_bracket with p =
-    if length p.local.inner.brackets == most_brackets then Err no_operand
+    if length p.local.inner.brackets == errors.most_open_brackets then Err no_operand
     else on_regs bracket_begun
     (with_bracket_list (entry_of with (registers_of p) ∷ p.local.inner.brackets) p)
 
@@ -169,7 +168,7 @@ activates_relay active p = Ok (with_relay (record p.local.inner.relay { active =
 -- MCR(: at most eight zones are open
 abbrev pub opens_relay_zone : ExecState → Result ExecState ℕ
 opens_relay_zone p =
-    if length p.local.inner.relay.zones == most_zones then Err no_operand
+    if length p.local.inner.relay.zones == errors.most_open_zones then Err no_operand
     else on_regs (after_store true) (with_relay (zone_opened (rlo_of p) p.local.inner.relay) p)
 
 -- )MCR: the last of these zones ends; an error where none is open

@@ -1,3 +1,4 @@
+pub mod ErrorNumbers
 pub mod Named
 pub mod Operands
 pub mod Reading

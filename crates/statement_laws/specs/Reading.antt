@@ -5,7 +5,7 @@
 use Rattle.std.specs.Prelude.{ℕ, ◌+◌, ◌-◌, ◌*◌, ◌/◌, ◌%◌, ◌^◌, ◌==◌, Bool, true, false, List, [], ◌∷◌, length, slice_get, ℤ, pos, negsuc, Option, Some, None, Result, Ok, Err, ok_or, if◌then◌else◌}
 use Rattle.std.specs.Option.{option_map}
 use Rattle.plc_base.specs.Bcd.{bcd_digits}
-use Rattle.plc_base.specs.ErrorCodes as errors
+use Rattle.statement_laws.specs.ErrorNumbers as errors
 use Rattle.plc_base.specs.Pointer.{place_at_pointer}
 use Rattle.plc_base.specs.S5Time.{s5time_of_ms}
 use Rattle.plc_base.specs.declared.places.Area.{Area}
