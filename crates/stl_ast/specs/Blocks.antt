@@ -24,7 +24,7 @@ part_rank part.InOut = 2
 part_rank part.Static = 3
 part_rank part.Temp = 4
 
--- the parameters of a block are declared in this section
+-- a section in which parameters of a block are declared
 abbrev pub is_parameter : PartKind → Bool
 is_parameter part.Input = true
 is_parameter part.Output = true

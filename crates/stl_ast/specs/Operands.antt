@@ -34,7 +34,7 @@ IsAnyName name = IsNameOf (λ k. Unit {0}) name
 abbrev pub IsDataBlockName : BlockName → Type 0
 IsDataBlockName name = IsNameOf (λ k. k ≡ kind.Db) name
 
--- a step of a path
+-- a step of a path: any name, or an index in the range of a decimal number
 abbrev pub IsStep : PathStep → Type 0
 IsStep (step.Named name) = Unit {0}
 IsStep (step.Index at) = IsDecimal at

@@ -86,7 +86,7 @@ is_word_start b = is_ascii_alphabetic b || b == underscore
 unfoldable pub is_word_byte : ℕ → Bool
 is_word_byte b = is_word_start b || is_ascii_digit b
 
--- blank, tab, 13 and 10 separate tokens
+-- blank, tab, carriage return and line feed separate tokens
 unfoldable pub is_separator : ℕ → Bool
 is_separator b = b == blank || b == tab || b == carriage_return || b == newline
 
@@ -99,7 +99,7 @@ unfoldable pub opens_comment : List ℕ → Bool
 opens_comment (b ∷ c ∷ s) = b == slash && c == slash
 opens_comment _ = false
 
--- `+` or `-`
+-- a byte is `+` or `-`
 unfoldable pub is_sign : ℕ → Bool
 is_sign b = b == plus_sign || b == minus_sign
 

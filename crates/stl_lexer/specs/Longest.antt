@@ -10,7 +10,7 @@ use Rattle.stl_lexer.specs.Forms.{is_tail, has_form}
 abbrev pub Form : Type 0
 Form = List ℕ → List ℕ → Bool
 
--- the first n bytes of the text, one at least, have this form
+-- the first `n` bytes of a text, one at least, have a form
 pub record IsFormAt (form : Form) (text : List ℕ) (n : ℕ) : Type 0 where
   -- at least one byte belongs to the token
   pub some : 0 < n
@@ -19,37 +19,37 @@ pub record IsFormAt (form : Form) (text : List ℕ) (n : ℕ) : Type 0 where
   -- the first `n` bytes have the form, before what follows them
   pub fits : form (take n text) (drop n text) ≡ true
 
--- no bytes at the front of the text have this form
+-- no bytes at the front of a text have a form
 abbrev pub HasNoneOfForm : Form → List ℕ → Type 0
 HasNoneOfForm form text = (n : ℕ) → ¬ IsFormAt form text n
 
--- the first n bytes have this form, and no more of them
+-- the first `n` bytes of a text have a form, and no more of them
 pub record IsLongestOfForm (form : Form) (text : List ℕ) (n : ℕ) : Type 0 where
   -- the first `n` bytes have the form
   pub fits : IsFormAt form text n
   -- no more than `n` bytes at the front have the form
   pub longest : (m : ℕ) → IsFormAt form text m → m ≤ n
 
--- the longest of this form, or None
+-- the number of the most bytes at the front of a text that have a form, or None where none have it
 abbrev pub FindsLongest : Form → List ℕ → Option ℕ → Type 0
 FindsLongest form text found =
     MatchOption found (HasNoneOfForm form text) (IsLongestOfForm form text)
 
--- the first n bytes of a text, or none where n is 0, are such a tail
+-- the first `n` bytes of a text, or none where `n` is 0, are a tail of this kind
 pub record IsTailAt (tail : Tail) (text : List ℕ) (n : ℕ) : Type 0 where
   -- the text has at least `n` bytes
   pub within : n ≤ length text
   -- the first `n` bytes are a tail of this kind, before what follows them
   pub fits : is_tail tail (take n text) (drop n text) ≡ true
 
--- the first n bytes are such a tail, and no more of them; n may be 0
+-- the first `n` bytes of a text are a tail of this kind, and no more of them; `n` may be 0
 pub record IsLongestTail (tail : Tail) (text : List ℕ) (n : ℕ) : Type 0 where
   -- the first `n` bytes are a tail of this kind
   pub fits : IsTailAt tail text n
   -- no more than `n` bytes at the front are a tail of this kind
   pub longest : (m : ℕ) → IsTailAt tail text m → m ≤ n
 
--- the longest tail at the front of a text, or None
+-- the length of the longest tail of this kind at the front of a text, or None
 abbrev pub FindsTail : Tail → List ℕ → Option ℕ → Type 0
 FindsTail tail text found =
     MatchOption found ((n : ℕ) → ¬ IsTailAt tail text n) (IsLongestTail tail text)

@@ -128,7 +128,8 @@ fn longest_entry(tail: Tail, table: &[&[u8]], text: &[u8]) -> Option<usize>
     longest
 }
 
-/// The same, where it is known whether an entry of the table begins with the text's first letter.
+/// The length of the longest entry of a table, with its tail, at the front of the text; `opened`
+/// says whether an entry of the table begins with the text's first letter.
 fn longest_listed(tail: Tail, table: &[&[u8]], opened: bool, text: &[u8]) -> Option<usize>
     requires some { IsTrue (list_all is_some_text (map (λ entry. entry.now) table.now)) }
     requires opened { opened
