@@ -278,7 +278,7 @@ shaped_inside kinds.Udt ds ss h components set =
     record { head = tt; sections = (tt, tt); shaped = (refl, refl, components); set = set; runs = (tt, λ lacks. refl) }
 shaped_inside _ ds ss h components set = cc
 
-from_based : (k : BlockKind) (name : BlockName) (cs : List Clause) → IsBaseName name → nat_eq (kind_order k) 3 ≡ true →
+from_based : (k : BlockKind) (name : BlockName) (cs : List Clause) → IsBaseName name → nat_eq (kind_order k) (kind_order kinds.Db) ≡ true →
     Spells (place.Shaped k) cs → Spells (place.Head k) (clause.Based name ∷ cs)
 from_based kinds.Db name cs base test h = based_spells name (is_udt name) cs base refl h
 from_based _ name cs base test h = cc
@@ -324,7 +324,7 @@ from_head k clause.Structure cs right h =
       s.7,
     )
 from_head k (clause.Based name) cs right h =
-    let passed = passes (nat_eq (kind_order k) 3) (place.Shaped k) cs h in from_based k name cs right passed.0 passed.1
+    let passed = passes (nat_eq (kind_order k) (kind_order kinds.Db)) (place.Shaped k) cs h in from_based k name cs right passed.0 passed.1
 from_head k _ cs right h = absurd h
 
 -- an outline of a level is one of the next

@@ -20,6 +20,7 @@ use Rattle.stl_ast.specs.declared.operands.Operand.{Operand}
 use Rattle.stl_ast.specs.declared.operands.Operand.TheVariants as operand
 use Rattle.stl_ast.specs.declared.operands.PathHead.{PathHead}
 use Rattle.stl_ast.specs.declared.operands.PathHead.TheVariants as head
+use Rattle.stl_ast.specs.Operands.{ar1_register, ar2_register}
 use Rattle.stl_lexer.specs.declared.marks.Mark.TheVariants as mark
 use Rattle.stl_parser.specs.declared.keywords.ClauseWord.TheVariants as key
 use Rattle.stl_parser.specs.declared.tables.AddressKind.{AddressKind}
@@ -135,10 +136,11 @@ direct_address_operand source (address.Block true) n [] =
     Some (operand.OpenBlock true (data_block_name n))
 direct_address_operand source (address.Block true) n (t ∷ rest) = None
 
--- the number of an address register
+-- the number of the address register that a word is, AR1 or AR2
 unfoldable pub register_of : List ℕ → Token → Option ℕ
 register_of source t =
-    if is_key source t key.Ar1 then Some 1 else (if is_key source t key.Ar2 then Some 2 else None)
+    if is_key source t key.Ar1 then Some ar1_register
+    else (if is_key source t key.Ar2 then Some ar2_register else None)
 
 -- `P#n.b` with n 0 to 65,535 and b 0 to 7, counted in bits
 unfoldable pub offset_of : List ℕ → Token → Token → List Token → Option ℕ

@@ -15,7 +15,7 @@ use stl_lexer::Token;
 pub const NO_CLAUSE: u16 = 10;
 
 /// Rule 11: a clause stands where its kind may not follow.
-pub const MISPLACED: u16 = 11;
+pub const MISPLACED_CLAUSE: u16 = 11;
 
 /// Rule 12: a label is longer than four characters.
 pub const LONG_LABEL: u16 = 12;
@@ -38,7 +38,7 @@ fn place_behind(at: ClausePlace, clause: &Clause, is_long: bool) -> Result<Claus
     ensures value { result ≡ place_or_rule is_long (next_place at clause.now) }
 {
     match follow(at, clause) {
-        None => Err(MISPLACED),
+        None => Err(MISPLACED_CLAUSE),
         Some(_) if is_long => Err(LONG_LABEL),
         Some(next) => Ok(next),
     }

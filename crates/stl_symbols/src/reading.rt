@@ -34,11 +34,13 @@ pub const SYMBOLS_LIMIT: usize = 1_048_576;
 /// The most symbols of a file.
 const MOST_SYMBOLS: usize = 65_535;
 
-/// Why a line isn't read: what breaks it, as the rules for symbols have it.
+/// Rule 14: a line that isn't one record of four fields.
 const NO_RECORD: u16 = 14;
 
+/// Rule 15: a line whose columns are no right declaration, or one symbol too many.
 const NO_DECLARATION: u16 = 15;
 
+/// Rule 16: a symbol whose name is there already.
 const NAME_TWICE: u16 = 16;
 
 /// How many blanks a field ends with.
