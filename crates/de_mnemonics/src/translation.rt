@@ -31,12 +31,14 @@ use stl_symbols::Language;
 /// The rule of a word of the other language.
 const FOREIGN_WORD: u16 = 17;
 
-/// Where a translation stands: the byte, the place in the program, and the class of the token
-/// before.
+/// Where a translation stands.
 #[derive(Clone, Copy, Debug)]
 pub struct TranslationPosition {
+    /// The byte of the source behind the last token.
     pub from: usize,
+    /// The place in the program.
     pub place: TokenPlace,
+    /// The class of the last token.
     pub before: TokenClass,
 }
 

@@ -89,8 +89,8 @@ ar1_register = 1
 abbrev pub ar2_register : ℕ
 ar2_register = 2
 
--- the numbers of an operand are in their ranges, an address register is AR1 or AR2, and the names are
--- those of the right blocks
+-- the numbers of an operand are in their ranges, an address register is AR1 or AR2, and the names
+-- are those of the right blocks
 abbrev pub IsOperand : Operand → Type 0
 IsOperand operand.Nothing = Unit {0}
 IsOperand (operand.Direct name area w byte bit) =

@@ -80,7 +80,8 @@ pub record ReadsShape (source : List ℕ) (k : BlockKind) (opening : Clause) (to
   -- the opening clause and these clauses spell the shape
   pub whole : spelled ≡ opening ∷ kept
 
--- a body, or a shape: the clause that opens it, where a tree keeps that, and the components
+-- what a body or a shape is spelled by: the clause that opens it, where a tree keeps that, and the
+-- components
 abbrev pub spelled_opened : Opened → List Clause
 spelled_opened opened.Body = []
 spelled_opened (opened.Structure components) = clause.Structure ∷ map clause.Declares components

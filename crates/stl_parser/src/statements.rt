@@ -39,7 +39,8 @@ use stl_lexer::{Mark, Token, TokenKind};
 /// The most characters that a label may have.
 pub const LABEL_LENGTH: usize = 4;
 
-/// An instruction with its operand; `long` says that a label in it is too long.
+/// An instruction with its operand and its actual parameters, without line and label; `long` says
+/// that a label in it is too long.
 #[derive(Drop)]
 pub struct BareStatement {
     pub code: Mnemonic,
