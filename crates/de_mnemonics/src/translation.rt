@@ -22,7 +22,7 @@ ghost use Rattle.de_mnemonics.specs.Translation.{
 use crate::classes::{TokenClass, class_of};
 use crate::places::{TokenPlace, behind, role_of};
 use crate::roles::Role;
-use crate::words::{Spelling, written};
+use crate::words::{Spelling, written_word};
 use plc_base::{Refusal, SourceFault};
 use std::alloc::{AllocError, Global};
 use stl_lexer::{Token, lex};
@@ -113,7 +113,7 @@ fn spelling_at<'a>(
         (translated_word language (role_at source.now position.now token.now rest.now)
         (text_of source.now token.now)) result }
 {
-    written(
+    written_word(
         language,
         role_at(source, position, token, rest),
         token.text(source),

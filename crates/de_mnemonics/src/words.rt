@@ -264,7 +264,11 @@ fn written_path<'a>(language: Language, word: &'a [u8]) -> Spelling<'a>
 /// How a word in this role is written in the translation, or None where it is a word of the other
 /// language alone.
 #[tactic(auto, unfolding(crate::specs::Words::translated_word))]
-pub(crate) fn written<'a>(language: Language, role: Role, word: &'a [u8]) -> Option<Spelling<'a>>
+pub(crate) fn written_word<'a>(
+    language: Language,
+    role: Role,
+    word: &'a [u8],
+) -> Option<Spelling<'a>>
     ensures { IsFoundAsWanted (λ s. s.front.now ++ s.rest.now)
         (translated_word language role word.now) result }
 {

@@ -121,7 +121,7 @@ fn declaration_of(language: Language, columns: Columns) -> Option<Option<Symbol>
 }
 
 /// The refusal of a line.
-fn refused(line: u32, rule: u16) -> SourceFault
+fn refusal_at(line: u32, rule: u16) -> SourceFault
     ensures { result ≡ Refused (record { line = line; rule = rule }) }
 {
     SourceFault::Refused {
@@ -141,10 +141,10 @@ fn add_symbol(
     ensures { AddsDeclaration line (with_symbol symbols.old symbol) symbols.new result }
 {
     if symbols.list().len() == MOST_SYMBOLS {
-        return Err(refused(line, NO_DECLARATION));
+        return Err(refusal_at(line, NO_DECLARATION));
     }
     if symbols.lookup(symbol.name.as_slice()).is_some() {
-        return Err(refused(line, NAME_TWICE));
+        return Err(refusal_at(line, NAME_TWICE));
     }
     symbols.add(alloc, symbol)?;
     Ok(())
@@ -165,10 +165,10 @@ fn add_line(
         return Ok(());
     }
     let Some(columns) = read_columns(alloc, text)? else {
-        return Err(refused(line, NO_RECORD));
+        return Err(refusal_at(line, NO_RECORD));
     };
     match declaration_of(language, columns) {
-        None => Err(refused(line, NO_DECLARATION)),
+        None => Err(refusal_at(line, NO_DECLARATION)),
         Some(None) => Ok(()),
         Some(Some(symbol)) => add_symbol(symbols, alloc, line, symbol),
     }
