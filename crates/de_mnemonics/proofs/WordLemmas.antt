@@ -68,9 +68,9 @@ abbrev gives : Option (List ℕ) → List ℕ → Bool
 gives None text = false
 gives (Some found) text = bytes_eq found text
 
-given : (o : Option (List ℕ)) (text : List ℕ) → gives o text ≡ true → o ≡ Some text
-given None text e = absurd (false≢true e)
-given (Some found) text e = ap Some ((bytes_eq-Decides found text).0 e)
+some_given : (o : Option (List ℕ)) (text : List ℕ) → gives o text ≡ true → o ≡ Some text
+some_given None text e = absurd (false≢true e)
+some_given (Some found) text e = ap Some ((bytes_eq-Decides found text).0 e)
 
 -- a word has a partner, whose own partner is the word, without case
 record IsBack (look_up : List ℕ → Option (List ℕ)) (word found : List ℕ) : Type 0 where
@@ -82,7 +82,7 @@ back_from : (language : Language) (look_up : List ℕ → Option (List ℕ)) (wo
     → IsPair language (λ pair. gives (look_up (other language pair)) (own language pair)) word found → IsBack look_up word found
 back_from language look_up word found p = record {
   again = own language p.pair;
-  back = ap look_up (sym p.beside) ∙ given (look_up (other language p.pair)) (own language p.pair) p.passes;
+  back = ap look_up (sym p.beside) ∙ some_given (look_up (other language p.pair)) (own language p.pair) p.passes;
   same = p.same;
 }
 
@@ -161,7 +161,7 @@ numbered_back language word found is = by_digits (list_all is_ascii_digit (digit
         let parts = and_parts (gives (partner_in_table (opposite_language language) operand_pairs at) (own language p.pair)) (list_all (λ b. not (is_ascii_digit b)) at) p.passes in
         let there : numbered_partner (opposite_language language) (at ++ digits_of_word word) ≡ Some (own language p.pair ++ digits_of_word word) =
         numbered_there (opposite_language language) at (digits_of_word word) (own language p.pair) parts.1 h
-        (given (partner_in_table (opposite_language language) operand_pairs at) (own language p.pair) parts.0) in
+        (some_given (partner_in_table (opposite_language language) operand_pairs at) (own language p.pair) parts.0) in
         let found_is : at ++ digits_of_word word ≡ found = ap (λ (front : List ℕ). front ++ digits_of_word word) p.beside ∙ e in
         record {
           again = own language p.pair ++ digits_of_word word;

@@ -60,12 +60,12 @@ at_kind : (text : List ℕ) (m : ℕ) (j k : TokenKind) → j ≡ k → IsFormAt
 at_kind text m j k e at = subst (λ kind. IsFormAt (has_form kind) text m) e at
 
 -- shorter, or as long and of no higher rank
-placed : (m n a b : ℕ) → m ≤ n → a ≤ b → (m < n) ⊎ ((m ≡ n) × (a ≤ b))
-placed m n a b h l = elim (cases_lt m n) [ inl lt ↦ inl lt | inr ge ↦ inr (omega arith, l) ]
+shorter_or_earlier : (m n a b : ℕ) → m ≤ n → a ≤ b → (m < n) ⊎ ((m ≡ n) × (a ≤ b))
+shorter_or_earlier m n a b h l = elim (cases_lt m n) [ inl lt ↦ inl lt | inr ge ↦ inr (omega arith, l) ]
 
 -- the best stays where a further kind has none, or a shorter one
-kept : (k : TokenKind) (text : List ℕ) (best : Found) → IsBest (rank_of_kind k) text best → ((m : ℕ) → IsFormAt (has_form k) text m → m < best.length) → IsBest (suc (rank_of_kind k)) text best
-kept k text best b shorter = record {
+best_stays : (k : TokenKind) (text : List ℕ) (best : Found) → IsBest (rank_of_kind k) text best → ((m : ℕ) → IsFormAt (has_form k) text m → m < best.length) → IsBest (suc (rank_of_kind k)) text best
+best_stays k text best b shorter = record {
   fits = b.fits;
   below = omega (arith, b.below);
   longest = λ other m lt at. elim (split_rank other k lt) [
@@ -75,13 +75,13 @@ kept k text best b shorter = record {
 }
 
 -- a further kind is the best where it is as long as any other
-taken : (k : TokenKind) (text : List ℕ) (n : ℕ) → IsLongestOfForm (has_form k) text n → ((other : TokenKind) (m : ℕ) → rank_of_kind other < rank_of_kind k → IsFormAt (has_form other) text m → m ≤ n) → IsBest (suc (rank_of_kind k)) text (record { kind = k; length = n })
-taken k text n f no_longer = record {
+longest_is_best : (k : TokenKind) (text : List ℕ) (n : ℕ) → IsLongestOfForm (has_form k) text n → ((other : TokenKind) (m : ℕ) → rank_of_kind other < rank_of_kind k → IsFormAt (has_form other) text m → m ≤ n) → IsBest (suc (rank_of_kind k)) text (record { kind = k; length = n })
+longest_is_best k text n f no_longer = record {
   fits = f.fits;
   below = omega arith;
   longest = λ other m lt at. elim (split_rank other k lt) [
-    | inl low ↦ placed m n (rank_of_kind other) (rank_of_kind k) (no_longer other m low at) (omega arith)
-    | inr e ↦ placed m n (rank_of_kind other) (rank_of_kind k) (f.longest m (at_kind text m other k e at)) (omega (arith, ap rank_of_kind e))
+    | inl low ↦ shorter_or_earlier m n (rank_of_kind other) (rank_of_kind k) (no_longer other m low at) (omega arith)
+    | inr e ↦ shorter_or_earlier m n (rank_of_kind other) (rank_of_kind k) (f.longest m (at_kind text m other k e at)) (omega (arith, ap rank_of_kind e))
   ];
 }
 
@@ -95,11 +95,11 @@ best_more k text None None b f = λ other lt. elim (split_rank other k lt) [
   | inl low ↦ b other low
   | inr e ↦ λ n at. f n (at_kind text n other k e at)
 ]
-best_more k text (Some best) None b f = kept k text best b (λ m at. absurd (f m at))
-best_more k text None (Some n) b f = taken k text n f (λ other m low at. absurd (b other low m at))
+best_more k text (Some best) None b f = best_stays k text best b (λ m at. absurd (f m at))
+best_more k text None (Some n) b f = longest_is_best k text n f (λ other m low at. absurd (b other low m at))
 best_more k text (Some best) (Some n) b f = elim (cases_lt n best.length) [
-  | inl lt ↦ rw (lt-ltb n best.length lt) (kept k text best b (λ m at. omega (arith, f.longest m at)))
-  | inr ge ↦ rw (le-ltb n best.length ge) (taken k text n f (λ other m low at.
+  | inl lt ↦ rw (lt-ltb n best.length lt) (best_stays k text best b (λ m at. omega (arith, f.longest m at)))
+  | inr ge ↦ rw (le-ltb n best.length ge) (longest_is_best k text n f (λ other m low at.
       omega (arith, no_longer_than m best.length (rank_of_kind other ≤ rank_of_kind best.kind) (b.longest other m low at))))
 ]
 

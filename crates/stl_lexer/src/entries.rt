@@ -79,7 +79,7 @@ fn tail_length(tail: Tail, text: &[u8]) -> Option<usize>
 }
 
 /// Whether a text begins with an entry, without case of ASCII letters.
-#[tactic(auto, unfolding(crate::specs::Forms::begins_with), using(crate::proofs::EntryLemmas::entry_within, crate::proofs::EntryLemmas::too_short, crate::proofs::EntryLemmas::not_begun))]
+#[tactic(auto, unfolding(crate::specs::Forms::begins_with), using(crate::proofs::EntryLemmas::entry_within, crate::proofs::EntryLemmas::too_short, crate::proofs::EntryLemmas::no_beginning))]
 fn begins_with(entry: &[u8], text: &[u8]) -> bool
     requires { 0 < length entry.now }
     ensures value { result ≡ begins_with entry.now text.now }

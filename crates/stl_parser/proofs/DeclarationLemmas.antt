@@ -35,9 +35,9 @@ abbrev pub Owes : ElementType → Type 0 → Type 0
 Owes (element.Plain kind) P = P
 Owes _ P = Unit {0}
 
-owed : (e : ElementType) (P : Type 0) → P → Owes e P
-owed (element.Plain kind) P h = h
-owed _ P h = tt
+owes_any : (e : ElementType) (P : Type 0) → P → Owes e P
+owes_any (element.Plain kind) P h = h
+owes_any _ P h = tt
 
 -- of n tokens `left` are behind the clause
 abbrev pub Takes : ℕ → Clause → ℕ → Type 0
@@ -162,7 +162,7 @@ cut_takes source tokens =
 
 takes_with : (n inside left : ℕ) (c : Clause) → inside + 1 + left ≤ n → Insides inside c
     → Takes n c left
-takes_with n inside left (clause.Declares d) all h = owed d.of.of _ (omega (arith, all, h))
+takes_with n inside left (clause.Declares d) all h = owes_any d.of.of _ (omega (arith, all, h))
 takes_with n inside left _ all h = tt
 
 semicolon_takes : (source : List ℕ) (p : ClausePlace) (line : ℕ) (tokens : List Token)

@@ -250,9 +250,9 @@ with_section kinds.Fc p h = refl
 with_section kinds.Fb p h = refl
 with_section _ p h = cc
 
-bodied : (k : BlockKind) (ps : List Part) (xs : List Statement) → IsSourceKind k → AreSections k ps → IsShapeOf k None None [] →
+block_with_body : (k : BlockKind) (ps : List Part) (xs : List Statement) → IsSourceKind k → AreSections k ps → IsShapeOf k None None [] →
     is_code k ≡ true → AreStatements xs → IsInside k ps None None [] [] xs
-bodied k ps xs head sections shaped h runs =
+block_with_body k ps xs head sections shaped h runs =
     record {
       head = head;
       sections = sections;
@@ -264,9 +264,9 @@ bodied k ps xs head sections shaped h runs =
 -- a block with a body has no shape
 shapeless : (k : BlockKind) (ps : List Part) (xs : List Statement) → is_code k ≡ true → AreSections k ps → AreStatements xs →
     IsInside k ps None None [] [] xs
-shapeless kinds.Ob ps xs h sections runs = bodied kinds.Ob ps xs tt sections (refl, refl, refl) h runs
-shapeless kinds.Fc ps xs h sections runs = bodied kinds.Fc ps xs tt sections (refl, refl, refl) h runs
-shapeless kinds.Fb ps xs h sections runs = bodied kinds.Fb ps xs tt sections (refl, refl, refl) h runs
+shapeless kinds.Ob ps xs h sections runs = block_with_body kinds.Ob ps xs tt sections (refl, refl, refl) h runs
+shapeless kinds.Fc ps xs h sections runs = block_with_body kinds.Fc ps xs tt sections (refl, refl, refl) h runs
+shapeless kinds.Fb ps xs h sections runs = block_with_body kinds.Fb ps xs tt sections (refl, refl, refl) h runs
 shapeless _ ps xs h sections runs = cc
 
 -- a block with a shape has no body

@@ -84,7 +84,8 @@ pub record ReadsShape (source : List ℕ) (k : BlockKind) (opening : Clause) (to
 -- components
 abbrev pub spelled_shape_or_body : ShapeOrBody → List Clause
 spelled_shape_or_body opening_of.Body = []
-spelled_shape_or_body (opening_of.Structure components) = clause.Structure ∷ map clause.Declares components
+spelled_shape_or_body (opening_of.Structure components) =
+    clause.Structure ∷ map clause.Declares components
 spelled_shape_or_body (opening_of.Based name) = clause.Based name ∷ []
 
 -- what stands behind the sections of a block of this kind: its shape, its settings, its statements
