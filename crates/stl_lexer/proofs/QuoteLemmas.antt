@@ -12,12 +12,12 @@ one_add : (n : ℕ) → 1 + n ≡ suc n
 one_add n = omega arith
 
 -- the closing byte ends the run of those before it
-pub record Closes (p : ℕ → Bool) (close : ℕ) (s : List ℕ) (m : ℕ) : Type 0 where
+pub record EndsAtClose (p : ℕ → Bool) (close : ℕ) (s : List ℕ) (m : ℕ) : Type 0 where
   pub size : m ≡ suc (prefix_len p s)
   pub within : prefix_len p s < length s
   pub there : get_or s (prefix_len p s) 0 ≡ close
 
-closed_is : (p : ℕ → Bool) (close : ℕ) (s : List ℕ) (m : ℕ) → p close ≡ false → m ≤ length s → is_closed p close (take m s) ≡ true → Closes p close s m
+closed_is : (p : ℕ → Bool) (close : ℕ) (s : List ℕ) (m : ℕ) → p close ≡ false → m ≤ length s → is_closed p close (take m s) ≡ true → EndsAtClose p close s m
 closed_is p close s zero stops h e = absurd (false≢true e)
 closed_is p close [] (suc m) stops h e = absurd (omega arith)
 closed_is p close (b ∷ s) (suc zero) stops h e =
@@ -55,7 +55,7 @@ stops_at close one_line = and_left (not (close == close)) _ (not_from_true (clos
 abbrev enclosed_form : ℕ → ℕ → Bool → List ℕ → List ℕ → Bool
 enclosed_form opening close one_line s after = is_enclosed opening close one_line s
 
-enclosed_is : (opening close : ℕ) (one_line : Bool) (b : ℕ) (s : List ℕ) (m : ℕ) → IsFormAt (enclosed_form opening close one_line) (b ∷ s) (suc m) → (b ≡ opening) × Closes (is_inner close one_line) close s m
+enclosed_is : (opening close : ℕ) (one_line : Bool) (b : ℕ) (s : List ℕ) (m : ℕ) → IsFormAt (enclosed_form opening close one_line) (b ∷ s) (suc m) → (b ≡ opening) × EndsAtClose (is_inner close one_line) close s m
 enclosed_is opening close one_line b s m at =
     let parts = and_parts (b == opening) (is_closed (is_inner close one_line) close (take m s)) at.fits in
     (eqb-true b opening parts.0, closed_is (is_inner close one_line) close s m (stops_at close one_line) (omega (arith, at.within)) parts.1)

@@ -44,13 +44,13 @@ rank-lt Attribute = lit< tt
 rank-lt Title = lit< tt
 
 -- the longest token of the kinds below a rank
-pub record IsBest (r : ℕ) (text : List ℕ) (best : Found) : Type 0 where
+pub record IsBestBelow (r : ℕ) (text : List ℕ) (best : Found) : Type 0 where
   pub fits : IsFormAt (has_form best.kind) text best.length
   pub below : rank_of_kind best.kind < r
   pub longest : (other : TokenKind) (m : ℕ) → rank_of_kind other < r → IsFormAt (has_form other) text m → (m < best.length) ⊎ ((m ≡ best.length) × (rank_of_kind other ≤ rank_of_kind best.kind))
 
 abbrev pub FindsBest : ℕ → List ℕ → Option Found → Type 0
-FindsBest r text best = MatchOption best ((other : TokenKind) → rank_of_kind other < r → HasNoneOfForm (has_form other) text) (IsBest r text)
+FindsBest r text best = MatchOption best ((other : TokenKind) → rank_of_kind other < r → HasNoneOfForm (has_form other) text) (IsBestBelow r text)
 
 -- a kind below the next rank is of a lower one, or the kind itself
 split_rank : (j k : TokenKind) → rank_of_kind j < suc (rank_of_kind k) → (rank_of_kind j < rank_of_kind k) ⊎ (j ≡ k)
@@ -64,7 +64,7 @@ shorter_or_earlier : (m n a b : ℕ) → m ≤ n → a ≤ b → (m < n) ⊎ ((m
 shorter_or_earlier m n a b h l = elim (cases_lt m n) [ inl lt ↦ inl lt | inr ge ↦ inr (omega arith, l) ]
 
 -- the best stays where a further kind has none, or a shorter one
-best_stays : (k : TokenKind) (text : List ℕ) (best : Found) → IsBest (rank_of_kind k) text best → ((m : ℕ) → IsFormAt (has_form k) text m → m < best.length) → IsBest (suc (rank_of_kind k)) text best
+best_stays : (k : TokenKind) (text : List ℕ) (best : Found) → IsBestBelow (rank_of_kind k) text best → ((m : ℕ) → IsFormAt (has_form k) text m → m < best.length) → IsBestBelow (suc (rank_of_kind k)) text best
 best_stays k text best b shorter = record {
   fits = b.fits;
   below = omega (arith, b.below);
@@ -75,7 +75,7 @@ best_stays k text best b shorter = record {
 }
 
 -- a further kind is the best where it is as long as any other
-longest_is_best : (k : TokenKind) (text : List ℕ) (n : ℕ) → IsLongestOfForm (has_form k) text n → ((other : TokenKind) (m : ℕ) → rank_of_kind other < rank_of_kind k → IsFormAt (has_form other) text m → m ≤ n) → IsBest (suc (rank_of_kind k)) text (record { kind = k; length = n })
+longest_is_best : (k : TokenKind) (text : List ℕ) (n : ℕ) → IsLongestOfForm (has_form k) text n → ((other : TokenKind) (m : ℕ) → rank_of_kind other < rank_of_kind k → IsFormAt (has_form other) text m → m ≤ n) → IsBestBelow (suc (rank_of_kind k)) text (record { kind = k; length = n })
 longest_is_best k text n f no_longer = record {
   fits = f.fits;
   below = omega arith;

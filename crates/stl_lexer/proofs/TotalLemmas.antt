@@ -86,10 +86,10 @@ gap_there Blanks (b ∷ s) = elim (cases_Bool (is_separator b)) [
 ]
 
 -- behind a place stands a token, or a rule is broken there, or nothing else stands there
-abbrev HasNext : List ℕ → ℕ → Bool → Type 0
-HasNext source from minus = ((t : Token) × IsNextToken source from minus t) ⊎ (IsEndOfTokens source from ⊎ ((line : ℕ) × (rule : ℕ) × BreaksTokenRule source from minus line rule))
+abbrev HasNextOrEnd : List ℕ → ℕ → Bool → Type 0
+HasNextOrEnd source from minus = ((t : Token) × IsNextToken source from minus t) ⊎ (IsEndOfTokens source from ⊎ ((line : ℕ) × (rule : ℕ) × BreaksTokenRule source from minus line rule))
 
-token_at : (source : List ℕ) (from at : ℕ) (minus : Bool) (found : Found) → IsBehindGap source from at → IsLongestToken (drop at source) found.kind found.length → (fault : Option Fault) → fault_of found.kind (take found.length (drop at source)) minus ≡ fault → HasNext source from minus
+token_at : (source : List ℕ) (from at : ℕ) (minus : Bool) (found : Found) → IsBehindGap source from at → IsLongestToken (drop at source) found.kind found.length → (fault : Option Fault) → fault_of found.kind (take found.length (drop at source)) minus ≡ fault → HasNextOrEnd source from minus
 token_at source from at minus found start longest None right =
     let n = found.length in
     let size : (at + n) - at ≡ n = omega arith in
@@ -115,7 +115,7 @@ token_at source from at minus found start longest (Some fault) broken =
       },
     ))
 
-begins_at : (source : List ℕ) (from at : ℕ) (minus : Bool) → IsBehindGap source from at → (found : Option Found) → FindsToken (drop at source) found → HasNext source from minus
+begins_at : (source : List ℕ) (from at : ℕ) (minus : Bool) → IsBehindGap source from at → (found : Option Found) → FindsToken (drop at source) found → HasNextOrEnd source from minus
 begins_at source from at minus start None none =
     inr (inr (
       line_at source at,
@@ -129,7 +129,7 @@ begins_at source from at minus start None none =
 begins_at source from at minus start (Some found) longest =
     token_at source from at minus found start longest (fault_of found.kind (take found.length (drop at source)) minus) refl
 
-next_there : (source : List ℕ) (from : ℕ) (minus : Bool) → from ≤ length source → HasNext source from minus
+next_there : (source : List ℕ) (from : ℕ) (minus : Bool) → from ≤ length source → HasNextOrEnd source from minus
 next_there source from minus h =
     let gap = gap_there Blanks (drop from source) in
     let at = from + gap.0 in
