@@ -13,7 +13,7 @@ use Rattle.stl_lexer.specs.declared.rules.Fault.{Fault}
 use Rattle.stl_lexer.specs.Bytes.{newline, is_source_byte, is_separator, opens_comment}
 use Rattle.stl_lexer.specs.Forms.{has_form}
 use Rattle.stl_lexer.specs.Gap.{after_gap, line_at}
-use Rattle.stl_lexer.specs.Longest.{Form, IsFormAt, FindsLongest, FindsToken, IsLongestToken, rank_of_kind, better_of}
+use Rattle.stl_lexer.specs.Longest.{Form, IsFormAt, FindsLongest, FindsToken, IsLongestToken, kind_rank, better_of}
 use Rattle.stl_lexer.specs.Rules.{fault_of, rule_without_form}
 use Rattle.stl_lexer.specs.Tokens.{text_of, is_minus, IsBehindGap, IsNextToken, IsEndOfTokens, BreaksTokenRule, TokensFollow, AreTokens, IsViolation, IsLexingTotal}
 use Rattle.stl_lexer.proofs.RankLemmas.{FindsBest, best_none, best_more, best_of_all}
@@ -44,7 +44,7 @@ longest_there form text = longest_below form text (length text) (omega arith) (�
 abbrev Best : ℕ → List ℕ → Type 0
 Best r text = (best : Option Found) × FindsBest r text best
 
-best_next : (k : TokenKind) (text : List ℕ) → Best (rank_of_kind k) text → Best (suc (rank_of_kind k)) text
+best_next : (k : TokenKind) (text : List ℕ) → Best (kind_rank k) text → Best (suc (kind_rank k)) text
 best_next k text (best, b) =
     let there = longest_there (has_form k) text in
     (better_of best k there.0, best_more k text best there.0 b there.1)

@@ -1,5 +1,6 @@
 -- The bytes of a source.
 use Rattle.std.specs.Prelude.{ℕ, Bool, false, ◌&&◌, ◌||◌, not, ◌==◌, nat_le, List, ◌∷◌}
+use Rattle.std.specs.List.{prefix_len}
 use Rattle.std.specs.Char.{is_ascii_digit, is_ascii_alphabetic}
 
 -- the tab, a separator
@@ -106,3 +107,7 @@ is_sign b = b == plus_sign || b == minus_sign
 -- a byte that doesn't end a line
 abbrev pub is_line_byte : ℕ → Bool
 is_line_byte b = not (b == newline)
+
+-- how many bytes of a text stand before its first digit
+abbrev pub letter_count : List ℕ → ℕ
+letter_count text = prefix_len (λ b. not (is_ascii_digit b)) text

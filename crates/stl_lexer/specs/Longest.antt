@@ -61,19 +61,19 @@ longer_of (Some a) None = Some a
 longer_of (Some a) (Some b) = Some (max a b)
 
 -- the place of a kind in the table of tokens
-abbrev pub rank_of_kind : TokenKind → ℕ
-rank_of_kind Word = 0
-rank_of_kind Number = 1
-rank_of_kind Quoted = 2
-rank_of_kind Local = 3
-rank_of_kind Characters = 4
-rank_of_kind Based = 5
-rank_of_kind NumberLiteral = 6
-rank_of_kind TimeLiteral = 7
-rank_of_kind Mark = 8
-rank_of_kind SignWord = 9
-rank_of_kind Attribute = 10
-rank_of_kind Title = 11
+abbrev pub kind_rank : TokenKind → ℕ
+kind_rank Word = 0
+kind_rank Number = 1
+kind_rank Quoted = 2
+kind_rank Local = 3
+kind_rank Characters = 4
+kind_rank Based = 5
+kind_rank NumberLiteral = 6
+kind_rank TimeLiteral = 7
+kind_rank Mark = 8
+kind_rank SignWord = 9
+kind_rank Attribute = 10
+kind_rank Title = 11
 
 -- the longest token at the front of the text: it has the form of its kind, and any other token
 -- there is shorter, or as long and of a kind that stands before it in the table (the word TITLE at
@@ -83,7 +83,7 @@ pub record IsLongestToken (text : List ℕ) (kind : TokenKind) (n : ℕ) : Type 
   pub fits : IsFormAt (has_form kind) text n
   -- bytes with the form of any kind are fewer, or as many and of a kind no later in the table
   pub longest : (other : TokenKind) (m : ℕ) → IsFormAt (has_form other) text m
-      → (m < n) ⊎ ((m ≡ n) × (rank_of_kind other ≤ rank_of_kind kind))
+      → (m < n) ⊎ ((m ≡ n) × (kind_rank other ≤ kind_rank kind))
 
 -- no token begins at the front of the text
 abbrev pub HasNoForm : List ℕ → Type 0

@@ -1,10 +1,11 @@
 -- Letters with a number, which may stand without a blank.
-use Rattle.std.specs.Prelude.{ℕ, nat_le, Bool, ◌&&◌, not, is_some, if◌then◌else◌, false, List, [], ◌∷◌, take, drop, Option, Some, None}
+use Rattle.std.specs.Prelude.{ℕ, nat_le, Bool, ◌&&◌, is_some, if◌then◌else◌, false, List, [], ◌∷◌, take, drop, Option, Some, None}
 use Rattle.std.specs.Option.{option_map, option_or, option_and_then}
-use Rattle.std.specs.List.{prefix_len, list_all}
+use Rattle.std.specs.List.{list_all}
 use Rattle.std.specs.Char.{is_ascii_digit}
 use Rattle.plc_base.specs.Decimal.{decimal_up_to}
 use Rattle.plc_base.specs.declared.blocks.BlockKind.{BlockKind}
+pub use Rattle.stl_lexer.specs.Bytes.{letter_count}
 use Rattle.stl_lexer.specs.declared.kinds.Token.{Token}
 use Rattle.stl_lexer.specs.declared.kinds.TokenKind.TheVariants as kind
 use Rattle.stl_lexer.specs.Limits.{greatest_number}
@@ -17,10 +18,6 @@ use Rattle.stl_parser.specs.Terminals.{has_kind, is_mark}
 use Rattle.stl_parser.specs.Tables.{look_up, block_kinds, addresses}
 use Rattle.stl_parser.specs.Numbers.{number_of}
 use Rattle.stl_parser.specs.Literals.{text_between_quotes}
-
--- how many bytes of a text stand before its first digit
-abbrev pub letter_count : List ℕ → ℕ
-letter_count text = prefix_len (λ b. not (is_ascii_digit b)) text
 
 -- what the letters of a word name in a table, the number behind them in the same word, and what
 -- follows the word
