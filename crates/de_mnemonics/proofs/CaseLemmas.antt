@@ -15,8 +15,8 @@ same_to a b e = (bytes_eq-Decides (str_to_ascii_lowercase a) (str_to_ascii_lower
 pub itself : (a : List ℕ) → str_eq_ignore_ascii_case a a ≡ true
 itself a = same_from a a refl
 
-pub turned : (a b : List ℕ) → str_eq_ignore_ascii_case a b ≡ true → str_eq_ignore_ascii_case b a ≡ true
-turned a b e = same_from b a (sym (same_to a b e))
+pub case_symmetric : (a b : List ℕ) → str_eq_ignore_ascii_case a b ≡ true → str_eq_ignore_ascii_case b a ≡ true
+case_symmetric a b e = same_from b a (sym (same_to a b e))
 
 -- the same bytes behind two texts
 pub same_behind : (a b rest : List ℕ) → str_eq_ignore_ascii_case a b ≡ true → str_eq_ignore_ascii_case (a ++ rest) (b ++ rest) ≡ true

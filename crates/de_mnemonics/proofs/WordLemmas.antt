@@ -16,7 +16,7 @@ use Rattle.de_mnemonics.specs.declared.roles.Role.TheVariants as role
 use Rattle.de_mnemonics.specs.Back.{WordsComeBack}
 use Rattle.de_mnemonics.specs.Tables.{WordPairs, instruction_pairs, jump_pairs, operand_pairs, result_pairs}
 use Rattle.de_mnemonics.proofs.CaseLemmas.{itself, same_behind}
-use Rattle.de_mnemonics.specs.Words.{digits_of_word, exchanged_word, instruction_partner, letter_count_of_word, letters_of_word, numbered_partner, operand_partner, opposite_language, partner_in_table, translated_word}
+use Rattle.de_mnemonics.specs.Words.{digits_of_word, exchanged_word, instruction_partner, letter_count, letters_of_word, numbered_partner, operand_partner, opposite_language, partner_in_table, translated_word}
 
 none≢some : {A : Type 0} (a : A) → None ≡ Some a → ⊥
 none≢some a e = cc
@@ -68,9 +68,9 @@ abbrev gives : Option (List ℕ) → List ℕ → Bool
 gives None text = false
 gives (Some found) text = bytes_eq found text
 
-given : (o : Option (List ℕ)) (text : List ℕ) → gives o text ≡ true → o ≡ Some text
-given None text e = absurd (false≢true e)
-given (Some found) text e = ap Some ((bytes_eq-Decides found text).0 e)
+some_given : (o : Option (List ℕ)) (text : List ℕ) → gives o text ≡ true → o ≡ Some text
+some_given None text e = absurd (false≢true e)
+some_given (Some found) text e = ap Some ((bytes_eq-Decides found text).0 e)
 
 -- a word has a partner, whose own partner is the word, without case
 record IsBack (look_up : List ℕ → Option (List ℕ)) (word found : List ℕ) : Type 0 where
@@ -82,7 +82,7 @@ back_from : (language : Language) (look_up : List ℕ → Option (List ℕ)) (wo
     → IsPair language (λ pair. gives (look_up (other language pair)) (own language pair)) word found → IsBack look_up word found
 back_from language look_up word found p = record {
   again = own language p.pair;
-  back = ap look_up (sym p.beside) ∙ given (look_up (other language p.pair)) (own language p.pair) p.passes;
+  back = ap look_up (sym p.beside) ∙ some_given (look_up (other language p.pair)) (own language p.pair) p.passes;
   same = p.same;
 }
 
@@ -121,7 +121,7 @@ no_digits (b ∷ s) e = rw ((and_parts (is_ascii_digit b) (list_all is_ascii_dig
 one_add : (n : ℕ) → 1 + n ≡ suc n
 one_add n = omega arith
 
-pub letters_end : (w s : List ℕ) → list_all (λ b. not (is_ascii_digit b)) w ≡ true → list_all is_ascii_digit s ≡ true → letter_count_of_word (w ++ s) ≡ length w
+pub letters_end : (w s : List ℕ) → list_all (λ b. not (is_ascii_digit b)) w ≡ true → list_all is_ascii_digit s ≡ true → letter_count (w ++ s) ≡ length w
 letters_end [] s e h = no_digits s h
 letters_end (b ∷ w) s e h =
     let parts = and_parts (not (is_ascii_digit b)) (list_all (λ b. not (is_ascii_digit b)) w) e in
@@ -131,7 +131,7 @@ numbered_there : (language : Language) (w s again : List ℕ) → list_all (λ b
     → partner_in_table language operand_pairs w ≡ Some again → numbered_partner language (w ++ s) ≡ Some (again ++ s)
 unfolding numbered_partner
 numbered_there language w s again e h found =
-    let end : letter_count_of_word (w ++ s) ≡ length w = letters_end w s e h in
+    let end : letter_count (w ++ s) ≡ length w = letters_end w s e h in
     rw (end, drop-append_seam w s, take-append_seam w s, h, found) refl
 
 operands_back : (language : Language)
@@ -161,12 +161,12 @@ numbered_back language word found is = by_digits (list_all is_ascii_digit (digit
         let parts = and_parts (gives (partner_in_table (opposite_language language) operand_pairs at) (own language p.pair)) (list_all (λ b. not (is_ascii_digit b)) at) p.passes in
         let there : numbered_partner (opposite_language language) (at ++ digits_of_word word) ≡ Some (own language p.pair ++ digits_of_word word) =
         numbered_there (opposite_language language) at (digits_of_word word) (own language p.pair) parts.1 h
-        (given (partner_in_table (opposite_language language) operand_pairs at) (own language p.pair) parts.0) in
+        (some_given (partner_in_table (opposite_language language) operand_pairs at) (own language p.pair) parts.0) in
         let found_is : at ++ digits_of_word word ≡ found = ap (λ (front : List ℕ). front ++ digits_of_word word) p.beside ∙ e in
         record {
           again = own language p.pair ++ digits_of_word word;
           back = ap (λ o. option_or o (partner_in_table (opposite_language language) result_pairs found)) (ap (numbered_partner (opposite_language language)) (sym found_is) ∙ there);
-          same = subst (λ (w : List ℕ). str_eq_ignore_ascii_case w (own language p.pair ++ digits_of_word word) ≡ true) (take-append-drop (letter_count_of_word word) word)
+          same = subst (λ (w : List ℕ). str_eq_ignore_ascii_case w (own language p.pair ++ digits_of_word word) ≡ true) (take-append-drop (letter_count word) word)
               (same_behind (letters_of_word word) (own language p.pair) (digits_of_word word) p.same);
         }
 

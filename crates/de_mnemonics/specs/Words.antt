@@ -1,9 +1,10 @@
 -- How a word is written in the other language. A language stands for the one that is translated to.
-use Rattle.std.specs.Prelude.{◌≡◌, ℕ, Bool, true, false, not, is_some, if◌then◌else◌, List, ◌∷◌, ◌++◌, take, drop, find, Option, Some, None}
+use Rattle.std.specs.Prelude.{◌≡◌, ℕ, Bool, true, false, is_some, if◌then◌else◌, List, ◌∷◌, ◌++◌, take, drop, find, Option, Some, None}
 use Rattle.std.specs.Option.{option_map, option_or}
-use Rattle.std.specs.List.{list_all, prefix_len}
+use Rattle.std.specs.List.{list_all}
 use Rattle.std.specs.Char.{is_ascii_digit}
 use Rattle.std.specs.Str.{str_eq_ignore_ascii_case}
+pub use Rattle.stl_lexer.specs.Bytes.{letter_count}
 use Rattle.stl_lexer.specs.Bytes.{hash}
 use Rattle.stl_symbols.specs.declared.languages.Language.{Language}
 use Rattle.stl_symbols.specs.declared.languages.Language.TheVariants.{English, German}
@@ -31,17 +32,13 @@ instruction_partner language word =
     option_or (partner_in_table language instruction_pairs word)
     (partner_in_table language jump_pairs word)
 
--- how many bytes of a word stand before its first digit
-abbrev pub letter_count_of_word : List ℕ → ℕ
-letter_count_of_word word = prefix_len (λ b. not (is_ascii_digit b)) word
-
 -- the letters of a word that a number may follow: its bytes before the first digit
 abbrev pub letters_of_word : List ℕ → List ℕ
-letters_of_word word = take (letter_count_of_word word) word
+letters_of_word word = take (letter_count word) word
 
 -- what stands behind the letters of a word, from its first digit on
 abbrev pub digits_of_word : List ℕ → List ℕ
-digits_of_word word = drop (letter_count_of_word word) word
+digits_of_word word = drop (letter_count word) word
 
 -- what the table of operand words that take a number has beside the letters of a word, with the
 -- digits of the same word, where there are any

@@ -12,12 +12,15 @@ pub enum TokenClass {
     Note,
     Semicolon,
     Dot,
+    /// `:=`.
     Assign,
     Colon,
     OpenBracket,
     OpenParen,
     CloseParen,
+    /// `P#`.
     Pointer,
+    /// Any other token.
     Other,
 }
 

@@ -22,7 +22,7 @@ ghost use Rattle.de_mnemonics.specs.Translation.{
 use crate::classes::{TokenClass, class_of};
 use crate::places::{TokenPlace, behind, role_of};
 use crate::roles::Role;
-use crate::words::{Spelling, written};
+use crate::words::{Spelling, written_word};
 use plc_base::{Refusal, SourceFault};
 use std::alloc::{AllocError, Global};
 use stl_lexer::{Token, lex};
@@ -31,12 +31,14 @@ use stl_symbols::Language;
 /// The rule of a word of the other language.
 const FOREIGN_WORD: u16 = 17;
 
-/// Where a translation stands: the byte, the place in the program, and the class of the token
-/// before.
+/// Where a translation stands.
 #[derive(Clone, Copy, Debug)]
 pub struct TranslationPosition {
+    /// The byte of the source behind the last token.
     pub from: usize,
+    /// The place in the program.
     pub place: TokenPlace,
+    /// The class of the last token.
     pub before: TokenClass,
 }
 
@@ -111,7 +113,7 @@ fn spelling_at<'a>(
         (translated_word language (role_at source.now position.now token.now rest.now)
         (text_of source.now token.now)) result }
 {
-    written(
+    written_word(
         language,
         role_at(source, position, token, rest),
         token.text(source),

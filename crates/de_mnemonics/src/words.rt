@@ -19,7 +19,7 @@ ghost use Rattle.de_mnemonics.specs.Tables.{
 };
 ghost use Rattle.de_mnemonics.specs.Back.{WordsComeBack};
 ghost use Rattle.de_mnemonics.specs.Places.{is_word_in_list, is_word_in_pairs, is_jump_word};
-ghost use Rattle.de_mnemonics.specs.Words.{IsFoundAsWanted, digits_of_word, instruction_partner, letter_count_of_word, letters_of_word, numbered_partner, operand_partner, opposite_language, partner_in_table, translated_word};
+ghost use Rattle.de_mnemonics.specs.Words.{IsFoundAsWanted, digits_of_word, instruction_partner, letter_count, letters_of_word, numbered_partner, operand_partner, opposite_language, partner_in_table, translated_word};
 
 use crate::roles::Role;
 use crate::tables::{
@@ -109,7 +109,7 @@ fn instruction_partner(language: Language, word: &[u8]) -> Option<&'static [u8]>
 
 /// How many bytes of a word stand before its first digit.
 fn letter_count(word: &[u8]) -> usize
-    ensures value { result ≡ letter_count_of_word word.now }
+    ensures value { result ≡ letter_count word.now }
     ensures within { result ≤ length word.now }
 {
     word.iter().take_while(|b| !b.is_ascii_digit()).count()
@@ -264,7 +264,11 @@ fn written_path<'a>(language: Language, word: &'a [u8]) -> Spelling<'a>
 /// How a word in this role is written in the translation, or None where it is a word of the other
 /// language alone.
 #[tactic(auto, unfolding(crate::specs::Words::translated_word))]
-pub(crate) fn written<'a>(language: Language, role: Role, word: &'a [u8]) -> Option<Spelling<'a>>
+pub(crate) fn written_word<'a>(
+    language: Language,
+    role: Role,
+    word: &'a [u8],
+) -> Option<Spelling<'a>>
     ensures { IsFoundAsWanted (λ s. s.front.now ++ s.rest.now)
         (translated_word language role word.now) result }
 {

@@ -11,22 +11,22 @@ use Rattle.stl_ast.specs.Outline.{level_behind, IsOutline}
 use Rattle.stl_ast.specs.Nested.{Components, none, more, inner_components, outer_components, nested_declarations, flat_declarations, MayHoldComponents, AreAtLevel, IsSpelledByNested, AreLevelsOfNesting}
 
 -- the inner ones and then the outer ones are all
-parted_one : (level : ℕ) (d : Declaration) (components behind : Components) (deeper : Bool) →
+inner_and_outer_one : (level : ℕ) (d : Declaration) (components behind : Components) (deeper : Bool) →
     flat_declarations (inner_components level behind) ++ flat_declarations (outer_components level behind) ≡ flat_declarations behind →
     flat_declarations (if deeper then more d components (inner_components level behind) else none)
     ++ flat_declarations (if deeper then outer_components level behind else more d components behind) ≡ d ∷ (flat_declarations components ++ flat_declarations behind)
-parted_one level d components behind true rest =
+inner_and_outer_one level d components behind true rest =
     ap (λ ds. d ∷ ds)
     (append_assoc (flat_declarations components) (flat_declarations (inner_components level behind)) (flat_declarations (outer_components level behind)) ∙ ap (λ ds. flat_declarations components ++ ds) rest)
-parted_one level d components behind false rest = refl
+inner_and_outer_one level d components behind false rest = refl
 
-parted : (level : ℕ) (cs : Components) → flat_declarations (inner_components level cs) ++ flat_declarations (outer_components level cs) ≡ flat_declarations cs
-parted level none = refl
-parted level (more d components behind) = parted_one level d components behind (nat_lt level d.level) (parted level behind)
+inner_and_outer : (level : ℕ) (cs : Components) → flat_declarations (inner_components level cs) ++ flat_declarations (outer_components level cs) ≡ flat_declarations cs
+inner_and_outer level none = refl
+inner_and_outer level (more d components behind) = inner_and_outer_one level d components behind (nat_lt level d.level) (inner_and_outer level behind)
 
-pub spelled : IsSpelledByNested
-spelled [] = refl
-spelled (d ∷ ds) = ap (λ rest. d ∷ rest) (parted d.level (nested_declarations ds) ∙ spelled ds)
+pub spelled_by_nested : IsSpelledByNested
+spelled_by_nested [] = refl
+spelled_by_nested (d ∷ ds) = ap (λ rest. d ∷ rest) (inner_and_outer d.level (nested_declarations ds) ∙ spelled_by_nested ds)
 
 -- each stands at most as deep as the one before it, and its components one level deeper
 abbrev AreFalling : ℕ → Components → Type 0

@@ -24,7 +24,7 @@ part_rank part.InOut = 2
 part_rank part.Static = 3
 part_rank part.Temp = 4
 
--- the parameters of a block are declared in this section
+-- a section in which parameters of a block are declared
 abbrev pub is_parameter : PartKind → Bool
 is_parameter part.Input = true
 is_parameter part.Output = true
@@ -34,8 +34,8 @@ is_parameter _ = false
 -- a block of this kind has such a section: an organization block VAR_TEMP alone, a function all but
 -- VAR
 unfoldable pub may_have_section : BlockKind → PartKind → Bool
-may_have_section kinds.Ob p = nat_eq (part_rank p) 4
-may_have_section kinds.Fc p = not (nat_eq (part_rank p) 3)
+may_have_section kinds.Ob p = nat_eq (part_rank p) (part_rank part.Temp)
+may_have_section kinds.Fc p = not (nat_eq (part_rank p) (part_rank part.Static))
 may_have_section kinds.Fb p = true
 may_have_section _ p = false
 

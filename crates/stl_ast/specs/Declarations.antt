@@ -14,7 +14,7 @@ use Rattle.stl_ast.specs.Operands.{IsNumber, IsNameOf}
 abbrev pub AreBounds : Bounds → Type 0
 AreBounds b = IsDecimal b.low × IsDecimal b.high
 
--- a user-defined data type by its number, or by a quoted name
+-- the type of an element: a user-defined one is named by its number, or by a quoted name
 abbrev pub IsElement : ElementType → Type 0
 IsElement (element.Udt name) = IsNameOf (λ k. k ≡ kind.Udt) name
 IsElement _ = Unit {0}

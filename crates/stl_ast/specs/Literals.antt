@@ -4,7 +4,7 @@ use Rattle.std.specs.List.{AllByRecursion}
 use Rattle.stl_ast.specs.declared.literals.Literal.{Literal}
 use Rattle.stl_ast.specs.declared.literals.Literal.TheVariants.{Truth, Number, Binary, Byte, Word, Dword, Long, Count, Time, S5time, Characters, Bytes}
 
--- at least -low, and at most high
+-- a number is at least -`low`, and at most `high`
 abbrev pub IsBetween : ℕ → ℕ → ℤ → Type 0
 IsBetween low high (pos n) = n ≤ high
 IsBetween low high (negsuc n) = n < low
@@ -13,7 +13,7 @@ IsBetween low high (negsuc n) = n < low
 abbrev pub IsDecimal : ℤ → Type 0
 IsDecimal n = IsBetween 32768 65535 n
 
--- 32 bits with a sign
+-- a number of 32 bits with a sign
 abbrev pub IsLong : ℤ → Type 0
 IsLong n = IsBetween (2 ^ 31) (2 ^ 31 - 1) n
 

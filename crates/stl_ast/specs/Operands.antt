@@ -34,7 +34,7 @@ IsAnyName name = IsNameOf (λ k. Unit {0}) name
 abbrev pub IsDataBlockName : BlockName → Type 0
 IsDataBlockName name = IsNameOf (λ k. k ≡ kind.Db) name
 
--- a step of a path
+-- a step of a path: any name, or an index in the range of a decimal number
 abbrev pub IsStep : PathStep → Type 0
 IsStep (step.Named name) = Unit {0}
 IsStep (step.Index at) = IsDecimal at
@@ -81,8 +81,16 @@ IsOpenedBlock false name = IsDataBlockName name
 IsOpenedBlock true (block.Number id) = (id.kind ≡ kind.Db) × IsNumber id.number
 IsOpenedBlock true (block.Quoted name) = ⊥
 
--- the numbers of an operand are in their ranges, that of an address register is 1 (AR1) or 2 (AR2),
--- and its names are those of the right blocks
+-- the number of the address register AR1 in an operand
+abbrev pub ar1_register : ℕ
+ar1_register = 1
+
+-- the number of the address register AR2 in an operand
+abbrev pub ar2_register : ℕ
+ar2_register = 2
+
+-- the numbers of an operand are in their ranges, an address register is AR1 or AR2, and the names
+-- are those of the right blocks
 abbrev pub IsOperand : Operand → Type 0
 IsOperand operand.Nothing = Unit {0}
 IsOperand (operand.Direct name area w byte bit) =
@@ -93,7 +101,7 @@ IsOperand (operand.Named path steps) = IsPath path steps
 IsOperand (operand.ByMemory area w from byte) = MayHoldPointer from × IsNumber byte
 IsOperand (operand.NumberBy what from byte) = MayHoldPointer from × IsNumber byte
 IsOperand (operand.ByRegister area w register bits) =
-    ((register ≡ 1) ⊎ (register ≡ 2)) × (bits < 8 * 65536)
+    ((register ≡ ar1_register) ⊎ (register ≡ ar2_register)) × (bits < 8 * 65536)
 IsOperand (operand.Pointer area byte bit) = IsNumber byte × (bit ≤ 7)
 IsOperand (operand.Constant value) = IsLiteral value
 IsOperand (operand.Label name) = Unit {0}

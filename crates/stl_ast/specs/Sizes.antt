@@ -15,7 +15,8 @@ use Rattle.stl_ast.specs.declared.operands.PathHead.{PathHead}
 use Rattle.stl_ast.specs.declared.operands.PathHead.TheVariants as head
 use Rattle.stl_ast.specs.declared.statements.Statement.{Statement}
 
--- the bytes that an op which opens a named data block adds: 4, and 0 without a name
+-- the bytes that an op before an address adds, which opens a named data block: 4, and 0 without a
+-- name
 abbrev pub block_size : Option BlockName → ℕ
 block_size None = 0
 block_size (Some name) = 4
@@ -45,24 +46,25 @@ op_size (operand.Other name) = 6
 op_size (operand.OpenBlock di name) = 5
 op_size (operand.Called name instance) = 7
 
--- `;` alone takes nothing; else 4 for the line, the ops of the operand, 11 an actual parameter
+-- the most bytes that an instruction with an operand and `count` actual parameters takes: none for
+-- `;` alone, else 4 for its line, those of the operand's ops, and 11 an actual parameter
 abbrev pub code_size : Mnemonic → Operand → ℕ → ℕ
 code_size code.Empty o count = 0
 code_size _ o count = 4 + op_size o + 11 * count
 
--- a statement: the entry of its line, its ops, and an op of at most 11 bytes for each actual
--- parameter; the empty statement has no code
+-- the most bytes that a statement takes: the entry of its line, its ops, and an op of at most 11
+-- bytes for each actual parameter; the empty statement has no code
 abbrev pub statement_size : Statement → ℕ
 statement_size s = code_size s.code s.operand (length s.actuals)
 
--- the statement that returns, behind the last one of a body
+-- the bytes of the statement that returns, behind the last one of a body: 6 in a block with code
 abbrev pub return_size : BlockKind → ℕ
 return_size k = if is_code k then 6 else 0
 
--- the statements of a block, and the one that returns, if its kind has a body
+-- the most bytes of the statements of a block, and of the one that returns if its kind has a body
 abbrev pub body_size : Block → ℕ
 body_size b = return_size b.kind + sum_by statement_size b.body
 
--- all statements of a tree, and those that return
+-- the most bytes of all statements of a tree, and of those that return
 abbrev pub tree_size : Tree → ℕ
 tree_size t = sum_by body_size t.blocks

@@ -49,27 +49,27 @@ abbrev pub is_empty_statement : Mnemonic → Bool
 is_empty_statement code.Empty = true
 is_empty_statement _ = false
 
--- no operand, as with SET; every actual parameter has one
+-- an operand that is none, as behind SET
 abbrev pub is_nothing : Operand → Bool
 is_nothing operand.Nothing = true
 is_nothing _ = false
 
--- a label, the target of a jump
+-- an operand that is a label, the target of a jump
 abbrev pub is_label : Operand → Bool
 is_label (operand.Label name) = true
 is_label _ = false
 
--- a block that is called, with an instance or without
+-- an operand that is a block to be called, with an instance or without
 abbrev pub names_called_block : Operand → Bool
 names_called_block (operand.Called name instance) = true
 names_called_block _ = false
 
--- a block and its instance data block, as in `CALL FB 1, DB 5`
+-- an operand that is a block with its instance data block, as in `CALL FB 1, DB 5`
 abbrev pub has_instance : Operand → Bool
 has_instance (operand.Called name (Some instance)) = true
 has_instance _ = false
 
--- a label has at most four characters
+-- the name of a label has at most four characters
 abbrev pub IsLabel : List ℕ → Type 0
 IsLabel name = length name ≤ 4
 

@@ -63,11 +63,12 @@ AreSectionsInOrder least (p ∷ ps) =
 abbrev pub AreSections : BlockKind → List Part → Type 0
 AreSections k ps = AreSectionsInOrder 0 ps × AllByRecursion (IsSection k) ps
 
--- the components of a structure that is the type of a block
+-- a component of a structure that is the type of a block: it isn't of type DATE_AND_TIME
 abbrev pub IsComponent : Declaration → Type 0
 IsComponent d = IsDeclaration d × (is_date_and_time d.of.of ≡ false)
 
--- all its components, those of inner structures among them; the outermost stand at level 0
+-- all components of a structure that is the type of a block, those of inner structures among them;
+-- the outermost stand at level 0
 abbrev pub AreComponents : List Declaration → Type 0
 AreComponents ds = IsOutline 0 ds × AllByRecursion IsComponent ds
 

@@ -24,38 +24,46 @@ pub struct Bounds {
     pub high: i32,
 }
 
-/// What a declaration or an array holds. The components of a `Structure` are the declarations
-/// behind it that stand one level deeper.
+/// What a declaration or an array holds.
 #[derive(Drop)]
 pub enum ElementType {
+    /// An elementary type.
     Plain { kind: Simple },
+    /// A structure; its components are the declarations behind it that stand one level deeper.
     Structure,
+    /// A user-defined data type.
     Udt { name: BlockName },
+    /// `DATE_AND_TIME`.
     DateAndTime,
 }
 
-/// A type: arrays, the outermost first, of an element type. A type that is no array has no bounds.
+/// A type: an element type, or arrays of it.
 #[derive(Drop)]
 pub struct TypeTree {
+    /// The bounds of the arrays, the outermost first; none for a type that is no array.
     pub arrays: Sequence<Bounds>,
+    /// The type of the elements, or of what is no array.
     pub of: ElementType,
 }
 
 /// An initial value, `value` or `count (value)`.
 #[derive(Drop)]
 pub struct Init {
+    /// How many elements the value stands for, where it is written with a count.
     pub count: Option<u16>,
     pub value: Literal,
 }
 
-/// A declared name. `level` counts the structures of its list that are open around it; `init` is
-/// empty where there is no initial value.
+/// A declared name.
 #[derive(Drop)]
 pub struct Declaration {
     pub line: u32,
     pub name: Name,
+    /// How many structures of its list are open around it.
     pub level: u32,
+    /// Its type.
     pub of: TypeTree,
+    /// Its initial values; empty where there is none.
     pub init: Sequence<Init>,
 }
 

@@ -51,9 +51,11 @@ impl Name {
     }
 }
 
-/// How a source names a block: kind and number, as `DB 10`, or a quoted symbol.
+/// How a source names a block.
 #[derive(Drop)]
 pub enum BlockName {
+    /// By kind and number, as `DB 10`.
     Number { id: BlockId },
+    /// By its symbol in quotes.
     Quoted { name: Name },
 }

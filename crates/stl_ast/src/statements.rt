@@ -11,12 +11,14 @@ pub struct Actual {
     pub value: Operand,
 }
 
-/// A statement. `actuals` are those of a CALL, and empty for every other statement.
+/// A statement of a body.
 #[derive(Drop)]
 pub struct Statement {
     pub line: u32,
+    /// The instruction word.
     pub code: Mnemonic,
     pub label: Option<Name>,
     pub operand: Operand,
+    /// The actual parameters of a CALL; empty for every other statement.
     pub actuals: Sequence<Actual>,
 }

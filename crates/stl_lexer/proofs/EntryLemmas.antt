@@ -25,16 +25,16 @@ pub entry_within : (entry text : List ℕ) → begins_with entry text ≡ true �
 unfolding begins_with
 entry_within entry text e = omega (arith, same_length entry (take (length entry) text) e, length-take (length entry) text)
 
-pub begun : (entry text : List ℕ) → 0 < length entry → begins_with entry text ≡ true → first_letter entry ≡ first_letter text
+pub beginning_letter : (entry text : List ℕ) → 0 < length entry → begins_with entry text ≡ true → first_letter entry ≡ first_letter text
 unfolding begins_with first_letter
-begun [] text some e = absurd (omega arith)
-begun (c ∷ entry) [] some e = absurd (omega (arith, same_length (c ∷ entry) [] e))
-begun (c ∷ entry) (b ∷ text) some e =
+beginning_letter [] text some e = absurd (omega arith)
+beginning_letter (c ∷ entry) [] some e = absurd (omega (arith, same_length (c ∷ entry) [] e))
+beginning_letter (c ∷ entry) (b ∷ text) some e =
     ap (λ s. get_or s 0 0) ((bytes_eq-Decides (str_to_ascii_lowercase (c ∷ entry)) (str_to_ascii_lowercase (b ∷ take (length entry) text))).0 e)
 
 -- a text begins with no entry of another letter
-pub not_begun : (entry text : List ℕ) → 0 < length entry → (first_letter entry ≡ first_letter text → ⊥) → begins_with entry text ≡ false
-not_begun entry text some h = false_from_ne_true (begins_with entry text) (λ e. h (begun entry text some e))
+pub no_beginning : (entry text : List ℕ) → 0 < length entry → (first_letter entry ≡ first_letter text → ⊥) → begins_with entry text ≡ false
+no_beginning entry text some h = false_from_ne_true (begins_with entry text) (λ e. h (beginning_letter entry text some e))
 
 pub too_short : (entry text : List ℕ) → length text < length entry → begins_with entry text ≡ false
 too_short entry text h = false_from_ne_true (begins_with entry text) (λ e. absurd (omega (arith, entry_within entry text e)))
@@ -109,7 +109,7 @@ opened_by tail (entry ∷ table) text n some e pos within =
     elim (or_cases (is_entry tail entry (take n text) (drop n text)) (list_any (λ entry. is_entry tail entry (take n text) (drop n text)) table) e) [
       | inl here ↦
           let there = entry_at tail entry text n (record { some = pos; within = within; fits = here }) in
-          or_left (first_letter entry == first_letter text) (list_any (λ entry. first_letter entry == first_letter text) table) (eq-eqb (first_letter entry) (first_letter text) (begun entry text (ltb-true 0 (length entry) parts.0) there.1))
+          or_left (first_letter entry == first_letter text) (list_any (λ entry. first_letter entry == first_letter text) table) (eq-eqb (first_letter entry) (first_letter text) (beginning_letter entry text (ltb-true 0 (length entry) parts.0) there.1))
       | inr later ↦ or_right (first_letter entry == first_letter text) (list_any (λ entry. first_letter entry == first_letter text) table) (opened_by tail table text n parts.1 later pos within)
     ]
 
@@ -129,7 +129,7 @@ only_from tail (entry ∷ table) text n some pos within =
       | inl same ↦ rw same (ap (λ b. is_entry tail entry (take n text) (drop n text) || b) rest)
       | inr other ↦
           let no : is_entry tail entry (take n text) (drop n text) ≡ false = false_from_ne_true (is_entry tail entry (take n text) (drop n text)) (λ here.
-          false≢true (sym other ∙ eq-eqb (first_letter entry) (first_letter text) (begun entry text (ltb-true 0 (length entry) parts.0) (entry_at tail entry text n (record { some = pos; within = within; fits = here })).1))) in
+          false≢true (sym other ∙ eq-eqb (first_letter entry) (first_letter text) (beginning_letter entry text (ltb-true 0 (length entry) parts.0) (entry_at tail entry text n (record { some = pos; within = within; fits = here })).1))) in
           rw (other, no) rest
     ]
 

@@ -14,7 +14,7 @@ use Rattle.stl_lexer.specs.Bytes.{hash, double_quote, single_quote, open_brace, 
 use Rattle.stl_lexer.specs.Forms.{has_form, is_word, is_number, is_quoted, is_local, is_enclosed, is_entry, is_listed, begins_with, first_letter, sign_words, based_prefixes, long_prefixes, count_prefixes, time_prefixes, s5time_prefixes, title_words}
 use Rattle.stl_lexer.specs.Marks.{marks, mark_text}
 use Rattle.stl_lexer.specs.Longest.{FindsLongest, HasNoneOfForm, HasNoForm, IsLongestToken, IsLongestOfForm, better_of}
-use Rattle.stl_lexer.proofs.EntryLemmas.{begun, entry_at}
+use Rattle.stl_lexer.proofs.EntryLemmas.{beginning_letter, entry_at}
 use Rattle.stl_lexer.proofs.LongestLemmas.{either_longest}
 use Rattle.stl_lexer.proofs.QuoteLemmas.{not_opened, not_quoted}
 use Rattle.stl_lexer.proofs.RankLemmas.{best_none, best_more, best_of_all}
@@ -88,7 +88,7 @@ none_apart : (p : ℕ → Bool) (text : List ℕ) → p (first_letter text) ≡ 
 unfolding is_apart
 none_apart p text yes_ entry e begins =
     let parts = and_parts (nat_lt 0 (length entry)) (not (p (first_letter entry))) e in
-    let same = begun entry text (ltb-true 0 (length entry) parts.0) begins in
+    let same = beginning_letter entry text (ltb-true 0 (length entry) parts.0) begins in
     false≢true (sym (not-true (p (first_letter entry)) parts.1) ∙ ap p same ∙ yes_)
 
 -- where an entry is word bytes and `#`, so is what begins with it

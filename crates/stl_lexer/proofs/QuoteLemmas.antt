@@ -12,12 +12,12 @@ one_add : (n : ℕ) → 1 + n ≡ suc n
 one_add n = omega arith
 
 -- the closing byte ends the run of those before it
-pub record Closes (p : ℕ → Bool) (close : ℕ) (s : List ℕ) (m : ℕ) : Type 0 where
+pub record EndsAtClose (p : ℕ → Bool) (close : ℕ) (s : List ℕ) (m : ℕ) : Type 0 where
   pub size : m ≡ suc (prefix_len p s)
   pub within : prefix_len p s < length s
   pub there : get_or s (prefix_len p s) 0 ≡ close
 
-closed_is : (p : ℕ → Bool) (close : ℕ) (s : List ℕ) (m : ℕ) → p close ≡ false → m ≤ length s → is_closed p close (take m s) ≡ true → Closes p close s m
+closed_is : (p : ℕ → Bool) (close : ℕ) (s : List ℕ) (m : ℕ) → p close ≡ false → m ≤ length s → is_closed p close (take m s) ≡ true → EndsAtClose p close s m
 closed_is p close s zero stops h e = absurd (false≢true e)
 closed_is p close [] (suc m) stops h e = absurd (omega arith)
 closed_is p close (b ∷ s) (suc zero) stops h e =
@@ -52,15 +52,15 @@ stops_at : (close : ℕ) (one_line : Bool) → is_inner close one_line close ≡
 unfolding is_inner
 stops_at close one_line = and_left (not (close == close)) _ (not_from_true (close == close) (eq-eqb close close refl))
 
-abbrev enclosed : ℕ → ℕ → Bool → List ℕ → List ℕ → Bool
-enclosed opening close one_line s after = is_enclosed opening close one_line s
+abbrev enclosed_form : ℕ → ℕ → Bool → List ℕ → List ℕ → Bool
+enclosed_form opening close one_line s after = is_enclosed opening close one_line s
 
-enclosed_is : (opening close : ℕ) (one_line : Bool) (b : ℕ) (s : List ℕ) (m : ℕ) → IsFormAt (enclosed opening close one_line) (b ∷ s) (suc m) → (b ≡ opening) × Closes (is_inner close one_line) close s m
+enclosed_is : (opening close : ℕ) (one_line : Bool) (b : ℕ) (s : List ℕ) (m : ℕ) → IsFormAt (enclosed_form opening close one_line) (b ∷ s) (suc m) → (b ≡ opening) × EndsAtClose (is_inner close one_line) close s m
 enclosed_is opening close one_line b s m at =
     let parts = and_parts (b == opening) (is_closed (is_inner close one_line) close (take m s)) at.fits in
     (eqb-true b opening parts.0, closed_is (is_inner close one_line) close s m (stops_at close one_line) (omega (arith, at.within)) parts.1)
 
-enclosed_cons : (opening close : ℕ) (one_line : Bool) (b : ℕ) (s : List ℕ) → b ≡ opening → prefix_len (is_inner close one_line) s < length s → get_or s (prefix_len (is_inner close one_line) s) 0 ≡ close → IsLongestOfForm (enclosed opening close one_line) (b ∷ s) (suc (suc (prefix_len (is_inner close one_line) s)))
+enclosed_cons : (opening close : ℕ) (one_line : Bool) (b : ℕ) (s : List ℕ) → b ≡ opening → prefix_len (is_inner close one_line) s < length s → get_or s (prefix_len (is_inner close one_line) s) 0 ≡ close → IsLongestOfForm (enclosed_form opening close one_line) (b ∷ s) (suc (suc (prefix_len (is_inner close one_line) s)))
 enclosed_cons opening close one_line b s first h e = record {
   fits = record {
     some = omega arith;
@@ -69,27 +69,27 @@ enclosed_cons opening close one_line b s first h e = record {
   };
   longest = longest;
 } where
-  longest : (m : ℕ) → IsFormAt (enclosed opening close one_line) (b ∷ s) m → m ≤ suc (suc (prefix_len (is_inner close one_line) s))
+  longest : (m : ℕ) → IsFormAt (enclosed_form opening close one_line) (b ∷ s) m → m ≤ suc (suc (prefix_len (is_inner close one_line) s))
   longest zero at = omega arith
   longest (suc m) at = omega (arith, (enclosed_is opening close one_line b s m at).1.size)
 
 -- a token between its opening and its closing byte; rest is the text behind the opening one
-pub enclosed_found : (opening close : ℕ) (one_line : Bool) (text rest : List ℕ) (n : ℕ) → 0 < length text → get_or text 0 0 ≡ opening → rest ≡ drop 1 text → n ≡ prefix_len (is_inner close one_line) rest → n < length rest → get_or rest n 0 ≡ close → IsLongestOfForm (enclosed opening close one_line) text (n + 2)
+pub enclosed_found : (opening close : ℕ) (one_line : Bool) (text rest : List ℕ) (n : ℕ) → 0 < length text → get_or text 0 0 ≡ opening → rest ≡ drop 1 text → n ≡ prefix_len (is_inner close one_line) rest → n < length rest → get_or rest n 0 ≡ close → IsLongestOfForm (enclosed_form opening close one_line) text (n + 2)
 enclosed_found opening close one_line [] rest n h first rest_is n_is within there = absurd (omega arith)
 enclosed_found opening close one_line (b ∷ s) rest n h first rest_is n_is within there =
     let inside : n ≡ prefix_len (is_inner close one_line) s = n_is ∙ ap (prefix_len (is_inner close one_line)) rest_is in
     let size : suc (suc (prefix_len (is_inner close one_line) s)) ≡ n + 2 = omega (arith, inside) in
-    subst (IsLongestOfForm (enclosed opening close one_line) (b ∷ s)) size
+    subst (IsLongestOfForm (enclosed_form opening close one_line) (b ∷ s)) size
     (enclosed_cons opening close one_line b s first (omega (arith, inside, ap length rest_is)) (ap (λ k. get_or s k 0) (sym inside) ∙ ap (λ l. get_or l n 0) (sym rest_is) ∙ there))
 
 -- no opening byte
-pub not_opened : (opening close : ℕ) (one_line : Bool) (text : List ℕ) → (0 < length text → get_or text 0 0 ≡ opening → ⊥) → HasNoneOfForm (enclosed opening close one_line) text
+pub not_opened : (opening close : ℕ) (one_line : Bool) (text : List ℕ) → (0 < length text → get_or text 0 0 ≡ opening → ⊥) → HasNoneOfForm (enclosed_form opening close one_line) text
 not_opened opening close one_line text h zero at = absurd (omega (arith, at.some))
 not_opened opening close one_line [] h (suc m) at = absurd (omega (arith, at.within))
 not_opened opening close one_line (b ∷ s) h (suc m) at = h (omega arith) (enclosed_is opening close one_line b s m at).0
 
 -- no closing byte
-pub not_closed : (opening close : ℕ) (one_line : Bool) (text rest : List ℕ) (n : ℕ) → rest ≡ drop 1 text → n ≡ prefix_len (is_inner close one_line) rest → (n < length rest → get_or rest n 0 ≡ close → ⊥) → HasNoneOfForm (enclosed opening close one_line) text
+pub not_closed : (opening close : ℕ) (one_line : Bool) (text rest : List ℕ) (n : ℕ) → rest ≡ drop 1 text → n ≡ prefix_len (is_inner close one_line) rest → (n < length rest → get_or rest n 0 ≡ close → ⊥) → HasNoneOfForm (enclosed_form opening close one_line) text
 not_closed opening close one_line text rest n rest_is n_is h zero at = absurd (omega (arith, at.some))
 not_closed opening close one_line [] rest n rest_is n_is h (suc m) at = absurd (omega (arith, at.within))
 not_closed opening close one_line (b ∷ s) rest n rest_is n_is h (suc m) at =
@@ -97,16 +97,16 @@ not_closed opening close one_line (b ∷ s) rest n rest_is n_is h (suc m) at =
     let closes = (enclosed_is opening close one_line b s m at).1 in
     h (omega (arith, inside, ap length rest_is, closes.within)) (ap (λ l. get_or l n 0) rest_is ∙ ap (λ k. get_or s k 0) inside ∙ closes.there)
 
-abbrev quoted : List ℕ → List ℕ → Bool
-quoted s after = is_quoted s
+abbrev quoted_form : List ℕ → List ℕ → Bool
+quoted_form s after = is_quoted s
 
-quoted_is : (text : List ℕ) (m : ℕ) → IsFormAt quoted text m → IsFormAt (enclosed double_quote double_quote true) text m × (2 < m)
+quoted_is : (text : List ℕ) (m : ℕ) → IsFormAt quoted_form text m → IsFormAt (enclosed_form double_quote double_quote true) text m × (2 < m)
 quoted_is text m at =
     let parts = and_parts (is_enclosed double_quote double_quote true (take m text)) (nat_lt 2 (length (take m text))) at.fits in
     (record { some = at.some; within = at.within; fits = parts.0 }, omega (arith, ltb-true 2 (length (take m text)) parts.1, length-take-le m text at.within))
 
 -- a quoted name has a byte between the quotes
-pub quoted_found : (text : List ℕ) (n : ℕ) → IsLongestOfForm (enclosed double_quote double_quote true) text n → 2 < n → IsLongestOfForm quoted text n
+pub quoted_found : (text : List ℕ) (n : ℕ) → IsLongestOfForm (enclosed_form double_quote double_quote true) text n → 2 < n → IsLongestOfForm quoted_form text n
 quoted_found text n h some = record {
   fits = record {
     some = h.fits.some;
@@ -116,8 +116,8 @@ quoted_found text n h some = record {
   longest = λ m at. h.longest m (quoted_is text m at).0;
 }
 
-pub empty_quoted : (text : List ℕ) (n : ℕ) → IsLongestOfForm (enclosed double_quote double_quote true) text n → n ≤ 2 → HasNoneOfForm quoted text
+pub empty_quoted : (text : List ℕ) (n : ℕ) → IsLongestOfForm (enclosed_form double_quote double_quote true) text n → n ≤ 2 → HasNoneOfForm quoted_form text
 empty_quoted text n h none m at = let is = quoted_is text m at in absurd (omega (arith, h.longest m is.0, is.1))
 
-pub not_quoted : (text : List ℕ) → HasNoneOfForm (enclosed double_quote double_quote true) text → HasNoneOfForm quoted text
+pub not_quoted : (text : List ℕ) → HasNoneOfForm (enclosed_form double_quote double_quote true) text → HasNoneOfForm quoted_form text
 not_quoted text h m at = h m (quoted_is text m at).0

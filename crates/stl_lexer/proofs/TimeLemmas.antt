@@ -46,13 +46,13 @@ lower_letters Millisecond = refl
 unit_letters : (u : TimeUnit) (l : List ℕ) → str_eq_ignore_ascii_case (letters_of_unit u) l ≡ true → list_all is_ascii_alphabetic l ≡ true
 unit_letters u l e = letters_from_lower l (str_to_ascii_lowercase (letters_of_unit u)) (same_lower u l e) (lower_letters u)
 
-abbrev number_of : List ℕ → ℕ
-number_of l = fold (λ n c. 256 * n + c) 0 l
+abbrev letters_number : List ℕ → ℕ
+letters_number l = fold (λ n c. 256 * n + c) 0 l
 
 unit_of : ℕ → TimeUnit
 unit_of n = if n == 100 then Day else (if n == 104 then Hour else (if n == 109 then Minute else (if n == 115 then Second else Millisecond)))
 
-unit_of_letters : (u : TimeUnit) → unit_of (number_of (str_to_ascii_lowercase (letters_of_unit u))) ≡ u
+unit_of_letters : (u : TimeUnit) → unit_of (letters_number (str_to_ascii_lowercase (letters_of_unit u))) ≡ u
 unfolding letters_of_unit unit_of
 unit_of_letters Day = refl
 unit_of_letters Hour = refl
@@ -62,7 +62,7 @@ unit_of_letters Millisecond = refl
 
 -- letters are those of one unit
 same_unit : (u v : TimeUnit) (l : List ℕ) → str_eq_ignore_ascii_case (letters_of_unit u) l ≡ true → str_eq_ignore_ascii_case (letters_of_unit v) l ≡ true → u ≡ v
-same_unit u v l e h = sym (unit_of_letters u) ∙ ap (λ k. unit_of (number_of k)) (same_lower u l e ∙ sym (same_lower v l h)) ∙ unit_of_letters v
+same_unit u v l e h = sym (unit_of_letters u) ∙ ap (λ k. unit_of (letters_number k)) (same_lower u l e ∙ sym (same_lower v l h)) ∙ unit_of_letters v
 
 some_letters : (u : TimeUnit) → str_eq_ignore_ascii_case (letters_of_unit u) [] ≡ true → ⊥
 unfolding letters_of_unit

@@ -13,7 +13,7 @@ use Rattle.stl_lexer.specs.declared.rules.Fault.{Fault}
 use Rattle.stl_lexer.specs.Bytes.{newline, is_source_byte, is_separator, opens_comment}
 use Rattle.stl_lexer.specs.Forms.{has_form}
 use Rattle.stl_lexer.specs.Gap.{after_gap, line_at}
-use Rattle.stl_lexer.specs.Longest.{Form, IsFormAt, FindsLongest, FindsToken, IsLongestToken, rank_of_kind, better_of}
+use Rattle.stl_lexer.specs.Longest.{Form, IsFormAt, FindsLongest, FindsToken, IsLongestToken, kind_rank, better_of}
 use Rattle.stl_lexer.specs.Rules.{fault_of, rule_without_form}
 use Rattle.stl_lexer.specs.Tokens.{text_of, is_minus, IsBehindGap, IsNextToken, IsEndOfTokens, BreaksTokenRule, TokensFollow, AreTokens, IsViolation, IsLexingTotal}
 use Rattle.stl_lexer.proofs.RankLemmas.{FindsBest, best_none, best_more, best_of_all}
@@ -44,7 +44,7 @@ longest_there form text = longest_below form text (length text) (omega arith) (�
 abbrev Best : ℕ → List ℕ → Type 0
 Best r text = (best : Option Found) × FindsBest r text best
 
-best_next : (k : TokenKind) (text : List ℕ) → Best (rank_of_kind k) text → Best (suc (rank_of_kind k)) text
+best_next : (k : TokenKind) (text : List ℕ) → Best (kind_rank k) text → Best (suc (kind_rank k)) text
 best_next k text (best, b) =
     let there = longest_there (has_form k) text in
     (better_of best k there.0, best_more k text best there.0 b there.1)
@@ -86,10 +86,10 @@ gap_there Blanks (b ∷ s) = elim (cases_Bool (is_separator b)) [
 ]
 
 -- behind a place stands a token, or a rule is broken there, or nothing else stands there
-abbrev HasNext : List ℕ → ℕ → Bool → Type 0
-HasNext source from minus = ((t : Token) × IsNextToken source from minus t) ⊎ (IsEndOfTokens source from ⊎ ((line : ℕ) × (rule : ℕ) × BreaksTokenRule source from minus line rule))
+abbrev HasNextOrEnd : List ℕ → ℕ → Bool → Type 0
+HasNextOrEnd source from minus = ((t : Token) × IsNextToken source from minus t) ⊎ (IsEndOfTokens source from ⊎ ((line : ℕ) × (rule : ℕ) × BreaksTokenRule source from minus line rule))
 
-token_at : (source : List ℕ) (from at : ℕ) (minus : Bool) (found : Found) → IsBehindGap source from at → IsLongestToken (drop at source) found.kind found.length → (fault : Option Fault) → fault_of found.kind (take found.length (drop at source)) minus ≡ fault → HasNext source from minus
+token_at : (source : List ℕ) (from at : ℕ) (minus : Bool) (found : Found) → IsBehindGap source from at → IsLongestToken (drop at source) found.kind found.length → (fault : Option Fault) → fault_of found.kind (take found.length (drop at source)) minus ≡ fault → HasNextOrEnd source from minus
 token_at source from at minus found start longest None right =
     let n = found.length in
     let size : (at + n) - at ≡ n = omega arith in
@@ -115,7 +115,7 @@ token_at source from at minus found start longest (Some fault) broken =
       },
     ))
 
-begins_at : (source : List ℕ) (from at : ℕ) (minus : Bool) → IsBehindGap source from at → (found : Option Found) → FindsToken (drop at source) found → HasNext source from minus
+begins_at : (source : List ℕ) (from at : ℕ) (minus : Bool) → IsBehindGap source from at → (found : Option Found) → FindsToken (drop at source) found → HasNextOrEnd source from minus
 begins_at source from at minus start None none =
     inr (inr (
       line_at source at,
@@ -129,7 +129,7 @@ begins_at source from at minus start None none =
 begins_at source from at minus start (Some found) longest =
     token_at source from at minus found start longest (fault_of found.kind (take found.length (drop at source)) minus) refl
 
-next_there : (source : List ℕ) (from : ℕ) (minus : Bool) → from ≤ length source → HasNext source from minus
+next_there : (source : List ℕ) (from : ℕ) (minus : Bool) → from ≤ length source → HasNextOrEnd source from minus
 next_there source from minus h =
     let gap = gap_there Blanks (drop from source) in
     let at = from + gap.0 in

@@ -1,5 +1,6 @@
 -- The bytes of a source.
 use Rattle.std.specs.Prelude.{ℕ, Bool, false, ◌&&◌, ◌||◌, not, ◌==◌, nat_le, List, ◌∷◌}
+use Rattle.std.specs.List.{prefix_len}
 use Rattle.std.specs.Char.{is_ascii_digit, is_ascii_alphabetic}
 
 -- the tab, a separator
@@ -86,7 +87,7 @@ is_word_start b = is_ascii_alphabetic b || b == underscore
 unfoldable pub is_word_byte : ℕ → Bool
 is_word_byte b = is_word_start b || is_ascii_digit b
 
--- blank, tab, 13 and 10 separate tokens
+-- blank, tab, carriage return and line feed separate tokens
 unfoldable pub is_separator : ℕ → Bool
 is_separator b = b == blank || b == tab || b == carriage_return || b == newline
 
@@ -99,10 +100,14 @@ unfoldable pub opens_comment : List ℕ → Bool
 opens_comment (b ∷ c ∷ s) = b == slash && c == slash
 opens_comment _ = false
 
--- `+` or `-`
+-- a byte is `+` or `-`
 unfoldable pub is_sign : ℕ → Bool
 is_sign b = b == plus_sign || b == minus_sign
 
 -- a byte that doesn't end a line
 abbrev pub is_line_byte : ℕ → Bool
 is_line_byte b = not (b == newline)
+
+-- how many bytes of a text stand before its first digit
+abbrev pub letter_count : List ℕ → ℕ
+letter_count text = prefix_len (λ b. not (is_ascii_digit b)) text

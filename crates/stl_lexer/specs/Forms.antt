@@ -10,7 +10,7 @@ use Rattle.stl_lexer.specs.declared.tables.Tail.TheVariants.{Nothing, Apart, Run
 use Rattle.stl_lexer.specs.Bytes.{hash, double_quote, single_quote, open_brace, close_brace, newline, is_line_byte, is_sign, is_word_start, is_word_byte}
 use Rattle.stl_lexer.specs.Marks.{marks}
 
--- a byte that passes the one test, then bytes that pass the other
+-- a byte that passes the test `first`, then bytes that pass the test `rest`
 abbrev pub is_run : (ℕ → Bool) → (ℕ → Bool) → List ℕ → Bool
 is_run first rest [] = false
 is_run first rest (b ∷ s) = first b && list_all rest s
@@ -86,7 +86,7 @@ entries_from letter table = filter (λ entry. first_letter entry == letter) tabl
 unfoldable pub opens_entry : List (List ℕ) → ℕ → Bool
 opens_entry table letter = list_any (λ entry. first_letter entry == letter) table
 
--- an entry with its tail
+-- a text is an entry with its tail, where `after` follows
 unfoldable pub is_entry : Tail → List ℕ → List ℕ → List ℕ → Bool
 is_entry tail entry s after = begins_with entry s && is_tail tail (drop (length entry) s) after
 
@@ -94,7 +94,7 @@ is_entry tail entry s after = begins_with entry s && is_tail tail (drop (length 
 abbrev pub is_some_text : List ℕ → Bool
 is_some_text text = nat_lt 0 (length text)
 
--- one of the entries of a table, with its tail
+-- a text is one of the entries of a table with its tail, where `after` follows
 unfoldable pub is_listed : Tail → List (List ℕ) → List ℕ → List ℕ → Bool
 is_listed tail table s after = list_any (λ entry. is_entry tail entry s after) table
 
@@ -113,7 +113,7 @@ based_prefixes =
     codes "2#" ∷ codes "B#16#" ∷ codes "BYTE#16#" ∷ codes "W#16#" ∷ codes "WORD#16#"
     ∷ codes "DW#16#" ∷ codes "DWORD#16#" ∷ []
 
--- the prefix of a literal of 32 bits, behind which a sign may stand, and that of a count value
+-- the prefix of a literal of 32 bits, behind which a sign may stand
 unfoldable pub long_prefixes : List (List ℕ)
 long_prefixes = codes "L#" ∷ []
 
@@ -121,7 +121,7 @@ long_prefixes = codes "L#" ∷ []
 unfoldable pub count_prefixes : List (List ℕ)
 count_prefixes = codes "C#" ∷ []
 
--- the prefixes of a time, behind which a sign may stand, and those of a time in the format S5TIME
+-- the short and the long prefix of a time of 32 bits, behind which a sign may stand
 unfoldable pub time_prefixes : List (List ℕ)
 time_prefixes = codes "T#" ∷ codes "TIME#" ∷ []
 

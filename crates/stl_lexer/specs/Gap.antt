@@ -28,10 +28,10 @@ is_inline_separator b = is_separator b && not (b == newline)
 unfoldable pub is_comment_byte : ℕ → Bool
 is_comment_byte b = is_source_byte b && not (b == newline)
 
--- 1 for the byte 10, else 0
+-- how many lines end with a byte: 1 for the line feed, else 0
 abbrev pub newlines_of : ℕ → ℕ
 newlines_of b = if b == newline then 1 else 0
 
--- the line of a place: 1, and one more for each byte 10 before it
+-- the line of a place: 1, and one more for each line feed before it
 unfoldable pub line_at : List ℕ → ℕ → ℕ
 line_at source at = 1 + sum_by newlines_of (take at source)

@@ -68,12 +68,12 @@ ArePiecesRead =
     → AreTokens (text_of_pieces ps end) (tokens_of 0 1 ps)
     × ShowPieces (text_of_pieces ps end) ps (tokens_of 0 1 ps)
 
--- the byte behind a token goes on with no word and opens no literal
+-- a text goes on with no word and opens no literal, so that a token before it ends there
 abbrev pub stops_token : List ℕ → Bool
 stops_token [] = true
 stops_token (b ∷ s) = not (is_word_byte b) && not (b == hash)
 
--- a word before such a byte is the longest token there, where no title begins
+-- a word before what stops a token is the longest token there, where no title begins
 abbrev pub DoWordsStand : Type 0
 DoWordsStand =
     (word after : List ℕ) → is_word word ≡ true → stops_token after ≡ true

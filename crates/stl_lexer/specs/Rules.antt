@@ -21,7 +21,7 @@ unfoldable pub is_negative : List ℕ → Bool
 is_negative [] = false
 is_negative (b ∷ s) = b == minus_sign
 
--- rule 4 is broken above the greatest value, and rule 3 where there is no value
+-- the rule that a value breaks: rule 4 above the greatest one, and rule 3 where there is no value
 unfoldable pub value_rule : ℕ → Option ℕ → Option ℕ
 value_rule greatest None = Some wrong_literal_rule
 value_rule greatest (Some n) = if nat_lt greatest n then Some out_of_range_rule else None
@@ -43,22 +43,23 @@ are_digits base s = nat_lt 0 (length s) && list_all (λ b. is_digit b base) s
 unfoldable pub are_grouped_digits : ℕ → List ℕ → Bool
 are_grouped_digits base s = list_all (are_digits base) (slice_split (λ b. b == underscore) s)
 
--- how many digits there are; `_` is none
+-- how many digits a text has; `_` is none
 unfoldable pub digit_count : List ℕ → ℕ
 digit_count s = count_by (λ b. not (b == underscore)) s
 
--- `2#`, and else a hexadecimal literal
+-- the base of the digits of a literal: 2 behind `2#`, else 16
 unfoldable pub base_of : List ℕ → ℕ
 base_of s = if first_letter s == two_digit then 2 else 16
 
--- the most digits: 32 binary ones, and two, four or eight hexadecimal ones behind `B#16#` or
--- `BYTE#16#`, `W#16#` or `WORD#16#`, `DW#16#` or `DWORD#16#`
+-- the most digits that a literal may have: 32 binary ones, and two, four or eight hexadecimal ones
+-- behind `B#16#` or `BYTE#16#`, `W#16#` or `WORD#16#`, `DW#16#` or `DWORD#16#`
 unfoldable pub most_digits : List ℕ → ℕ
 most_digits s =
     if first_letter s == two_digit then 32
     else (if first_letter s == letter_b then 2 else (if first_letter s == letter_w then 4 else 8))
 
--- a binary or hexadecimal literal: too many digits are rule 4, leading zeros among them
+-- the rule that a binary or hexadecimal literal breaks; too many digits are rule 4, leading zeros
+-- among them
 unfoldable pub based_rule : List ℕ → Option ℕ
 based_rule s =
     if are_grouped_digits (base_of s) (behind_prefix s)
@@ -66,14 +67,15 @@ based_rule s =
     then Some out_of_range_rule else None)
     else Some wrong_literal_rule
 
--- `L#` with a sign or none, and `C#` without
+-- the rule that a number literal breaks: `L#` with a sign or none, or `C#` without
 unfoldable pub number_rule : List ℕ → Option ℕ
 number_rule s =
     if first_letter s == letter_c then value_rule greatest_count (value_of_digits (behind_prefix s))
     else value_rule (greatest_long (is_negative (behind_prefix s)))
     (value_of_digits (behind_sign (behind_prefix s)))
 
--- `T#` and `TIME#` with `-` or none, `S5T#` and `S5TIME#` without
+-- the rule that a time literal breaks: `T#` or `TIME#` with `-` or none, or `S5T#` or `S5TIME#`
+-- without
 unfoldable pub time_rule : List ℕ → Option ℕ
 time_rule s =
     if first_letter s == letter_s
@@ -82,13 +84,13 @@ time_rule s =
     then value_rule (greatest_long true) (milliseconds time_units (behind_sign (behind_prefix s)))
     else value_rule (greatest_long false) (milliseconds time_units (behind_prefix s)))
 
--- one to four characters between the quotes
+-- the rule that characters break, of which one to four may stand between the quotes
 unfoldable pub characters_rule : List ℕ → Option ℕ
 characters_rule s =
     if nat_lt 2 (length s) && nat_le (length s) (most_characters + 2) then None
     else Some wrong_literal_rule
 
--- a number of its own, where `minus` says that the mark `-` stands before it
+-- the rule that a number token breaks by its range; `minus` says that the mark `-` stands before it
 unfoldable pub decimal_rule : List ℕ → Bool → Option ℕ
 decimal_rule s minus = value_rule (greatest_number minus) (Some (decimal_value s))
 
@@ -114,13 +116,13 @@ unfoldable pub fault_of : TokenKind → List ℕ → Bool → Option Fault
 fault_of kind s minus =
     earlier_fault (rule_broken_by_token kind s minus) (position (λ b. not (is_source_byte b)) s)
 
--- rule 2 is broken by a quoted name, characters or an attribute without end, and else rule 1; `""`
--- has an end
+-- the rule that is broken where no token begins, by the first byte: rule 2 where it opens a quoted
+-- name, characters or an attribute, which then has no end, else rule 1
 abbrev pub opening_rule : ℕ → ℕ
 opening_rule b =
     if b == double_quote || b == single_quote || b == open_brace then no_end_rule else no_token_rule
 
--- the rule that is broken where no token begins
+-- the rule that is broken where no token begins; `""` has an end and breaks rule 1
 unfoldable pub rule_without_form : List ℕ → ℕ
 rule_without_form (b ∷ c ∷ s) =
     if b == double_quote && c == double_quote then no_token_rule else opening_rule b

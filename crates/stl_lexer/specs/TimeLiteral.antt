@@ -20,7 +20,7 @@ letters_of_unit Minute = codes "M"
 letters_of_unit Second = codes "S"
 letters_of_unit Millisecond = codes "MS"
 
--- the milliseconds of one such unit
+-- how many milliseconds a unit has
 unfoldable pub milliseconds_of_unit : TimeUnit → ℕ
 milliseconds_of_unit Day = 24 * 60 * 60 * 1000
 milliseconds_of_unit Hour = 60 * 60 * 1000
@@ -28,7 +28,7 @@ milliseconds_of_unit Minute = 60 * 1000
 milliseconds_of_unit Second = 1000
 milliseconds_of_unit Millisecond = 1
 
--- the digits of the first part, the letters behind them, and what is left behind these
+-- the digits at the front of a text, those of its first part
 abbrev pub part_digits : List ℕ → List ℕ
 part_digits s = take (prefix_len is_ascii_digit s) s
 
@@ -36,11 +36,11 @@ part_digits s = take (prefix_len is_ascii_digit s) s
 abbrev pub behind_digits : List ℕ → List ℕ
 behind_digits s = drop (prefix_len is_ascii_digit s) s
 
--- the letters behind those digits, up to a digit, a `_` or another byte that is none
+-- the letters behind the digits at the front of a text, up to a byte that is no letter
 abbrev pub part_letters : List ℕ → List ℕ
 part_letters s = take (prefix_len is_ascii_alphabetic (behind_digits s)) (behind_digits s)
 
--- the text behind these letters, which is empty behind the last part
+-- a text without the digits at its front and the letters behind them: what follows its first part
 abbrev pub behind_part : List ℕ → List ℕ
 behind_part s = drop (prefix_len is_ascii_alphabetic (behind_digits s)) (behind_digits s)
 
@@ -50,12 +50,12 @@ is_part unit s =
     nat_lt 0 (length (part_digits s))
     && str_eq_ignore_ascii_case (letters_of_unit unit) (part_letters s)
 
--- an underscore may stand between two parts
+-- a text without the `_` at its front, where one stands there, as it may between two parts
 unfoldable pub behind_underscore : List ℕ → List ℕ
 behind_underscore [] = []
 behind_underscore (b ∷ s) = if b == underscore then s else b ∷ s
 
--- the milliseconds of a part
+-- the milliseconds of a part with this unit and these digits
 abbrev pub part_value : TimeUnit → List ℕ → ℕ
 part_value unit digits = decimal_value digits * milliseconds_of_unit unit
 
@@ -96,7 +96,7 @@ SpellsTime (p ∷ q ∷ parts) text =
     × ((text ≡ p.digits ++ p.letters ++ rest) ⊎ (text ≡ p.digits ++ p.letters ++ underscore ∷ rest))
     × SpellsTime (q ∷ parts) rest)
 
--- each unit is below a length, and below the units before it
+-- each unit is below a number of milliseconds, and below the units before it
 abbrev pub UnitsFallBelow : ℕ → List TimePart → Type 0
 UnitsFallBelow bound [] = Unit {0}
 UnitsFallBelow bound (p ∷ parts) =

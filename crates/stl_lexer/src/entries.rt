@@ -79,7 +79,7 @@ fn tail_length(tail: Tail, text: &[u8]) -> Option<usize>
 }
 
 /// Whether a text begins with an entry, without case of ASCII letters.
-#[tactic(auto, unfolding(crate::specs::Forms::begins_with), using(crate::proofs::EntryLemmas::entry_within, crate::proofs::EntryLemmas::too_short, crate::proofs::EntryLemmas::not_begun))]
+#[tactic(auto, unfolding(crate::specs::Forms::begins_with), using(crate::proofs::EntryLemmas::entry_within, crate::proofs::EntryLemmas::too_short, crate::proofs::EntryLemmas::no_beginning))]
 fn begins_with(entry: &[u8], text: &[u8]) -> bool
     requires { 0 < length entry.now }
     ensures value { result ≡ begins_with entry.now text.now }
@@ -128,7 +128,8 @@ fn longest_entry(tail: Tail, table: &[&[u8]], text: &[u8]) -> Option<usize>
     longest
 }
 
-/// The same, where it is known whether an entry of the table begins with the text's first letter.
+/// The length of the longest entry of a table, with its tail, at the front of the text; `opened`
+/// says whether an entry of the table begins with the text's first letter.
 fn longest_listed(tail: Tail, table: &[&[u8]], opened: bool, text: &[u8]) -> Option<usize>
     requires some { IsTrue (list_all is_some_text (map (λ entry. entry.now) table.now)) }
     requires opened { opened

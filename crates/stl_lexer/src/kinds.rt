@@ -7,27 +7,41 @@ ghost use Rattle.stl_lexer.specs.Gap.{is_comment_byte};
 /// The kind of a token, in the order of the table of tokens (docs/LANGUAGE.md, "Tokens").
 #[derive(Clone, Copy, Debug, PartialEq, Eq)]
 pub enum TokenKind {
+    /// A letter or `_`, then letters, digits and `_`.
     Word,
+    /// Decimal digits.
     Number,
+    /// A name in double quotes.
     Quoted,
+    /// A local name: `#` and a word.
     Local,
+    /// Bytes in single quotes.
     Characters,
+    /// A binary or hexadecimal literal.
     Based,
+    /// A literal of 32 bits `L#` or a count value `C#`.
     NumberLiteral,
+    /// A time `T#` or `S5T#`.
     TimeLiteral,
+    /// A mark.
     Mark,
+    /// A word that begins with a sign, as `+I` or `==0`.
     SignWord,
+    /// Bytes in braces.
     Attribute,
+    /// `TITLE` and what follows it on its line.
     Title,
 }
 
-/// A token: its kind, the slice `start..end` of the source, and the line of its first byte, counted
-/// from 1.
+/// A token: the slice `start..end` of the source.
 #[derive(Clone, Copy, Debug, PartialEq, Eq)]
 pub struct Token {
     pub kind: TokenKind,
+    /// The place of its first byte.
     pub start: u32,
+    /// The place behind its last byte.
     pub end: u32,
+    /// The line of its first byte, counted from 1.
     pub line: u32,
 }
 

@@ -8,7 +8,7 @@ pub fn law_of_pieces()
     ensures { ArePiecesRead }
 {}
 
-/// A word stands, and so does a number, before a byte that goes on with neither and is no `#`.
+/// A word, or a number, is the longest token before a byte that goes on with neither and is no `#`.
 pub fn law_of_standing()
     ensures words { DoWordsStand }
     ensures numbers { DoNumbersStand }

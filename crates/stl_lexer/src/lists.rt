@@ -4,7 +4,8 @@ ghost use Rattle.stl_lexer.specs.Limits.{source_limit};
 
 use crate::kinds::Token;
 
-/// A source with its tokens: `cut` keeps that the list is that of the definition for the source.
+/// A source with its tokens: `cut` keeps that the list is that of the definition for the source,
+/// and `limited` that the source isn't too long.
 #[derive(Debug, Drop)]
 pub struct Tokens {
     pub source: Vec<u8>,

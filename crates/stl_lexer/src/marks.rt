@@ -6,6 +6,7 @@ ghost use Rattle.stl_lexer.specs.Marks.{mark_text, marks};
 /// A mark of the language (docs/LANGUAGE.md, "Tokens").
 #[derive(Clone, Copy, Debug, PartialEq, Eq)]
 pub enum Mark {
+    /// `:=`.
     Assign,
     Colon,
     Semicolon,
@@ -19,7 +20,9 @@ pub enum Mark {
     Equals,
     Plus,
     Minus,
+    /// `P#`, before a pointer constant.
     Pointer,
+    /// `B#(`, before the bytes of a constant.
     Bytes,
 }
 

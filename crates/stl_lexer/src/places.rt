@@ -138,7 +138,7 @@ pub(crate) fn is_minus(kind: TokenKind, token: &[u8]) -> bool
     }
 }
 
-/// The next token behind a spot, or None at the end of the source.
+/// The next token behind a position, or None at the end of the source.
 ///
 /// # Errors
 ///

@@ -244,7 +244,7 @@ head_follows k clause.Title q h = same_Some _ q h
 head_follows k (clause.Section line p) q h = sym (if_some (may_have_section k p) (place.Section k p 0) q h).1
 head_follows k clause.Begins q h = sym (if_some (is_code k) (place.Body k) q h).1
 head_follows k clause.Structure q h = sym (if_some (has_shape k) (place.Shape k 0) q h).1
-head_follows k (clause.Based name) q h = sym (if_some (nat_eq (kind_order k) 3) (place.Shaped k) q h).1
+head_follows k (clause.Based name) q h = sym (if_some (nat_eq (kind_order k) (kind_order kinds.Db)) (place.Shaped k) q h).1
 head_follows k _ q h = cc
 
 head_opens : (k : BlockKind) (c : Clause) (q : ClausePlace) → next_place_in_head k c ≡ Some q → (c ≡ clause.Note → ⊥) → (c ≡ clause.Title → ⊥) →

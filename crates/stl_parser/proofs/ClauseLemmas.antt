@@ -49,13 +49,13 @@ abbrev pub IsBaseName : BlockName → Type 0
 IsBaseName name = IsNameOf (λ k. (k ≡ kinds.Fb) ⊎ (k ≡ kinds.Udt)) name
 
 -- what a right clause keeps at a place
-abbrev pub IsRight : ClausePlace → Clause → Type 0
-IsRight p (clause.Head line k name result) = IsHeadName k name × MayReturn k result
-IsRight p (clause.Based name) = IsBaseName name
-IsRight p (clause.Declares d) = IsDeclaration d × (spec.takes_parameters p ≡ true → is_elementary d ≡ true)
-IsRight p (clause.Sets s) = IsSetting s
-IsRight p (clause.Runs s) = IsStatement s
-IsRight p _ = Unit {0}
+abbrev pub IsRightClause : ClausePlace → Clause → Type 0
+IsRightClause p (clause.Head line k name result) = IsHeadName k name × MayReturn k result
+IsRightClause p (clause.Based name) = IsBaseName name
+IsRightClause p (clause.Declares d) = IsDeclaration d × (spec.takes_parameters p ≡ true → is_elementary d ≡ true)
+IsRightClause p (clause.Sets s) = IsSetting s
+IsRightClause p (clause.Runs s) = IsStatement s
+IsRightClause p _ = Unit {0}
 
 -- the code of a clause fits into the tokens that it takes: of n tokens `left` are behind it
 abbrev pub Fits : ℕ → Clause → ℕ → Type 0
@@ -65,7 +65,7 @@ Fits n _ left = Unit {0}
 
 -- a clause that is read of n tokens; it is right where no label in it is too long
 abbrev pub IsReadAt : ClausePlace → ℕ → Clause × List Token × Bool → Type 0
-IsReadAt p n r = (r.2 ≡ false → IsRight p r.0) × Fits n r.0 (length r.1)
+IsReadAt p n r = (r.2 ≡ false → IsRightClause p r.0) × Fits n r.0 (length r.1)
 
 -- a clause of n tokens before its `;`
 abbrev FitsInside : ℕ → Clause → Type 0
@@ -73,8 +73,8 @@ FitsInside n (clause.Head line k name result) = ⊥
 FitsInside n (clause.Runs s) = statement_size s ≤ 4 + 4 * n
 FitsInside n _ = Unit {0}
 
-abbrev IsInside : ClausePlace → ℕ → Clause × Bool → Type 0
-IsInside p n r = (r.1 ≡ false → IsRight p r.0) × FitsInside n r.0
+abbrev IsReadInside : ClausePlace → ℕ → Clause × Bool → Type 0
+IsReadInside p n r = (r.1 ≡ false → IsRightClause p r.0) × FitsInside n r.0
 
 same_rank : (e k : BlockKind) → nat_eq (kind_order e) (kind_order k) ≡ true → e ≡ k
 same_rank kinds.Ob kinds.Ob h = refl
@@ -182,18 +182,18 @@ elementary true false h k = cc
 elementary false plain h k = cc
 
 declaration_clause_holds : (source : List ℕ) (p : ClausePlace) (n : ℕ) (tokens : List Token) →
-    IfSome (spec.declaration_clause source p tokens) (IsInside p n)
+    IfSome (spec.declaration_clause source p tokens) (IsReadInside p n)
 unfolding spec.declaration_clause
 declaration_clause_holds source p n tokens =
-    chained (declaration_of source (spec.level_at p) tokens) _ IsDeclaration (IsInside p n) (declaration_holds source (spec.level_at p) tokens)
-    (λ d h. failed (spec.takes_parameters p && not (is_elementary d)) _ (IsInside p n)
+    chained (declaration_of source (spec.level_at p) tokens) _ IsDeclaration (IsReadInside p n) (declaration_holds source (spec.level_at p) tokens)
+    (λ d h. failed (spec.takes_parameters p && not (is_elementary d)) _ (IsReadInside p n)
     (λ test. (λ short. (h, elementary (spec.takes_parameters p) (is_elementary d) test), tt)))
 
 statement_clause_holds : (source : List ℕ) (p : ClausePlace) (line : ℕ) (tokens : List Token) →
-    IfSome (spec.statement_clause source line tokens) (IsInside p (length tokens))
+    IfSome (spec.statement_clause source line tokens) (IsReadInside p (length tokens))
 unfolding spec.statement_clause
 statement_clause_holds source p line tokens =
-    mapped (statement_of source line tokens) _ (IsReadStatement (length tokens)) (IsInside p (length tokens)) (statement_holds source line tokens)
+    mapped (statement_of source line tokens) _ (IsReadStatement (length tokens)) (IsReadInside p (length tokens)) (statement_holds source line tokens)
     (λ r h. h)
 
 abbrev IsNamedStep : PathStep → Type 0
@@ -222,17 +222,17 @@ setting_holds source line (t ∷ rest) =
     (λ r k. value_behind_holds source line r.0 r.1 k))
 
 setting_clause_holds : (source : List ℕ) (p : ClausePlace) (line n : ℕ) (tokens : List Token) →
-    IfSome (spec.setting_clause source line tokens) (IsInside p n)
+    IfSome (spec.setting_clause source line tokens) (IsReadInside p n)
 unfolding spec.setting_clause
 setting_clause_holds source p line n tokens =
-    mapped (spec.setting_of source line tokens) _ IsSetting (IsInside p n) (setting_holds source line tokens) (λ s h. (λ short. h, tt))
+    mapped (spec.setting_of source line tokens) _ IsSetting (IsReadInside p n) (setting_holds source line tokens) (λ s h. (λ short. h, tt))
 
 inside_holds : (source : List ℕ) (p : ClausePlace) (line : ℕ) (tokens : List Token) →
-    IfSome (spec.inside_clause source p line tokens) (IsInside p (length tokens))
+    IfSome (spec.inside_clause source p line tokens) (IsReadInside p (length tokens))
 unfolding spec.inside_clause
 inside_holds source p line tokens =
-    either (spec.declaration_clause source p tokens) _ (IsInside p (length tokens)) (declaration_clause_holds source p (length tokens) tokens)
-    (either (spec.statement_clause source line tokens) _ (IsInside p (length tokens)) (statement_clause_holds source p line tokens)
+    either (spec.declaration_clause source p tokens) _ (IsReadInside p (length tokens)) (declaration_clause_holds source p (length tokens) tokens)
+    (either (spec.statement_clause source line tokens) _ (IsReadInside p (length tokens)) (statement_clause_holds source p line tokens)
     (setting_clause_holds source p line (length tokens) tokens))
 
 place_holds : (source : List ℕ) (tokens : List Token) → IfSome (spec.semicolon_place source tokens) (λ n. n < length tokens)
@@ -262,7 +262,7 @@ unfolding spec.semicolon_clause
 semicolon_holds source p line tokens =
     chained (spec.until_semicolon source tokens) _ (λ cut. length cut.0 + 1 + length cut.1 ≤ length tokens) (IsReadAt p (length tokens))
     (cut_holds source tokens)
-    (λ cut all. mapped (spec.inside_clause source p line cut.0) _ (IsInside p (length cut.0)) (IsReadAt p (length tokens))
+    (λ cut all. mapped (spec.inside_clause source p line cut.0) _ (IsReadInside p (length cut.0)) (IsReadAt p (length tokens))
     (inside_holds source p line cut.0) (λ c h. (h.0, fits_with (length tokens) (length cut.0) (length cut.1) c.0 all h.1)))
 
 plain_holds : (source : List ℕ) (p : ClausePlace) (line : ℕ) (tokens : List Token) →

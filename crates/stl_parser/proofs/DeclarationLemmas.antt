@@ -35,9 +35,9 @@ abbrev pub Owes : ElementType → Type 0 → Type 0
 Owes (element.Plain kind) P = P
 Owes _ P = Unit {0}
 
-owed : (e : ElementType) (P : Type 0) → P → Owes e P
-owed (element.Plain kind) P h = h
-owed _ P h = tt
+owes_any : (e : ElementType) (P : Type 0) → P → Owes e P
+owes_any (element.Plain kind) P h = h
+owes_any _ P h = tt
 
 -- of n tokens `left` are behind the clause
 abbrev pub Takes : ℕ → Clause → ℕ → Type 0
@@ -96,45 +96,45 @@ abbrev Insides : ℕ → Clause → Type 0
 Insides n (clause.Declares d) = 1 ≤ n
 Insides n _ = Unit {0}
 
-abbrev IsInside : ℕ → Clause × Bool → Type 0
-IsInside n c = Insides n c.0
+abbrev IsTakenInside : ℕ → Clause × Bool → Type 0
+IsTakenInside n c = Insides n c.0
 
 no_declaration : (source : List ℕ) (level : ℕ) → declaration_of source level [] ≡ None
 unfolding declaration_of declared_name_at
 no_declaration source level = refl
 
 declaration_takes : (source : List ℕ) (p : ClausePlace) (tokens : List Token)
-    → IfSome (spec.declaration_clause source p tokens) (IsInside (length tokens))
+    → IfSome (spec.declaration_clause source p tokens) (IsTakenInside (length tokens))
 unfolding spec.declaration_clause
 declaration_takes source p [] = rw (no_declaration source (spec.level_at p)) tt
 declaration_takes source p (t ∷ tokens) =
     chained (declaration_of source (spec.level_at p) (t ∷ tokens)) _ (λ d. Unit {0})
-    (IsInside (length (t ∷ tokens)))
+    (IsTakenInside (length (t ∷ tokens)))
     (none_holds (declaration_of source (spec.level_at p) (t ∷ tokens)))
     (λ d h. failed (spec.takes_parameters p && not (is_elementary d)) _
-    (IsInside (length (t ∷ tokens))) (λ test. omega arith))
+    (IsTakenInside (length (t ∷ tokens))) (λ test. omega arith))
 
 statement_takes : (source : List ℕ) (line : ℕ) (tokens : List Token) (n : ℕ)
-    → IfSome (spec.statement_clause source line tokens) (IsInside n)
+    → IfSome (spec.statement_clause source line tokens) (IsTakenInside n)
 unfolding spec.statement_clause
 statement_takes source line tokens n =
-    mapped (statement_of source line tokens) _ (λ r. Unit {0}) (IsInside n)
+    mapped (statement_of source line tokens) _ (λ r. Unit {0}) (IsTakenInside n)
     (none_holds (statement_of source line tokens)) (λ r h. tt)
 
 setting_takes : (source : List ℕ) (line : ℕ) (tokens : List Token) (n : ℕ)
-    → IfSome (spec.setting_clause source line tokens) (IsInside n)
+    → IfSome (spec.setting_clause source line tokens) (IsTakenInside n)
 unfolding spec.setting_clause
 setting_takes source line tokens n =
-    mapped (spec.setting_of source line tokens) _ (λ r. Unit {0}) (IsInside n)
+    mapped (spec.setting_of source line tokens) _ (λ r. Unit {0}) (IsTakenInside n)
     (none_holds (spec.setting_of source line tokens)) (λ r h. tt)
 
 inside_takes : (source : List ℕ) (p : ClausePlace) (line : ℕ) (tokens : List Token)
-    → IfSome (spec.inside_clause source p line tokens) (IsInside (length tokens))
+    → IfSome (spec.inside_clause source p line tokens) (IsTakenInside (length tokens))
 unfolding spec.inside_clause
 inside_takes source p line tokens =
-    either (spec.declaration_clause source p tokens) _ (IsInside (length tokens))
+    either (spec.declaration_clause source p tokens) _ (IsTakenInside (length tokens))
     (declaration_takes source p tokens)
-    (either (spec.statement_clause source line tokens) _ (IsInside (length tokens))
+    (either (spec.statement_clause source line tokens) _ (IsTakenInside (length tokens))
     (statement_takes source line tokens (length tokens))
     (setting_takes source line tokens (length tokens)))
 
@@ -162,7 +162,7 @@ cut_takes source tokens =
 
 takes_with : (n inside left : ℕ) (c : Clause) → inside + 1 + left ≤ n → Insides inside c
     → Takes n c left
-takes_with n inside left (clause.Declares d) all h = owed d.of.of _ (omega (arith, all, h))
+takes_with n inside left (clause.Declares d) all h = owes_any d.of.of _ (omega (arith, all, h))
 takes_with n inside left _ all h = tt
 
 semicolon_takes : (source : List ℕ) (p : ClausePlace) (line : ℕ) (tokens : List Token)
@@ -172,7 +172,7 @@ semicolon_takes source p line tokens =
     chained (spec.until_semicolon source tokens) _
     (λ cut. length cut.0 + 1 + length cut.1 ≤ length tokens) (IsTaken (length tokens))
     (cut_takes source tokens)
-    (λ cut all. mapped (spec.inside_clause source p line cut.0) _ (IsInside (length cut.0))
+    (λ cut all. mapped (spec.inside_clause source p line cut.0) _ (IsTakenInside (length cut.0))
     (IsTaken (length tokens)) (inside_takes source p line cut.0)
     (λ c h. takes_with (length tokens) (length cut.0) (length cut.1) c.0 all h))
 

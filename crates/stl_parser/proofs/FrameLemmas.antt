@@ -31,7 +31,7 @@ use Rattle.stl_ast.specs.Operands.{IsNameOf}
 use Rattle.stl_ast.specs.Statements.{IsStatement}
 use Rattle.stl_ast.specs.WellFormed.{IsSourceKind, IsHeadName, MayReturn, AreDeclaredIn, IsSection, AreSectionsInOrder, AreSections, IsComponent, AreComponents, IsShapeOf, IsSetting, AreSettings, IsBody, IsBlock}
 use Rattle.stl_parser.proofs.OptionLemmas.{some_holds}
-use Rattle.stl_parser.proofs.ClauseLemmas.{IsBaseName, IsRight, Fits, IsReadAt, clause_holds}
+use Rattle.stl_parser.proofs.ClauseLemmas.{IsBaseName, IsRightClause, Fits, IsReadAt, clause_holds}
 use Rattle.stl_parser.specs.Spelling.{is_kept_by_tree, is_udt, unspelled_clauses, spelled_part, spelled_shape, spelled_block}
 use Rattle.stl_parser.specs.Source.{ClauseStep, step_of, step_of_reading, place_or_rule, step_or_rule, ReadsClauses, ClausesHaveTree}
 use Rattle.std.proofs.lemmas.List.{append_assoc}
@@ -54,8 +54,8 @@ abbrev spelled_inside : BlockKind → List Part → Option TypeTree → Option B
 spelled_inside k ps s i ds ss xs line bs =
     flat_map spelled_part ps ++ (spelled_shape s i ds ++ (map clause.Sets ss ++ spelled_body k xs line bs))
 
-abbrev AreBlocks : List Block → Type 0
-AreBlocks bs = AllByRecursion IsBlock bs
+abbrev AreRightBlocks : List Block → Type 0
+AreRightBlocks bs = AllByRecursion IsBlock bs
 
 -- sections in their order, none before the rank `least`
 abbrev AreSectionsFrom : ℕ → BlockKind → List Part → Type 0
@@ -72,7 +72,7 @@ abbrev AreStatements : List Statement → Type 0
 AreStatements xs = AllByRecursion IsStatement xs
 
 -- what is behind the head of a block
-record IsInside (k : BlockKind) (ps : List Part) (s : Option TypeTree) (i : Option BlockName) (ds : List Declaration)
+record IsBlockInside (k : BlockKind) (ps : List Part) (s : Option TypeTree) (i : Option BlockName) (ds : List Declaration)
     (ss : List Setting) (xs : List Statement) : Type 0 where
   head : IsSourceKind k
   sections : AreSections k ps
@@ -82,29 +82,29 @@ record IsInside (k : BlockKind) (ps : List Part) (s : Option TypeTree) (i : Opti
 
 -- the kept clauses from a place on are those of the rest of a tree, which is well-formed
 abbrev Spells : ClausePlace → List Clause → Type 0
-Spells place.Outside cs = (bs : List Block) × (cs ≡ flat_map spelled_block bs) × AreBlocks bs
+Spells place.Outside cs = (bs : List Block) × (cs ≡ flat_map spelled_block bs) × AreRightBlocks bs
 Spells (place.Head k) cs =
     (ps : List Part) × (s : Option TypeTree) × (i : Option BlockName) × (ds : List Declaration) × (ss : List Setting)
     × (xs : List Statement) × (line : ℕ) × (bs : List Block) × (cs ≡ spelled_inside k ps s i ds ss xs line bs)
-    × IsInside k ps s i ds ss xs × AreBlocks bs
+    × IsBlockInside k ps s i ds ss xs × AreRightBlocks bs
 Spells (place.Section k p level) cs =
     (ds : List Declaration) × (ps : List Part) × (xs : List Statement) × (line : ℕ) × (bs : List Block)
     × (cs ≡ map clause.Declares ds ++ (flat_map spelled_part ps ++ spelled_body k xs line bs))
-    × AreBehind k p level ds × AreSectionsFrom (part_rank p + 1) k ps × AreStatements xs × AreBlocks bs
+    × AreBehind k p level ds × AreSectionsFrom (part_rank p + 1) k ps × AreStatements xs × AreRightBlocks bs
 Spells (place.Between k p) cs =
     (ps : List Part) × (xs : List Statement) × (line : ℕ) × (bs : List Block)
     × (cs ≡ flat_map spelled_part ps ++ spelled_body k xs line bs) × AreSectionsFrom (part_rank p + 1) k ps × AreStatements xs
-    × AreBlocks bs
+    × AreRightBlocks bs
 Spells (place.Shape k level) cs =
     (ds : List Declaration) × (ss : List Setting) × (line : ℕ) × (bs : List Block)
-    × (cs ≡ map clause.Declares ds ++ spelled_settings k ss line bs) × AreComponentsBehind level ds × AreSettings k ss × AreBlocks bs
+    × (cs ≡ map clause.Declares ds ++ spelled_settings k ss line bs) × AreComponentsBehind level ds × AreSettings k ss × AreRightBlocks bs
 Spells (place.Shaped k) cs =
-    (ss : List Setting) × (line : ℕ) × (bs : List Block) × (cs ≡ spelled_settings k ss line bs) × AreSettings k ss × AreBlocks bs
+    (ss : List Setting) × (line : ℕ) × (bs : List Block) × (cs ≡ spelled_settings k ss line bs) × AreSettings k ss × AreRightBlocks bs
 Spells (place.Body k) cs =
-    (xs : List Statement) × (line : ℕ) × (bs : List Block) × (cs ≡ spelled_body k xs line bs) × AreStatements xs × AreBlocks bs
+    (xs : List Statement) × (line : ℕ) × (bs : List Block) × (cs ≡ spelled_body k xs line bs) × AreStatements xs × AreRightBlocks bs
 Spells place.Settings cs =
     (ss : List Setting) × (line : ℕ) × (bs : List Block) × (cs ≡ spelled_settings kinds.Db ss line bs) × AllByRecursion IsSetting ss
-    × AreBlocks bs
+    × AreRightBlocks bs
 
 -- the same behind a clause, where it may stand
 abbrev SpellsBehind : Option ClausePlace → List Clause → Type 0
@@ -169,7 +169,7 @@ head_spells line k name result cs named returns (ps, s, i, ds, ss, xs, end_line,
       ),
     )
 
-from_outside : (c : Clause) (cs : List Clause) → IsRight place.Outside c → SpellsBehind (next_place_outside c) cs →
+from_outside : (c : Clause) (cs : List Clause) → IsRightClause place.Outside c → SpellsBehind (next_place_outside c) cs →
     Spells place.Outside (kept_with c cs)
 unfolding next_place_outside
 from_outside (clause.Head line k name result) cs right h = head_spells line k name result cs right.0 right.1 h
@@ -250,9 +250,9 @@ with_section kinds.Fc p h = refl
 with_section kinds.Fb p h = refl
 with_section _ p h = cc
 
-bodied : (k : BlockKind) (ps : List Part) (xs : List Statement) → IsSourceKind k → AreSections k ps → IsShapeOf k None None [] →
-    is_code k ≡ true → AreStatements xs → IsInside k ps None None [] [] xs
-bodied k ps xs head sections shaped h runs =
+block_with_body : (k : BlockKind) (ps : List Part) (xs : List Statement) → IsSourceKind k → AreSections k ps → IsShapeOf k None None [] →
+    is_code k ≡ true → AreStatements xs → IsBlockInside k ps None None [] [] xs
+block_with_body k ps xs head sections shaped h runs =
     record {
       head = head;
       sections = sections;
@@ -263,27 +263,27 @@ bodied k ps xs head sections shaped h runs =
 
 -- a block with a body has no shape
 shapeless : (k : BlockKind) (ps : List Part) (xs : List Statement) → is_code k ≡ true → AreSections k ps → AreStatements xs →
-    IsInside k ps None None [] [] xs
-shapeless kinds.Ob ps xs h sections runs = bodied kinds.Ob ps xs tt sections (refl, refl, refl) h runs
-shapeless kinds.Fc ps xs h sections runs = bodied kinds.Fc ps xs tt sections (refl, refl, refl) h runs
-shapeless kinds.Fb ps xs h sections runs = bodied kinds.Fb ps xs tt sections (refl, refl, refl) h runs
+    IsBlockInside k ps None None [] [] xs
+shapeless kinds.Ob ps xs h sections runs = block_with_body kinds.Ob ps xs tt sections (refl, refl, refl) h runs
+shapeless kinds.Fc ps xs h sections runs = block_with_body kinds.Fc ps xs tt sections (refl, refl, refl) h runs
+shapeless kinds.Fb ps xs h sections runs = block_with_body kinds.Fb ps xs tt sections (refl, refl, refl) h runs
 shapeless _ ps xs h sections runs = cc
 
 -- a block with a shape has no body
 shaped_inside : (k : BlockKind) (ds : List Declaration) (ss : List Setting) → has_shape k ≡ true → AreComponents ds → AreSettings k ss →
-    IsInside k [] (Some (record { arrays = []; of = element.Structure })) None ds ss []
+    IsBlockInside k [] (Some (record { arrays = []; of = element.Structure })) None ds ss []
 shaped_inside kinds.Db ds ss h components set =
     record { head = tt; sections = (tt, tt); shaped = (refl, components); set = set; runs = (tt, λ lacks. refl) }
 shaped_inside kinds.Udt ds ss h components set =
     record { head = tt; sections = (tt, tt); shaped = (refl, refl, components); set = set; runs = (tt, λ lacks. refl) }
 shaped_inside _ ds ss h components set = cc
 
-from_based : (k : BlockKind) (name : BlockName) (cs : List Clause) → IsBaseName name → nat_eq (kind_order k) 3 ≡ true →
+from_based : (k : BlockKind) (name : BlockName) (cs : List Clause) → IsBaseName name → nat_eq (kind_order k) (kind_order kinds.Db) ≡ true →
     Spells (place.Shaped k) cs → Spells (place.Head k) (clause.Based name ∷ cs)
 from_based kinds.Db name cs base test h = based_spells name (is_udt name) cs base refl h
 from_based _ name cs base test h = cc
 
-from_head : (k : BlockKind) (c : Clause) (cs : List Clause) → IsRight (place.Head k) c → SpellsBehind (next_place_in_head k c) cs →
+from_head : (k : BlockKind) (c : Clause) (cs : List Clause) → IsRightClause (place.Head k) c → SpellsBehind (next_place_in_head k c) cs →
     Spells (place.Head k) (kept_with c cs)
 unfolding next_place_in_head
 from_head k clause.Note cs right h = h
@@ -324,7 +324,7 @@ from_head k clause.Structure cs right h =
       s.7,
     )
 from_head k (clause.Based name) cs right h =
-    let passed = passes (nat_eq (kind_order k) 3) (place.Shaped k) cs h in from_based k name cs right passed.0 passed.1
+    let passed = passes (nat_eq (kind_order k) (kind_order kinds.Db)) (place.Shaped k) cs h in from_based k name cs right passed.0 passed.1
 from_head k _ cs right h = absurd h
 
 -- an outline of a level is one of the next
@@ -337,7 +337,7 @@ one_deeper : (level : ℕ) (d : Declaration) (ds : List Declaration) → d.level
     IsOutline level (d ∷ ds)
 one_deeper level d ds at h = (omega (arith, at), subst (λ n. IsOutline (level_behind n d.of.of) ds) (sym at) h)
 
-from_section : (k : BlockKind) (p : PartKind) (level : ℕ) (c : Clause) (cs : List Clause) → IsRight (place.Section k p level) c →
+from_section : (k : BlockKind) (p : PartKind) (level : ℕ) (c : Clause) (cs : List Clause) → IsRightClause (place.Section k p level) c →
     IsAt level c → SpellsBehind (next_place_in_section k p level c) cs → Spells (place.Section k p level) (kept_with c cs)
 unfolding next_place_in_section
 from_section k p level clause.EndSection cs right at h =
@@ -391,7 +391,7 @@ not_date : (b : Bool) (q : ClausePlace) (cs : List Clause) → SpellsBehind (if 
 not_date true q cs h = absurd h
 not_date false q cs h = (refl, h)
 
-from_shape : (k : BlockKind) (level : ℕ) (c : Clause) (cs : List Clause) → IsRight (place.Shape k level) c → IsAt level c →
+from_shape : (k : BlockKind) (level : ℕ) (c : Clause) (cs : List Clause) → IsRightClause (place.Shape k level) c → IsAt level c →
     SpellsBehind (next_place_in_shape k level c) cs → Spells (place.Shape k level) (kept_with c cs)
 unfolding next_place_in_shape
 from_shape k level (clause.Declares d) cs right at h =
@@ -422,7 +422,7 @@ from_shaped kinds.Db clause.Begins cs h =
 from_shaped kinds.Udt (clause.Ends line kinds.Udt) cs h = end_spells line kinds.Udt cs h
 from_shaped _ _ cs h = absurd h
 
-from_body : (k : BlockKind) (c : Clause) (cs : List Clause) → IsRight (place.Body k) c → SpellsBehind (next_place_in_body k c) cs →
+from_body : (k : BlockKind) (c : Clause) (cs : List Clause) → IsRightClause (place.Body k) c → SpellsBehind (next_place_in_body k c) cs →
     Spells (place.Body k) (kept_with c cs)
 unfolding next_place_in_body
 from_body k (clause.Runs s) cs right h = (s ∷ h.0, h.1, h.2, ap (λ xs. clause.Runs s ∷ xs) h.3, (right, h.4), h.5)
@@ -433,7 +433,7 @@ from_body k (clause.Ends line e) cs right h =
     ([], line, s.1.0, ap (λ x. clause.Ends line x ∷ cs) (same_kind e k s.0) ∙ ap (λ xs. clause.Ends line k ∷ xs) s.1.1, tt, s.1.2)
 from_body k _ cs right h = absurd h
 
-from_settings : (c : Clause) (cs : List Clause) → IsRight place.Settings c → SpellsBehind (next_place_in_settings c) cs →
+from_settings : (c : Clause) (cs : List Clause) → IsRightClause place.Settings c → SpellsBehind (next_place_in_settings c) cs →
     Spells place.Settings (kept_with c cs)
 unfolding next_place_in_settings
 from_settings (clause.Sets s) cs right h = (s ∷ h.0, h.1, h.2, ap (λ xs. clause.Sets s ∷ xs) h.3, (right, h.4), h.5)
@@ -441,7 +441,7 @@ from_settings (clause.Ends line kinds.Db) cs right h =
     ([], line, h.0, ap (λ xs. clause.Ends line kinds.Db ∷ xs) h.1, tt, h.2)
 from_settings _ cs right h = absurd h
 
-one_more : (p : ClausePlace) (c : Clause) (cs : List Clause) → IsRight p c → IsAt (level_at p) c → SpellsBehind (next_place p c) cs →
+one_more : (p : ClausePlace) (c : Clause) (cs : List Clause) → IsRightClause p c → IsAt (level_at p) c → SpellsBehind (next_place p c) cs →
     Spells p (kept_with c cs)
 unfolding next_place
 one_more place.Outside c cs right at h = from_outside c cs right h
@@ -482,7 +482,7 @@ right_clause source p tokens c behind q same = was_right p (clause_at source p t
 
 -- what is read keeps what a right clause keeps, and its code fits into its tokens
 pub read_holds : (source : List ℕ) (p : ClausePlace) (tokens : List Token) (c : Clause) (rest : List Token) →
-    clause_at source p tokens ≡ Some (c, rest, false) → IsRight p c × Fits (length tokens) c (length rest)
+    clause_at source p tokens ≡ Some (c, rest, false) → IsRightClause p c × Fits (length tokens) c (length rest)
 read_holds source p tokens c rest h =
     let held = some_holds (clause_at source p tokens) (c, rest, false) (IsReadAt p (length tokens)) h (clause_holds source p tokens) in
     (held.0 refl, held.1)

@@ -5,7 +5,7 @@ use Rattle.stl_lexer.specs.declared.kinds.Token.{Token}
 use Rattle.stl_parser.specs.declared.clauses.Clause.{Clause}
 use Rattle.stl_parser.specs.declared.places.ClausePlace.{ClausePlace}
 use Rattle.stl_parser.specs.declared.places.ClausePlace.TheVariants as place
-use Rattle.stl_parser.specs.Source.{ClauseStep, step_of, ReadsClauses, BreaksClauseRule, is_outside, last_line, AreClausesUnique, ClausesExcludeViolation, IsClauseViolationUnique}
+use Rattle.stl_parser.specs.Source.{ClauseStep, no_clause_rule, step_of, ReadsClauses, BreaksClauseRule, is_outside, last_line, AreClausesUnique, ClausesExcludeViolation, IsClauseViolationUnique}
 use Rattle.stl_parser.specs.Clauses.{clause_at}
 
 ok_same : {A B : Type 0} (a b : A) → ◌≡◌ {A = Result A B} (Ok a) (Ok b) → a ≡ b
@@ -20,7 +20,7 @@ ok_no_err : {A B : Type 0} (a : A) (b : B) → ◌≡◌ {A = Result A B} (Ok a)
 ok_no_err a b same = cc
 
 -- no clause is read where no token is left
-pub end_is_stuck : (source : List ℕ) (q : ClausePlace) → step_of source q [] ≡ Err 10
+pub end_is_stuck : (source : List ℕ) (q : ClausePlace) → step_of source q [] ≡ Err no_clause_rule
 unfolding step_of clause_at
 end_is_stuck source q = refl
 

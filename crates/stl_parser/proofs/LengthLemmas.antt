@@ -42,9 +42,9 @@ either : {B : Type 0} (a b : Option B) (l : B → ℕ) (n : ℕ) (r : B) → opt
 either None b l n r h j k = k r h
 either (Some x) b l n r h j k = j r h
 
-taken : {B : Type 0} (b : Bool) (o : Option B) (r : B) → (if b then o else None) ≡ Some r → o ≡ Some r
-taken true o r h = h
-taken false o r h = cc
+branch_taken : {B : Type 0} (b : Bool) (o : Option B) (r : B) → (if b then o else None) ≡ Some r → o ≡ Some r
+branch_taken true o r h = h
+branch_taken false o r h = cc
 
 glued_rest : {X : Type 0} (table : List (List ℕ × X)) (text : List ℕ) (rest : List Token) (r : X × ℕ × List Token) →
     glued_letters_and_number table text rest ≡ Some r → length r.2 ≤ length rest
@@ -160,7 +160,7 @@ unfolding array_high
 array_high_rest source low [] r h = cc
 array_high_rest source low (t ∷ rest) r h =
     let within : length r.1 ≤ length rest = chain (int_at source rest) (λ i. array_end source low i.0 i.1) (λ i. length i.1) (λ y. length y.1) (length rest) r
-    (taken (is_mark source t mark.DotDot) _ r h) (int_rest source rest) (λ i y e. array_end_rest source low i.0 i.1 y e) in
+    (branch_taken (is_mark source t mark.DotDot) _ r h) (int_rest source rest) (λ i y e. array_end_rest source low i.0 i.1 y e) in
     omega (arith, within)
 
 array_rest : (source : List ℕ) (tokens : List Token) (r : Bounds × List Token) → array_at source tokens ≡ Some r →
@@ -169,7 +169,7 @@ unfolding array_at
 array_rest source [] r h = cc
 array_rest source (a ∷ []) r h = cc
 array_rest source (a ∷ b ∷ rest) r h =
-    let found = taken (is_key source a key.Array && is_mark source b mark.OpenBracket)
+    let found = branch_taken (is_key source a key.Array && is_mark source b mark.OpenBracket)
     (option_and_then (λ i. array_high source i.0 i.1) (int_at source rest)) r h in
     let within = chain (int_at source rest) (λ i. array_high source i.0 i.1) (λ i. length i.1) (λ y. length y.1) (length rest) r found
     (int_rest source rest) (λ i y e. array_high_rest source i.0 i.1 y e) in
@@ -208,7 +208,7 @@ unfolding declared_name_at
 declared_rest source [] r h = cc
 declared_rest source (w ∷ rest) r h =
     let name : List Token → Token × List Token = λ y. (w, y) in
-    let found = taken (has_kind w kind.Word) (option_map name (after_colon source (after_attribute rest))) r h in
+    let found = branch_taken (has_kind w kind.Word) (option_map name (after_colon source (after_attribute rest))) r h in
     let within = mapped (after_colon source (after_attribute rest)) name (λ y. length y.1) (length (after_attribute rest)) r found
     (colon_rest source (after_attribute rest)) in
     omega (arith, within, attribute_rest rest)

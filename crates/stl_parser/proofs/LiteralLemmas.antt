@@ -25,7 +25,7 @@ use Rattle.stl_parser.specs.Numbers.{number_of, signed_number_at}
 use Rattle.stl_parser.specs.Values.{value_from, based_literal, based_value, long_value, long_or_count, time_value, duration_literal}
 use Rattle.stl_parser.specs.Literals.{text_between_quotes, characters_of, truth_of, literal_token, byte_of, last_bytes, bytes_behind, bytes_at, long_literal, literal_at, literal_of}
 use Rattle.stl_parser.proofs.OptionLemmas.{mapped, chained, either, both, passed, at_most, whole_holds}
-use Rattle.stl_parser.proofs.RangeLemmas.{negated, number_holds, FirstIsDecimal, signed_holds}
+use Rattle.stl_parser.proofs.RangeLemmas.{negated_between, number_holds, FirstIsDecimal, signed_holds}
 
 value_range : (greatest base n : ℕ) (digits : List ℕ) → n ≤ greatest → IfSome (value_from greatest base n digits) (λ v. v ≤ greatest)
 unfolding value_from
@@ -36,19 +36,19 @@ value_range greatest base n (b ∷ bs) h =
     (λ test. value_range greatest base (base * n + digit_value b) bs
     (at_most (base * n + digit_value b) greatest (and_second (nat_lt (digit_value b) base) _ test))))
 
-valued : (greatest base : ℕ) (digits : List ℕ) → IfSome (value_from greatest base 0 digits) (λ v. v ≤ greatest)
-valued greatest base digits = value_range greatest base 0 digits (omega arith)
+value_bounded : (greatest base : ℕ) (digits : List ℕ) → IfSome (value_from greatest base 0 digits) (λ v. v ≤ greatest)
+value_bounded greatest base digits = value_range greatest base 0 digits (omega arith)
 
 based_literal_holds : (letter : ℕ) (digits : List ℕ) → IfSome (based_literal letter digits) IsLiteral
 unfolding based_literal
 based_literal_holds letter digits =
     both (letter == two_digit) _ _ IsLiteral
-    (mapped (value_from (2 ^ 32 - 1) 2 0 digits) _ (λ v. v ≤ 2 ^ 32 - 1) IsLiteral (valued (2 ^ 32 - 1) 2 digits) (λ v h. omega (arith, h)))
+    (mapped (value_from (2 ^ 32 - 1) 2 0 digits) _ (λ v. v ≤ 2 ^ 32 - 1) IsLiteral (value_bounded (2 ^ 32 - 1) 2 digits) (λ v h. omega (arith, h)))
     (both (letter == letter_b) _ _ IsLiteral
-    (mapped (value_from 255 16 0 digits) _ (λ v. v ≤ 255) IsLiteral (valued 255 16 digits) (λ v h. h))
+    (mapped (value_from 255 16 0 digits) _ (λ v. v ≤ 255) IsLiteral (value_bounded 255 16 digits) (λ v h. h))
     (both (letter == letter_w) _ _ IsLiteral
-    (mapped (value_from 65535 16 0 digits) _ (λ v. v ≤ 65535) IsLiteral (valued 65535 16 digits) (λ v h. h))
-    (mapped (value_from (2 ^ 32 - 1) 16 0 digits) _ (λ v. v ≤ 2 ^ 32 - 1) IsLiteral (valued (2 ^ 32 - 1) 16 digits)
+    (mapped (value_from 65535 16 0 digits) _ (λ v. v ≤ 65535) IsLiteral (value_bounded 65535 16 digits) (λ v h. h))
+    (mapped (value_from (2 ^ 32 - 1) 16 0 digits) _ (λ v. v ≤ 2 ^ 32 - 1) IsLiteral (value_bounded (2 ^ 32 - 1) 16 digits)
     (λ v h. omega (arith, h)))))
 
 based_holds : (text : List ℕ) → IfSome (based_value text) IsLiteral
@@ -60,7 +60,7 @@ unfolding long_value greatest_long
 long_holds [] = tt
 long_holds (b ∷ bs) =
     both (b == minus_sign) _ _ IsLong
-    (mapped (decimal_up_to (2 ^ 31) bs) _ (λ v. v ≤ 2 ^ 31) IsLong (decimal_within (2 ^ 31) bs) (λ v h. negated (2 ^ 31) (2 ^ 31 - 1) v h))
+    (mapped (decimal_up_to (2 ^ 31) bs) _ (λ v. v ≤ 2 ^ 31) IsLong (decimal_within (2 ^ 31) bs) (λ v h. negated_between (2 ^ 31) (2 ^ 31 - 1) v h))
     (both (b == plus_sign) _ _ IsLong
     (mapped (decimal_up_to (2 ^ 31 - 1) bs) _ (λ v. v ≤ 2 ^ 31 - 1) IsLong (decimal_within (2 ^ 31 - 1) bs) (λ v h. h))
     (mapped (decimal_up_to (2 ^ 31 - 1) (b ∷ bs)) _ (λ v. v ≤ 2 ^ 31 - 1) IsLong (decimal_within (2 ^ 31 - 1) (b ∷ bs)) (λ v h. h)))
@@ -83,7 +83,7 @@ time_holds [] = tt
 time_holds (b ∷ bs) =
     both (b == minus_sign) _ _ IsLong
     (mapped (value_up_to (2 ^ 31) (milliseconds time_units bs)) _ (λ v. v ≤ 2 ^ 31) IsLong (within_range (2 ^ 31) (milliseconds time_units bs))
-    (λ v h. negated (2 ^ 31) (2 ^ 31 - 1) v h))
+    (λ v h. negated_between (2 ^ 31) (2 ^ 31 - 1) v h))
     (mapped (value_up_to (2 ^ 31 - 1) (milliseconds time_units (b ∷ bs))) _ (λ v. v ≤ 2 ^ 31 - 1) IsLong
     (within_range (2 ^ 31 - 1) (milliseconds time_units (b ∷ bs))) (λ v h. h))
 

@@ -104,20 +104,20 @@ area_holds source area w byte rest more h =
     mapped (spec.place_bit source w rest) _ (IsBitOf w) (IsRead more) (place_bit_holds source w rest)
     (λ bit k. ((tt, h, k), omega arith, refl, refl, refl))
 
-abbrev IsPlace : Width × ℕ × ℕ → Type 0
-IsPlace p = IsNumber p.1 × IsBitOf p.0 p.2
+abbrev IsPlaceOfWidth : Width × ℕ × ℕ → Type 0
+IsPlaceOfWidth p = IsNumber p.1 × IsBitOf p.0 p.2
 
 place_holds : (source : List ℕ) (a : AddressKind) (byte : ℕ) (rest : List Token) → IsNumber byte →
-    IfSome (spec.place_of_data_address source a byte rest) IsPlace
+    IfSome (spec.place_of_data_address source a byte rest) IsPlaceOfWidth
 unfolding spec.place_of_data_address
 place_holds source (address.Area letters.Db w) byte rest h =
-    mapped (spec.place_bit source w rest) _ (IsBitOf w) IsPlace (place_bit_holds source w rest) (λ bit k. (h, k))
+    mapped (spec.place_bit source w rest) _ (IsBitOf w) IsPlaceOfWidth (place_bit_holds source w rest) (λ bit k. (h, k))
 place_holds source _ byte rest h = tt
 
-block_place_holds : (source : List ℕ) (tokens : List Token) → IfSome (spec.block_place source tokens) IsPlace
+block_place_holds : (source : List ℕ) (tokens : List Token) → IfSome (spec.block_place source tokens) IsPlaceOfWidth
 unfolding spec.block_place
 block_place_holds source tokens =
-    chained (address_at source tokens) _ (λ r. IsNumber r.1 × (length r.2 < length tokens)) IsPlace (address_holds source tokens)
+    chained (address_at source tokens) _ (λ r. IsNumber r.1 × (length r.2 < length tokens)) IsPlaceOfWidth (address_holds source tokens)
     (λ r h. place_holds source r.0 r.1 r.2 h.0)
 
 block_path_holds : (source : List ℕ) (name : BlockName) (tokens : List Token) (more : ℕ) → IsDataBlockName name → 1 ≤ more →
@@ -136,7 +136,7 @@ in_block_holds : (source : List ℕ) (name : BlockName) (tokens : List Token) (m
 unfolding spec.operand_in_block
 in_block_holds source name tokens more h some =
     either (option_map (λ p. operand.Direct (Some name) letters.Db p.0 p.1 p.2) (spec.block_place source tokens)) _ (IsRead more)
-    (mapped (spec.block_place source tokens) _ IsPlace (IsRead more) (block_place_holds source tokens)
+    (mapped (spec.block_place source tokens) _ IsPlaceOfWidth (IsRead more) (block_place_holds source tokens)
     (λ p k. (((h, refl), k.0, k.1), omega (arith, some), refl, refl, refl)))
     (block_path_holds source name tokens more h some)
 

@@ -20,13 +20,13 @@ unfolding number_of
 number_range source t n found = number_within 65535 source t n found
 
 -- a number with its sign, by whichever test
-signed : (b : Bool) (low high m n : ℕ) → m < low → n ≤ high → IsBetween low high (if b then negsuc m else pos n)
-signed true low high m n h k = h
-signed false low high m n h k = k
+between_by_sign : (b : Bool) (low high m n : ℕ) → m < low → n ≤ high → IsBetween low high (if b then negsuc m else pos n)
+between_by_sign true low high m n h k = h
+between_by_sign false low high m n h k = k
 
-pub negated : (low high n : ℕ) → n ≤ low → IsBetween low high (pos 0 -ℤ pos n)
-negated low high zero within = omega arith
-negated low high (suc n) within = signed (nat_lt 0 (suc n)) low high (suc n - 1) (0 - suc n) (omega (arith, within)) (omega arith)
+pub negated_between : (low high n : ℕ) → n ≤ low → IsBetween low high (pos 0 -ℤ pos n)
+negated_between low high zero within = omega arith
+negated_between low high (suc n) within = between_by_sign (nat_lt 0 (suc n)) low high (suc n - 1) (0 - suc n) (omega (arith, within)) (omega arith)
 
 pub number_holds : (source : List ℕ) (t : Token) → IfSome (number_of source t) IsNumber
 number_holds source t = found (number_of source t) IsNumber (number_range source t)
@@ -44,7 +44,7 @@ signed_holds source sign [] = tt
 signed_holds source sign (t ∷ rest) =
     both (is_mark source sign mark.Minus) _ _ FirstIsDecimal
     (mapped (number_up_to 32768 source t) _ (λ n. n ≤ 32768) FirstIsDecimal (found (number_up_to 32768 source t) _ (number_within 32768 source t))
-    (λ n h. negated 32768 65535 n h))
+    (λ n h. negated_between 32768 65535 n h))
     (both (is_mark source sign mark.Plus) _ _ FirstIsDecimal (plain_decimal source t rest) tt)
 
 pub int_holds : (source : List ℕ) (tokens : List Token) → IfSome (int_at source tokens) FirstIsDecimal

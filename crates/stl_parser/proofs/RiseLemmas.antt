@@ -52,13 +52,13 @@ use Rattle.stl_parser.proofs.FrameLemmas.{right_clause}
 use Rattle.stl_parser.proofs.OptionLemmas.{mapped, chained, either, both, passed, none_holds, some_holds, failed}
 
 -- a clause that has a line has this one
-abbrev HasLine : ℕ → Clause → Type 0
-HasLine n (clause.Ends line k) = line ≡ n
-HasLine n (clause.Runs s) = s.line ≡ n
-HasLine n _ = Unit {0}
+abbrev ClauseIsOnLine : ℕ → Clause → Type 0
+ClauseIsOnLine n (clause.Ends line k) = line ≡ n
+ClauseIsOnLine n (clause.Runs s) = s.line ≡ n
+ClauseIsOnLine n _ = Unit {0}
 
-abbrev Lined : ℕ → Clause × Bool → Type 0
-Lined n r = HasLine n r.0
+abbrev FirstIsOnLine : ℕ → Clause × Bool → Type 0
+FirstIsOnLine n r = ClauseIsOnLine n r.0
 
 statement_line : (source : List ℕ) (line : ℕ) (tokens : List Token) → IfSome (statement_of source line tokens) (λ r. r.0.line ≡ line)
 unfolding statement_of labelled_statement unlabelled_statement
@@ -69,14 +69,14 @@ statement_line source line (w ∷ colon ∷ rest) =
     (mapped _ _ (λ i. Unit {0}) (λ r. r.0.line ≡ line) (none_holds _) (λ i h. refl))
     (mapped _ _ (λ i. Unit {0}) (λ r. r.0.line ≡ line) (none_holds _) (λ i h. refl))
 
-inside_line : (source : List ℕ) (p : ClausePlace) (line : ℕ) (inside : List Token) → IfSome (inside_clause source p line inside) (Lined line)
+inside_line : (source : List ℕ) (p : ClausePlace) (line : ℕ) (inside : List Token) → IfSome (inside_clause source p line inside) (FirstIsOnLine line)
 unfolding inside_clause declaration_clause statement_clause setting_clause
 inside_line source p line inside =
-    either (declaration_clause source p inside) (option_or (statement_clause source line inside) (setting_clause source line inside)) (Lined line)
-    (chained _ _ (λ d. Unit {0}) (Lined line) (none_holds _) (λ d h. failed (takes_parameters p && not (is_elementary d)) (Some (clause.Declares d, false)) (Lined line) (λ t. tt)))
-    (either (statement_clause source line inside) (setting_clause source line inside) (Lined line)
-    (mapped (statement_of source line inside) _ (λ r. r.0.line ≡ line) (Lined line) (statement_line source line inside) (λ r h. h))
-    (mapped (setting_of source line inside) (λ s. (clause.Sets s, false)) (λ s. Unit {0}) (Lined line) (none_holds (setting_of source line inside)) (λ s h. tt)))
+    either (declaration_clause source p inside) (option_or (statement_clause source line inside) (setting_clause source line inside)) (FirstIsOnLine line)
+    (chained _ _ (λ d. Unit {0}) (FirstIsOnLine line) (none_holds _) (λ d h. failed (takes_parameters p && not (is_elementary d)) (Some (clause.Declares d, false)) (FirstIsOnLine line) (λ t. tt)))
+    (either (statement_clause source line inside) (setting_clause source line inside) (FirstIsOnLine line)
+    (mapped (statement_of source line inside) _ (λ r. r.0.line ≡ line) (FirstIsOnLine line) (statement_line source line inside) (λ r h. h))
+    (mapped (setting_of source line inside) (λ s. (clause.Sets s, false)) (λ s. Unit {0}) (FirstIsOnLine line) (none_holds (setting_of source line inside)) (λ s h. tt)))
 
 -- what holds of tokens and of the end of any such holds of what follows a clause
 module _ (P : List Token → Type 0) (closed : (t : Token) (ts : List Token) → P (t ∷ ts) → P ts) where
@@ -270,7 +270,7 @@ module _ (P : List Token → Type 0) (closed : (t : Token) (ts : List Token) →
 
   -- a clause with this line, and what follows it
   abbrev IsRead : ℕ → Clause × List Token × Bool → Type 0
-  IsRead n r = HasLine n r.0 × P r.1
+  IsRead n r = ClauseIsOnLine n r.0 × P r.1
 
   head : (n : ℕ) (source : List ℕ) (line : ℕ) (k : BlockKind) (tokens : List Token) → P tokens → IfSome (head_clause source line k tokens) (IsRead n)
   unfolding head_clause
@@ -315,7 +315,7 @@ module _ (P : List Token → Type 0) (closed : (t : Token) (ts : List Token) →
       (failed (takes_parameters p) (option_map to_clause (structure_at source (level_at p) tokens)) (IsRead line)
       (λ is. mapped (structure_at source (level_at p) tokens) to_clause Behind (IsRead line) (structure source (level_at p) tokens h) (λ r k. (tt, k))))
       (chained (until_semicolon source tokens) _ Behind (IsRead line) (until source tokens h)
-      (λ cut k. mapped (inside_clause source p line cut.0) _ (Lined line) (IsRead line) (inside_line source p line cut.0) (λ c i. (i, k))))
+      (λ cut k. mapped (inside_clause source p line cut.0) _ (FirstIsOnLine line) (IsRead line) (inside_line source p line cut.0) (λ c i. (i, k))))
     where
       to_clause : Declaration × List Token → Clause × List Token × Bool
       to_clause r = (clause.Declares r.0, r.1, false)
@@ -390,7 +390,7 @@ rises_lower : (last low before : ℕ) (xs : List ℕ) → low ≤ before → Are
 rises_lower last low before [] le h = tt
 rises_lower last low before (x ∷ xs) le h = (omega (arith, le, h.0), h.1, h.2)
 
-one_more : (last before line : ℕ) (c : Clause) (cs : List Clause) → before ≤ line → line ≤ last → HasLine line c → AreRisingLines last line (clause_lines cs)
+one_more : (last before line : ℕ) (c : Clause) (cs : List Clause) → before ≤ line → line ≤ last → ClauseIsOnLine line c → AreRisingLines last line (clause_lines cs)
     → AreRisingLines last before (clause_lines (c ∷ cs))
 one_more last before line (clause.Ends n k) cs low high is more =
     (omega (arith, low, is), omega (arith, high, is), subst (λ (m : ℕ). AreRisingLines last m (clause_lines cs)) (sym is) more)

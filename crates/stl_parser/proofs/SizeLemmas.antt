@@ -51,12 +51,12 @@ declared_fits : (e : ElementType) (n left : ℕ) → left ≤ n → Owes e (left
 declared_fits (element.Plain kind) n left fewer h = omega (arith, h)
 declared_fits _ n left fewer h = omega (arith, fewer)
 
-sized : (n left : ℕ) (c : Clause) → left ≤ n → Fits n c left → Takes n c left
+fits_takes : (n left : ℕ) (c : Clause) → left ≤ n → Fits n c left → Takes n c left
     → clause_size c + 4 * left ≤ 4 * n
-sized n left (clause.Head line k name result) fewer h g = h
-sized n left (clause.Declares d) fewer h g = declared_fits d.of.of n left fewer g
-sized n left (clause.Runs s) fewer h g = h
-sized n left _ fewer h g = omega (arith, fewer)
+fits_takes n left (clause.Head line k name result) fewer h g = h
+fits_takes n left (clause.Declares d) fewer h g = declared_fits d.of.of n left fewer g
+fits_takes n left (clause.Runs s) fewer h g = h
+fits_takes n left _ fewer h g = omega (arith, fewer)
 
 fewer_behind : (source : List ℕ) (p : ClausePlace) (ts : List Token) (c : Clause)
     (behind : List Token) → spec.clause_at source p ts ≡ Some (c, behind, false)
@@ -75,7 +75,7 @@ clauses_fit source p ts (c ∷ cs) q rest reads =
     let right = right_clause source p ts c reads.0 reads.1 reads.2 in
     let takes = some_holds (spec.clause_at source p ts) (c, reads.0, false) (IsTaken (length ts))
     right.0 (clause_takes source p ts) in
-    let fits = sized (length ts) (length reads.0) c (fewer_behind source p ts c reads.0 right.0)
+    let fits = fits_takes (length ts) (length reads.0) c (fewer_behind source p ts c reads.0 right.0)
     (read_holds source p ts c reads.0 right.0).1 takes in
     omega (
       arith,

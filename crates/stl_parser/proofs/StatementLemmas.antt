@@ -161,10 +161,10 @@ open_holds source code (t ∷ []) call some =
 open_holds source code (t ∷ u ∷ rest) call some = with_operand_holds source code (t ∷ u ∷ rest) call some
 
 -- a name, and fewer tokens behind it
-abbrev IsNamed : ℕ → BlockName × List Token → Type 0
-IsNamed n r = IsAnyName r.0 × (length r.1 < n)
+abbrev FirstIsBlockName : ℕ → BlockName × List Token → Type 0
+FirstIsBlockName n r = IsAnyName r.0 × (length r.1 < n)
 
-named_holds : (source : List ℕ) (tokens : List Token) → IfSome (block_at source tokens) (IsNamed (length tokens))
+named_holds : (source : List ℕ) (tokens : List Token) → IfSome (block_at source tokens) (FirstIsBlockName (length tokens))
 named_holds source tokens =
     also (block_at source tokens) (λ r. IsAnyName r.0) (λ r. length r.1 < length tokens) (block_holds source tokens) (block_rest source tokens)
 
@@ -174,7 +174,7 @@ unfolding spec.block_call_of
 block_call_holds source code tokens call none some =
     mapped (complete_reading (block_at source tokens)) _ (λ name. IsAnyName name × (1 ≤ length tokens)) (IsInstruction (length tokens))
     (whole_holds (block_at source tokens) (λ name. IsAnyName name × (1 ≤ length tokens))
-    (weakened (block_at source tokens) (IsNamed (length tokens)) (λ r. IsAnyName r.0 × (1 ≤ length tokens)) (named_holds source tokens)
+    (weakened (block_at source tokens) (FirstIsBlockName (length tokens)) (λ r. IsAnyName r.0 × (1 ≤ length tokens)) (named_holds source tokens)
     (λ r h. (h.0, omega (arith, h.1)))))
     (λ name h. record {
       value = (h.0, tt);
@@ -202,27 +202,27 @@ may_be_holds : (name : BlockName) (test : BlockKind → Bool) (kinds : BlockKind
 may_be_holds (block.Number id) test kinds h k passes = (k id.kind passes, h.1)
 may_be_holds (block.Quoted name) test kinds h k passes = tt
 
-abbrev IsDataBlock : ℕ → BlockName × List Token → Type 0
-IsDataBlock n r = IsDataBlockName r.0 × (length r.1 ≤ n)
+abbrev FirstIsDataBlock : ℕ → BlockName × List Token → Type 0
+FirstIsDataBlock n r = IsDataBlockName r.0 × (length r.1 ≤ n)
 
-data_block_holds : (source : List ℕ) (tokens : List Token) → IfSome (spec.data_block_at source tokens) (IsDataBlock (length tokens))
+data_block_holds : (source : List ℕ) (tokens : List Token) → IfSome (spec.data_block_at source tokens) (FirstIsDataBlock (length tokens))
 unfolding spec.data_block_at
 data_block_holds source tokens =
-    chained (block_at source tokens) _ (IsNamed (length tokens)) (IsDataBlock (length tokens)) (named_holds source tokens)
-    (λ r h. passed (spec.may_be_of_kind r.0 of_kind.is_data_block) _ (IsDataBlock (length tokens))
+    chained (block_at source tokens) _ (FirstIsBlockName (length tokens)) (FirstIsDataBlock (length tokens)) (named_holds source tokens)
+    (λ r h. passed (spec.may_be_of_kind r.0 of_kind.is_data_block) _ (FirstIsDataBlock (length tokens))
     (λ test. (may_be_holds r.0 of_kind.is_data_block (λ k. k ≡ kinds.Db) h.0 is_data_block test, omega (arith, h.1))))
 
-abbrev HasInstance : BlockName → ℕ → Option BlockName × List Token → Type 0
-HasInstance name n r = IsInstance name r.0 × (length r.1 ≤ n)
+abbrev FirstIsInstance : BlockName → ℕ → Option BlockName × List Token → Type 0
+FirstIsInstance name n r = IsInstance name r.0 × (length r.1 ≤ n)
 
 instance_holds : (source : List ℕ) (name : BlockName) (tokens : List Token) → IsAnyName name →
-    IfSome (spec.instance_at source name tokens) (HasInstance name (length tokens))
+    IfSome (spec.instance_at source name tokens) (FirstIsInstance name (length tokens))
 unfolding spec.instance_at
 instance_holds source name [] h = (tt, omega arith)
 instance_holds source name (t ∷ rest) h =
-    both (is_mark source t mark.Comma) _ _ (HasInstance name (length (t ∷ rest)))
-    (passed (spec.may_be_of_kind name of_kind.is_function_block) _ (HasInstance name (length (t ∷ rest)))
-    (λ test. mapped (spec.data_block_at source rest) _ (IsDataBlock (length rest)) (HasInstance name (length (t ∷ rest)))
+    both (is_mark source t mark.Comma) _ _ (FirstIsInstance name (length (t ∷ rest)))
+    (passed (spec.may_be_of_kind name of_kind.is_function_block) _ (FirstIsInstance name (length (t ∷ rest)))
+    (λ test. mapped (spec.data_block_at source rest) _ (FirstIsDataBlock (length rest)) (FirstIsInstance name (length (t ∷ rest)))
     (data_block_holds source rest)
     (λ r k. ((may_be_holds name of_kind.is_function_block (λ k. k ≡ kinds.Fb) h is_function_block test, k.0), omega (arith, k.1)))))
     (tt, omega arith)
@@ -274,8 +274,8 @@ next_actual_holds source (t ∷ rest) =
     (actual_holds source rest) (λ r h. (h.0, omega (arith, h.1))))
 
 -- actual parameters, with four tokens for each
-abbrev AreRead : ℕ → List Actual → List Token → Type 0
-AreRead n xs ts = AreActuals xs × (4 * length xs + length ts ≤ n)
+abbrev AreReadActuals : ℕ → List Actual → List Token → Type 0
+AreReadActuals n xs ts = AreActuals xs × (4 * length xs + length ts ≤ n)
 
 abbrev AreSized : ℕ → List Actual → Type 0
 AreSized n xs = AreActuals xs × (4 * length xs ≤ n)
@@ -283,10 +283,10 @@ AreSized n xs = AreActuals xs × (4 * length xs ≤ n)
 further_actuals : (source : List ℕ) (n : ℕ) (first : Actual) (left : ℕ) (tokens : List Token) → IsActual first → 4 + length tokens ≤ n →
     IfSome (parts_from (spec.actuals_end source) (spec.next_actual source) (first ∷ []) left tokens) (λ r. AreSized n r.0)
 further_actuals source n first left tokens h fits =
-    parts_hold (spec.actuals_end source) (spec.next_actual source) (first ∷ []) left tokens (AreRead n) (AreSized n)
+    parts_hold (spec.actuals_end source) (spec.next_actual source) (first ∷ []) left tokens (AreReadActuals n) (AreSized n)
     ((h, tt), omega (arith, fits))
     (λ xs ts k. weakened (spec.next_actual source ts) (λ r. IsActual r.0 × (length r.1 + 4 ≤ length ts))
-    (λ r. AreRead n (xs ++ r.0 ∷ []) r.1) (next_actual_holds source ts)
+    (λ r. AreReadActuals n (xs ++ r.0 ∷ []) r.1) (next_actual_holds source ts)
     (λ r one. (all_push IsActual xs r.0 k.0 one.0, omega (arith, k.1, one.1, length-append xs (r.0 ∷ [])))))
     (λ xs ts k. (k.0, omega (arith, k.1)))
 
@@ -310,8 +310,8 @@ call_holds : (source : List ℕ) (code : Mnemonic) (tokens : List Token) → has
     IfSome (spec.call_of source code tokens) (IsInstruction (length tokens))
 unfolding spec.call_of
 call_holds source code tokens has some =
-    chained (block_at source tokens) _ (IsNamed (length tokens)) (IsInstruction (length tokens)) (named_holds source tokens)
-    (λ b h. chained (spec.instance_at source b.0 b.1) _ (HasInstance b.0 (length b.1)) (IsInstruction (length tokens))
+    chained (block_at source tokens) _ (FirstIsBlockName (length tokens)) (IsInstruction (length tokens)) (named_holds source tokens)
+    (λ b h. chained (spec.instance_at source b.0 b.1) _ (FirstIsInstance b.0 (length b.1)) (IsInstruction (length tokens))
     (instance_holds source b.0 b.1 h.0)
     (λ i k. mapped (spec.actuals_of source i.1) _ (AreSized (length i.1)) (IsInstruction (length tokens)) (actuals_hold source i.1)
     (λ xs l. record {

@@ -1,10 +1,11 @@
 -- Letters with a number, which may stand without a blank.
-use Rattle.std.specs.Prelude.{ℕ, nat_le, Bool, ◌&&◌, not, is_some, if◌then◌else◌, false, List, [], ◌∷◌, take, drop, Option, Some, None}
+use Rattle.std.specs.Prelude.{ℕ, nat_le, Bool, ◌&&◌, is_some, if◌then◌else◌, false, List, [], ◌∷◌, take, drop, Option, Some, None}
 use Rattle.std.specs.Option.{option_map, option_or, option_and_then}
-use Rattle.std.specs.List.{prefix_len, list_all}
+use Rattle.std.specs.List.{list_all}
 use Rattle.std.specs.Char.{is_ascii_digit}
 use Rattle.plc_base.specs.Decimal.{decimal_up_to}
 use Rattle.plc_base.specs.declared.blocks.BlockKind.{BlockKind}
+pub use Rattle.stl_lexer.specs.Bytes.{letter_count}
 use Rattle.stl_lexer.specs.declared.kinds.Token.{Token}
 use Rattle.stl_lexer.specs.declared.kinds.TokenKind.TheVariants as kind
 use Rattle.stl_lexer.specs.Limits.{greatest_number}
@@ -18,11 +19,8 @@ use Rattle.stl_parser.specs.Tables.{look_up, block_kinds, addresses}
 use Rattle.stl_parser.specs.Numbers.{number_of}
 use Rattle.stl_parser.specs.Literals.{text_between_quotes}
 
--- how many bytes stand before the first digit
-abbrev pub letter_count : List ℕ → ℕ
-letter_count text = prefix_len (λ b. not (is_ascii_digit b)) text
-
--- letters and number in one word
+-- what the letters of a word name in a table, the number behind them in the same word, and what
+-- follows the word
 unfoldable pub glued_letters_and_number : {X : Type 0} → List (List ℕ × X) → List ℕ → List Token
     → Option (X × ℕ × List Token)
 glued_letters_and_number table text rest =
@@ -30,7 +28,7 @@ glued_letters_and_number table text rest =
     (decimal_up_to (greatest_number false) (drop (letter_count text) text)))
     (look_up table (take (letter_count text) text))
 
--- letters and number in two tokens
+-- what a word names in a table, the number that the token behind it is, and what follows that
 unfoldable pub separate_letters_and_number : {X : Type 0} → List (List ℕ × X) → List ℕ → List ℕ
     → List Token → Option (X × ℕ × List Token)
 separate_letters_and_number table source text [] = None
@@ -38,7 +36,8 @@ separate_letters_and_number table source text (n ∷ rest) =
     option_and_then (λ x. option_map (λ number. (x, number, rest)) (number_of source n))
     (look_up table text)
 
--- what the letters name, the number behind them, and what follows
+-- what the letters at the front name in a table, the number behind them, in the same word or in the
+-- next token, and what follows
 unfoldable pub letters_and_number_at : {X : Type 0} → List (List ℕ × X) → List ℕ → List Token
     → Option (X × ℕ × List Token)
 letters_and_number_at table source [] = None
@@ -56,7 +55,7 @@ address_at source tokens = letters_and_number_at addresses source tokens
 unfoldable pub block_number_at : List ℕ → List Token → Option (BlockKind × ℕ × List Token)
 block_number_at source tokens = letters_and_number_at block_kinds source tokens
 
--- a quoted name as the name of a block
+-- a quoted name as the name of a block, and what follows
 unfoldable pub quoted_block_at : List ℕ → List Token → Option (BlockName × List Token)
 quoted_block_at source [] = None
 quoted_block_at source (t ∷ rest) =
@@ -71,14 +70,14 @@ block_at source tokens =
     (block_number_at source tokens))
     (quoted_block_at source tokens)
 
--- `.` and a bit number, 0 to 7
+-- the number of a bit, 0 to 7, behind its `.`
 unfoldable pub bit_of : List ℕ → List Token → Option ℕ
 bit_of source (dot ∷ b ∷ []) =
     if is_mark source dot mark.Dot
     then option_and_then (λ n. if nat_le n 7 then Some n else None) (number_of source b) else None
 bit_of source _ = None
 
--- letters of an address, alone or with digits
+-- a word is the letters of an address, alone or with digits
 unfoldable pub is_address_word : List ℕ → Bool
 is_address_word text =
     is_some (look_up addresses (take (letter_count text) text))

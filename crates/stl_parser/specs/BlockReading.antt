@@ -10,8 +10,8 @@ use Rattle.stl_parser.specs.declared.clauses.Clause.TheVariants as clause
 use Rattle.stl_parser.specs.declared.places.ClausePlace.{ClausePlace}
 use Rattle.stl_parser.specs.declared.places.ClausePlace.TheVariants as place
 use Rattle.stl_parser.specs.declared.blocks.Content.{Content}
-use Rattle.stl_parser.specs.declared.blocks.Opened.{Opened}
-use Rattle.stl_parser.specs.declared.blocks.Opened.TheVariants as opened
+use Rattle.stl_parser.specs.declared.blocks.ShapeOrBody.{ShapeOrBody}
+use Rattle.stl_parser.specs.declared.blocks.ShapeOrBody.TheVariants as opening_of
 use Rattle.stl_parser.specs.Source.{ReadsKeptClauses}
 use Rattle.stl_parser.specs.Spelling.{is_kept_by_tree}
 
@@ -80,17 +80,19 @@ pub record ReadsShape (source : List ℕ) (k : BlockKind) (opening : Clause) (to
   -- the opening clause and these clauses spell the shape
   pub whole : spelled ≡ opening ∷ kept
 
--- a body, or a shape: the clause that opens it, where a tree keeps that, and the components
-abbrev pub spelled_opened : Opened → List Clause
-spelled_opened opened.Body = []
-spelled_opened (opened.Structure components) = clause.Structure ∷ map clause.Declares components
-spelled_opened (opened.Based name) = clause.Based name ∷ []
+-- what a body or a shape is spelled by: the clause that opens it, where a tree keeps that, and the
+-- components
+abbrev pub spelled_shape_or_body : ShapeOrBody → List Clause
+spelled_shape_or_body opening_of.Body = []
+spelled_shape_or_body (opening_of.Structure components) =
+    clause.Structure ∷ map clause.Declares components
+spelled_shape_or_body (opening_of.Based name) = clause.Based name ∷ []
 
 -- what stands behind the sections of a block of this kind: its shape, its settings, its statements
 -- and its END clause
 abbrev pub spelled_content : BlockKind → Content → List Clause
 spelled_content k c =
-    spelled_opened c.opened
+    spelled_shape_or_body c.opened
     ++ (map clause.Sets c.settings ++ (map clause.Runs c.body ++ clause.Ends c.end_line k ∷ []))
 
 -- what stands behind the sections of a block is spelled by the clause that opens it, where a tree

@@ -66,13 +66,13 @@ is_outer (place.Between k last) = true
 is_outer (place.Shaped k) = true
 is_outer _ = false
 
--- how many structures are open, inside the one of a data block
+-- how many structures are open at a place; the one that is the type of a block isn't counted
 abbrev pub level_at : ClausePlace → ℕ
 level_at (place.Section k p level) = level
 level_at (place.Shape k level) = level
 level_at _ = 0
 
--- the parameters of a block are declared here
+-- the place is in a section in which the parameters of a block are declared
 abbrev pub takes_parameters : ClausePlace → Bool
 takes_parameters (place.Section k p level) = is_parameter p
 takes_parameters _ = false
@@ -81,7 +81,7 @@ takes_parameters _ = false
 abbrev pub ClauseReading : Type 0
 ClauseReading = Option (Clause × List Token × Bool)
 
--- what follows a clause that may end with a `;` in a head
+-- what follows a clause that may end with a `;` in a head, and has none elsewhere
 unfoldable pub behind_note : List ℕ → ClausePlace → List Token → List Token
 behind_note source p rest = if in_head p then skip_semicolon source rest else rest
 

@@ -32,7 +32,7 @@ next_place_in_head k (clause.Section line p) =
 next_place_in_head k clause.Begins = if is_code k then Some (place.Body k) else None
 next_place_in_head k clause.Structure = if has_shape k then Some (place.Shape k 0) else None
 next_place_in_head k (clause.Based name) =
-    if nat_eq (kind_order k) 3 then Some (place.Shaped k) else None
+    if nat_eq (kind_order k) (kind_order kinds.Db) then Some (place.Shaped k) else None
 next_place_in_head k _ = None
 
 -- the place behind a clause in a section; none where the clause may not stand there
@@ -61,8 +61,9 @@ next_place_in_shape k level (clause.Declares d) =
 next_place_in_shape k level clause.EndStructure = shape_behind k level
 next_place_in_shape k level _ = None
 
--- what may stand behind the structure of a data block or of a TYPE block, and behind what a data
--- block is based on: the settings of a data block, or the end of a TYPE block
+-- the place behind a clause that follows the structure of a data block or of a TYPE block, or what
+-- a data block is based on: in the settings of a data block, or outside behind the end of a TYPE
+-- block; none where the clause may not stand there
 unfoldable pub next_place_behind_shape : BlockKind → Clause → Option ClausePlace
 next_place_behind_shape kinds.Db clause.Begins = Some place.Settings
 next_place_behind_shape kinds.Udt (clause.Ends line kinds.Udt) = Some place.Outside

@@ -14,7 +14,7 @@ use Rattle.stl_parser.specs.Numbers.{number_of, signed_number_at}
 use Rattle.stl_parser.specs.Parts.{complete_reading}
 use Rattle.stl_parser.specs.Values.{based_value, long_or_count, duration_literal}
 
--- a token without its first and its last byte
+-- the bytes of a token without the first and the last one
 unfoldable pub text_between_quotes : List ℕ → List ℕ
 text_between_quotes text = slice_range text 1 (length text - 1)
 
@@ -23,7 +23,7 @@ unfoldable pub characters_of : List ℕ → Option (List ℕ)
 characters_of [] = None
 characters_of (b ∷ bs) = if nat_le (length (b ∷ bs)) 4 then Some (b ∷ bs) else None
 
--- TRUE or FALSE
+-- the constant TRUE or FALSE that a token is
 unfoldable pub truth_of : List ℕ → Token → Option Literal
 truth_of source t =
     if is_key source t key.True then Some (literal.Truth true)
@@ -40,7 +40,7 @@ literal_token source t kind.NumberLiteral = long_or_count (text_of source t)
 literal_token source t kind.TimeLiteral = duration_literal (text_of source t)
 literal_token source t _ = None
 
--- a number up to 255
+-- the number that a token is, where it is at most 255
 unfoldable pub byte_of : List ℕ → Token → Option ℕ
 byte_of source t = option_and_then (λ n. if nat_le n 255 then Some n else None) (number_of source t)
 

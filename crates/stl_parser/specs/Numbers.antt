@@ -18,7 +18,7 @@ number_up_to most source t =
 unfoldable pub number_of : List ℕ → Token → Option ℕ
 number_of source t = number_up_to (greatest_number false) source t
 
--- a number behind its sign, and what follows
+-- the number with the sign before it, and what follows
 unfoldable pub signed_number_at : List ℕ → Token → List Token → Option (ℤ × List Token)
 signed_number_at source sign [] = None
 signed_number_at source sign (t ∷ rest) =

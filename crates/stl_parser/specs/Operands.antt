@@ -20,6 +20,7 @@ use Rattle.stl_ast.specs.declared.operands.Operand.{Operand}
 use Rattle.stl_ast.specs.declared.operands.Operand.TheVariants as operand
 use Rattle.stl_ast.specs.declared.operands.PathHead.{PathHead}
 use Rattle.stl_ast.specs.declared.operands.PathHead.TheVariants as head
+use Rattle.stl_ast.specs.Operands.{ar1_register, ar2_register}
 use Rattle.stl_lexer.specs.declared.marks.Mark.TheVariants as mark
 use Rattle.stl_parser.specs.declared.keywords.ClauseWord.TheVariants as key
 use Rattle.stl_parser.specs.declared.tables.AddressKind.{AddressKind}
@@ -31,13 +32,13 @@ use Rattle.stl_parser.specs.Parts.{parts_from, complete_reading}
 use Rattle.stl_parser.specs.Literals.{text_between_quotes, literal_of}
 use Rattle.stl_parser.specs.Addresses.{is_address_word, address_at, bit_of}
 
--- `]` behind the index of a step
+-- the step with this index, where its `]` stands at the front, and what follows
 unfoldable pub index_end : List ℕ → ℤ → List Token → Option (PathStep × List Token)
 index_end source at [] = None
 index_end source at (close ∷ rest) =
     if is_mark source close mark.CloseBracket then Some (step.Index at, rest) else None
 
--- the name of a step, behind its `.`
+-- the step that is a name, behind its `.`, and what follows
 unfoldable pub name_step : List ℕ → List Token → Option (PathStep × List Token)
 name_step source [] = None
 name_step source (w ∷ rest) =
@@ -51,7 +52,7 @@ step_at source (t ∷ rest) =
     else (if is_mark source t mark.OpenBracket
     then option_and_then (λ r. index_end source r.0 r.1) (int_at source rest) else None)
 
--- a path ends with its clause or before `:=`
+-- what stands behind the steps of a path, which ends with its clause or before `:=`
 unfoldable pub path_end : List ℕ → List Token → Option (List Token)
 path_end source [] = Some []
 path_end source (t ∷ rest) = if is_mark source t mark.Assign then Some (t ∷ rest) else None
@@ -108,7 +109,7 @@ operand_in_block source name tokens =
     (block_place source tokens))
     (block_path source name tokens)
 
--- `.` and what stands in a data block
+-- what stands in a data block, behind the block and with the `.` at the front
 unfoldable pub operand_behind_block : List ℕ → BlockName → List Token → Option Operand
 operand_behind_block source name [] = None
 operand_behind_block source name (dot ∷ rest) =
@@ -135,12 +136,13 @@ direct_address_operand source (address.Block true) n [] =
     Some (operand.OpenBlock true (data_block_name n))
 direct_address_operand source (address.Block true) n (t ∷ rest) = None
 
--- the number of an address register
+-- the number of the address register that a word is, AR1 or AR2
 unfoldable pub register_of : List ℕ → Token → Option ℕ
 register_of source t =
-    if is_key source t key.Ar1 then Some 1 else (if is_key source t key.Ar2 then Some 2 else None)
+    if is_key source t key.Ar1 then Some ar1_register
+    else (if is_key source t key.Ar2 then Some ar2_register else None)
 
--- `P#n.b` with n 0 to 65,535 and b 0 to 7, counted in bits
+-- the offset `P#n.b` in bits, with n 0 to 65,535 and b 0 to 7
 unfoldable pub offset_of : List ℕ → Token → Token → List Token → Option ℕ
 offset_of source prefix n rest =
     if is_mark source prefix mark.Pointer
@@ -270,19 +272,19 @@ unfoldable pub plain_path : List ℕ → Token → List Token → Option Operand
 plain_path source t rest =
     if is_operand_word source t then None else path_of source (head.Local (text_of source t)) rest
 
--- B, W or D before a pointer in a register that has the area
+-- an operand by a register that has the area, with B, W or D before the pointer
 unfoldable pub sized_by_register : List ℕ → Token → List Token → Option Operand
 sized_by_register source t rest =
     if is_key source t key.B then operand_by_register source None width.Byte rest
     else (if is_key source t key.W then operand_by_register source None width.Word rest
     else (if is_key source t key.D then operand_by_register source None width.Dword rest else None))
 
--- letters of an address with their number
+-- an operand that begins with the letters of an address and their number
 unfoldable pub operand_with_number : List ℕ → List Token → Option Operand
 operand_with_number source tokens =
     option_and_then (λ r. direct_address_operand source r.0 r.1 r.2) (address_at source tokens)
 
--- letters of an address with a pointer in brackets
+-- an operand that begins with the letters of an address and a pointer in brackets
 unfoldable pub operand_with_pointer : List ℕ → Token → List Token → Option Operand
 operand_with_pointer source t rest =
     option_and_then (λ a. indirect_operand source a rest) (look_up addresses (text_of source t))

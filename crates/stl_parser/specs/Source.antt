@@ -13,6 +13,22 @@ use Rattle.stl_parser.specs.Spelling.{is_kept_by_tree, spelled_block}
 use Rattle.stl_parser.specs.Clauses.{ClauseReading, clause_at}
 use Rattle.stl_parser.specs.Frame.{next_place}
 
+-- rule 10: a clause isn't in the grammar
+abbrev pub no_clause_rule : ℕ
+no_clause_rule = 10
+
+-- rule 11: a clause of the grammar may not stand at its place
+abbrev pub misplaced_clause_rule : ℕ
+misplaced_clause_rule = 11
+
+-- rule 12: a label is too long
+abbrev pub long_label_rule : ℕ
+long_label_rule = 12
+
+-- rule 13: a source ends inside a block
+abbrev pub open_block_rule : ℕ
+open_block_rule = 13
+
 -- a clause that is right, what follows it, and where that stands
 abbrev pub ClauseStep : Type 0
 ClauseStep = Clause × List Token × ClausePlace
@@ -20,8 +36,8 @@ ClauseStep = Clause × List Token × ClausePlace
 -- where the clauses behind one of the grammar stand, or the rule that it breaks: rule 11 where its
 -- kind may not stand here, else rule 12 where a label is too long
 abbrev pub place_or_rule : Bool → Option ClausePlace → Result ClausePlace ℕ
-place_or_rule long None = Err 11
-place_or_rule true (Some next) = Err 12
+place_or_rule long None = Err misplaced_clause_rule
+place_or_rule true (Some next) = Err long_label_rule
 place_or_rule false (Some next) = Ok next
 
 -- the step over a clause of the grammar: the clause, the tokens behind it and the place where those
@@ -33,7 +49,7 @@ step_or_rule c rest (Err rule) = Err rule
 -- the step over a clause that is read at a place, or the rule that it breaks; what isn't in the
 -- grammar breaks rule 10, whatever else it breaks
 abbrev pub step_of_reading : ClausePlace → ClauseReading → Result ClauseStep ℕ
-step_of_reading p None = Err 10
+step_of_reading p None = Err no_clause_rule
 step_of_reading p (Some r) = step_or_rule r.0 r.1 (place_or_rule r.2 (next_place p r.0))
 
 -- the clause at the front of the tokens, or the rule that it breaks
@@ -63,7 +79,8 @@ is_outside _ = false
 -- token is left, the source ends inside a block, which breaks rule 13 in the line `last` of its
 -- last token
 abbrev pub BreaksClauseRule : List ℕ → ClausePlace → List Token → ℕ → ℕ → ℕ → Type 0
-BreaksClauseRule source p [] last line rule = (is_outside p ≡ false) × (line ≡ last) × (rule ≡ 13)
+BreaksClauseRule source p [] last line rule =
+    (is_outside p ≡ false) × (line ≡ last) × (rule ≡ open_block_rule)
 BreaksClauseRule source p (t ∷ ts) last line rule =
     (line ≡ t.line) × (step_of source p (t ∷ ts) ≡ Err rule)
 

@@ -130,7 +130,7 @@ unfoldable pub statement_with_operand : List ℕ → Mnemonic → List Token →
 statement_with_operand source code tokens =
     option_map (statement_without_actuals code) (operand_of source tokens)
 
--- a label has at most four characters
+-- a label is too long: it has more than four characters
 unfoldable pub is_long_label : List ℕ → Token → Bool
 is_long_label source t = nat_lt 4 (length (text_of source t))
 

@@ -4,6 +4,7 @@ use Rattle.std.specs.Str.{str_eq_ignore_ascii_case}
 use Rattle.stl_lexer.specs.declared.kinds.Token.{Token}
 use Rattle.stl_lexer.specs.declared.kinds.TokenKind.{TokenKind}
 use Rattle.stl_lexer.specs.declared.kinds.TokenKind.TheVariants as kind
+pub use Rattle.stl_lexer.specs.Longest.{kind_rank}
 use Rattle.stl_lexer.specs.Marks.{mark_text}
 use Rattle.stl_lexer.specs.Tokens.{text_of}
 use Rattle.stl_lexer.specs.declared.marks.Mark.{Mark}
@@ -25,21 +26,6 @@ key_text key.B = codes "B"
 key_text key.W = codes "W"
 key_text key.D = codes "D"
 key_text key.Mcr = codes "MCR"
-
--- the place of a kind in the table of tokens
-abbrev pub kind_rank : TokenKind → ℕ
-kind_rank kind.Word = 0
-kind_rank kind.Number = 1
-kind_rank kind.Quoted = 2
-kind_rank kind.Local = 3
-kind_rank kind.Characters = 4
-kind_rank kind.Based = 5
-kind_rank kind.NumberLiteral = 6
-kind_rank kind.TimeLiteral = 7
-kind_rank kind.Mark = 8
-kind_rank kind.SignWord = 9
-kind_rank kind.Attribute = 10
-kind_rank kind.Title = 11
 
 -- a token is of this kind
 unfoldable pub has_kind : Token → TokenKind → Bool

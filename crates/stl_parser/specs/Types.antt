@@ -23,14 +23,14 @@ use Rattle.stl_parser.specs.Parts.{parts_from, complete_reading}
 use Rattle.stl_parser.specs.Literals.{literal_at, literal_of}
 use Rattle.stl_parser.specs.Addresses.{block_at}
 
--- `] OF` behind the bounds of an array
+-- an array with these bounds, where `] OF` stands at the front, and what follows
 unfoldable pub array_end : List ℕ → ℤ → ℤ → List Token → Option (Bounds × List Token)
 array_end source low high (close ∷ of_ ∷ rest) =
     if is_mark source close mark.CloseBracket && is_key source of_ key.Of
     then Some (record { low = low; high = high }, rest) else None
 array_end source low high _ = None
 
--- `.. high ] OF` behind the lower bound
+-- an array with this lower bound, read from `.. high ] OF`, and what follows
 unfoldable pub array_high : List ℕ → ℤ → List Token → Option (Bounds × List Token)
 array_high source low [] = None
 array_high source low (dots ∷ rest) =
@@ -87,14 +87,14 @@ unfoldable pub element_at : List ℕ → List Token → Option (ElementType × L
 element_at source [] = None
 element_at source (t ∷ rest) = option_or (simple_at source t rest) (udt_at source (t ∷ rest))
 
--- `)` behind the value of `n (value)`
+-- the initial value `n (value)`, where its `)` stands at the front, and what follows
 unfoldable pub counted_init_end : List ℕ → ℕ → Literal → List Token → Option (Init × List Token)
 counted_init_end source count value [] = None
 counted_init_end source count value (t ∷ rest) =
     if is_mark source t mark.CloseParen
     then Some (record { count = Some count; value = value }, rest) else None
 
--- `n (value)`, and what follows
+-- the initial value `n (value)` at the front, and what follows
 unfoldable pub counted_init_at : List ℕ → List Token → Option (Init × List Token)
 counted_init_at source (n ∷ open_ ∷ rest) =
     if is_mark source open_ mark.OpenParen

@@ -27,11 +27,11 @@ based_literal letter digits =
     else (if letter == letter_w then option_map literal.Word (value_from 65535 16 0 digits)
     else option_map literal.Dword (value_from (2 ^ 32 - 1) 16 0 digits)))
 
--- `2#`, `B#16#`, `W#16#` or `DW#16#` and digits
+-- the constant that a literal is, `2#`, `B#16#`, `W#16#` or `DW#16#` and digits
 unfoldable pub based_value : List ℕ → Option Literal
 based_value text = based_literal (first_letter text) (behind_prefix text)
 
--- a decimal number of 32 bits with a sign or none
+-- the value of a decimal number of 32 bits with a sign or none
 unfoldable pub long_value : List ℕ → Option ℤ
 long_value [] = None
 long_value (b ∷ bs) =
@@ -39,14 +39,14 @@ long_value (b ∷ bs) =
     else (if b == plus_sign then option_map pos (decimal_up_to (greatest_long false) bs)
     else option_map pos (decimal_up_to (greatest_long false) (b ∷ bs)))
 
--- `C#` or `L#` and a number
+-- the constant that a literal is, `C#` or `L#` and a number
 unfoldable pub long_or_count : List ℕ → Option Literal
 long_or_count text =
     if first_letter text == letter_c
     then option_map literal.Count (decimal_up_to greatest_count (behind_prefix text))
     else option_map literal.Long (long_value (behind_prefix text))
 
--- the milliseconds of `T#`, with a sign or none
+-- the milliseconds of the parts of a time behind `T#`, with a sign or none
 unfoldable pub time_value : List ℕ → Option ℤ
 time_value [] = None
 time_value (b ∷ bs) =
@@ -55,7 +55,7 @@ time_value (b ∷ bs) =
     (value_up_to (greatest_long true) (milliseconds time_units bs))
     else option_map pos (value_up_to (greatest_long false) (milliseconds time_units (b ∷ bs)))
 
--- `S5T#` or `T#` and the parts of a time
+-- the constant that a literal is, `S5T#` or `T#` and the parts of a time
 unfoldable pub duration_literal : List ℕ → Option Literal
 duration_literal text =
     if first_letter text == letter_s

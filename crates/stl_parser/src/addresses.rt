@@ -14,7 +14,7 @@ ghost use Rattle.stl_parser.specs.Addresses.{
 };
 
 use crate::keywords::{has_kind, is_mark};
-use crate::literals::unquoted;
+use crate::literals::text_between_quotes;
 use crate::lookups::{address_of, look_up};
 use crate::numbers::{decimal, number};
 use crate::parsed::{Parsed, ParsedNumbered};
@@ -34,7 +34,7 @@ fn letter_count(text: &[u8]) -> usize
 
 /// Letters and number in one word.
 #[tactic(auto, unfolding(crate::specs::Addresses::glued_letters_and_number))]
-fn glued<'a, X: Copy + Drop>(
+fn glued_letters_and_number<'a, X: Copy + Drop>(
     table: &[(&[u8], X)],
     text: &[u8],
     rest: &'a [Token],
@@ -51,7 +51,7 @@ fn glued<'a, X: Copy + Drop>(
 
 /// Letters and number in two tokens.
 #[tactic(auto, unfolding(crate::specs::Addresses::separate_letters_and_number))]
-fn separate<'a, X: Copy + Drop>(
+fn separate_letters_and_number<'a, X: Copy + Drop>(
     table: &[(&[u8], X)],
     source: &[u8],
     text: &[u8],
@@ -71,7 +71,7 @@ fn separate<'a, X: Copy + Drop>(
 
 /// What the letters name, the number behind them, and what follows.
 #[tactic(auto, unfolding(crate::specs::Addresses::letters_and_number_at))]
-fn numbered<'a, X: Copy + Drop>(
+fn letters_and_number<'a, X: Copy + Drop>(
     table: &[(&[u8], X)],
     source: &[u8],
     tokens: &'a [Token],
@@ -86,9 +86,9 @@ fn numbered<'a, X: Copy + Drop>(
         return None;
     }
     let word = token.text(source);
-    match glued(table, word, rest) {
+    match glued_letters_and_number(table, word, rest) {
         Some(found) => Some(found),
-        None => separate(table, source, word, rest),
+        None => separate_letters_and_number(table, source, word, rest),
     }
 }
 
@@ -100,7 +100,7 @@ pub(crate) fn address<'a>(
 ) -> Option<ParsedNumbered<'a, AddressKind>>
     ensures { result ≡ address_at source.now tokens.now }
 {
-    numbered(&ADDRESSES, source, tokens)
+    letters_and_number(&ADDRESSES, source, tokens)
 }
 
 /// A block by kind and number, as `DB 10`, with what follows.
@@ -108,12 +108,12 @@ pub(crate) fn address<'a>(
 fn block_number<'a>(source: &[u8], tokens: &'a [Token]) -> Option<ParsedNumbered<'a, BlockKind>>
     ensures { result ≡ block_number_at source.now tokens.now }
 {
-    numbered(&BLOCK_KINDS, source, tokens)
+    letters_and_number(&BLOCK_KINDS, source, tokens)
 }
 
 /// A quoted name as the name of a block.
 #[tactic(auto, unfolding(crate::specs::Addresses::quoted_block_at))]
-pub(crate) fn quoted<'a>(
+pub(crate) fn quoted_block<'a>(
     alloc: Global,
     source: &[u8],
     tokens: &'a [Token],
@@ -126,7 +126,7 @@ pub(crate) fn quoted<'a>(
     if !has_kind(token, TokenKind::Quoted) {
         return Ok(None);
     }
-    let name = Name::new(alloc, unquoted(token.text(source)))?;
+    let name = Name::new(alloc, text_between_quotes(token.text(source)))?;
     Ok(Some(Parsed(BlockName::Quoted { name }, rest)))
 }
 
@@ -144,7 +144,7 @@ pub(crate) fn block<'a>(
             let id = BlockId { kind, number };
             Ok(Some(Parsed(BlockName::Number { id }, rest)))
         }
-        None => quoted(alloc, source, tokens),
+        None => quoted_block(alloc, source, tokens),
     }
 }
 

@@ -16,7 +16,7 @@ ghost use Rattle.stl_parser.specs.BlockReading.{
   opens_shape,
   settings_of_clause,
   spelled_content,
-  spelled_opened,
+  spelled_shape_or_body,
   statements_of_clause,
 };
 ghost use Rattle.stl_parser.specs.Source.{ReadsKeptClauses, IsBrokenBehind};
@@ -298,7 +298,7 @@ fn is_udt(name: &BlockName) -> bool
 }
 
 /// The shape that a name stands for: a data type, or else the function block of an instance.
-fn based(alloc: Global, name: BlockName) -> ParsedShape
+fn based_shape(alloc: Global, name: BlockName) -> ParsedShape
     ensures { spelled_shape result.shape result.instance_of result.components
         ≡ spelled.Based name ∷ [] }
 {
@@ -321,14 +321,14 @@ fn based(alloc: Global, name: BlockName) -> ParsedShape
 
 /// What a clause behind the sections of a block opens.
 #[derive(Drop)]
-enum Opened {
+enum ShapeOrBody {
     Body,
     Structure { components: Declarations },
     Based { name: BlockName },
 }
 
 /// The shape that is a structure with these components.
-fn structured(alloc: Global, components: Declarations) -> ParsedShape
+fn structure_shape(alloc: Global, components: Declarations) -> ParsedShape
     ensures { spelled_shape result.shape result.instance_of result.components
         ≡ spelled.Structure ∷ map spelled.Declares components }
 {
@@ -352,14 +352,14 @@ fn no_shape(alloc: Global) -> ParsedShape
 }
 
 /// The shape of what was opened.
-fn shape_of(alloc: Global, opened: Opened) -> ParsedShape
+fn shape_of(alloc: Global, opened: ShapeOrBody) -> ParsedShape
     ensures { spelled_shape result.shape result.instance_of result.components
-        ≡ spelled_opened opened }
+        ≡ spelled_shape_or_body opened }
 {
     match opened {
-        Opened::Body => no_shape(alloc),
-        Opened::Structure { components } => structured(alloc, components),
-        Opened::Based { name } => based(alloc, name),
+        ShapeOrBody::Body => no_shape(alloc),
+        ShapeOrBody::Structure { components } => structure_shape(alloc, components),
+        ShapeOrBody::Based { name } => based_shape(alloc, name),
     }
 }
 
@@ -371,11 +371,11 @@ fn opened_shape<'a>(
     kind: BlockKind,
     opening: Clause,
     tokens: &'a [Token],
-) -> Result<(Opened, &'a [Token]), SourceFault>
+) -> Result<(ShapeOrBody, &'a [Token]), SourceFault>
     requires opens { opens_shape opening ≡ true }
     requires few { length tokens.now ≤ source_limit }
     ensures read { IfOk result (λ r. ReadsShape source.now kind opening tokens.now
-        (spelled_opened r.0) r.1.now) }
+        (spelled_shape_or_body r.0) r.1.now) }
     ensures broken { IfErr result
         (IsBrokenBehind source.now (opened_place kind opening) tokens.now last) }
 {
@@ -383,9 +383,9 @@ fn opened_shape<'a>(
         Clause::Structure => {
             let first = ClausePlace::Shape { kind, level: 0 };
             let (components, behind) = declarations(alloc, source, last, first, tokens)?;
-            Ok((Opened::Structure { components }, behind))
+            Ok((ShapeOrBody::Structure { components }, behind))
         }
-        Clause::Based { name } => Ok((Opened::Based { name }, tokens)),
+        Clause::Based { name } => Ok((ShapeOrBody::Based { name }, tokens)),
         _ => unreachable!(),
     }
 }
@@ -393,7 +393,7 @@ fn opened_shape<'a>(
 /// What stands behind the sections of a block.
 #[derive(Drop)]
 struct Content {
-    opened: Opened,
+    opened: ShapeOrBody,
     settings: Sequence<Setting>,
     body: Sequence<Statement>,
     end_line: u32,
@@ -413,7 +413,7 @@ fn code_content<'a>(
 {
     let (body, end_line, rest) = body(alloc, source, last, kind, tokens)?;
     let content = Content {
-        opened: Opened::Body,
+        opened: ShapeOrBody::Body,
         settings: Sequence::from_vec(Vec::new(alloc)),
         body,
         end_line,
@@ -480,7 +480,12 @@ struct HeadClause {
 }
 
 /// The block with this head, these sections and this content.
-fn assembled(alloc: Global, head: HeadClause, parts: Sequence<Part>, content: Content) -> Block
+fn assembled_block(
+    alloc: Global,
+    head: HeadClause,
+    parts: Sequence<Part>,
+    content: Content,
+) -> Block
     ensures head { spelled_block result
         ≡ spelled.Head head.line head.kind head.name head.result ∷ spelled_behind_head result }
     ensures behind { spelled_behind_head result
@@ -521,7 +526,7 @@ fn block<'a>(
     let kind = head.kind;
     let (parts, opening, rest) = sections(alloc, source, last, kind, tokens)?;
     let (content, rest) = opened_content(alloc, source, last, kind, opening, rest)?;
-    Ok((assembled(alloc, head, parts, content), rest))
+    Ok((assembled_block(alloc, head, parts, content), rest))
 }
 
 /// The blocks of a source.

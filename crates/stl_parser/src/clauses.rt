@@ -24,7 +24,7 @@ ghost use Rattle.stl_parser.specs.Clauses.{
 };
 
 use crate::declarations::{declaration, structure};
-use crate::heads::{based, behind_note, head, head_word_clause, skip_semicolon};
+use crate::heads::{base_block, behind_note, head, head_word_clause, skip_semicolon};
 use crate::keywords::is_mark;
 use crate::lookups::{head_word_of, keyword_of};
 use crate::parsed::Parsed;
@@ -338,7 +338,7 @@ fn other_clause<'a>(
     if !in_data_head(at) {
         return plain_clause(alloc, source, at, line, tokens);
     }
-    if let Some(found) = based(alloc, source, tokens)? {
+    if let Some(found) = base_block(alloc, source, tokens)? {
         return Ok(Some(found));
     }
     plain_clause(alloc, source, at, line, tokens)

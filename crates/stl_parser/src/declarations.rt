@@ -81,7 +81,7 @@ fn after_struct<'a>(source: &[u8], tokens: &'a [Token]) -> Option<&'a [Token]>
 }
 
 /// A declaration with this type and these initial values.
-fn declared(
+fn declaration_from_parts(
     alloc: Global,
     source: &[u8],
     level: u32,
@@ -123,7 +123,7 @@ pub(crate) fn structure<'a>(
         return Ok(None);
     };
     let none = Sequence::from_vec(Vec::new(alloc));
-    let declaration = declared(
+    let declaration = declaration_from_parts(
         alloc,
         source,
         level,
@@ -179,6 +179,6 @@ pub(crate) fn declaration(
     let Some(init) = init_behind(alloc, source, arrays.as_slice(), &of, rest)? else {
         return Ok(None);
     };
-    let declaration = declared(alloc, source, level, &word, arrays, of, init)?;
+    let declaration = declaration_from_parts(alloc, source, level, &word, arrays, of, init)?;
     Ok(Some(declaration))
 }

@@ -36,8 +36,8 @@ fn may_have(kind: BlockKind, part: PartKind) -> bool
     ensures { result ≡ blocks.may_have_section kind part }
 {
     match kind {
-        BlockKind::Ob => part_rank(part) == 4,
-        BlockKind::Fc => part_rank(part) != 3,
+        BlockKind::Ob => part_rank(part) == part_rank(PartKind::Temp),
+        BlockKind::Fc => part_rank(part) != part_rank(PartKind::Static),
         BlockKind::Fb => true,
         _ => false,
     }
@@ -142,7 +142,7 @@ fn shape_behind(kind: BlockKind, level: u32) -> Option<ClausePlace>
     }
 }
 
-/// What may stand in the head of a block.
+/// The place behind a clause in the head of a block, or none where it may not stand there.
 #[tactic(auto, unfolding(crate::specs::Frame::next_place_in_head))]
 fn follow_head(kind: BlockKind, clause: &Clause) -> Option<ClausePlace>
     ensures { result ≡ frame.next_place_in_head kind clause.now }
@@ -179,7 +179,7 @@ fn follow_head(kind: BlockKind, clause: &Clause) -> Option<ClausePlace>
             }
         }
         Clause::Based { name: _ } => {
-            if kind.order() == 3 {
+            if kind.order() == BlockKind::Db.order() {
                 Some(ClausePlace::Shaped { kind })
             } else {
                 None
@@ -189,7 +189,7 @@ fn follow_head(kind: BlockKind, clause: &Clause) -> Option<ClausePlace>
     }
 }
 
-/// What may stand in a section.
+/// The place behind a clause in a section, or none where it may not stand there.
 #[tactic(auto, unfolding(crate::specs::Frame::next_place_in_section))]
 fn follow_section(
     kind: BlockKind,
@@ -221,7 +221,7 @@ fn follow_section(
     }
 }
 
-/// What may stand behind a section: a later section, or the body.
+/// The place behind a clause that follows a section: a later section, or the body.
 #[tactic(auto, unfolding(crate::specs::Frame::next_place_between))]
 fn follow_between(kind: BlockKind, last: PartKind, clause: &Clause) -> Option<ClausePlace>
     ensures { result ≡ frame.next_place_between kind last clause.now }
@@ -246,7 +246,8 @@ fn follow_between(kind: BlockKind, last: PartKind, clause: &Clause) -> Option<Cl
     }
 }
 
-/// What may stand in the structure of a data block or of a `TYPE` block.
+/// The place behind a clause in the structure of a data block or of a `TYPE` block, or none where
+/// it may not stand there.
 #[tactic(auto, unfolding(crate::specs::Frame::next_place_in_shape))]
 fn follow_shape(kind: BlockKind, level: u32, clause: &Clause) -> Option<ClausePlace>
     requires { level < 4294967295 }
@@ -266,7 +267,8 @@ fn follow_shape(kind: BlockKind, level: u32, clause: &Clause) -> Option<ClausePl
     }
 }
 
-/// What may stand behind it: the settings of a data block, or the end of a `TYPE` block.
+/// The place behind a clause that follows the structure of a data block or of a `TYPE` block, or
+/// what a data block is based on: the settings of a data block, or the end of a `TYPE` block.
 #[tactic(auto, unfolding(crate::specs::Frame::next_place_behind_shape))]
 fn follow_shaped(kind: BlockKind, clause: &Clause) -> Option<ClausePlace>
     ensures { result ≡ frame.next_place_behind_shape kind clause.now }
@@ -287,7 +289,7 @@ fn follow_shaped(kind: BlockKind, clause: &Clause) -> Option<ClausePlace>
     }
 }
 
-/// What may stand in a body.
+/// The place behind a clause in a body, or none where it may not stand there.
 #[tactic(auto, unfolding(crate::specs::Frame::next_place_in_body))]
 fn follow_body(kind: BlockKind, clause: &Clause) -> Option<ClausePlace>
     ensures { result ≡ frame.next_place_in_body kind clause.now }
@@ -310,7 +312,8 @@ fn follow_body(kind: BlockKind, clause: &Clause) -> Option<ClausePlace>
     }
 }
 
-/// What may stand in the BEGIN part of a data block.
+/// The place behind a clause in the BEGIN part of a data block, or none where it may not stand
+/// there.
 #[tactic(auto, unfolding(crate::specs::Frame::next_place_in_settings))]
 fn follow_settings(clause: &Clause) -> Option<ClausePlace>
     ensures { result ≡ frame.next_place_in_settings clause.now }
@@ -325,7 +328,7 @@ fn follow_settings(clause: &Clause) -> Option<ClausePlace>
     }
 }
 
-/// What may stand between blocks.
+/// The place behind a clause between blocks, or none where it may not stand there.
 #[tactic(auto, unfolding(crate::specs::Frame::next_place_outside))]
 fn follow_outside(clause: &Clause) -> Option<ClausePlace>
     ensures { result ≡ frame.next_place_outside clause.now }

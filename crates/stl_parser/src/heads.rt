@@ -72,7 +72,7 @@ fn is_of_kind(kind: BlockKind, name: &BlockName) -> bool
 
 /// The name of a block of this kind, and what follows.
 #[tactic(auto, unfolding(crate::specs::Clauses::block_of_kind_at))]
-fn named<'a>(
+fn block_of_kind<'a>(
     alloc: Global,
     source: &[u8],
     kind: BlockKind,
@@ -141,7 +141,7 @@ pub(crate) fn head<'a>(
 ) -> Result<Option<ReadClause<'a>>, AllocError>
     ensures { IfOk result (λ found. found ≡ head_clause source.now line kind tokens.now) }
 {
-    let Some(Parsed(name, rest)) = named(alloc, source, kind, tokens)? else {
+    let Some(Parsed(name, rest)) = block_of_kind(alloc, source, kind, tokens)? else {
         return Ok(None);
     };
     let Some(Parsed(result, rest)) = result_of(source, kind, rest) else {
@@ -228,7 +228,7 @@ fn is_base(name: &BlockName) -> bool
 
 /// What a data block is based on.
 #[tactic(auto, unfolding(crate::specs::Clauses::base_block_at))]
-pub(crate) fn based<'a>(
+pub(crate) fn base_block<'a>(
     alloc: Global,
     source: &[u8],
     tokens: &'a [Token],

@@ -13,11 +13,17 @@ pub enum ClauseWord {
     Struct,
     Void,
     DateAndTime,
+    /// `AR1`, the first address register.
     Ar1,
+    /// `AR2`, the second address register.
     Ar2,
+    /// `B`, before a pointer to a byte.
     B,
+    /// `W`, before a pointer to a word.
     W,
+    /// `D`, before a pointer to a double word.
     D,
+    /// `MCR`, behind the `)` that ends a zone of the master control relay.
     Mcr,
 }
 

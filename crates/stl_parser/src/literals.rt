@@ -15,16 +15,16 @@ ghost use Rattle.stl_parser.specs.Literals.{
 };
 
 use crate::keywords::{ClauseWord, is_key, is_mark};
-use crate::numbers::{number, signed};
+use crate::numbers::{number, signed_number};
 use crate::parsed::Parsed;
-use crate::values::{based, duration, long_or_count};
+use crate::values::{based_value, duration, long_or_count};
 use arrayvec::ArrayVec;
 use stl_ast::{Characters, Literal};
 use stl_lexer::{Mark, Token, TokenKind};
 
 /// A token without its first and its last byte.
 #[tactic(auto, unfolding(crate::specs::Literals::text_between_quotes))]
-pub(crate) fn unquoted(text: &[u8]) -> &[u8]
+pub(crate) fn text_between_quotes(text: &[u8]) -> &[u8]
     ensures { result.now ≡ text_between_quotes text.now }
 {
     let end = text.len().saturating_sub(1);
@@ -81,10 +81,10 @@ fn literal_token(source: &[u8], token: &Token) -> Option<Literal>
             Some(Literal::Number { value })
         }
         TokenKind::Characters => {
-            let bytes = characters(unquoted(token.text(source)))?;
+            let bytes = characters(text_between_quotes(token.text(source)))?;
             Some(Literal::Characters { bytes })
         }
-        TokenKind::Based => based(token.text(source)),
+        TokenKind::Based => based_value(token.text(source)),
         TokenKind::NumberLiteral => long_or_count(token.text(source)),
         TokenKind::TimeLiteral => duration(token.text(source)),
         _ => None,
@@ -175,7 +175,7 @@ fn long_literal<'a>(source: &[u8], token: &Token, rest: &'a [Token]) -> Option<P
     if is_mark(source, token, Mark::Bytes) {
         bytes_at(source, rest)
     } else {
-        let Parsed(value, rest) = signed(source, token, rest)?;
+        let Parsed(value, rest) = signed_number(source, token, rest)?;
         Some(Parsed(Literal::Number { value }, rest))
     }
 }

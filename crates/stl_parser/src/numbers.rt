@@ -47,7 +47,7 @@ pub(crate) fn number(source: &[u8], token: &Token) -> Option<u16>
 
 /// A number behind its sign, and what follows.
 #[tactic(auto, unfolding(crate::specs::Numbers::signed_number_at))]
-pub(crate) fn signed<'a>(
+pub(crate) fn signed_number<'a>(
     source: &[u8],
     sign: &Token,
     tokens: &'a [Token],
@@ -78,6 +78,6 @@ pub(crate) fn int<'a>(source: &[u8], tokens: &'a [Token]) -> Option<Parsed<'a, i
     };
     match number(source, token) {
         Some(number) => Some(Parsed(i32::from(number), rest)),
-        None => signed(source, token, rest),
+        None => signed_number(source, token, rest),
     }
 }

@@ -30,7 +30,7 @@ ghost use Rattle.stl_lexer.specs.Tokens.{text_of};
 
 use crate::addresses::{address, bit, is_address_word};
 use crate::keywords::{ClauseWord, has_kind, is_key, is_mark};
-use crate::literals::{literal, unquoted};
+use crate::literals::{literal, text_between_quotes};
 use crate::lookups::{address_of, flag_of, register_of};
 use crate::numbers::number;
 use crate::parsed::ParsedNumbered;
@@ -380,7 +380,7 @@ fn quoted_operand(
 ) -> Result<Option<Operand>, AllocError>
     ensures { IfOk result (λ found. found ≡ quoted_operand source.now token.now rest.now) }
 {
-    let name = Name::new(alloc, unquoted(token.text(source)))?;
+    let name = Name::new(alloc, text_between_quotes(token.text(source)))?;
     match rest {
         [] => {
             let steps = Sequence::from_vec(Vec::new(alloc));

@@ -26,7 +26,7 @@ pub enum ClausePlace {
         part: PartKind,
         level: u32,
     },
-    /// Behind a declaration section.
+    /// Behind a declaration section, the last one so far.
     Between {
         kind: BlockKind,
         last: PartKind,
@@ -36,7 +36,8 @@ pub enum ClausePlace {
         kind: BlockKind,
         level: u32,
     },
-    /// Behind that structure, or behind the name of the block that a data block is like.
+    /// Behind the structure of a data block or of a `TYPE` block, or behind the name of what a data
+    /// block is based on.
     Shaped {
         kind: BlockKind,
     },

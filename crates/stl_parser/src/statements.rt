@@ -26,7 +26,7 @@ ghost use Rattle.stl_parser.specs.Statements.{
 
 use crate::addresses::block;
 use crate::keywords::{ClauseWord, has_kind, is_key, is_mark};
-use crate::literals::unquoted;
+use crate::literals::text_between_quotes;
 use crate::lookups::{mnemonic_of, opening_mnemonic_of};
 use crate::operands::operand;
 use crate::parameters::actuals;
@@ -39,7 +39,8 @@ use stl_lexer::{Mark, Token, TokenKind};
 /// The most characters that a label may have.
 pub const LABEL_LENGTH: usize = 4;
 
-/// An instruction with its operand; `long` says that a label in it is too long.
+/// An instruction with its operand and its actual parameters, without line and label; `long` says
+/// that a label in it is too long.
 #[derive(Drop)]
 pub struct BareStatement {
     pub code: Mnemonic,
@@ -234,7 +235,7 @@ fn open(
 {
     match tokens {
         [token] if has_kind(token, TokenKind::Quoted) => {
-            let name = Name::new(alloc, unquoted(token.text(source)))?;
+            let name = Name::new(alloc, text_between_quotes(token.text(source)))?;
             let operand = Operand::OpenBlock {
                 di: false,
                 name: BlockName::Quoted { name },
@@ -319,7 +320,7 @@ fn zone_end(
 
 /// An instruction whose word is one token.
 #[tactic(auto, unfolding(crate::specs::Statements::one_token_instruction))]
-fn closed(
+fn one_token_instruction(
     alloc: Global,
     source: &[u8],
     token: &Token,
@@ -351,7 +352,7 @@ fn whole_instruction(
     if let Some(end) = zone_end(alloc, source, token, rest)? {
         return Ok(Some(end));
     }
-    closed(alloc, source, token, rest)
+    one_token_instruction(alloc, source, token, rest)
 }
 
 /// The statement of an instruction.
@@ -375,7 +376,7 @@ fn statement_with(line: u32, label: Option<Name>, instruction: BareStatement) ->
 
 /// A statement with a label, behind the `:`, and whether a label in it is too long.
 #[tactic(auto, unfolding(crate::specs::Statements::labelled_statement))]
-fn labelled(
+fn labelled_statement(
     alloc: Global,
     source: &[u8],
     line: u32,
@@ -395,7 +396,7 @@ fn labelled(
 
 /// A statement without a label, and whether a label in it is too long.
 #[tactic(auto, unfolding(crate::specs::Statements::unlabelled_statement))]
-fn unlabelled(
+fn unlabelled_statement(
     alloc: Global,
     source: &[u8],
     line: u32,
@@ -427,8 +428,8 @@ pub(crate) fn statement(
         }
         [word, colon, rest @ ..]
             if has_kind(word, TokenKind::Word) && is_mark(source, colon, Mark::Colon) => {
-            labelled(alloc, source, line, word, rest)
+            labelled_statement(alloc, source, line, word, rest)
         }
-        _ => unlabelled(alloc, source, line, tokens),
+        _ => unlabelled_statement(alloc, source, line, tokens),
     }
 }

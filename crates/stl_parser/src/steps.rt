@@ -15,7 +15,7 @@ use stl_lexer::Token;
 pub const NO_CLAUSE: u16 = 10;
 
 /// Rule 11: a clause stands where its kind may not follow.
-pub const MISPLACED: u16 = 11;
+pub const MISPLACED_CLAUSE: u16 = 11;
 
 /// Rule 12: a label is longer than four characters.
 pub const LONG_LABEL: u16 = 12;
@@ -24,7 +24,7 @@ pub const LONG_LABEL: u16 = 12;
 pub const OPEN_BLOCK: u16 = 13;
 
 /// The refusal by a rule that is broken at a line.
-fn refused(line: u32, rule: u16) -> SourceFault
+fn refusal_at(line: u32, rule: u16) -> SourceFault
     ensures { result ≡ fault.Refused (record { line = line; rule = rule }) }
 {
     SourceFault::Refused {
@@ -38,7 +38,7 @@ fn place_behind(at: ClausePlace, clause: &Clause, is_long: bool) -> Result<Claus
     ensures value { result ≡ place_or_rule is_long (next_place at clause.now) }
 {
     match follow(at, clause) {
-        None => Err(MISPLACED),
+        None => Err(MISPLACED_CLAUSE),
         Some(_) if is_long => Err(LONG_LABEL),
         Some(next) => Ok(next),
     }
@@ -64,13 +64,13 @@ pub(crate) fn next_clause<'a>(
     ensures broken { IfErr result (IsBrokenAt source.now at tokens.now last) }
 {
     let [first, ..] = tokens else {
-        return Err(refused(last, OPEN_BLOCK));
+        return Err(refusal_at(last, OPEN_BLOCK));
     };
     let Some(ReadClause(clause, rest, is_long)) = clause_at(alloc, source, at, tokens)? else {
-        return Err(refused(first.line, NO_CLAUSE));
+        return Err(refusal_at(first.line, NO_CLAUSE));
     };
     match place_behind(at, &clause, is_long) {
         Ok(next) => Ok((clause, rest, next)),
-        Err(rule) => Err(refused(first.line, rule)),
+        Err(rule) => Err(refusal_at(first.line, rule)),
     }
 }

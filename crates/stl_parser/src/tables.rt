@@ -4,42 +4,58 @@ use stl_ast::{Letters, Mnemonic, PartKind, Simple};
 /// What the letters of an address name.
 #[derive(Clone, Copy)]
 pub enum AddressKind {
+    /// An area, and how wide what is addressed in it is.
     Area { letters: Letters, width: Width },
     Timer,
     Counter,
+    /// A data block, for the DI register where `di` is true, and else for the DB register.
     Block { di: bool },
 }
 
 /// A keyword that begins a clause wherever it stands at the start of one.
 #[derive(Clone, Copy)]
 pub enum Keyword {
+    /// The word that opens a block.
     Opens { kind: BlockKind },
+    /// The word that ends a block.
     Ends { kind: BlockKind },
+    /// `VAR..`.
     Section { kind: PartKind },
+    /// `END_VAR`.
     EndSection,
+    /// `BEGIN`.
     Begin,
+    /// `NETWORK`.
     Network,
+    /// `STRUCT`.
     Structure,
+    /// `END_STRUCT`.
     EndStructure,
 }
 
-/// A word that describes a block in its head: `VERSION : n.n`, one with a word behind its colon, or
-/// one that stands alone.
+/// A word that describes a block in its head.
 #[derive(Clone, Copy)]
 pub enum HeadWord {
+    /// `VERSION`, with a number behind its colon.
     Version,
+    /// `AUTHOR`, `FAMILY` or `NAME`, with a word behind its colon.
     Named,
+    /// `KNOW_HOW_PROTECT` or `CODE_VERSION1`, which stand alone.
     Alone,
 }
 
-/// What may stand behind an instruction word: an operand or nothing; a label, behind a jump; a data
-/// block, behind OPN; one block, behind UC and CC; a block with its actual parameters, behind CALL.
+/// What may stand behind an instruction word.
 #[derive(Clone, Copy)]
 pub enum OperandSyntax {
+    /// An operand or nothing.
     Operand,
+    /// A label, behind a jump.
     Jump,
+    /// A data block, behind OPN.
     Open,
+    /// One block, behind UC and CC.
     BlockCall,
+    /// A block with its actual parameters, behind CALL.
     Call,
 }
 

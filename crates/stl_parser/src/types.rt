@@ -229,7 +229,7 @@ fn counted_end<'a>(
 
 /// `n (value)`, and what follows.
 #[tactic(auto, unfolding(crate::specs::Types::counted_init_at))]
-fn counted<'a>(source: &[u8], tokens: &'a [Token]) -> Option<Parsed<'a, Init>>
+fn counted_init<'a>(source: &[u8], tokens: &'a [Token]) -> Option<Parsed<'a, Init>>
     ensures { result ≡ counted_init_at source.now tokens.now }
 {
     let [token, open, rest @ ..] = tokens else {
@@ -248,7 +248,7 @@ fn counted<'a>(source: &[u8], tokens: &'a [Token]) -> Option<Parsed<'a, Init>>
 fn init<'a>(source: &[u8], tokens: &'a [Token]) -> Option<Parsed<'a, Init>>
     ensures { result ≡ init_at source.now tokens.now }
 {
-    match counted(source, tokens) {
+    match counted_init(source, tokens) {
         Some(found) => Some(found),
         None => {
             let Parsed(value, rest) = literal_at(source, tokens)?;

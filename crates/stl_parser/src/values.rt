@@ -87,7 +87,7 @@ fn based_literal(letter: u8, digits: &[u8]) -> Option<Literal>
 
 /// `2#`, `B#16#`, `W#16#` or `DW#16#` and digits.
 #[tactic(auto, unfolding(crate::specs::Values::based_value))]
-pub(crate) fn based(text: &[u8]) -> Option<Literal>
+pub(crate) fn based_value(text: &[u8]) -> Option<Literal>
     ensures { result ≡ based_value text.now }
 {
     based_literal(first_letter(text), behind_prefix(text))
@@ -102,7 +102,7 @@ fn positive(number: u32) -> i32
 }
 
 /// A number behind a `-`.
-fn negated(number: u32) -> i32
+fn negated_number(number: u32) -> i32
     requires { number ≤ 2 ^ 31 }
     ensures { result ≡ pos 0 -ℤ pos number }
 {
@@ -118,7 +118,7 @@ fn long(text: &[u8]) -> Option<i32>
         [] => None,
         [b'-', digits @ ..] => {
             let number = decimal_up_to(digits, GREATEST_NEGATED_LONG)?;
-            Some(negated(number))
+            Some(negated_number(number))
         }
         [b'+', digits @ ..] => {
             let number = decimal_up_to(digits, GREATEST_LONG)?;
@@ -156,7 +156,7 @@ fn time(text: &[u8]) -> Option<i32>
         [] => None,
         [b'-', parts @ ..] => {
             let ms = milliseconds_within(GREATEST_NEGATED_LONG, parts)?;
-            Some(negated(ms))
+            Some(negated_number(ms))
         }
         [_, ..] => {
             let ms = milliseconds_within(GREATEST_LONG, text)?;

@@ -16,13 +16,14 @@ use Rattle.stl_print.specs.Words.{end_word, head_word, result_word, section_word
 use Rattle.stl_print.specs.declared.gaps.Gap.{Gap}
 use Rattle.stl_print.specs.declared.gaps.Gap.TheVariants as gap
 
--- the type of a function's return value, behind the name; nothing for other blocks
+-- the tokens of the type of a function's return value, behind the name; none for other blocks
 unfoldable pub result_pieces : BlockKind → Option Simple → List Piece
 result_pieces kinds.Fc result =
     mark_piece gap.Blank mark_of.Colon ∷ word_piece gap.Blank (result_word result) ∷ []
 result_pieces _ result = []
 
--- a clause; attributes, titles and what a head notes are in no tree
+-- the tokens of a clause, the first behind a gap; attributes, titles and what a head notes are in
+-- no tree
 unfoldable pub clause_pieces : Gap → Clause → List Piece
 clause_pieces g (clause.Head line k name result) =
     word_piece g (head_word k) ∷ (block_name_pieces gap.Blank name ++ result_pieces k result)
@@ -52,7 +53,7 @@ line_of (clause.Sets s) = s.line
 line_of (clause.Runs s) = s.line
 line_of _ = 0
 
--- clauses one behind the other, each on its line, where the text has reached a line
+-- the tokens of clauses one behind the other, each on its line, where the text has reached a line
 abbrev pub pieces_from : (reached : ℕ) → List Clause → List Piece
 pieces_from reached [] = []
 pieces_from reached (c ∷ cs) =

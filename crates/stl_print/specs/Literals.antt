@@ -28,8 +28,8 @@ abbrev pub listed_bytes : List ℕ → List Piece
 listed_bytes [] = mark_piece gap.Nothing mark_of.CloseParen ∷ []
 listed_bytes (b ∷ bytes) = number_piece gap.Nothing b ∷ further_bytes bytes
 
--- a constant: decimal with its sign; binary with 32 digits; hexadecimal with two, four or eight
--- digits, in upper case; times in milliseconds
+-- the tokens of a constant: decimal with its sign; binary with 32 digits; hexadecimal with two,
+-- four or eight digits, in upper case; times in milliseconds
 unfoldable pub literal_pieces : Gap → Literal → List Piece
 literal_pieces g (literal.Truth value) = word_piece g (truth_word value) ∷ []
 literal_pieces g (literal.Number value) = signed_number_pieces g value

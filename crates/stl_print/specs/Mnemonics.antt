@@ -14,9 +14,9 @@ use Rattle.stl_print.specs.declared.gaps.Gap.TheVariants as gap
 
 -- how an instruction word is written
 pub data Spelling : Type 0 where
-  -- as one token
+  -- as one token, of a kind and with these bytes
   one : TokenKind → List ℕ → Spelling
-  -- as two, with nothing between them
+  -- as two tokens, each of a kind and with its bytes, and nothing between them
   two : TokenKind → List ℕ → TokenKind → List ℕ → Spelling
 
 -- an instruction word that is one word
@@ -31,11 +31,11 @@ sign_word_spelling text = one kind.SignWord text
 abbrev pub mark_spelling : Mark → Spelling
 mark_spelling m = one kind.Mark (mark_text m)
 
--- a word and the `(` of a bracket or of a zone
+-- an instruction word that is a word and the `(` of a bracket or of a zone
 abbrev pub opening_spelling : List ℕ → Spelling
 opening_spelling text = two kind.Word text kind.Mark (mark_text mark_of.OpenParen)
 
--- the `)` of a zone and its word
+-- the instruction word `)MCR`, which ends a zone of the master control relay
 abbrev pub zone_end_spelling : Spelling
 zone_end_spelling = two kind.Mark (mark_text mark_of.CloseParen) kind.Word (codes "MCR")
 

@@ -7,8 +7,11 @@ use plc_base::NoMemory;
 /// What stands before a token.
 #[derive(Clone, Copy)]
 pub enum Gap {
+    /// Nothing: the token stands directly behind the one before it.
     Nothing,
+    /// One blank.
     Blank,
+    /// So many ends of lines.
     LineEnds { count: u32 },
 }
 
@@ -51,7 +54,7 @@ pub(crate) fn clause_gap(reached: u32, line: u32) -> Gap
     }
 }
 
-/// The line that the text has reached behind that clause.
+/// The line that the text has reached behind a clause that is to stand on `line`.
 #[tactic(auto, unfolding(crate::specs::Gaps::line_behind))]
 pub(crate) fn line_behind(reached: u32, line: u32) -> u32
     ensures { result ≡ line_behind reached line }

@@ -159,11 +159,11 @@ record IsLineSymbol (P : ℕ → Type 0) (s : Symbol) : Type 0 where
   right : IsSymbol s
   bytes : AllByRecursion P s.name
 
-taken : {A : Type 0} (P : A → Type 0) (n : ℕ) (xs : List A) → AllByRecursion P xs
+all_of_take : {A : Type 0} (P : A → Type 0) (n : ℕ) (xs : List A) → AllByRecursion P xs
     → AllByRecursion P (take n xs)
-taken P zero xs h = tt
-taken P (suc n) [] h = tt
-taken P (suc n) (x ∷ xs) h = (h.0, taken P n xs h.1)
+all_of_take P zero xs h = tt
+all_of_take P (suc n) [] h = tt
+all_of_take P (suc n) (x ∷ xs) h = (h.0, all_of_take P n xs h.1)
 
 symbol_named_by : (P : ℕ → Type 0) (field : List ℕ) (o : Option Symbol)
     → is_name (without_last_blanks field) ≡ true → AllByRecursion P field
@@ -176,7 +176,7 @@ symbol_named_by P field (Some s) named bytes at =
     let same = sym at.0 in
     let sizes = and_parts (leb 1 (length name)) (leb (length name) 24) named in
     let some = leb-true 1 (length name) sizes.0 in
-    let all : AllByRecursion P name = taken P (length field - suffix_len is_blank field) field bytes in
+    let all : AllByRecursion P name = all_of_take P (length field - suffix_len is_blank field) field bytes in
     record {
       right = record {
         some = subst (λ (z : List ℕ). 1 ≤ length z) same some;
@@ -206,43 +206,43 @@ line_named language P line bytes =
 
 -- ---- the bytes of lines and of their fields
 
-begun : (P : ℕ → Type 0) (b : ℕ) (parts : List (List ℕ)) → P b → AllByRecursion (AllByRecursion P) parts
+all_of_first_part : (P : ℕ → Type 0) (b : ℕ) (parts : List (List ℕ)) → P b → AllByRecursion (AllByRecursion P) parts
     → AllByRecursion (AllByRecursion P) (onto_first b parts)
-begun P b [] h k = ((h, tt), tt)
-begun P b (p ∷ ps) h k = ((h, k.0), k.1)
+all_of_first_part P b [] h k = ((h, tt), tt)
+all_of_first_part P b (p ∷ ps) h k = ((h, k.0), k.1)
 
-parted : (P : ℕ → Type 0) (p : ℕ → Bool) (bytes : List ℕ) → AllByRecursion P bytes
+all_of_split : (P : ℕ → Type 0) (p : ℕ → Bool) (bytes : List ℕ) → AllByRecursion P bytes
     → AllByRecursion (AllByRecursion P) (slice_split p bytes)
-parted P p [] h = (tt, tt)
-parted P p (b ∷ bytes) h = by (p b) (parted P p bytes h.1)
+all_of_split P p [] h = (tt, tt)
+all_of_split P p (b ∷ bytes) h = by (p b) (all_of_split P p bytes h.1)
   where
     by : (t : Bool) → AllByRecursion (AllByRecursion P) (slice_split p bytes)
         → AllByRecursion (AllByRecursion P) (cond t ([] ∷ slice_split p bytes) (onto_first b (slice_split p bytes)))
     by true more = (tt, more)
-    by false more = begun P b (slice_split p bytes) h.0 more
+    by false more = all_of_first_part P b (slice_split p bytes) h.0 more
 
-stripped : (P : ℕ → Type 0) (line : List ℕ) → AllByRecursion P line
+all_of_stripped_line : (P : ℕ → Type 0) (line : List ℕ) → AllByRecursion P line
     → AllByRecursion P (strip_carriage_return line)
-stripped P line h = by (eqb (get_or line (length line - 1) 0) 13)
+all_of_stripped_line P line h = by (eqb (get_or line (length line - 1) 0) 13)
   where
     by : (t : Bool) → AllByRecursion P (cond t (take (length line - 1) line) line)
-    by true = taken P (length line - 1) line h
+    by true = all_of_take P (length line - 1) line h
     by false = h
 
-lined : (P : ℕ → Type 0) (parts : List (List ℕ)) → AllByRecursion (AllByRecursion P) parts
+all_of_lines : (P : ℕ → Type 0) (parts : List (List ℕ)) → AllByRecursion (AllByRecursion P) parts
     → AllByRecursion (AllByRecursion P) (lines_of_parts parts)
-lined P [] h = tt
-lined P (x ∷ []) h = by (eqb (length x) 0)
+all_of_lines P [] h = tt
+all_of_lines P (x ∷ []) h = by (eqb (length x) 0)
   where
     by : (t : Bool) → AllByRecursion (AllByRecursion P) (cond t [] (x ∷ []))
     by true = tt
     by false = h
-lined P (x ∷ y ∷ more) h = (stripped P x h.0, lined P (y ∷ more) h.1)
+all_of_lines P (x ∷ y ∷ more) h = (all_of_stripped_line P x h.0, all_of_lines P (y ∷ more) h.1)
 
 lines_of : (P : ℕ → Type 0) (bytes : List ℕ) → AllByRecursion P bytes
     → AllByRecursion (AllByRecursion P) (lines bytes)
 lines_of P bytes h =
-    lined P (slice_split (λ b. eqb b 10) bytes) (parted P (λ b. eqb b 10) bytes h)
+    all_of_lines P (slice_split (λ b. eqb b 10) bytes) (all_of_split P (λ b. eqb b 10) bytes h)
 
 fields_next : (P : ℕ → Type 0) (a : Action) (fields : List (List ℕ)) (field : List ℕ)
     → AllByRecursion (AllByRecursion P) fields → AllByRecursion P field

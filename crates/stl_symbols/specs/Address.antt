@@ -53,8 +53,7 @@ address_letters =
     ∷ (codes "SDB", codes "SDB", letters.NoSymbol)
     ∷ []
 
--- what stands beside the first text of a table that is this word
--- the letters as a language spells them
+-- of the English and the German letters of an address those of a language
 abbrev pub letters_in_language : Language → (english german : List ℕ) → List ℕ
 letters_in_language English english german = english
 letters_in_language German english german = german
@@ -65,11 +64,11 @@ unfoldable pub letters_spelled_as : Language → List (List ℕ × List ℕ × A
 letters_spelled_as language table word =
     option_map (λ e. e.2) (find (λ e. bytes_eq word (letters_in_language language e.0 e.1)) table)
 
--- the number of an address, 0 to 65,535
+-- the number in an address, 0 to 65,535, where the text is one
 abbrev pub number_of_address : List ℕ → Option ℕ
 number_of_address text = decimal_up_to 65535 text
 
--- a variable of an area, not of a data block
+-- the address of a variable in an area that is no data block
 abbrev pub variable_address : Area → Width → (byte bit : ℕ) → SymbolAddress
 variable_address area width byte bit =
     Names (Variable (record { area = area; number = 0; byte = byte; bit = bit }) width)
@@ -79,7 +78,7 @@ abbrev pub bit_behind : List ℕ → Option ℕ
 bit_behind [] = None
 bit_behind (point ∷ digits) = decimal_up_to 7 digits
 
--- a bit: the number of its byte, a point, and its own
+-- the address of a bit, by a text with the number of its byte, a point, and its own number
 unfoldable pub bit_address : Area → List ℕ → Option SymbolAddress
 bit_address area text =
     let point = prefix_len (λ b. not (b == 46)) text in
@@ -105,7 +104,7 @@ address_of language text =
     option_and_then (λ l. numbered_address l (drop digits text))
     (letters_spelled_as language address_letters (take digits text))
 
--- the types of a variable, by its width
+-- the names of the types that a variable of a width may have
 unfoldable pub type_names_of_width : Width → List (List ℕ)
 type_names_of_width Bit = codes "BOOL" ∷ []
 type_names_of_width Byte = codes "BYTE" ∷ codes "CHAR" ∷ []

@@ -33,7 +33,7 @@ machine_step (step.Joins next) byte = (state_of next, action.Copy)
 machine_step step.EndsField byte = (state.StartField, action.EndField)
 machine_step step.EndsRecord byte = (after_end terminator.CRLF byte, action.EndRecord)
 
--- a carriage return or a line feed, which ends a record
+-- a byte is a carriage return or a line feed, which ends a record
 abbrev pub is_line_end : ℕ → Bool
 is_line_end byte = byte == 13 || byte == 10
 

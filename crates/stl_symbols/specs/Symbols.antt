@@ -24,6 +24,18 @@ symbols_limit = 1048576
 abbrev pub most_symbols : ℕ
 most_symbols = 65535
 
+-- rule 14: a line that isn't one record of four fields
+abbrev pub no_record_rule : ℕ
+no_record_rule = 14
+
+-- rule 15: a line whose columns are no right declaration, or one symbol too many
+abbrev pub no_declaration_rule : ℕ
+no_declaration_rule = 15
+
+-- rule 16: a symbol whose name is there already
+abbrev pub name_twice_rule : ℕ
+name_twice_rule = 16
+
 -- a field without the blanks at its end
 unfoldable pub without_last_blanks : List ℕ → List ℕ
 without_last_blanks field = take (length field - suffix_len is_blank field) field
@@ -60,21 +72,21 @@ declaration_in_columns language line =
 -- name is there
 unfoldable pub with_symbol : List Symbol → Symbol → Result (List Symbol) ℕ
 with_symbol symbols symbol =
-    if nat_eq (length symbols) most_symbols then Err 15
-    else if is_some (symbol_named symbol.name symbols) then Err 16
+    if nat_eq (length symbols) most_symbols then Err no_declaration_rule
+    else if is_some (symbol_named symbol.name symbols) then Err name_twice_rule
     else Ok (symbols ++ symbol ∷ [])
 
 -- the symbols with what one more line declares, or the rule that it breaks: 15 where the
 -- declaration isn't right
 abbrev pub with_declaration : List Symbol → Option (Option Symbol) → Result (List Symbol) ℕ
-with_declaration symbols None = Err 15
+with_declaration symbols None = Err no_declaration_rule
 with_declaration symbols (Some None) = Ok symbols
 with_declaration symbols (Some (Some symbol)) = with_symbol symbols symbol
 
 -- the symbols with what the columns of a line declare, or the rule that it breaks: 14 where the
 -- line isn't one record of four fields
 abbrev pub with_columns : Language → List Symbol → Option Columns → Result (List Symbol) ℕ
-with_columns language symbols None = Err 14
+with_columns language symbols None = Err no_record_rule
 with_columns language symbols (Some line) =
     with_declaration symbols (declaration_in_columns language line)
 

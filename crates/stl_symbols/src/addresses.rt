@@ -241,7 +241,7 @@ pub static LETTERS: [(&[u8], &[u8], AddressLetters); 29] = [
 ];
 
 /// The letters of an address as a language spells them.
-fn spelled<'a>(language: Language, english: &'a [u8], german: &'a [u8]) -> &'a [u8]
+fn letters_in<'a>(language: Language, english: &'a [u8], german: &'a [u8]) -> &'a [u8]
     ensures { result.now ≡ letters_in_language language english.now german.now }
 {
     match language {
@@ -261,7 +261,7 @@ fn entry_of(
 {
     table
         .iter()
-        .find(|entry| word == spelled(language, entry.0, entry.1))
+        .find(|entry| word == letters_in(language, entry.0, entry.1))
         .map(|entry| entry.2)
 }
 
@@ -343,7 +343,7 @@ fn bit_address(area: Area, text: &[u8]) -> Option<SymbolAddress>
 }
 
 /// The address of letters and what stands behind them.
-fn numbered(letters: AddressLetters, text: &[u8]) -> Option<SymbolAddress>
+fn numbered_address(letters: AddressLetters, text: &[u8]) -> Option<SymbolAddress>
     ensures { result ≡ numbered_address letters text.now }
 {
     let target = match letters {
@@ -393,7 +393,7 @@ pub(crate) fn address_of(language: Language, text: &[u8]) -> Option<SymbolAddres
     ensures { result ≡ address_of language text.now }
 {
     let (letters, number) = text.split_at(letters_len(text));
-    numbered(letters_of(language, letters)?, number)
+    numbered_address(letters_of(language, letters)?, number)
 }
 
 /// Whether a text is one of these.

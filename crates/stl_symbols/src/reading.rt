@@ -34,11 +34,13 @@ pub const SYMBOLS_LIMIT: usize = 1_048_576;
 /// The most symbols of a file.
 const MOST_SYMBOLS: usize = 65_535;
 
-/// Why a line isn't read: what breaks it, as the rules for symbols have it.
+/// Rule 14: a line that isn't one record of four fields.
 const NO_RECORD: u16 = 14;
 
+/// Rule 15: a line whose columns are no right declaration, or one symbol too many.
 const NO_DECLARATION: u16 = 15;
 
+/// Rule 16: a symbol whose name is there already.
 const NAME_TWICE: u16 = 16;
 
 /// How many blanks a field ends with.
@@ -119,7 +121,7 @@ fn declaration_of(language: Language, columns: Columns) -> Option<Option<Symbol>
 }
 
 /// The refusal of a line.
-fn refused(line: u32, rule: u16) -> SourceFault
+fn refusal_at(line: u32, rule: u16) -> SourceFault
     ensures { result ≡ Refused (record { line = line; rule = rule }) }
 {
     SourceFault::Refused {
@@ -139,10 +141,10 @@ fn add_symbol(
     ensures { AddsDeclaration line (with_symbol symbols.old symbol) symbols.new result }
 {
     if symbols.list().len() == MOST_SYMBOLS {
-        return Err(refused(line, NO_DECLARATION));
+        return Err(refusal_at(line, NO_DECLARATION));
     }
     if symbols.lookup(symbol.name.as_slice()).is_some() {
-        return Err(refused(line, NAME_TWICE));
+        return Err(refusal_at(line, NAME_TWICE));
     }
     symbols.add(alloc, symbol)?;
     Ok(())
@@ -163,10 +165,10 @@ fn add_line(
         return Ok(());
     }
     let Some(columns) = read_columns(alloc, text)? else {
-        return Err(refused(line, NO_RECORD));
+        return Err(refusal_at(line, NO_RECORD));
     };
     match declaration_of(language, columns) {
-        None => Err(refused(line, NO_DECLARATION)),
+        None => Err(refusal_at(line, NO_DECLARATION)),
         Some(None) => Ok(()),
         Some(Some(symbol)) => add_symbol(symbols, alloc, line, symbol),
     }

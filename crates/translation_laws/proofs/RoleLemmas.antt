@@ -21,7 +21,7 @@ use Rattle.de_mnemonics.specs.declared.roles.Role.{Role}
 use Rattle.de_mnemonics.specs.declared.roles.Role.TheVariants as role
 use Rattle.de_mnemonics.specs.Places.{place_behind, place_behind_closing, place_behind_first, place_behind_head, place_behind_instruction, place_behind_outside, place_behind_sign, place_behind_start, place_behind_word, class_of, class_of_mark, is_word_in_list, is_behind_instruction, is_component, is_word_in_pairs, is_jump_word, is_numbered_operand, is_operand_place, is_pointer, is_mark_text, opens_path, role_at_start, role_first, role_in, role_of, role_of_word}
 use Rattle.de_mnemonics.specs.Tables.{WordPairs, common_jumps, block_end_words, instruction_pairs, jump_pairs, network_words, operand_pairs, result_pairs, zone_words}
-use Rattle.de_mnemonics.specs.Words.{digits_of_word, exchanged_word, instruction_partner, letter_count_of_word, letters_of_word, numbered_partner, operand_partner, partner_in_table, translated_word}
+use Rattle.de_mnemonics.specs.Words.{digits_of_word, exchanged_word, instruction_partner, letter_count, letters_of_word, numbered_partner, operand_partner, partner_in_table, translated_word}
 use Rattle.de_mnemonics.proofs.CaseLemmas.{same_among, same_text}
 use Rattle.de_mnemonics.proofs.WordLemmas.{letters_end}
 use Rattle.translation_laws.specs.Statements.{is_number_class}
@@ -431,7 +431,7 @@ operand_renumbered x w f all there h is =
     let second = and_parts (is_word_in_pairs operand_pairs h.pair.1) (list_all (λ b. not (is_ascii_digit b)) h.pair.1 && is_some (partner_in_table English operand_pairs h.pair.1)) first.1 in
     let third = and_parts (list_all (λ b. not (is_ascii_digit b)) h.pair.1) (is_some (partner_in_table English operand_pairs h.pair.1)) second.1 in
     let plain : list_all (λ b. not (is_ascii_digit b)) f ≡ true = subst (λ (l : List ℕ). list_all (λ b. not (is_ascii_digit b)) l ≡ true) h.beside third.0 in
-    let end : letter_count_of_word (f ++ digits_of_word x) ≡ length f = letters_end f (digits_of_word x) plain all in
+    let end : letter_count (f ++ digits_of_word x) ≡ length f = letters_end f (digits_of_word x) plain all in
     let front : letters_of_word (f ++ digits_of_word x) ≡ f = ap (λ k. take k (f ++ digits_of_word x)) end ∙ take-append_seam f (digits_of_word x) in
     let rest : digits_of_word (f ++ digits_of_word x) ≡ digits_of_word x = ap (λ k. drop k (f ++ digits_of_word x)) end ∙ drop-append_seam f (digits_of_word x) in
     let word : letters_of_word w ≡ h.pair.1 = ap (λ (l : List ℕ). letters_of_word l) (sym is) ∙ front ∙ sym h.beside in

@@ -12,7 +12,7 @@ use Rattle.stl_lexer.specs.declared.kinds.TokenKind.{TokenKind}
 use Rattle.stl_lexer.specs.declared.kinds.TokenKind.TheVariants.{Word, Number, Quoted, Local, Characters, Based, NumberLiteral, TimeLiteral, Mark, SignWord, Attribute, Title}
 use Rattle.stl_lexer.specs.Bytes.{hash, double_quote, single_quote, open_brace, close_brace, is_line_byte, is_word_byte, is_word_start}
 use Rattle.stl_lexer.specs.Forms.{has_form, is_word, is_number, is_local, is_quoted, is_run, is_closed, is_inner, is_enclosed, behind_sign, continues_word, based_prefixes, long_prefixes, count_prefixes, time_prefixes, s5time_prefixes, sign_words, title_words}
-use Rattle.stl_lexer.specs.Longest.{IsLongestToken, IsLongestOfForm, IsFormAt, HasNoneOfForm, rank_of_kind}
+use Rattle.stl_lexer.specs.Longest.{IsLongestToken, IsLongestOfForm, IsFormAt, HasNoneOfForm, kind_rank}
 use Rattle.stl_lexer.specs.Marks.{marks, mark_text}
 use Rattle.stl_lexer.proofs.FrontLemmas.{attribute_alone, best_found, characters_alone, local_alone, number_alone, quoted_alone}
 use Rattle.stl_lexer.proofs.QuoteLemmas.{not_opened, not_quoted}
@@ -259,7 +259,7 @@ unfolding is_non_joining_word
 quiet_alone w later word stops name quiet k t m at =
     false≢true (sym (not-true (is_word_in_list joining_words w) quiet) ∙ (word_joined k w later m t (rows_word k t) word stops name at).among)
 
-above_word : (k : TokenKind) → is_table k ≡ true → rank_of_kind k ≤ 0 → ⊥
+above_word : (k : TokenKind) → is_table k ≡ true → kind_rank k ≤ 0 → ⊥
 above_word Word t h = false≢true t
 above_word Number t h = false≢true t
 above_word Quoted t h = false≢true t

@@ -11,7 +11,7 @@ use Rattle.stl_lexer.specs.declared.kinds.TokenKind.{TokenKind}
 use Rattle.stl_lexer.specs.declared.kinds.TokenKind.TheVariants.{Word, Number, Quoted, Local, Characters, Based, NumberLiteral, TimeLiteral, Mark, SignWord, Attribute, Title}
 use Rattle.stl_lexer.specs.Bytes.{hash, slash, is_separator, double_quote, single_quote, open_brace, close_brace, is_line_byte, is_sign, is_word_byte, is_word_start}
 use Rattle.stl_lexer.specs.Forms.{has_form, is_word, is_local, is_run, is_closed, is_inner, is_enclosed, behind_sign, continues_word, based_prefixes, long_prefixes, count_prefixes, time_prefixes, s5time_prefixes, sign_words, title_words}
-use Rattle.stl_lexer.specs.Longest.{IsLongestToken, IsFormAt, rank_of_kind}
+use Rattle.stl_lexer.specs.Longest.{IsLongestToken, IsFormAt, kind_rank}
 use Rattle.stl_lexer.specs.Marks.{marks, mark_text}
 use Rattle.stl_lexer.specs.Pieces.{Piece, ArePiecesStanding, text_of_pieces}
 use Rattle.stl_lexer.specs.Tokens.{is_minus}
@@ -467,7 +467,7 @@ start_digit : (b : ℕ) → is_word_start b ≡ true → is_ascii_digit b ≡ tr
 unfolding is_word_start
 start_digit b e d = grind (arith, nat_tests)
 
-table_rank : (k : TokenKind) → is_table k ≡ true → 5 ≤ rank_of_kind k
+table_rank : (k : TokenKind) → is_table k ≡ true → 5 ≤ kind_rank k
 table_rank Word t = absurd (false≢true t)
 table_rank Number t = absurd (false≢true t)
 table_rank Quoted t = absurd (false≢true t)
@@ -575,10 +575,10 @@ over_longest k other x a m l h at = elim (l.longest other m at) [
 ]
 
 abbrev IsShorterOrOutranked : TokenKind → TokenKind → ℕ → ℕ → Type 0
-IsShorterOrOutranked other k m n = (m < n) ⊎ ((m ≡ n) × (rank_of_kind other ≤ rank_of_kind k))
+IsShorterOrOutranked other k m n = (m < n) ⊎ ((m ≡ n) × (kind_rank other ≤ kind_rank k))
 
 -- a kind that stands before those of tables, and is no longer
-low_placed : (k other : TokenKind) (m n : ℕ) → is_table k ≡ true → rank_of_kind other ≤ 5 → (n < m → ⊥) → IsShorterOrOutranked other k m n
+low_placed : (k other : TokenKind) (m n : ℕ) → is_table k ≡ true → kind_rank other ≤ 5 → (n < m → ⊥) → IsShorterOrOutranked other k m n
 low_placed k other m n t low no_longer = elim (cases_lt m n) [
   | inl lt ↦ inl lt
   | inr ge ↦ elim (cases_lt n m) [ inl over ↦ absurd (no_longer over) | inr le ↦ inr (omega (arith, ge, le), omega (arith, low, table_rank k t)) ]

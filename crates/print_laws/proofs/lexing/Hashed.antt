@@ -14,7 +14,7 @@ use Rattle.stl_lexer.specs.declared.kinds.TokenKind.TheVariants.{Word, Number, Q
 use Rattle.stl_lexer.specs.Bytes.{hash, double_quote, single_quote, open_brace, close_brace, is_sign, is_word_byte, is_word_start}
 use Rattle.stl_lexer.specs.Forms as forms
 use Rattle.stl_lexer.specs.Forms.{has_form, begins_with, is_word, is_local, behind_sign, based_prefixes, long_prefixes, count_prefixes, time_prefixes, s5time_prefixes, sign_words, title_words}
-use Rattle.stl_lexer.specs.Longest.{IsFormAt, IsLongestToken, IsLongestOfForm, rank_of_kind}
+use Rattle.stl_lexer.specs.Longest.{IsFormAt, IsLongestToken, IsLongestOfForm, kind_rank}
 use Rattle.stl_lexer.specs.Marks.{marks, mark_text}
 use Rattle.stl_lexer.specs.Pieces.{stops_token}
 use Rattle.stl_lexer.proofs.FrontLemmas.{local_alone}
@@ -27,7 +27,7 @@ use Rattle.print_laws.proofs.lexing.Numerals.{passes_to}
 
 -- the tables of another kind have no entry that a text begins with which begins with known bytes
 abbrev is_apart : TokenKind → List ℕ → TokenKind → Bool
-is_apart k known j = (rank_of_kind j == rank_of_kind k) || all_rows j (never any_byte known)
+is_apart k known j = (kind_rank j == kind_rank k) || all_rows j (never any_byte known)
 
 -- this is so of all kinds but the token's own
 abbrev pub is_alone : TokenKind → List ℕ → Bool
@@ -72,15 +72,15 @@ hash_longest k b known rest n start short alone fits own = record { fits = fits;
   other : (c : ℕ) → is_word_start c ≡ false → b ≡ c → ⊥
   other c e is = false≢true (sym e ∙ ap is_word_start (sym is) ∙ start)
 
-  table : (j : TokenKind) → is_table j ≡ true → is_apart k (b ∷ known) j ≡ true → (m : ℕ) → IsFormAt (has_form j) (b ∷ (known ++ rest)) m → (m < n) ⊎ ((m ≡ n) × (rank_of_kind j ≤ rank_of_kind k))
-  table j t apart m at = elim (or_cases (rank_of_kind j == rank_of_kind k) (all_rows j (never any_byte (b ∷ known))) apart) [
+  table : (j : TokenKind) → is_table j ≡ true → is_apart k (b ∷ known) j ≡ true → (m : ℕ) → IsFormAt (has_form j) (b ∷ (known ++ rest)) m → (m < n) ⊎ ((m ≡ n) × (kind_rank j ≤ kind_rank k))
+  table j t apart m at = elim (or_cases (kind_rank j == kind_rank k) (all_rows j (never any_byte (b ∷ known))) apart) [
     | inl same ↦
-        let rank = eqb-true (rank_of_kind j) (rank_of_kind k) same in
-        at_most m n (rank_of_kind j) (rank_of_kind k) (own m (subst (λ (i : TokenKind). IsFormAt (has_form i) (b ∷ (known ++ rest)) m) (same_rank j k rank) at)) (omega (arith, rank))
+        let rank = eqb-true (kind_rank j) (kind_rank k) same in
+        at_most m n (kind_rank j) (kind_rank k) (own m (subst (λ (i : TokenKind). IsFormAt (has_form i) (b ∷ (known ++ rest)) m) (same_rank j k rank) at)) (omega (arith, rank))
     | inr none ↦ absurd (rows_none j (never any_byte (b ∷ known)) (b ∷ (known ++ rest)) t none (λ entry e f. entry_never any_byte (b ∷ known) entry rest e (all_allowed rest) f) m at)
   ]
 
-  longest : (j : TokenKind) (m : ℕ) → IsFormAt (has_form j) (b ∷ (known ++ rest)) m → (m < n) ⊎ ((m ≡ n) × (rank_of_kind j ≤ rank_of_kind k))
+  longest : (j : TokenKind) (m : ℕ) → IsFormAt (has_form j) (b ∷ (known ++ rest)) m → (m < n) ⊎ ((m ≡ n) × (kind_rank j ≤ kind_rank k))
   longest Word m at = inl (omega (arith, word_within b (known ++ rest) m at, short))
   longest Number m at = absurd (run_none is_ascii_digit is_ascii_digit (b ∷ (known ++ rest)) (λ _. start_no_digit b start) m at)
   longest Quoted m at = absurd (not_quoted (b ∷ (known ++ rest)) (not_opened double_quote double_quote true (b ∷ (known ++ rest)) (λ _. other double_quote refl)) m at)

@@ -14,7 +14,7 @@ use Rattle.stl_lexer.specs.declared.kinds.TokenKind.TheVariants.{Word, Number, Q
 use Rattle.stl_lexer.specs.Bytes.{hash, double_quote, single_quote, open_brace, close_brace, is_word_byte, is_word_start}
 use Rattle.stl_lexer.specs.Forms as forms
 use Rattle.stl_lexer.specs.Forms.{has_form, is_word, is_number, is_local, continues_word, based_prefixes, long_prefixes, count_prefixes, time_prefixes, s5time_prefixes, sign_words, title_words}
-use Rattle.stl_lexer.specs.Longest.{HasNoneOfForm, IsFormAt, IsLongestToken, rank_of_kind}
+use Rattle.stl_lexer.specs.Longest.{HasNoneOfForm, IsFormAt, IsLongestToken, kind_rank}
 use Rattle.stl_lexer.specs.Marks.{marks, mark_text}
 use Rattle.stl_lexer.specs.Pieces.{stops_token}
 use Rattle.stl_lexer.proofs.QuoteLemmas.{not_opened, not_quoted}
@@ -68,15 +68,15 @@ none_words k b s no_ t all m at = rows_none k begins_word (b ∷ s) t all (λ en
 
 -- only marks and sign words begin with such a byte
 pub sign_longest : (k : TokenKind) (b : ℕ) (s : List ℕ) (n : ℕ) → opens_sign b ≡ true → IsFormAt (has_form k) (b ∷ s) n
-    → ((m : ℕ) → IsFormAt (has_form Mark) (b ∷ s) m → (m < n) ⊎ ((m ≡ n) × (8 ≤ rank_of_kind k)))
-    → ((m : ℕ) → IsFormAt (has_form SignWord) (b ∷ s) m → (m < n) ⊎ ((m ≡ n) × (9 ≤ rank_of_kind k)))
+    → ((m : ℕ) → IsFormAt (has_form Mark) (b ∷ s) m → (m < n) ⊎ ((m ≡ n) × (8 ≤ kind_rank k)))
+    → ((m : ℕ) → IsFormAt (has_form SignWord) (b ∷ s) m → (m < n) ⊎ ((m ≡ n) × (9 ≤ kind_rank k)))
     → IsLongestToken (b ∷ s) k n
 unfolding has_form is_word_byte is_word_start based_prefixes long_prefixes count_prefixes time_prefixes s5time_prefixes title_words
 sign_longest k b s n e fits mark sign = record { fits = fits; longest = longest } where
   o : OpensSign b
   o = opens b e
 
-  longest : (other : TokenKind) (m : ℕ) → IsFormAt (has_form other) (b ∷ s) m → (m < n) ⊎ ((m ≡ n) × (rank_of_kind other ≤ rank_of_kind k))
+  longest : (other : TokenKind) (m : ℕ) → IsFormAt (has_form other) (b ∷ s) m → (m < n) ⊎ ((m ≡ n) × (kind_rank other ≤ kind_rank k))
   longest Word m at = absurd (run_none is_word_start is_word_byte (b ∷ s) (λ _. no_start b o.word) m at)
   longest Number m at = absurd (run_none is_ascii_digit is_ascii_digit (b ∷ s) (λ _. no_digit b o.word) m at)
   longest Quoted m at = absurd (not_quoted (b ∷ s) (not_opened double_quote double_quote true (b ∷ s) (λ _. o.quoted)) m at)

@@ -12,5 +12,5 @@ returns-in_err-content-clause-broken c =
 
 pub returns-clause-read : goal.returns-clause-read
 returns-clause-read c =
-    rw c.assembled.ensures.behind (block_read _ _ _ (flat_map spelled_part c.in_ok-parts.parts) c.in_ok-parts.opening _ _ _
+    rw c.assembled_block.ensures.behind (block_read _ _ _ (flat_map spelled_part c.in_ok-parts.parts) c.in_ok-parts.opening _ _ _
     c.in_ok-parts.ensures.read c.in_ok-content.ensures.read)

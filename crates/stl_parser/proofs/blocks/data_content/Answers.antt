@@ -1,7 +1,7 @@
 use Rattle.std.proofs.Common.{map, ◌∙◌}
 use Rattle.std.proofs.lemmas.Result.{err_from_is_err_and}
 use Rattle.stl_parser.specs.declared.clauses.Clause.TheVariants as clause
-use Rattle.stl_parser.specs.BlockReading.{spelled_opened}
+use Rattle.stl_parser.specs.BlockReading.{spelled_shape_or_body}
 use Rattle.stl_parser.proofs.BlockLemmas.{shape_read}
 use Rattle.stl_parser.proofs.SourceLemmas.{broken_behind}
 use Rattle.stl_parser.proofs.blocks.data_content.Goals as goal
@@ -13,5 +13,5 @@ returns-in_err-settings-clause-broken c =
 
 pub returns-clause-read : goal.returns-clause-read
 returns-clause-read c =
-    shape_read _ _ _ _ (spelled_opened c.in_ok-opened.opened) _ (map clause.Sets c.in_ok-settings.settings) c.in_ok-settings.end_line
+    shape_read _ _ _ _ (spelled_shape_or_body c.in_ok-opened.opened) _ (map clause.Sets c.in_ok-settings.settings) c.in_ok-settings.end_line
     c.from_vec.result _ c.requires.opens c.in_ok-opened.ensures.read c.in_ok-settings.ensures.read (c.from_vec.ensures ∙ c.new.ensures.items)
