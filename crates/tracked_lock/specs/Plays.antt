@@ -60,8 +60,8 @@ module _ {T O E : Type 0} where
   abbrev pub Releases : Me (Option T) (View O E) → Me (Option T) (View O E) → Type 0
   Releases m n = n ≡ (without_turn m.0, rest m.1)
 
-  -- the value has left the slot of a seat that took the turn; the seat knows the list that it stands
-  -- for
+  -- the value has left the slot of a seat that took the turn; the seat knows the list that it
+  -- stands for
   abbrev pub TookOut :
       (T → O) → (T → List E) → (E → ℕ) → Me (Option T) (View O E) → Me (Option T) (View O E) → T
       → Type 0
@@ -87,8 +87,8 @@ module _ {T O E : Type 0} where
       (x : T) × (m.1 ≡ (0, Some x) ∷ []) × (origin_of x ∷ [] ≡ m.0.origin) × (story_of x ≡ m.0.seen)
 
 module _ {O E : Type 0} where
-  -- two seats can be joined: under the numbers of each stand the entries that it has seen, the other
-  -- is without the turn, and the first has a number and no list to look at
+  -- two seats can be joined: under the numbers of each stand the entries that it has seen, the
+  -- other is without the turn, and the first has a number and no list to look at
   abbrev pub CanJoin : (E → ℕ) → (mine other : View O E) → Type 0
   CanJoin maker_of mine other =
       (other.turn ≡ false) × (mine.other ≡ []) × (0 < length mine.made)
