@@ -13,7 +13,7 @@ use Rattle.clap.specs.Simple.{Shape, built, entered}
 use Rattle.clap.specs.Walk.{Row, Rule, Text, Waiting, Walk, finished, idle, is_empty, option, positional, settled, settled_rows, walked}
 use Rattle.clap.specs.declared.builder.value_parser.ValueParser.TheVariants as parser
 use Rattle.s7_cli.specs.Command.{Command, Watch}
-use Rattle.s7_cli.specs.Words.{the_line, asked_by, command_of, is_plain_word, plain_command, live_command, stepped_command, watch_command, short_command, number_from_one_up_to, ReadsGermanAnywhere, ReadsPlainWords, ReadsStepsAnywhere, ReadsSymbolsAnywhere, ReadsWordsBehindDashes, RefusesNoValue}
+use Rattle.s7_cli.specs.Words.{the_line, command_of_rows, command_of, is_plain_word, plain_command, live_command, stepped_command, watch_command, short_command, number_from_one_up_to, ReadsGermanAnywhere, ReadsPlainWords, ReadsStepsAnywhere, ReadsSymbolsAnywhere, ReadsWordsBehindDashes, RefusesNoValue}
 
 -- ---- one word
 
@@ -214,12 +214,12 @@ no_end_fault behind (Some german) command file files few = rw (no_fault-files be
 
 -- from a place of the walk on
 abbrev asked_from : Walk → List Text → Option Command
-asked_from w words = if is_empty (fault_from w words) then asked_by (finished the_rules (walk_on w words).held) else None
+asked_from w words = if is_empty (fault_from w words) then command_of_rows (finished the_rules (walk_on w words).held) else None
 
 -- the same, where a fault counts only if the files are few: no command has more
 abbrev asked_if : Bool → Walk → List Text → Option Command
 asked_if true w words = asked_from w words
-asked_if false w words = asked_by (finished the_rules (walk_on w words).held)
+asked_if false w words = command_of_rows (finished the_rules (walk_on w words).held)
 
 -- a word with nothing wrong
 asked_from-next : (w next : Walk) (word : Text) (words : List Text) → turn_fault the_shape [] w word ≡ [] → walked the_rules [] w word ≡ next
@@ -233,7 +233,7 @@ asked_if-next true w next word words none to = asked_from-next w next word words
 asked_if-next false w next word words none to = ap (λ v. asked_if false v words) to
 
 -- nothing is wrong at the end
-asked_if-end : (few : Bool) (w : Walk) → (few ≡ true → end_fault w ≡ []) → asked_if few w [] ≡ asked_by (finished the_rules w.held)
+asked_if-end : (few : Bool) (w : Walk) → (few ≡ true → end_fault w ≡ []) → asked_if few w [] ≡ command_of_rows (finished the_rules w.held)
 unfolding walk_fault
 asked_if-end true w none = rw (none refl) refl
 asked_if-end false w none = refl
@@ -243,7 +243,7 @@ refused : (taken : Bool) (asked : Option Command) → asked ≡ None → (if tak
 refused true asked e = e
 refused false asked e = refl
 
-asked_if-none : (few : Bool) (w : Walk) (words : List Text) → asked_by (finished the_rules (walk_on w words).held) ≡ None → asked_if few w words ≡ None
+asked_if-none : (few : Bool) (w : Walk) (words : List Text) → command_of_rows (finished the_rules (walk_on w words).held) ≡ None → asked_if few w words ≡ None
 asked_if-none true w words e = refused (is_empty (fault_from w words)) _ e
 asked_if-none false w words e = e
 
@@ -316,13 +316,13 @@ abbrev behind_first : List Text → List Text
 behind_first [] = []
 behind_first (first ∷ rest) = rest
 
-no_words : (given : Option Given) → asked_by (finished the_rules (at_start false given).held) ≡ None
+no_words : (given : Option Given) → command_of_rows (finished the_rules (at_start false given).held) ≡ None
 no_words None = refl
 no_words (Some (with_value (symbols file))) = refl
 no_words (Some (with_value (steps number))) = refl
 no_words (Some german) = refl
 
-one_word : (behind : Bool) (given : Option Given) (command : Text) → asked_by (finished the_rules (at_command behind given command).held) ≡ None
+one_word : (behind : Bool) (given : Option Given) (command : Text) → command_of_rows (finished the_rules (at_command behind given command).held) ≡ None
 one_word behind None command = refl
 one_word behind (Some (with_value (symbols file))) command = refl
 one_word behind (Some (with_value (steps number))) command = none-alone command number
@@ -335,7 +335,7 @@ one_word-asked (Some (with_value (steps number))) command = sym (none-alone comm
 one_word-asked (Some german) command = refl
 
 all_words : (behind : Bool) (given : Option Given) (command file : Text) (files : List Text)
-    → asked_by (finished the_rules (at_files behind (rows_at_files given command) (file ∷ files)).held) ≡ asked_with given (command ∷ file ∷ files)
+    → command_of_rows (finished the_rules (at_files behind (rows_at_files given command) (file ∷ files)).held) ≡ asked_with given (command ∷ file ∷ files)
 all_words behind None command file files = refl
 all_words behind (Some (with_value (symbols f))) command file files = refl
 all_words behind (Some (with_value (steps n))) command file files = refl
@@ -578,13 +578,13 @@ no_end_fault-behind german command (a ∷ front) file files few =
     rw (no_fault-files false (with_given german (rows_at (command ∷ a ∷ front))) file files few) refl
 
 words-option : (given : Given) (command file : Text) (files : List Text)
-    → asked_by (finished the_rules (behind_option given (command ∷ file ∷ files)).held) ≡ asked_with (Some given) (command ∷ file ∷ files)
+    → command_of_rows (finished the_rules (behind_option given (command ∷ file ∷ files)).held) ≡ asked_with (Some given) (command ∷ file ∷ files)
 words-option (with_value (symbols f)) command file files = refl
 words-option (with_value (steps n)) command file files = refl
 words-option german command file files = refl
 
 words-behind : (given : Given) (command : Text) (front : List Text) (file : Text) (files : List Text)
-    → asked_by (finished the_rules (at_files false (with_given given (rows_at (command ∷ front))) (file ∷ files)).held)
+    → command_of_rows (finished the_rules (at_files false (with_given given (rows_at (command ∷ front))) (file ∷ files)).held)
     ≡ asked_with (Some given) (command ∷ (front ++ file ∷ files))
 words-behind (with_value (symbols f)) command [] file files = refl
 words-behind (with_value (symbols f)) command (a ∷ front) file files = refl
@@ -593,7 +593,7 @@ words-behind (with_value (steps n)) command (a ∷ front) file files = refl
 words-behind german command [] file files = refl
 words-behind german command (a ∷ front) file files = refl
 
-one_word-option : (given : Given) (command : Text) → asked_by (finished the_rules (behind_option given (command ∷ [])).held) ≡ None
+one_word-option : (given : Given) (command : Text) → command_of_rows (finished the_rules (behind_option given (command ∷ [])).held) ≡ None
 one_word-option (with_value (symbols f)) command = refl
 one_word-option (with_value (steps n)) command = none-alone command n
 one_word-option german command = refl

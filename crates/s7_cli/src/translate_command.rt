@@ -10,7 +10,7 @@ ghost use Rattle.s7_cli.specs.StatusTable.{StatusTable};
 use crate::failures::{ExitStatus, Failure, File};
 use crate::files::read_file;
 use crate::finish::{end_command, write_output};
-use crate::translating::translated;
+use crate::translating::translated_source;
 use plc_io::{Files, Sink};
 use std::alloc::Global;
 use stl_symbols::Language;
@@ -31,7 +31,7 @@ fn translate_text<F: Files, K: Sink>(
         → CommandComesTo (Translate language src translation.now) (source.now ∷ []) went took
         result }
 {
-    let text = translated(alloc, language, source)?;
+    let text = translated_source(alloc, language, source)?;
     write_output(files, out, translation, &text)
 }
 
