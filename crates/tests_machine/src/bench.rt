@@ -30,7 +30,7 @@ pub(crate) type Row = (&'static str, &'static str, &'static str);
 
 /// What came of the statements.
 #[derive(Clone, Copy)]
-struct Seen {
+struct StatementsOutcome {
     error: u8,
     errors: u32,
     ended: bool,
@@ -50,7 +50,7 @@ struct Bench {
     counters: Counters,
     activation: Activation,
     end: u32,
-    seen: Seen,
+    seen: StatementsOutcome,
 }
 
 /// The cause that stands for a statement that isn't there, which no row wants.
@@ -106,19 +106,19 @@ fn low_byte(value: u32) -> u8 {
 }
 
 /// A data block's number and bytes.
-type Numbered = (u16, Vec<u8>);
+type BlockBytes = (u16, Vec<u8>);
 
 fn twice() -> Fail {
     Fail::new("two data blocks of one number")
 }
 
 fn memory_of_none(alloc: Global, profile: Profile) -> Result<Memory, Fail> {
-    let blocks: [Numbered; 0] = [];
+    let blocks: [BlockBytes; 0] = [];
     let memory = Memory::new(alloc, &blocks, profile)?;
     Ok(memory)
 }
 
-fn memory_of_one(alloc: Global, profile: Profile, first: Numbered) -> Result<Memory, Fail> {
+fn memory_of_one(alloc: Global, profile: Profile, first: BlockBytes) -> Result<Memory, Fail> {
     let blocks = [first];
     let memory = Memory::new(alloc, &blocks, profile)?;
     Ok(memory)
@@ -127,8 +127,8 @@ fn memory_of_one(alloc: Global, profile: Profile, first: Numbered) -> Result<Mem
 fn memory_of_two(
     alloc: Global,
     profile: Profile,
-    first: Numbered,
-    second: Numbered,
+    first: BlockBytes,
+    second: BlockBytes,
 ) -> Result<Memory, Fail> {
     if first.0 == second.0 {
         return Err(twice());
@@ -141,9 +141,9 @@ fn memory_of_two(
 fn memory_of_three(
     alloc: Global,
     profile: Profile,
-    first: Numbered,
-    second: Numbered,
-    third: Numbered,
+    first: BlockBytes,
+    second: BlockBytes,
+    third: BlockBytes,
 ) -> Result<Memory, Fail> {
     if first.0 == second.0 || first.0 == third.0 || second.0 == third.0 {
         return Err(twice());
@@ -204,7 +204,7 @@ impl Bench {
             counters: Counters::new(profile),
             activation: Activation::new(1, 1, first_frame(local_len), profile),
             end: image.end,
-            seen: Seen {
+            seen: StatementsOutcome {
                 error: 0,
                 errors: 0,
                 ended: false,

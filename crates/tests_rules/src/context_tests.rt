@@ -13,34 +13,34 @@ use stl_types::{Callee, Context, Register, Resolution, ResolvedOperand, Side, ch
 
 /// What a statement comes to.
 #[derive(Drop)]
-struct Found {
+struct LastStatement {
     seen: Resolution,
     resolved: Option<ResolvedOperand>,
     callee: Option<Callee>,
 }
 
 /// What the last statement of the context's block comes to.
-fn last_in(alloc: Global, context: &Context<'_>) -> Result<Found, Fail> {
+fn last_in(alloc: Global, context: &Context<'_>) -> Result<LastStatement, Fail> {
     let blocks = context.tree().blocks.as_slice();
     let block = blocks.get(context.block()).ok_or("no such block")?;
     let statement = block.body.as_slice().last().ok_or("no statement")?;
     let seen = context.resolution(alloc, &statement.operand)?;
     let resolved = context.resolved(alloc, statement)?;
     let callee = context.callee(alloc, &statement.operand)?;
-    Ok(Found {
+    Ok(LastStatement {
         seen,
         resolved,
         callee,
     })
 }
 
-fn last_of(alloc: Global, tree: &Tree, symbols: &Symbols) -> Result<Found, Fail> {
+fn last_of(alloc: Global, tree: &Tree, symbols: &Symbols) -> Result<LastStatement, Fail> {
     let layouts = lay_out_sound(alloc, tree, symbols)?;
     last_in(alloc, &Context::new(symbols, tree, &layouts).at(10))
 }
 
 /// What the last statement of a body comes to.
-fn last_statement(alloc: Global, body: &[u8]) -> Result<Found, Fail> {
+fn last_statement(alloc: Global, body: &[u8]) -> Result<LastStatement, Fail> {
     let source = with_body(alloc, body)?;
     let tree = parsed(alloc, source.as_slice())?;
     let symbols = symbols_of(alloc, SYMBOLS)?;
