@@ -59,7 +59,7 @@ enum SpelledLine {
     Diag,
 }
 
-fn asked(request: Request) -> What {
+fn what_of_request(request: Request) -> What {
     What::Ask { request }
 }
 
@@ -69,14 +69,14 @@ fn what(spelled: SpelledLine) -> What {
         SpelledLine::Input(byte, value) => What::Input { byte, value },
         SpelledLine::Arrive(ob, value) => What::Arrive { ob, value },
         SpelledLine::Tick(ms) => What::Tick { ms },
-        SpelledLine::Stop => asked(Request::Stop),
-        SpelledLine::Restart => asked(Request::Restart),
+        SpelledLine::Stop => what_of_request(Request::Stop),
+        SpelledLine::Restart => what_of_request(Request::Restart),
         SpelledLine::MonitorOn(kind, number) => {
             let block = BlockId { kind, number };
-            asked(Request::MonitorOn { block })
+            what_of_request(Request::MonitorOn { block })
         }
-        SpelledLine::MonitorOff => asked(Request::MonitorOff),
-        SpelledLine::Diag => asked(Request::Diag),
+        SpelledLine::MonitorOff => what_of_request(Request::MonitorOff),
+        SpelledLine::Diag => what_of_request(Request::Diag),
     }
 }
 

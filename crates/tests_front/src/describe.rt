@@ -109,7 +109,7 @@ fn area(out: &mut String, area: Option<Letters>) -> WriteResult {
 }
 
 /// These words and the name, as ` in Db 10`, where there is one.
-fn named(out: &mut String, words: &str, block: &Option<BlockName>) -> WriteResult {
+fn named_block(out: &mut String, words: &str, block: &Option<BlockName>) -> WriteResult {
     match block {
         Some(name) => {
             out.push_str(words)?;
@@ -163,7 +163,7 @@ fn open_block(out: &mut String, di: bool, name: &BlockName) -> WriteResult {
 fn called(out: &mut String, name: &BlockName, instance: &Option<BlockName>) -> WriteResult {
     out.push_str("Called ")?;
     block_name(out, name)?;
-    named(out, " with ", instance)
+    named_block(out, " with ", instance)
 }
 
 /// An operand, as `Direct M Word 2.0`.
@@ -178,7 +178,7 @@ fn operand(out: &mut String, operand: &Operand) -> WriteResult {
             bit,
         } => {
             direct(out, *area, *width, *byte, *bit)?;
-            named(out, " in ", block)
+            named_block(out, " in ", block)
         }
         Operand::Timer { number } => write!(out, "Timer {number}"),
         Operand::Counter { number } => write!(out, "Counter {number}"),

@@ -92,7 +92,7 @@ fn longer_image(rt: HostRuntime) -> Result<(), Fail> {
 static CUT: [(usize, u32); 7] = [(0, 0), (3, 0), (5, 4), (7, 6), (11, 8), (12, 8), (79, 8)];
 
 /// The example cut off at a length.
-fn cut(len: usize) -> &'static [u8] {
+fn image_front(len: usize) -> &'static [u8] {
     if len < 80 {
         EXAMPLE.split_at(len).0
     } else {
@@ -103,7 +103,7 @@ fn cut(len: usize) -> &'static [u8] {
 #[test]
 fn cut_images(rt: HostRuntime) {
     for (len, at) in &CUT {
-        let found = fault_of(rt.alloc(), cut(*len));
+        let found = fault_of(rt.alloc(), image_front(*len));
         same(&rt, *len, found, wanted(*at, 3));
     }
 }

@@ -64,7 +64,7 @@ fn hexadecimal(text: &str) -> u32 {
 }
 
 /// The value that a text gives a name.
-fn given(text: &str, name: &str) -> Option<u32> {
+fn number_behind(text: &str, name: &str) -> Option<u32> {
     for pair in text.split_ascii_whitespace() {
         if let Some((first, value)) = pair.split_once('=') {
             if first == name {
@@ -320,10 +320,10 @@ impl Bench {
 
     /// Statements until the last one of OB 1, or so many.
     fn run(&mut self, before: &str) {
-        let most = given(before, "STEPS").unwrap_or(400);
-        let to_end = given(before, "STEPS").is_none();
-        let ms = given(before, "MS").unwrap_or(0);
-        let give = given(before, "GIVE");
+        let most = number_behind(before, "STEPS").unwrap_or(400);
+        let to_end = number_behind(before, "STEPS").is_none();
+        let ms = number_behind(before, "MS").unwrap_or(0);
+        let give = number_behind(before, "GIVE");
         for _ in 0..most {
             if to_end && self.is_at_end() {
                 break;
@@ -409,7 +409,7 @@ static KEPT: [&str; 11] = [
 
 fn holds(rt: &impl Abort, alloc: Global, row: &Row) -> Result<(), Fail> {
     let (program, before, after) = *row;
-    let profile = match given(before, "LARGE") {
+    let profile = match number_behind(before, "LARGE") {
         Some(_) => Profile::Large,
         None => Profile::Small,
     };
@@ -426,8 +426,8 @@ fn holds(rt: &impl Abort, alloc: Global, row: &Row) -> Result<(), Fail> {
         }
     }
     for name in KEPT {
-        if given(after, name).is_none() {
-            let value = given(before, name).unwrap_or(0);
+        if number_behind(after, name).is_none() {
+            let value = number_behind(before, name).unwrap_or(0);
             assert_eq!(rt;
                 bench.value(name),
                 value,

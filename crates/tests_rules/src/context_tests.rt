@@ -1,6 +1,6 @@
 //! What the operand of a statement names, and the block that a call is checked by. A statement stands
 //! in the body of FC 1, the eleventh block (`calls`).
-use crate::calls::{SYMBOLS, parsed, symbols_of, with_body};
+use crate::calls::{SYMBOLS, symbols_of, tree_of_source, with_body};
 use crate::compare::same;
 use block_layout::lay_out_sound;
 use plc_base::{Area, BlockId, BlockKind, Flag, Place, Width};
@@ -42,7 +42,7 @@ fn last_of(alloc: Global, tree: &Tree, symbols: &Symbols) -> Result<LastStatemen
 /// What the last statement of a body comes to.
 fn last_statement(alloc: Global, body: &[u8]) -> Result<LastStatement, Fail> {
     let source = with_body(alloc, body)?;
-    let tree = parsed(alloc, source.as_slice())?;
+    let tree = tree_of_source(alloc, source.as_slice())?;
     let symbols = symbols_of(alloc, SYMBOLS)?;
     last_of(alloc, &tree, &symbols)
 }
@@ -278,7 +278,7 @@ fn parts_are_given_back(rt: &impl Abort, context: &Context<'_>, tree: &Tree) {
 fn parts_of_a_context(rt: HostRuntime) -> Result<(), Fail> {
     let alloc = rt.alloc();
     let source = with_body(alloc, b"SET;")?;
-    let tree = parsed(alloc, source.as_slice())?;
+    let tree = tree_of_source(alloc, source.as_slice())?;
     let symbols = symbols_of(alloc, SYMBOLS)?;
     let layouts = lay_out_sound(alloc, &tree, &symbols)?;
     let checked = check(alloc, &tree, &symbols, &layouts)?;
