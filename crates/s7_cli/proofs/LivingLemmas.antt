@@ -16,7 +16,7 @@ use Rattle.station.specs.declared.shared.StationFault.TheVariants.{NoMemory, Ful
 use Rattle.station.specs.declared.shared.TheConstants.{FULL}
 use Rattle.s7_cli.specs.Living.{IsFullNever, IsLive, opening_on, total_length}
 use Rattle.s7_cli.specs.Working.{EndsInStop, HasWorked, KnowsFault, RunsBefore, WorkedBy, entries_of_worker, step_entry_by}
-use Rattle.s7_cli.proofs.NumberLemmas.{Numbered, all_of_each, begun_few, begun_many, begun_numbered, few_made, is_numbered, missing_none, stand_in, times_numbered}
+use Rattle.s7_cli.proofs.NumberLemmas.{AreNumbered, all_of_each, begun_few, begun_many, begun_numbered, few_made, is_numbered, missing_none, stand_in, times_numbered}
 use Rattle.s7_cli.proofs.StepperLemmas.{ends_on, none_came, runs_on}
 
 -- a station with two passes more than there are scripts, and what the workers made with these
@@ -34,7 +34,7 @@ module _ (s : LockView Opening) (steps : ℕ) (stimuli : List Entry) (scripts : 
   abbrev all_made : List (Made Entry)
   all_made = record { number = 1; entries = replicate h.count (step_entry_by 1) } ∷ h.others
 
-  numbered : Numbered 0 all_made
+  numbered : AreNumbered 0 all_made
   numbered = (refl, begun_numbered s 1 lists h.others h.begun)
 
   many : length all_made ≡ suc (suc (length scripts))
