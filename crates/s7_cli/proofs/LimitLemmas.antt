@@ -102,6 +102,6 @@ pub commands_keep_limits : CommandsKeepLimits
 unfolding command_of
 commands_keep_limits words = passed (is_empty (fault_of the_line words)) (command_of_rows (matches_of the_line words)) KeepsLimits (λ _. found-limits (matches_of the_line words))
 
--- so is one that was read
+-- a command that was read is within its limits
 pub read-limits : (words : List (List ℕ)) (k : Command) → Some k ≡ command_of words → KeepsLimits k
 read-limits words k is = subst (λ (o : Option Command). IfSome o KeepsLimits) (sym is) (commands_keep_limits words)

@@ -212,11 +212,12 @@ no_end_fault behind (Some german) command file files few = rw (no_fault-files be
 
 -- ---- what the words ask for
 
--- from a place of the walk on
+-- what the words ask for from a place of the walk on
 abbrev asked_from : Walk → List Text → Option Command
 asked_from w words = if is_empty (fault_from w words) then command_of_rows (finished the_rules (walk_on w words).held) else None
 
--- the same, where a fault counts only if the files are few: no command has more
+-- what the words ask for from a place of the walk on, where a fault counts only if the files are
+-- few: no command has more
 abbrev asked_if : Bool → Walk → List Text → Option Command
 asked_if true w words = asked_from w words
 asked_if false w words = command_of_rows (finished the_rules (walk_on w words).held)
@@ -520,7 +521,7 @@ no_fault-next (with_value (steps n)) (command ∷ files) word h = let p = plain 
 no_fault-next german [] word h = let p = plain word h in rw (p.no_dashes, p.no_long, p.no_short) refl
 no_fault-next german (command ∷ files) word h = let p = plain word h in rw (p.no_dashes, p.no_long, p.no_short) refl
 
--- and from behind its value
+-- the walk goes on from behind an option's value
 walked-used : (given : OptionWithValue) (front : List Text) (word : Text) → is_plain_word word ≡ true
     → walked the_rules [] (at_value given front) word ≡ at_next (with_value given) front word
 unfolding walked

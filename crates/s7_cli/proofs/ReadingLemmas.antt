@@ -50,7 +50,7 @@ no_file c name xs p q = let e : None ≡ Some xs = sym p ∙ q in cc
 not_both : (i : Input) (xs ys : List ℕ) → xs ≡ ys → limit_of i.file < length xs → length ys ≤ limit_of i.file → ⊥
 not_both i xs ys same long within = omega (arith, ap length same)
 
--- so are two that files allow whose contents are known
+-- two answers that files allow whose contents are known are alike
 pub allows-alike : (c : Contents) (Alike : CallAnswer → CallAnswer → Type 0) → ((a b : CallAnswer) → a ≡ b → Alike a b) → (is : List Input) (says : Saying)
     → AnswersAlike Alike says → (a b : CallAnswer) → AllowsAnswer c is says a → AllowsAnswer c is says b → Alike a b
 allows-alike c Alike same [] says alike a b p q = alike [] a b p q

@@ -69,7 +69,7 @@ fn read_symbols_in(
     Ok(list)
 }
 
-/// The same, for a source whose symbols they are.
+/// The symbols of a symbols file with addresses in a language, for a source whose symbols they are.
 pub(crate) fn symbols_in(
     alloc: Global,
     language: Language,

@@ -93,7 +93,8 @@ pub fn cmd_english<F: Files, K: Sink>(
     cmd_translate(alloc, Language::English, src, translation, files, out)
 }
 
-/// The same from English mnemonics to German ones.
+/// Makes the translation of the source in the file `src` from English mnemonics to German ones the
+/// whole of the file `translation`, as `cmd_english` does the other way.
 pub fn cmd_german<F: Files, K: Sink>(
     alloc: Global,
     src: &str,

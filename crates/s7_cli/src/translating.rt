@@ -119,7 +119,7 @@ fn german_program(alloc: Global, text: &ProgramText) -> Result<Program, Failure>
     Ok(program_with(alloc, &source, symbols)?)
 }
 
-/// The same, loaded with the large profile.
+/// The program of a German source with its symbols, loaded with the large profile.
 pub(crate) fn compiled_german(alloc: Global, text: &ProgramText) -> Result<Loaded, Failure>
     requires { AreFilesWithinLimits text.now }
     ensures keeps { IfOk result

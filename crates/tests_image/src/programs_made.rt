@@ -560,7 +560,7 @@ fn fault_in(alloc: Global, program: Program) -> (u32, u16) {
     }
 }
 
-/// The same; 1 and 0 where there is no program.
+/// The fault of a program as offset and code; 0 and 0 where it verifies, 1 and 0 where there is none.
 fn fault_of(alloc: Global, program: Option<Program>) -> (u32, u16) {
     match program {
         Some(program) => fault_in(alloc, program),
