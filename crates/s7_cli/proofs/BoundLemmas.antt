@@ -29,7 +29,7 @@ use Rattle.s7_cli.specs.declared.failures.Failure.TheVariants.{WordsRefused, Rea
 use Rattle.s7_cli.specs.Answer.{CallAnswer, CallOutcome, exit_status, done_answer, read_fault_answer, refused_file_answer, refused_image_answer, says_no_answer, too_deep_answer, too_long_answer}
 use Rattle.s7_cli.specs.BoundSays.{BoundAnswer, BoundSays, CheckedAnswer, HeldAnswer, RecheckAnswer, RecheckSays, StacksSuffice, image_bounded}
 use Rattle.s7_cli.specs.BoundTexts.{IsChainLine, IsCertificateOfImage, IsBoundText, IsBoundTextOfImage}
-use Rattle.s7_cli.specs.Command.{Command, Go, Check, Compile, Translate, Run, Gen, Live, Watch, Upgrade, ListImage, Bound, Recheck, Input, inputs_of}
+use Rattle.s7_cli.specs.Command.{Command, Go, Check, Compile, Translate, Run, Gen, Live, Watch, Upgrade, ListImage, Bound, Recheck, InputFile, inputs_of}
 use Rattle.s7_cli.specs.Ends.{SinkMoments, IsAnswerOfCall, IsCallCutShort}
 use Rattle.s7_cli.specs.Faults.{failure_of_certificate, failure_of_loading}
 use Rattle.s7_cli.specs.Inner.{ComesBeforeLine, HasRead, SaysRefusal, TextWritten}
@@ -135,7 +135,7 @@ recheck-suffices keep image certificate (Ok m) a l loads said zero is =
     same : m ≡ l
     same = let equal : Ok m ≡ Ok l = loads-one image (Ok m) (Ok l) loads is in cc
 
-stop_not_done : (d : Disk) (i : Input) (a : CallAnswer) → StopsAt d i a → exit_status a.outcome ≡ 0 → ⊥
+stop_not_done : (d : Disk) (i : InputFile) (a : CallAnswer) → StopsAt d i a → exit_status a.outcome ≡ 0 → ⊥
 stop_not_done d i a (inl (rose, gives)) zero = not-done a read_fault_answer gives zero (λ e. omega (arith, e))
 stop_not_done d i a (inr (bytes, agrees, long, gives)) zero = not-done a (too_long_answer i.file) gives zero (λ e. omega (arith, e))
 

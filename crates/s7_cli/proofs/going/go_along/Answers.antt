@@ -12,7 +12,7 @@ use Rattle.event_text.specs.Texts.{history_of_text}
 use Rattle.s7_cli.specs.run_text.RunText.{run_text}
 use Rattle.s7_cli.specs.declared.failures.File.TheVariants.{History}
 use Rattle.s7_cli.specs.Answer.{CallAnswer, done_answer}
-use Rattle.s7_cli.specs.Command.{Go, Input}
+use Rattle.s7_cli.specs.Command.{Go, InputFile}
 use Rattle.s7_cli.specs.Ends.{sink_moments}
 use Rattle.s7_cli.specs.Inner.{TextWritten}
 use Rattle.s7_cli.specs.Says.{GoSays, SourceSays, go_answer}
@@ -25,7 +25,7 @@ use Rattle.s7_cli.proofs.TranslatingLemmas.{in-english}
 use Rattle.s7_cli.proofs.going.go_along.Goals as goal
 
 -- the history among the input files
-abbrev history_input : List ℕ → Input
+abbrev history_input : List ℕ → InputFile
 history_input name = record { file = History; name = name }
 
 pub returns-in_err-program : goal.returns-in_err-program
