@@ -27,7 +27,8 @@ pub record OnlyReads (d : Disk) : Type 0 where
 
 -- the reading of one input file, by its outcome: the bytes that it holds, a failed read, a byte
 -- past its limit, or no memory
-abbrev pub FileRead : {V : Type 0} (view : V → List ℕ) → Disk → InputFile → Result V Failure → Type 0
+abbrev pub FileRead :
+    {V : Type 0} (view : V → List ℕ) → Disk → InputFile → Result V Failure → Type 0
 FileRead view d i (Ok v) =
     AreFilesUnchanged d.before d.after × HoldsBytes d.before.contents i (view v)
 FileRead view d i (Err ReadFault) = OnlyReads d × StopsAt d i read_fault_answer
