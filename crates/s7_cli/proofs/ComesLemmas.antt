@@ -13,7 +13,7 @@ use Rattle.s7_cli.specs.Inner.{OnlyReads, FileRead, HasRead, StopsAmong, AllRead
 use Rattle.s7_cli.specs.Reading.{Disk, disk_moments, HoldsBytes, HoldBytesInTurn, StopsAt, ReadsFilesInTurn}
 use Rattle.s7_cli.specs.Says.{CommandSays}
 use Rattle.s7_cli.proofs.ReadingLemmas.{reads-all}
-use Rattle.s7_cli.proofs.RefusedLemmas.{allowed}
+use Rattle.s7_cli.proofs.RefusedLemmas.{refusal_says_more}
 
 pub unchanged : (at : FilesAt) → AreFilesUnchanged at at
 unchanged at = record { contents = record { told = refl; at = λ name. refl }; reads = λ name. refl; writes = λ name. refl }
@@ -276,7 +276,7 @@ pub comes-refused : (V : Type 0) (c : Command) (start now : FilesAt) (at : SinkA
     → ComesBeforeLine (Some c) (disk_moments start now) (sink_moments at at) came
 comes-refused V c start now at contents said failure came equal read each refused =
     subst (λ (o : CallOutcome). ComesBeforeLine (Some c) (disk_moments start now) (sink_moments at at) o) (sym equal)
-    (refuses V c start now at contents failure read (allowed V V said (CommandSays c contents) failure each refused))
+    (refuses V c start now at contents failure read (refusal_says_more V V said (CommandSays c contents) failure each refused))
 
 -- ---- the result was written, or a front of it
 

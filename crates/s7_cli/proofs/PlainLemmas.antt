@@ -240,12 +240,12 @@ asked_if-end true w none = rw (none refl) refl
 asked_if-end false w none = refl
 
 -- no command, with or without a fault
-refused : (taken : Bool) (asked : Option Command) → asked ≡ None → (if taken then asked else None) ≡ None
-refused true asked e = e
-refused false asked e = refl
+none_if_none : (taken : Bool) (asked : Option Command) → asked ≡ None → (if taken then asked else None) ≡ None
+none_if_none true asked e = e
+none_if_none false asked e = refl
 
 asked_if-none : (few : Bool) (w : Walk) (words : List Text) → command_of_rows (finished the_rules (walk_on w words).held) ≡ None → asked_if few w words ≡ None
-asked_if-none true w words e = refused (is_empty (fault_from w words)) _ e
+asked_if-none true w words e = none_if_none (is_empty (fault_from w words)) _ e
 asked_if-none false w words e = e
 
 not_both : (first second : Bool) (asked : Option Command) → second ≡ false → (if first && second then asked else None) ≡ None
@@ -370,7 +370,7 @@ command_of-start words = refl
 command_of-asked : (few : Bool) (words : List Text) (asked : Option Command) → asked_if few (at_start false None) words ≡ asked
     → (few ≡ false → asked ≡ None) → command_of words ≡ asked
 command_of-asked true words asked e none = command_of-start words ∙ e
-command_of-asked false words asked e none = command_of-start words ∙ refused _ _ (e ∙ none refl) ∙ sym (none refl)
+command_of-asked false words asked e none = command_of-start words ∙ none_if_none _ _ (e ∙ none refl) ∙ sym (none refl)
 
 many : (words : List Text) (given : Option GivenOption) → are_few (behind_first words) ≡ false → asked_with given words ≡ None
 many [] given h = refl

@@ -206,9 +206,9 @@ decided-command one k d s a known reads took =
       }))
     ]
 
-decided : OneEach → (c : Option Command) (d : Disk) (s : SinkMoments) (a : CallAnswer) → IsAnswerOfCall c d a → TookBytes s.before s.after a.text
+status_decided : OneEach → (c : Option Command) (d : Disk) (s : SinkMoments) (a : CallAnswer) → IsAnswerOfCall c d a → TookBytes s.before s.after a.text
     → (k : Command) → c ≡ Some k → d.before.contents.told ≡ true → IsDecidedStatus k d s (exit_status a.outcome)
-decided one c d s a answers took k is known =
+status_decided one c d s a answers took k is known =
     decided-command one k d s a known (subst (λ (o : Option Command). IsAnswerOfCall o d a) is answers) took
 
 -- no count rose: want of memory alone is free
@@ -274,8 +274,8 @@ table-said one keep have c d s a said =
     let r : Rows c d s (exit_status a.outcome) = rows c d s a said.answers said.took in
     let six : exit_status a.outcome ≡ 6 → CountRose s.before.faults s.after.faults ⊎ OutputRose c d = λ e. absurd (r.whole (inl e)) in record {
       statuses = r.statuses;
-      decided = decided one c d s a said.answers said.took;
-      complete = complete c d s (exit_status a.outcome) (decided one c d s a said.answers said.took) six;
+      decided = status_decided one c d s a said.answers said.took;
+      complete = complete c d s (exit_status a.outcome) (status_decided one c d s a said.answers said.took) six;
       words_refused_only = r.words_refused_only;
       words_refused = λ none. inl (r.words_refused none);
       takes_line = λ isnt whole. r.takes_line isnt;
