@@ -95,7 +95,7 @@ CLAUSE_WRONG = "ORGANIZATION_BLOCK OB 1\nVAR_TEMP\nI : BOOL;\nEND_VAR\nBEGIN\nU 
 # And with all right.
 RIGHT = "ORGANIZATION_BLOCK OB 1\nVAR_TEMP\nI : BOOL;\nEND_VAR\nBEGIN\nU I;\n= I;\n\nEND_ORGANIZATION_BLOCK\n"
 
-# A source, its bytes with the blanks behind it, symbols, status and line: symbols are judged first, then words of the other language, then how long
+# A source, its bytes with the blanks behind it, symbols, status and line: symbols are checked first, then words of the other language, then how long
 # the translation is, and then clauses.
 ORDER = [
     (ALL_WRONG, LONGEST, "a,I 0.0,BOOL,\n", 2, "symbols refused: line 1 rule 15\n"),

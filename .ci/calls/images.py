@@ -86,7 +86,7 @@ WRITTEN = [
     told("the image of nothing", "compile source image", {"source": ""}, 0, "OK\n", {"image": LARGE}),
 ]
 
-# The version, the number in the profile's place, the status of `run`, and its text: of another version the number isn't judged.
+# The version, the number in the profile's place, the status of `run`, and its text: of another version the number isn't checked.
 STAMPS = [
     (1, 0, 0, CYCLE_TEXT),
     (2, 1, 0, CYCLE_TEXT),

@@ -1,4 +1,4 @@
-"""Calls with a file of symbols: what symbols mean, and in which order files are judged."""
+"""Calls with a file of symbols: what symbols mean, and in which order files are checked."""
 from calls.cases import told
 
 # A program with symbols as STEP 7 exports both; `Enable` is also written without its case.
@@ -35,7 +35,7 @@ RUNS = [
     ),
 ]
 
-JUDGED = [
+CHECKS = [
     (EXPORTED, "\"Enable\",\"I       0.0\",\"BOOL      \",\"on\"\n", "", 0, "OK\n"),
     ("", "a,I 0.0,BOOL,\nb,I 0.1,BOOL\n", "", 2, "symbols refused: line 2 rule 14\n"),
     # The symbols file is read before the source, which has a token that is none.
@@ -69,5 +69,5 @@ def with_symbols(what, words, rows):
 
 CASES = [
     *with_symbols("runs with symbols", "go source history --symbols symbols", RUNS),
-    *with_symbols("checks with symbols", "--symbols symbols check source", JUDGED),
+    *with_symbols("checks with symbols", "--symbols symbols check source", CHECKS),
 ]

@@ -6,7 +6,7 @@ from calls.images import EMPTY, LARGE
 # One step of a stepper, and nothing else.
 STEP_TEXT = "step 1\n---\nEND 1 RUN\n"
 
-# Image, stimuli, first script, second script, the status, and the text. The image is judged first, then the stimuli, then the scripts in their order.
+# Image, stimuli, first script, second script, the status, and the text. The image is checked first, then the stimuli, then the scripts in their order.
 LIVE_STATUSES = [
     (EMPTY, "", "", "", 0, STEP_TEXT),
     # a file without a magic
@@ -33,7 +33,7 @@ STOPPED = told(
     "step 2\n---\n@2 MODE STOP 4 AT OB 1 LINE 3\nEND 2 STOP 4\n",
 )
 
-# Image, stimuli, variables, script, the status, and the text. The image is judged first, then the stimuli, the variables, and the script.
+# Image, stimuli, variables, script, the status, and the text. The image is checked first, then the stimuli, the variables, and the script.
 WATCH_STATUSES = [
     # a file without a magic
     ("", "step\n", "x\n", "x\n", 3, "image refused: offset 0 code 3\n"),

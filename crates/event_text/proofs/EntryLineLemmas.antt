@@ -27,8 +27,8 @@ use Rattle.event_text.proofs.VarLemmas.{both-read}
 use Rattle.event_text.proofs.WordLemmas.{is_solid, IsWord, first-word, first-word-behind, words-one, words-two}
 
 -- a line that begins with another byte than `/` isn't skipped
-unskipped : (b : ℕ) (t : List ℕ) → starts_with nat_eq (b ∷ t) (codes "//") ≡ false → is_entry_line_skipped (b ∷ t) ≡ false
-unskipped b t e =
+entry-line-taken : (b : ℕ) (t : List ℕ) → starts_with nat_eq (b ∷ t) (codes "//") ≡ false → is_entry_line_skipped (b ∷ t) ≡ false
+entry-line-taken b t e =
     let l : eqb (length (b ∷ t)) 0 ≡ false = grind (arith, common_steps) in
     rw l e
 
@@ -62,7 +62,7 @@ unfolding input_line
 in-line names before byte value h small =
     let d : IsWord (decimal byte) = number-word byte (omega (arith, byte-small byte h)) in
     let x : IsWord (hex_text 2 value) = hex-word 2 value (omega arith) (omega arith) in
-    by-word names before (codes "in") (32 ∷ (decimal byte ++ 32 ∷ hex_text 2 value)) (word-of (codes "in") (omega arith) (refl, (refl, tt))) refl (unskipped 105 (codes "n" ++ (32 ∷ (decimal byte ++ 32 ∷ hex_text 2 value))) refl)
+    by-word names before (codes "in") (32 ∷ (decimal byte ++ 32 ∷ hex_text 2 value)) (word-of (codes "in") (omega arith) (refl, (refl, tt))) refl (entry-line-taken 105 (codes "n" ++ (32 ∷ (decimal byte ++ 32 ∷ hex_text 2 value))) refl)
     ∙ ap (λ ws. reading_map one_entry (input_line ws)) (words-two (decimal byte) (hex_text 2 value) d x)
     ∙ ap (λ r. reading_map one_entry (reading_map (λ p. feeder_entry (Input p.0 p.1)) r))
     (both-read (number_among is_peripheral_byte (address_number (decimal byte))) (hex_of 2 (hex_text 2 value)) byte value (byte-ok byte h) (hex_read 2 value (omega arith) (omega arith)))
@@ -73,7 +73,7 @@ unfolding arrival_line
 arrive-plain names before ob h =
     let d : IsWord (decimal ob) = number-word ob (omega (arith, ob-small ob h)) in
     ap (λ t. line_read History names before (codes "arrive " ++ t)) (append-nil (decimal ob))
-    ∙ by-word names before (codes "arrive") (32 ∷ decimal ob) (word-of (codes "arrive") (omega arith) (refl, (refl, (refl, (refl, (refl, (refl, tt))))))) refl (unskipped 97 (codes "rrive" ++ (32 ∷ decimal ob)) refl)
+    ∙ by-word names before (codes "arrive") (32 ∷ decimal ob) (word-of (codes "arrive") (omega arith) (refl, (refl, (refl, (refl, (refl, (refl, tt))))))) refl (entry-line-taken 97 (codes "rrive" ++ (32 ∷ decimal ob)) refl)
     ∙ ap (λ ws. reading_map one_entry (arrival_line ws)) (words-one (decimal ob) d)
     ∙ ap (λ r. reading_map one_entry (reading_map (λ n. feeder_entry (Arrive n 0)) r)) (ob-ok ob h)
 
@@ -83,7 +83,7 @@ unfolding arrival_line
 arrive-value names before ob value h small =
     let d : IsWord (decimal ob) = number-word ob (omega (arith, ob-small ob h)) in
     let x : IsWord (hex_text 8 value) = hex-word 8 value (omega arith) (omega arith) in
-    by-word names before (codes "arrive") (32 ∷ (decimal ob ++ 32 ∷ hex_text 8 value)) (word-of (codes "arrive") (omega arith) (refl, (refl, (refl, (refl, (refl, (refl, tt))))))) refl (unskipped 97 (codes "rrive" ++ (32 ∷ (decimal ob ++ 32 ∷ hex_text 8 value))) refl)
+    by-word names before (codes "arrive") (32 ∷ (decimal ob ++ 32 ∷ hex_text 8 value)) (word-of (codes "arrive") (omega arith) (refl, (refl, (refl, (refl, (refl, (refl, tt))))))) refl (entry-line-taken 97 (codes "rrive" ++ (32 ∷ (decimal ob ++ 32 ∷ hex_text 8 value))) refl)
     ∙ ap (λ ws. reading_map one_entry (arrival_line ws)) (words-two (decimal ob) (hex_text 8 value) d x)
     ∙ ap (λ r. reading_map one_entry (reading_map (λ p. feeder_entry (Arrive p.0 p.1)) r))
     (both-read (number_among is_arrivable (address_number (decimal ob))) (hex_of 8 (hex_text 8 value)) ob value (ob-ok ob h) (hex_read 8 value (omega arith) (omega arith)))
@@ -99,7 +99,7 @@ tick-line : (names : Names) (before ms : ℕ) → 1 ≤ ms → ms ≤ 60000
     → line_read History names before (codes "tick " ++ decimal ms) ≡ Ok (one_entry (feeder_entry (Tick ms)))
 unfolding tick_line
 tick-line names before ms least most =
-    by-word names before (codes "tick") (32 ∷ decimal ms) (word-of (codes "tick") (omega arith) (refl, (refl, (refl, (refl, tt))))) refl (unskipped 116 (codes "ick" ++ (32 ∷ decimal ms)) refl)
+    by-word names before (codes "tick") (32 ∷ decimal ms) (word-of (codes "tick") (omega arith) (refl, (refl, (refl, (refl, tt))))) refl (entry-line-taken 116 (codes "ick" ++ (32 ∷ decimal ms)) refl)
     ∙ ap (λ ws. reading_map one_entry (tick_line ws)) (words-one (decimal ms) (number-word ms (omega arith)))
     ∙ ap (λ r. reading_map one_entry (reading_map (λ n. feeder_entry (Tick n)) r)) (number_read 1 60000 2 ms (omega arith) least most)
 
@@ -117,7 +117,7 @@ op-line names before who r least most h =
     let d : IsWord (decimal k) = number-word k (omega arith) in
     let back : k + 2 ≡ who = omega arith in
     ap (λ n. line_read History names before (codes "op " ++ (decimal n ++ (codes " " ++ request_text r)))) (operator-is who least most)
-    ∙ by-word names before (codes "op") (32 ∷ (decimal k ++ (32 ∷ request_text r))) (word-of (codes "op") (omega arith) (refl, (refl, tt))) refl (unskipped 111 (codes "p" ++ (32 ∷ (decimal k ++ (32 ∷ request_text r)))) refl)
+    ∙ by-word names before (codes "op") (32 ∷ (decimal k ++ (32 ∷ request_text r))) (word-of (codes "op") (omega arith) (refl, (refl, tt))) refl (entry-line-taken 111 (codes "p" ++ (32 ∷ (decimal k ++ (32 ∷ request_text r)))) refl)
     ∙ ap (λ w. reading_map one_entry (operator_with names w)) (first-word-behind (decimal k) (32 ∷ request_text r) d refl)
     ∙ ap (λ x. reading_map one_entry (reading_map (λ p. request_entry (worker_of p.0) p.1) x))
     (both-read (number_in 1 4 5 (decimal k)) (request_line names (32 ∷ request_text r)) k r (number_read 1 4 5 k (omega arith) (omega arith) (omega arith)) (request-read names r h))
@@ -129,7 +129,7 @@ pub steps-line : (names : Names) (before n : ℕ) → 1 ≤ n → before + n ≤
 unfolding step_line
 steps-line names before n least most =
     let le : nat_le (before + n) most_steps ≡ true = grind (arith, nat_tests) in
-    by-word names before (codes "step") (32 ∷ decimal n) (word-of (codes "step") (omega arith) (refl, (refl, (refl, (refl, tt))))) refl (unskipped 115 (codes "tep" ++ (32 ∷ decimal n)) refl)
+    by-word names before (codes "step") (32 ∷ decimal n) (word-of (codes "step") (omega arith) (refl, (refl, (refl, (refl, tt))))) refl (entry-line-taken 115 (codes "tep" ++ (32 ∷ decimal n)) refl)
     ∙ ap (λ ws. reading_map step_entries (count_behind before (step_count ws))) (words-one (decimal n) (number-word n (omega arith)))
     ∙ ap (λ r. reading_map step_entries (count_behind before r)) (number_read 1 1000000 2 n (omega arith) least (omega arith))
     ∙ (rw le refl)

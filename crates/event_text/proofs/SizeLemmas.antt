@@ -59,12 +59,12 @@ words-bytes : (t : List ℕ) → bytes_in (words_of t) ≤ length t
 unfolding words_of
 words-bytes t = omega (arith, filter-bytes (slice_split is_blank t), split-bytes is_blank t)
 
-cut : (n : ℕ) (t : List ℕ) → length (take n t) + length (drop n t) ≡ length t
-cut n t = omega (arith, sym (length-append (take n t) (drop n t)), ap length (take-append-drop n t))
+take-drop-length : (n : ℕ) (t : List ℕ) → length (take n t) + length (drop n t) ≡ length t
+take-drop-length n t = omega (arith, sym (length-append (take n t) (drop n t)), ap length (take-append-drop n t))
 
 behind-shorter : (t : List ℕ) → length (behind_blanks t) ≤ length t
 unfolding behind_blanks
-behind-shorter t = omega (arith, cut (prefix_len is_blank t) t)
+behind-shorter t = omega (arith, take-drop-length (prefix_len is_blank t) t)
 
 -- a line's first word and what follows it are no longer than the line
 first-follows : (line : List ℕ) (w : List ℕ × List ℕ) → first_word line ≡ Some w → length w.0 + length w.1 ≤ length line
@@ -77,7 +77,7 @@ first-follows line w is = by (behind_blanks line) is (behind-shorter line) where
   by (b ∷ t) some shorter =
       let n : ℕ = position_or_len is_blank (b ∷ t) in
       let same : (take n (b ∷ t), drop n (b ∷ t)) ≡ w = inside some in
-      omega (arith, cut n (b ∷ t), ap (λ (x : List ℕ × List ℕ). length x.0) same, ap (λ (x : List ℕ × List ℕ). length x.1) same, shorter) where
+      omega (arith, take-drop-length n (b ∷ t), ap (λ (x : List ℕ × List ℕ). length x.0) same, ap (λ (x : List ℕ × List ℕ). length x.1) same, shorter) where
         inside : {A : Type 0} {x y : A} → Some x ≡ Some y → x ≡ y
         inside e = cc
 

@@ -56,8 +56,8 @@ blanks-none : (t : List ℕ) → Stops is_blank t → behind_blanks t ≡ t
 unfolding behind_blanks
 blanks-none t h = ap (λ n. drop n t) (prefix-none is_blank t h)
 
-lettered : (ls : List ℕ) (n : ℕ) → Each is_letter ls → n < 65536 → IsLettered (ls ++ decimal n) ls (decimal n)
-lettered ls n h small =
+letters-then-number : (ls : List ℕ) (n : ℕ) → Each is_letter ls → n < 65536 → IsLettered (ls ++ decimal n) ls (decimal n)
+letters-then-number ls n h small =
     let d : Each is_ascii_digit (decimal n) = digits-of n small in
     let len : prefix_len is_letter (ls ++ decimal n) ≡ length ls =
     prefix-whole is_letter ls (decimal n) h (stops-by is_ascii_digit is_letter digit-letter (decimal n) d) in
@@ -82,7 +82,7 @@ wide-read : (names : Names) (area : Area) (width : Width) (b : ℕ) (ls : List �
     → wide_of (b ∷ ls) ≡ Some (area, width) → n < 65536
     → var_of names (b ∷ ls ++ decimal n) ≡ Ok (var_at area 0 n 0 width)
 wide-read names area width b ls n h is small =
-    let l : IsLettered (b ∷ ls ++ decimal n) (b ∷ ls) (decimal n) = lettered (b ∷ ls) n h small in
+    let l : IsLettered (b ∷ ls ++ decimal n) (b ∷ ls) (decimal n) = letters-then-number (b ∷ ls) n h small in
     by-points names b (ls ++ decimal n) h.0
     ∙ ap var_of_parts (split-none is_plain is_point plain-point (b ∷ ls ++ decimal n) (plain-text (b ∷ ls) n h small))
     ∙ ap (λ x. wide_var (wide_of x) (behind_letters (b ∷ ls ++ decimal n))) l.letters
@@ -103,7 +103,7 @@ point-cut s t h k =
 bit-read : (names : Names) (area : Area) (b n k : ℕ) → is_letter b ≡ true → area_of_letters (b ∷ []) ≡ Some area → n < 65536 → k ≤ 7
     → var_of names (b ∷ decimal n ++ 46 ∷ decimal k) ≡ Ok (var_at area 0 n k Bit)
 bit-read names area b n k h is small few =
-    let l : IsLettered (b ∷ decimal n) (b ∷ []) (decimal n) = lettered (b ∷ []) n (h, tt) small in
+    let l : IsLettered (b ∷ decimal n) (b ∷ []) (decimal n) = letters-then-number (b ∷ []) n (h, tt) small in
     by-points names b (decimal n ++ 46 ∷ decimal k) h
     ∙ ap var_of_parts (point-cut (b ∷ decimal n) (decimal k) (plain-text (b ∷ []) n (h, tt) small) (plain-text [] k tt (omega arith)))
     ∙ ap (λ x. two_parts (area_of_letters x) (b ∷ decimal n) (decimal k)) l.letters
@@ -122,8 +122,8 @@ block-read : (names : Names) (width : Width) (c : ℕ) (m n : ℕ) → is_letter
     → db_width_of (68 ∷ 66 ∷ c ∷ []) ≡ Some width → m < 65536 → n < 65536
     → var_of names (68 ∷ 66 ∷ decimal m ++ 46 ∷ 68 ∷ 66 ∷ c ∷ decimal n) ≡ Ok (var_at Db m n 0 width)
 block-read names width c m n h is ms ns =
-    let l : IsLettered (68 ∷ 66 ∷ decimal m) (68 ∷ 66 ∷ []) (decimal m) = lettered (68 ∷ 66 ∷ []) m (refl, (refl, tt)) ms in
-    let r : IsLettered (68 ∷ 66 ∷ c ∷ decimal n) (68 ∷ 66 ∷ c ∷ []) (decimal n) = lettered (68 ∷ 66 ∷ c ∷ []) n (refl, (refl, (h, tt))) ns in
+    let l : IsLettered (68 ∷ 66 ∷ decimal m) (68 ∷ 66 ∷ []) (decimal m) = letters-then-number (68 ∷ 66 ∷ []) m (refl, (refl, tt)) ms in
+    let r : IsLettered (68 ∷ 66 ∷ c ∷ decimal n) (68 ∷ 66 ∷ c ∷ []) (decimal n) = letters-then-number (68 ∷ 66 ∷ c ∷ []) n (refl, (refl, (h, tt))) ns in
     by-points names 68 (66 ∷ decimal m ++ 46 ∷ 68 ∷ 66 ∷ c ∷ decimal n) refl
     ∙ ap var_of_parts (point-cut (68 ∷ 66 ∷ decimal m) (68 ∷ 66 ∷ c ∷ decimal n) (plain-text (68 ∷ 66 ∷ []) m (refl, (refl, tt)) ms) (plain-text (68 ∷ 66 ∷ c ∷ []) n (refl, (refl, (h, tt))) ns))
     ∙ ap (λ x. two_parts (area_of_letters x) (68 ∷ 66 ∷ decimal m) (68 ∷ 66 ∷ c ∷ decimal n)) l.letters
@@ -138,8 +138,8 @@ block-read names width c m n h is ms ns =
 block-bit-read : (names : Names) (m n k : ℕ) → m < 65536 → n < 65536 → k ≤ 7
     → var_of names (68 ∷ 66 ∷ decimal m ++ (46 ∷ 68 ∷ 66 ∷ 88 ∷ (decimal n ++ (46 ∷ decimal k)))) ≡ Ok (var_at Db m n k Bit)
 block-bit-read names m n k ms ns few =
-    let l : IsLettered (68 ∷ 66 ∷ decimal m) (68 ∷ 66 ∷ []) (decimal m) = lettered (68 ∷ 66 ∷ []) m (refl, (refl, tt)) ms in
-    let r : IsLettered (68 ∷ 66 ∷ 88 ∷ decimal n) (68 ∷ 66 ∷ 88 ∷ []) (decimal n) = lettered (68 ∷ 66 ∷ 88 ∷ []) n (refl, (refl, (refl, tt))) ns in
+    let l : IsLettered (68 ∷ 66 ∷ decimal m) (68 ∷ 66 ∷ []) (decimal m) = letters-then-number (68 ∷ 66 ∷ []) m (refl, (refl, tt)) ms in
+    let r : IsLettered (68 ∷ 66 ∷ 88 ∷ decimal n) (68 ∷ 66 ∷ 88 ∷ []) (decimal n) = letters-then-number (68 ∷ 66 ∷ 88 ∷ []) n (refl, (refl, (refl, tt))) ns in
     let first : List ℕ = 68 ∷ 66 ∷ decimal m in
     let second : List ℕ = 68 ∷ 66 ∷ 88 ∷ decimal n in
     by-points names 68 (66 ∷ decimal m ++ (46 ∷ (second ++ (46 ∷ decimal k)))) refl

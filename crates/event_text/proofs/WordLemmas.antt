@@ -93,9 +93,9 @@ first-word-behind w t h k = ap leading_word (behind-one w t h) ∙ at-word w t h
 
 -- ---- words
 
-kept : (w : List ℕ) (ws : List (List ℕ)) → 0 < length w → filter is_nonempty_part (w ∷ ws) ≡ w ∷ filter is_nonempty_part ws
-kept [] ws some = absurd (omega arith)
-kept (b ∷ w) ws some = refl
+nonempty-first : (w : List ℕ) (ws : List (List ℕ)) → 0 < length w → filter is_nonempty_part (w ∷ ws) ≡ w ∷ filter is_nonempty_part ws
+nonempty-first [] ws some = absurd (omega arith)
+nonempty-first (b ∷ w) ws some = refl
 
 pub words-blank : (t : List ℕ) → words_of (32 ∷ t) ≡ words_of t
 unfolding words_of
@@ -107,11 +107,11 @@ words-none = refl
 
 pub words-last : (w : List ℕ) → IsWord w → words_of w ≡ w ∷ []
 unfolding words_of
-words-last w h = ap (filter is_nonempty_part) (split-none is_solid is_blank solid-blank w h.solid) ∙ kept w [] h.some
+words-last w h = ap (filter is_nonempty_part) (split-none is_solid is_blank solid-blank w h.solid) ∙ nonempty-first w [] h.some
 
 pub words-more : (w t : List ℕ) → IsWord w → words_of (w ++ 32 ∷ t) ≡ w ∷ words_of t
 unfolding words_of
-words-more w t h = ap (filter is_nonempty_part) (split-at is_solid is_blank solid-blank w 32 t h.solid refl) ∙ kept w (slice_split is_blank t) h.some
+words-more w t h = ap (filter is_nonempty_part) (split-at is_solid is_blank solid-blank w 32 t h.solid refl) ∙ nonempty-first w (slice_split is_blank t) h.some
 
 pub words-one : (w : List ℕ) → IsWord w → words_of (32 ∷ w) ≡ w ∷ []
 words-one w h = words-blank w ∙ words-last w h

@@ -23,9 +23,9 @@ use Rattle.event_text.specs.declared.kinds.TextKind.TheVariants.{History, Stimul
 abbrev IsMadeBy : ℕ → Entry → Type 0
 IsMadeBy who e = (e.who ≡ who) × IsWorkerOf e.what who
 
-mapped : {A B : Type 0} (P : B → Type 0) (f : A → B) (r : Reading A) → ((a : A) → P (f a)) → IfOk (reading_map f r) P
-mapped P f (Ok a) h = h a
-mapped P f (Err rule) h = tt
+ok_of_map : {A B : Type 0} (P : B → Type 0) (f : A → B) (r : Reading A) → ((a : A) → P (f a)) → IfOk (reading_map f r) P
+ok_of_map P f (Ok a) h = h a
+ok_of_map P f (Err rule) h = tt
 
 either : {A : Type 0} (P : A → Type 0) (test : Bool) (x y : Reading A) → IfOk x P → IfOk y P → IfOk (cond test x y) P
 either P true x y h k = h
@@ -47,25 +47,25 @@ input_made : (words : List (List ℕ)) → IfOk (input_line words) (IsMadeBy 2)
 unfolding input_line
 input_made [] = tt
 input_made (byte ∷ []) = tt
-input_made (byte ∷ value ∷ []) = mapped (IsMadeBy 2) _ (both_readings (number_among is_peripheral_byte (address_number byte)) (hex_of 2 value)) (λ p. (refl, refl))
+input_made (byte ∷ value ∷ []) = ok_of_map (IsMadeBy 2) _ (both_readings (number_among is_peripheral_byte (address_number byte)) (hex_of 2 value)) (λ p. (refl, refl))
 input_made (byte ∷ value ∷ word ∷ words) = tt
 
 arrival_made : (words : List (List ℕ)) → IfOk (arrival_line words) (IsMadeBy 2)
 unfolding arrival_line
 arrival_made [] = tt
-arrival_made (ob ∷ []) = mapped (IsMadeBy 2) _ (number_among is_arrivable (address_number ob)) (λ n. (refl, refl))
-arrival_made (ob ∷ value ∷ []) = mapped (IsMadeBy 2) _ (both_readings (number_among is_arrivable (address_number ob)) (hex_of 8 value)) (λ p. (refl, refl))
+arrival_made (ob ∷ []) = ok_of_map (IsMadeBy 2) _ (number_among is_arrivable (address_number ob)) (λ n. (refl, refl))
+arrival_made (ob ∷ value ∷ []) = ok_of_map (IsMadeBy 2) _ (both_readings (number_among is_arrivable (address_number ob)) (hex_of 8 value)) (λ p. (refl, refl))
 arrival_made (ob ∷ value ∷ word ∷ words) = tt
 
 tick_made : (words : List (List ℕ)) → IfOk (tick_line words) (IsMadeBy 2)
 unfolding tick_line
 tick_made [] = tt
-tick_made (number ∷ []) = mapped (IsMadeBy 2) _ (number_in 1 60000 2 number) (λ n. (refl, refl))
+tick_made (number ∷ []) = ok_of_map (IsMadeBy 2) _ (number_in 1 60000 2 number) (λ n. (refl, refl))
 tick_made (number ∷ word ∷ words) = tt
 
 script_made : (names : Names) (who : ℕ) (word rest : List ℕ) → (3 ≤ who) × (who ≤ 6) → IfOk (script_line names who word rest) (IsMadeBy who)
 unfolding script_line
-script_made names who word rest operator = mapped (IsMadeBy who) (request_entry who) (request_of names word rest) (λ r. (refl, operator))
+script_made names who word rest operator = ok_of_map (IsMadeBy who) (request_entry who) (request_of names word rest) (λ r. (refl, operator))
 
 with_made : (kind : TextKind) (names : Names) (before : ℕ) (w : List ℕ × List ℕ) → is_history kind ≡ false → HasMaker kind
     → IfOk (line_with kind names before (Some w)) (AllByRecursion (IsMadeBy (maker_of kind)))

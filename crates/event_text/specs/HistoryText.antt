@@ -15,7 +15,7 @@ use Rattle.var_access.specs.declared.requests.Request.TheVariants.{ReadVars, Wri
 use Rattle.var_access.specs.declared.requests.Var.{Var}
 use Rattle.event_text.specs.Workers.{operator_of}
 
--- a value at its width: a bit as one digit, else two hexadecimal digits a byte
+-- the text of a value at its width: a bit as one digit, else two hexadecimal digits a byte
 unfoldable pub value_text : Width → ℕ → List ℕ
 value_text Bit value = decimal value
 value_text width value = hex_text (2 * byte_count width) value
@@ -41,7 +41,7 @@ block_width_text Byte = codes "DBB"
 block_width_text Word = codes "DBW"
 block_width_text Dword = codes "DBD"
 
--- a bit's number behind its byte's
+-- a bit's number behind its byte's, with a point in front; nothing at another width
 abbrev pub bit_text : Width → ℕ → List ℕ
 bit_text Bit bit = codes "." ++ decimal bit
 bit_text width bit = []
@@ -54,7 +54,7 @@ place_text Db number byte bit width =
 place_text area number byte bit width =
     area_text area ++ (width_text width ++ (decimal byte ++ bit_text width bit))
 
--- a variable by its address, with no blank inside
+-- the text of a variable, its address with no blank inside
 unfoldable pub var_text : Var → List ℕ
 var_text v = place_text v.place.area v.place.number v.place.byte v.place.bit v.width
 

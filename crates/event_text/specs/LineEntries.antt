@@ -32,17 +32,20 @@ abbrev pub IsOtherLine : LineEntries → Type 0
 IsOtherLine (One entry) = IsOtherEntry entry
 IsOtherLine _ = ⊥
 
--- workers are numbered from 1
+-- the worker of a script is numbered from 1
 abbrev pub HasWorker : TextKind → Type 0
 HasWorker (Script who) = 1 ≤ who
 HasWorker _ = Unit {0}
 
--- an entry that is no step, and valid by such a worker
+-- a line of a script stands for one entry that is no step, and valid where the script's worker is
+-- numbered from 1
 abbrev pub IsScriptLine : TextKind → LineEntries → Type 0
 IsScriptLine kind (One entry) = (is_step entry ≡ false) × (HasWorker kind → IsValid entry)
 IsScriptLine kind _ = ⊥
 
--- steps come in histories alone, no more than there may be; any other entry is valid
+-- what a line of a text of this kind may stand for, behind `before` steps: steps in a history
+-- alone, and no more than there may be; an entry that is no step, valid where the worker is
+-- numbered from 1
 abbrev pub IsLineAllowed : TextKind → (before : ℕ) → LineEntries → Type 0
 IsLineAllowed kind before Nothing = Unit {0}
 IsLineAllowed kind before (Steps count) =

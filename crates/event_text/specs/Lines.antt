@@ -1,5 +1,5 @@
--- A line of a history, of stimuli or of a script: the entries that it spells, or the least rule that it
--- breaks.
+-- A line of a history, of stimuli or of a script: the entries that it spells, or the least rule
+-- that it breaks.
 use Rattle.std.specs.Prelude.{ℕ, ◌==◌, ◌+◌, List, [], ◌∷◌, length, min, replicate, nat_eq, nat_le, Bool, true, false, ◌||◌, Option, Some, None, Ok, Err, codes, bytes_eq, if◌then◌else◌}
 use Rattle.std.specs.List.{starts_with}
 use Rattle.plc_base.specs.AreaBytes.{is_peripheral_byte}
@@ -17,7 +17,7 @@ use Rattle.event_text.specs.Workers.{request_entry, feeder_entry, one_step, work
 abbrev pub most_steps : ℕ
 most_steps = 1000000
 
--- how many steps: one, or a number from 1 to 1,000,000
+-- how many steps the words behind `step` say: one without a word, else a number from 1 to 1,000,000
 abbrev pub step_count : List (List ℕ) → Reading ℕ
 step_count [] = Ok 1
 step_count (number ∷ []) = number_in 1 1000000 2 number
@@ -33,7 +33,7 @@ count_behind before (Ok count) = if nat_le (before + count) most_steps then Ok c
 unfoldable pub step_line : (before : ℕ) → List (List ℕ) → Reading ℕ
 step_line before words = count_behind before (step_count words)
 
--- a number that passes a test; another one breaks rule 2
+-- a number that was read, where it passes a test; another one breaks rule 2
 abbrev pub number_among : (ℕ → Bool) → Reading ℕ → Reading ℕ
 number_among test (Err rule) = Err rule
 number_among test (Ok n) = if test n then Ok n else Err 2
@@ -60,7 +60,7 @@ unfoldable pub tick_line : List (List ℕ) → Reading Entry
 tick_line (number ∷ []) = reading_map (λ n. feeder_entry (Tick n)) (number_in 1 60000 2 number)
 tick_line words = no_line
 
--- the number of an operator, and the request behind it
+-- the entry of an operator's request, by the operator's number and the request behind it
 abbrev pub operator_with : Names → Option (List ℕ × List ℕ) → Reading Entry
 operator_with names None = no_line
 operator_with names (Some w) =
@@ -71,7 +71,7 @@ operator_with names (Some w) =
 unfoldable pub operator_line : Names → (rest : List ℕ) → Reading Entry
 operator_line names rest = operator_with names (first_word rest)
 
--- `REQUEST`: a worker asks
+-- `REQUEST`: the worker of a script asks
 unfoldable pub script_line : Names → (who : ℕ) → (word rest : List ℕ) → Reading Entry
 script_line names who word rest = reading_map (request_entry who) (request_of names word rest)
 
@@ -91,12 +91,13 @@ abbrev pub is_script : TextKind → Bool
 is_script (Script who) = true
 is_script _ = false
 
--- the worker whose requests a script has
+-- the worker whose requests a script has; 1 for another text
 abbrev pub script_worker : TextKind → ℕ
 script_worker (Script who) = who
 script_worker _ = 1
 
--- a line kind of another file breaks rule 4, or a lesser rule besides
+-- what was read of a line, where lines of its kind may stand in the text; else rule 4, or a lesser
+-- rule that it breaks besides
 abbrev pub where_allowed : {A : Type 0} → Bool → Reading A → Reading A
 where_allowed true reading = reading
 where_allowed false (Ok a) = Err 4
@@ -106,15 +107,15 @@ where_allowed false (Err rule) = Err (min rule 4)
 abbrev pub step_entries : (count : ℕ) → List Entry
 step_entries count = replicate count one_step
 
--- a line with one entry
+-- the entries of a line that has one entry
 abbrev pub one_entry : Entry → List Entry
 one_entry entry = entry ∷ []
 
--- a line with one entry, where lines of its kind stand in the text
+-- the entries of a line that has one entry, where lines of its kind may stand in the text
 abbrev pub one_where_allowed : Bool → Reading Entry → Reading (List Entry)
 one_where_allowed allowed reading = reading_map one_entry (where_allowed allowed reading)
 
--- a line by its first word
+-- the entries of a line, behind `before` steps, by its first word and the text behind it
 abbrev pub line_with :
     TextKind → Names → (before : ℕ) → Option (List ℕ × List ℕ) → Reading (List Entry)
 line_with kind names before None = no_line
@@ -135,7 +136,7 @@ line_with kind names before (Some w) =
 abbrev pub is_entry_line_skipped : (line : List ℕ) → Bool
 is_entry_line_skipped line = length line == 0 || starts_with nat_eq line (codes "//")
 
--- a line behind so many steps
+-- the entries that a line spells, behind `before` steps, or the least rule that it breaks
 unfoldable pub line_read : TextKind → Names → (before : ℕ) → (line : List ℕ) → Reading (List Entry)
 line_read kind names before line =
     if is_entry_line_skipped line then Ok [] else line_with kind names before (first_word line)

@@ -11,7 +11,7 @@ use Rattle.var_access.specs.declared.requests.Var.{Var}
 use Rattle.event_text.specs.Workers.{operator_of}
 use Rattle.event_text.specs.HistoryText.{value_text}
 
--- how the line begins: the number of the entry, and the operator who asked
+-- how the line of a reply begins: the number of the entry, and the operator who asked
 abbrev pub reply_head : (n who : ℕ) → List ℕ
 reply_head n who = codes "@" ++ (decimal n ++ (codes " OP " ++ decimal (operator_of who)))
 
@@ -31,7 +31,7 @@ read_vars _ = []
 abbrev pub records_text : (n : ℕ) → List DiagRecord → List ℕ
 records_text n records = flat_map (diag_text n) records
 
--- what the reply says; behind the number of diagnostics a line for each of them
+-- what the reply to entry n says; behind the number of diagnostics a line for each of them
 unfoldable pub outcome_text : (n : ℕ) → Request → Reply → List ℕ
 outcome_text n request (Values values) =
     codes " VALUES" ++ (values_text (read_vars request) values ++ codes "\n")

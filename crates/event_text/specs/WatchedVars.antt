@@ -14,7 +14,7 @@ use Rattle.var_access.specs.declared.requests.Var.{Var}
 use Rattle.event_text.specs.Lines.{line_read}
 use Rattle.event_text.specs.declared.kinds.TextKind.TheVariants.{Script}
 
--- a line breaks a rule
+-- the refusal of a line by the rule that it breaks
 abbrev pub line_refused : {A : Type 0} → (line rule : ℕ) → Result A Refusal
 line_refused line rule = Err (record { line = line; rule = rule })
 
@@ -23,7 +23,8 @@ abbrev pub vars_of_read_request : (line : ℕ) → What → Result (Option (List
 vars_of_read_request line (Ask (ReadVars vars)) = Ok (Some vars)
 vars_of_read_request line what = line_refused line 7
 
--- the variables behind a line, with those that were found before it; rule 7 where it is a second one
+-- the variables behind a line, with those that were found before it; rule 7 where it is a second
+-- one
 abbrev pub vars_behind :
     (line : ℕ) (found : Option (List Var)) → Reading (List Entry)
     → Result (Option (List Var)) Refusal
@@ -32,19 +33,21 @@ vars_behind line found (Ok []) = Ok found
 vars_behind line None (Ok (e ∷ [])) = vars_of_read_request line e.what
 vars_behind line found (Ok entries) = line_refused line 7
 
--- at the end: rule 7, of line 1, where there is no line with a request
+-- the variables that were found in a script; rule 7, of line 1, where no line has a request
 abbrev pub vars_or_no_request : Option (List Var) → Result (List Var) Refusal
 vars_or_no_request (Some vars) = Ok vars
 vars_or_no_request None = line_refused 1 7
 
--- what lines come to of which the first one was read so
+-- what lines come to by how the first was read: its refusal, or what `more` makes of the variables
+-- found so far
 abbrev pub vars_and_then :
     Result (Option (List Var)) Refusal
     → (Option (List Var) → Result (List Var) Refusal) → Result (List Var) Refusal
 vars_and_then (Err refusal) more = Err refusal
 vars_and_then (Ok found) more = more found
 
--- lines from one with this number on, behind these variables
+-- the variables that lines spell, the first of which has this number, with those found before it;
+-- or a refusal
 unfoldable pub vars_from :
     Names → (line : ℕ) (found : Option (List Var)) → List (List ℕ) → Result (List Var) Refusal
 vars_from names line found [] = vars_or_no_request found
@@ -52,6 +55,6 @@ vars_from names line found (text ∷ more) =
     vars_and_then (vars_behind line found (line_read (Script 6) names 0 text))
     (λ next. vars_from names (line + 1) next more)
 
--- a whole text, with the names of a program
+-- the variables that a script asks for, with the names of a program, or its refusal
 unfoldable pub watched_vars_of : List NameEntry → List ℕ → Result (List Var) Refusal
 watched_vars_of names text = vars_from (find names) 1 None (lines text)

@@ -9,11 +9,11 @@ use Rattle.var_access.specs.declared.requests.Request.{Request}
 abbrev pub one_step : Entry
 one_step = record { who = 1; what = Step }
 
--- the entry of what worker 2 feeds: an input, an arrival or a tick
+-- the entry of an input, an arrival or a tick, which worker 2 makes
 abbrev pub feeder_entry : What → Entry
 feeder_entry what = record { who = 2; what = what }
 
--- the entry of a request, which the asking worker makes
+-- the entry of a request, which the worker makes who asks
 abbrev pub request_entry : (who : ℕ) → Request → Entry
 request_entry who request = record { who = who; what = Ask request }
 

@@ -1,11 +1,12 @@
-//! Laws: the numbers of an entry fit their fields. Nothing is done; each function reads what its contract
-//! speaks of.
+//! Laws: the numbers of an entry fit their fields. Nothing is done; each function reads what its
+//! contract speaks of.
 ghost use Rattle.std.specs.Prelude.{◌<◌, ◌^◌, All};
 ghost use Rattle.event_text.specs.Regular.{FitsPlace, RequestFits, WhatFits};
 
 use plc_base::BlockId;
 use var_access::{Entry, Request, Var, What};
 
+/// The numbers of a variable fit their fields.
 fn law_of_var(var: &Var)
     ensures { FitsPlace var.now }
 {
@@ -13,6 +14,7 @@ fn law_of_var(var: &Var)
     let _byte = var.place.byte;
 }
 
+/// The numbers of each variable fit their fields.
 pub(crate) fn law_of_vars(vars: &[Var])
     ensures { All FitsPlace vars.now }
 {
@@ -21,12 +23,14 @@ pub(crate) fn law_of_vars(vars: &[Var])
     }
 }
 
+/// The number of a block fits its field.
 fn law_of_block(block: &BlockId)
     ensures { block.now.number < 2 ^ 16 }
 {
     let _number = block.number;
 }
 
+/// The numbers of a request fit their fields.
 fn law_of_request(request: &Request)
     ensures { RequestFits request.now }
 {
@@ -38,6 +42,7 @@ fn law_of_request(request: &Request)
     }
 }
 
+/// The numbers of what an entry does fit their fields.
 fn law_of_what(what: &What)
     ensures { WhatFits what.now }
 {

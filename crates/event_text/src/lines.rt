@@ -286,8 +286,8 @@ fn read_words(
     read_script_line(kind, names, word, rest)
 }
 
-/// What a line spells, without its line end, where so many steps stand before it; else the least rule
-/// that it breaks.
+/// What a line spells, without its line end, where so many steps stand before it; else the least
+/// rule that it breaks.
 #[tactic(auto, unfolding(crate::specs::Lines::line_read))]
 pub(crate) fn read_line(
     kind: TextKind,

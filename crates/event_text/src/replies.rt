@@ -80,8 +80,8 @@ fn append_outcome(
     }
 }
 
-/// Appends what the reply to entry `n` says, as `reply_lines` does, without the number of the entry and
-/// the operator in front.
+/// Appends what the reply to entry `n` says, as `reply_lines` does, without the number of the entry
+/// and the operator in front.
 ///
 /// # Errors
 ///
@@ -132,10 +132,10 @@ fn append_reply(
     append_outcome(n, request, reply, out)
 }
 
-/// Appends the lines that tell the reply to entry `n`, a request of worker `who`: `@N OP k`, and then
-/// `VALUES h ..` (each value at its width, a bit as one digit), `DONE`, `NOSUCH i`, `NOTSTOPPED`, or
-/// `DIAG n` and n lines `@N DIAG e code info`. Of values without variables, or the other way round,
-/// none are told.
+/// Appends the lines that tell the reply to entry `n`, a request of worker `who`: `@N OP k`, and
+/// then `VALUES h ..` (each value at its width, a bit as one digit), `DONE`, `NOSUCH i`,
+/// `NOTSTOPPED`, or `DIAG n` and n lines `@N DIAG e code info`. Of values without variables, or the
+/// other way round, none are told.
 ///
 /// # Errors
 ///

@@ -93,11 +93,11 @@ impl HistoryReader {
     }
 }
 
-/// The entries that a history spells, line by line, with the names of a program's variables: `step` or
-/// `step n` (1 to 1,000,000 steps), `in b hh` (a peripheral byte takes a value), `arrive ob` or
-/// `arrive ob hhhhhhhh` (an interrupt arrives that requests OB 10 to 17 or 40 to 47, with a value or
-/// 0), `tick n` (1 to 60,000 milliseconds pass), `op k REQUEST` (operator 1 to 4 asks). Empty lines and
-/// lines that begin with `//` are skipped.
+/// The entries that a history spells, line by line, with the names of a program's variables: `step`
+/// or `step n` (1 to 1,000,000 steps), `in b hh` (a peripheral byte takes a value), `arrive ob` or
+/// `arrive ob hhhhhhhh` (an interrupt arrives that requests OB 10 to 17 or 40 to 47, with a value
+/// or 0), `tick n` (1 to 60,000 milliseconds pass), `op k REQUEST` (operator 1 to 4 asks). Empty
+/// lines and lines that begin with `//` are skipped.
 ///
 /// # Errors
 ///
@@ -209,8 +209,8 @@ pub fn read_stimuli(alloc: Global, bytes: &[u8]) -> Result<Vec<Entry>, TextFault
     read_entries(alloc, TextKind::Stimuli, &names, bytes)
 }
 
-/// The entries that the script of a worker spells, each line a request: `read V, V ..`, `write V h`,
-/// `stop`, `restart`, `monitor on KIND n`, `monitor off`, `diag`.
+/// The entries that the script of a worker spells, each line a request: `read V, V ..`, `write V
+/// h`, `stop`, `restart`, `monitor on KIND n`, `monitor off`, `diag`.
 ///
 /// # Errors
 ///

@@ -88,8 +88,8 @@ fn only_vars(found: Option<Vars>) -> Result<Vars, Refusal>
 ///
 /// # Errors
 ///
-/// The first line that breaks a rule of scripts, or rule 7: that isn't a `read`, or is a second one. A
-/// script without lines breaks rule 7 in line 1.
+/// The first line that breaks a rule of scripts, or rule 7: that isn't a `read`, or is a second
+/// one. A script without lines breaks rule 7 in line 1.
 pub fn read_vars(bytes: &[u8], names: &Names) -> Result<Vars, Refusal>
     requires { length bytes.now ≤ 1048576 }
     ensures value { result ≡ watched_vars_of names.now bytes.now }

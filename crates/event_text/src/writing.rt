@@ -238,8 +238,8 @@ fn append_runs(runs: &[Run], out: &mut Vec<u8>) -> Result<(), NoMemory>
     append_steps(steps, out)
 }
 
-/// The text of a history, given as its runs: `step n` for each longest row of steps, each other entry
-/// on a line of its own.
+/// The text of a history, given as its runs: `step n` for each longest row of steps, each other
+/// entry on a line of its own.
 fn write_runs(alloc: Global, runs: &[Run]) -> Result<Vec<u8>, NoMemory>
     requires are { AreRuns runs.now }
     requires bounded { length (entries_of_runs runs.now) < 2 ^ 64 }
@@ -250,8 +250,8 @@ fn write_runs(alloc: Global, runs: &[Run]) -> Result<Vec<u8>, NoMemory>
     Ok(out)
 }
 
-/// The text of a controller's history: `step n` for each longest row of steps, each other entry on a
-/// line of its own; symbols as addresses, no blank inside a variable, hexadecimal digits in upper
+/// The text of a controller's history: `step n` for each longest row of steps, each other entry on
+/// a line of its own; symbols as addresses, no blank inside a variable, hexadecimal digits in upper
 /// case, an arrival's value only where it isn't 0. What is written of a regular history (steps by
 /// worker 1, inputs, arrivals and ticks by worker 2, requests by workers 3 to 6) with at most
 /// 1,000,000 steps is read as that history (`laws::written_is_read`).

@@ -29,7 +29,7 @@ use Rattle.s7_cli.specs.declared.failures.Failure.TheVariants.{WordsRefused, Rea
 use Rattle.s7_cli.specs.Answer.{CallAnswer, CallOutcome, exit_status, done_answer, read_fault_answer, refused_file_answer, refused_image_answer, says_no_answer, too_deep_answer, too_long_answer}
 use Rattle.s7_cli.specs.BoundSays.{BoundAnswer, BoundSays, CheckedAnswer, HeldAnswer, RecheckAnswer, RecheckSays, StacksSuffice, image_bounded}
 use Rattle.s7_cli.specs.BoundTexts.{IsChainLine, IsCertificateOfImage, IsBoundText, IsBoundTextOfImage}
-use Rattle.s7_cli.specs.Command.{Command, Go, Check, Compile, Translate, Run, Gen, Live, Watch, Upgrade, ListImage, Bound, Recheck, Input, inputs_of}
+use Rattle.s7_cli.specs.Command.{Command, Go, Check, Compile, Translate, Run, Gen, Live, Watch, Upgrade, ListImage, Bound, Recheck, InputFile, inputs_of}
 use Rattle.s7_cli.specs.Ends.{SinkMoments, IsAnswerOfCall, IsCallCutShort}
 use Rattle.s7_cli.specs.Faults.{failure_of_certificate, failure_of_loading}
 use Rattle.s7_cli.specs.Inner.{ComesBeforeLine, HasRead, SaysRefusal, TextWritten}
@@ -135,9 +135,9 @@ recheck-suffices keep image certificate (Ok m) a l loads said zero is =
     same : m ≡ l
     same = let equal : Ok m ≡ Ok l = loads-one image (Ok m) (Ok l) loads is in cc
 
-stopped : (d : Disk) (i : Input) (a : CallAnswer) → StopsAt d i a → exit_status a.outcome ≡ 0 → ⊥
-stopped d i a (inl (rose, gives)) zero = not-done a read_fault_answer gives zero (λ e. omega (arith, e))
-stopped d i a (inr (bytes, agrees, long, gives)) zero = not-done a (too_long_answer i.file) gives zero (λ e. omega (arith, e))
+stop_not_done : (d : Disk) (i : InputFile) (a : CallAnswer) → StopsAt d i a → exit_status a.outcome ≡ 0 → ⊥
+stop_not_done d i a (inl (rose, gives)) zero = not-done a read_fault_answer gives zero (λ e. omega (arith, e))
+stop_not_done d i a (inr (bytes, agrees, long, gives)) zero = not-done a (too_long_answer i.file) gives zero (λ e. omega (arith, e))
 
 same_bytes : (c : Contents) (name xs ys : List ℕ) → c.at name ≡ Some xs → c.at name ≡ Some ys → xs ≡ ys
 same_bytes c name xs ys p q = let e : Some xs ≡ Some ys = sym p ∙ q in cc
@@ -152,7 +152,7 @@ no_name k name none some = let e : None ≡ Some name = sym none ∙ some in cc
 bound-stacks : CertificatesKeepStacks → (d : Disk) (image certificate : List ℕ) (a : CallAnswer)
     → ReadsFilesInTurn d (inputs_of (Bound image certificate)) (CommandSays (Bound image certificate)) a → exit_status a.outcome ≡ 0
     → StacksSuffice (Bound image certificate) d
-bound-stacks keep d image certificate a (inl stops) zero = absurd (stopped d _ a stops zero)
+bound-stacks keep d image certificate a (inl stops) zero = absurd (stop_not_done d _ a stops zero)
 bound-stacks keep d image certificate a (inr (bytes, holds, said)) zero = λ name held l is known there loads.
     let here : d.before.contents.at image ≡ Some held =
     subst (λ (n : List ℕ). d.before.contents.at n ≡ Some held) (sym (other_name image name is)) there in
@@ -162,8 +162,8 @@ bound-stacks keep d image certificate a (inr (bytes, holds, said)) zero = λ nam
 recheck-stacks : CertificatesKeepStacks → (d : Disk) (image certificate : List ℕ) (a : CallAnswer)
     → ReadsFilesInTurn d (inputs_of (Recheck image certificate)) (CommandSays (Recheck image certificate)) a → exit_status a.outcome ≡ 0
     → StacksSuffice (Recheck image certificate) d
-recheck-stacks keep d image certificate a (inl stops) zero = absurd (stopped d _ a stops zero)
-recheck-stacks keep d image certificate a (inr (bytes, holds, inl stops)) zero = absurd (stopped d _ a stops zero)
+recheck-stacks keep d image certificate a (inl stops) zero = absurd (stop_not_done d _ a stops zero)
+recheck-stacks keep d image certificate a (inr (bytes, holds, inl stops)) zero = absurd (stop_not_done d _ a stops zero)
 recheck-stacks keep d image certificate a (inr (bytes, holds, inr (text, within, said))) zero = λ name held l is known there loads.
     let here : d.before.contents.at image ≡ Some held =
     subst (λ (n : List ℕ). d.before.contents.at n ≡ Some held) (sym (other_name image name is)) there in

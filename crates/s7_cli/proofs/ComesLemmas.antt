@@ -7,13 +7,13 @@ use Rattle.plc_io.specs.Moments.{FilesAt, SinkAt}
 use Rattle.s7_cli.specs.declared.failures.Failure.{Failure}
 use Rattle.s7_cli.specs.declared.failures.Failure.TheVariants.{WordsRefused, ReadFault, TooLong, Refused, ImageRefused, NoListing, SaysNo, TooDeep, WriteFault, NoMemory}
 use Rattle.s7_cli.specs.Answer.{CallAnswer, CallOutcome, done_answer, refused_file_answer, refused_image_answer, no_listing_answer, says_no_answer, read_fault_answer, too_long_answer}
-use Rattle.s7_cli.specs.Command.{Command, Input, inputs_of, outputs_of}
+use Rattle.s7_cli.specs.Command.{Command, InputFile, inputs_of, outputs_of}
 use Rattle.s7_cli.specs.Ends.{SinkMoments, sink_moments, IsAnswerOfCall, ChangesOutputs, WritesOutputs}
 use Rattle.s7_cli.specs.Inner.{OnlyReads, FileRead, HasRead, StopsAmong, AllRead, SaysRefusal, TextWritten, ComesBeforeLine, CommandComesTo}
 use Rattle.s7_cli.specs.Reading.{Disk, disk_moments, HoldsBytes, HoldBytesInTurn, StopsAt, ReadsFilesInTurn}
 use Rattle.s7_cli.specs.Says.{CommandSays}
 use Rattle.s7_cli.proofs.ReadingLemmas.{reads-all}
-use Rattle.s7_cli.proofs.RefusedLemmas.{allowed}
+use Rattle.s7_cli.proofs.RefusedLemmas.{refusal_says_more}
 
 pub unchanged : (at : FilesAt) → AreFilesUnchanged at at
 unchanged at = record { contents = record { told = refl; at = λ name. refl }; reads = λ name. refl; writes = λ name. refl }
@@ -21,11 +21,11 @@ unchanged at = record { contents = record { told = refl; at = λ name. refl }; r
 agrees-before : (start now : Contents) (name bytes : List ℕ) → SameFiles start now → FileHoldsBytes now name bytes → FileHoldsBytes start name bytes
 agrees-before start now name bytes same agrees = λ known. sym (same.at name) ∙ agrees (same.told ∙ known)
 
-held-before : (start now : Contents) (i : Input) (bytes : List ℕ) → SameFiles start now → HoldsBytes now i bytes → HoldsBytes start i bytes
+held-before : (start now : Contents) (i : InputFile) (bytes : List ℕ) → SameFiles start now → HoldsBytes now i bytes → HoldsBytes start i bytes
 held-before start now i bytes same holds =
     record { agrees = agrees-before start now i.name bytes same holds.agrees; within = holds.within }
 
-hold-before : (start now : Contents) (is : List Input) (contents : List (List ℕ)) → SameFiles start now → HoldBytesInTurn now is contents
+hold-before : (start now : Contents) (is : List InputFile) (contents : List (List ℕ)) → SameFiles start now → HoldBytesInTurn now is contents
     → HoldBytesInTurn start is contents
 hold-before start now [] [] same hold = hold
 hold-before start now [] (bytes ∷ more) same hold = absurd hold
@@ -61,7 +61,7 @@ since start middle now same later = record {
   writes = λ name. later.writes name ∙ same.writes name;
 }
 
-stops-since : (start middle now : FilesAt) (i : Input) (a : CallAnswer) → AreFilesUnchanged start middle → StopsAt (disk_moments middle now) i a
+stops-since : (start middle now : FilesAt) (i : InputFile) (a : CallAnswer) → AreFilesUnchanged start middle → StopsAt (disk_moments middle now) i a
     → StopsAt (disk_moments start now) i a
 stops-since start middle now i a same (inl (rose, gives)) =
     inl (subst (λ (n : ℕ). CountRose n (now.failed_reads i.name)) (same.reads i.name) rose, gives)
@@ -76,20 +76,20 @@ wanting c d at only = record {
   writes = only.writes;
 }
 
-stops-among-since : (start middle now : FilesAt) (is : List Input) (a : CallAnswer) → AreFilesUnchanged start middle → StopsAmong (disk_moments middle now) is a
+stops-among-since : (start middle now : FilesAt) (is : List InputFile) (a : CallAnswer) → AreFilesUnchanged start middle → StopsAmong (disk_moments middle now) is a
     → StopsAmong (disk_moments start now) is a
 stops-among-since start middle now [] a same stops = stops
 stops-among-since start middle now (i ∷ is) a same (inl stops) = inl (stops-since start middle now i a same stops)
 stops-among-since start middle now (i ∷ is) a same (inr (bytes, holds, stops)) =
     inr (bytes, held-before start.contents middle.contents i bytes same.contents holds, stops-among-since start middle now is a same stops)
 
-stops-behind : (d : Disk) (is js : List Input) (contents : List (List ℕ)) (a : CallAnswer) → HoldBytesInTurn d.before.contents is contents
+stops-behind : (d : Disk) (is js : List InputFile) (contents : List (List ℕ)) (a : CallAnswer) → HoldBytesInTurn d.before.contents is contents
     → StopsAmong d js a → StopsAmong d (is ++ js) a
 stops-behind d [] js contents a hold stops = stops
 stops-behind d (i ∷ is) js [] a hold stops = absurd hold
 stops-behind d (i ∷ is) js (bytes ∷ more) a hold stops = inr (bytes, hold.0, stops-behind d is js more a hold.1 stops)
 
-stops-reads : (d : Disk) (is rest : List Input) (says : List (List ℕ) → CallAnswer → Type 0) (a : CallAnswer) → StopsAmong d is a
+stops-reads : (d : Disk) (is rest : List InputFile) (says : List (List ℕ) → CallAnswer → Type 0) (a : CallAnswer) → StopsAmong d is a
     → ReadsFilesInTurn d (is ++ rest) says a
 stops-reads d [] rest says a stops = absurd stops
 stops-reads d (i ∷ is) rest says a (inl stops) = inl stops
@@ -98,7 +98,7 @@ stops-reads d (i ∷ is) rest says a (inr (bytes, holds, stops)) =
 
 -- ---- files that are read one after the other
 
-hold-++ : (c : Contents) (is js : List Input) (contents more : List (List ℕ)) → HoldBytesInTurn c is contents → HoldBytesInTurn c js more
+hold-++ : (c : Contents) (is js : List InputFile) (contents more : List (List ℕ)) → HoldBytesInTurn c is contents → HoldBytesInTurn c js more
     → HoldBytesInTurn c (is ++ js) (contents ++ more)
 hold-++ c [] js [] more hold after = after
 hold-++ c [] js (bytes ∷ contents) more hold after = absurd hold
@@ -106,12 +106,12 @@ hold-++ c (i ∷ is) js [] more hold after = absurd hold
 hold-++ c (i ∷ is) js (bytes ∷ contents) more hold after = (hold.0, hold-++ c is js contents more hold.1 after)
 
 -- what a file that is read shows
-pub file-read : {V : Type 0} (view : V → List ℕ) (start now : FilesAt) (i : Input) (v : V) → FileRead view (disk_moments start now) i (Ok v)
+pub file-read : {V : Type 0} (view : V → List ℕ) (start now : FilesAt) (i : InputFile) (v : V) → FileRead view (disk_moments start now) i (Ok v)
     → HasRead start now (i ∷ []) (view v ∷ [])
 file-read view start now i v (same, holds) = record { same = same; hold = (holds, tt) }
 
 -- files were read, and then more of them
-pub read-then : (start middle now : FilesAt) (is js : List Input) (contents more : List (List ℕ)) → HasRead start middle is contents
+pub read-then : (start middle now : FilesAt) (is js : List InputFile) (contents more : List (List ℕ)) → HasRead start middle is contents
     → HasRead middle now js more → HasRead start now (is ++ js) (contents ++ more)
 read-then start middle now is js contents more first second = record {
   same = record {
@@ -127,7 +127,7 @@ read-then start middle now is js contents more first second = record {
 }
 
 -- one isn't read, be there further ones behind it
-pub file-fails : {V W : Type 0} (view : V → List ℕ) (views : W → List (List ℕ)) (d : Disk) (i : Input) (more : List Input) (failure : Failure)
+pub file-fails : {V W : Type 0} (view : V → List ℕ) (views : W → List (List ℕ)) (d : Disk) (i : InputFile) (more : List InputFile) (failure : Failure)
     → FileRead view d i (Err failure) → AllRead views d (i ∷ more) (Err failure)
 file-fails view views d i more ReadFault (only, stops) = (only, inl stops)
 file-fails view views d i more (TooLong file) (same, is_file, stops) = (same, inl stops)
@@ -140,12 +140,12 @@ file-fails view views d i more SaysNo read = absurd read
 file-fails view views d i more TooDeep read = absurd read
 file-fails view views d i more WriteFault read = absurd read
 
-pub file-unread : {V W : Type 0} (view : V → List ℕ) (views : W → List (List ℕ)) (d : Disk) (i : Input) (failure : Failure) (r : Result W Failure)
+pub file-unread : {V W : Type 0} (view : V → List ℕ) (views : W → List (List ℕ)) (d : Disk) (i : InputFile) (failure : Failure) (r : Result W Failure)
     → r ≡ Err failure → FileRead view d i (Err failure) → AllRead views d (i ∷ []) r
 file-unread {V} {W} view views d i failure r is read =
     subst (λ (q : Result W Failure). AllRead views d (i ∷ []) q) (sym is) (file-fails view views d i [] failure read)
 
-fails-then : {V W : Type 0} (view : V → List (List ℕ)) (views : W → List (List ℕ)) (start middle now : FilesAt) (is js : List Input)
+fails-then : {V W : Type 0} (view : V → List (List ℕ)) (views : W → List (List ℕ)) (start middle now : FilesAt) (is js : List InputFile)
     (contents : List (List ℕ)) (failure : Failure) → HasRead start middle is contents → AllRead view (disk_moments middle now) js (Err failure)
     → AllRead views (disk_moments start now) (is ++ js) (Err failure)
 fails-then view views start middle now is js contents ReadFault first (only, stops) = (
@@ -173,7 +173,7 @@ fails-then view views start middle now is js contents TooDeep first read = absur
 fails-then view views start middle now is js contents WriteFault first read = absurd read
 
 -- files were read, and then one isn't
-pub unread-then : {V W : Type 0} (view : V → List (List ℕ)) (views : W → List (List ℕ)) (start middle now : FilesAt) (is js : List Input)
+pub unread-then : {V W : Type 0} (view : V → List (List ℕ)) (views : W → List (List ℕ)) (start middle now : FilesAt) (is js : List InputFile)
     (contents : List (List ℕ)) (failure : Failure) (r : Result W Failure) → r ≡ Err failure → HasRead start middle is contents
     → AllRead view (disk_moments middle now) js (Err failure) → AllRead views (disk_moments start now) (is ++ js) r
 unread-then {V} {W} view views start middle now is js contents failure r equal first read =
@@ -182,13 +182,13 @@ unread-then {V} {W} view views start middle now is js contents failure r equal f
 
 -- ---- a command whose files aren't all read
 
-not-read : {V : Type 0} (view : V → List (List ℕ)) (c : Command) (start now : FilesAt) (at : SinkAt) (is rest : List Input)
+not-read : {V : Type 0} (view : V → List (List ℕ)) (c : Command) (start now : FilesAt) (at : SinkAt) (is rest : List InputFile)
     (failure : Failure) → inputs_of c ≡ is ++ rest → AllRead view (disk_moments start now) is (Err failure)
     → ComesBeforeLine (Some c) (disk_moments start now) (sink_moments at at) (Err failure)
 not-read view c start now at is rest ReadFault are (only, stops) = record {
   line = read_fault_answer.text;
   has_line = refl;
-  answers = subst (λ (inputs : List Input). ReadsFilesInTurn (disk_moments start now) inputs (CommandSays c) read_fault_answer) (sym are)
+  answers = subst (λ (inputs : List InputFile). ReadsFilesInTurn (disk_moments start now) inputs (CommandSays c) read_fault_answer) (sym are)
       (stops-reads (disk_moments start now) is rest (CommandSays c) read_fault_answer stops);
   sink = refl;
   counts = only.reads;
@@ -197,7 +197,7 @@ not-read view c start now at is rest ReadFault are (only, stops) = record {
 not-read view c start now at is rest (TooLong file) are (same, stops) = record {
   line = (too_long_answer file).text;
   has_line = refl;
-  answers = subst (λ (inputs : List Input). ReadsFilesInTurn (disk_moments start now) inputs (CommandSays c) (too_long_answer file)) (sym are)
+  answers = subst (λ (inputs : List InputFile). ReadsFilesInTurn (disk_moments start now) inputs (CommandSays c) (too_long_answer file)) (sym are)
       (stops-reads (disk_moments start now) is rest (CommandSays c) (too_long_answer file) stops);
   sink = refl;
   counts = same.reads;
@@ -212,7 +212,7 @@ not-read view c start now at is rest SaysNo are read = absurd read
 not-read view c start now at is rest TooDeep are read = absurd read
 not-read view c start now at is rest WriteFault are read = absurd read
 
-pub comes-unread : {V : Type 0} (view : V → List (List ℕ)) (c : Command) (start now : FilesAt) (at : SinkAt) (is rest : List Input)
+pub comes-unread : {V : Type 0} (view : V → List (List ℕ)) (c : Command) (start now : FilesAt) (at : SinkAt) (is rest : List InputFile)
     (failure : Failure) (came : CallOutcome) → inputs_of c ≡ is ++ rest → came ≡ Err failure
     → AllRead view (disk_moments start now) is (Err failure) → ComesBeforeLine (Some c) (disk_moments start now) (sink_moments at at) came
 comes-unread view c start now at is rest failure came are equal read =
@@ -276,7 +276,7 @@ pub comes-refused : (V : Type 0) (c : Command) (start now : FilesAt) (at : SinkA
     → ComesBeforeLine (Some c) (disk_moments start now) (sink_moments at at) came
 comes-refused V c start now at contents said failure came equal read each refused =
     subst (λ (o : CallOutcome). ComesBeforeLine (Some c) (disk_moments start now) (sink_moments at at) o) (sym equal)
-    (refuses V c start now at contents failure read (allowed V V said (CommandSays c contents) failure each refused))
+    (refuses V c start now at contents failure read (refusal_says_more V V said (CommandSays c contents) failure each refused))
 
 -- ---- the result was written, or a front of it
 
@@ -337,31 +337,31 @@ comes-written c start now s contents text came none read said took =
 -- ---- what comes behind the reading of all input files
 
 -- of one, whose bytes are lent
-pub behind-one : {V : Type 0} (view : V → List ℕ) (c : Command) (i : Input) (start middle now : FilesAt) (v : V) (lent : List ℕ) (s : SinkMoments) (came : CallOutcome)
+pub behind-one : {V : Type 0} (view : V → List ℕ) (c : Command) (i : InputFile) (start middle now : FilesAt) (v : V) (lent : List ℕ) (s : SinkMoments) (came : CallOutcome)
     → inputs_of c ≡ i ∷ [] → lent ≡ view v → FileRead view (disk_moments start middle) i (Ok v) → CommandComesTo c (lent ∷ []) (disk_moments middle now) s came
     → ComesBeforeLine (Some c) (disk_moments start now) s came
 behind-one view c i start middle now v lent s came are is read comes =
     comes start
     (subst (λ (bytes : List ℕ). HasRead start middle (inputs_of c) (bytes ∷ [])) (sym is)
-    (subst (λ (inputs : List Input). HasRead start middle inputs (view v ∷ [])) (sym are) (file-read view start middle i v read)))
+    (subst (λ (inputs : List InputFile). HasRead start middle inputs (view v ∷ [])) (sym are) (file-read view start middle i v read)))
 
 -- of two
-pub behind-two : {V : Type 0} (view : V → List ℕ) (c : Command) (i j : Input) (start middle now : FilesAt) (v w : V) (one two : List ℕ) (s : SinkMoments)
+pub behind-two : {V : Type 0} (view : V → List ℕ) (c : Command) (i j : InputFile) (start middle now : FilesAt) (v w : V) (one two : List ℕ) (s : SinkMoments)
     (came : CallOutcome) → inputs_of c ≡ i ∷ j ∷ [] → one ≡ view v → two ≡ view w → FileRead view (disk_moments start middle) i (Ok v)
     → FileRead view (disk_moments middle now) j (Ok w) → CommandComesTo c (one ∷ two ∷ []) (disk_moments now now) s came → ComesBeforeLine (Some c) (disk_moments start now) s came
 behind-two view c i j start middle now v w one two s came are first second read then comes =
     comes start
     (subst (λ (bytes : List ℕ). HasRead start now (inputs_of c) (bytes ∷ two ∷ [])) (sym first)
     (subst (λ (bytes : List ℕ). HasRead start now (inputs_of c) (view v ∷ bytes ∷ [])) (sym second)
-    (subst (λ (inputs : List Input). HasRead start now inputs (view v ∷ view w ∷ [])) (sym are)
+    (subst (λ (inputs : List InputFile). HasRead start now inputs (view v ∷ view w ∷ [])) (sym are)
     (read-then start middle now (i ∷ []) (j ∷ []) (view v ∷ []) (view w ∷ []) (file-read view start middle i v read) (file-read view middle now j w then)))))
 
 -- of several, and then of one whose bytes are lent
-pub behind-more : {V W : Type 0} (views : V → List (List ℕ)) (view : W → List ℕ) (c : Command) (is : List Input) (j : Input) (start middle now : FilesAt)
+pub behind-more : {V W : Type 0} (views : V → List (List ℕ)) (view : W → List ℕ) (c : Command) (is : List InputFile) (j : InputFile) (start middle now : FilesAt)
     (v : V) (w : W) (lent : List ℕ) (s : SinkMoments) (came : CallOutcome) → inputs_of c ≡ is ++ j ∷ [] → lent ≡ view w → HasRead start middle is (views v)
     → FileRead view (disk_moments middle now) j (Ok w) → CommandComesTo c (views v ++ lent ∷ []) (disk_moments now now) s came → ComesBeforeLine (Some c) (disk_moments start now) s came
 behind-more views view c is j start middle now v w lent s came are same read then comes =
     comes start
     (subst (λ (bytes : List ℕ). HasRead start now (inputs_of c) (views v ++ bytes ∷ [])) (sym same)
-    (subst (λ (inputs : List Input). HasRead start now inputs (views v ++ view w ∷ [])) (sym are)
+    (subst (λ (inputs : List InputFile). HasRead start now inputs (views v ++ view w ∷ [])) (sym are)
     (read-then start middle now is (j ∷ []) (views v) (view w ∷ []) read (file-read view middle now j w then))))

@@ -183,10 +183,10 @@ has_program law source list laid are is there = λ language symbols files has. (
 )
 
 -- the one that is generated
-generated : (source : List ℕ) (laid : LaidSource) (checked : Tree) → IsSourceLaidOut source laid
+program_is_generated : (source : List ℕ) (laid : LaidSource) (checked : Tree) → IsSourceLaidOut source laid
     → checked ≡ laid.tree
     → program_of checked laid.symbols laid.layouts ≡ program_in laid.symbols laid.tree
-generated source laid checked is same =
+program_is_generated source laid checked is same =
     ap (λ (t : Tree). program_of t laid.symbols laid.layouts) same
     ∙ ap (λ (z : List BlockLayout). program_of laid.tree laid.symbols z) is.layout
 
@@ -196,7 +196,7 @@ pub generated_runs : ProgramsRun → (source : List ℕ) (list : List Symbol) (l
     → least (statement_refusals laid.tree laid.symbols laid.layouts) ≡ None
     → KeepsWith source list (program_of checked laid.symbols laid.layouts)
 generated_runs law source list laid checked are is same there = λ language symbols files has.
-    subst (KeepsSourceIn language Large source symbols) (sym (generated source laid checked is same))
+    subst (KeepsSourceIn language Large source symbols) (sym (program_is_generated source laid checked is same))
     (accepted_runs law language source symbols laid files
     (same_symbols language symbols list laid.symbols are has) is there)
 
@@ -214,7 +214,7 @@ generated_compiles source list laid checked are is same there = λ language symb
   lexed = is.parsed.1;
   parsed = is.parsed.2;
   right = sound_both laid.symbols laid.tree laid.layouts is.right is.layout there;
-  program = sym (generated source laid checked is same);
+  program = sym (program_is_generated source laid checked is same);
 }
 
 pub one_program : AreTokensUnique → IsTreeUnique → IsProgramUnique

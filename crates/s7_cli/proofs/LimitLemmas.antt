@@ -9,7 +9,7 @@ use Rattle.clap.specs.Words.{all_of, fault_of, first_of, matches_of}
 use Rattle.plc_base.specs.Decimal.{decimal_up_to, decimal_value, is_decimal}
 use Rattle.stl_parser.proofs.OptionLemmas.{both, chained, mapped, none_holds, passed}
 use Rattle.s7_cli.specs.Command.{Command, Gen, Live, Watch}
-use Rattle.s7_cli.specs.Words.{the_line, file_command, has_german, number_from_one_up_to, one_word_command, takes_no_source, two_word_command, three_word_command, short_command, live_command, stepped_command, watch_command, asked_for, asked_by, command_of, CommandsKeepLimits, KeepsLimits}
+use Rattle.s7_cli.specs.Words.{the_line, file_command, has_german, number_from_one_up_to, one_word_command, takes_no_source, two_word_command, three_word_command, short_command, live_command, stepped_command, watch_command, command_with_options, command_of_rows, command_of, CommandsKeepLimits, KeepsLimits}
 
 decimal-limit : (most : ℕ) (word : List ℕ) → IfSome (decimal_up_to most word) (λ n. n ≤ most)
 unfolding decimal_up_to
@@ -88,20 +88,20 @@ stepped-limits : (command : List ℕ) (words : List (List ℕ)) (steps : List �
 stepped-limits command words steps = both (bytes_eq command (codes "watch")) _ _ KeepsLimits (watch-limits words steps) (live-limits command words steps)
 
 asked-limits : (command : List ℕ) (words : List (List ℕ)) (symbols : Option (List ℕ)) (german : Bool) (steps : Option (List ℕ))
-    → IfSome (asked_for command words symbols german steps) KeepsLimits
+    → IfSome (command_with_options command words symbols german steps) KeepsLimits
 asked-limits command words symbols german None = short-limits command words symbols german
 asked-limits command words symbols german (Some steps) =
     passed (takes_no_source symbols german) _ KeepsLimits (λ _. stepped-limits command words steps)
 
-found-limits : (found : List Row) → IfSome (asked_by found) KeepsLimits
+found-limits : (found : List Row) → IfSome (command_of_rows found) KeepsLimits
 found-limits found =
     chained (first_of (codes "COMMAND") found) _ (λ command. Unit {0}) KeepsLimits (none_holds (first_of (codes "COMMAND") found))
     (λ command _. asked-limits command (unwrap_or (all_of (codes "FILES") found) []) (first_of (codes "symbols") found) (has_german found) (first_of (codes "steps") found))
 
 pub commands_keep_limits : CommandsKeepLimits
 unfolding command_of
-commands_keep_limits words = passed (is_empty (fault_of the_line words)) (asked_by (matches_of the_line words)) KeepsLimits (λ _. found-limits (matches_of the_line words))
+commands_keep_limits words = passed (is_empty (fault_of the_line words)) (command_of_rows (matches_of the_line words)) KeepsLimits (λ _. found-limits (matches_of the_line words))
 
--- so is one that was read
+-- a command that was read is within its limits
 pub read-limits : (words : List (List ℕ)) (k : Command) → Some k ≡ command_of words → KeepsLimits k
 read-limits words k is = subst (λ (o : Option Command). IfSome o KeepsLimits) (sym is) (commands_keep_limits words)

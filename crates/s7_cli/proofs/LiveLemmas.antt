@@ -22,7 +22,7 @@ use Rattle.s7_cli.specs.declared.failures.Failure.TheVariants.{WordsRefused, Rea
 use Rattle.s7_cli.specs.declared.failures.File.TheVariants.{Stimuli, Script}
 use Rattle.s7_cli.specs.declared.files.LiveText.{LiveText}
 use Rattle.s7_cli.specs.Answer.{CallAnswer, done_answer}
-use Rattle.s7_cli.specs.Command.{Input, live_inputs, script_inputs}
+use Rattle.s7_cli.specs.Command.{InputFile, live_inputs, script_inputs}
 use Rattle.s7_cli.specs.Faults.{failure_of_loading, failure_of_text}
 use Rattle.s7_cli.specs.Inner.{AllRead, FileRead, HasRead, SaysRefusal}
 use Rattle.s7_cli.specs.LiveSays.{LiveAnswer, RefusedScript, live_text, script_first, scripts_from}
@@ -36,46 +36,46 @@ use Rattle.s7_cli.proofs.ComesLemmas.{file-fails, file-read, only-reads, read-th
 -- ---- input files that are read in a loop
 
 -- of all files these are left, and those before them were read
-pub record IsReading (start now : FilesAt) (all rest : List Input) (contents : List (List ℕ)) : Type 0 where
-  pub before : List Input
+pub record IsReading (start now : FilesAt) (all rest : List InputFile) (contents : List (List ℕ)) : Type 0 where
+  pub before : List InputFile
   pub splits : all ≡ before ++ rest
   pub read : HasRead start now before contents
 
-pub reads-first : (at : FilesAt) (all : List Input) → IsReading at at all all []
+pub reads-first : (at : FilesAt) (all : List InputFile) → IsReading at at all all []
 reads-first at all = record { before = []; splits = refl; read = record { same = unchanged at; hold = tt } }
 
-pub reads-next : {V : Type 0} (view : V → List ℕ) (start middle now : FilesAt) (all rest more : List Input) (i : Input) (contents after : List (List ℕ)) (v : V)
+pub reads-next : {V : Type 0} (view : V → List ℕ) (start middle now : FilesAt) (all rest more : List InputFile) (i : InputFile) (contents after : List (List ℕ)) (v : V)
     → IsReading start middle all rest contents → rest ≡ i ∷ more → after ≡ contents ++ view v ∷ [] → FileRead view (disk_moments middle now) i (Ok v)
     → IsReading start now all more after
 reads-next view start middle now all rest more i contents after v so_far first are read = record {
   before = so_far.before ++ i ∷ [];
-  splits = so_far.splits ∙ ap (λ (is : List Input). so_far.before ++ is) first ∙ sym (append_assoc so_far.before (i ∷ []) more);
+  splits = so_far.splits ∙ ap (λ (is : List InputFile). so_far.before ++ is) first ∙ sym (append_assoc so_far.before (i ∷ []) more);
   read = subst (λ (c : List (List ℕ)). HasRead start now (so_far.before ++ i ∷ []) c) (sym are)
       (read-then start middle now so_far.before (i ∷ []) contents (view v ∷ []) so_far.read (file-read view middle now i v read));
 }
 
-pub reads-cut : {V W : Type 0} (view : V → List ℕ) (views : W → List (List ℕ)) (start middle now : FilesAt) (all rest more : List Input) (i : Input)
+pub reads-cut : {V W : Type 0} (view : V → List ℕ) (views : W → List (List ℕ)) (start middle now : FilesAt) (all rest more : List InputFile) (i : InputFile)
     (contents : List (List ℕ)) (failure : Failure) (r : Result W Failure) → IsReading start middle all rest contents → rest ≡ i ∷ more
     → r ≡ Err failure → FileRead view (disk_moments middle now) i (Err failure) → AllRead views (disk_moments start now) all r
 reads-cut {V} {W} view views start middle now all rest more i contents failure r so_far first is read =
-    subst (λ (inputs : List Input). AllRead views (disk_moments start now) inputs r)
-    (sym (so_far.splits ∙ ap (λ (inputs : List Input). so_far.before ++ inputs) first))
+    subst (λ (inputs : List InputFile). AllRead views (disk_moments start now) inputs r)
+    (sym (so_far.splits ∙ ap (λ (inputs : List InputFile). so_far.before ++ inputs) first))
     (unread-then views views start middle now so_far.before (i ∷ more) contents failure r is so_far.read
     (file-fails view views (disk_moments middle now) i more failure read))
 
-pub reads-wanting : {W : Type 0} (views : W → List (List ℕ)) (start now : FilesAt) (all rest : List Input) (contents : List (List ℕ)) (r : Result W Failure)
+pub reads-wanting : {W : Type 0} (views : W → List (List ℕ)) (start now : FilesAt) (all rest : List InputFile) (contents : List (List ℕ)) (r : Result W Failure)
     → IsReading start now all rest contents → r ≡ Err NoMemory → AllRead views (disk_moments start now) all r
 reads-wanting {W} views start now all rest contents r so_far is =
     subst (λ (q : Result W Failure). AllRead views (disk_moments start now) all q) (sym is) (only-reads start now so_far.read.same)
 
-pub reads-last : (start now : FilesAt) (all rest : List Input) (contents : List (List ℕ)) → IsReading start now all rest contents → rest ≡ []
+pub reads-last : (start now : FilesAt) (all rest : List InputFile) (contents : List (List ℕ)) → IsReading start now all rest contents → rest ≡ []
     → HasRead start now all contents
 reads-last start now all rest contents so_far none =
-    subst (λ (inputs : List Input). HasRead start now inputs contents)
-    (sym (so_far.splits ∙ ap (λ (inputs : List Input). so_far.before ++ inputs) none ∙ append-nil so_far.before)) so_far.read
+    subst (λ (inputs : List InputFile). HasRead start now inputs contents)
+    (sym (so_far.splits ∙ ap (λ (inputs : List InputFile). so_far.before ++ inputs) none ∙ append-nil so_far.before)) so_far.read
 
 -- the scripts from a place on, as input files
-abbrev pub inputs_from : List (Bor (List ℕ)) → (place : ℕ) → List Input
+abbrev pub inputs_from : List (Bor (List ℕ)) → (place : ℕ) → List InputFile
 inputs_from names place = script_inputs (place + 1) (map (λ s. s.now) (drop place names))
 
 inputs-next : (names : List (Bor (List ℕ))) (place : ℕ) (name : Bor (List ℕ)) → place < length names → name ≡ get_or names place name
@@ -83,7 +83,7 @@ inputs-next : (names : List (Bor (List ℕ))) (place : ℕ) (name : Bor (List �
 inputs-next names place name within is =
     ap (λ (ns : List (Bor (List ℕ))). script_inputs (place + 1) (map (λ s. s.now) ns)) (drop_next names place name within is)
 
-pub script-next : {V : Type 0} (view : V → List ℕ) (start middle now : FilesAt) (all : List Input) (names : List (Bor (List ℕ))) (place : ℕ)
+pub script-next : {V : Type 0} (view : V → List ℕ) (start middle now : FilesAt) (all : List InputFile) (names : List (Bor (List ℕ))) (place : ℕ)
     (name : Bor (List ℕ)) (contents after : List (List ℕ)) (v : V) → FileRead view (disk_moments middle now) (record { file = Script (place + 1); name = name.now }) (Ok v)
     → IsReading start middle all (inputs_from names place) contents → after ≡ contents ++ view v ∷ [] → place < length names
     → name ≡ get_or names place name → IsReading start now all (inputs_from names (place + 1)) after
@@ -91,7 +91,7 @@ script-next view start middle now all names place name contents after v read so_
     reads-next view start middle now all (inputs_from names place) (inputs_from names (place + 1)) _ contents after v so_far
     (inputs-next names place name within is) are read
 
-pub script-cut : {V W : Type 0} (view : V → List ℕ) (views : W → List (List ℕ)) (start middle now : FilesAt) (all : List Input)
+pub script-cut : {V W : Type 0} (view : V → List ℕ) (views : W → List (List ℕ)) (start middle now : FilesAt) (all : List InputFile)
     (names : List (Bor (List ℕ))) (place : ℕ) (name : Bor (List ℕ)) (contents : List (List ℕ)) (failure : Failure) (r : Result W Failure)
     → FileRead view (disk_moments middle now) (record { file = Script (place + 1); name = name.now }) (Err failure)
     → IsReading start middle all (inputs_from names place) contents → r ≡ Err failure → place < length names

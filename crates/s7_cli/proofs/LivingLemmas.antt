@@ -14,9 +14,9 @@ use Rattle.station.specs.declared.shared.Opening.{Opening}
 use Rattle.station.specs.declared.shared.StationFault.{StationFault}
 use Rattle.station.specs.declared.shared.StationFault.TheVariants.{NoMemory, Full}
 use Rattle.station.specs.declared.shared.TheConstants.{FULL}
-use Rattle.s7_cli.specs.Living.{IsFullNever, IsLive, opened_on, total_length}
+use Rattle.s7_cli.specs.Living.{IsFullNever, IsLive, opening_on, total_length}
 use Rattle.s7_cli.specs.Working.{EndsInStop, HasWorked, KnowsFault, RunsBefore, WorkedBy, entries_of_worker, step_entry_by}
-use Rattle.s7_cli.proofs.NumberLemmas.{Numbered, all_of_each, begun_few, begun_many, begun_numbered, few_made, is_numbered, missing_none, stand_in, times_numbered}
+use Rattle.s7_cli.proofs.NumberLemmas.{AreNumbered, all_of_each, begun_few, begun_many, begun_numbered, few_made, is_numbered, missing_none, stand_in, times_numbered}
 use Rattle.s7_cli.proofs.StepperLemmas.{ends_on, none_came, runs_on}
 
 -- a station with two passes more than there are scripts, and what the workers made with these
@@ -34,7 +34,7 @@ module _ (s : LockView Opening) (steps : ℕ) (stimuli : List Entry) (scripts : 
   abbrev all_made : List (Made Entry)
   all_made = record { number = 1; entries = replicate h.count (step_entry_by 1) } ∷ h.others
 
-  numbered : Numbered 0 all_made
+  numbered : AreNumbered 0 all_made
   numbered = (refl, begun_numbered s 1 lists h.others h.begun)
 
   many : length all_made ≡ suc (suc (length scripts))
@@ -48,7 +48,7 @@ module _ (s : LockView Opening) (steps : ℕ) (stimuli : List Entry) (scripts : 
 
   module _ (begin c : Recording) (starts : s.origin ≡ record { program = begin.program; profile = begin.profile; first = begin.history } ∷ [])
       (loaded : LoadedProgram) (none_yet : begin ≡ record { program = loaded.program; profile = loaded.profile; history = []; spare = 0 }) (back : IsGivenBack (the_opening s.origin) c r) where
-    opening : the_opening s.origin ≡ opened_on loaded
+    opening : the_opening s.origin ≡ opening_on loaded
     opening = ap the_opening starts ∙ ap (λ (b : Recording). record { program = b.program; profile = b.profile; first = b.history }) none_yet
 
     of_all : HoldsForEach (λ (e : Entry). 0 < times e.who all_made) back.story
@@ -68,8 +68,8 @@ module _ (s : LockView Opening) (steps : ℕ) (stimuli : List Entry) (scripts : 
         absurd (omega (arith, knows, few, story_few, ap (λ (o : Opening). length o.first) opening, ap length back.begins.1, length-append r.seen back.begins.0))
 
     -- the history is a live history
-    pub lived : AreEntriesByMaker (λ e. e.who) r.seen r.made → whole ≡ true → IsLive loaded steps stimuli scripts c.history
-    lived agrees ok =
+    pub made_live_history : AreEntriesByMaker (λ e. e.who) r.seen r.made → whole ≡ true → IsLive loaded steps stimuli scripts c.history
+    made_live_history agrees ok =
         let o : Opening = the_opening s.origin in
         let story : List Entry = back.story in
         let later : List Entry = back.begins.0 in

@@ -10,17 +10,17 @@ use Rattle.clap.specs.declared.error.Error.{Error}
 use Rattle.clap.specs.declared.error.kind.ErrorKind.{ErrorKind}
 use Rattle.clap.specs.declared.error.kind.ErrorKind.TheVariants.{OutOfMemory}
 use Rattle.s7_cli.specs.Command.{Command}
-use Rattle.s7_cli.specs.Words.{the_line, asked_for, asked_by, command_of, has_german}
+use Rattle.s7_cli.specs.Words.{the_line, command_with_options, command_of_rows, command_of, has_german}
 
 -- the words that were found, one by one
-pub asked_by-is : (rows : List Row) (command : List ℕ) (files : List (List ℕ)) (symbols : Option (List ℕ)) (german : Bool) (steps : Option (List ℕ))
+pub command_of_rows-is : (rows : List Row) (command : List ℕ) (files : List (List ℕ)) (symbols : Option (List ℕ)) (german : Bool) (steps : Option (List ℕ))
     → Some command ≡ first_of (codes "COMMAND") rows → files ≡ unwrap_or (all_of (codes "FILES") rows) []
     → symbols ≡ first_of (codes "symbols") rows → german ≡ has_german rows → steps ≡ first_of (codes "steps") rows
-    → asked_for command files symbols german steps ≡ asked_by rows
-asked_by-is rows command files symbols german steps e f g h i = rw (← e, f, g, h, i) refl
+    → command_with_options command files symbols german steps ≡ command_of_rows rows
+command_of_rows-is rows command files symbols german steps e f g h i = rw (← e, f, g, h, i) refl
 
-pub asked_by-none : (rows : List Row) → None ≡ first_of (codes "COMMAND") rows → None ≡ asked_by rows
-asked_by-none rows e = rw (← e) refl
+pub command_of_rows-none : (rows : List Row) → None ≡ first_of (codes "COMMAND") rows → None ≡ command_of_rows rows
+command_of_rows-none rows e = rw (← e) refl
 
 -- a list of words that is empty where clap has none
 pub words_or_none : (found : Option (Bor (List (Bor (List ℕ))))) (none : Bor (List (Bor (List ℕ)))) → none.now ≡ []
@@ -30,9 +30,9 @@ words_or_none (Some words) none e = refl
 
 -- clap takes the words
 pub command_of-found : (words : List (List ℕ)) (rows : List Row) → fault_of the_line words ≡ [] → rows ≡ matches_of the_line words
-    → asked_by rows ≡ command_of words
+    → command_of_rows rows ≡ command_of words
 unfolding command_of
-command_of-found words rows none is = ap asked_by is ∙ sym (ap (λ (kinds : Kinds). if is_empty kinds then asked_by (matches_of the_line words) else None) none)
+command_of-found words rows none is = ap command_of_rows is ∙ sym (ap (λ (kinds : Kinds). if is_empty kinds then command_of_rows (matches_of the_line words) else None) none)
 
 refused_by : (kind : ErrorKind) (kinds : Kinds) (taken : Option Command) → IsAmong kind kinds → None ≡ (if is_empty kinds then taken else None)
 refused_by kind [] taken h = absurd h
@@ -43,4 +43,4 @@ pub command_of-refused : (words : List (List ℕ)) (error : Error) → kind_of e
     → None ≡ command_of words
 unfolding command_of
 command_of-refused words error other has =
-    elim has [ inl h ↦ absurd (other h) | inr h ↦ refused_by (kind_of error) (fault_of the_line words) (asked_by (matches_of the_line words)) h ]
+    elim has [ inl h ↦ absurd (other h) | inr h ↦ refused_by (kind_of error) (fault_of the_line words) (command_of_rows (matches_of the_line words)) h ]

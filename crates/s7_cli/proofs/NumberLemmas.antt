@@ -28,11 +28,11 @@ can_work s n stimuli scripts is h =
     subst (λ k. CanWork s (fresh_passes s 0 k) stimuli scripts) (sym as_many) (fresh_one s 1, are_ready s 1 (stimuli ∷ scripts) h)
 
 -- the numbers from the one behind k on, each once
-abbrev pub Numbered : (k : ℕ) → List (Made Entry) → Type 0
-Numbered k [] = Unit {0}
-Numbered k (m ∷ ms) = (m.number ≡ suc k) × Numbered (suc k) ms
+abbrev pub AreNumbered : (k : ℕ) → List (Made Entry) → Type 0
+AreNumbered k [] = Unit {0}
+AreNumbered k (m ∷ ms) = (m.number ≡ suc k) × AreNumbered (suc k) ms
 
-pub begun_numbered : (s : LockView Opening) (k : ℕ) (xs : List (List Entry)) (ms : List (Made Entry)) → HaveBegun (fresh_passes s k (length xs)) xs ms → Numbered k ms
+pub begun_numbered : (s : LockView Opening) (k : ℕ) (xs : List (List Entry)) (ms : List (Made Entry)) → HaveBegun (fresh_passes s k (length xs)) xs ms → AreNumbered k ms
 begun_numbered s k [] [] h = tt
 begun_numbered s k [] (m ∷ ms) h = absurd h
 begun_numbered s k (x ∷ xs) [] h = absurd h
@@ -59,7 +59,7 @@ next_or : (k n : ℕ) (b : Bool) → nat_eq n (suc k) ≡ b → k < n → (n ≡
 next_or k n true e lt = inl (grind (arith, nat_tests))
 next_or k n false e lt = inr (grind (arith, nat_tests))
 
-pub times_numbered : (k n : ℕ) (ms : List (Made Entry)) → Numbered k ms → k < n → n ≤ k + length ms → 0 < times n ms
+pub times_numbered : (k n : ℕ) (ms : List (Made Entry)) → AreNumbered k ms → k < n → n ≤ k + length ms → 0 < times n ms
 times_numbered k n [] h lt le = absurd (omega arith)
 times_numbered k n (m ∷ ms) h lt le =
     ⊎_elim (λ (e : n ≡ suc k). omega (arith, ap flag (eq-eqb m.number n (h.0 ∙ sym e))))
@@ -82,7 +82,7 @@ found false t h = inr (omega arith)
 same_number : (a b : ℕ) → nat_eq a b ≡ true → a ≡ b
 same_number a b e = grind (arith, nat_tests)
 
-pub is_numbered : (k n : ℕ) (ms : List (Made Entry)) → Numbered k ms → 0 < times n ms → (k < n) × (n ≤ k + length ms)
+pub is_numbered : (k n : ℕ) (ms : List (Made Entry)) → AreNumbered k ms → 0 < times n ms → (k < n) × (n ≤ k + length ms)
 is_numbered k n [] h t = absurd (omega arith)
 is_numbered k n (m ∷ ms) h t =
     ⊎_elim (λ (e : nat_eq m.number n ≡ true). let same = same_number m.number n e in (omega (arith, same, h.0), omega (arith, same, h.0)))

@@ -13,7 +13,7 @@ use Rattle.clap.specs.Simple.{Shape, built, entered}
 use Rattle.clap.specs.Walk.{Row, Rule, Text, Waiting, Walk, finished, idle, is_empty, option, positional, settled, settled_rows, walked}
 use Rattle.clap.specs.declared.builder.value_parser.ValueParser.TheVariants as parser
 use Rattle.s7_cli.specs.Command.{Command, Watch}
-use Rattle.s7_cli.specs.Words.{the_line, asked_by, command_of, is_plain_word, plain_command, live_command, stepped_command, watch_command, short_command, number_from_one_up_to, ReadsGermanAnywhere, ReadsPlainWords, ReadsStepsAnywhere, ReadsSymbolsAnywhere, ReadsWordsBehindDashes, RefusesNoValue}
+use Rattle.s7_cli.specs.Words.{the_line, command_of_rows, command_of, is_plain_word, plain_command, live_command, stepped_command, watch_command, short_command, number_from_one_up_to, ReadsGermanAnywhere, ReadsPlainWords, ReadsStepsAnywhere, ReadsSymbolsAnywhere, ReadsWordsBehindDashes, RefusesNoValue}
 
 -- ---- one word
 
@@ -49,41 +49,41 @@ values-behind (word ∷ words) = values-behind words
 
 -- ---- an option with its value, or a flag
 
-data Valued : Type 0 where
-  symbols : Text → Valued
-  steps : Text → Valued
+data OptionWithValue : Type 0 where
+  symbols : Text → OptionWithValue
+  steps : Text → OptionWithValue
 
-data Given : Type 0 where
-  with_value : Valued → Given
-  german : Given
+data GivenOption : Type 0 where
+  with_value : OptionWithValue → GivenOption
+  german : GivenOption
 
-abbrev name_of : Given → Text
+abbrev name_of : GivenOption → Text
 name_of (with_value (symbols file)) = codes "symbols"
 name_of (with_value (steps number)) = codes "steps"
 name_of german = codes "german"
 
-abbrev value_of : Valued → Text
+abbrev value_of : OptionWithValue → Text
 value_of (symbols file) = file
 value_of (steps number) = number
 
-abbrev values_of : Given → List Text
+abbrev values_of : GivenOption → List Text
 values_of (with_value given) = value_of given ∷ []
 values_of german = []
 
-abbrev symbols_of : Option Given → Option Text
+abbrev symbols_of : Option GivenOption → Option Text
 symbols_of (Some (with_value (symbols file))) = Some file
 symbols_of given = None
 
-abbrev steps_of : Option Given → Option Text
+abbrev steps_of : Option GivenOption → Option Text
 steps_of (Some (with_value (steps number))) = Some number
 steps_of given = None
 
-abbrev german_of : Option Given → Bool
+abbrev german_of : Option GivenOption → Bool
 german_of (Some german) = true
 german_of given = false
 
 -- the command that words ask for with it
-abbrev asked_with : Option Given → List Text → Option Command
+abbrev asked_with : Option GivenOption → List Text → Option Command
 asked_with given words = plain_command words (symbols_of given) (german_of given) (steps_of given)
 
 -- ---- places of the walk
@@ -99,7 +99,7 @@ the_rules = the_shape.rules
 abbrev with_used : Text → List Text → List Row → List Row
 with_used id values rows = settled_rows the_rules (Some (id, values)) rows
 
-abbrev with_given : Given → List Row → List Row
+abbrev with_given : GivenOption → List Row → List Row
 with_given given rows = with_used (name_of given) (values_of given) rows
 
 abbrev at : Bool → List Row → Option (Text × List Text) → Waiting → ℕ → Walk
@@ -112,15 +112,15 @@ at behind rows pending waiting position = record {
 }
 
 -- before the first word that is no option
-abbrev rows_before : Option Given → List Row
+abbrev rows_before : Option GivenOption → List Row
 rows_before None = []
 rows_before (Some given) = with_given given []
 
-abbrev at_start : Bool → Option Given → Walk
+abbrev at_start : Bool → Option GivenOption → Walk
 at_start behind given = at behind (rows_before given) None idle 1
 
 -- behind the command
-abbrev at_command : Bool → Option Given → Text → Walk
+abbrev at_command : Bool → Option GivenOption → Text → Walk
 at_command behind given command = at behind (rows_before given) (Some (codes "COMMAND", command ∷ [])) idle 2
 
 -- behind files
@@ -128,20 +128,20 @@ abbrev at_files : Bool → List Row → List Text → Walk
 at_files behind rows files = at behind rows (Some (codes "FILES", files)) positional 2
 
 -- the rows before the first file
-abbrev rows_at_files : Option Given → Text → List Row
+abbrev rows_at_files : Option GivenOption → Text → List Row
 rows_at_files given command = with_used (codes "COMMAND") (command ∷ []) (rows_before given)
 
 -- where the walk comes to from a place
 abbrev walk_on : Walk → List Text → Walk
 walk_on = fold (walked the_rules [])
 
-walked-first : (behind : Bool) (given : Option Given) (command : Text) → is_value behind command ≡ true
+walked-first : (behind : Bool) (given : Option GivenOption) (command : Text) → is_value behind command ≡ true
     → walked the_rules [] (at_start behind given) command ≡ at_command behind given command
 unfolding walked
 walked-first true given command h = refl
 walked-first false given command h = let p = plain command h in rw (p.no_dashes, p.no_long, p.no_short) refl
 
-walked-second : (behind : Bool) (given : Option Given) (command file : Text) → is_value behind file ≡ true
+walked-second : (behind : Bool) (given : Option GivenOption) (command file : Text) → is_value behind file ≡ true
     → walked the_rules [] (at_command behind given command) file ≡ at_files behind (rows_at_files given command) (file ∷ [])
 unfolding walked
 walked-second true given command file h = refl
@@ -165,12 +165,12 @@ end_fault w = or_else (entered_fault (built the_line) w.stopped) (or_else (settl
 abbrev fault_from : Walk → List Text → Kinds
 fault_from w words = or_else (walk_fault the_shape [] w words) (end_fault (walk_on w words))
 
-no_fault-first : (behind : Bool) (given : Option Given) (command : Text) → is_value behind command ≡ true
+no_fault-first : (behind : Bool) (given : Option GivenOption) (command : Text) → is_value behind command ≡ true
     → turn_fault the_shape [] (at_start behind given) command ≡ []
 no_fault-first true given command h = refl
 no_fault-first false given command h = let p = plain command h in rw (p.no_dashes, p.no_long, p.no_short) refl
 
-no_fault-second : (behind : Bool) (given : Option Given) (command file : Text) → is_value behind file ≡ true
+no_fault-second : (behind : Bool) (given : Option GivenOption) (command file : Text) → is_value behind file ≡ true
     → turn_fault the_shape [] (at_command behind given command) file ≡ []
 no_fault-second true None command file h = refl
 no_fault-second true (Some (with_value (symbols f))) command file h = refl
@@ -202,7 +202,7 @@ no_fault-files : (behind : Bool) (rows : List Row) (file : Text) (files : List T
     → settle_fault the_rules false (at_files behind rows (file ∷ files)).held ≡ []
 no_fault-files behind rows file files few = rw (range-few (length (file ∷ files)) few, any_value (file ∷ files)) refl
 
-no_end_fault : (behind : Bool) (given : Option Given) (command file : Text) (files : List Text) → are_few (file ∷ files) ≡ true
+no_end_fault : (behind : Bool) (given : Option GivenOption) (command file : Text) (files : List Text) → are_few (file ∷ files) ≡ true
     → end_fault (at_files behind (rows_at_files given command) (file ∷ files)) ≡ []
 unfolding defaults_fault
 no_end_fault behind None command file files few = rw (no_fault-files behind (rows_at_files None command) file files few) refl
@@ -212,14 +212,15 @@ no_end_fault behind (Some german) command file files few = rw (no_fault-files be
 
 -- ---- what the words ask for
 
--- from a place of the walk on
+-- what the words ask for from a place of the walk on
 abbrev asked_from : Walk → List Text → Option Command
-asked_from w words = if is_empty (fault_from w words) then asked_by (finished the_rules (walk_on w words).held) else None
+asked_from w words = if is_empty (fault_from w words) then command_of_rows (finished the_rules (walk_on w words).held) else None
 
--- the same, where a fault counts only if the files are few: no command has more
+-- what the words ask for from a place of the walk on, where a fault counts only if the files are
+-- few: no command has more
 abbrev asked_if : Bool → Walk → List Text → Option Command
 asked_if true w words = asked_from w words
-asked_if false w words = asked_by (finished the_rules (walk_on w words).held)
+asked_if false w words = command_of_rows (finished the_rules (walk_on w words).held)
 
 -- a word with nothing wrong
 asked_from-next : (w next : Walk) (word : Text) (words : List Text) → turn_fault the_shape [] w word ≡ [] → walked the_rules [] w word ≡ next
@@ -233,18 +234,18 @@ asked_if-next true w next word words none to = asked_from-next w next word words
 asked_if-next false w next word words none to = ap (λ v. asked_if false v words) to
 
 -- nothing is wrong at the end
-asked_if-end : (few : Bool) (w : Walk) → (few ≡ true → end_fault w ≡ []) → asked_if few w [] ≡ asked_by (finished the_rules w.held)
+asked_if-end : (few : Bool) (w : Walk) → (few ≡ true → end_fault w ≡ []) → asked_if few w [] ≡ command_of_rows (finished the_rules w.held)
 unfolding walk_fault
 asked_if-end true w none = rw (none refl) refl
 asked_if-end false w none = refl
 
 -- no command, with or without a fault
-refused : (taken : Bool) (asked : Option Command) → asked ≡ None → (if taken then asked else None) ≡ None
-refused true asked e = e
-refused false asked e = refl
+none_if_none : (taken : Bool) (asked : Option Command) → asked ≡ None → (if taken then asked else None) ≡ None
+none_if_none true asked e = e
+none_if_none false asked e = refl
 
-asked_if-none : (few : Bool) (w : Walk) (words : List Text) → asked_by (finished the_rules (walk_on w words).held) ≡ None → asked_if few w words ≡ None
-asked_if-none true w words e = refused (is_empty (fault_from w words)) _ e
+asked_if-none : (few : Bool) (w : Walk) (words : List Text) → command_of_rows (finished the_rules (walk_on w words).held) ≡ None → asked_if few w words ≡ None
+asked_if-none true w words e = none_if_none (is_empty (fault_from w words)) _ e
 asked_if-none false w words e = e
 
 not_both : (first second : Bool) (asked : Option Command) → second ≡ false → (if first && second then asked else None) ≡ None
@@ -288,7 +289,7 @@ none-short command (a ∷ b ∷ []) given in_german h = absurd (true≢false h)
 none-short command (a ∷ b ∷ c ∷ []) given in_german h = absurd (true≢false h)
 none-short command (a ∷ b ∷ c ∷ d ∷ more) given in_german h = refl
 
-none-many : (command : Text) (words : List Text) (given : Option Given) → are_few words ≡ false → asked_with given (command ∷ words) ≡ None
+none-many : (command : Text) (words : List Text) (given : Option GivenOption) → are_few words ≡ false → asked_with given (command ∷ words) ≡ None
 none-many command words None h = none-short command words None false h
 none-many command words (Some (with_value (symbols file))) h = none-short command words (Some file) false h
 none-many command words (Some (with_value (steps number))) h = none-stepped command words number h
@@ -316,33 +317,33 @@ abbrev behind_first : List Text → List Text
 behind_first [] = []
 behind_first (first ∷ rest) = rest
 
-no_words : (given : Option Given) → asked_by (finished the_rules (at_start false given).held) ≡ None
+no_words : (given : Option GivenOption) → command_of_rows (finished the_rules (at_start false given).held) ≡ None
 no_words None = refl
 no_words (Some (with_value (symbols file))) = refl
 no_words (Some (with_value (steps number))) = refl
 no_words (Some german) = refl
 
-one_word : (behind : Bool) (given : Option Given) (command : Text) → asked_by (finished the_rules (at_command behind given command).held) ≡ None
+one_word : (behind : Bool) (given : Option GivenOption) (command : Text) → command_of_rows (finished the_rules (at_command behind given command).held) ≡ None
 one_word behind None command = refl
 one_word behind (Some (with_value (symbols file))) command = refl
 one_word behind (Some (with_value (steps number))) command = none-alone command number
 one_word behind (Some german) command = refl
 
-one_word-asked : (given : Option Given) (command : Text) → None ≡ asked_with given (command ∷ [])
+one_word-asked : (given : Option GivenOption) (command : Text) → None ≡ asked_with given (command ∷ [])
 one_word-asked None command = refl
 one_word-asked (Some (with_value (symbols file))) command = refl
 one_word-asked (Some (with_value (steps number))) command = sym (none-alone command number)
 one_word-asked (Some german) command = refl
 
-all_words : (behind : Bool) (given : Option Given) (command file : Text) (files : List Text)
-    → asked_by (finished the_rules (at_files behind (rows_at_files given command) (file ∷ files)).held) ≡ asked_with given (command ∷ file ∷ files)
+all_words : (behind : Bool) (given : Option GivenOption) (command file : Text) (files : List Text)
+    → command_of_rows (finished the_rules (at_files behind (rows_at_files given command) (file ∷ files)).held) ≡ asked_with given (command ∷ file ∷ files)
 all_words behind None command file files = refl
 all_words behind (Some (with_value (symbols f))) command file files = refl
 all_words behind (Some (with_value (steps n))) command file files = refl
 all_words behind (Some german) command file files = refl
 
 -- the whole call, behind the option if there is one
-asked-start : (few behind : Bool) (given : Option Given) (words : List Text) → are_values behind words ≡ true
+asked-start : (few behind : Bool) (given : Option GivenOption) (words : List Text) → are_values behind words ≡ true
     → (few ≡ true → are_few (behind_first words) ≡ true) → asked_if few (at_start behind given) words ≡ asked_with given words
 asked-start few behind given [] h short = asked_if-none few (at_start behind given) [] (no_words given)
 asked-start few behind given (command ∷ []) h short =
@@ -369,9 +370,9 @@ command_of-start words = refl
 command_of-asked : (few : Bool) (words : List Text) (asked : Option Command) → asked_if few (at_start false None) words ≡ asked
     → (few ≡ false → asked ≡ None) → command_of words ≡ asked
 command_of-asked true words asked e none = command_of-start words ∙ e
-command_of-asked false words asked e none = command_of-start words ∙ refused _ _ (e ∙ none refl) ∙ sym (none refl)
+command_of-asked false words asked e none = command_of-start words ∙ none_if_none _ _ (e ∙ none refl) ∙ sym (none refl)
 
-many : (words : List Text) (given : Option Given) → are_few (behind_first words) ≡ false → asked_with given words ≡ None
+many : (words : List Text) (given : Option GivenOption) → are_few (behind_first words) ≡ false → asked_with given words ≡ None
 many [] given h = refl
 many (command ∷ words) given h = none-many command words given h
 
@@ -412,18 +413,18 @@ position_at [] = 1
 position_at (command ∷ files) = 2
 
 -- the word of the option
-abbrev word_of : Valued → Text
+abbrev word_of : OptionWithValue → Text
 word_of (symbols file) = codes "--symbols"
 word_of (steps number) = codes "--steps"
 
 -- behind that word, behind its value, and behind both in one word
-abbrev at_option : Valued → List Text → Walk
+abbrev at_option : OptionWithValue → List Text → Walk
 at_option given front = at false (rows_at front) (Some (name_of (with_value given), [])) (option (name_of (with_value given))) (position_at front)
 
-abbrev at_value : Valued → List Text → Walk
+abbrev at_value : OptionWithValue → List Text → Walk
 at_value given front = at false (rows_at front) (Some (name_of (with_value given), value_of given ∷ [])) idle (position_at front)
 
-abbrev behind_option : Given → List Text → Walk
+abbrev behind_option : GivenOption → List Text → Walk
 behind_option given front = at false (with_given given (rows_at front)) None idle (position_at front)
 
 -- to the place
@@ -440,7 +441,7 @@ asked-place few (command ∷ file ∷ files) rest h =
     ∙ asked_if-next few _ _ file (files ++ rest) (λ _. no_fault-second false None command file second.0) (walked-second false None command file second.0)
     ∙ asked-further few false (rows_at_files None command) file [] files rest second.1
 
-walked-option : (given : Valued) (front : List Text) → walked the_rules [] (place front) (word_of given) ≡ at_option given front
+walked-option : (given : OptionWithValue) (front : List Text) → walked the_rules [] (place front) (word_of given) ≡ at_option given front
 unfolding walked
 walked-option (symbols f) [] = refl
 walked-option (symbols f) (command ∷ []) = refl
@@ -449,7 +450,7 @@ walked-option (steps n) [] = refl
 walked-option (steps n) (command ∷ []) = refl
 walked-option (steps n) (command ∷ file ∷ files) = refl
 
-no_fault-option : (given : Valued) (front : List Text) → are_few (behind_first front) ≡ true → turn_fault the_shape [] (place front) (word_of given) ≡ []
+no_fault-option : (given : OptionWithValue) (front : List Text) → are_few (behind_first front) ≡ true → turn_fault the_shape [] (place front) (word_of given) ≡ []
 no_fault-option (symbols f) [] few = refl
 no_fault-option (symbols f) (command ∷ []) few = refl
 no_fault-option (symbols f) (command ∷ file ∷ files) few = rw (no_fault-files false (rows_at_files None command) file files few) refl
@@ -457,18 +458,18 @@ no_fault-option (steps n) [] few = refl
 no_fault-option (steps n) (command ∷ []) few = refl
 no_fault-option (steps n) (command ∷ file ∷ files) few = rw (no_fault-files false (rows_at_files None command) file files few) refl
 
-walked-value : (given : Valued) (front : List Text) → is_plain_word (value_of given) ≡ true
+walked-value : (given : OptionWithValue) (front : List Text) → is_plain_word (value_of given) ≡ true
     → walked the_rules [] (at_option given front) (value_of given) ≡ at_value given front
 unfolding walked
 walked-value (symbols f) front h = let p = plain f h in rw (p.no_dashes, p.no_long, p.no_short) refl
 walked-value (steps n) front h = let p = plain n h in rw (p.no_dashes, p.no_long, p.no_short) refl
 
-no_fault-value : (given : Valued) (front : List Text) → is_plain_word (value_of given) ≡ true
+no_fault-value : (given : OptionWithValue) (front : List Text) → is_plain_word (value_of given) ≡ true
     → turn_fault the_shape [] (at_option given front) (value_of given) ≡ []
 no_fault-value (symbols f) front h = let p = plain f h in rw (p.no_dashes, p.no_long, p.no_short) refl
 no_fault-value (steps n) front h = let p = plain n h in rw (p.no_dashes, p.no_long, p.no_short) refl
 
-walked-joined : (given : Valued) (front : List Text)
+walked-joined : (given : OptionWithValue) (front : List Text)
     → walked the_rules [] (place front) (word_of given ++ codes "=" ++ value_of given) ≡ behind_option (with_value given) front
 unfolding walked
 walked-joined (symbols f) [] = refl
@@ -478,7 +479,7 @@ walked-joined (steps n) [] = refl
 walked-joined (steps n) (command ∷ []) = refl
 walked-joined (steps n) (command ∷ file ∷ files) = refl
 
-no_fault-joined : (given : Valued) (front : List Text) → are_few (behind_first front) ≡ true
+no_fault-joined : (given : OptionWithValue) (front : List Text) → are_few (behind_first front) ≡ true
     → turn_fault the_shape [] (place front) (word_of given ++ codes "=" ++ value_of given) ≡ []
 no_fault-joined (symbols f) [] few = refl
 no_fault-joined (symbols f) (command ∷ []) few = refl
@@ -488,7 +489,7 @@ no_fault-joined (steps n) (command ∷ []) few = refl
 no_fault-joined (steps n) (command ∷ file ∷ files) few = rw (no_fault-files false (rows_at_files None command) file files few) refl
 
 -- the option is used once
-no_fault-used : (given : Valued) (front : List Text) → settle_fault the_rules false (at_value given front).held ≡ []
+no_fault-used : (given : OptionWithValue) (front : List Text) → settle_fault the_rules false (at_value given front).held ≡ []
 no_fault-used (symbols f) [] = refl
 no_fault-used (symbols f) (command ∷ []) = refl
 no_fault-used (symbols f) (command ∷ file ∷ files) = refl
@@ -497,11 +498,11 @@ no_fault-used (steps n) (command ∷ []) = refl
 no_fault-used (steps n) (command ∷ file ∷ files) = refl
 
 -- where a word that is no option leads from behind the option
-abbrev at_next : Given → List Text → Text → Walk
+abbrev at_next : GivenOption → List Text → Text → Walk
 at_next given [] word = at_command false (Some given) word
 at_next given (command ∷ files) word = at_files false (with_given given (rows_at (command ∷ files))) (word ∷ [])
 
-walked-next : (given : Given) (front : List Text) (word : Text) → is_plain_word word ≡ true
+walked-next : (given : GivenOption) (front : List Text) (word : Text) → is_plain_word word ≡ true
     → walked the_rules [] (behind_option given front) word ≡ at_next given front word
 unfolding walked
 walked-next (with_value (symbols f)) [] word h = let p = plain word h in rw (p.no_dashes, p.no_long, p.no_short) refl
@@ -511,7 +512,7 @@ walked-next (with_value (steps n)) (command ∷ files) word h = let p = plain wo
 walked-next german [] word h = let p = plain word h in rw (p.no_dashes, p.no_long, p.no_short) refl
 walked-next german (command ∷ files) word h = let p = plain word h in rw (p.no_dashes, p.no_long, p.no_short) refl
 
-no_fault-next : (given : Given) (front : List Text) (word : Text) → is_plain_word word ≡ true
+no_fault-next : (given : GivenOption) (front : List Text) (word : Text) → is_plain_word word ≡ true
     → turn_fault the_shape [] (behind_option given front) word ≡ []
 no_fault-next (with_value (symbols f)) [] word h = let p = plain word h in rw (p.no_dashes, p.no_long, p.no_short) refl
 no_fault-next (with_value (symbols f)) (command ∷ files) word h = let p = plain word h in rw (p.no_dashes, p.no_long, p.no_short) refl
@@ -520,8 +521,8 @@ no_fault-next (with_value (steps n)) (command ∷ files) word h = let p = plain 
 no_fault-next german [] word h = let p = plain word h in rw (p.no_dashes, p.no_long, p.no_short) refl
 no_fault-next german (command ∷ files) word h = let p = plain word h in rw (p.no_dashes, p.no_long, p.no_short) refl
 
--- and from behind its value
-walked-used : (given : Valued) (front : List Text) (word : Text) → is_plain_word word ≡ true
+-- the walk goes on from behind an option's value
+walked-used : (given : OptionWithValue) (front : List Text) (word : Text) → is_plain_word word ≡ true
     → walked the_rules [] (at_value given front) word ≡ at_next (with_value given) front word
 unfolding walked
 walked-used (symbols f) [] word h = let p = plain word h in rw (p.no_dashes, p.no_long, p.no_short) refl
@@ -529,7 +530,7 @@ walked-used (symbols f) (command ∷ files) word h = let p = plain word h in rw 
 walked-used (steps n) [] word h = let p = plain word h in rw (p.no_dashes, p.no_long, p.no_short) refl
 walked-used (steps n) (command ∷ files) word h = let p = plain word h in rw (p.no_dashes, p.no_long, p.no_short) refl
 
-no_fault-value_used : (given : Valued) (front : List Text) (word : Text) → is_plain_word word ≡ true
+no_fault-value_used : (given : OptionWithValue) (front : List Text) (word : Text) → is_plain_word word ≡ true
     → turn_fault the_shape [] (at_value given front) word ≡ []
 no_fault-value_used (symbols f) [] word h = let p = plain word h in rw (p.no_dashes, p.no_long, p.no_short) refl
 no_fault-value_used (symbols f) (command ∷ files) word h =
@@ -539,7 +540,7 @@ no_fault-value_used (steps n) (command ∷ files) word h =
     let p = plain word h in rw (p.no_dashes, p.no_long, p.no_short) (no_fault-used (steps n) (command ∷ files))
 
 -- at the end of the words the value is used too
-end-value : (few : Bool) (given : Valued) (front : List Text) → asked_if few (at_value given front) [] ≡ asked_if few (behind_option (with_value given) front) []
+end-value : (few : Bool) (given : OptionWithValue) (front : List Text) → asked_if few (at_value given front) [] ≡ asked_if few (behind_option (with_value given) front) []
 unfolding walk_fault
 end-value true (symbols f) front = rw (no_fault-used (symbols f) front) refl
 end-value true (steps n) front = rw (no_fault-used (steps n) front) refl
@@ -547,7 +548,7 @@ end-value false (symbols f) front = refl
 end-value false (steps n) front = refl
 
 -- the two forms lead to the same
-asked-value : (few : Bool) (given : Valued) (front back : List Text) → are_values false back ≡ true
+asked-value : (few : Bool) (given : OptionWithValue) (front back : List Text) → are_values false back ≡ true
     → asked_if few (at_value given front) back ≡ asked_if few (behind_option (with_value given) front) back
 asked-value few given front [] h = end-value few given front
 asked-value few given front (word ∷ words) h =
@@ -556,13 +557,13 @@ asked-value few given front (word ∷ words) h =
     ∙ sym (asked_if-next few _ _ word words (λ _. no_fault-next (with_value given) front word first.0) (walked-next (with_value given) front word first.0))
 
 -- from behind the option, with a command in front
-no_end_fault-option : (given : Given) (command file : Text) (files : List Text) → end_fault (behind_option given (command ∷ file ∷ files)) ≡ []
+no_end_fault-option : (given : GivenOption) (command file : Text) (files : List Text) → end_fault (behind_option given (command ∷ file ∷ files)) ≡ []
 unfolding defaults_fault
 no_end_fault-option (with_value (symbols f)) command file files = refl
 no_end_fault-option (with_value (steps n)) command file files = refl
 no_end_fault-option german command file files = refl
 
-no_end_fault-behind : (given : Given) (command : Text) (front : List Text) (file : Text) (files : List Text) → are_few (file ∷ files) ≡ true
+no_end_fault-behind : (given : GivenOption) (command : Text) (front : List Text) (file : Text) (files : List Text) → are_few (file ∷ files) ≡ true
     → end_fault (at_files false (with_given given (rows_at (command ∷ front))) (file ∷ files)) ≡ []
 unfolding defaults_fault
 no_end_fault-behind (with_value (symbols f)) command [] file files few =
@@ -577,14 +578,14 @@ no_end_fault-behind german command [] file files few = rw (no_fault-files false 
 no_end_fault-behind german command (a ∷ front) file files few =
     rw (no_fault-files false (with_given german (rows_at (command ∷ a ∷ front))) file files few) refl
 
-words-option : (given : Given) (command file : Text) (files : List Text)
-    → asked_by (finished the_rules (behind_option given (command ∷ file ∷ files)).held) ≡ asked_with (Some given) (command ∷ file ∷ files)
+words-option : (given : GivenOption) (command file : Text) (files : List Text)
+    → command_of_rows (finished the_rules (behind_option given (command ∷ file ∷ files)).held) ≡ asked_with (Some given) (command ∷ file ∷ files)
 words-option (with_value (symbols f)) command file files = refl
 words-option (with_value (steps n)) command file files = refl
 words-option german command file files = refl
 
-words-behind : (given : Given) (command : Text) (front : List Text) (file : Text) (files : List Text)
-    → asked_by (finished the_rules (at_files false (with_given given (rows_at (command ∷ front))) (file ∷ files)).held)
+words-behind : (given : GivenOption) (command : Text) (front : List Text) (file : Text) (files : List Text)
+    → command_of_rows (finished the_rules (at_files false (with_given given (rows_at (command ∷ front))) (file ∷ files)).held)
     ≡ asked_with (Some given) (command ∷ (front ++ file ∷ files))
 words-behind (with_value (symbols f)) command [] file files = refl
 words-behind (with_value (symbols f)) command (a ∷ front) file files = refl
@@ -593,7 +594,7 @@ words-behind (with_value (steps n)) command (a ∷ front) file files = refl
 words-behind german command [] file files = refl
 words-behind german command (a ∷ front) file files = refl
 
-one_word-option : (given : Given) (command : Text) → asked_by (finished the_rules (behind_option given (command ∷ [])).held) ≡ None
+one_word-option : (given : GivenOption) (command : Text) → command_of_rows (finished the_rules (behind_option given (command ∷ [])).held) ≡ None
 one_word-option (with_value (symbols f)) command = refl
 one_word-option (with_value (steps n)) command = none-alone command n
 one_word-option german command = refl
@@ -604,7 +605,7 @@ few-back front back few = let sum = length-append front back in grind (arith, na
 few-front : (front back : List Text) → are_few (front ++ back) ≡ true → are_few front ≡ true
 few-front front back few = let sum = length-append front back in grind (arith, nat_tests)
 
-asked-behind : (few : Bool) (given : Given) (front back : List Text) → are_values false back ≡ true → (few ≡ true → are_few (behind_first (front ++ back)) ≡ true)
+asked-behind : (few : Bool) (given : GivenOption) (front back : List Text) → are_values false back ≡ true → (few ≡ true → are_few (behind_first (front ++ back)) ≡ true)
     → asked_if few (behind_option given front) back ≡ asked_with (Some given) (front ++ back)
 asked-behind few given [] back h short = asked-start few false (Some given) back h short
 asked-behind few given (command ∷ []) [] h short =
@@ -628,7 +629,7 @@ few-place (command ∷ front) back few = few-front front back few
 values-parts : (front back : List Text) → are_values false (front ++ back) ≡ true → (are_values false front ≡ true) × (are_values false back ≡ true)
 values-parts front back h = and_parts (are_values false front) _ (sym (list_all-append (is_value false) front back) ∙ h)
 
-reads_apart : (given : Valued) (front back : List Text) → list_all is_plain_word (front ++ back) ≡ true → is_plain_word (value_of given) ≡ true
+reads_apart : (given : OptionWithValue) (front back : List Text) → list_all is_plain_word (front ++ back) ≡ true → is_plain_word (value_of given) ≡ true
     → command_of (front ++ word_of given ∷ value_of given ∷ back) ≡ asked_with (Some (with_value given)) (front ++ back)
 reads_apart given front back h value =
     let few = are_few (behind_first (front ++ back)) in
@@ -641,7 +642,7 @@ reads_apart given front back h value =
     ∙ asked-behind few (with_value given) front back parts.1 (λ f. f))
     (many (front ++ back) (Some (with_value given)))
 
-reads_joined : (given : Valued) (front back : List Text) → list_all is_plain_word (front ++ back) ≡ true
+reads_joined : (given : OptionWithValue) (front back : List Text) → list_all is_plain_word (front ++ back) ≡ true
     → command_of (front ++ (word_of given ++ codes "=" ++ value_of given) ∷ back) ≡ asked_with (Some (with_value given)) (front ++ back)
 reads_joined given front back h =
     let few = are_few (behind_first (front ++ back)) in
@@ -712,18 +713,18 @@ walked-place (command ∷ file ∷ files) h =
     ∙ ap (λ w. walk_on w files) (walked-second false None command file second.0)
     ∙ walked-all false (rows_at_files None command) file [] files second.1
 
-broken-end : (given : Valued) (front : List Text) → is_empty (fault_from (at_option given front) []) ≡ false
+broken-end : (given : OptionWithValue) (front : List Text) → is_empty (fault_from (at_option given front) []) ≡ false
 unfolding walk_fault
 broken-end (symbols f) front = refl
 broken-end (steps n) front = refl
 
-broken-option : (given : Valued) (front : List Text) → are_values false front ≡ true → is_empty (fault_from (at_start false None) (front ++ word_of given ∷ [])) ≡ false
+broken-option : (given : OptionWithValue) (front : List Text) → are_values false front ≡ true → is_empty (fault_from (at_start false None) (front ++ word_of given ∷ [])) ≡ false
 broken-option given front h =
     broken-behind (at_start false None) front (word_of given ∷ [])
     (ap (λ w. is_empty (fault_from w (word_of given ∷ []))) (walked-place front h)
     ∙ broken-behind (place front) (word_of given ∷ []) [] (ap (λ w. is_empty (fault_from w [])) (walked-option given front) ∙ broken-end given front))
 
-refuses_last : (given : Valued) (front : List Text) → list_all is_plain_word front ≡ true → command_of (front ++ word_of given ∷ []) ≡ None
+refuses_last : (given : OptionWithValue) (front : List Text) → list_all is_plain_word front ≡ true → command_of (front ++ word_of given ∷ []) ≡ None
 refuses_last given front h = command_of-start (front ++ word_of given ∷ []) ∙ rw (broken-option given front h) refl
 
 pub refuses_no_value : RefusesNoValue

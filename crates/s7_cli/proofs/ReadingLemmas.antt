@@ -2,7 +2,7 @@
 use Rattle.std.proofs.Common.{◌≡◌, ◌<◌, ◌≤◌, ◌⊎◌, inl, inr, sym, ◌∙◌, ap, subst, ℕ, List, [], ◌∷◌, length, map, Some, None, true, arith}
 use Rattle.plc_io.specs.Contents.{Contents}
 use Rattle.s7_cli.specs.Answer.{CallAnswer, read_fault_answer, too_long_answer}
-use Rattle.s7_cli.specs.Command.{Input, limit_of}
+use Rattle.s7_cli.specs.Command.{InputFile, limit_of}
 use Rattle.s7_cli.specs.Ends.{RoseAmong}
 use Rattle.s7_cli.specs.Reading.{Disk, HoldBytesInTurn, ReadsFilesInTurn, IsFileThere, AllowsAnswer, FailsOnTheWay}
 
@@ -12,7 +12,7 @@ Saying = List (List ℕ) → CallAnswer → Type 0
 
 -- ---- files that were read hold bytes of which this is said
 
-pub reads-all : (d : Disk) (is : List Input) (contents : List (List ℕ)) (says : Saying) (a : CallAnswer)
+pub reads-all : (d : Disk) (is : List InputFile) (contents : List (List ℕ)) (says : Saying) (a : CallAnswer)
     → HoldBytesInTurn d.before.contents is contents → says contents a → ReadsFilesInTurn d is says a
 reads-all d [] [] says a hold said = said
 reads-all d [] (bytes ∷ more) says a hold said = absurd hold
@@ -23,7 +23,7 @@ reads-all d (i ∷ is) (bytes ∷ more) says a hold said =
 -- ---- over files that tell what they hold
 
 -- a read on the way failed, or the answer is one that the files allow
-pub reads-known : (d : Disk) (is : List Input) (says : Saying) (a : CallAnswer) → d.before.contents.told ≡ true
+pub reads-known : (d : Disk) (is : List InputFile) (says : Saying) (a : CallAnswer) → d.before.contents.told ≡ true
     → ReadsFilesInTurn d is says a → ((a ≡ read_fault_answer) × FailsOnTheWay d is) ⊎ AllowsAnswer d.before.contents is says a
 reads-known d [] says a known said = inr said
 reads-known d (i ∷ is) says a known (inl (inl (rose, gives))) = inl (gives, inl rose)
@@ -47,11 +47,11 @@ one_file c name xs ys p q = let e : Some xs ≡ Some ys = sym p ∙ q in cc
 no_file : (c : Contents) (name xs : List ℕ) → c.at name ≡ None → c.at name ≡ Some xs → ⊥
 no_file c name xs p q = let e : None ≡ Some xs = sym p ∙ q in cc
 
-not_both : (i : Input) (xs ys : List ℕ) → xs ≡ ys → limit_of i.file < length xs → length ys ≤ limit_of i.file → ⊥
+not_both : (i : InputFile) (xs ys : List ℕ) → xs ≡ ys → limit_of i.file < length xs → length ys ≤ limit_of i.file → ⊥
 not_both i xs ys same long within = omega (arith, ap length same)
 
--- so are two that files allow whose contents are known
-pub allows-alike : (c : Contents) (Alike : CallAnswer → CallAnswer → Type 0) → ((a b : CallAnswer) → a ≡ b → Alike a b) → (is : List Input) (says : Saying)
+-- two answers that files allow whose contents are known are alike
+pub allows-alike : (c : Contents) (Alike : CallAnswer → CallAnswer → Type 0) → ((a b : CallAnswer) → a ≡ b → Alike a b) → (is : List InputFile) (says : Saying)
     → AnswersAlike Alike says → (a b : CallAnswer) → AllowsAnswer c is says a → AllowsAnswer c is says b → Alike a b
 allows-alike c Alike same [] says alike a b p q = alike [] a b p q
 allows-alike c Alike same (i ∷ is) says alike a b (inl (inl p)) (inl (inl q)) = same a b (p.1 ∙ sym q.1)
@@ -70,7 +70,7 @@ allows-alike c Alike same (i ∷ is) says alike a b (inr p) (inr q) =
     (subst (λ (bytes : List ℕ). AllowsAnswer c is (λ files. says (bytes ∷ files)) b) is_same q.2)
 
 -- a read on the way is one of an input file
-pub fails-rose : (d : Disk) (is : List Input) → FailsOnTheWay d is
+pub fails-rose : (d : Disk) (is : List InputFile) → FailsOnTheWay d is
     → RoseAmong d.before.failed_reads d.after.failed_reads (map (λ i. i.name) is)
 fails-rose d [] fails = fails
 fails-rose d (i ∷ is) (inl rose) = inl rose
@@ -79,9 +79,9 @@ fails-rose d (i ∷ is) (inr (bytes, held, more)) = inr (fails-rose d is more)
 -- ---- which answers there are
 
 -- a read of an input file failed, a file is too long, or this is said of some contents
-pub reads-kinds : (d : Disk) (is : List Input) (says : Saying) (a : CallAnswer) → ReadsFilesInTurn d is says a
+pub reads-kinds : (d : Disk) (is : List InputFile) (says : Saying) (a : CallAnswer) → ReadsFilesInTurn d is says a
     → ((a ≡ read_fault_answer) × RoseAmong d.before.failed_reads d.after.failed_reads (map (λ i. i.name) is))
-    ⊎ ((i : Input) × (a ≡ too_long_answer i.file)) ⊎ ((contents : List (List ℕ)) × says contents a)
+    ⊎ ((i : InputFile) × (a ≡ too_long_answer i.file)) ⊎ ((contents : List (List ℕ)) × says contents a)
 reads-kinds d [] says a said = inr (inr ([], said))
 reads-kinds d (i ∷ is) says a (inl (inl (rose, gives))) = inl (gives, inl rose)
 reads-kinds d (i ∷ is) says a (inl (inr stops)) = inr (inl (i, stops.3))

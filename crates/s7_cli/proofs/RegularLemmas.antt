@@ -74,8 +74,8 @@ steps_first : (e : Entry) (es : List Entry) → steps_in (e ∷ es) ≡ step_fla
 steps_first e es = omega (arith, sum_by-append step_flag (e ∷ []) es)
 
 -- a step of a regular history is the stepper's
-counted : (e : Entry) (es : List Entry) → IsRegular e → step_flag e + length (entries_of_worker 1 es) ≤ length (entries_of_worker 1 (e ∷ es))
-counted e es h = by e.who e.what h where
+step_is_counted : (e : Entry) (es : List Entry) → IsRegular e → step_flag e + length (entries_of_worker 1 es) ≤ length (entries_of_worker 1 (e ∷ es))
+step_is_counted e es h = by e.who e.what h where
   others : (v : Bool) (x : Entry) → 0 + length (entries_of_worker 1 es) ≤ length (cond v (x ∷ entries_of_worker 1 es) (entries_of_worker 1 es))
   others true x = omega arith
   others false x = omega arith
@@ -95,7 +95,7 @@ counted e es h = by e.who e.what h where
 
 steps_few : (es : List Entry) → AllByRecursion IsRegular es → steps_in es ≤ length (entries_of_worker 1 es)
 steps_few [] h = omega arith
-steps_few (e ∷ es) h = omega (arith, steps_first e es, counted e es h.0, steps_few es h.1)
+steps_few (e ∷ es) h = omega (arith, steps_first e es, step_is_counted e es h.0, steps_few es h.1)
 
 pub live_has_steps : (loaded : LoadedProgram) (steps : ℕ) (stimuli : List Entry) (scripts : List (List Entry)) (history : List Entry)
     → IsLive loaded steps stimuli scripts history → AreRegularBy 2 (stimuli ∷ scripts) → steps_in history ≤ steps

@@ -34,7 +34,7 @@ use Rattle.s7_cli.specs.declared.failures.File.TheVariants.{Source, Symbols, His
 use Rattle.s7_cli.specs.declared.failures.Failure.{Failure}
 use Rattle.s7_cli.specs.declared.files.ProgramText.{ProgramText}
 use Rattle.s7_cli.specs.Answer.{CallAnswer, done_answer, refused_file_answer}
-use Rattle.s7_cli.specs.Command.{Command, Input, Go, Check, Compile, Translate, Run, Gen, Live, Watch, Upgrade, ListImage, Bound, Recheck, symbols_inputs, program_inputs}
+use Rattle.s7_cli.specs.Command.{Command, InputFile, Go, Check, Compile, Translate, Run, Gen, Live, Watch, Upgrade, ListImage, Bound, Recheck, symbols_inputs, program_inputs}
 use Rattle.s7_cli.specs.Faults.{failure_of_compiling, failure_of_history, failure_of_loading}
 use Rattle.s7_cli.specs.GenText.{summary_text}
 use Rattle.s7_cli.specs.Inner.{SaysRefusal}
@@ -331,7 +331,7 @@ within c source symbols text hold =
     record { source = hold.0.within; symbols = symbols-within c symbols (symbols_file text) hold.1 }
 
 -- the symbols file, in front of another one
-pub symbols-held : (c : Contents) (symbols bytes : Option (List ℕ)) (i : Input) (other : List ℕ)
+pub symbols-held : (c : Contents) (symbols bytes : Option (List ℕ)) (i : InputFile) (other : List ℕ)
     → HoldBytesInTurn c (symbols_inputs symbols ++ i ∷ []) (option_to_list bytes ++ other ∷ []) → HoldBytesInTurn c (symbols_inputs symbols) (option_to_list bytes)
 symbols-held c None None i other hold = tt
 symbols-held c None (Some bytes) i other hold = absurd hold.1

@@ -189,11 +189,11 @@ rows (Some k) d s a reads took = rows-command k d s a reads took
 
 -- ---- the answer over files that tell what they hold
 
-abbrev Decided : Command → Disk → SinkMoments → ℕ → Type 0
-Decided k d s code = ((code ≡ 5) × FailsOnTheWay d (inputs_of k)) ⊎ IsCutOff code ⊎ IsDecided k d s code
+abbrev IsDecidedStatus : Command → Disk → SinkMoments → ℕ → Type 0
+IsDecidedStatus k d s code = ((code ≡ 5) × FailsOnTheWay d (inputs_of k)) ⊎ IsCutOff code ⊎ IsDecided k d s code
 
 decided-command : OneEach → (k : Command) (d : Disk) (s : SinkMoments) (a : CallAnswer) → d.before.contents.told ≡ true
-    → ReadsFilesInTurn d (inputs_of k) (CommandSays k) a → TookBytes s.before s.after a.text → Decided k d s (exit_status a.outcome)
+    → ReadsFilesInTurn d (inputs_of k) (CommandSays k) a → TookBytes s.before s.after a.text → IsDecidedStatus k d s (exit_status a.outcome)
 decided-command one k d s a known reads took =
     elim (reads-known d (inputs_of k) (CommandSays k) a known reads) [
       | inl fails ↦ inl (ap (λ (b : CallAnswer). exit_status b.outcome) fails.0, fails.1)
@@ -206,14 +206,14 @@ decided-command one k d s a known reads took =
       }))
     ]
 
-decided : OneEach → (c : Option Command) (d : Disk) (s : SinkMoments) (a : CallAnswer) → IsAnswerOfCall c d a → TookBytes s.before s.after a.text
-    → (k : Command) → c ≡ Some k → d.before.contents.told ≡ true → Decided k d s (exit_status a.outcome)
-decided one c d s a answers took k is known =
+status_decided : OneEach → (c : Option Command) (d : Disk) (s : SinkMoments) (a : CallAnswer) → IsAnswerOfCall c d a → TookBytes s.before s.after a.text
+    → (k : Command) → c ≡ Some k → d.before.contents.told ≡ true → IsDecidedStatus k d s (exit_status a.outcome)
+status_decided one c d s a answers took k is known =
     decided-command one k d s a known (subst (λ (o : Option Command). IsAnswerOfCall o d a) is answers) took
 
 -- no count rose: want of memory alone is free
 complete : (c : Option Command) (d : Disk) (s : SinkMoments) (code : ℕ)
-    → ((k : Command) → c ≡ Some k → d.before.contents.told ≡ true → Decided k d s code)
+    → ((k : Command) → c ≡ Some k → d.before.contents.told ≡ true → IsDecidedStatus k d s code)
     → (code ≡ 6 → CountRose s.before.faults s.after.faults ⊎ OutputRose c d)
     → (k : Command) → c ≡ Some k → d.before.contents.told ≡ true
     → (InputRose c d → ⊥) → (OutputRose c d → ⊥) → (CountRose s.before.faults s.after.faults → ⊥) → (code ≡ 7) ⊎ IsDecided k d s code
@@ -274,8 +274,8 @@ table-said one keep have c d s a said =
     let r : Rows c d s (exit_status a.outcome) = rows c d s a said.answers said.took in
     let six : exit_status a.outcome ≡ 6 → CountRose s.before.faults s.after.faults ⊎ OutputRose c d = λ e. absurd (r.whole (inl e)) in record {
       statuses = r.statuses;
-      decided = decided one c d s a said.answers said.took;
-      complete = complete c d s (exit_status a.outcome) (decided one c d s a said.answers said.took) six;
+      decided = status_decided one c d s a said.answers said.took;
+      complete = complete c d s (exit_status a.outcome) (status_decided one c d s a said.answers said.took) six;
       words_refused_only = r.words_refused_only;
       words_refused = λ none. inl (r.words_refused none);
       takes_line = λ isnt whole. r.takes_line isnt;

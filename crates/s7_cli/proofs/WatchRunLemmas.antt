@@ -17,10 +17,10 @@ use Rattle.station.specs.declared.shared.Opening.{Opening}
 use Rattle.station.specs.declared.shared.StationFault.{StationFault}
 use Rattle.station.specs.declared.shared.TheConstants.{FULL}
 use Rattle.watch_board.specs.declared.shown.Shown.{Shown}
-use Rattle.s7_cli.specs.Living.{AreRegularBy, IsFullNever, IsLive, opened_on, total_length}
+use Rattle.s7_cli.specs.Living.{AreRegularBy, IsFullNever, IsLive, opening_on, total_length}
 use Rattle.s7_cli.specs.Watching.{AreViews, read_entry_of, watch_lists}
 use Rattle.s7_cli.specs.Working.{CanWork, HasWorked, IsFresh, KnowsFault}
-use Rattle.s7_cli.proofs.LivingLemmas.{lived, never_full, none_missing}
+use Rattle.s7_cli.proofs.LivingLemmas.{made_live_history, never_full, none_missing}
 use Rattle.s7_cli.proofs.NumberLemmas.{can_work, fresh_one}
 use Rattle.s7_cli.proofs.RegularLemmas.{each_copy, regular_more, total_more}
 use Rattle.s7_cli.proofs.WatchingLemmas.{all_shown_on}
@@ -163,14 +163,14 @@ module _ (s : LockView Opening) (steps : ℕ) (stimuli : List Entry) (scripts pa
 
     pub watch_lived : AreEntriesByMaker (λ e. e.who) r.seen r.made → whole ≡ true → IsLive loaded steps stimuli lists c.history
     watch_lived agrees ok =
-        lived s steps stimuli lists r whole 6 (front ++ last ∷ []) fresh (lists_many 100 scripts vars few) worked_so begin c starts loaded none_yet back agrees ok
+        made_live_history s steps stimuli lists r whole 6 (front ++ last ∷ []) fresh (lists_many 100 scripts vars few) worked_so begin c starts loaded none_yet back agrees ok
 
     pub watch_views : (seen : List Shown) → AreViews (read_entry_of last.number vars) (the_opening s.origin) r.seen 100 seen
-        → AreViews (read_entry_of 6 vars) (opened_on loaded) c.history 100 seen
+        → AreViews (read_entry_of 6 vars) (opening_on loaded) c.history 100 seen
     watch_views seen views =
-        let at : the_opening s.origin ≡ opened_on loaded =
+        let at : the_opening s.origin ≡ opening_on loaded =
         ap the_opening starts ∙ ap (λ (b : Recording). record { program = b.program; profile = b.profile; first = b.history }) none_yet in
         let history : c.history ≡ back.story = back.history ∙ ap (λ (x : Opening). x.first ++ back.story) at in
-        subst (λ (h : List Entry). AreViews (read_entry_of 6 vars) (opened_on loaded) h 100 seen) (sym history)
-        (views_on (read_entry_of last.number vars) (read_entry_of 6 vars) (the_opening s.origin) (opened_on loaded) r.seen back.story 100 seen
+        subst (λ (h : List Entry). AreViews (read_entry_of 6 vars) (opening_on loaded) h 100 seen) (sym history)
+        (views_on (read_entry_of last.number vars) (read_entry_of 6 vars) (the_opening s.origin) (opening_on loaded) r.seen back.story 100 seen
         (ap (λ (n : ℕ). read_entry_of n vars) number) at back.begins views)

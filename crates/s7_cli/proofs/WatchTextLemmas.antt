@@ -26,7 +26,7 @@ use Rattle.s7_cli.specs.Faults.{failure_of_loading, failure_of_text}
 use Rattle.s7_cli.specs.Inner.{SaysRefusal}
 use Rattle.s7_cli.specs.LiveSays.{RefusedScript, scripts_from}
 use Rattle.s7_cli.specs.LiveTexts.{IsScriptRefusal}
-use Rattle.s7_cli.specs.Living.{IsLive, opened_on}
+use Rattle.s7_cli.specs.Living.{IsLive, opening_on}
 use Rattle.s7_cli.specs.Loads.{LoadsAs}
 use Rattle.s7_cli.specs.Reading.{HoldBytesInTurn}
 use Rattle.s7_cli.specs.WatchSays.{WatchAnswer, watch_count, watch_text}
@@ -110,7 +110,7 @@ watch-scripts-refused V text p stimuli vars failure r fails loads are watched te
 -- the workers made this history, and this was seen of it
 pub watch-said : (steps : ℕ) (text : WatchText) (p q : LoadedProgram) (stimuli : List Entry) (vars : List Var) (scripts : List (List Entry)) (history : List Entry)
     (seen : List Shown) → q ≡ p → FindsWatch text p stimuli vars scripts → IsLive p steps stimuli (watch_lists watch_count scripts vars) history
-    → history_of_text p.program.names (history_text history) ≡ Ok history → AreViews (read_entry_of 6 vars) (opened_on p) history watch_count seen
+    → history_of_text p.program.names (history_text history) ≡ Ok history → AreViews (read_entry_of 6 vars) (opening_on p) history watch_count seen
     → WatchTextSays steps text (done_answer (watch_text q history vars seen))
 watch-said steps text p q stimuli vars scripts history seen same finds live back views =
     subst (λ (x : LoadedProgram). WatchTextSays steps text (done_answer (watch_text x history vars seen))) (sym same)

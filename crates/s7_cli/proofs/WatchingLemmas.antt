@@ -157,7 +157,7 @@ publishes_all s e count p start now note done last same board = record {
   shown = (done, last);
 }
 
--- the same by the number of the pass
+-- one entry more of a publisher, by the number of its pass
 pub shown_more : (s : LockView Opening) (number : ℕ) (vars : List Var) (count next : ℕ) (p q : P) (was now : KnownBoard) → next ≡ count + 1
     → HasShown s (read_entry_of number vars) count p was.list → HasPublished p q was now (read_entry_of p.number vars) → q ≡ record p { seen = q.seen; made = q.made }
     → HasShown s (read_entry_of number vars) next q now.list

@@ -17,12 +17,12 @@ pub at_ok : {A B : Type 0} {X : Type 0} (r : Result A B) → IsOk r → OnOk r X
 at_ok (Ok a) h x = x
 at_ok (Err b) h x = absurd (true≢false (sym h))
 
-pub worked : (s : LockView Opening) (all rest : List (PassView Opening Entry)) (p a b r : PassView Opening Entry) (steps : ℕ) (stimuli : List Entry) (scripts : List (List Entry)) (first whole : Bool)
+pub workers_worked : (s : LockView Opening) (all rest : List (PassView Opening Entry)) (p a b r : PassView Opening Entry) (steps : ℕ) (stimuli : List Entry) (scripts : List (List Entry)) (first whole : Bool)
     → all ≡ p ∷ rest → HasStepped s p.number steps a first → HaveBegun rest (stimuli ∷ scripts) b.made → r.made ≡ a.made ++ b.made
     → IsPrefix a.seen r.seen → AreEntriesByMaker (λ e. e.who) r.seen r.made
     → (whole ≡ true → (first ≡ true) × (b.made ≡ passes_made_whole rest (stimuli ∷ scripts)))
     → HasWorked s all steps stimuli scripts r whole
-worked s all rest p a b r steps stimuli scripts first whole is h begun both begins agrees done =
+workers_worked s all rest p a b r steps stimuli scripts first whole is h begun both begins agrees done =
     let who : ℕ = p.number in
     let z : List Entry = begins.0 in
     let o : Opening = the_opening s.origin in

@@ -34,41 +34,41 @@ pub data Command : Type 0 where
   Recheck : (image certificate : List ℕ) → Command
 
 -- a file that a command reads: what it is read as, and its name
-pub record Input : Type 0 where
+pub record InputFile : Type 0 where
   -- what it is read as
   pub file : File
   -- its name, as the call gives it
   pub name : List ℕ
 
 -- the symbols file, where `--symbols` names one
-abbrev pub symbols_inputs : Option (List ℕ) → List Input
+abbrev pub symbols_inputs : Option (List ℕ) → List InputFile
 symbols_inputs None = []
 symbols_inputs (Some symbols) = record { file = Symbols; name = symbols } ∷ []
 
 -- the input files of a program: its source, and its symbols where `--symbols` names them
-abbrev pub program_inputs : (source : List ℕ) (symbols : Option (List ℕ)) → List Input
+abbrev pub program_inputs : (source : List ℕ) (symbols : Option (List ℕ)) → List InputFile
 program_inputs source symbols = record { file = Source; name = source } ∷ symbols_inputs symbols
 
 -- the input files that are scripts, numbered from this one on
-abbrev pub script_inputs : (number : ℕ) → List (List ℕ) → List Input
+abbrev pub script_inputs : (number : ℕ) → List (List ℕ) → List InputFile
 script_inputs number [] = []
 script_inputs number (script ∷ more) =
     record { file = Script number; name = script } ∷ script_inputs (number + 1) more
 
 -- the input files of `live`: an image, stimuli and scripts
-abbrev pub live_inputs : (image stimuli : List ℕ) (scripts : List (List ℕ)) → List Input
+abbrev pub live_inputs : (image stimuli : List ℕ) (scripts : List (List ℕ)) → List InputFile
 live_inputs image stimuli scripts =
     record { file = Image; name = image } ∷ record { file = Stimuli; name = stimuli }
     ∷ script_inputs 1 scripts
 
 -- the input files of `watch`: an image, stimuli, variables and scripts
-abbrev pub watch_inputs : (image stimuli vars : List ℕ) (scripts : List (List ℕ)) → List Input
+abbrev pub watch_inputs : (image stimuli vars : List ℕ) (scripts : List (List ℕ)) → List InputFile
 watch_inputs image stimuli vars scripts =
     record { file = Image; name = image } ∷ record { file = Stimuli; name = stimuli }
     ∷ record { file = Vars; name = vars } ∷ script_inputs 1 scripts
 
 -- the files that a command reads, in the order in which they are read
-abbrev pub inputs_of : Command → List Input
+abbrev pub inputs_of : Command → List InputFile
 inputs_of (Go source symbols german history) =
     program_inputs source symbols ++ record { file = History; name = history } ∷ []
 inputs_of (Check source symbols german) = program_inputs source symbols

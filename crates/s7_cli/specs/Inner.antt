@@ -10,7 +10,7 @@ use Rattle.s7_cli.specs.declared.failures.Failure.{Failure}
 use Rattle.s7_cli.specs.declared.finish.Output.{Output}
 use Rattle.s7_cli.specs.declared.failures.Failure.TheVariants.{ReadFault, TooLong, Refused, ImageRefused, NoListing, SaysNo, TooDeep, WriteFault, NoMemory}
 use Rattle.s7_cli.specs.Answer.{CallAnswer, CallOutcome, done_answer, refused_file_answer, refused_image_answer, no_listing_answer, says_no_answer, too_long_answer, read_fault_answer}
-use Rattle.s7_cli.specs.Command.{Command, Input, inputs_of, outputs_of}
+use Rattle.s7_cli.specs.Command.{Command, InputFile, inputs_of, outputs_of}
 use Rattle.s7_cli.specs.Ends.{SinkMoments, IsAnswerOfCall, CountsReads, SaysWholeText, IsWriteFault, IsNoMemory}
 use Rattle.s7_cli.specs.Lines.{line_of_failure, ok_line}
 use Rattle.s7_cli.specs.Reading.{Disk, disk_moments, HoldsBytes, HoldBytesInTurn, StopsAt}
@@ -27,7 +27,8 @@ pub record OnlyReads (d : Disk) : Type 0 where
 
 -- the reading of one input file, by its outcome: the bytes that it holds, a failed read, a byte
 -- past its limit, or no memory
-abbrev pub FileRead : {V : Type 0} (view : V → List ℕ) → Disk → Input → Result V Failure → Type 0
+abbrev pub FileRead :
+    {V : Type 0} (view : V → List ℕ) → Disk → InputFile → Result V Failure → Type 0
 FileRead view d i (Ok v) =
     AreFilesUnchanged d.before d.after × HoldsBytes d.before.contents i (view v)
 FileRead view d i (Err ReadFault) = OnlyReads d × StopsAt d i read_fault_answer
@@ -38,7 +39,7 @@ FileRead view d i (Err failure) = ⊥
 
 -- these input files were read and hold these contents, one after the other, and nothing changed
 pub record HasRead
-    (before after : FilesAt) (inputs : List Input) (contents : List (List ℕ))
+    (before after : FilesAt) (inputs : List InputFile) (contents : List (List ℕ))
     : Type 0 where
   -- neither contents nor counts of the files changed
   pub same : AreFilesUnchanged before after
@@ -46,7 +47,7 @@ pub record HasRead
   pub hold : HoldBytesInTurn before.contents inputs contents
 
 -- the reading of files, one after the other, ends at one of them
-abbrev pub StopsAmong : Disk → List Input → CallAnswer → Type 0
+abbrev pub StopsAmong : Disk → List InputFile → CallAnswer → Type 0
 StopsAmong d [] answer = ⊥
 StopsAmong d (i ∷ is) answer =
     StopsAt d i answer
@@ -54,7 +55,7 @@ StopsAmong d (i ∷ is) answer =
 
 -- the reading of input files, one after the other
 abbrev pub AllRead :
-    {V : Type 0} (view : V → List (List ℕ)) → Disk → List Input → Result V Failure → Type 0
+    {V : Type 0} (view : V → List (List ℕ)) → Disk → List InputFile → Result V Failure → Type 0
 AllRead view d is (Ok v) = HasRead d.before d.after is (view v)
 AllRead view d is (Err ReadFault) = OnlyReads d × StopsAmong d is read_fault_answer
 AllRead view d is (Err (TooLong file)) =

@@ -10,7 +10,7 @@ use Rattle.station.specs.declared.shared.StationFault.{StationFault}
 use Rattle.station.specs.declared.shared.StationFault.TheVariants.{Full}
 use Rattle.s7_cli.specs.Working.{EndsInStop, RunsBefore, entries_of_worker}
 
--- the lists are of the workers from this one on, one each: regular entries of their workers
+-- lists of entries are of the workers from `who` on, one each: regular entries of their workers
 abbrev pub AreRegularBy : (who : ℕ) → List (List Entry) → Type 0
 AreRegularBy who [] = Unit {0}
 AreRegularBy who (x ∷ xs) = All (IsRegularOf who) x × AreRegularBy (suc who) xs
@@ -26,9 +26,9 @@ StandInHistory who [] history = Unit {0}
 StandInHistory who (x ∷ xs) history =
     (entries_of_worker who history ≡ x) × StandInHistory (suc who) xs history
 
--- a station that begins with a program, at its profile, and no entry
-abbrev pub opened_on : LoadedProgram → Opening
-opened_on loaded = record { program = loaded.program; profile = loaded.profile; first = [] }
+-- the opening of a station that begins with a program, at its profile, and no entry
+abbrev pub opening_on : LoadedProgram → Opening
+opening_on loaded = record { program = loaded.program; profile = loaded.profile; first = [] }
 
 -- a live history of stimuli, scripts and a number of steps on a program. Worker 1 made steps alone,
 -- at most so many, each but the last of which leaves another mode than STOP at its place, and fewer
@@ -45,9 +45,9 @@ pub record IsLive
   -- worker 1 made these steps, and nothing else
   pub stepper : entries_of_worker 1 history ≡ replicate count one_step
   -- each step but the last leaves another mode than STOP
-  pub runs : RunsBefore 1 (opened_on loaded) 1 history
+  pub runs : RunsBefore 1 (opening_on loaded) 1 history
   -- all steps were made, or the last one leaves STOP
-  pub ends : (count ≡ steps) ⊎ EndsInStop (opened_on loaded) 1 history
+  pub ends : (count ≡ steps) ⊎ EndsInStop (opening_on loaded) 1 history
   -- the entries of the others are the stimuli and the scripts, each list whole
   pub others : StandInHistory 2 (stimuli ∷ scripts) history
   -- there are no workers but the stepper, the feeder and one for each script

@@ -81,7 +81,7 @@ RunSays image history answer =
     (loaded : Result LoadedProgram LoadFault) × LoadsAs image loaded
     × (answer ≡ run_answer loaded history)
 
--- `upgrade`: the image is loaded
+-- the answer of `upgrade` by how its image loads: the image is refused, or `OK`
 abbrev pub upgrade_answer : Result LoadedProgram LoadFault → CallAnswer
 upgrade_answer (Err fault) = refused_image_answer fault
 upgrade_answer (Ok loaded) = done_answer ok_line
@@ -99,7 +99,8 @@ IsUpgraded bytes image =
     (loaded : LoadedProgram) × LoadsAs image (Ok loaded)
     × (bytes ≡ image_of (Two loaded.profile) loaded.program)
 
--- `gen`: the source of the number is checked; its run along the history of the number is summed up
+-- the answer of `gen`: the refusal of the source of the number, or the summary of its run along the
+-- history of the number
 abbrev pub gen_answer : (number : ℕ) → Result Code RefusedFile → CallAnswer
 gen_answer number (Err why) = refused_source_answer why
 gen_answer number (Ok code) =

@@ -16,7 +16,7 @@ use Rattle.watch_board.specs.declared.shown.Shown.{Shown}
 use Rattle.s7_cli.specs.declared.failures.File.TheVariants.{Stimuli, Script, Vars}
 use Rattle.s7_cli.specs.Answer.{CallAnswer, done_answer, refused_file_answer, refused_image_answer}
 use Rattle.s7_cli.specs.LiveSays.{RefusedScript, live_text, scripts_from}
-use Rattle.s7_cli.specs.Living.{IsLive, opened_on}
+use Rattle.s7_cli.specs.Living.{IsLive, opening_on}
 use Rattle.s7_cli.specs.Loads.{LoadsAs}
 use Rattle.s7_cli.specs.Watching.{AreViews, read_entry_of, watch_lists}
 
@@ -60,7 +60,7 @@ pub record RanWatch
   -- the items that were viewed
   pub seen : List Shown
   -- each is the opening item or a reply to one of these reads, and their numbers never fall
-  pub views : AreViews (read_entry_of 6 vars) (opened_on loaded) history watch_count seen
+  pub views : AreViews (read_entry_of 6 vars) (opening_on loaded) history watch_count seen
   -- the answer is the text of the history and of the views, done
   pub says : answer ≡ done_answer (watch_text loaded history vars seen)
 

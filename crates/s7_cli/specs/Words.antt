@@ -11,8 +11,8 @@ use Rattle.clap.specs.Words.{App, Row, Rule, all_of, fault_of, first_of, matches
 use Rattle.clap.specs.declared.builder.action.ArgAction.TheVariants.{Set, SetTrue, Append}
 use Rattle.stl_symbols.specs.declared.languages.Language.TheVariants.{English, German}
 use Rattle.plc_base.specs.Decimal.{decimal_up_to}
-use Rattle.s7_cli.specs.declared.words.Asked.{Asked}
-use Rattle.s7_cli.specs.declared.words.Asked.TheVariants as asked
+use Rattle.s7_cli.specs.declared.words.AskedCommand.{AskedCommand}
+use Rattle.s7_cli.specs.declared.words.AskedCommand.TheVariants as asked
 use Rattle.s7_cli.specs.Command.{Command, Go, Check, Compile, Translate, Run, Gen, Live, Watch, Upgrade, ListImage, Bound, Recheck}
 
 -- COMMAND: a word that has to be there
@@ -144,11 +144,11 @@ stepped_command command words steps =
 
 -- the command that its word, the words behind it and the options ask for; `--steps N` goes with
 -- `live` and `watch`, and with nothing else
-abbrev pub asked_for :
+abbrev pub command_with_options :
     (command : List ℕ) (words : List (List ℕ)) (symbols : Option (List ℕ)) (german : Bool)
     (steps : Option (List ℕ)) → Option Command
-asked_for command words symbols german None = short_command command words symbols german
-asked_for command words symbols german (Some steps) =
+command_with_options command words symbols german None = short_command command words symbols german
+command_with_options command words symbols german (Some steps) =
     if takes_no_source symbols german then stepped_command command words steps else None
 
 -- whether `--german` was found, whose value is `false` where it wasn't
@@ -156,11 +156,11 @@ abbrev pub has_german : List Row → Bool
 has_german found =
     option_map_or (λ value. bytes_eq value (codes "true")) (first_of (codes "german") found) false
 
--- the command that is asked for by what was found of the five arguments
-abbrev pub asked_by : List Row → Option Command
-asked_by found =
+-- the command that is asked for by the rows that were found of the five arguments
+abbrev pub command_of_rows : List Row → Option Command
+command_of_rows found =
     option_and_then
-    (λ command. asked_for command (unwrap_or (all_of (codes "FILES") found) [])
+    (λ command. command_with_options command (unwrap_or (all_of (codes "FILES") found) [])
     (first_of (codes "symbols") found) (has_german found) (first_of (codes "steps") found))
     (first_of (codes "COMMAND") found)
 
@@ -168,9 +168,9 @@ asked_by found =
 -- the words, or where they ask for no command
 unfoldable pub command_of : List (List ℕ) → Option Command
 command_of words =
-    if is_empty (fault_of the_line words) then asked_by (matches_of the_line words) else None
+    if is_empty (fault_of the_line words) then command_of_rows (matches_of the_line words) else None
 
--- the limits of the numbers of a command, and of how many scripts it has, and that its output files
+-- a command keeps the limits of its numbers and of how many scripts it has, and its output files
 -- are different words
 abbrev pub KeepsLimits : Command → Type 0
 KeepsLimits (Gen number) = (1 ≤ number) × (number ≤ 10000)
@@ -182,7 +182,7 @@ KeepsLimits (ListImage image source symbols) = source ≢ symbols
 KeepsLimits command = Unit {0}
 
 -- the command of a call that was read, with its names as texts
-abbrev pub command_value : Asked → Command
+abbrev pub command_value : AskedCommand → Command
 command_value (asked.Go source symbols german history) =
     Go source.now (option_map (λ s. s.now) symbols) german history.now
 command_value (asked.Check source symbols german) =
@@ -214,7 +214,8 @@ abbrev pub plain_command :
     (words : List (List ℕ)) (symbols : Option (List ℕ)) (german : Bool) (steps : Option (List ℕ))
     → Option Command
 plain_command [] symbols german steps = None
-plain_command (command ∷ words) symbols german steps = asked_for command words symbols german steps
+plain_command (command ∷ words) symbols german steps =
+    command_with_options command words symbols german steps
 
 -- words that can be no options ask for the command of the first one, without options
 abbrev pub ReadsPlainWords : Type 0

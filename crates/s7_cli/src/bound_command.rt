@@ -8,7 +8,7 @@ ghost use Rattle.s7_cli.specs.Inner.{ComesBeforeLine, CommandComesTo, SaysRefusa
 ghost use Rattle.s7_cli.specs.Reading.{disk_moments};
 ghost use Rattle.s7_cli.specs.StatusTable.{StatusTable};
 
-use crate::command_checks::loaded;
+use crate::command_checks::loaded_image;
 use crate::failures::{ExitStatus, Failure, File};
 use crate::files::read_file;
 use crate::finish::{end_command, write_output, write_text};
@@ -49,7 +49,7 @@ fn check_bound(alloc: Global, image: &[u8]) -> Result<BoundText, Failure>
     ensures tells { IfOk result (IsBoundTextOfImage image.now) }
     ensures refused { SaysRefusal (BoundSays image.now) result }
 {
-    let loaded = loaded(alloc, image)?;
+    let loaded = loaded_image(alloc, image)?;
     let found = find(alloc, &loaded)?;
     Ok(bound_text(alloc, &found)?)
 }

@@ -96,7 +96,7 @@ pub fn check_with_history(
 }
 
 /// The program of an image, with its profile.
-pub(crate) fn loaded(alloc: Global, image: &[u8]) -> Result<Loaded, LoadError>
+pub(crate) fn loaded_image(alloc: Global, image: &[u8]) -> Result<Loaded, LoadError>
     ensures loads { IfOk result (λ l. LoadsAs image.now (Ok l)) }
     ensures refused { IfErr result (λ e. IsLoadError e (faults_of image.now)) }
 {
@@ -113,7 +113,7 @@ pub fn check_run(alloc: Global, image: &[u8], history: &[u8]) -> Result<(Loaded,
     ensures valid { IfOk result (λ v. All IsValid v.1.entries) }
     ensures refused { SaysRefusal (RunSays image.now history.now) result }
 {
-    let program = loaded(alloc, image)?;
+    let program = loaded_image(alloc, image)?;
     let entries = read_history(alloc, history, program.names())?;
     Ok((program, entries))
 }
@@ -132,7 +132,7 @@ pub fn check_upgrade(alloc: Global, image: &[u8]) -> Result<Vec<u8>, Failure>
     ensures upgrades { IfOk result (λ v. IsUpgraded v.items image.now) }
     ensures refused { SaysRefusal (UpgradeSays image.now) result }
 {
-    let loaded = loaded(alloc, image)?;
+    let loaded = loaded_image(alloc, image)?;
     Ok(image_again(alloc, &loaded)?)
 }
 
@@ -179,7 +179,7 @@ pub fn check_live(alloc: Global, text: &LiveText) -> Result<LiveWork, Failure>
         (map (λ x. x.items) w.scripts.items)) }
     ensures refused { (steps : ℕ) → SaysRefusal (LiveTextSays steps text.now) result }
 {
-    let program = loaded(alloc, &text.image)?;
+    let program = loaded_image(alloc, &text.image)?;
     let stimuli = match read_stimuli(alloc, &text.stimuli) {
         Ok(entries) => entries,
         Err(fault) => return Err(failure_of_text(File::Stimuli, fault)),

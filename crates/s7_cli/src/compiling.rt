@@ -69,7 +69,7 @@ fn read_symbols_in(
     Ok(list)
 }
 
-/// The same, for a source whose symbols they are.
+/// The symbols of a symbols file with addresses in a language, for a source whose symbols they are.
 pub(crate) fn symbols_in(
     alloc: Global,
     language: Language,
@@ -148,7 +148,7 @@ fn layouts_of(alloc: Global, tree: &Tree, symbols: &Symbols) -> Result<Layouts, 
 /// Lays out a source with these symbols. The tokens of the source are checked first, then its
 /// clauses, and its layout. Where a rule on the layout is broken, the refusal is the least one of
 /// these rules and of those on statements.
-fn laid_out(alloc: Global, source: &[u8], symbols: Symbols) -> Result<LaidSource, CompileFault>
+fn laid_source(alloc: Global, source: &[u8], symbols: Symbols) -> Result<LaidSource, CompileFault>
     requires { length source.now ≤ source_limit }
     ensures laid { IfOk result (IsSourceLaidOut source.now) }
     ensures symbols { IfOk result (λ laid. laid.symbols ≡ symbols) }
@@ -222,7 +222,7 @@ pub(crate) fn check_source_with(
     ensures refused { IfErr result (RefusesForSymbols source.now symbols) }
 {
     sem_kept::laws::programs_run();
-    let laid = laid_out(alloc, source, symbols)?;
+    let laid = laid_source(alloc, source, symbols)?;
     let _checked = checked_of(alloc, &laid)?;
     Ok(())
 }
@@ -240,7 +240,7 @@ pub(crate) fn program_with(
     ensures refused { IfErr result (RefusesForSymbols source.now symbols) }
 {
     sem_kept::laws::programs_run();
-    let laid = laid_out(alloc, source, symbols)?;
+    let laid = laid_source(alloc, source, symbols)?;
     let checked = checked_of(alloc, &laid)?;
     Ok(generate(alloc, &checked, &laid.layouts, &laid.symbols)?)
 }

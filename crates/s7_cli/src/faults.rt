@@ -7,8 +7,11 @@ use std::alloc::AllocError;
 /// Why a source isn't compiled: what its symbols file or it breaks, or want of memory.
 #[derive(Clone, Copy, Debug, PartialEq, Eq)]
 pub enum CompileFault {
+    /// The symbols file breaks a rule.
     Symbols { refusal: Refusal },
+    /// The source breaks a rule.
     Source { refusal: Refusal },
+    /// Memory ran out.
     NoMemory,
 }
 

@@ -1,6 +1,6 @@
 ghost use Rattle.std.specs.Prelude.{◌≡◌, ◌≤◌, length, map, option_to_list};
 ghost use Rattle.std.specs.Option.{option_map};
-ghost use Rattle.s7_cli.specs.Command.{Input, limit_of, live_inputs, program_inputs, script_inputs, symbols_inputs};
+ghost use Rattle.s7_cli.specs.Command.{InputFile, limit_of, live_inputs, program_inputs, script_inputs, symbols_inputs};
 ghost use Rattle.s7_cli.specs.Inner.{AllRead, FileRead, FileWritten};
 ghost use Rattle.s7_cli.specs.LiveTexts.{live_contents};
 ghost use Rattle.s7_cli.specs.Reading.{disk_moments};
@@ -86,7 +86,7 @@ pub fn read_file<F: Files>(
     file: File,
     name: &str,
 ) -> Result<Vec<u8>, Failure>
-    ensures { let input : Input = record { file = file; name = name.now } in
+    ensures { let input : InputFile = record { file = file; name = name.now } in
         FileRead (λ v. v.items) (disk_moments (F.shown files.old) (F.shown files.new)) input
         result }
 {

@@ -19,7 +19,7 @@ use plc_io::{Files, IoFault, Sink, push_all};
 pub const OK_LINE: &[u8] = b"OK\n";
 
 /// How a command came out whose text was written so.
-pub fn written(outcome: Result<(), IoFault>) -> Result<(), Failure>
+pub fn outcome_of_write(outcome: Result<(), IoFault>) -> Result<(), Failure>
     ensures { (before after : SinkAt) (text : List ℕ)
         → WroteText before after text outcome
         → TextWritten text (sink_moments before after) result }
@@ -35,7 +35,7 @@ pub fn written(outcome: Result<(), IoFault>) -> Result<(), Failure>
 pub fn write_text<K: Sink>(out: &mut K, text: &[u8]) -> Result<(), Failure>
     ensures { TextWritten text.now (sink_moments (K.shown out.old) (K.shown out.new)) result }
 {
-    written(push_all(out, text))
+    outcome_of_write(push_all(out, text))
 }
 
 /// Makes bytes the whole of a command's output file, and then writes `OK`.

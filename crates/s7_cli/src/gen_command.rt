@@ -16,7 +16,7 @@ use crate::compiling::compiled;
 use crate::failures::{ExitStatus, Failure};
 use crate::finish::{end_command, write_text};
 use crate::nowhere::Nowhere;
-use crate::run_text::{started, write_entries};
+use crate::run_text::{controller_at_start, write_entries};
 use crate::summaries::summary_line;
 use controller::Controller;
 use generator::{history, source_text};
@@ -50,7 +50,7 @@ fn controller_behind(
     }) }
     ensures err { IfErr result (λ failure. failure ≡ NoMemory) }
 {
-    let Ok(mut controller) = started(alloc, program, entries.len()) else {
+    let Ok(mut controller) = controller_at_start(alloc, program, entries.len()) else {
         return Err(Failure::NoMemory);
     };
     let mut text = Vec::new(alloc);

@@ -11,7 +11,7 @@ ghost use Rattle.s7_cli.specs.Texts.{AreFilesWithinLimits, file_contents_of};
 use crate::command_checks::check_with_history;
 use crate::failures::{ExitStatus, Failure, File};
 use crate::files::{ProgramText, read_file, read_program};
-use crate::finish::{end_command, written};
+use crate::finish::{end_command, outcome_of_write};
 use crate::run_text::replay_text;
 use plc_io::{Files, Sink};
 use std::alloc::Global;
@@ -34,7 +34,7 @@ fn go_along<K: Sink>(
     let (program, entries) = check_with_history(alloc, text, german, history)?;
     // programs that no history tells apart have one text
     controller::laws::continues_replay();
-    written(replay_text(alloc, program, &entries, out))
+    outcome_of_write(replay_text(alloc, program, &entries, out))
 }
 
 /// Reads a source with its symbols and a history, checks all, and writes the run.

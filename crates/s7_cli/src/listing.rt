@@ -6,7 +6,7 @@ ghost use Rattle.s7_cli.specs.Inner.{SaysRefusal};
 ghost use Rattle.s7_cli.specs.ListSays.{IsListing, IsListingOf, IsShortListing, ListSays, ListedAnswer};
 ghost use Rattle.s7_cli.specs.Listings.{CompiledHaveListings, ListingsGiveImages, ListingsGivePrograms};
 
-use crate::command_checks::loaded;
+use crate::command_checks::loaded_image;
 use crate::compiling::{compiles_to, law_of_programs};
 use crate::failures::{Failure, File};
 use crate::files::limit_of;
@@ -50,7 +50,7 @@ pub(crate) fn check_listing(alloc: Global, image: &[u8]) -> Result<Listing, Fail
     ensures lists { IfOk result (λ x. IsListingOf x.source.items x.symbols.items image.now) }
     ensures refused { SaysRefusal (ListSays image.now) result }
 {
-    let loaded = loaded(alloc, image)?;
+    let loaded = loaded_image(alloc, image)?;
     listing_of(alloc, &loaded)
 }
 

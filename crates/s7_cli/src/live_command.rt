@@ -21,7 +21,7 @@ ghost use Rattle.s7_cli.specs.run_text.RunText.{run_text};
 use crate::command_checks::{LiveWork, check_live};
 use crate::failures::{ExitStatus, Failure};
 use crate::files::{LiveText, read_live};
-use crate::finish::{end_command, written};
+use crate::finish::{end_command, outcome_of_write};
 use crate::living::live_run;
 use crate::run_text::replay_text;
 use controller::Controller;
@@ -34,7 +34,7 @@ use std::thread::Threads;
 use var_access::{Entries, Run};
 
 /// Checks what the files of a live run hold, and lets its workers make a history.
-fn lived<R: Threads + Wait + Sync, G: Gate + Sync>(
+fn live_controller<R: Threads + Wait + Sync, G: Gate + Sync>(
     rt: &R,
     alloc: Global,
     text: &LiveText,
@@ -128,8 +128,8 @@ fn live_read<R: Threads + Wait + Sync, K: Sink, G: Gate + Sync>(
         → CommandComesTo (Live img stim ops steps) (live_contents text.now)
         (disk_moments at at) took result }
 {
-    let controller = lived(rt, alloc, text, steps, gate)?;
-    written(write_live(alloc, controller, out))
+    let controller = live_controller(rt, alloc, text, steps, gate)?;
+    outcome_of_write(write_live(alloc, controller, out))
 }
 
 /// Reads an image, stimuli and scripts, checks all, lets the workers work, and writes what they

@@ -23,7 +23,7 @@ use var_access::Entry;
 
 /// The controller of a station, once all workers have ended. The station is closed before the
 /// refusal is looked at: only the whole history says that it isn't full.
-pub(crate) fn ended(
+pub(crate) fn controller_at_end(
     station: Station,
     pass: Pass<Shared>,
     outcome: Result<(), StationFault>,
@@ -73,5 +73,5 @@ pub(crate) fn live_run<R: Threads + Wait + Sync, G: Gate + Sync>(
     let controller = Controller::new(alloc, program)?;
     let (station, passes) = Station::start(alloc, controller, scripts.len() as u8 + 2)?;
     let (pass, outcome) = work(rt, &station, passes, steps, stimuli, scripts, gate);
-    ended(station, pass, outcome)
+    controller_at_end(station, pass, outcome)
 }

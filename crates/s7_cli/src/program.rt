@@ -19,7 +19,7 @@ use crate::run_command::cmd_run;
 use crate::translate_command::cmd_translate;
 use crate::upgrade_command::cmd_upgrade;
 use crate::watch_command::cmd_watch;
-use crate::words::{Asked, read_words};
+use crate::words::{AskedCommand, read_words};
 use plc_io::{Files, Gate, Sink};
 use std::alloc::Global;
 use std::sync::Wait;
@@ -28,7 +28,7 @@ use std::thread::Threads;
 /// Does what is asked for of a source that is compiled.
 fn with_source<F: Files, K: Sink>(
     alloc: Global,
-    asked: Asked<'_>,
+    asked: AskedCommand<'_>,
     files: &mut F,
     out: &mut K,
 ) -> ExitStatus
@@ -41,18 +41,18 @@ fn with_source<F: Files, K: Sink>(
         StatusTable (Some (command_value asked.entry)) went took result.code }
 {
     match asked {
-        Asked::Go {
+        AskedCommand::Go {
             source,
             symbols,
             german,
             history,
         } => cmd_go(alloc, source, history, symbols, german, files, out),
-        Asked::Check {
+        AskedCommand::Check {
             source,
             symbols,
             german,
         } => cmd_check(alloc, source, symbols, german, files, out),
-        Asked::Compile {
+        AskedCommand::Compile {
             source,
             symbols,
             german,
@@ -65,7 +65,7 @@ fn with_source<F: Files, K: Sink>(
 /// Does what is asked for with an image and no workers.
 fn with_image<F: Files, K: Sink>(
     alloc: Global,
-    asked: Asked<'_>,
+    asked: AskedCommand<'_>,
     files: &mut F,
     out: &mut K,
 ) -> ExitStatus
@@ -79,15 +79,23 @@ fn with_image<F: Files, K: Sink>(
         StatusTable (Some (command_value asked.entry)) went took result.code }
 {
     match asked {
-        Asked::Run { image, history } => cmd_run(alloc, image, history, files, out),
-        Asked::Upgrade { image, upgraded } => cmd_upgrade(alloc, image, upgraded, files, out),
-        Asked::ListImage {
+        AskedCommand::Run { image, history } => cmd_run(alloc, image, history, files, out),
+        AskedCommand::Upgrade { image, upgraded } => cmd_upgrade(
+            alloc, image, upgraded, files, out,
+        ),
+        AskedCommand::ListImage {
             image,
             source,
             symbols,
         } => cmd_list(alloc, image, source, symbols, files, out),
-        Asked::Bound { image, certificate } => cmd_bound(alloc, image, certificate, files, out),
-        Asked::Recheck { image, certificate } => {
+        AskedCommand::Bound { image, certificate } => cmd_bound(
+            alloc,
+            image,
+            certificate,
+            files,
+            out,
+        ),
+        AskedCommand::Recheck { image, certificate } => {
             cmd_recheck(alloc, image, certificate, files, out)
         }
         _ => unreachable!(),
@@ -98,7 +106,7 @@ fn with_image<F: Files, K: Sink>(
 fn with_workers<R: Threads + Wait + Sync, F: Files, K: Sink, G: Gate + Sync>(
     rt: &R,
     alloc: Global,
-    asked: Asked<'_>,
+    asked: AskedCommand<'_>,
     files: &mut F,
     out: &mut K,
     gate: &G,
@@ -113,7 +121,7 @@ fn with_workers<R: Threads + Wait + Sync, F: Files, K: Sink, G: Gate + Sync>(
         StatusTable (Some (command_value asked.entry)) went took result.code }
 {
     match asked {
-        Asked::Live {
+        AskedCommand::Live {
             image,
             stimuli,
             scripts,
@@ -129,7 +137,7 @@ fn with_workers<R: Threads + Wait + Sync, F: Files, K: Sink, G: Gate + Sync>(
             out,
             gate,
         ),
-        Asked::Watch {
+        AskedCommand::Watch {
             image,
             stimuli,
             vars,
@@ -155,7 +163,7 @@ fn with_workers<R: Threads + Wait + Sync, F: Files, K: Sink, G: Gate + Sync>(
 fn carry_out<R: Threads + Wait + Sync, F: Files, K: Sink, G: Gate + Sync>(
     rt: &R,
     alloc: Global,
-    asked: Asked<'_>,
+    asked: AskedCommand<'_>,
     files: &mut F,
     out: &mut K,
     gate: &G,
@@ -169,23 +177,23 @@ fn carry_out<R: Threads + Wait + Sync, F: Files, K: Sink, G: Gate + Sync>(
         StatusTable (Some (command_value asked.entry)) went took result.code }
 {
     match asked {
-        Asked::Go { .. } | Asked::Check { .. } | Asked::Compile { .. } => {
+        AskedCommand::Go { .. } | AskedCommand::Check { .. } | AskedCommand::Compile { .. } => {
             with_source(alloc, asked, files, out)
         }
-        Asked::Translate {
+        AskedCommand::Translate {
             language,
             source,
             translation,
         } => cmd_translate(alloc, language, source, translation, files, out),
-        Asked::Run { .. }
-        | Asked::Upgrade { .. }
-        | Asked::ListImage { .. }
-        | Asked::Bound { .. }
-        | Asked::Recheck { .. } => with_image(alloc, asked, files, out),
-        Asked::Live { .. } | Asked::Watch { .. } => {
+        AskedCommand::Run { .. }
+        | AskedCommand::Upgrade { .. }
+        | AskedCommand::ListImage { .. }
+        | AskedCommand::Bound { .. }
+        | AskedCommand::Recheck { .. } => with_image(alloc, asked, files, out),
+        AskedCommand::Live { .. } | AskedCommand::Watch { .. } => {
             with_workers(rt, alloc, asked, files, out, gate)
         }
-        Asked::Gen { number } => cmd_gen(alloc, number, out),
+        AskedCommand::Gen { number } => cmd_gen(alloc, number, out),
     }
 }
 

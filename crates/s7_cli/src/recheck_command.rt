@@ -8,7 +8,7 @@ ghost use Rattle.s7_cli.specs.Inner.{ComesBeforeLine, CommandComesTo, SaysRefusa
 ghost use Rattle.s7_cli.specs.Reading.{disk_moments};
 ghost use Rattle.s7_cli.specs.StatusTable.{StatusTable};
 
-use crate::command_checks::loaded;
+use crate::command_checks::loaded_image;
 use crate::failures::{ExitStatus, Failure, File};
 use crate::files::read_file;
 use crate::finish::{OK_LINE, end_command, write_text};
@@ -22,7 +22,7 @@ fn check_recheck(alloc: Global, image: &[u8], certificate: &[u8]) -> Result<(), 
     ensures holds { OnOk result (IsCertificateOfImage image.now certificate.now) }
     ensures refused { SaysRefusal (RecheckSays image.now certificate.now) result }
 {
-    let loaded = loaded(alloc, image)?;
+    let loaded = loaded_image(alloc, image)?;
     let list = read_certificate(alloc, &loaded, certificate)?;
     if holds(&loaded, &list) {
         return Ok(());

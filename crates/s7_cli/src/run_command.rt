@@ -9,7 +9,7 @@ ghost use Rattle.s7_cli.specs.StatusTable.{StatusTable};
 use crate::command_checks::check_run;
 use crate::failures::{ExitStatus, Failure, File};
 use crate::files::read_file;
-use crate::finish::{end_command, written};
+use crate::finish::{end_command, outcome_of_write};
 use crate::run_text::replay_text;
 use plc_io::{Files, Sink};
 use std::alloc::Global;
@@ -28,7 +28,7 @@ fn run_along<K: Sink>(
         (disk_moments at at) took result }
 {
     let (program, entries) = check_run(alloc, image, history)?;
-    written(replay_text(alloc, program, &entries, out))
+    outcome_of_write(replay_text(alloc, program, &entries, out))
 }
 
 /// Reads an image and a history, checks both, and writes the run.

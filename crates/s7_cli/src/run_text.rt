@@ -5,4 +5,4 @@ mod entries;
 mod replaying;
 
 pub use entries::write_entries;
-pub use replaying::{replay_text, started};
+pub use replaying::{controller_at_start, replay_text};

@@ -10,7 +10,7 @@ ghost use Rattle.s7_cli.specs.StatusTable.{StatusTable};
 use crate::failures::{ExitStatus, Failure, File};
 use crate::files::read_file;
 use crate::finish::{end_command, write_output};
-use crate::translating::translated;
+use crate::translating::translated_source;
 use plc_io::{Files, Sink};
 use std::alloc::Global;
 use stl_symbols::Language;
@@ -31,7 +31,7 @@ fn translate_text<F: Files, K: Sink>(
         → CommandComesTo (Translate language src translation.now) (source.now ∷ []) went took
         result }
 {
-    let text = translated(alloc, language, source)?;
+    let text = translated_source(alloc, language, source)?;
     write_output(files, out, translation, &text)
 }
 
@@ -93,7 +93,8 @@ pub fn cmd_english<F: Files, K: Sink>(
     cmd_translate(alloc, Language::English, src, translation, files, out)
 }
 
-/// The same from English mnemonics to German ones.
+/// Makes the translation of the source in the file `src` from English mnemonics to German ones the
+/// whole of the file `translation`, as `cmd_english` does the other way.
 pub fn cmd_german<F: Files, K: Sink>(
     alloc: Global,
     src: &str,

@@ -44,7 +44,7 @@ fn whole_translation(
 }
 
 /// The translation of a source, which may be as long as a source.
-pub(crate) fn translated(
+pub(crate) fn translated_source(
     alloc: Global,
     language: Language,
     source: &[u8],
@@ -87,7 +87,7 @@ fn english_program(alloc: Global, text: &ProgramText) -> Result<EnglishProgram, 
         (NotInEnglish text.now.source.items (symbols_text_of text.now)) result }
 {
     let symbols = symbols_in(alloc, Language::German, text.symbols())?;
-    let source = translated(alloc, Language::English, &text.source)?;
+    let source = translated_source(alloc, Language::English, &text.source)?;
     Ok(EnglishProgram { source, symbols })
 }
 
@@ -119,7 +119,7 @@ fn german_program(alloc: Global, text: &ProgramText) -> Result<Program, Failure>
     Ok(program_with(alloc, &source, symbols)?)
 }
 
-/// The same, loaded with the large profile.
+/// The program of a German source with its symbols, loaded with the large profile.
 pub(crate) fn compiled_german(alloc: Global, text: &ProgramText) -> Result<Loaded, Failure>
     requires { AreFilesWithinLimits text.now }
     ensures keeps { IfOk result

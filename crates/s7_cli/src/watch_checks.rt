@@ -6,7 +6,7 @@ ghost use Rattle.s7_cli.specs.Inner.{SaysRefusal};
 ghost use Rattle.s7_cli.specs.WatchTexts.{FindsWatch, IsWatchText, AreVarsRefused, WatchTextSays};
 ghost use Rattle.s7_cli.specs.Watching.{read_entry_of};
 
-use crate::command_checks::{check_scripts, loaded};
+use crate::command_checks::{check_scripts, loaded_image};
 use crate::failures::{Failure, File, failure_of_text};
 use crate::watch_files::WatchText;
 use event_text::{read_stimuli, read_vars};
@@ -48,7 +48,7 @@ pub fn check_watch(alloc: Global, text: &WatchText) -> Result<WatchWork, Failure
         (map (λ x. x.items) w.scripts.items)) }
     ensures refused { (steps : ℕ) → SaysRefusal (WatchTextSays steps text.now) result }
 {
-    let program = loaded(alloc, &text.image)?;
+    let program = loaded_image(alloc, &text.image)?;
     let stimuli = match read_stimuli(alloc, &text.stimuli) {
         Ok(entries) => entries,
         Err(fault) => return Err(failure_of_text(File::Stimuli, fault)),

@@ -15,7 +15,7 @@ ghost use Rattle.s7_cli.specs.WatchTexts.{IsWatchText, WatchTextSays, watch_cont
 ghost use Rattle.s7_cli.specs.run_text.Behind.{program_of_recording};
 
 use crate::failures::{ExitStatus, Failure};
-use crate::finish::{end_command, written};
+use crate::finish::{end_command, outcome_of_write};
 use crate::live_command::write_live;
 use crate::watch_checks::{WatchWork, check_watch};
 use crate::watch_files::{WatchText, read_watch};
@@ -33,8 +33,8 @@ use watch_board::Shown;
 
 /// What came of a watch.
 #[derive(Drop)]
-struct Watched {
-    /// With the history that the workers made.
+struct WatchOutcome {
+    /// The controller, with the history that the workers made.
     controller: Controller,
     /// What the last operator read.
     vars: Vars,
@@ -49,7 +49,7 @@ fn run_watch<R: Threads + Wait + Sync, G: Gate + Sync>(
     text: &WatchText,
     steps: u32,
     gate: &G,
-) -> Result<Watched, Failure>
+) -> Result<WatchOutcome, Failure>
     requires text { IsWatchText text.now }
     requires steps { steps ≤ 1000000 }
     ensures says { IfOk result (λ w. WatchTextSays steps text.now (done_answer
@@ -66,7 +66,7 @@ fn run_watch<R: Threads + Wait + Sync, G: Gate + Sync>(
         scripts,
     } = check_watch(alloc, text)?;
     let (controller, views) = watch_run(rt, alloc, program, steps, &stimuli, scripts, &vars, gate)?;
-    Ok(Watched {
+    Ok(WatchOutcome {
         controller,
         vars,
         views,
@@ -131,13 +131,13 @@ fn write_views<K: Sink>(
 }
 
 /// Writes the text of a live run, a line `---`, and the lines of the views.
-fn write_watch<K: Sink>(alloc: Global, watched: Watched, out: &mut K) -> Result<(), IoFault>
+fn write_watch<K: Sink>(alloc: Global, watched: WatchOutcome, out: &mut K) -> Result<(), IoFault>
     requires { All IsValid watched.controller.history }
     ensures { WroteText (K.shown out.old) (K.shown out.new)
         (watch_text (program_of_recording watched.controller) watched.controller.history
         watched.vars watched.views.items) result }
 {
-    let Watched {
+    let WatchOutcome {
         controller,
         vars,
         views,
@@ -164,7 +164,7 @@ fn watch_read<R: Threads + Wait + Sync, K: Sink, G: Gate + Sync>(
         (disk_moments at at) took result }
 {
     let watched = run_watch(rt, alloc, text, steps, gate)?;
-    written(write_watch(alloc, watched, out))
+    outcome_of_write(write_watch(alloc, watched, out))
 }
 
 /// Reads an image, stimuli, variables and scripts, checks all, lets the workers work and the viewer

@@ -4,12 +4,12 @@ ghost use Rattle.std.specs.Prelude.{◌≡◌, ◌+◌, ◌-◌, ◌<◌, ◌≤
 ghost use Rattle.event_text.specs.Regular.{IsRegular, IsRegularOf};
 ghost use Rattle.event_text.specs.Texts.{steps_in};
 ghost use Rattle.station.specs.declared.shared.TheConstants.{FULL};
-ghost use Rattle.s7_cli.specs.Living.{AreRegularBy, IsLive, opened_on, total_length};
+ghost use Rattle.s7_cli.specs.Living.{AreRegularBy, IsLive, opening_on, total_length};
 ghost use Rattle.s7_cli.specs.Watching.{AreViews, read_entry_of, watch_lists};
 ghost use Rattle.s7_cli.specs.run_text.Behind.{program_of_recording};
 
 use crate::lists::add;
-use crate::living::ended;
+use crate::living::controller_at_end;
 use crate::watching::watch_station;
 use controller::Controller;
 use image_file::Loaded;
@@ -29,7 +29,7 @@ const SCRIPTS: usize = 3;
 const PASSES: u8 = 6;
 
 /// A script for each operator but the last, without lines where there was none.
-fn padded(alloc: Global, scripts: Vec<Vec<Entry>>) -> Result<Vec<Vec<Entry>>, NoMemory>
+fn padded_scripts(alloc: Global, scripts: Vec<Vec<Entry>>) -> Result<Vec<Vec<Entry>>, NoMemory>
     requires { length scripts.items ≤ 3 }
     ensures { IfOk result (λ v. map (λ x. x.items) v.items
         ≡ map (λ x. x.items) scripts.items ++ replicate (3 - length scripts.items) []) }
@@ -80,10 +80,10 @@ pub(crate) fn watch_run<R: Threads + Wait + Sync, G: Gate + Sync>(
         (watch_lists 100 (map (λ v. v.items) scripts.items) vars.now) r.0.history) }
     ensures regular { IfOk result (λ r. All IsRegular r.0.history) }
     ensures steps { IfOk result (λ r. steps_in r.0.history ≤ steps) }
-    ensures views { IfOk result (λ r. AreViews (read_entry_of 6 vars.now) (opened_on program)
+    ensures views { IfOk result (λ r. AreViews (read_entry_of 6 vars.now) (opening_on program)
         r.0.history 100 r.1.items) }
 {
-    let scripts = padded(alloc, scripts)?;
+    let scripts = padded_scripts(alloc, scripts)?;
     let controller = Controller::new(alloc, program)?;
     let (station, mut passes) = Station::start(alloc, controller, PASSES)?;
     let last = last_pass(&mut passes);
@@ -93,6 +93,6 @@ pub(crate) fn watch_run<R: Threads + Wait + Sync, G: Gate + Sync>(
         rt, alloc, &station, passes, steps, stimuli, &scripts, last, publisher, viewer, &mut views,
         vars, gate,
     );
-    let controller = ended(station, pass, outcome)?;
+    let controller = controller_at_end(station, pass, outcome)?;
     Ok((controller, views))
 }

@@ -12,7 +12,7 @@ ghost use Rattle.s7_cli.specs.Working.{CanWork, HasWorked, IsFresh, KnowsFault};
 ghost use Rattle.s7_cli.specs.Watching.{AreViews, HasEnded, HasPublished, HasPublishedNone, IsLastAt, IsLastWithinHistory, PublishesReplies, ViewsBoard, read_entry_of};
 
 use crate::lists::add;
-use crate::working::{Worked, together, work};
+use crate::working::{WorkerResult, together, work};
 use plc_base::NoMemory;
 use plc_io::Gate;
 use station::{Pass, Shared, Station, StationFault};
@@ -164,7 +164,10 @@ fn work_beside_watch<R: Threads + Wait + Sync, G: Gate + Sync>(
     views: &mut Vec<Shown>,
     vars: &Vars,
     gate: &G,
-) -> (Worked, (Result<Note, StationFault>, Result<(), NoMemory>))
+) -> (
+    WorkerResult,
+    (Result<Note, StationFault>, Result<(), NoMemory>),
+)
     requires some { 0 < length scripts.now }
     requires ready { CanWork s.now passes.items stimuli.now (map (λ v. v.items) scripts.now) }
     requires fresh { IsFresh s.now p.old }
@@ -182,7 +185,7 @@ fn work_beside_watch<R: Threads + Wait + Sync, G: Gate + Sync>(
 {
     join_mut(
         rt,
-        &mut || -> Worked
+        &mut || -> WorkerResult
             requires { (0 < length scripts.now)
                 × CanWork s.now passes.items stimuli.now (map (λ v. v.items) scripts.now) }
             ensures pass { (result.0.lock ≡ s.entry.now) × (result.0.out ≡ false) }
@@ -270,7 +273,7 @@ pub(crate) fn watch_station<R: Threads + Wait + Sync, G: Gate + Sync>(
     views: &mut Vec<Shown>,
     vars: &Vars,
     gate: &G,
-) -> Worked
+) -> WorkerResult
     requires some { 0 < length scripts.now }
     requires ready { CanWork s.now passes.items stimuli.now (map (λ v. v.items) scripts.now) }
     requires fresh { IsFresh s.now p }

@@ -1,7 +1,7 @@
 ghost use Rattle.std.specs.Prelude.{◌≡◌, ◌≢◌, false, map, string_bytes, option_map, IfOk, None};
 ghost use Rattle.clap.specs.Words.{FailsBy, app_of, fault_of, found_of, kind_of, matches_of, rows_of, rule_of};
 ghost use Rattle.clap.specs.declared.error.kind.ErrorKind.TheVariants.{OutOfMemory};
-ghost use Rattle.s7_cli.specs.Words.{the_line, command_rule, files_rule, symbols_rule, steps_rule, german_rule, has_german, takes_no_source, number_from_one_up_to, one_word_command, file_command, two_word_command, short_command, three_word_command, live_command, stepped_command, watch_command, asked_for, asked_by, command_of, command_value, CommandsKeepLimits, ReadsPlainWords, ReadsGermanAnywhere, ReadsStepsAnywhere, ReadsSymbolsAnywhere, ReadsWordsBehindDashes, RefusesNoValue};
+ghost use Rattle.s7_cli.specs.Words.{the_line, command_rule, files_rule, symbols_rule, steps_rule, german_rule, has_german, takes_no_source, number_from_one_up_to, one_word_command, file_command, two_word_command, short_command, three_word_command, live_command, stepped_command, watch_command, command_with_options, command_of_rows, command_of, command_value, CommandsKeepLimits, ReadsPlainWords, ReadsGermanAnywhere, ReadsStepsAnywhere, ReadsSymbolsAnywhere, ReadsWordsBehindDashes, RefusesNoValue};
 
 use arrayvec::ArrayVec;
 use clap::error::ErrorKind;
@@ -24,7 +24,7 @@ const MOST_WATCH_SCRIPTS: usize = 3;
 
 /// What the words of a call ask for.
 #[derive(Drop)]
-pub enum Asked<'a> {
+pub enum AskedCommand<'a> {
     /// Run a source, with its symbols, along a history; a German one where `german` says so.
     Go {
         source: &'a str,
@@ -68,8 +68,8 @@ pub enum Asked<'a> {
         scripts: ArrayVec<&'a str, MOST_SCRIPTS>,
         steps: u32,
     },
-    /// The same with one to three scripts, and the variables that a further operator reads, which
-    /// are viewed.
+    /// Have a stepper, a feeder and one to three operators run an image, as `Live` does, and a
+    /// further operator who reads variables, whose replies are viewed.
     Watch {
         image: &'a str,
         stimuli: &'a str,
@@ -194,17 +194,17 @@ fn one_word_command<'a>(
     word: &'a str,
     symbols: Option<&'a str>,
     german: bool,
-) -> Option<Asked<'a>>
+) -> Option<AskedCommand<'a>>
     ensures { option_map command_value result ≡
         one_word_command command.now word.now (option_map (λ s. s.now) symbols.entry) german }
 {
     match command {
-        "check" => Some(Asked::Check {
+        "check" => Some(AskedCommand::Check {
             source: word,
             symbols,
             german,
         }),
-        "gen" if takes_no_source(symbols, german) => Some(Asked::Gen {
+        "gen" if takes_no_source(symbols, german) => Some(AskedCommand::Gen {
             number: number_up_to(word, MOST_NUMBER)?,
         }),
         _ => None,
@@ -212,33 +212,33 @@ fn one_word_command<'a>(
 }
 
 /// A command that compiles no source, with two words behind it.
-fn file_command<'a>(command: &str, first: &'a str, second: &'a str) -> Option<Asked<'a>>
+fn file_command<'a>(command: &str, first: &'a str, second: &'a str) -> Option<AskedCommand<'a>>
     ensures { option_map command_value result ≡
         file_command command.now first.now second.now }
 {
     match command {
-        "run" => Some(Asked::Run {
+        "run" => Some(AskedCommand::Run {
             image: first,
             history: second,
         }),
-        "upgrade" => Some(Asked::Upgrade {
+        "upgrade" => Some(AskedCommand::Upgrade {
             image: first,
             upgraded: second,
         }),
-        "bound" => Some(Asked::Bound {
+        "bound" => Some(AskedCommand::Bound {
             image: first,
             certificate: second,
         }),
-        "recheck" => Some(Asked::Recheck {
+        "recheck" => Some(AskedCommand::Recheck {
             image: first,
             certificate: second,
         }),
-        "english" => Some(Asked::Translate {
+        "english" => Some(AskedCommand::Translate {
             language: Language::English,
             source: first,
             translation: second,
         }),
-        "german" => Some(Asked::Translate {
+        "german" => Some(AskedCommand::Translate {
             language: Language::German,
             source: first,
             translation: second,
@@ -254,19 +254,19 @@ fn two_word_command<'a>(
     second: &'a str,
     symbols: Option<&'a str>,
     german: bool,
-) -> Option<Asked<'a>>
+) -> Option<AskedCommand<'a>>
     ensures { option_map command_value result ≡
         two_word_command command.now first.now second.now (option_map (λ s. s.now) symbols.entry)
         german }
 {
     match command {
-        "go" => Some(Asked::Go {
+        "go" => Some(AskedCommand::Go {
             source: first,
             symbols,
             german,
             history: second,
         }),
-        "compile" => Some(Asked::Compile {
+        "compile" => Some(AskedCommand::Compile {
             source: first,
             symbols,
             german,
@@ -285,17 +285,19 @@ fn three_word_command<'a>(
     third: &'a str,
     symbols: Option<&'a str>,
     german: bool,
-) -> Option<Asked<'a>>
+) -> Option<AskedCommand<'a>>
     ensures { option_map command_value result ≡
         three_word_command command.now first.now second.now third.now
         (option_map (λ s. s.now) symbols.entry) german }
 {
     match command {
-        "list" if takes_no_source(symbols, german) && second != third => Some(Asked::ListImage {
-            image: first,
-            source: second,
-            symbols: third,
-        }),
+        "list" if takes_no_source(symbols, german) && second != third => Some(
+            AskedCommand::ListImage {
+                image: first,
+                source: second,
+                symbols: third,
+            },
+        ),
         _ => None,
     }
 }
@@ -306,7 +308,7 @@ fn short_command<'a>(
     words: &[&'a str],
     symbols: Option<&'a str>,
     german: bool,
-) -> Option<Asked<'a>>
+) -> Option<AskedCommand<'a>>
     ensures { option_map command_value result ≡
         short_command command.now (map (λ w. w.now) words.now)
         (option_map (λ s. s.now) symbols.entry) german }
@@ -322,13 +324,13 @@ fn short_command<'a>(
 }
 
 /// The command `live`, with these words behind it and so many steps.
-fn live_command<'a>(command: &str, words: &[&'a str], steps: &str) -> Option<Asked<'a>>
+fn live_command<'a>(command: &str, words: &[&'a str], steps: &str) -> Option<AskedCommand<'a>>
     ensures { option_map command_value result ≡
         live_command command.now (map (λ w. w.now) words.now) steps.now }
 {
     match words {
         [image, stimuli, scripts @ ..] if command == "live" && !scripts.is_empty() => {
-            Some(Asked::Live {
+            Some(AskedCommand::Live {
                 image,
                 stimuli,
                 scripts: ArrayVec::try_from(scripts).ok()?,
@@ -340,12 +342,12 @@ fn live_command<'a>(command: &str, words: &[&'a str], steps: &str) -> Option<Ask
 }
 
 /// The command `watch`, with these words behind it and so many steps.
-fn watch_command<'a>(words: &[&'a str], steps: &str) -> Option<Asked<'a>>
+fn watch_command<'a>(words: &[&'a str], steps: &str) -> Option<AskedCommand<'a>>
     ensures { option_map command_value result ≡
         watch_command (map (λ w. w.now) words.now) steps.now }
 {
     match words {
-        [image, stimuli, vars, scripts @ ..] if !scripts.is_empty() => Some(Asked::Watch {
+        [image, stimuli, vars, scripts @ ..] if !scripts.is_empty() => Some(AskedCommand::Watch {
             image,
             stimuli,
             vars,
@@ -357,7 +359,7 @@ fn watch_command<'a>(words: &[&'a str], steps: &str) -> Option<Asked<'a>>
 }
 
 /// A command with so many steps.
-fn stepped_command<'a>(command: &str, words: &[&'a str], steps: &str) -> Option<Asked<'a>>
+fn stepped_command<'a>(command: &str, words: &[&'a str], steps: &str) -> Option<AskedCommand<'a>>
     ensures { option_map command_value result ≡
         stepped_command command.now (map (λ w. w.now) words.now) steps.now }
 {
@@ -369,15 +371,15 @@ fn stepped_command<'a>(command: &str, words: &[&'a str], steps: &str) -> Option<
 }
 
 /// The command that its word, the words behind it and the options ask for.
-fn asked_for<'a>(
+fn command_with_options<'a>(
     command: &str,
     words: &[&'a str],
     symbols: Option<&'a str>,
     german: bool,
     steps: Option<&str>,
-) -> Option<Asked<'a>>
+) -> Option<AskedCommand<'a>>
     ensures { option_map command_value result ≡
-        asked_for command.now (map (λ w. w.now) words.now)
+        command_with_options command.now (map (λ w. w.now) words.now)
         (option_map (λ s. s.now) symbols.entry) german (option_map (λ s. s.now) steps.entry) }
 {
     match steps {
@@ -398,12 +400,12 @@ fn has_german(matches: &ArgMatches<'_>) -> bool
 }
 
 /// The command that the matches ask for.
-fn asked_by<'a>(matches: &ArgMatches<'a>) -> Option<Asked<'a>>
-    ensures { option_map command_value result ≡ asked_by (rows_of (found_of matches.now)) }
+fn command_of_rows<'a>(matches: &ArgMatches<'a>) -> Option<AskedCommand<'a>>
+    ensures { option_map command_value result ≡ command_of_rows (rows_of (found_of matches.now)) }
 {
     let command = matches.get_str("COMMAND")?;
     let files = matches.get_strs("FILES").unwrap_or(&[]);
-    asked_for(
+    command_with_options(
         command,
         files,
         matches.get_str("symbols"),
@@ -413,7 +415,7 @@ fn asked_by<'a>(matches: &ArgMatches<'a>) -> Option<Asked<'a>>
 }
 
 /// Want of memory is an error of the reading, and any other error refuses the words.
-fn refusal<'a>(error: &Error) -> Result<Option<Asked<'a>>, AllocError>
+fn refusal<'a>(error: &Error) -> Result<Option<AskedCommand<'a>>, AllocError>
     ensures { IfOk result (λ asked. (asked ≡ None) × (kind_of error.now ≢ OutOfMemory)) }
 {
     match error.kind() {
@@ -443,12 +445,12 @@ fn refusal<'a>(error: &Error) -> Result<Option<Asked<'a>>, AllocError>
 /// An option may stand anywhere. NUMBER is 1 to 10,000 and N is 1 to 1,000,000, in decimal digits
 /// without a sign; zeros may lead. Any other words are refused, by `None`. Fails where memory is
 /// wanting.
-pub fn read_words(alloc: Global, words: &[String]) -> Result<Option<Asked<'_>>, AllocError>
+pub fn read_words(alloc: Global, words: &[String]) -> Result<Option<AskedCommand<'_>>, AllocError>
     ensures { IfOk result
         (λ asked. option_map command_value asked ≡ command_of (map string_bytes words.now)) }
 {
     match find_matches(alloc, words) {
-        Ok(matches) => Ok(asked_by(&matches)),
+        Ok(matches) => Ok(command_of_rows(&matches)),
         Err(error) => refusal(&error),
     }
 }

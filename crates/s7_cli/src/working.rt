@@ -18,7 +18,7 @@ use std::thread::{Threads, join};
 use var_access::{Entry, What};
 
 /// What a worker leaves: its pass, and its refusal if it was refused.
-pub(crate) type Worked = (Pass<Shared>, Result<(), StationFault>);
+pub(crate) type WorkerResult = (Pass<Shared>, Result<(), StationFault>);
 
 /// Whether the controller is in STOP.
 fn is_stop(mode: Mode) -> bool
@@ -35,7 +35,7 @@ fn make_steps<R: Wait, G: Gate>(
     mut p: Pass<Shared>,
     steps: u32,
     gate: &G,
-) -> Worked
+) -> WorkerResult
     requires { IsFresh s.now p }
     ensures stepped { HasStepped s.now p.number steps result.0 (is_ok result.1) }
     ensures fault { KnowsFault s.now result.0.seen result.1 }
@@ -91,7 +91,7 @@ fn make_entries<R: Wait, G: Gate>(
     mut p: Pass<Shared>,
     entries: &[Entry],
     gate: &G,
-) -> Worked
+) -> WorkerResult
     requires fresh { IsFresh s.now p }
     requires entries { All (IsEntryOf p.number) entries.now }
     ensures begun { HasBegun s.now p.number entries.now result.0 }
@@ -110,7 +110,7 @@ fn make_entries<R: Wait, G: Gate>(
 }
 
 /// The first pass with the numbers of both, and the first refusal.
-pub(crate) fn together(s: &Station, first: Worked, others: Worked) -> Worked
+pub(crate) fn together(s: &Station, first: WorkerResult, others: WorkerResult) -> WorkerResult
     requires lock { (first.0.lock ≡ s.now) × (others.0.lock ≡ s.now) }
     requires free { (first.0.out ≡ false) × (others.0.out ≡ false) }
     requires fault { KnowsFault s.now first.0.seen first.1
@@ -138,7 +138,7 @@ fn first_pass(passes: &mut Vec<Pass<Shared>>) -> Pass<Shared>
 }
 
 /// The first script, and the others.
-fn parted(scripts: &[Vec<Entry>]) -> (&[Entry], &[Vec<Entry>])
+fn first_and_others(scripts: &[Vec<Entry>]) -> (&[Entry], &[Vec<Entry>])
     requires { 0 < length scripts.now }
     ensures parts { map (λ v. v.items) scripts.now
         ≡ result.0.now ∷ map (λ v. v.items) result.1.now }
@@ -157,7 +157,7 @@ fn make_scripts<R: Threads + Wait + Sync, G: Gate + Sync>(
     mut passes: Vec<Pass<Shared>>,
     scripts: &[Vec<Entry>],
     gate: &G,
-) -> Worked
+) -> WorkerResult
     requires some { 0 < length scripts.now }
     requires ready { AreReady s.now passes.items (map (λ v. v.items) scripts.now) }
     ensures pass { (result.0.lock ≡ s.now) × (result.0.out ≡ false) }
@@ -167,20 +167,20 @@ fn make_scripts<R: Threads + Wait + Sync, G: Gate + Sync>(
     ensures fault { KnowsFault s.now result.0.seen result.1 }
 {
     let first = first_pass(&mut passes);
-    let (script, others) = parted(scripts);
+    let (script, others) = first_and_others(scripts);
     if others.is_empty() {
         return make_entries(rt, s, first, script, gate);
     }
     let (one, rest) = join(
         rt,
-        || -> Worked
+        || -> WorkerResult
             requires { IsFresh s.now first × All (IsEntryOf first.number) script.now }
             ensures begun { HasBegun s.entry.now first.number script.entry.now result.0 }
             ensures made { OnOk result.1 (result.0.made
                 ≡ record { number = first.number; entries = script.entry.now } ∷ []) }
             ensures fault { KnowsFault s.entry.now result.0.seen result.1 }
         { make_entries(rt, s, first, script, gate) },
-        || -> Worked
+        || -> WorkerResult
             requires { IsSync R.row × IsSync G.row × (0 < length others.now)
                 × AreReady s.now passes.items (map (λ v. v.items) others.now) }
             ensures pass { (result.0.lock ≡ s.entry.now) × (result.0.out ≡ false) }
@@ -202,7 +202,7 @@ fn feed_and_ask<R: Threads + Wait + Sync, G: Gate + Sync>(
     stimuli: &[Entry],
     scripts: &[Vec<Entry>],
     gate: &G,
-) -> Worked
+) -> WorkerResult
     requires some { 0 < length scripts.now }
     requires ready { AreReady s.now passes.items
         (stimuli.now ∷ map (λ v. v.items) scripts.now) }
@@ -216,14 +216,14 @@ fn feed_and_ask<R: Threads + Wait + Sync, G: Gate + Sync>(
     let feeder = first_pass(&mut passes);
     let (fed, asked) = join(
         rt,
-        || -> Worked
+        || -> WorkerResult
             requires { IsFresh s.now feeder × All (IsEntryOf feeder.number) stimuli.now }
             ensures begun { HasBegun s.entry.now feeder.number stimuli.entry.now result.0 }
             ensures made { OnOk result.1 (result.0.made
                 ≡ record { number = feeder.number; entries = stimuli.entry.now } ∷ []) }
             ensures fault { KnowsFault s.entry.now result.0.seen result.1 }
         { make_entries(rt, s, feeder, stimuli, gate) },
-        || -> Worked
+        || -> WorkerResult
             requires { (0 < length scripts.now)
                 × AreReady s.now passes.items (map (λ v. v.items) scripts.now) }
             ensures pass { (result.0.lock ≡ s.entry.now) × (result.0.out ≡ false) }
@@ -267,13 +267,13 @@ pub fn work<R: Threads + Wait + Sync, G: Gate + Sync>(
     let stepper = first_pass(&mut passes);
     let (stepped, others) = join(
         rt,
-        || -> Worked
+        || -> WorkerResult
             requires { IsFresh s.now stepper }
             ensures stepped { HasStepped s.entry.now stepper.number steps result.0
                 (is_ok result.1) }
             ensures fault { KnowsFault s.entry.now result.0.seen result.1 }
         { make_steps(rt, s, stepper, steps, gate) },
-        || -> Worked
+        || -> WorkerResult
             requires { (0 < length scripts.now) × AreReady s.now passes.items
                 (stimuli.now ∷ map (λ v. v.items) scripts.now) }
             ensures pass { (result.0.lock ≡ s.entry.now) × (result.0.out ≡ false) }

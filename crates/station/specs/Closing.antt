@@ -7,8 +7,9 @@ use Rattle.tracked_lock.specs.Passes.{PassView}
 use Rattle.tracked_lock.specs.Views.{AreEntriesByMaker, HoldsForEach, times}
 use Rattle.station.specs.declared.shared.Opening.{Opening}
 
--- the controller that a station gives back: it has the program, the profile and the entries of the opening, and behind these the
--- list, which all that the pass had seen begins, and which is what was made under the pass's numbers
+-- the controller that a station gives back: it has the program, the profile and the entries of the
+-- opening, and behind these a list that begins with all that the pass had seen, and that is what
+-- was made under the pass's numbers
 pub record IsGivenBack (o : Opening) (c : Recording) (p : PassView Opening Entry) : Type 0 where
   -- the controller has the program of the opening
   pub program : c.program ≡ o.program

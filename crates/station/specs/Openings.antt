@@ -15,12 +15,12 @@ abbrev pub station_opening : Shared → Opening
 station_opening s = record {
   program = s.controller.value.program;
   profile = s.controller.value.profile;
-  first = take s.opened s.controller.value.history;
+  first = take s.opening_len s.controller.value.history;
 }
 
 -- the entries of a controller under the lock since it began
 abbrev pub entries_since : Shared → List Entry
-entries_since s = drop s.opened s.controller.value.history
+entries_since s = drop s.opening_len s.controller.value.history
 
 -- what a station began with, from the list of one that its lock shows
 abbrev pub the_opening : List Opening → Opening

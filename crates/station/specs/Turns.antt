@@ -36,8 +36,9 @@ pub record AddsEntry (old new : Recording) (e : Entry) : Type 0 where
   -- the history had fewer than 4,194,304 entries before
   pub room : length old.history < FULL
 
--- the pass made this entry: the list that it knows ends with it, behind `before`, which all that the pass had seen begins; of the
--- entries under its own number it is the only new one, and those under its other numbers are as before
+-- the pass made this entry: the list that it knows ends with the entry, behind `before`, which
+-- begins with all that the pass had seen; of the entries under its own number it is the only new
+-- one, and those under its other numbers are as before
 pub record HasMade
     (old new : PassView Opening Entry) (before : List Entry) (e : Entry)
     : Type 0 where

@@ -18,17 +18,19 @@ pub const FULL: u64 = 4_194_304;
 pub struct Opening {
     pub program: Program,
     pub profile: Profile,
+    /// The entries of the controller's history, in order.
     pub first: LinkedList<Entry>,
 }
 
-/// A controller, and how many entries it had when its station was started. The controller stands in a
-/// box, since the lock moves its value in each turn.
+/// A controller, and how many entries it had when its station was started. The controller stands
+/// in a box, since the lock moves its value in each turn.
 #[derive(Drop)]
 pub struct Shared {
     controller: Box<Controller>,
-    opened: u64,
-    ghost within: { opened ≤ length controller.value.history },
-    ghost room: { length controller.value.history ≤ opened + FULL },
+    /// How many entries the controller had at the start.
+    opening_len: u64,
+    ghost within: { opening_len ≤ length controller.value.history },
+    ghost room: { length controller.value.history ≤ opening_len + FULL },
 }
 
 impl Storied for Shared {
@@ -45,7 +47,7 @@ impl Storied for Shared {
     ghost maker = { λ e. e.who };
 
     fn story_len(&self) -> u64 {
-        self.controller.history_len() - self.opened
+        self.controller.history_len() - self.opening_len
     }
 }
 
@@ -68,16 +70,19 @@ impl Shared {
 
     pub(crate) fn new(alloc: Global, controller: Controller) -> Result<Shared, NoMemory>
         ensures { IfOk result (λ s. (s.controller.value ≡ controller)
-            × (s.opened ≡ length controller.history)) }
+            × (s.opening_len ≡ length controller.history)) }
     {
-        let opened = controller.history_len();
+        let opening_len = controller.history_len();
         let controller = Box::new(alloc, controller)?;
-        Ok(Shared { controller, opened })
+        Ok(Shared {
+            controller,
+            opening_len,
+        })
     }
 
     // Room for one entry more.
     fn make_room(&mut self) -> Result<(), StationFault>
-        ensures opened { self.new.opened ≡ self.old.opened }
+        ensures opening { self.new.opening_len ≡ self.old.opening_len }
         ensures ok { OnOk result ((length self.old.controller.value.history < FULL)
             × (self.new.controller.value
             ≡ record self.old.controller.value { spare = self.new.controller.value.spare })
@@ -97,7 +102,7 @@ impl Shared {
     /// Makes one entry, and answers with the mode after it.
     pub(crate) fn enter(&mut self, e: &Entry) -> Result<Mode, StationFault>
         requires { IsValid e.now }
-        ensures ok { IfOk result (λ mode. (self.new.opened ≡ self.old.opened)
+        ensures ok { IfOk result (λ mode. (self.new.opening_len ≡ self.old.opening_len)
             × AddsEntry self.old.controller.value self.new.controller.value e.now
             × (mode ≡ (final_state (record self.old.controller.value {
               history = self.old.controller.value.history ++ e.now ∷ [];
@@ -114,7 +119,7 @@ impl Shared {
     pub(crate) fn ask(&mut self, who: u8, request: Request) -> Result<Reply, StationFault>
         requires who { 1 ≤ who }
         requires request { IsRequest request }
-        ensures ok { IfOk result (λ reply. (self.new.opened ≡ self.old.opened)
+        ensures ok { IfOk result (λ reply. (self.new.opening_len ≡ self.old.opening_len)
             × AddsEntry self.old.controller.value self.new.controller.value
             (record { who = who; what = Ask request })
             × (reply ≡ (next_result self.old.controller.value

@@ -19,8 +19,8 @@ use std::sync::Wait;
 use tracked_lock::{Pass, SeatsOut, TrackedLock};
 use var_access::{Entry, Reply, Request, What};
 
-/// A controller that several workers share. Contracts see its lock: what the station began with, and how
-/// many passes it has.
+/// A controller that several workers share. Contracts see its lock: what the station began with,
+/// and how many passes it has.
 #[derive(Drop)]
 pub struct Station {
     lock: TrackedLock<Shared>,
@@ -35,18 +35,20 @@ impl Model for Station {
     ghost view = { λ s. s.lock };
 }
 
-/// Numbers from 1 to n aren't among those of the pass.
+/// Why a station isn't closed: some of its numbers from 1 to n aren't those of the pass.
 #[derive(Drop)]
 pub struct StationOut {
-    /// How many of them aren't.
+    /// How many of the numbers aren't.
     pub count: u64,
+    /// The station, as it was.
     pub station: Station,
+    /// The pass, as it was.
     pub pass: Pass<Shared>,
 }
 
 impl Station {
-    /// A station round a controller, and all `n` passes that it will ever have, in the order of their
-    /// numbers 1 to n. Each has seen no entry, and made none.
+    /// A station round a controller, and all `n` passes that it will ever have, in the order of
+    /// their numbers 1 to n. Each has seen no entry, and made none.
     ///
     /// # Errors
     ///
@@ -69,12 +71,13 @@ impl Station {
         Ok((Station { lock }, passes))
     }
 
-    /// Makes a step under the pass's number, and answers with the mode after it. Waits for its turn.
+    /// Makes a step under the pass's number, and answers with the mode after it. Waits for its
+    /// turn.
     ///
     /// # Errors
     ///
-    /// `NoMemory` for want of memory, `Full` where the history has `FULL` entries or more. No entry was
-    /// made then.
+    /// `NoMemory` for want of memory, `Full` where the history has `FULL` entries or more. No entry
+    /// was made then.
     pub fn step<R: Wait>(&self, rt: &R, p: &mut Pass<Shared>) -> Result<Mode, StationFault>
         requires station { p.old.lock ≡ self.now }
         requires free { p.old.out ≡ false }
@@ -116,7 +119,8 @@ impl Station {
         }
     }
 
-    /// Makes a request under the pass's number, and answers with the reply to it. Waits for its turn.
+    /// Makes a request under the pass's number, and answers with the reply to it. Waits for its
+    /// turn.
     ///
     /// # Errors
     ///
@@ -145,8 +149,8 @@ impl Station {
         reply
     }
 
-    /// The pass takes over the other's numbers, with the entries made under each, and has seen the longer
-    /// of the two lists.
+    /// The pass takes over the other's numbers, with the entries made under each, and has seen the
+    /// longer of the two lists.
     pub fn join(&self, p: &mut Pass<Shared>, q: Pass<Shared>)
         requires station { (p.old.lock ≡ self.now) × (q.lock ≡ self.now) }
         requires free { (p.old.out ≡ false) × (q.out ≡ false) }
@@ -157,9 +161,9 @@ impl Station {
         self.lock.join(p, q);
     }
 
-    /// The controller, where the pass has every number from 1 to n. Else `StationOut`, with how many
-    /// numbers aren't the pass's, and station and pass as they were. A pass that was dropped keeps its
-    /// numbers out for good.
+    /// The controller, where the pass has every number from 1 to n. Else `StationOut`, with how
+    /// many numbers aren't the pass's, and station and pass as they were. A pass that was dropped
+    /// keeps its numbers out for good.
     pub fn close(self, p: Pass<Shared>) -> Result<Controller, StationOut>
         requires station { p.lock ≡ self }
         requires free { p.out ≡ false }

@@ -22,7 +22,7 @@ use var_access::{Entry, Reply, What};
 /// A program, a history, and the text of its run.
 pub(crate) type Row = (&'static str, &'static str, &'static str);
 
-type Written = Result<(), AllocError>;
+type WriteResult = Result<(), AllocError>;
 
 /// The most steps that a line of a history makes.
 const MOST_STEPS: u32 = 1000;
@@ -75,7 +75,7 @@ fn kind_name(kind: BlockKind) -> &'static str {
     }
 }
 
-fn write_spot(out: &mut String, at: Option<Spot>) -> Written {
+fn write_spot(out: &mut String, at: Option<Spot>) -> WriteResult {
     match at {
         None => out.push_str(" AT NONE"),
         Some(at) => {
@@ -87,7 +87,7 @@ fn write_spot(out: &mut String, at: Option<Spot>) -> Written {
     }
 }
 
-fn write_mode(out: &mut String, mode: Mode) -> Written {
+fn write_mode(out: &mut String, mode: Mode) -> WriteResult {
     match mode {
         Mode::Run => out.push_str("RUN"),
         Mode::Startup => out.push_str("STARTUP"),
@@ -95,7 +95,7 @@ fn write_mode(out: &mut String, mode: Mode) -> Written {
     }
 }
 
-fn write_observed(out: &mut String, n: u64, seen: &Observed) -> Written {
+fn write_observed(out: &mut String, n: u64, seen: &Observed) -> WriteResult {
     if let Some(record) = &seen.mon {
         write_record(out, n, kind_name(record.block.kind), record)?;
     }
@@ -120,7 +120,7 @@ fn write_data_block(
     controller: &Controller,
     number: u16,
     bytes: &[u8],
-) -> Written {
+) -> WriteResult {
     same(rt, number, controller.db_bytes(number), Some(bytes));
     write!(out, " | DB {number} ")?;
     for byte in bytes {
@@ -129,7 +129,7 @@ fn write_data_block(
     Ok(())
 }
 
-pub(crate) fn write_end(rt: &impl Abort, out: &mut String, controller: &Controller) -> Written {
+pub(crate) fn write_end(rt: &impl Abort, out: &mut String, controller: &Controller) -> WriteResult {
     let length = controller.history_len();
     write!(out, "END {length} ")?;
     write_mode(out, controller.mode())?;
@@ -149,7 +149,7 @@ fn write_answered(
     n: u64,
     what: &What,
     reply: &Reply,
-) -> Written {
+) -> WriteResult {
     match what {
         What::Ask { request } => write_reply(out, n, request, reply),
         _ => {
@@ -166,7 +166,7 @@ fn write_shown(
     controller: &Controller,
     what: &What,
     reply: &Reply,
-) -> Written {
+) -> WriteResult {
     let n = controller.history_len();
     write_observed(out, n, controller.observed())?;
     write_answered(rt, out, n, what, reply)

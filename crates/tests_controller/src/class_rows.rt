@@ -9,7 +9,7 @@ use std::alloc::{AllocError, Global};
 use std::process::Abort;
 use std::test::Fail;
 
-type Written = Result<(), AllocError>;
+type WriteResult = Result<(), AllocError>;
 
 /// What requests an organization block in RUN: for OB 1 no request but the cycle point, for the cyclic
 /// ones the end of a period of so many milliseconds, for OB 80 an exceeded cycle time, for OB 85 a
@@ -73,58 +73,58 @@ struct Run {
 
 impl Run {
     /// The next line of the history begins.
-    fn begin_entry(&mut self) -> Written {
+    fn begin_entry(&mut self) -> WriteResult {
         self.entries = self.entries.wrapping_add(1);
         self.history.push_str(" | ")
     }
 
-    fn arrive(&mut self, ob: u16) -> Written {
+    fn arrive(&mut self, ob: u16) -> WriteResult {
         self.begin_entry()?;
         let out = &mut self.history;
         write!(out, "arrive {ob}")
     }
 
-    fn tick(&mut self, ms: u32) -> Written {
+    fn tick(&mut self, ms: u32) -> WriteResult {
         self.ms = self.ms.wrapping_add(ms);
         self.begin_entry()?;
         let out = &mut self.history;
         write!(out, "tick {ms}")
     }
 
-    fn enter_step(&mut self) -> Written {
+    fn enter_step(&mut self) -> WriteResult {
         self.begin_entry()?;
         self.history.push_str("step 1")
     }
 
     /// The statement of the block that runs ends, and is a step; with none it is a cycle point.
-    fn end_statement(&mut self) -> Written {
+    fn end_statement(&mut self) -> WriteResult {
         self.code.push_str("; ")?;
         self.enter_step()
     }
 
-    fn step(&mut self, statement: &str) -> Written {
+    fn step(&mut self, statement: &str) -> WriteResult {
         self.code.push_str(statement)?;
         self.end_statement()
     }
 
-    fn start_delay(&mut self, ob: u16) -> Written {
+    fn start_delay(&mut self, ob: u16) -> WriteResult {
         write_delay(&mut self.code, ob)?;
         self.end_statement()
     }
 
-    fn enable(&mut self, ob: u16) -> Written {
+    fn enable(&mut self, ob: u16) -> WriteResult {
         write_enabling(&mut self.code, ob)?;
         self.end_statement()
     }
 
-    fn disable(&mut self, ob: u16) -> Written {
+    fn disable(&mut self, ob: u16) -> WriteResult {
         let out = &mut self.code;
         write!(out, "PASS 0 #2, PASS 1 #{ob:X}, PASS 2 MW4, CALL SFC39")?;
         self.end_statement()
     }
 
     /// Milliseconds pass, with a step before each part of them.
-    fn pass(&mut self, ms: u32, statement: &str) -> Written {
+    fn pass(&mut self, ms: u32, statement: &str) -> WriteResult {
         for _ in 0..ms / MOST_MS {
             self.step(statement)?;
             self.tick(MOST_MS)?;
@@ -136,14 +136,14 @@ impl Run {
         Ok(())
     }
 
-    fn shows(&mut self, byte: u16, value: u16) -> Written {
+    fn shows(&mut self, byte: u16, value: u16) -> WriteResult {
         let n = self.entries;
         let out = &mut self.text;
         write!(out, "@{n} PQ {byte} = {value:02X} | ")
     }
 
     /// The block begins, and is disabled so that its own period doesn't count.
-    fn begin(&mut self, ob: u16, by: By) -> Written {
+    fn begin(&mut self, ob: u16, by: By) -> WriteResult {
         match by {
             By::CyclePoint => self.step("")?,
             By::Arrival => self.arrive(ob)?,
@@ -157,7 +157,7 @@ impl Run {
 
     /// Another one is requested, a cyclic one at the next end of its period. SFC 43 lengthens the cycle
     /// time.
-    fn request(&mut self, ob: u16, by: By) -> Written {
+    fn request(&mut self, ob: u16, by: By) -> WriteResult {
         match by {
             By::CyclePoint => Ok(()),
             By::Arrival => self.arrive(ob),
@@ -179,7 +179,7 @@ impl Run {
     }
 
     /// What interrupts has two statements and its return.
-    fn interrupted(&mut self, ob: u16) -> Written {
+    fn interrupted(&mut self, ob: u16) -> WriteResult {
         self.enter_step()?;
         self.enter_step()?;
         self.shows(257, ob)?;
@@ -187,7 +187,7 @@ impl Run {
     }
 
     /// The block tells that it still runs.
-    fn end(&mut self) -> Written {
+    fn end(&mut self) -> WriteResult {
         self.step("L #1")?;
         self.step("T PB256")?;
         self.shows(256, 1)?;
@@ -197,11 +197,11 @@ impl Run {
     }
 }
 
-fn write_enabling(out: &mut String, ob: u16) -> Written {
+fn write_enabling(out: &mut String, ob: u16) -> WriteResult {
     write!(out, "PASS 0 #2, PASS 1 #{ob:X}, PASS 2 MW4, CALL SFC40")
 }
 
-fn write_delay(out: &mut String, ob: u16) -> Written {
+fn write_delay(out: &mut String, ob: u16) -> WriteResult {
     write!(
         out,
         "PASS 0 #{ob:X}, PASS 1 #1, PASS 2 #0, PASS 3 MW4, CALL SFC32"
@@ -221,7 +221,7 @@ fn new_run(alloc: Global) -> Run {
 
 impl Run {
     /// The four steps of OB 100 are done.
-    fn start(&mut self) -> Written {
+    fn start(&mut self) -> WriteResult {
         self.entries = 4;
         self.history.push_str("step 4")?;
         self.text.push_str("@4 MODE RUN | ")
@@ -232,7 +232,7 @@ impl Run {
 type Block = (u16, u8, By);
 
 /// Another block is requested, and interrupts where its class is higher.
-fn meet(run: &mut Run, class: u8, other: &Block) -> Written {
+fn meet(run: &mut Run, class: u8, other: &Block) -> WriteResult {
     let (ob, other_class, by) = *other;
     run.request(ob, by)?;
     if class < other_class {
@@ -245,7 +245,7 @@ fn meet(run: &mut Run, class: u8, other: &Block) -> Written {
 }
 
 /// A block runs, and all others but OB 1 are requested.
-fn run_block(run: &mut Run, block: &Block) -> Written {
+fn run_block(run: &mut Run, block: &Block) -> WriteResult {
     let (ob, class, by) = *block;
     run.start()?;
     run.begin(ob, by)?;
@@ -264,7 +264,7 @@ fn run_of(alloc: Global, block: &Block) -> Result<Run, AllocError> {
 }
 
 /// OB 1 is loaded where it runs.
-fn write_blocks(out: &mut String, ob: u16, code: &str) -> Written {
+fn write_blocks(out: &mut String, ob: u16, code: &str) -> WriteResult {
     for (other, ..) in &BLOCKS {
         if *other == ob {
             write!(out, "OB {ob} 20 0 {{ {code} | ")?;
@@ -276,7 +276,7 @@ fn write_blocks(out: &mut String, ob: u16, code: &str) -> Written {
 }
 
 /// OB 100 disables all cyclic interrupts but the block that runs, and starts its delay.
-fn write_program(out: &mut String, ob: u16, code: &str) -> Written {
+fn write_program(out: &mut String, ob: u16, code: &str) -> WriteResult {
     write_blocks(out, ob, code)?;
     out.push_str("OB 100 20 0 { PASS 0 #1, PASS 1 #1E, PASS 2 MW4, CALL SFC39; ")?;
     write_enabling(out, ob)?;

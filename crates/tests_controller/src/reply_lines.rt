@@ -52,7 +52,7 @@ fn append_behind(out: &mut Vec<u8>) -> Result<(), NoMemory> {
 
 // Requests with answers that have no list.
 #[derive(Clone, Copy)]
-enum Asked {
+enum AskedRequest {
     Stop,
     Absent,
     Restart,
@@ -60,23 +60,23 @@ enum Asked {
 }
 
 // Entries with their workers and requests.
-static ASKED: [(u64, u8, Asked); 4] = [
-    (1, 4, Asked::Stop),
-    (20, 5, Asked::Absent),
-    (300, 6, Asked::Restart),
-    (4, 7, Asked::MonitorOff),
+static ASKED: [(u64, u8, AskedRequest); 4] = [
+    (1, 4, AskedRequest::Stop),
+    (20, 5, AskedRequest::Absent),
+    (300, 6, AskedRequest::Restart),
+    (4, 7, AskedRequest::MonitorOff),
 ];
 
-fn append_reply(row: &(u64, u8, Asked), out: &mut Vec<u8>) -> Result<(), NoMemory> {
+fn append_reply(row: &(u64, u8, AskedRequest), out: &mut Vec<u8>) -> Result<(), NoMemory> {
     let (n, who, asked) = *row;
     match asked {
-        Asked::Stop => reply_lines(n, who, &Request::Stop, &Reply::Done, out),
-        Asked::Absent => {
+        AskedRequest::Stop => reply_lines(n, who, &Request::Stop, &Reply::Done, out),
+        AskedRequest::Absent => {
             let absent = Reply::NoSuch { index: 8 };
             reply_lines(n, who, &Request::Stop, &absent, out)
         }
-        Asked::Restart => reply_lines(n, who, &Request::Restart, &Reply::NotStopped, out),
-        Asked::MonitorOff => reply_lines(n, who, &Request::MonitorOff, &Reply::Done, out),
+        AskedRequest::Restart => reply_lines(n, who, &Request::Restart, &Reply::NotStopped, out),
+        AskedRequest::MonitorOff => reply_lines(n, who, &Request::MonitorOff, &Reply::Done, out),
     }
 }
 

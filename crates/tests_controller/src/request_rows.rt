@@ -172,7 +172,7 @@ fn restarts(rt: HostRuntime) -> Result<(), Fail> {
     all_hold(&rt, rt.alloc(), &RESTARTS)
 }
 
-fn asked(request: Request) -> Entry {
+fn entry_of_request(request: Request) -> Entry {
     Entry {
         who: 3,
         what: What::Ask { request },
@@ -186,10 +186,10 @@ fn write_records(
     out: &mut String,
 ) -> Result<(), Fail> {
     for _ in 0..50 {
-        apply_entry(rt, controller, out, asked(Request::Stop))?;
-        apply_entry(rt, controller, out, asked(Request::Restart))?;
+        apply_entry(rt, controller, out, entry_of_request(Request::Stop))?;
+        apply_entry(rt, controller, out, entry_of_request(Request::Restart))?;
     }
-    apply_entry(rt, controller, out, asked(Request::Stop))
+    apply_entry(rt, controller, out, entry_of_request(Request::Stop))
 }
 
 fn make_records(rt: &impl Abort, alloc: Global, controller: &mut Controller) -> Result<(), Fail> {

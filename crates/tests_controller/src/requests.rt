@@ -5,7 +5,7 @@ use std::alloc::AllocError;
 use tests_assembler::{area_of, decimal, in_named_block, spelled_place, width_of};
 use var_access::{MOST_VARS, Reply, Request, Var, Vars};
 
-type Written = Result<(), AllocError>;
+type WriteResult = Result<(), AllocError>;
 
 /// No variable of an operator: what stands for a word that isn't one.
 const UNREADABLE: Var = Var {
@@ -82,7 +82,7 @@ pub(crate) fn request_of(line: &str) -> Option<Request> {
     }
 }
 
-fn write_value(out: &mut String, width: Width, value: u32) -> Written {
+fn write_value(out: &mut String, width: Width, value: u32) -> WriteResult {
     match width {
         Width::Bit => write!(out, " {value}"),
         Width::Byte => write!(out, " {value:02X}"),
@@ -92,7 +92,7 @@ fn write_value(out: &mut String, width: Width, value: u32) -> Written {
 }
 
 /// Values at the widths of their variables.
-fn write_values(out: &mut String, request: &Request, values: &[u32]) -> Written {
+fn write_values(out: &mut String, request: &Request, values: &[u32]) -> WriteResult {
     out.push_str("VALUES")?;
     if let Request::ReadVars { vars } = request {
         for (var, value) in vars.as_slice().iter().zip(values) {
@@ -102,7 +102,7 @@ fn write_values(out: &mut String, request: &Request, values: &[u32]) -> Written 
     Ok(())
 }
 
-fn write_records(out: &mut String, records: &[DiagRecord]) -> Written {
+fn write_records(out: &mut String, records: &[DiagRecord]) -> WriteResult {
     let count = records.len();
     write!(out, "DIAG {count}")?;
     for record in records {
@@ -112,7 +112,7 @@ fn write_records(out: &mut String, records: &[DiagRecord]) -> Written {
     Ok(())
 }
 
-fn write_answer(out: &mut String, request: &Request, reply: &Reply) -> Written {
+fn write_answer(out: &mut String, request: &Request, reply: &Reply) -> WriteResult {
     match reply {
         Reply::Done => out.push_str("DONE"),
         Reply::NotStopped => out.push_str("NOTSTOPPED"),
@@ -123,14 +123,24 @@ fn write_answer(out: &mut String, request: &Request, reply: &Reply) -> Written {
 }
 
 /// What entry n was answered: `@9 VALUES 0063 0005`, `@2 DIAG 1 1:1:38`.
-pub(crate) fn write_reply(out: &mut String, n: u64, request: &Request, reply: &Reply) -> Written {
+pub(crate) fn write_reply(
+    out: &mut String,
+    n: u64,
+    request: &Request,
+    reply: &Reply,
+) -> WriteResult {
     write!(out, "@{n} ")?;
     write_answer(out, request, reply)?;
     out.push_str(" | ")
 }
 
 /// What was recorded of entry n: `@3 MON OB 1 LINE 1 STW 0000 A1 00007FFF A2 00000000`.
-pub(crate) fn write_record(out: &mut String, n: u64, kind: &str, record: &MonRecord) -> Written {
+pub(crate) fn write_record(
+    out: &mut String,
+    n: u64,
+    kind: &str,
+    record: &MonRecord,
+) -> WriteResult {
     let (number, line) = (record.block.number, record.line);
     let (stw, a1, a2) = (record.stw, record.a1, record.a2);
     write!(

@@ -47,7 +47,7 @@ pub(crate) fn names(rt: &impl Abort, alloc: Global) -> Result<Names, Fail> {
 
 // What a line spells, as a table can hold it.
 #[derive(Clone, Copy)]
-enum Spelled {
+enum SpelledLine {
     Step,
     Input(u16, u8),
     Arrive(u16, u32),
@@ -59,28 +59,28 @@ enum Spelled {
     Diag,
 }
 
-fn asked(request: Request) -> What {
+fn what_of_request(request: Request) -> What {
     What::Ask { request }
 }
 
-fn what(spelled: Spelled) -> What {
+fn what(spelled: SpelledLine) -> What {
     match spelled {
-        Spelled::Step => What::Step,
-        Spelled::Input(byte, value) => What::Input { byte, value },
-        Spelled::Arrive(ob, value) => What::Arrive { ob, value },
-        Spelled::Tick(ms) => What::Tick { ms },
-        Spelled::Stop => asked(Request::Stop),
-        Spelled::Restart => asked(Request::Restart),
-        Spelled::MonitorOn(kind, number) => {
+        SpelledLine::Step => What::Step,
+        SpelledLine::Input(byte, value) => What::Input { byte, value },
+        SpelledLine::Arrive(ob, value) => What::Arrive { ob, value },
+        SpelledLine::Tick(ms) => What::Tick { ms },
+        SpelledLine::Stop => what_of_request(Request::Stop),
+        SpelledLine::Restart => what_of_request(Request::Restart),
+        SpelledLine::MonitorOn(kind, number) => {
             let block = BlockId { kind, number };
-            asked(Request::MonitorOn { block })
+            what_of_request(Request::MonitorOn { block })
         }
-        Spelled::MonitorOff => asked(Request::MonitorOff),
-        Spelled::Diag => asked(Request::Diag),
+        SpelledLine::MonitorOff => what_of_request(Request::MonitorOff),
+        SpelledLine::Diag => what_of_request(Request::Diag),
     }
 }
 
-fn entry(who: u8, spelled: Spelled) -> Entry {
+fn entry(who: u8, spelled: SpelledLine) -> Entry {
     Entry {
         who,
         what: what(spelled),
@@ -88,46 +88,50 @@ fn entry(who: u8, spelled: Spelled) -> Entry {
 }
 
 /// A line, the worker of its entry, and what it spells.
-type Line = (&'static str, u8, Spelled);
+type Line = (&'static str, u8, SpelledLine);
 
 // Lines with one entry: each kind at both ends of its ranges, with blanks, tabs and zeros in front,
 // digits in either case.
 static LINES: [Line; 22] = [
-    ("in 0 01", 2, Spelled::Input(0, 1)),
-    ("in 127 fF", 2, Spelled::Input(127, 255)),
-    ("in 256 00", 2, Spelled::Input(256, 0)),
-    ("in 767 a0", 2, Spelled::Input(767, 160)),
-    (" \tin  0\t01  ", 2, Spelled::Input(0, 1)),
-    ("in 00000001 10", 2, Spelled::Input(1, 16)),
-    ("arrive 10", 2, Spelled::Arrive(10, 0)),
-    ("arrive 17 0000000a", 2, Spelled::Arrive(17, 10)),
-    ("arrive 40 FFFFFFFF", 2, Spelled::Arrive(40, 0xFFFF_FFFF)),
-    ("arrive 47 00000000", 2, Spelled::Arrive(47, 0)),
-    ("tick 1", 2, Spelled::Tick(1)),
-    ("tick 60000", 2, Spelled::Tick(60000)),
-    ("tick 060000", 2, Spelled::Tick(60000)),
-    ("op 1 stop", 3, Spelled::Stop),
-    ("op 02  restart", 4, Spelled::Restart),
-    ("op 3 monitor off", 5, Spelled::MonitorOff),
-    ("op\t4\tdiag", 6, Spelled::Diag),
+    ("in 0 01", 2, SpelledLine::Input(0, 1)),
+    ("in 127 fF", 2, SpelledLine::Input(127, 255)),
+    ("in 256 00", 2, SpelledLine::Input(256, 0)),
+    ("in 767 a0", 2, SpelledLine::Input(767, 160)),
+    (" \tin  0\t01  ", 2, SpelledLine::Input(0, 1)),
+    ("in 00000001 10", 2, SpelledLine::Input(1, 16)),
+    ("arrive 10", 2, SpelledLine::Arrive(10, 0)),
+    ("arrive 17 0000000a", 2, SpelledLine::Arrive(17, 10)),
+    (
+        "arrive 40 FFFFFFFF",
+        2,
+        SpelledLine::Arrive(40, 0xFFFF_FFFF),
+    ),
+    ("arrive 47 00000000", 2, SpelledLine::Arrive(47, 0)),
+    ("tick 1", 2, SpelledLine::Tick(1)),
+    ("tick 60000", 2, SpelledLine::Tick(60000)),
+    ("tick 060000", 2, SpelledLine::Tick(60000)),
+    ("op 1 stop", 3, SpelledLine::Stop),
+    ("op 02  restart", 4, SpelledLine::Restart),
+    ("op 3 monitor off", 5, SpelledLine::MonitorOff),
+    ("op\t4\tdiag", 6, SpelledLine::Diag),
     (
         "op 1 monitor on OB 1",
         3,
-        Spelled::MonitorOn(BlockKind::Ob, 1),
+        SpelledLine::MonitorOn(BlockKind::Ob, 1),
     ),
-    ("step", 1, Spelled::Step),
-    ("step 1", 1, Spelled::Step),
-    ("step 0001 ", 1, Spelled::Step),
-    ("\tstep", 1, Spelled::Step),
+    ("step", 1, SpelledLine::Step),
+    ("step 1", 1, SpelledLine::Step),
+    ("step 0001 ", 1, SpelledLine::Step),
+    ("\tstep", 1, SpelledLine::Step),
 ];
 
 /// A text, the first line that breaks a rule, and that rule.
-type Bad = (&'static str, u32, u16);
+type BadText = (&'static str, u32, u16);
 
 // The first line that breaks a rule, and the least rule that it breaks. 1: not in the grammar. 2: a
 // number out of its range, too few or too many hexadecimal digits. 3: an unknown name. 4: a line of
 // another file. 5: an operator other than 1 to 4. 6: more than 1,000,000 steps.
-static BAD_STEPS_AND_INPUTS: [Bad; 27] = [
+static BAD_STEPS_AND_INPUTS: [BadText; 27] = [
     (" ", 1, 1),
     ("\t", 1, 1),
     (" // a blank in front", 1, 1),
@@ -157,7 +161,7 @@ static BAD_STEPS_AND_INPUTS: [Bad; 27] = [
     ("in 65536 00", 1, 2),
 ];
 
-static BAD_ARRIVALS_AND_TICKS: [Bad; 15] = [
+static BAD_ARRIVALS_AND_TICKS: [BadText; 15] = [
     ("arrive", 1, 1),
     ("arrive x", 1, 1),
     ("arrive 40 00000000 0", 1, 1),
@@ -176,7 +180,7 @@ static BAD_ARRIVALS_AND_TICKS: [Bad; 15] = [
 ];
 
 // Requests, lines of other files, and histories of several lines.
-static BAD_HISTORIES: [Bad; 26] = [
+static BAD_HISTORIES: [BadText; 26] = [
     ("op", 1, 1),
     ("op 1", 1, 1),
     ("op 5", 1, 1),
@@ -206,7 +210,7 @@ static BAD_HISTORIES: [Bad; 26] = [
 ];
 
 // Stimuli know no names, also not those of the program.
-static BAD_STIMULI: [Bad; 13] = [
+static BAD_STIMULI: [BadText; 13] = [
     ("halt", 1, 1),
     ("tick 0", 1, 2),
     ("step", 1, 4),
@@ -222,7 +226,7 @@ static BAD_STIMULI: [Bad; 13] = [
     ("in 0 00\narrive 40\nread M 0.8", 3, 2),
 ];
 
-static BAD_SCRIPTS: [Bad; 13] = [
+static BAD_SCRIPTS: [BadText; 13] = [
     ("halt", 1, 1),
     ("step", 1, 4),
     ("step 0", 1, 2),
@@ -344,7 +348,7 @@ fn sizes_are_right(rt: &impl Abort, alloc: Global, names: &Names) {
 }
 
 /// The entries are of this worker, and what happens is this.
-fn are_entries(rt: &impl Abort, text: &str, entries: &[Entry], who: u8, wanted: &[Spelled]) {
+fn are_entries(rt: &impl Abort, text: &str, entries: &[Entry], who: u8, wanted: &[SpelledLine]) {
     same(rt, text, entries.len(), wanted.len());
     for (found, spelled) in entries.iter().zip(wanted) {
         same(rt, text, *found, entry(who, *spelled));
@@ -374,7 +378,7 @@ fn fault_of(
     }
 }
 
-fn are_refused(rt: &impl Abort, alloc: Global, names: &Names, kind: Kind, rows: &[Bad]) {
+fn are_refused(rt: &impl Abort, alloc: Global, names: &Names, kind: Kind, rows: &[BadText]) {
     for (text, line, rule) in rows {
         let found = fault_of(rt, alloc, names, kind, text);
         same(rt, *text, found, bad(*line, *rule));
@@ -401,10 +405,10 @@ fn others_are_refused(rt: &impl Abort, alloc: Global, names: &Names) {
 
 const STIMULI: &str = "in 0 01\r\n\narrive 40 00000002\n// x\ntick 5";
 
-static STIMULI_SPELL: [Spelled; 3] = [
-    Spelled::Input(0, 1),
-    Spelled::Arrive(40, 2),
-    Spelled::Tick(5),
+static STIMULI_SPELL: [SpelledLine; 3] = [
+    SpelledLine::Input(0, 1),
+    SpelledLine::Arrive(40, 2),
+    SpelledLine::Tick(5),
 ];
 
 fn stimuli_are_read(rt: &impl Abort, alloc: Global) {
@@ -416,11 +420,11 @@ fn stimuli_are_read(rt: &impl Abort, alloc: Global) {
 
 const SCRIPT: &str = "stop\n\n//\r\nrestart\r\nmonitor off\ndiag";
 
-static SCRIPT_SPELLS: [Spelled; 4] = [
-    Spelled::Stop,
-    Spelled::Restart,
-    Spelled::MonitorOff,
-    Spelled::Diag,
+static SCRIPT_SPELLS: [SpelledLine; 4] = [
+    SpelledLine::Stop,
+    SpelledLine::Restart,
+    SpelledLine::MonitorOff,
+    SpelledLine::Diag,
 ];
 
 fn script_is_read(rt: &impl Abort, alloc: Global, names: &Names) {

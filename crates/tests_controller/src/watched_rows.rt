@@ -50,7 +50,7 @@ fn first_bytes_of_data_blocks(rt: HostRuntime) -> Result<(), Fail> {
 }
 
 /// A program of the small profile as it starts.
-fn started(alloc: Global, program: &str) -> Result<Cpu, Fail> {
+fn cpu_after_start(alloc: Global, program: &str) -> Result<Cpu, Fail> {
     started_at(alloc, Profile::Small, program)
 }
 
@@ -76,13 +76,13 @@ fn modes_are_seen(rt: &impl Abort, run: &Cpu, startup: &Cpu) {
 
 /// The other state is a start with OB 100.
 fn startup_is_seen(rt: &impl Abort, alloc: Global, run: &Cpu) -> Result<(), Fail> {
-    let startup = started(alloc, "OB 100 20 0 { NOP #0")?;
+    let startup = cpu_after_start(alloc, "OB 100 20 0 { NOP #0")?;
     modes_are_seen(rt, run, &startup);
     Ok(())
 }
 
 #[test]
 fn a_mode_is_seen_where_it_changes(rt: HostRuntime) -> Result<(), Fail> {
-    let run = started(rt.alloc(), "NOP #0")?;
+    let run = cpu_after_start(rt.alloc(), "NOP #0")?;
     startup_is_seen(&rt, rt.alloc(), &run)
 }

@@ -8,7 +8,7 @@ use stl_ast::{
     Name, Numbered, Operand, Part, PathHead, PathStep, Setting, Simple, Statement, Tree, TypeTree,
 };
 
-type Written = Result<(), AllocError>;
+type WriteResult = Result<(), AllocError>;
 
 /// The name, or `?` where it is no text.
 fn name_text(name: &Name) -> &str {
@@ -16,13 +16,13 @@ fn name_text(name: &Name) -> &str {
 }
 
 /// These words and the name.
-fn words_and_name(out: &mut String, words: &str, name: &Name) -> Written {
+fn words_and_name(out: &mut String, words: &str, name: &Name) -> WriteResult {
     out.push_str(words)?;
     out.push_str(name_text(name))
 }
 
 /// `Db 10`, or a quoted name.
-fn block_name(out: &mut String, name: &BlockName) -> Written {
+fn block_name(out: &mut String, name: &BlockName) -> WriteResult {
     match name {
         BlockName::Number { id } => {
             let kind = id.kind;
@@ -37,7 +37,7 @@ fn block_name(out: &mut String, name: &BlockName) -> Written {
 }
 
 /// This word, and the bytes, each behind a blank.
-fn word_and_bytes(out: &mut String, word: &str, bytes: &Characters) -> Written {
+fn word_and_bytes(out: &mut String, word: &str, bytes: &Characters) -> WriteResult {
     out.push_str(word)?;
     for byte in bytes.as_slice() {
         write!(out, " {byte}")?;
@@ -62,7 +62,7 @@ fn word_and_number(literal: &Literal) -> Option<(&'static str, i64)> {
 }
 
 /// `Word 255`.
-fn literal(out: &mut String, literal: &Literal) -> Written {
+fn literal(out: &mut String, literal: &Literal) -> WriteResult {
     if let Some((word, number)) = word_and_number(literal) {
         return write!(out, "{word} {number}");
     }
@@ -75,21 +75,21 @@ fn literal(out: &mut String, literal: &Literal) -> Written {
 }
 
 /// `.name` or `[index]`.
-fn step(out: &mut String, step: &PathStep) -> Written {
+fn step(out: &mut String, step: &PathStep) -> WriteResult {
     match step {
         PathStep::Named { name } => words_and_name(out, ".", name),
         PathStep::Index { at } => write!(out, "[{at}]"),
     }
 }
 
-fn steps(out: &mut String, steps: &[PathStep]) -> Written {
+fn steps(out: &mut String, steps: &[PathStep]) -> WriteResult {
     for one in steps {
         step(out, one)?;
     }
     Ok(())
 }
 
-fn path_head(out: &mut String, head: &PathHead) -> Written {
+fn path_head(out: &mut String, head: &PathHead) -> WriteResult {
     match head {
         PathHead::Local { name } => words_and_name(out, "Local ", name),
         PathHead::InBlock { name } => {
@@ -101,7 +101,7 @@ fn path_head(out: &mut String, head: &PathHead) -> Written {
 }
 
 /// A blank and the letters, where there are any.
-fn area(out: &mut String, area: Option<Letters>) -> Written {
+fn area(out: &mut String, area: Option<Letters>) -> WriteResult {
     match area {
         Some(letters) => write!(out, " {letters:?}"),
         None => Ok(()),
@@ -109,7 +109,7 @@ fn area(out: &mut String, area: Option<Letters>) -> Written {
 }
 
 /// These words and the name, as ` in Db 10`, where there is one.
-fn named(out: &mut String, words: &str, block: &Option<BlockName>) -> Written {
+fn named_block(out: &mut String, words: &str, block: &Option<BlockName>) -> WriteResult {
     match block {
         Some(name) => {
             out.push_str(words)?;
@@ -119,15 +119,21 @@ fn named(out: &mut String, words: &str, block: &Option<BlockName>) -> Written {
     }
 }
 
-fn direct(out: &mut String, area: Letters, width: Width, byte: u16, bit: u8) -> Written {
+fn direct(out: &mut String, area: Letters, width: Width, byte: u16, bit: u8) -> WriteResult {
     write!(out, "Direct {area:?} {width:?} {byte}.{bit}")
 }
 
-fn by_memory(out: &mut String, area: Letters, width: Width, from: Letters, byte: u16) -> Written {
+fn by_memory(
+    out: &mut String,
+    area: Letters,
+    width: Width,
+    from: Letters,
+    byte: u16,
+) -> WriteResult {
     write!(out, "ByMemory {area:?} {width:?} {from:?} {byte}")
 }
 
-fn number_by(out: &mut String, what: Numbered, from: Letters, byte: u16) -> Written {
+fn number_by(out: &mut String, what: Numbered, from: Letters, byte: u16) -> WriteResult {
     write!(out, "NumberBy {what:?} {from:?} {byte}")
 }
 
@@ -137,31 +143,31 @@ fn by_register(
     width: Width,
     register: u8,
     bits: u32,
-) -> Written {
+) -> WriteResult {
     out.push_str("ByRegister")?;
     area(out, letters)?;
     write!(out, " {width:?} {register} {bits}")
 }
 
-fn pointer(out: &mut String, letters: Option<Letters>, byte: u16, bit: u8) -> Written {
+fn pointer(out: &mut String, letters: Option<Letters>, byte: u16, bit: u8) -> WriteResult {
     out.push_str("Pointer")?;
     area(out, letters)?;
     write!(out, " {byte}.{bit}")
 }
 
-fn open_block(out: &mut String, di: bool, name: &BlockName) -> Written {
+fn open_block(out: &mut String, di: bool, name: &BlockName) -> WriteResult {
     out.push_str(if di { "OpenBlock DI " } else { "OpenBlock DB " })?;
     block_name(out, name)
 }
 
-fn called(out: &mut String, name: &BlockName, instance: &Option<BlockName>) -> Written {
+fn called(out: &mut String, name: &BlockName, instance: &Option<BlockName>) -> WriteResult {
     out.push_str("Called ")?;
     block_name(out, name)?;
-    named(out, " with ", instance)
+    named_block(out, " with ", instance)
 }
 
 /// An operand, as `Direct M Word 2.0`.
-fn operand(out: &mut String, operand: &Operand) -> Written {
+fn operand(out: &mut String, operand: &Operand) -> WriteResult {
     match operand {
         Operand::Nothing => out.push_str("Nothing"),
         Operand::Direct {
@@ -172,7 +178,7 @@ fn operand(out: &mut String, operand: &Operand) -> Written {
             bit,
         } => {
             direct(out, *area, *width, *byte, *bit)?;
-            named(out, " in ", block)
+            named_block(out, " in ", block)
         }
         Operand::Timer { number } => write!(out, "Timer {number}"),
         Operand::Counter { number } => write!(out, "Counter {number}"),
@@ -204,7 +210,7 @@ fn operand(out: &mut String, operand: &Operand) -> Written {
 }
 
 /// `  7 a := Direct M Word 2.0`.
-fn actual(out: &mut String, actual: &Actual) -> Written {
+fn actual(out: &mut String, actual: &Actual) -> WriteResult {
     let line = actual.line;
     let name = name_text(&actual.name);
     write!(out, "  {line} {name} := ")?;
@@ -212,7 +218,7 @@ fn actual(out: &mut String, actual: &Actual) -> Written {
     out.push_str("\n")
 }
 
-fn label(out: &mut String, label: &Option<Name>) -> Written {
+fn label(out: &mut String, label: &Option<Name>) -> WriteResult {
     match label {
         Some(name) => {
             let text = name_text(name);
@@ -223,7 +229,7 @@ fn label(out: &mut String, label: &Option<Name>) -> Written {
 }
 
 /// `7 M1: L Direct M Word 2.0`, and a line for each actual parameter.
-fn statement(out: &mut String, statement: &Statement) -> Written {
+fn statement(out: &mut String, statement: &Statement) -> WriteResult {
     let line = statement.line;
     let code = statement.code;
     write!(out, "{line} ")?;
@@ -237,7 +243,7 @@ fn statement(out: &mut String, statement: &Statement) -> Written {
     Ok(())
 }
 
-fn statements(out: &mut String, statements: &[Statement]) -> Written {
+fn statements(out: &mut String, statements: &[Statement]) -> WriteResult {
     for one in statements {
         statement(out, one)?;
     }
@@ -245,7 +251,7 @@ fn statements(out: &mut String, statements: &[Statement]) -> Written {
 }
 
 /// `9 Set .a[1] := Word 255`.
-fn setting(out: &mut String, setting: &Setting) -> Written {
+fn setting(out: &mut String, setting: &Setting) -> WriteResult {
     let line = setting.line;
     write!(out, "{line} Set ")?;
     steps(out, setting.path.as_slice())?;
@@ -254,14 +260,14 @@ fn setting(out: &mut String, setting: &Setting) -> Written {
     out.push_str("\n")
 }
 
-fn settings(out: &mut String, settings: &[Setting]) -> Written {
+fn settings(out: &mut String, settings: &[Setting]) -> WriteResult {
     for one in settings {
         setting(out, one)?;
     }
     Ok(())
 }
 
-fn arrays(out: &mut String, arrays: &[Bounds]) -> Written {
+fn arrays(out: &mut String, arrays: &[Bounds]) -> WriteResult {
     for bounds in arrays {
         let low = bounds.low;
         let high = bounds.high;
@@ -270,7 +276,7 @@ fn arrays(out: &mut String, arrays: &[Bounds]) -> Written {
     Ok(())
 }
 
-fn element(out: &mut String, element: &ElementType) -> Written {
+fn element(out: &mut String, element: &ElementType) -> WriteResult {
     match element {
         ElementType::Plain { kind } => write!(out, "{kind:?}"),
         ElementType::Structure => out.push_str("Structure"),
@@ -280,12 +286,12 @@ fn element(out: &mut String, element: &ElementType) -> Written {
 }
 
 /// `Array 1..2 of Int`.
-fn type_tree(out: &mut String, of: &TypeTree) -> Written {
+fn type_tree(out: &mut String, of: &TypeTree) -> WriteResult {
     arrays(out, of.arrays.as_slice())?;
     element(out, &of.of)
 }
 
-fn count(out: &mut String, count: Option<u16>) -> Written {
+fn count(out: &mut String, count: Option<u16>) -> WriteResult {
     match count {
         Some(count) => write!(out, "{count} times "),
         None => Ok(()),
@@ -293,7 +299,7 @@ fn count(out: &mut String, count: Option<u16>) -> Written {
 }
 
 /// Each initial value behind `:=`.
-fn inits(out: &mut String, inits: &[Init]) -> Written {
+fn inits(out: &mut String, inits: &[Init]) -> WriteResult {
     for init in inits {
         out.push_str(" := ")?;
         count(out, init.count)?;
@@ -303,7 +309,7 @@ fn inits(out: &mut String, inits: &[Init]) -> Written {
 }
 
 /// `4 level 1 a : Array 1..2 of Int := 2 times Number 5`.
-fn declaration(out: &mut String, declaration: &Declaration) -> Written {
+fn declaration(out: &mut String, declaration: &Declaration) -> WriteResult {
     let line = declaration.line;
     let level = declaration.level;
     let name = name_text(&declaration.name);
@@ -313,7 +319,7 @@ fn declaration(out: &mut String, declaration: &Declaration) -> Written {
     out.push_str("\n")
 }
 
-fn declarations(out: &mut String, declarations: &[Declaration]) -> Written {
+fn declarations(out: &mut String, declarations: &[Declaration]) -> WriteResult {
     for one in declarations {
         declaration(out, one)?;
     }
@@ -321,21 +327,21 @@ fn declarations(out: &mut String, declarations: &[Declaration]) -> Written {
 }
 
 /// `3 Section Static`, and its declarations.
-fn part(out: &mut String, part: &Part) -> Written {
+fn part(out: &mut String, part: &Part) -> WriteResult {
     let line = part.line;
     let kind = part.kind;
     writeln!(out, "{line} Section {kind:?}")?;
     declarations(out, part.items.as_slice())
 }
 
-fn parts(out: &mut String, parts: &[Part]) -> Written {
+fn parts(out: &mut String, parts: &[Part]) -> WriteResult {
     for one in parts {
         part(out, one)?;
     }
     Ok(())
 }
 
-fn shape(out: &mut String, shape: &Option<TypeTree>) -> Written {
+fn shape(out: &mut String, shape: &Option<TypeTree>) -> WriteResult {
     match shape {
         Some(of) => {
             out.push_str("Shape ")?;
@@ -346,7 +352,7 @@ fn shape(out: &mut String, shape: &Option<TypeTree>) -> Written {
     }
 }
 
-fn instance_of(out: &mut String, name: &Option<BlockName>) -> Written {
+fn instance_of(out: &mut String, name: &Option<BlockName>) -> WriteResult {
     match name {
         Some(name) => {
             out.push_str("Instance of ")?;
@@ -358,7 +364,7 @@ fn instance_of(out: &mut String, name: &Option<BlockName>) -> Written {
 }
 
 /// ` : Int`, where a function gives a value back.
-fn returns(out: &mut String, returns: Option<Simple>) -> Written {
+fn returns(out: &mut String, returns: Option<Simple>) -> WriteResult {
     match returns {
         Some(kind) => write!(out, " : {kind:?}"),
         None => Ok(()),
@@ -366,7 +372,7 @@ fn returns(out: &mut String, returns: Option<Simple>) -> Written {
 }
 
 /// `1 to 9 Fc "x" : Int`.
-fn head(out: &mut String, block: &Block) -> Written {
+fn head(out: &mut String, block: &Block) -> WriteResult {
     let line = block.line;
     let end_line = block.end_line;
     let kind = block.kind;
@@ -376,7 +382,7 @@ fn head(out: &mut String, block: &Block) -> Written {
     out.push_str("\n")
 }
 
-fn block(out: &mut String, block: &Block) -> Written {
+fn block(out: &mut String, block: &Block) -> WriteResult {
     head(out, block)?;
     parts(out, block.parts.as_slice())?;
     shape(out, &block.shape)?;

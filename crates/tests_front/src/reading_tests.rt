@@ -4,7 +4,7 @@ ghost use Rattle.stl_ast.specs.Statements.{IsStatement};
 ghost use Rattle.stl_ast.specs.WellFormed.{IsBlock, IsWellFormed};
 
 use crate::compare::same;
-use crate::rows::parsed;
+use crate::rows::tree_of_source;
 use arrayvec::ArrayVec;
 use plc_base::{BlockKind, Width};
 use std::test::Fail;
@@ -75,7 +75,7 @@ fn masks_of_tree(tree: &Tree) -> u8
 /// A tree is read without a test of its ranges, by what `parse` promises of it.
 #[test]
 fn trees_of_each_kind_are_well_formed(rt: HostRuntime) -> Result<(), Fail> {
-    let tree = parsed(rt.alloc(), EACH_KIND.as_bytes())?;
+    let tree = tree_of_source(rt.alloc(), EACH_KIND.as_bytes())?;
     same(&rt, "masks", masks_of_tree(&tree), 0b1000_1001);
     same(&rt, "blocks", tree.blocks.len(), 5);
     Ok(())

@@ -8,10 +8,10 @@ use stl_parser::law_of_clauses;
 
 /// A source with the line and the rule of its refusal, worked out by hand from the grammar and
 /// docs/REFUSALS.md.
-type Refused = (&'static str, u32, u16);
+type RefusedSource = (&'static str, u32, u16);
 
 /// Rule 10: not in the grammar.
-static OUTSIDE_GRAMMAR: [Refused; 24] = [
+static OUTSIDE_GRAMMAR: [RefusedSource; 24] = [
     (
         "FUNCTION FC 1 : VOID\nBEGIN\nL DB10.DBW 2.x;\nEND_FUNCTION",
         3,
@@ -131,7 +131,7 @@ static OUTSIDE_GRAMMAR: [Refused; 24] = [
 ];
 
 /// The other rules of clauses, and one of tokens.
-static OTHERS: [Refused; 28] = [
+static OTHERS: [RefusedSource; 28] = [
     // Rule 11: where its kind may not follow.
     (
         "ORGANIZATION_BLOCK OB 1\nBEGIN\na : INT;\nEND_ORGANIZATION_BLOCK",
@@ -246,7 +246,7 @@ static OTHERS: [Refused; 28] = [
     ),
 ];
 
-fn are_refused(rt: &impl Abort, alloc: Global, rows: &[Refused]) {
+fn are_refused(rt: &impl Abort, alloc: Global, rows: &[RefusedSource]) {
     for (source, line, rule) in rows {
         let got = check_result(alloc, source.as_bytes());
         same(rt, *source, got, (*line, *rule));

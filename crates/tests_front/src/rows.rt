@@ -12,7 +12,7 @@ use stl_lexer::{SOURCE_LIMIT, lex};
 use stl_parser::parse;
 
 /// The tree of a source, or its refusal.
-pub(crate) fn parsed(alloc: Global, source: &[u8]) -> Result<Tree, SourceFault>
+pub(crate) fn tree_of_source(alloc: Global, source: &[u8]) -> Result<Tree, SourceFault>
     ensures { IfOk result IsWellFormed }
 {
     if source.len() > SOURCE_LIMIT {
@@ -24,7 +24,7 @@ pub(crate) fn parsed(alloc: Global, source: &[u8]) -> Result<Tree, SourceFault>
 
 /// The line and the rule of a refusal; (0, 0) for a tree and (0, 1) for want of memory.
 pub(crate) fn check_result(alloc: Global, source: &[u8]) -> (u32, u16) {
-    match parsed(alloc, source) {
+    match tree_of_source(alloc, source) {
         Ok(_) => (0, 0),
         Err(SourceFault::Refused { refusal }) => (refusal.line, refusal.rule),
         Err(SourceFault::NoMemory) => (0, 1),
@@ -103,15 +103,15 @@ pub(crate) fn check_result_in(
 }
 
 /// The tree of a source as text.
-fn shown(alloc: Global, source: &[u8]) -> Result<String, SourceFault> {
-    let tree = parsed(alloc, source)?;
+fn description_of(alloc: Global, source: &[u8]) -> Result<String, SourceFault> {
+    let tree = tree_of_source(alloc, source)?;
     Ok(described(alloc, &tree)?)
 }
 
 /// The tree of a clause in its frame as text, or the fault that stands in its place.
 fn shown_in(alloc: Global, frame: Frame, clause: &str) -> Result<String, SourceFault> {
     let source = in_frame(alloc, frame, clause)?;
-    shown(alloc, source.as_bytes())
+    description_of(alloc, source.as_bytes())
 }
 
 /// A clause gives its tree.

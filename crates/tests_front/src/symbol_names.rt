@@ -5,15 +5,15 @@ use std::test::Fail;
 use stl_symbols::{NameIndex, NumberIndex};
 
 /// The line and the rule of a refusal.
-type Broken = Option<(u32, u16)>;
+type BrokenRule = Option<(u32, u16)>;
 
-fn refusal(broken: Broken) -> Option<Refusal> {
+fn refusal(broken: BrokenRule) -> Option<Refusal> {
     let (line, rule) = broken?;
     Some(Refusal { line, rule })
 }
 
 /// Two refusals, and the lesser one.
-static LESSER: [(Broken, Broken, Broken); 8] = [
+static LESSER: [(BrokenRule, BrokenRule, BrokenRule); 8] = [
     (None, None, None),
     (Some((2, 56)), None, Some((2, 56))),
     (None, Some((2, 56)), Some((2, 56))),
@@ -49,7 +49,7 @@ fn try_rule_of(number: &u32) -> Result<Option<Refusal>, AllocError> {
 }
 
 /// Numbers, and the least of their refusals.
-static LISTS: [(&[u32], Broken); 5] = [
+static LISTS: [(&[u32], BrokenRule); 5] = [
     (&[], None),
     (&[99, 0, 7], None),
     (&[350], Some((50, 3))),

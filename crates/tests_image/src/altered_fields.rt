@@ -19,9 +19,9 @@ FB 00  00000001
 02 41 43 83 03 0002 00";
 
 /// A place, the byte that is put there, and the fault: offset and code, 0 and 0 for none.
-type Altered = (usize, u8, u32, u16);
+type AlteredField = (usize, u8, u32, u16);
 
-static ALTERED: [Altered; 58] = [
+static ALTERED: [AlteredField; 58] = [
     (0, 0x53, 0, 0),
     (3, 0x43, 0, 1),
     (4, 0x01, 4, 2),
@@ -89,7 +89,12 @@ static ALTERED: [Altered; 58] = [
 ];
 
 /// The image with a byte altered has the row's fault.
-fn is_altered(rt: &impl Abort, alloc: Global, image: &[u8], row: &Altered) -> Result<(), Fail> {
+fn is_altered(
+    rt: &impl Abort,
+    alloc: Global,
+    image: &[u8],
+    row: &AlteredField,
+) -> Result<(), Fail> {
     let (place, byte, at, code) = *row;
     let mut bytes = Vec::from_slice(alloc, image)?;
     if place < bytes.len() {
@@ -99,7 +104,12 @@ fn is_altered(rt: &impl Abort, alloc: Global, image: &[u8], row: &Altered) -> Re
     Ok(())
 }
 
-fn are_altered(rt: &impl Abort, alloc: Global, image: &[u8], rows: &[Altered]) -> Result<(), Fail> {
+fn are_altered(
+    rt: &impl Abort,
+    alloc: Global,
+    image: &[u8],
+    rows: &[AlteredField],
+) -> Result<(), Fail> {
     for row in rows {
         is_altered(rt, alloc, image, row)?;
     }

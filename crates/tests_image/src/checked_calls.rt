@@ -268,9 +268,9 @@ const INPUT: &str = "04 0B 00 05 00 03 F8 0D 02 0002 0000; FB 00";
 const OUTPUT: &str = "04 0B 00 05 01 03 F8 0D 02 0002 0000; FB 00";
 
 /// The code of FC 1, the parameter of FC 2, and the fault.
-type PassedOn = (&'static str, &'static [Parameter], (u32, u16));
+type PassedParameter = (&'static str, &'static [Parameter], (u32, u16));
 
-static PASSED_ON: [PassedOn; 6] = [
+static PASSED_ON: [PassedParameter; 6] = [
     (INPUT, &[(1, 3, 0)], (0, 0)),
     (INPUT, &[(2, 3, 0)], (48, 7)),
     (INPUT, &[(3, 3, 0)], (48, 7)),
@@ -279,7 +279,7 @@ static PASSED_ON: [PassedOn; 6] = [
     (OUTPUT, &[(3, 3, 0)], (0, 0)),
 ];
 
-fn is_passed_on(rt: &impl Abort, alloc: Global, row: &PassedOn) -> Result<(), Fail> {
+fn is_passed_on(rt: &impl Abort, alloc: Global, row: &PassedParameter) -> Result<(), Fail> {
     let (code, params, fault) = *row;
     let blocks = [fc(1, &[(1, 3, 0), (2, 3, 0)], code), fc(2, params, "FB 00")];
     let bytes = image(alloc, &blocks, &[], &[])?;

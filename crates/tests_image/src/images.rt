@@ -14,9 +14,9 @@ pub static EXAMPLE: [u8; 80] = [
 ];
 
 /// One byte of the example altered, and the fault: offset and code; 0 for none.
-type Altered = (usize, u8, u32, u16);
+type AlteredByte = (usize, u8, u32, u16);
 
-static ALTERED: [Altered; 25] = [
+static ALTERED: [AlteredByte; 25] = [
     (0, 0x53, 0, 0),
     (0, 0x54, 0, 1),
     (5, 0x03, 4, 2),
@@ -62,7 +62,7 @@ fn wanted(at: u32, code: u16) -> Option<LoadFault> {
 }
 
 /// The example with a byte altered has the row's fault.
-fn is_altered(rt: &impl Abort, alloc: Global, row: &Altered) {
+fn is_altered(rt: &impl Abort, alloc: Global, row: &AlteredByte) {
     let (place, byte, at, code) = *row;
     let mut bytes = EXAMPLE;
     if place < 80 {
@@ -92,7 +92,7 @@ fn longer_image(rt: HostRuntime) -> Result<(), Fail> {
 static CUT: [(usize, u32); 7] = [(0, 0), (3, 0), (5, 4), (7, 6), (11, 8), (12, 8), (79, 8)];
 
 /// The example cut off at a length.
-fn cut(len: usize) -> &'static [u8] {
+fn image_front(len: usize) -> &'static [u8] {
     if len < 80 {
         EXAMPLE.split_at(len).0
     } else {
@@ -103,7 +103,7 @@ fn cut(len: usize) -> &'static [u8] {
 #[test]
 fn cut_images(rt: HostRuntime) {
     for (len, at) in &CUT {
-        let found = fault_of(rt.alloc(), cut(*len));
+        let found = fault_of(rt.alloc(), image_front(*len));
         same(&rt, *len, found, wanted(*at, 3));
     }
 }

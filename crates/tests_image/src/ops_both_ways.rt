@@ -46,7 +46,7 @@ const OPS: &str = "\
 7E | 0E 01 00 00 ; 0E 02 FF FF ; 0F 01 83 00 00 ; 0F 02 86 FF FF
 ";
 
-// The same, of bytes that are no op.
+// Each line has first bytes and, behind |, what stands behind these in bytes that are no op.
 const NO_OPS: &str = "\
 00 09 0A 0B 0C 0D 0E 0F 1F 2F | 00 ; 01 00 00 00 00 ; 02 83 01 00 00 00 ; 09 01
 01 | 00 ; 01 00 00 00 02 ; 02 83 01 00 00 00 ; 01 00 00 00

@@ -381,10 +381,10 @@ fn ops_that_pass(rt: HostRuntime) -> Result<(), Fail> {
 }
 
 /// An operation and an operand that it doesn't take.
-type Refused = (Operation, Operand);
+type RefusedOp = (Operation, Operand);
 
 /// No row's operation takes the row's operand.
-fn are_refused(rt: &impl Abort, rows: &[Refused]) {
+fn are_refused(rt: &impl Abort, rows: &[RefusedOp]) {
     for row in rows {
         let (operation, operand) = *row;
         let is_none = Op::taken(operation, true, operand).is_none();
@@ -393,7 +393,7 @@ fn are_refused(rt: &impl Abort, rows: &[Refused]) {
 }
 
 /// A form that the operation lacks, or a literal above its greatest.
-static LACKED: [Refused; 13] = [
+static LACKED: [RefusedOp; 13] = [
     (Operation::NoOperation, Operand::Nothing),
     (Operation::Load, Operand::Nothing),
     (Operation::SetRlo, Operand::Literal { value: 0 }),
@@ -428,7 +428,7 @@ fn operands_that_an_operation_lacks(rt: HostRuntime) {
     are_refused(&rt, &LACKED);
 }
 
-static MORE_LACKED: [Refused; 12] = [
+static MORE_LACKED: [RefusedOp; 12] = [
     (Operation::Set, Operand::Numbered { kind: 1, number: 0 }),
     (
         Operation::Transfer,
@@ -490,7 +490,7 @@ fn more_operands_that_an_operation_lacks(rt: HostRuntime) {
 }
 
 /// Each row's operand has a field beyond those of its form, so its op isn't made.
-fn do_not_fit(rt: &impl Abort, rows: &[Refused]) {
+fn do_not_fit(rt: &impl Abort, rows: &[RefusedOp]) {
     are_refused(rt, rows);
     for (_, operand) in rows {
         same(rt, *operand, operand.fits(), false);
@@ -499,7 +499,7 @@ fn do_not_fit(rt: &impl Abort, rows: &[Refused]) {
 
 const CHECK: Operation = Operation::Check(Check::A);
 
-static BEYOND: [Refused; 11] = [
+static BEYOND: [RefusedOp; 11] = [
     (
         CHECK,
         Operand::Direct {
@@ -575,7 +575,7 @@ fn operands_beyond_their_form(rt: HostRuntime) {
 
 const CALL: Operation = Operation::Call(CallOperation::Call);
 
-static MORE_BEYOND: [Refused; 9] = [
+static MORE_BEYOND: [RefusedOp; 9] = [
     (
         Operation::Jump,
         Operand::Jump {

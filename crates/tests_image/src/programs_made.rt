@@ -23,10 +23,10 @@ type Data = (u16, Option<u16>, usize);
 type Name = (&'static [u8], Place, Width);
 
 /// An op: its word, whether it is the last of its statement, and its operand.
-type Made = (Operation, bool, Operand);
+type MadeOp = (Operation, bool, Operand);
 
 /// The ops of these words; an operand that its word lacks makes none.
-fn code_of(alloc: Global, ops: &[Made]) -> Result<Vec<Op>, AllocError> {
+fn code_of(alloc: Global, ops: &[MadeOp]) -> Result<Vec<Op>, AllocError> {
     let mut code = Vec::new(alloc);
     for (word, last, operand) in ops {
         if let Some(op) = Op::taken(*word, *last, *operand) {
@@ -48,7 +48,7 @@ fn own(params: &[Param]) -> ArrayVec<Param, 60> {
 }
 
 /// The statement BE.
-static END: [Made; 1] = [(Operation::End(EndOperation::Be), true, Operand::Nothing)];
+static END: [MadeOp; 1] = [(Operation::End(EndOperation::Be), true, Operand::Nothing)];
 
 /// A code block with these parameters, code and lines.
 fn block_of(
@@ -560,7 +560,7 @@ fn fault_in(alloc: Global, program: Program) -> (u32, u16) {
     }
 }
 
-/// The same; 1 and 0 where there is no program.
+/// The fault of a program as offset and code; 0 and 0 where it verifies, 1 and 0 where there is none.
 fn fault_of(alloc: Global, program: Option<Program>) -> (u32, u16) {
     match program {
         Some(program) => fault_in(alloc, program),
@@ -612,7 +612,7 @@ fn no_code_does_not_verify(rt: HostRuntime) -> Result<(), Fail> {
 }
 
 /// SET, `)` and BE.
-static CLOSED: [Made; 3] = [
+static CLOSED: [MadeOp; 3] = [
     (Operation::SetRlo, true, Operand::Nothing),
     (Operation::Unnest, true, Operand::Nothing),
     (Operation::End(EndOperation::Be), true, Operand::Nothing),

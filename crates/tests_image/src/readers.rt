@@ -28,7 +28,7 @@ fn id(kind: BlockKind, number: u16) -> BlockId {
 }
 
 /// What stands at an offset, in the form of the table above.
-fn shown(loaded: &Loaded, block: BlockId, at: u32) -> (u8, bool, u32, u32) {
+fn op_at(loaded: &Loaded, block: BlockId, at: u32) -> (u8, bool, u32, u32) {
     let line = match loaded.line(block, at) {
         None => 0,
         Some(line) => line,
@@ -58,11 +58,11 @@ fn have_ops_and_lines(rt: &impl Abort, loaded: &Loaded) {
     let ob = id(BlockKind::Ob, 1);
     for row in &OPS {
         let (at, code, last, next, line) = *row;
-        same(rt, at, shown(loaded, ob, at), (code, last, next, line));
+        same(rt, at, op_at(loaded, ob, at), (code, last, next, line));
     }
     same(rt, "JU to 7", is_jump_to_7(loaded.op(ob, 0)), true);
     for other in [id(BlockKind::Fc, 1), id(BlockKind::Ob, 2049)] {
-        same(rt, other, shown(loaded, other, 0), (0, false, 0, 0));
+        same(rt, other, op_at(loaded, other, 0), (0, false, 0, 0));
     }
 }
 

@@ -13,7 +13,7 @@ pub(crate) type Row = (&'static [u8], u32, u16);
 /// A step of a path: a name, or the index of an element where it has none.
 pub(crate) type Step = (&'static [u8], i32);
 
-fn parsed(alloc: Global, source: &[u8]) -> Result<Tree, SourceFault> {
+fn tree_of_source(alloc: Global, source: &[u8]) -> Result<Tree, SourceFault> {
     if source.len() > SOURCE_LIMIT {
         return Err(SourceFault::NoMemory);
     }
@@ -29,7 +29,7 @@ fn laid_tree(alloc: Global, tree: &Tree) -> Result<Layouts, SourceFault> {
 
 /// The layouts of a source without symbols, or its refusal.
 pub(crate) fn laid(alloc: Global, source: &[u8]) -> Result<Layouts, SourceFault> {
-    let tree = parsed(alloc, source)?;
+    let tree = tree_of_source(alloc, source)?;
     laid_tree(alloc, &tree)
 }
 
@@ -41,7 +41,7 @@ fn laid_sound_tree(alloc: Global, tree: &Tree) -> Result<Layouts, SourceFault> {
 
 /// The layouts of what is right in a source without symbols.
 pub(crate) fn laid_sound(alloc: Global, source: &[u8]) -> Result<Layouts, SourceFault> {
-    let tree = parsed(alloc, source)?;
+    let tree = tree_of_source(alloc, source)?;
     laid_sound_tree(alloc, &tree)
 }
 
@@ -95,7 +95,7 @@ fn first_bytes_of(alloc: Global, tree: &Tree) -> Result<Vec<u8>, SourceFault> {
 
 /// The initial bytes of the data block that is the first block of a source.
 pub(crate) fn first_bytes(alloc: Global, source: &[u8]) -> Result<Vec<u8>, SourceFault> {
-    let tree = parsed(alloc, source)?;
+    let tree = tree_of_source(alloc, source)?;
     first_bytes_of(alloc, &tree)
 }
 

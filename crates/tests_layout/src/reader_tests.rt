@@ -227,9 +227,9 @@ BEGIN
 END_DATA_BLOCK";
 
 /// A declaration: its name, its level, and whether it is a parameter.
-type Declared = (&'static [u8], u32, bool);
+type DeclarationRow = (&'static [u8], u32, bool);
 
-fn are_declared(rt: &impl Abort, cells: &[Cell], rows: &[Declared]) {
+fn are_declared(rt: &impl Abort, cells: &[Cell], rows: &[DeclarationRow]) {
     same(rt, "declarations", cells.len(), rows.len());
     for (cell, row) in cells.iter().zip(rows.iter()) {
         let parameter = is_parameter(cell.section);
@@ -238,16 +238,16 @@ fn are_declared(rt: &impl Abort, cells: &[Cell], rows: &[Declared]) {
     }
 }
 
-static VARIABLES: [Declared; 4] = [
+static VARIABLES: [DeclarationRow; 4] = [
     (b"A", 0, true),
     (b"B", 0, true),
     (b"C", 0, true),
     (b"D", 0, false),
 ];
 
-static TEMPORARIES: [Declared; 2] = [(b"E", 0, false), (b"F", 0, false)];
+static TEMPORARIES: [DeclarationRow; 2] = [(b"E", 0, false), (b"F", 0, false)];
 
-static COMPONENTS: [Declared; 6] = [
+static COMPONENTS: [DeclarationRow; 6] = [
     (b"G", 0, false),
     (b"H", 0, false),
     (b"I", 1, false),

@@ -8,7 +8,7 @@ use stl_parser::parse;
 use stl_print::print;
 
 /// The tree of a source as text.
-fn printed(alloc: Global, source: &[u8]) -> Result<Vec<u8>, SourceFault> {
+fn printed_source(alloc: Global, source: &[u8]) -> Result<Vec<u8>, SourceFault> {
     if source.len() > SOURCE_LIMIT {
         return Err(SourceFault::NoMemory);
     }
@@ -19,7 +19,7 @@ fn printed(alloc: Global, source: &[u8]) -> Result<Vec<u8>, SourceFault> {
 
 /// Whether the tree of a source is printed as this text.
 fn is_printed_as(alloc: Global, source: &[u8], text: &[u8]) -> bool {
-    match printed(alloc, source) {
+    match printed_source(alloc, source) {
         Ok(got) => got.as_slice() == text,
         Err(_) => false,
     }

@@ -31,7 +31,7 @@ pub(crate) type Row = (&'static str, &'static str, &'static str);
 
 /// What came of the statements.
 #[derive(Clone, Copy)]
-struct Seen {
+struct StatementsOutcome {
     error: u8,
     errors: u32,
     ended: bool,
@@ -51,7 +51,7 @@ struct Bench {
     counters: Counters,
     activation: Activation,
     end: u32,
-    seen: Seen,
+    seen: StatementsOutcome,
 }
 
 /// The cause that stands for a statement that isn't there, which no row wants.
@@ -65,7 +65,7 @@ fn hexadecimal(text: &str) -> u32 {
 }
 
 /// The value that a text gives a name.
-fn given(text: &str, name: &str) -> Option<u32> {
+fn number_behind(text: &str, name: &str) -> Option<u32> {
     for pair in text.split_ascii_whitespace() {
         if let Some((first, value)) = pair.split_once('=') {
             if first == name {
@@ -107,19 +107,19 @@ fn low_byte(value: u32) -> u8 {
 }
 
 /// A data block's number and bytes.
-type Numbered = (u16, Vec<u8>);
+type BlockBytes = (u16, Vec<u8>);
 
 fn twice() -> Fail {
     Fail::new("two data blocks of one number")
 }
 
 fn memory_of_none(alloc: Global, profile: Profile) -> Result<Memory, Fail> {
-    let blocks: [Numbered; 0] = [];
+    let blocks: [BlockBytes; 0] = [];
     let memory = Memory::new(alloc, &blocks, profile)?;
     Ok(memory)
 }
 
-fn memory_of_one(alloc: Global, profile: Profile, first: Numbered) -> Result<Memory, Fail> {
+fn memory_of_one(alloc: Global, profile: Profile, first: BlockBytes) -> Result<Memory, Fail> {
     let blocks = [first];
     let memory = Memory::new(alloc, &blocks, profile)?;
     Ok(memory)
@@ -128,8 +128,8 @@ fn memory_of_one(alloc: Global, profile: Profile, first: Numbered) -> Result<Mem
 fn memory_of_two(
     alloc: Global,
     profile: Profile,
-    first: Numbered,
-    second: Numbered,
+    first: BlockBytes,
+    second: BlockBytes,
 ) -> Result<Memory, Fail> {
     if first.0 == second.0 {
         return Err(twice());
@@ -142,9 +142,9 @@ fn memory_of_two(
 fn memory_of_three(
     alloc: Global,
     profile: Profile,
-    first: Numbered,
-    second: Numbered,
-    third: Numbered,
+    first: BlockBytes,
+    second: BlockBytes,
+    third: BlockBytes,
 ) -> Result<Memory, Fail> {
     if first.0 == second.0 || first.0 == third.0 || second.0 == third.0 {
         return Err(twice());
@@ -205,7 +205,7 @@ impl Bench {
             counters: Counters::new(profile),
             activation: Activation::new(1, 1, first_frame(local_len), profile),
             end: image.end,
-            seen: Seen {
+            seen: StatementsOutcome {
                 error: 0,
                 errors: 0,
                 ended: false,
@@ -321,10 +321,10 @@ impl Bench {
 
     /// Statements until the last one of OB 1, or so many.
     fn run(&mut self, before: &str) {
-        let most = given(before, "STEPS").unwrap_or(400);
-        let to_end = given(before, "STEPS").is_none();
-        let ms = given(before, "MS").unwrap_or(0);
-        let give = given(before, "GIVE");
+        let most = number_behind(before, "STEPS").unwrap_or(400);
+        let to_end = number_behind(before, "STEPS").is_none();
+        let ms = number_behind(before, "MS").unwrap_or(0);
+        let give = number_behind(before, "GIVE");
         for _ in 0..most {
             if to_end && self.is_at_end() {
                 break;
@@ -410,7 +410,7 @@ static KEPT: [&str; 11] = [
 
 fn holds(rt: &impl Abort, alloc: Global, row: &Row) -> Result<(), Fail> {
     let (program, before, after) = *row;
-    let profile = match given(before, "LARGE") {
+    let profile = match number_behind(before, "LARGE") {
         Some(_) => Profile::Large,
         None => Profile::Small,
     };
@@ -427,8 +427,8 @@ fn holds(rt: &impl Abort, alloc: Global, row: &Row) -> Result<(), Fail> {
         }
     }
     for name in KEPT {
-        if given(after, name).is_none() {
-            let value = given(before, name).unwrap_or(0);
+        if number_behind(after, name).is_none() {
+            let value = number_behind(before, name).unwrap_or(0);
             assert_eq!(rt;
                 bench.value(name),
                 value,

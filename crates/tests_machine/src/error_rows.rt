@@ -159,7 +159,7 @@ fn areas_of_pointers(rt: HostRuntime) -> Result<(), Fail> {
     all_hold(&rt, rt.alloc(), &AREAS)
 }
 
-/// The same by the address of a bit there, whether the byte exists or not.
+/// Errors of areas by the address of a peripheral bit, whether the byte exists or not.
 static PERIPHERAL_BITS: [Row; 10] = [
     ("A P0.0", "STW=9 PB0=01", "ERR=24"),
     ("XN P256.7", "STW=B", "ERR=24"),

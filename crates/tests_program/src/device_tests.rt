@@ -82,7 +82,7 @@ const NONE: Faults = Faults {
 
 /// What is compared behind a call.
 #[derive(Drop)]
-enum Expected {
+enum ExpectedValue {
     /// What the sink took.
     Text(&'static [u8]),
     /// How many bytes the sink took.
@@ -100,7 +100,7 @@ fn check_expected(
     rt: &impl Abort,
     words: &[&str],
     faults: Faults,
-    expected: &[Expected],
+    expected: &[ExpectedValue],
     files: &MemFiles,
     out: &MemSink,
 ) {
@@ -108,19 +108,19 @@ fn check_expected(
     let text = out.taken.as_slice();
     for one in expected {
         match one {
-            Expected::Text(wanted) => same(rt, what, text, *wanted),
-            Expected::Length(length) => same(rt, what, text.len(), *length),
-            Expected::Calls { reads, writes } => {
+            ExpectedValue::Text(wanted) => same(rt, what, text, *wanted),
+            ExpectedValue::Length(length) => same(rt, what, text.len(), *length),
+            ExpectedValue::Calls { reads, writes } => {
                 same(rt, what, files.reads.made, *reads);
                 same(rt, what, files.writes.made, *writes);
             }
-            Expected::Image(image) => same(
+            ExpectedValue::Image(image) => same(
                 rt,
                 what,
                 files.files.get("image").unwrap_or(b""),
                 *image,
             ),
-            Expected::File(name, bytes) => same(
+            ExpectedValue::File(name, bytes) => same(
                 rt,
                 what,
                 files.files.get(*name).unwrap_or(b""),
@@ -137,7 +137,7 @@ fn ends<R: Abort + Threads + Wait + Sync>(
     words: &[&str],
     faults: Faults,
     status: u8,
-    expected: &[Expected],
+    expected: &[ExpectedValue],
 ) -> Result<(), Fail> {
     let mut files = files_of(alloc, &FILES)?;
     files.fail_reads(only(faults.read));
@@ -168,10 +168,13 @@ static MADE: [(Words, u64, u64); 13] = [
 ];
 
 /// What is expected of a file that can't be read.
-const NOT_READ: &[Expected] = &[Expected::Text(b"read fault\n"), Expected::Image(IMAGE)];
+const NOT_READ: &[ExpectedValue] = &[
+    ExpectedValue::Text(b"read fault\n"),
+    ExpectedValue::Image(IMAGE),
+];
 
 /// Nothing is said, and the file stays.
-const SILENT: &[Expected] = &[Expected::Text(b""), Expected::Image(IMAGE)];
+const SILENT: &[ExpectedValue] = &[ExpectedValue::Text(b""), ExpectedValue::Image(IMAGE)];
 
 /// Each read and each write of a call fails in turn, the last read and then the first push too; the one
 /// behind the last read is none, so all is well.
@@ -199,7 +202,7 @@ fn each_fails<R: Abort + Threads + Wait + Sync>(
         write: writes.wrapping_add(1),
         ..NONE
     };
-    let made = [Expected::Calls { reads, writes }];
+    let made = [ExpectedValue::Calls { reads, writes }];
     ends(rt, alloc, words, further, 0, &made)
 }
 
@@ -220,93 +223,105 @@ fn each_read_and_write_fails(rt: HostRuntime) -> Result<(), Fail> {
 }
 
 /// Words, how many bytes each push takes, the number of the push that fails, the status, and what else is expected.
-type Row = (Words, usize, u64, u8, &'static [Expected]);
+type Row = (Words, usize, u64, u8, &'static [ExpectedValue]);
 
 // The sink fails behind some bytes. Where a file is written, it is written before the first push.
 static CUT_OFF: [Row; 33] = [
-    (GO, 1, 1, 6, &[Expected::Text(b"")]),
-    (GO, 1, 2, 6, &[Expected::Text(b"@")]),
-    (GO, 9, 2, 6, &[Expected::Text(b"@7 PQ 4 =")]),
-    (CHECK, 2, 2, 6, &[Expected::Text(b"OK")]),
+    (GO, 1, 1, 6, &[ExpectedValue::Text(b"")]),
+    (GO, 1, 2, 6, &[ExpectedValue::Text(b"@")]),
+    (GO, 9, 2, 6, &[ExpectedValue::Text(b"@7 PQ 4 =")]),
+    (CHECK, 2, 2, 6, &[ExpectedValue::Text(b"OK")]),
     (
         &["check", "statement"],
         6,
         2,
         6,
-        &[Expected::Text(b"source")],
+        &[ExpectedValue::Text(b"source")],
     ),
-    (COMPILE, 1, 1, 6, &[Expected::Text(b"")]),
-    (COMPILE, 1, 2, 6, &[Expected::Text(b"O")]),
-    (COMPILE, 9, 2, 0, &[Expected::Text(b"OK\n")]),
+    (COMPILE, 1, 1, 6, &[ExpectedValue::Text(b"")]),
+    (COMPILE, 1, 2, 6, &[ExpectedValue::Text(b"O")]),
+    (COMPILE, 9, 2, 0, &[ExpectedValue::Text(b"OK\n")]),
     (
         &["compile", "nothing", "image"],
         1,
         1,
         6,
-        &[Expected::Text(b""), Expected::Image(LARGE)],
+        &[ExpectedValue::Text(b""), ExpectedValue::Image(LARGE)],
     ),
     (
         GERMAN,
         1,
         2,
         6,
-        &[Expected::Text(b"O"), Expected::Image(b"// nothing\n")],
+        &[
+            ExpectedValue::Text(b"O"),
+            ExpectedValue::Image(b"// nothing\n"),
+        ],
     ),
-    (UPGRADE, 1, 1, 6, &[Expected::Text(b"")]),
-    (UPGRADE, 1, 2, 6, &[Expected::Text(b"O")]),
-    (UPGRADE, 9, 2, 0, &[Expected::Text(b"OK\n")]),
+    (UPGRADE, 1, 1, 6, &[ExpectedValue::Text(b"")]),
+    (UPGRADE, 1, 2, 6, &[ExpectedValue::Text(b"O")]),
+    (UPGRADE, 9, 2, 0, &[ExpectedValue::Text(b"OK\n")]),
     // Both files stand before the first byte of `OK`.
     (
         LIST,
         1,
         1,
         6,
-        &[Expected::Text(b""), Expected::File("text", LISTED)],
+        &[
+            ExpectedValue::Text(b""),
+            ExpectedValue::File("text", LISTED),
+        ],
     ),
     (
         LIST,
         1,
         2,
         6,
-        &[Expected::Text(b"O"), Expected::File("text", LISTED)],
+        &[
+            ExpectedValue::Text(b"O"),
+            ExpectedValue::File("text", LISTED),
+        ],
     ),
-    (BOUND, 1, 1, 6, &[Expected::Text(b"")]),
-    (BOUND, 1, 2, 6, &[Expected::Text(b"O")]),
+    (BOUND, 1, 1, 6, &[ExpectedValue::Text(b"")]),
+    (BOUND, 1, 2, 6, &[ExpectedValue::Text(b"O")]),
     // In the line of a chain; no certificate is written.
     (
         CHAINED,
         11,
         2,
         6,
-        &[Expected::Text(b"chain: OB 1"), Expected::Image(IMAGE)],
+        &[
+            ExpectedValue::Text(b"chain: OB 1"),
+            ExpectedValue::Image(IMAGE),
+        ],
     ),
-    (RECHECK, 1, 1, 6, &[Expected::Text(b"")]),
-    (RECHECK, 9, 2, 0, &[Expected::Text(b"OK\n")]),
-    (RUN, 1, 1, 6, &[Expected::Text(b"")]),
-    (RUN, 1, 2, 6, &[Expected::Text(b"E")]),
-    (RUN, 9, 2, 6, &[Expected::Text(b"END 4 RUN")]),
-    (GEN, 1, 1, 6, &[Expected::Text(b"")]),
-    (GEN, 1, 2, 6, &[Expected::Text(b"G")]),
-    (GEN, 9, 2, 6, &[Expected::Text(b"GEN 1 ENT")]),
-    (LIVE, 1, 1, 6, &[Expected::Text(b"")]),
-    (LIVE, 1, 2, 6, &[Expected::Text(b"s")]),
-    (LIVE, 1, 10, 6, &[Expected::Text(b"step 1\n--")]),
+    (RECHECK, 1, 1, 6, &[ExpectedValue::Text(b"")]),
+    (RECHECK, 9, 2, 0, &[ExpectedValue::Text(b"OK\n")]),
+    (RUN, 1, 1, 6, &[ExpectedValue::Text(b"")]),
+    (RUN, 1, 2, 6, &[ExpectedValue::Text(b"E")]),
+    (RUN, 9, 2, 6, &[ExpectedValue::Text(b"END 4 RUN")]),
+    (GEN, 1, 1, 6, &[ExpectedValue::Text(b"")]),
+    (GEN, 1, 2, 6, &[ExpectedValue::Text(b"G")]),
+    (GEN, 9, 2, 6, &[ExpectedValue::Text(b"GEN 1 ENT")]),
+    (LIVE, 1, 1, 6, &[ExpectedValue::Text(b"")]),
+    (LIVE, 1, 2, 6, &[ExpectedValue::Text(b"s")]),
+    (LIVE, 1, 10, 6, &[ExpectedValue::Text(b"step 1\n--")]),
     // How the text begins goes by who comes first.
-    (WATCH, 1, 1, 6, &[Expected::Length(0)]),
-    (WATCH, 1, 2, 6, &[Expected::Length(1)]),
-    (WATCH, 1, 10, 6, &[Expected::Length(9)]),
-    (WATCH, 1, 1501, 6, &[Expected::Length(1500)]),
+    (WATCH, 1, 1, 6, &[ExpectedValue::Length(0)]),
+    (WATCH, 1, 2, 6, &[ExpectedValue::Length(1)]),
+    (WATCH, 1, 10, 6, &[ExpectedValue::Length(9)]),
+    (WATCH, 1, 1501, 6, &[ExpectedValue::Length(1500)]),
 ];
 
 // A sink that takes one byte a push takes the whole text.
 static WHOLE: [Row; 18] = [
-    (GO, 1, 0, 0, &[Expected::Text(ONE_RUN_TEXT)]),
+    (GO, 1, 0, 0, &[ExpectedValue::Text(ONE_RUN_TEXT)]),
     (
         &["go", "source", "stopping"],
         1,
         0,
         0,
-        &[Expected::Text(
+        &[ExpectedValue::Text(
             b"@7 PQ 4 = 01\n@8 PQ 4 = 00\n@8 MODE STOP 8 AT OB 1 LINE 3\nEND 8 STOP 8\n",
         )],
     ),
@@ -315,59 +330,68 @@ static WHOLE: [Row; 18] = [
         1,
         0,
         4,
-        &[Expected::Text(b"history refused: line 1 rule 1\n")],
+        &[ExpectedValue::Text(b"history refused: line 1 rule 1\n")],
     ),
-    (CHECK, 1, 0, 0, &[Expected::Text(b"OK\n")]),
+    (CHECK, 1, 0, 0, &[ExpectedValue::Text(b"OK\n")]),
     (
         &["check", "statement"],
         1,
         0,
         2,
-        &[Expected::Text(b"source refused: line 1 rule 11\n")],
+        &[ExpectedValue::Text(b"source refused: line 1 rule 11\n")],
     ),
     (
         &["check", "none"],
         1,
         0,
         5,
-        &[Expected::Text(b"read fault\n")],
+        &[ExpectedValue::Text(b"read fault\n")],
     ),
     // What the program tells of itself is asked elsewhere.
-    (&["--help"], 1, 0, 1, &[Expected::Text(b"words refused\n")]),
-    (COMPILE, 1, 0, 0, &[Expected::Text(b"OK\n")]),
-    (GERMAN, 1, 0, 0, &[Expected::Text(b"OK\n")]),
-    (UPGRADE, 1, 0, 0, &[Expected::Text(b"OK\n")]),
+    (
+        &["--help"],
+        1,
+        0,
+        1,
+        &[ExpectedValue::Text(b"words refused\n")],
+    ),
+    (COMPILE, 1, 0, 0, &[ExpectedValue::Text(b"OK\n")]),
+    (GERMAN, 1, 0, 0, &[ExpectedValue::Text(b"OK\n")]),
+    (UPGRADE, 1, 0, 0, &[ExpectedValue::Text(b"OK\n")]),
     (
         LIST,
         1,
         0,
         0,
-        &[Expected::Text(b"OK\n"), Expected::File("text", LISTED)],
+        &[
+            ExpectedValue::Text(b"OK\n"),
+            ExpectedValue::File("text", LISTED),
+        ],
     ),
-    (BOUND, 1, 0, 0, &[Expected::Text(b"OK\n")]),
+    (BOUND, 1, 0, 0, &[ExpectedValue::Text(b"OK\n")]),
     (
         CHAINED,
         1,
         0,
         10,
-        &[Expected::Text(
+        &[ExpectedValue::Text(
             b"chain: OB 1, FC 1, FC 1, FC 1, FC 1, FC 1, FC 1, FC 1, FC 1, FC 1, FC 1, FC 1, FC 1, FC 1, FC 1, FC 1, FC 1\n",
         )],
     ),
-    (RECHECK, 1, 0, 0, &[Expected::Text(b"OK\n")]),
+    (RECHECK, 1, 0, 0, &[ExpectedValue::Text(b"OK\n")]),
     (
         &["recheck", "image", "nothing"],
         1,
         0,
         10,
-        &[Expected::Text(b"certificate says no\n")],
+        &[ExpectedValue::Text(b"certificate says no\n")],
     ),
     (
         RUN,
         1,
         0,
         0,
-        &[Expected::Text(b"END 4 RUN\nDB 10 0 00000000\n")],
+        &[ExpectedValue::Text(b"END 4 RUN\nDB 10 0 00000000\n")],
     ),
     // From a machine that knows nothing of this program.
     (
@@ -375,14 +399,14 @@ static WHOLE: [Row; 18] = [
         1,
         0,
         0,
-        &[Expected::Text(b"GEN 1 ENTRIES 200069 MODE RUN SUM 20431\n")],
+        &[ExpectedValue::Text(b"GEN 1 ENTRIES 200069 MODE RUN SUM 20431\n")],
     ),
     (
         LIVE,
         1,
         0,
         0,
-        &[Expected::Text(b"step 1\n---\nEND 1 RUN\n")],
+        &[ExpectedValue::Text(b"step 1\n---\nEND 1 RUN\n")],
     ),
 ];
 
@@ -391,8 +415,11 @@ static WHOLE: [Row; 18] = [
 fn a_listing_is_cut_off(rt: HostRuntime) -> Result<(), Fail> {
     let first = Faults { write: 1, ..NONE };
     let second = Faults { write: 2, ..NONE };
-    let none = [Expected::Text(b""), Expected::File("text", b"")];
-    let whole = [Expected::Text(b""), Expected::File("text", LISTED)];
+    let none = [ExpectedValue::Text(b""), ExpectedValue::File("text", b"")];
+    let whole = [
+        ExpectedValue::Text(b""),
+        ExpectedValue::File("text", LISTED),
+    ];
     ends(&rt, rt.alloc(), LIST, first, 6, &none)?;
     ends(&rt, rt.alloc(), LIST, second, 6, &whole)
 }

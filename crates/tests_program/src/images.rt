@@ -32,7 +32,7 @@ pub(crate) const CHAIN: &[u8] = &[
 /// The image of the empty source: a header of no blocks and no names.
 pub(crate) const EMPTY: &[u8] = b"S7FB\0\x01\0\0\0\0\0\x14\0\0\0\0\0\0\0\0";
 
-/// The same of version 2, for the large profile.
+/// The image of version 2 of the empty source, for the large profile.
 pub(crate) const LARGE: &[u8] = b"S7FB\0\x02\0\x02\0\0\0\x14\0\0\0\0\0\0\0\0";
 
 /// The source that is listed of `IMAGE`: its statements stand on the lines 3 to 5.

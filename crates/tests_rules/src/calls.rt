@@ -45,7 +45,7 @@ pub(crate) static SYMBOLS: &[u8] = b"\"Motor\",\"M 0.0\",\"BOOL\",\"\"
 pub(crate) type Row = (&'static [u8], u32, u16);
 
 /// The tree of a source, or its refusal; a longer source than the limit is told as want of memory.
-pub(crate) fn parsed(alloc: Global, source: &[u8]) -> Result<Tree, SourceFault> {
+pub(crate) fn tree_of_source(alloc: Global, source: &[u8]) -> Result<Tree, SourceFault> {
     if source.len() > SOURCE_LIMIT {
         return Err(SourceFault::NoMemory);
     }
@@ -67,8 +67,8 @@ fn tree_checked(alloc: Global, tree: &Tree, symbols: &Symbols) -> Result<(), Sou
     Ok(())
 }
 
-fn checked(alloc: Global, symbols: &[u8], source: &[u8]) -> Result<(), SourceFault> {
-    let tree = parsed(alloc, source)?;
+fn check_of_source(alloc: Global, symbols: &[u8], source: &[u8]) -> Result<(), SourceFault> {
+    let tree = tree_of_source(alloc, source)?;
     let symbols = symbols_of(alloc, symbols)?;
     tree_checked(alloc, &tree, &symbols)
 }
@@ -76,7 +76,7 @@ fn checked(alloc: Global, symbols: &[u8], source: &[u8]) -> Result<(), SourceFau
 /// The line and the rule of the refusal of a source; 0 and 0 where there is none, and 0 and 1 for want
 /// of memory.
 pub(crate) fn check_result(alloc: Global, symbols: &[u8], source: &[u8]) -> (u32, u16) {
-    match checked(alloc, symbols, source) {
+    match check_of_source(alloc, symbols, source) {
         Ok(()) => (0, 0),
         Err(SourceFault::Refused { refusal }) => (refusal.line, refusal.rule),
         Err(SourceFault::NoMemory) => (0, 1),

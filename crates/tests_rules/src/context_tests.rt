@@ -1,6 +1,6 @@
 //! What the operand of a statement names, and the block that a call is checked by. A statement stands
 //! in the body of FC 1, the eleventh block (`calls`).
-use crate::calls::{SYMBOLS, parsed, symbols_of, with_body};
+use crate::calls::{SYMBOLS, symbols_of, tree_of_source, with_body};
 use crate::compare::same;
 use block_layout::lay_out_sound;
 use plc_base::{Area, BlockId, BlockKind, Flag, Place, Width};
@@ -13,36 +13,36 @@ use stl_types::{Callee, Context, Register, Resolution, ResolvedOperand, Side, ch
 
 /// What a statement comes to.
 #[derive(Drop)]
-struct Found {
+struct LastStatement {
     seen: Resolution,
     resolved: Option<ResolvedOperand>,
     callee: Option<Callee>,
 }
 
 /// What the last statement of the context's block comes to.
-fn last_in(alloc: Global, context: &Context<'_>) -> Result<Found, Fail> {
+fn last_in(alloc: Global, context: &Context<'_>) -> Result<LastStatement, Fail> {
     let blocks = context.tree().blocks.as_slice();
     let block = blocks.get(context.block()).ok_or("no such block")?;
     let statement = block.body.as_slice().last().ok_or("no statement")?;
     let seen = context.resolution(alloc, &statement.operand)?;
     let resolved = context.resolved(alloc, statement)?;
     let callee = context.callee(alloc, &statement.operand)?;
-    Ok(Found {
+    Ok(LastStatement {
         seen,
         resolved,
         callee,
     })
 }
 
-fn last_of(alloc: Global, tree: &Tree, symbols: &Symbols) -> Result<Found, Fail> {
+fn last_of(alloc: Global, tree: &Tree, symbols: &Symbols) -> Result<LastStatement, Fail> {
     let layouts = lay_out_sound(alloc, tree, symbols)?;
     last_in(alloc, &Context::new(symbols, tree, &layouts).at(10))
 }
 
 /// What the last statement of a body comes to.
-fn last_statement(alloc: Global, body: &[u8]) -> Result<Found, Fail> {
+fn last_statement(alloc: Global, body: &[u8]) -> Result<LastStatement, Fail> {
     let source = with_body(alloc, body)?;
-    let tree = parsed(alloc, source.as_slice())?;
+    let tree = tree_of_source(alloc, source.as_slice())?;
     let symbols = symbols_of(alloc, SYMBOLS)?;
     last_of(alloc, &tree, &symbols)
 }
@@ -278,7 +278,7 @@ fn parts_are_given_back(rt: &impl Abort, context: &Context<'_>, tree: &Tree) {
 fn parts_of_a_context(rt: HostRuntime) -> Result<(), Fail> {
     let alloc = rt.alloc();
     let source = with_body(alloc, b"SET;")?;
-    let tree = parsed(alloc, source.as_slice())?;
+    let tree = tree_of_source(alloc, source.as_slice())?;
     let symbols = symbols_of(alloc, SYMBOLS)?;
     let layouts = lay_out_sound(alloc, &tree, &symbols)?;
     let checked = check(alloc, &tree, &symbols, &layouts)?;

@@ -59,7 +59,7 @@ pub(crate) fn bodies_translate(
     Ok(())
 }
 
-/// The same both ways: first the English statement, then the German one.
+/// Statements are translated both ways: in each row first the English one, then the German one.
 pub(crate) fn both_ways(rt: &impl Abort, alloc: Global, rows: &[(&str, &str)]) -> Result<(), Fail> {
     for row in rows {
         let english = in_body(alloc, row.0)?;

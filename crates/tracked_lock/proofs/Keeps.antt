@@ -11,7 +11,7 @@ use Rattle.atomic_table.proofs.Lists.{at_set, at_snoc, set_here, set_else, excha
 use Rattle.tracked_lock.specs.declared.views.View.{View}
 use Rattle.tracked_lock.specs.Views.{sum_of_values, HoldsForEach, AreEntriesByMaker, times, one_if_number_of_pass, own_number, IsAdded, made_more, longer, turn_count, without_last, only_last, joined_view, spent_view, fresh_to}
 use Rattle.tracked_lock.specs.declared.views.Made.{Made}
-use Rattle.tracked_lock.specs.Rule.{Fits, Kept, starting_view}
+use Rattle.tracked_lock.specs.Rule.{Fits, KeepsLockRule, starting_view}
 use Rattle.tracked_lock.specs.Plays.{Takes, Reads, Counts, Releases, with_turn, view_after_look, view_with_list, without_turn}
 use Rattle.tracked_lock.proofs.Prefixes.{prefix_self, prefix_trans, prefix_shorter, prefix_length, drop_prefix, longer_either}
 use Rattle.tracked_lock.proofs.Totals.{total-append, total-set, term_le, terms_le, totals_le}
@@ -45,7 +45,7 @@ module _ {T O E : Type 0} (origin_of : T → O) (story_of : T → List E) (maker
   St = State (Option T) (View O E)
 
   abbrev K : St → Type 0
-  K = Kept origin_of story_of maker_of origin passes
+  K = KeepsLockRule origin_of story_of maker_of origin passes
 
   abbrev F : List E → View O E → Type 0
   F = Fits origin_of story_of maker_of origin passes
@@ -54,14 +54,14 @@ module _ {T O E : Type 0} (origin_of : T → O) (story_of : T → List E) (maker
   InRange e = (0 < maker_of e) × (maker_of e ≤ passes)
 
   -- one seat's view changes, which keeps its numbers
-  moved : (s : St) (g : K s) (id : ℕ) (v w : View O E) (log : List E) (busy : ℕ) (ws : List ℕ) (hs : List (maybe.Option (Option T))) → get_elem? s.views id ≡ some v
+  keeps_with_view : (s : St) (g : K s) (id : ℕ) (v w : View O E) (log : List E) (busy : ℕ) (ws : List ℕ) (hs : List (maybe.Option (Option T))) → get_elem? s.views id ≡ some v
       → ws ≡ length log ∷ busy ∷ passes ∷ []
       → (busy ≡ 0 → (x : T) × (get_elem? hs 0 ≡ some (some (Some x))) × (origin_of x ≡ origin) × (story_of x ≡ log))
       → turn_count w + g.busy ≡ busy + turn_count v → busy < 2
       → ((k : ℕ) → times k w.made ≡ times k v.made) → length w.made ≡ length v.made
       → F log w → ((j : ℕ) (u : View O E) → j ≢ id → get_elem? s.views j ≡ some u → F log u)
       → HoldsForEach InRange log → K (record { words = ws; homes = hs; views = set s.views id w })
-  moved s g id v w log busy ws hs me words home turn one numbers counted mine others makers = record {
+  keeps_with_view s g id v w log busy ws hs me words home turn one numbers counted mine others makers = record {
     log = log;
     busy = busy;
     words = words;
@@ -85,7 +85,7 @@ module _ {T O E : Type 0} (origin_of : T → O) (story_of : T → List E) (maker
         with_turn m.0 (story_of x),
         taking 0 (Some x),
         t.1,
-        moved s g id m.0 (with_turn m.0 (story_of x)) g.log 1 (set s.words 1 1) (set s.homes 0 none) me (ap (λ (ws : List ℕ). set ws 1 1) g.words) (λ e. absurd (omega arith))
+        keeps_with_view s g id m.0 (with_turn m.0 (story_of x)) g.log 1 (set s.words 1 1) (set s.homes 0 none) me (ap (λ (ws : List ℕ). set ws 1 1) g.words) (λ e. absurd (omega arith))
             (omega (arith, term_le turn_count s.views id m.0 me, g.turns)) (omega arith) (λ k. refl) refl
             record {
               origin_is = mine.origin_is;
@@ -104,7 +104,7 @@ module _ {T O E : Type 0} (origin_of : T → O) (story_of : T → List E) (maker
         m.0,
         keeps,
         tt,
-        moved s g id m.0 m.0 g.log g.busy (set s.words 1 (get_or s.words 1 0)) s.homes me (set-get_or s.words 1 0 ∙ g.words) g.home (omega arith) g.one (λ k. refl) refl mine (λ j u ne at. g.each j u at) g.makers,
+        keeps_with_view s g id m.0 m.0 g.log g.busy (set s.words 1 (get_or s.words 1 0)) s.homes me (set-get_or s.words 1 0 ∙ g.words) g.home (omega arith) g.one (λ k. refl) refl mine (λ j u ne at. g.each j u at) g.makers,
         ((λ hit. absurd (miss hit)), λ _. refl),
       ))
 
@@ -120,7 +120,7 @@ module _ {T O E : Type 0} (origin_of : T → O) (story_of : T → List E) (maker
         view_after_look m.0,
         keeps,
         tt,
-        moved s g id m.0 (view_after_look m.0) g.log g.busy (set s.words 0 (get_or s.words 0 0)) s.homes me (set-get_or s.words 0 0 ∙ g.words) g.home (omega arith) g.one (λ k. refl) refl
+        keeps_with_view s g id m.0 (view_after_look m.0) g.log g.busy (set s.words 0 (get_or s.words 0 0)) s.homes me (set-get_or s.words 0 0 ∙ g.words) g.home (omega arith) g.one (λ k. refl) refl
             record {
               origin_is = mine.origin_is;
               passes_is = mine.passes_is;
@@ -163,7 +163,7 @@ module _ {T O E : Type 0} (origin_of : T → O) (story_of : T → List E) (maker
         w,
         keeps,
         tt,
-        moved s g id m.0 w zs g.busy (set s.words 0 new) s.homes me (ap (λ (ws : List ℕ). set ws 0 new) g.words ∙ ap (λ (n : ℕ). n ∷ g.busy ∷ passes ∷ []) len)
+        keeps_with_view s g id m.0 w zs g.busy (set s.words 0 new) s.homes me (ap (λ (ws : List ℕ). set ws 0 new) g.words ∙ ap (λ (n : ℕ). n ∷ g.busy ∷ passes ∷ []) len)
             (λ e. absurd (omega (arith, term_le turn_count s.views id m.0 me, g.turns))) (omega arith) g.one (λ j. times_more j m.0.made (drop (length xs) zs)) (length_more m.0.made (drop (length xs) zs))
             record {
               origin_is = λ h. mine.origin_is has;
@@ -203,7 +203,7 @@ module _ {T O E : Type 0} (origin_of : T → O) (story_of : T → List E) (maker
         w,
         gives,
         tt,
-        moved s g id m.0 w g.log 0 (set s.words 1 0) (homes_after s.homes m.1 gives) me (ap (λ (ws : List ℕ). set ws 1 0) g.words)
+        keeps_with_view s g id m.0 w g.log 0 (set s.words 1 0) (homes_after s.homes m.1 gives) me (ap (λ (ws : List ℕ). set ws 1 0) g.words)
             (λ _. (x, back m.1 slot, one_same (origin_of x) origin (from ∙ mine.origin_is has), story ∙ mine.whole turn))
             (omega (arith, term_le turn_count s.views id m.0 me, g.turns, g.one)) (omega arith) (λ k. refl) refl
             record {
@@ -348,8 +348,8 @@ module _ {T O E : Type 0} (origin_of : T → O) (story_of : T → List E) (maker
       )
 
 -- the seat, with the value in its slot
-pub filled : {T V : Type 0} (m n : Me (Option T) V) (x : T) → m.1 ≡ (0, None) ∷ [] → n ≡ (m.0, (0, Some x) ∷ rest m.1) → n ≡ (m.0, (0, Some x) ∷ [])
-filled m n x e f = f ∙ ap (λ (l : List (ℕ × Option _)). (m.0, (0, Some x) ∷ rest l)) e
+pub slot_filled : {T V : Type 0} (m n : Me (Option T) V) (x : T) → m.1 ≡ (0, None) ∷ [] → n ≡ (m.0, (0, Some x) ∷ rest m.1) → n ≡ (m.0, (0, Some x) ∷ [])
+slot_filled m n x e f = f ∙ ap (λ (l : List (ℕ × Option _)). (m.0, (0, Some x) ∷ rest l)) e
 
 -- a seat's view beside the slots that it holds
 pub with_slots : {T V : Type 0} (m : Me T V) (l : List (ℕ × T)) → m.1 ≡ l → m ≡ (m.0, l)

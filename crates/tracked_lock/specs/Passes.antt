@@ -51,7 +51,7 @@ pub record LentValue (T O E : Type 0) : Type 0 where
 abbrev pub with_value : {T O E : Type 0} → LentValue T O E → T → LentValue T O E
 with_value lent value = record lent { value = value }
 
--- the list, or the list with one entry more, of this maker
+-- a list is another one, or that one with one entry more, which is of this maker
 abbrev pub IsOneStep : {E : Type 0} → (E → ℕ) → ℕ → List E → List E → Type 0
 IsOneStep {E} maker k xs ys = (ys ≡ xs) ⊎ ((e : E) × (ys ≡ xs ++ e ∷ []) × (maker e ≡ k))
 
@@ -66,17 +66,17 @@ module _ {O E : Type 0} where
     made = v.made;
   }
 
-  -- what a put leaves of the pass: it has seen the list that was given back, and made the entries
+  -- the pass after a put: it has seen the list that was given back, and made the entries
   -- that are new in it
-  abbrev pub given_back : PassView O E → List E → PassView O E
-  given_back p list =
+  abbrev pub pass_after_put : PassView O E → List E → PassView O E
+  pass_after_put p list =
       record p { out = false; seen = list; made = made_more p.made (drop (length p.seen) list) }
 
   -- a pass that took over the numbers of another
   abbrev pub joined_pass : PassView O E → PassView O E → PassView O E
   joined_pass p q = record p { seen = longer p.seen q.seen; made = p.made ++ q.made }
 
-  -- so many of the lock's numbers aren't the pass's, and at least one
+  -- `count` of the lock's numbers aren't the pass's, and it is 1 at least
   abbrev pub IsCountOut : LockView O → PassView O E → (count : ℕ) → Type 0
   IsCountOut lock p count = (0 < count) × (count ≡ missing_number_count lock.passes p.made)
 

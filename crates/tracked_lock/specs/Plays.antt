@@ -23,7 +23,7 @@ module _ {O E : Type 0} where
   without_turn v = record v { turn = false }
 
 module _ {T O E : Type 0} where
-  -- the value is out with the seat, which knows what it stands for
+  -- a seat took the turn: the value is out with it, and it knows the list that the value stands for
   abbrev pub Took :
       (T → O) → (T → List E) → (E → ℕ) → Me (Option T) (View O E) → Me (Option T) (View O E)
       → Type 0
@@ -40,8 +40,8 @@ module _ {T O E : Type 0} where
   Takes origin_of story_of maker_of m found n =
       (found ≡ 0 → Took origin_of story_of maker_of m n) × (found ≢ 0 → n ≡ m)
 
-  -- both lists that the seat has seen are beginnings of the longer one; the list is as long as the
-  -- word says, and known whole with the turn
+  -- a look at the count that was found: both lists that the seat has seen are beginnings of the
+  -- longer one, which it keeps; with the turn it knows as many entries as were found
   abbrev pub Reads : (E → ℕ) → Me (Option T) (View O E) → ℕ → Me (Option T) (View O E) → Type 0
   Reads maker_of m found n =
       (n ≡ (view_after_look m.0, m.1)) × IsPrefix m.0.seen (longer m.0.seen m.0.other)
@@ -56,11 +56,12 @@ module _ {T O E : Type 0} where
   Counts story_of m n =
       (x : T) → m.1 ≡ (0, Some x) ∷ [] → n ≡ (view_with_list m.0 (story_of x), m.1)
 
-  -- the turn is given back, and the slot with the value
+  -- a seat gives the turn back, and the slot with the value
   abbrev pub Releases : Me (Option T) (View O E) → Me (Option T) (View O E) → Type 0
   Releases m n = n ≡ (without_turn m.0, rest m.1)
 
-  -- the value has left the slot that the seat took
+  -- the value has left the slot of a seat that took the turn; the seat knows the list that it
+  -- stands for
   abbrev pub TookOut :
       (T → O) → (T → List E) → (E → ℕ) → Me (Option T) (View O E) → Me (Option T) (View O E) → T
       → Type 0
@@ -86,7 +87,8 @@ module _ {T O E : Type 0} where
       (x : T) × (m.1 ≡ (0, Some x) ∷ []) × (origin_of x ∷ [] ≡ m.0.origin) × (story_of x ≡ m.0.seen)
 
 module _ {O E : Type 0} where
-  -- neither has the turn, and under their numbers stand the entries that they have seen
+  -- two seats can be joined: under the numbers of each stand the entries that it has seen, the
+  -- other is without the turn, and the first has a number and no list to look at
   abbrev pub CanJoin : (E → ℕ) → (mine other : View O E) → Type 0
   CanJoin maker_of mine other =
       (other.turn ≡ false) × (mine.other ≡ []) × (0 < length mine.made)

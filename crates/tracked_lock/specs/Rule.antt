@@ -30,10 +30,10 @@ module _
     -- a view with the turn has a number
     pub maker : v.turn ≡ true → 0 < length v.made
 
-  -- the rule: the words are the length of the list, the turn (0 free, 1 taken) and the passes; the
-  -- value at home stands for the list; at most one view has the turn; each view fits the list; each
-  -- number is given once, and each entry has the number of its maker
-  pub record Kept (s : State (Option T) (View O E)) : Type 0 where
+  -- the lock's rule for its table: the words are the length of the list, the turn (0 free, 1 taken)
+  -- and the passes; the value at home stands for the list; at most one view has the turn; each view
+  -- fits the list; each number is given once, and each entry has the number of its maker
+  pub record KeepsLockRule (s : State (Option T) (View O E)) : Type 0 where
     -- the list of all entries, in order
     pub log : List E
     -- the turn: 0 free, 1 taken
@@ -58,11 +58,11 @@ module _
     -- the maker of each entry is a number from 1 to the number of passes
     pub makers : HoldsForEach (λ e. (0 < maker_of e) × (maker_of e ≤ passes)) log
 
--- the first view has all numbers
+-- the view of the first seat, which has all numbers
 abbrev pub starting_view : {O E : Type 0} → O → ℕ → View O E
 starting_view origin passes = view (origin ∷ []) passes false [] [] (fresh_to passes)
 
--- three words, and one slot
+-- a lock's table has three words, and one slot
 abbrev pub IsLockTable : TableId → Type 0
 IsLockTable id = (id.words ≡ 3) × (id.slots ≡ 1)
 

@@ -13,30 +13,30 @@ module _ {E : Type 0} where
   abbrev pub entries_by : (E → ℕ) → ℕ → List E → List E
   entries_by maker k es = filter (λ e. nat_eq (maker e) k) es
 
-  -- under each number stand the entries of the list with this maker
+  -- under each number of a pass stand the entries of the list with that maker, in order
   abbrev pub AreEntriesByMaker : (E → ℕ) → List E → List (Made E) → Type 0
   AreEntriesByMaker maker log [] = Unit {0}
   AreEntriesByMaker maker log (x ∷ xs) =
       (entries_by maker x.number log ≡ x.entries) × AreEntriesByMaker maker log xs
 
-  -- under each number stand the entries with this maker of one of the two lists
+  -- under each number of a pass stand the entries with that maker of one of the two lists
   abbrev pub IsKnownOf : (E → ℕ) → List E → List E → List (Made E) → Type 0
   IsKnownOf maker xs ys [] = Unit {0}
   IsKnownOf maker xs ys (m ∷ ms) =
       ((entries_by maker m.number xs ≡ m.entries) ⊎ (entries_by maker m.number ys ≡ m.entries))
       × IsKnownOf maker xs ys ms
 
-  -- how often the number stands among them
+  -- how often a number stands among the numbers of a pass
   abbrev pub times : ℕ → List (Made E) → ℕ
   times k [] = 0
   times k (x ∷ xs) = cond (nat_eq x.number k) 1 0 + times k xs
 
-  -- the numbers from 1 to n
+  -- the numbers from 1 to n, each with no entry
   abbrev pub fresh_to : ℕ → List (Made E)
   fresh_to zero = []
   fresh_to (suc n) = fresh_to n ++ record { number = suc n; entries = [] } ∷ []
 
-  -- further entries under the own number
+  -- the numbers of a pass, with further entries under the first, its own
   abbrev pub made_more : List (Made E) → List E → List (Made E)
   made_more [] added = []
   made_more (x ∷ xs) added = record x { entries = x.entries ++ added } ∷ xs
@@ -46,16 +46,16 @@ module _ {E : Type 0} where
   IsAdded maker k xs ys =
       (added : List E) × (ys ≡ xs ++ added) × HoldsForEach (λ e. maker e ≡ k) added
 
-  -- the longer list
+  -- the longer of two lists; the first where they are as long
   abbrev pub longer : List E → List E → List E
   longer xs ys = cond (nat_lt (length xs) (length ys)) ys xs
 
-  -- the own number, which is the first; 0 of none
+  -- the own number of a pass, the first of its numbers; 0 where there is none
   abbrev pub own_number : List (Made E) → ℕ
   own_number [] = 0
   own_number (x ∷ xs) = x.number
 
--- 1 of a number of a pass, 0 of another
+-- 1 where k is a number from 1 to n, those of the passes, else 0
 abbrev pub one_if_number_of_pass : ℕ → ℕ → ℕ
 one_if_number_of_pass n k = cond (nat_lt 0 k && nat_lt k (suc n)) 1 0
 

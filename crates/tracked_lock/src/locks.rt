@@ -20,7 +20,7 @@ ghost use Rattle.tracked_lock.specs.Passes.{
   IsCountOut,
   fresh_pass,
   fresh_passes,
-  given_back,
+  pass_after_put,
   joined_pass,
   lock_of,
 };
@@ -62,12 +62,14 @@ impl<V: Storied + Drop> Model for TrackedLock<V> {
         × (l.passes ≡ l.table.shared.key.passes) × (l.passes < 256) };
 }
 
-/// Numbers from 1 to n aren't among those of the pass.
+/// Why a lock isn't closed: some of its numbers from 1 to n aren't those of the pass.
 #[derive(Drop)]
 pub struct SeatsOut<V: Storied + Drop> {
-    /// How many of them aren't.
+    /// How many of the numbers aren't.
     pub count: u64,
+    /// The lock, as it was.
     pub lock: TrackedLock<V>,
+    /// The pass, as it was.
     pub pass: Pass<V>,
 }
 
@@ -163,7 +165,7 @@ impl<V: Storied + Drop> TrackedLock<V> {
         requires origin { V.origin held.value ∷ [] ≡ self.now.origin }
         requires list { IsOneStep V.maker p.old.number p.old.seen (V.story held.value) }
         requires room { length (V.story held.value) + 1 < 2 ^ 64 }
-        ensures pass { p.new ≡ given_back p.old (V.story held.value) }
+        ensures pass { p.new ≡ pass_after_put p.old (V.story held.value) }
         ensures made { AreEntriesByMaker V.maker p.new.seen p.new.made }
     {
         let value = held.into_value();

@@ -3,8 +3,10 @@ ghost use Rattle.std.specs.Prelude.{◌≡◌, ℕ, ◌^◌, ◌<◌, List, leng
 
 /// A value with an origin, which stands for a list of entries. Each entry has a maker.
 pub trait Storied {
+    /// What a value stems from.
     type Origin;
 
+    /// A member of the list.
     type Entry;
 
     ghost origin: { Self → Self.Origin };

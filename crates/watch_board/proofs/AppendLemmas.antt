@@ -11,12 +11,13 @@ use Rattle.watch_board.specs.declared.shown.Shown.{Shown}
 use Rattle.watch_board.specs.BoardList.{HasRisingLengths, MayFollow, last_item_of}
 use Rattle.watch_board.specs.ListRule.{KeepsListRule, AppendsItem}
 
--- the book shows nothing of its list to clients, and they ask for nothing
-abbrev shown : List Shown → List Shown
-shown list = []
+-- what the book shows of its list to clients: nothing
+abbrev shown_to_clients : List Shown → List Shown
+shown_to_clients list = []
 
-abbrev moved : List Shown → List Shown → ℕ → Type 0
-moved xs ys n = Unit {0}
+-- what clients ask for: nothing, so each step is one
+abbrev IsMove : List Shown → List Shown → ℕ → Type 0
+IsMove xs ys n = Unit {0}
 
 last_behind : (o : Option Shown) (xs : List Shown) (e : Shown) → last_or o (xs ++ e ∷ []) ≡ Some e
 last_behind o [] e = refl
@@ -35,7 +36,7 @@ rising_more (x ∷ y ∷ ys) e r may = (r.0, rising_more (y ∷ ys) e r.1 may)
 -- of a list that all that was seen begins: the word, which counts it, is as expected only where all of it was seen
 appends_goes : (log v : List Shown) (e : Shown) (old : ℕ) → length v ≡ old → MayFollow v e → HasRisingLengths log → IsPrefix v log
     → (b : Bool) → (length log == old) ≡ b
-    → Goes KeepsListRule shown moved 0 (v, (no_nib, None)) (λ n. either (n == old) (old + 1) n) (AppendsItem (step 0 old (old + 1) e) (v, (no_nib, None))) ((length log, true) ∷ (0, true) ∷ []) log
+    → Goes KeepsListRule shown_to_clients IsMove 0 (v, (no_nib, None)) (λ n. either (n == old) (old + 1) n) (AppendsItem (step 0 old (old + 1) e) (v, (no_nib, None))) ((length log, true) ∷ (0, true) ∷ []) log
 appends_goes log v e old len may rising pre true is =
     let here : length log ≡ old = grind (arith, nat_tests) in
     let same : v ≡ log = prefix_whole v log pre (omega arith) in
@@ -64,7 +65,7 @@ appends_goes log v e old len may rising pre false is =
 
 -- whatever the book is, the exchange adds the item to all that was seen, or finds that the list is longer
 pub appends_moves : (v : List Shown) (e : Shown) (old : ℕ) → length v ≡ old → MayFollow v e
-    → Moves KeepsListRule shown moved 0 (v, (no_nib, None)) (λ n. either (n == old) (old + 1) n) (AppendsItem (step 0 old (old + 1) e) (v, (no_nib, None)))
+    → Moves KeepsListRule shown_to_clients IsMove 0 (v, (no_nib, None)) (λ n. either (n == old) (old + 1) n) (AppendsItem (step 0 old (old + 1) e) (v, (no_nib, None)))
 appends_moves v e old len may cs log kept pre away =
-    let P : List Cell → Type 0 = λ c. (0 < length c) × ((cell c 0).1 ≡ true) × Goes KeepsListRule shown moved 0 (v, (no_nib, None)) (λ n. either (n == old) (old + 1) n) (AppendsItem (step 0 old (old + 1) e) (v, (no_nib, None))) c log in
+    let P : List Cell → Type 0 = λ c. (0 < length c) × ((cell c 0).1 ≡ true) × Goes KeepsListRule shown_to_clients IsMove 0 (v, (no_nib, None)) (λ n. either (n == old) (old + 1) n) (AppendsItem (step 0 old (old + 1) e) (v, (no_nib, None))) c log in
     subst P (sym kept.words) (omega arith, refl, appends_goes log v e old len may kept.rising pre (length log == old) refl)

@@ -19,16 +19,17 @@ HasRisingLengths (x ∷ y ∷ ys) = (x.length < y.length) × HasRisingLengths (y
 abbrev pub last_item_of : List Shown → Option Shown
 last_item_of list = last_or None list
 
--- the item may be published behind this list: its length is above that of the last item
+-- an item may be published behind a list: its length is above that of the list's last item
 abbrev pub MayFollow : List Shown → Shown → Type 0
 MayFollow list item = IfSome (last_item_of list) (λ last. last.length < item.length)
 
--- of two prefixes of one list the shorter is a prefix of the longer: whether the other one is longer, decides
+-- of two lists the shorter is a prefix of the longer; `is_shorter` says that this is the first one
 abbrev pub ShorterBegins : Bool → (list other : List Shown) → Type 0
 ShorterBegins is_shorter list other =
     MatchBool is_shorter (IsPrefix list other) (IsPrefix other list)
 
--- What contracts see of a publisher, a viewer and a note: which board, and a list of what was published on it, the opening item first.
+-- what contracts see of a publisher, a viewer or a note: which board, and a list of what was
+-- published on it, the opening item first
 pub record KnownBoard : Type 0 where
   -- the book that the board is kept in
   pub board : Book

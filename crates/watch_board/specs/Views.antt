@@ -6,21 +6,21 @@ use Rattle.logbook.specs.Pages.{Book}
 use Rattle.watch_board.specs.declared.last_items.LastItem.{LastItem}
 use Rattle.watch_board.specs.BoardList.{KnownBoard}
 
--- each known list is of the board
+-- each of the lists that are known is one of this board
 abbrev pub AreOfBoard : Book → List KnownBoard → Type 0
 AreOfBoard board [] = Unit {0}
 AreOfBoard board (k ∷ ks) = (k.board ≡ board) × AreOfBoard board ks
 
--- the rule of the copies: whatever is known, is of the board
+-- the rule of the copies: each list that any seat knows is one of the board
 abbrev pub AreAllOfBoard : Book → List (List KnownBoard) → Type 0
 AreAllOfBoard board views =
     (seat : ℕ) (v : List KnownBoard) → get_elem? views seat ≡ some v → AreOfBoard board v
 
--- a list was read, of the board that was known, and is known now
+-- a list was read: it is of the board that was known before, and is known now
 abbrev pub ReadsBoardList : List KnownBoard → KnownBoard → List KnownBoard → Type 0
 ReadsBoardList v seen w = AreOfBoard seen.board v × (w ≡ seen ∷ [])
 
--- something is known, of this board
+-- the first list that is known is one of this board, and there is one
 abbrev pub KnowsOneBoard : Book → List KnownBoard → Type 0
 KnowsOneBoard board [] = ⊥
 KnowsOneBoard board (k ∷ ks) = k.board ≡ board

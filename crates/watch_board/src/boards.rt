@@ -4,7 +4,7 @@ ghost use mathlib.Core.List.{IsPrefix};
 ghost use Rattle.watch_board.specs.BoardList.{MayFollow, HasRisingLengths, last_item_of, initial_item};
 ghost use Rattle.watch_board.specs.Views.{HasOnePendingItem};
 
-use crate::copies::{BoardReader, BoardWriter, append, opened, read, show};
+use crate::copies::{BoardReader, BoardWriter, append, opening_copies, read, show};
 use crate::last_items::LastItem;
 use crate::prefixes::{Count, Prefix};
 use crate::same_board::Tell;
@@ -18,8 +18,8 @@ use std::sync::Wait;
 /// A board with one publisher and one viewer, which together are the board.
 pub struct Board;
 
-/// Puts items on a board. It can't be let go: `close` ends it. Contracts see the board, and the list of
-/// all that was published on it, the opening item first (`specs/BoardList`, `KnownBoard`).
+/// Puts items on a board. It can't be let go: `close` ends it. Contracts see the board, and the
+/// list of all that was published on it, the opening item first (`specs/BoardList`, `KnownBoard`).
 pub struct Publisher {
     count: Count,
     prefix: Prefix,
@@ -39,11 +39,11 @@ impl Model for Publisher {
         × (drop p.copies.behind p.copies.log.items ≡ []) };
 }
 
-/// Views a board. Contracts see the board, and a list of published items, of which all that this viewer
-/// saw or was told of is a prefix.
+/// Views a board. Contracts see the board, and a list of published items, of which all that this
+/// viewer saw or was told of is a prefix.
 #[derive(Drop)]
 pub struct Viewer {
-    /// None once no writer was found.
+    /// The reader of the copies. None once no writer was found.
     reader: Option<BoardReader>,
     last: LastItem,
 }
@@ -58,7 +58,8 @@ impl Model for Viewer {
 
     ghost view = { λ v. v.last.prefix };
 
-    ghost invariant = { λ v. IfSome v.reader (λ r. KnowsOneBoard v.last.prefix.board (known_at r.place)) };
+    ghost invariant = { λ v. IfSome v.reader
+        (λ r. KnowsOneBoard v.last.prefix.board (known_at r.place)) };
 }
 
 /// Word of what was published. Contracts see the board, and the list that ends with the item.
@@ -76,8 +77,8 @@ impl Model for Note {
 }
 
 impl Board {
-    /// A board that shows the opening item, of length 0 and without a reply: its publisher and its viewer.
-    /// It waits for nobody.
+    /// A board that shows the opening item, of length 0 and without a reply: its publisher and its
+    /// viewer. It waits for nobody.
     ///
     /// # Errors
     ///
@@ -87,7 +88,7 @@ impl Board {
         ensures same { IfOk result (λ r. r.1 ≡ r.0) }
     {
         let (count, prefix) = Prefix::open();
-        let mut copies = opened(rt, alloc, &prefix)?;
+        let mut copies = opening_copies(rt, alloc, &prefix)?;
         let Ok(mut reader) = copies.factory().reader() else {
             drop(copies.take(rt));
             return Err(AllocError);
@@ -107,7 +108,8 @@ impl Board {
 }
 
 impl Publisher {
-    /// Puts an item on the board, whose length is above that of the last one. It may wait for the viewer.
+    /// Puts an item on the board, whose length is above that of the last one. It may wait for the
+    /// viewer.
     ///
     /// # Errors
     ///
@@ -141,7 +143,7 @@ impl Publisher {
         Ok(Note { last })
     }
 
-    /// Ends the board, of which both are. It may wait.
+    /// Ends the board, of which publisher and viewer are. It may wait.
     pub fn close<R: Wait>(self, rt: &R, viewer: Viewer)
         requires { viewer.board ≡ self.board }
     {
@@ -156,8 +158,8 @@ impl Publisher {
 }
 
 impl Viewer {
-    /// The last item of a list of which all that this viewer saw or was told of is a prefix; the viewer
-    /// has then seen that list. It waits for nobody, and takes no memory.
+    /// The last item of a list of which all that this viewer saw or was told of is a prefix; the
+    /// viewer has then seen that list. It waits for nobody, and takes no memory.
     pub fn view(&mut self) -> Shown
         ensures board { self.new.board ≡ self.old.board }
         ensures seen { IsPrefix self.old.list self.new.list }

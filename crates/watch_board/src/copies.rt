@@ -16,13 +16,19 @@ use std::alloc::{AllocError, Global};
 use std::collections::LinkedList;
 use std::sync::Wait;
 
+/// The writer of the copies: the publisher has it.
 pub type BoardWriter = Writer<LastItem, LastItem, LinkedList<Prefix>, SameBoard>;
 
+/// The reader of the copies: the viewer has it.
 pub type BoardReader = Reader<LastItem, LinkedList<Prefix>, SameBoard>;
 
-/// Copies that show the opening item, whose writer knows the board. No reader is there yet, so it waits
-/// for nobody.
-pub fn opened<R: Wait>(rt: &R, alloc: Global, prefix: &Prefix) -> Result<BoardWriter, NoMemory>
+/// Copies that show the opening item, whose writer knows the board. No reader is there yet, so it
+/// waits for nobody.
+pub fn opening_copies<R: Wait>(
+    rt: &R,
+    alloc: Global,
+    prefix: &Prefix,
+) -> Result<BoardWriter, NoMemory>
     requires { prefix.now.list ≡ initial_item ∷ [] }
     ensures clear { IfOk result (λ c. drop c.behind c.log.items ≡ []) }
     ensures board { IfOk result (λ c. c.desk.shown.value.prefix.board ≡ prefix.now.board) }
@@ -30,7 +36,8 @@ pub fn opened<R: Wait>(rt: &R, alloc: Global, prefix: &Prefix) -> Result<BoardWr
 {
     let item = LastItem::new(Shown::opening(), prefix.copied());
     let copies = Writer::new(alloc, item.copied(), item.copied(), 1)?;
-    // shown twice, as each copy takes an item in after the other: the room for both is there from now on
+    // shown twice, as each copy takes an item in after the other: the room for both is there from
+    // now on
     let copies = show_first(rt, copies, item.copied())?;
     show_first(rt, copies, item)
 }
@@ -85,7 +92,8 @@ pub fn show<R: Wait>(copies: BoardWriter, rt: &R) -> BoardWriter
     copies
 }
 
-/// Takes in the item that the copies show. None, with the reader let go, where there is no writer any more.
+/// Takes in the item that the copies show. None, with the reader let go, where there is no writer
+/// any more.
 pub fn read(reader: BoardReader, last: &mut LastItem) -> Option<BoardReader>
     requires { KnowsOneBoard last.old.prefix.board (view reader.place) }
     ensures board { last.new.prefix.board ≡ last.old.prefix.board }

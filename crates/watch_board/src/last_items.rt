@@ -24,7 +24,7 @@ impl LastItem {
         LastItem { shown, prefix }
     }
 
-    /// The same once more. It takes no memory.
+    /// The same item and prefix once more. It takes no memory.
     pub fn copied(&self) -> LastItem
         ensures { result ≡ self.now }
     {

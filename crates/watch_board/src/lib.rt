@@ -1,4 +1,5 @@
-//! A board on which one thread shows items and another views the last one, with no lock between them.
+//! A board on which one thread shows items and another views the last one, with no lock between
+//! them.
 #![tactic(auto)]
 
 mod boards;

@@ -54,7 +54,8 @@ impl Plain<Shown, Shown, u64> for Append {
     ghost state = { λ item. None };
 }
 
-/// The word that counts the items of a board's list. The publisher alone has it. Contracts see the board.
+/// The word that counts the items of a board's list. The publisher alone has it. Contracts see the
+/// board.
 #[derive(Drop)]
 pub struct Count {
     word: Word<Shown, u64, RisingList>,
@@ -72,7 +73,8 @@ impl Model for Count {
     ghost invariant = { λ c. c.word ≡ item_count_word c.word.book };
 }
 
-/// A prefix of a board's list. It has no bytes but its length. Contracts see the board and the prefix.
+/// A prefix of a board's list. It has no bytes but its length. Contracts see the board and the
+/// prefix.
 #[derive(Drop)]
 pub struct Prefix {
     items: u64,
@@ -111,7 +113,8 @@ impl Prefix {
         }
     }
 
-    /// Whether the other one is longer. Of two prefixes of one list the shorter is a prefix of the longer.
+    /// Whether the other one is longer. Of two prefixes of one list the shorter is a prefix of the
+    /// longer.
     pub fn is_shorter(&self, other: &Prefix) -> bool
         requires { self.now.board ≡ other.now.board }
         ensures { ShorterBegins result self.now.list other.now.list }
@@ -121,8 +124,8 @@ impl Prefix {
         self.items < other.items
     }
 
-    /// The list with one item more, where this is the whole list. None where it isn't, or where the items
-    /// couldn't be counted any more.
+    /// The list with one item more, where this is the whole list. None where it isn't, or where the
+    /// items couldn't be counted any more.
     pub fn with(&self, count: &Count, item: &Shown) -> Option<Prefix>
         requires board { count.now ≡ self.now.board }
         requires rises { MayFollow self.now.list item.now }

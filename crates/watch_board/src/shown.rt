@@ -7,7 +7,10 @@ use var_access::Reply;
 /// An item of a board: the number of an entry in a history, from 1, and what it was answered.
 #[derive(Debug, Drop, PartialEq, Eq)]
 pub struct Shown {
+    /// The number of the entry, which is the length of the history that ends with it; 0 in the
+    /// opening item.
     pub length: u64,
+    /// What the entry was answered. None in the opening item.
     pub reply: Option<Reply>,
 }
 
@@ -27,7 +30,8 @@ impl Shown {
         ensures { result ≡ self.now }
     {
         let length = self.length;
-        // each case makes its item in one piece: a reply that is moved is moved with its room for records
+        // each case makes its item in one piece: a reply that is moved is moved with its room for
+        // records
         match &self.reply {
             None => Shown {
                 length,

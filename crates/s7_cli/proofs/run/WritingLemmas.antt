@@ -10,13 +10,13 @@ use Rattle.plc_io.specs.Taken.{TookBytes, TookPrefix, WroteText}
 use Rattle.plc_io.specs.declared.faults.IoFault.{IoFault}
 use Rattle.plc_io.specs.declared.faults.IoFault.TheVariants.{Failed, NoMemory}
 
-joined : (a b c : Option (List ℕ)) (s t : List ℕ) → b ≡ option_map (λ had. had ++ s) a → c ≡ option_map (λ had. had ++ t) b
+texts_joined : (a b c : Option (List ℕ)) (s t : List ℕ) → b ≡ option_map (λ had. had ++ s) a → c ≡ option_map (λ had. had ++ t) b
     → c ≡ option_map (λ had. had ++ (s ++ t)) a
-joined None b c s t first second = grind (arith, common_steps)
-joined (Some had) b c s t first second = grind (arith, common_steps)
+texts_joined None b c s t first second = grind (arith, common_steps)
+texts_joined (Some had) b c s t first second = grind (arith, common_steps)
 
 took-++ : (a b c : SinkAt) (s t : List ℕ) → TookBytes a b s → TookBytes b c t → TookBytes a c (s ++ t)
-took-++ a b c s t first second = joined a.taken b.taken c.taken s t first second
+took-++ a b c s t first second = texts_joined a.taken b.taken c.taken s t first second
 
 took-prefix : (a b c : SinkAt) (s t : List ℕ) → TookBytes a b s → TookPrefix b c t → TookPrefix a c (s ++ t)
 took-prefix a b c s t first (n, second) =

@@ -14,7 +14,11 @@ use std::alloc::Global;
 use var_access::Entries;
 
 /// A controller at its start, with room for so many entries.
-pub fn started(alloc: Global, program: Loaded, entries: u64) -> Result<Controller, IoFault>
+pub fn controller_at_start(
+    alloc: Global,
+    program: Loaded,
+    entries: u64,
+) -> Result<Controller, IoFault>
     ensures ok { IfOk result (λ c. c ≡ record {
       program = program.program;
       profile = program.profile;
@@ -48,7 +52,7 @@ pub fn replay_text<K: Sink>(
     ensures { WroteText (K.shown out.old) (K.shown out.new)
         (run_text program.profile (code_of program.program) entries.now.entries) result }
 {
-    let mut controller = started(alloc, program, entries.len())?;
+    let mut controller = controller_at_start(alloc, program, entries.len())?;
     let mut text = Vec::new(alloc);
     write_entries(&mut controller, entries, out, &mut text)?;
     write_closing(out, &controller)

@@ -2,14 +2,14 @@ use Rattle.std.proofs.Common.{◌≤◌, ap, refl, sym, ◌∙◌, subst, List, 
 use Rattle.std.specs.Option.{option_map}
 use Rattle.std.proofs.lemmas.Result.{err_from_is_err_and}
 use Rattle.s7_cli.specs.declared.failures.File.TheVariants.{History}
-use Rattle.s7_cli.specs.Command.{Go, Input, program_inputs}
+use Rattle.s7_cli.specs.Command.{Go, InputFile, program_inputs}
 use Rattle.s7_cli.specs.Texts.{file_contents_of}
 use Rattle.s7_cli.proofs.ComesLemmas.{behind-more, comes-unread, file-unread, unread-then}
 use Rattle.s7_cli.proofs.SaysLemmas.{within}
 use Rattle.s7_cli.proofs.going.go.Goals as goal
 
 -- the history among the input files
-abbrev history_input : List ℕ → Input
+abbrev history_input : List ℕ → InputFile
 history_input name = record { file = History; name = name }
 
 abbrev bytes_of : Vec ℕ Global → List ℕ
@@ -29,8 +29,8 @@ pub returns-in_err-history : goal.returns-in_err-history
 returns-in_err-history g c =
     let fault = err_from_is_err_and c.from_residual-in_err-history.result c.from_residual-in_err-history.ensures.1 in
     let symbols : Option (List ℕ) = option_map (λ s. s.now) c.args.symbols in
-    let inputs : List Input = program_inputs c.args.src.now symbols in
-    let last : Input = history_input c.args.hist.now in
+    let inputs : List InputFile = program_inputs c.args.src.now symbols in
+    let last : InputFile = history_input c.args.hist.now in
     comes-unread alone (Go c.args.src.now symbols c.args.german c.args.hist.now) _ _ _ (inputs ++ last ∷ []) []
     _ _ (sym (append-nil (inputs ++ last ∷ []))) (fault.1 ∙ ap Err fault.2)
     (unread-then alone alone _ _ _ inputs (last ∷ []) (file_contents_of c.in_ok-text.text) _ _ refl c.in_ok-text.ensures

@@ -12,7 +12,7 @@ use Rattle.event_text.specs.Texts.{history_of_text}
 use Rattle.s7_cli.specs.run_text.RunText.{run_text}
 use Rattle.s7_cli.specs.declared.failures.File.TheVariants.{History}
 use Rattle.s7_cli.specs.Answer.{CallAnswer, done_answer}
-use Rattle.s7_cli.specs.Command.{Go, Input}
+use Rattle.s7_cli.specs.Command.{Go, InputFile}
 use Rattle.s7_cli.specs.Ends.{sink_moments}
 use Rattle.s7_cli.specs.Inner.{TextWritten}
 use Rattle.s7_cli.specs.Says.{GoSays, SourceSays, go_answer}
@@ -25,7 +25,7 @@ use Rattle.s7_cli.proofs.TranslatingLemmas.{in-english}
 use Rattle.s7_cli.proofs.going.go_along.Goals as goal
 
 -- the history among the input files
-abbrev history_input : List ℕ → Input
+abbrev history_input : List ℕ → InputFile
 history_input name = record { file = History; name = name }
 
 pub returns-in_err-program : goal.returns-in_err-program
@@ -54,7 +54,7 @@ returns g c src hist symbols at start read =
     (in-english c.args.german text.source.items (symbols_text_of text) keeps.0 read_as.0 (λ t. SourceSays language Large t (symbols_text_of text) history)
     (done_answer (run_text Large runs.0 entries)) read_as.1 keeps.1 (Ok runs.0, runs.1, ap (go_answer Large (Ok runs.0)) (sym spells))))
     (subst
-    (λ (t : List ℕ). TextWritten t (sink_moments (g.K.Sink.shown c.args.out.now) (g.K.Sink.shown c.replay_text.new.out)) c.written.result)
+    (λ (t : List ℕ). TextWritten t (sink_moments (g.K.Sink.shown c.args.out.now) (g.K.Sink.shown c.replay_text.new.out)) c.outcome_of_write.result)
     (ap (λ (f : Profile). run_text f running entries) c.in_ok-program.ensures.large
     ∙ texts-kept c.continues_replay.ensures.state Large runs.0 running runs.2 entries)
-    (c.written.ensures _ _ _ c.replay_text.ensures))
+    (c.outcome_of_write.ensures _ _ _ c.replay_text.ensures))

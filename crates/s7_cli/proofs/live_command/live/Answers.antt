@@ -1,6 +1,6 @@
 use Rattle.std.proofs.Common.{◌∙◌, ap, sym, [], ℕ, List, Err, append-nil, arith, length, map, refl}
 use Rattle.std.proofs.lemmas.Result.{err_from_is_err_and}
-use Rattle.s7_cli.specs.Command.{Input, Live, live_inputs}
+use Rattle.s7_cli.specs.Command.{InputFile, Live, live_inputs}
 use Rattle.s7_cli.specs.LiveTexts.{live_contents, scripts_of}
 use Rattle.s7_cli.proofs.ComesLemmas.{comes-unread}
 use Rattle.s7_cli.proofs.LiveLemmas.{live-within}
@@ -11,7 +11,7 @@ pub returns-in_err-text : goal.returns-in_err-text
 returns-in_err-text g c =
     let fault = err_from_is_err_and c.from_residual.result c.from_residual.ensures.1 in
     let ops : List (List ℕ) = map (λ w. w.now) c.args.ops.now in
-    let inputs : List Input = live_inputs c.args.img.now c.args.stim.now ops in
+    let inputs : List InputFile = live_inputs c.args.img.now c.args.stim.now ops in
     comes-unread live_contents (Live c.args.img.now c.args.stim.now ops c.args.steps) _ _ _ inputs [] _ _ (sym (append-nil inputs))
     (fault.1 ∙ ap Err fault.2) c.in_err-text.ensures
 

@@ -19,4 +19,4 @@ pub returns : goal.returns
 returns g c img stim ops at start read =
     let made = c.in_ok-controller.controller in
     comes-written (Live img stim ops c.args.steps) start at _ (live_contents c.args.text.now) (live_text (program_of_recording made) made.history) _ refl
-    read c.in_ok-controller.ensures.says (c.written.ensures _ _ _ c.write_live.ensures)
+    read c.in_ok-controller.ensures.says (c.outcome_of_write.ensures _ _ _ c.write_live.ensures)

@@ -1,15 +1,15 @@
 use Rattle.std.proofs.Common.{◌≤◌, ap, refl, sym, ◌∙◌, subst, List, [], ◌∷◌, length, ℕ, Vec, Global, Err, arith}
 use Rattle.std.proofs.lemmas.Result.{err_from_is_err_and}
 use Rattle.s7_cli.specs.declared.failures.File.TheVariants.{Image, Certificate}
-use Rattle.s7_cli.specs.Command.{Recheck, Input}
+use Rattle.s7_cli.specs.Command.{Recheck, InputFile}
 use Rattle.s7_cli.proofs.ComesLemmas.{behind-two, comes-unread, file-read, file-unread, unread-then}
 use Rattle.s7_cli.proofs.recheck_command.recheck.Goals as goal
 
 -- the two input files
-abbrev image_input : List ℕ → Input
+abbrev image_input : List ℕ → InputFile
 image_input name = record { file = Image; name = name }
 
-abbrev certificate_input : List ℕ → Input
+abbrev certificate_input : List ℕ → InputFile
 certificate_input name = record { file = Certificate; name = name }
 
 abbrev bytes_of : Vec ℕ Global → List ℕ
@@ -21,7 +21,7 @@ alone v = v.items ∷ []
 pub returns-in_err-image : goal.returns-in_err-image
 returns-in_err-image g c =
     let fault = err_from_is_err_and c.from_residual.result c.from_residual.ensures.1 in
-    let first : Input = image_input c.args.img.now in
+    let first : InputFile = image_input c.args.img.now in
     comes-unread alone (Recheck c.args.img.now c.args.cert.now) _ _ _ (first ∷ []) (certificate_input c.args.cert.now ∷ []) _ _ refl
     (fault.1 ∙ ap Err fault.2)
     (file-unread bytes_of alone _ first _ _ refl c.in_err-image.ensures)
@@ -29,8 +29,8 @@ returns-in_err-image g c =
 pub returns-in_err-certificate : goal.returns-in_err-certificate
 returns-in_err-certificate g c =
     let fault = err_from_is_err_and c.from_residual-in_err-certificate.result c.from_residual-in_err-certificate.ensures.1 in
-    let first : Input = image_input c.args.img.now in
-    let last : Input = certificate_input c.args.cert.now in
+    let first : InputFile = image_input c.args.img.now in
+    let last : InputFile = certificate_input c.args.cert.now in
     comes-unread alone (Recheck c.args.img.now c.args.cert.now) _ _ _ (first ∷ last ∷ []) [] _ _ refl
     (fault.1 ∙ ap Err fault.2)
     (unread-then alone alone _ _ _ (first ∷ []) (last ∷ []) (c.in_ok-image.image.items ∷ []) _ _ refl

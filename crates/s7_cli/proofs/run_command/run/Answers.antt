@@ -1,15 +1,15 @@
 use Rattle.std.proofs.Common.{◌≤◌, ap, refl, sym, ◌∙◌, subst, List, [], ◌∷◌, length, ℕ, Vec, Global, Err}
 use Rattle.std.proofs.lemmas.Result.{err_from_is_err_and}
 use Rattle.s7_cli.specs.declared.failures.File.TheVariants.{Image, History}
-use Rattle.s7_cli.specs.Command.{Run, Input}
+use Rattle.s7_cli.specs.Command.{Run, InputFile}
 use Rattle.s7_cli.proofs.ComesLemmas.{behind-two, comes-unread, file-read, file-unread, unread-then}
 use Rattle.s7_cli.proofs.run_command.run.Goals as goal
 
 -- the two input files
-abbrev image_input : List ℕ → Input
+abbrev image_input : List ℕ → InputFile
 image_input name = record { file = Image; name = name }
 
-abbrev history_input : List ℕ → Input
+abbrev history_input : List ℕ → InputFile
 history_input name = record { file = History; name = name }
 
 abbrev bytes_of : Vec ℕ Global → List ℕ
@@ -21,7 +21,7 @@ alone v = v.items ∷ []
 pub returns-in_err-image : goal.returns-in_err-image
 returns-in_err-image g c =
     let fault = err_from_is_err_and c.from_residual.result c.from_residual.ensures.1 in
-    let first : Input = image_input c.args.img.now in
+    let first : InputFile = image_input c.args.img.now in
     comes-unread alone (Run c.args.img.now c.args.hist.now) _ _ _ (first ∷ []) (history_input c.args.hist.now ∷ []) _ _ refl
     (fault.1 ∙ ap Err fault.2)
     (file-unread bytes_of alone _ first _ _ refl c.in_err-image.ensures)
@@ -29,8 +29,8 @@ returns-in_err-image g c =
 pub returns-in_err-history : goal.returns-in_err-history
 returns-in_err-history g c =
     let fault = err_from_is_err_and c.from_residual-in_err-history.result c.from_residual-in_err-history.ensures.1 in
-    let first : Input = image_input c.args.img.now in
-    let last : Input = history_input c.args.hist.now in
+    let first : InputFile = image_input c.args.img.now in
+    let last : InputFile = history_input c.args.hist.now in
     comes-unread alone (Run c.args.img.now c.args.hist.now) _ _ _ (first ∷ last ∷ []) [] _ _ refl
     (fault.1 ∙ ap Err fault.2)
     (unread-then alone alone _ _ _ (first ∷ []) (last ∷ []) (c.in_ok-image.image.items ∷ []) _ _ refl

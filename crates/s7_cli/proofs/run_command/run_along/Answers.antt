@@ -23,4 +23,4 @@ returns g c img hist at start read =
     let entries = c.in_ok-program.entries.entries in
     comes-written (Run img hist) start at _ (c.args.image.now ∷ c.args.history.now ∷ []) (run_text l.profile (code_of l.program) entries) _ refl read
     (Ok l, c.in_ok-program.ensures.loads, ap (run_loaded_answer l) (sym c.in_ok-program.ensures.spells))
-    (c.written.ensures _ _ _ c.replay_text.ensures)
+    (c.outcome_of_write.ensures _ _ _ c.replay_text.ensures)

@@ -1,6 +1,6 @@
 use Rattle.std.proofs.Common.{◌∙◌, ap, refl, sym, [], ℕ, List, Err, append-nil, arith, length, map}
 use Rattle.std.proofs.lemmas.Result.{err_from_is_err_and}
-use Rattle.s7_cli.specs.Command.{Input, Watch, watch_inputs}
+use Rattle.s7_cli.specs.Command.{InputFile, Watch, watch_inputs}
 use Rattle.s7_cli.specs.WatchTexts.{watch_contents, watch_scripts}
 use Rattle.s7_cli.proofs.ComesLemmas.{comes-unread}
 use Rattle.s7_cli.proofs.PassLemmas.{length_items}
@@ -11,7 +11,7 @@ pub returns-in_err-text : goal.returns-in_err-text
 returns-in_err-text g c =
     let fault = err_from_is_err_and c.from_residual.result c.from_residual.ensures.1 in
     let ops : List (List ℕ) = map (λ w. w.now) c.args.ops.now in
-    let inputs : List Input = watch_inputs c.args.img.now c.args.stim.now c.args.vars.now ops in
+    let inputs : List InputFile = watch_inputs c.args.img.now c.args.stim.now c.args.vars.now ops in
     comes-unread watch_contents (Watch c.args.img.now c.args.stim.now c.args.vars.now ops c.args.steps) _ _ _ inputs [] _ _ (sym (append-nil inputs))
     (fault.1 ∙ ap Err fault.2) c.in_err-text.ensures
 

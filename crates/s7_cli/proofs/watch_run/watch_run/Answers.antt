@@ -30,8 +30,8 @@ watch_station-pass-requires-clause-fresh g c κs within =
     last_fresh c.in_ok-station.station c.last_pass-last.result
     (last_of_six c.in_ok-station.station _ c.last_pass-last.new.passes.items c.last_pass-last.result c.in_ok-station.ensures.passes c.last_pass-last.ensures).1
 
-pub ended-requires-clause-all : goal.ended-requires-clause-all
-ended-requires-clause-all g c =
+pub controller_at_end-requires-clause-all : goal.controller_at_end-requires-clause-all
+controller_at_end-requires-clause-all g c =
     let r = c.watch_station-pass.result in
     let xs = map (λ v. v.items) c.args.scripts.items in
     let many = length_items (λ v. v.items) c.args.scripts.items in
@@ -39,8 +39,8 @@ ended-requires-clause-all g c =
     watch_missing c.in_ok-station.station c.args.steps c.args.stimuli.now xs _ c.args.vars.now r.0 (is_ok r.1) _ c.last_pass-last.new.passes.items c.last_pass-last.result
     c.in_ok-station.ensures.passes c.last_pass-last.ensures pad (omega (arith, many, c.requires.some.1)) c.watch_station-pass.ensures.made c.in_ok-station.ensures.station.1
 
-pub ended-requires-clause-room : goal.ended-requires-clause-room
-ended-requires-clause-room g c d back =
+pub controller_at_end-requires-clause-room : goal.controller_at_end-requires-clause-room
+controller_at_end-requires-clause-room g c d back =
     let r = c.watch_station-pass.result in
     let xs = map (λ v. v.items) c.args.scripts.items in
     let many = length_items (λ v. v.items) c.args.scripts.items in

@@ -6,7 +6,7 @@ use Rattle.s7_cli.proofs.MatchLemmas.{command_of-found, command_of-refused}
 use Rattle.s7_cli.proofs.words.read_words.Goals as goal
 
 pub returns-in-Ok : goal.returns-in-Ok
-returns-in-Ok c = c.asked_by.ensures ∙ command_of-found _ _ c.in-Ok.ensures.fails c.in-Ok.ensures.finds
+returns-in-Ok c = c.command_of_rows.ensures ∙ command_of-found _ _ c.in-Ok.ensures.fails c.in-Ok.ensures.finds
 
 pub returns-in-Err : goal.returns-in-Err
 returns-in-Err c =

@@ -18,8 +18,8 @@ returns-in-Ok-clause-ok c =
       subst (λ (r : Recording). IsGivenBack (the_opening c.args.self.origin) r c.args.p) (sym c.into_controller.ensures) record {
         program = ap (λ (o : Opening). o.program) origin;
         profile = ap (λ (o : Opening). o.profile) origin;
-        story = drop s.opened history;
-        history = sym (take-append-drop s.opened history) ∙ ap (λ (l : List Entry). l ++ drop s.opened history) (ap (λ (o : Opening). o.first) origin);
+        story = drop s.opening_len history;
+        history = sym (take-append-drop s.opening_len history) ∙ ap (λ (l : List Entry). l ++ drop s.opening_len history) (ap (λ (o : Opening). o.first) origin);
         begins = e.seen;
         made = e.made;
         all = e.no_others;

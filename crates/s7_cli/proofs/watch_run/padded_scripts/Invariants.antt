@@ -1,5 +1,5 @@
 use Rattle.std.proofs.Common.{◌≡◌, ◌-◌, ◌++◌, [], length, map, replicate}
-use Rattle.s7_cli.proofs.watch_run.padded.Given as goal
+use Rattle.s7_cli.proofs.watch_run.padded_scripts.Given as goal
 
 -- the lists so far, and those that are left to come, make up the whole
 abbrev pub invariant-loop : goal.invariant-loop

@@ -5,7 +5,7 @@ use Rattle.s7_cli.specs.declared.command_checks.LiveWork.{LiveWork}
 use Rattle.s7_cli.specs.LiveTexts.{LiveTextSays}
 use Rattle.s7_cli.specs.Living.{IsLive}
 use Rattle.s7_cli.proofs.LiveLemmas.{live-said, refused-on}
-use Rattle.s7_cli.proofs.live_command.lived.Goals as goal
+use Rattle.s7_cli.proofs.live_command.live_controller.Goals as goal
 
 pub returns-in_err-program-clause-refused : goal.returns-in_err-program-clause-refused
 returns-in_err-program-clause-refused g c =

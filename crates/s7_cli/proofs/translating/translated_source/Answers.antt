@@ -2,7 +2,7 @@ use Rattle.std.proofs.Common.{◌∙◌, ap, arith, refl, subst, ℕ, Result, Ve
 use Rattle.plc_base.specs.declared.refusals.SourceFault.{SourceFault}
 use Rattle.de_mnemonics.specs.Translation.{IsTranslationRefused}
 use Rattle.s7_cli.proofs.TranslatingLemmas.{long-translation}
-use Rattle.s7_cli.proofs.translating.translated.Goals as goal
+use Rattle.s7_cli.proofs.translating.translated_source.Goals as goal
 
 pub returns-in-Ok-2-clause-refused : goal.returns-in-Ok-2-clause-refused
 returns-in-Ok-2-clause-refused c =

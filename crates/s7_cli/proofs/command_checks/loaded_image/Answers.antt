@@ -1,6 +1,6 @@
 use Rattle.std.proofs.Common.{arith}
 use Rattle.std.proofs.lemmas.Result.{IfOk-weaker}
-use Rattle.s7_cli.proofs.command_checks.loaded.Goals as goal
+use Rattle.s7_cli.proofs.command_checks.loaded_image.Goals as goal
 
 pub returns-clause-loads : goal.returns-clause-loads
 returns-clause-loads c =

@@ -1,6 +1,6 @@
 use Rattle.std.proofs.Common.{◌∙◌}
 use Rattle.s7_cli.proofs.WatchRunLemmas.{padded_many, padded_next}
-use Rattle.s7_cli.proofs.watch_run.padded.Goals as goal
+use Rattle.s7_cli.proofs.watch_run.padded_scripts.Goals as goal
 
 pub loop-preserved : goal.loop-preserved
 loop-preserved c = record {
