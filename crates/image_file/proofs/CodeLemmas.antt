@@ -233,26 +233,26 @@ left_stop ops [] at size e f lt = absurd (omega (arith, lt))
 left_stop ops (b ∷ left) at size e f lt = ap (λ (o : Option ℕ). first_found o (Some (length (code_bytes ops)))) e ∙ ap (λ (n : ℕ). Some n) f
 
 -- what the code has where no op begins: the ops found, and what is left
-record Ended (code : List ℕ) (ops : List OpData) (at : ℕ) : Type 0 where
+record HasNoMoreOps (code : List ℕ) (ops : List OpData) (at : ℕ) : Type 0 where
   ops_are : ops ≡ (ops_from (length code) code).0
   left_is : drop at code ≡ (ops_from (length code) code).1
   few : overlong_statement 0 0 ops ≡ None
 
-read_ended : (code : List ℕ) (ops : List OpData) (at last count : ℕ) (ended : Bool) → op_at (drop at code) ≡ None → HasReadOps code ops at last ended count → Ended code ops at
+read_ended : (code : List ℕ) (ops : List OpData) (at last count : ℕ) (ended : Bool) → op_at (drop at code) ≡ None → HasReadOps code ops at last ended count → HasNoMoreOps code ops at
 read_ended code ops at last count ended none h =
     let p = ops_stop code ops at (ops_from (length code) code) none h.all in
     let nothing : (ops_from (length code) (drop at code)).0 ≡ [] = ap (λ (r : List OpData × List ℕ). r.0) (nothing_more (length code) (drop at code) none) in
     let few : overlong_statement 0 0 (ops_from (length code) code).0 ≡ None = h.few ∙ ap (overlong_statement count at) nothing in
     record { ops_are = p.0; left_is = p.1; few = ap (overlong_statement 0 0) p.0 ∙ few }
 
-abbrev Stops : List ℕ → Option ℕ → Type 0
-Stops code fault = fault ≡ stop_at true (ops_from (length code) code).0 (ops_from (length code) code).1
+abbrev IsCodeStop : List ℕ → Option ℕ → Type 0
+IsCodeStop code fault = fault ≡ stop_at true (ops_from (length code) code).0 (ops_from (length code) code).1
 
-stop_for : (code : List ℕ) (ops : List OpData) (at : ℕ) → Ended code ops at → stop_at true (ops_from (length code) code).0 (ops_from (length code) code).1 ≡ stop_at true ops (drop at code)
+stop_for : (code : List ℕ) (ops : List OpData) (at : ℕ) → HasNoMoreOps code ops at → stop_at true (ops_from (length code) code).0 (ops_from (length code) code).1 ≡ stop_at true ops (drop at code)
 stop_for code ops at e = rw (← e.ops_are, ← e.left_is) refl
 
 -- bytes that begin no op
-pub read_bad : (code : List ℕ) (ops : List OpData) (at last count : ℕ) (ended : Bool) → op_at (drop at code) ≡ None → at < length code → HasReadOps code ops at last ended count → Stops code (Some at)
+pub read_bad : (code : List ℕ) (ops : List OpData) (at last count : ℕ) (ended : Bool) → op_at (drop at code) ≡ None → at < length code → HasReadOps code ops at last ended count → IsCodeStop code (Some at)
 read_bad code ops at last count ended none lt h =
     let e = read_ended code ops at last count ended none h in
     sym (stop_for code ops at e ∙ left_stop ops (drop at code) at at e.few h.size (omega (arith, length-drop at code)))
@@ -268,9 +268,9 @@ whole_stop code ops at last count ended none le h =
     ∙ rw (← h.ended, ← h.last) refl
 
 -- code whose last op isn't BE with the end mark
-pub read_open : (code : List ℕ) (ops : List OpData) (at last count : ℕ) (ended : Bool) → op_at (drop at code) ≡ None → length code ≤ at → ended ≡ false → HasReadOps code ops at last ended count → Stops code (Some last)
+pub read_open : (code : List ℕ) (ops : List OpData) (at last count : ℕ) (ended : Bool) → op_at (drop at code) ≡ None → length code ≤ at → ended ≡ false → HasReadOps code ops at last ended count → IsCodeStop code (Some last)
 read_open code ops at last count ended none le open_is h = sym (whole_stop code ops at last count ended none le h ∙ rw open_is refl)
 
-pub read_whole : (code : List ℕ) (ops : List OpData) (at last count : ℕ) (ended : Bool) → op_at (drop at code) ≡ None → length code ≤ at → ended ≡ true → HasReadOps code ops at last ended count → Stops code None × (ops ≡ (ops_from (length code) code).0)
+pub read_whole : (code : List ℕ) (ops : List OpData) (at last count : ℕ) (ended : Bool) → op_at (drop at code) ≡ None → length code ≤ at → ended ≡ true → HasReadOps code ops at last ended count → IsCodeStop code None × (ops ≡ (ops_from (length code) code).0)
 read_whole code ops at last count ended none le ended_is h =
     (sym (whole_stop code ops at last count ended none le h ∙ rw ended_is refl), (read_ended code ops at last count ended none h).ops_are)
