@@ -178,7 +178,7 @@ impl Signatures {
                 self.table.as_slice(),
                 number_key + 1,
             ),
-            _ => searched(self.list.as_slice(), kind, number),
+            _ => block_by_search(self.list.as_slice(), kind, number),
         }
     }
 }
@@ -205,7 +205,7 @@ fn callee_at(blocks: &[SignatureRead], place: usize) -> Option<(u8, u16, &[Param
 }
 
 /// The first block of a kind and number: its kind, the bytes of an instance, its parameters.
-fn searched(
+fn block_by_search(
     blocks: &[SignatureRead],
     kind: u8,
     number: u16,

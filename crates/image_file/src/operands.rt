@@ -101,7 +101,7 @@ fn is_in_db(operand: Operand) -> bool
 }
 
 /// The op that ends the statement of an op.
-pub(crate) fn ending(op: &Op, rest: &[Op]) -> Op
+pub(crate) fn ending_op(op: &Op, rest: &[Op]) -> Op
     ensures { result ≡ ending_op op.now rest.now }
 {
     let mut last = *op;
