@@ -180,17 +180,17 @@ loads text bs ds stamp ns are none h =
 
 -- ---- bytes that were read and checked
 
-abbrev Found : List ℕ → Reader → Option FoundRead → Type 0
-Found text r found = HasFound text (map located_block r.blocks.items) (option_map (λ v. v.items) r.datas) (option_map found_values found)
+abbrev ReaderHasFound : List ℕ → Reader → Option FoundRead → Type 0
+ReaderHasFound text r found = HasFound text (map located_block r.blocks.items) (option_map (λ v. v.items) r.datas) (option_map found_values found)
 
 no_faults_by : (text : List ℕ) (least : Option LoadFault) → least ≡ with_faults None (faults_of text) → least ≡ None → faults_of text ≡ []
 no_faults_by text least e none = none_left (faults_of text) (sym e ∙ none)
 
-pub image_there : (text : List ℕ) (least : Option LoadFault) (r : Reader) (found : Option FoundRead) → least ≡ with_faults None (faults_of text) → Found text r found → least ≡ None → IsSome found
+pub image_there : (text : List ℕ) (least : Option LoadFault) (r : Reader) (found : Option FoundRead) → least ≡ with_faults None (faults_of text) → ReaderHasFound text r found → least ≡ None → IsSome found
 image_there text least r None e h none = absurd (never_ends text (map located_block r.blocks.items) (option_map (λ v. v.items) r.datas) (no_faults_by text least e none) h)
 image_there text least r (Some f) e h none = refl
 
-pub datas_there : (text : List ℕ) (least : Option LoadFault) (r : Reader) (found : Option FoundRead) → IsBytes text → least ≡ with_faults None (faults_of text) → Found text r found → least ≡ None → IsSome r.datas
+pub datas_there : (text : List ℕ) (least : Option LoadFault) (r : Reader) (found : Option FoundRead) → IsBytes text → least ≡ with_faults None (faults_of text) → ReaderHasFound text r found → least ≡ None → IsSome r.datas
 datas_there text least r None are e h none = absurd (never_ends text (map located_block r.blocks.items) (option_map (λ v. v.items) r.datas) (no_faults_by text least e none) h)
 datas_there text least r (Some f) are e h none = by r.datas h
   where
@@ -198,7 +198,7 @@ datas_there text least r (Some f) are e h none = by r.datas h
     by None h = absurd (has_datas text (map located_block r.blocks.items) (found_values f) are (no_faults_by text least e none) h)
     by (Some v) h = refl
 
-pub checked_by : (text : List ℕ) (least : Option LoadFault) (r : Reader) (found : Option FoundRead) (j : CheckResult) → least ≡ with_faults None (faults_of text) → Found text r found → HoldsAll least r.blocks.items (option_map (λ v. v.items) r.datas) found j → IsCheckResult text j
+pub checked_by : (text : List ℕ) (least : Option LoadFault) (r : Reader) (found : Option FoundRead) (j : CheckResult) → least ≡ with_faults None (faults_of text) → ReaderHasFound text r found → HoldsAll least r.blocks.items (option_map (λ v. v.items) r.datas) found j → IsCheckResult text j
 checked_by text least r found (outcome.Faulty f) e h all = sym e ∙ all
 checked_by text least r found (outcome.Clean image) e h all = (
   sym e ∙ all.0,

@@ -82,12 +82,12 @@ lines_done least before i lines le = rw (drop_of_length-le lines {i = i} le) ref
 
 -- ---- the least fault of a block
 
-pub coded : (at : ℕ) (environment : Environment) (b : BlockRecord) → code_fault b.code ≡ Some at → Some (record { at = at; code = 5 }) ≡ with_faults None (faults_of_block environment b)
+pub fault_five_alone : (at : ℕ) (environment : Environment) (b : BlockRecord) → code_fault b.code ≡ Some at → Some (record { at = at; code = 5 }) ≡ with_faults None (faults_of_block environment b)
 unfolding with_faults
-coded at environment b e = rw e refl
+fault_five_alone at environment b e = rw e refl
 
-pub uncoded : (first second last : Option LoadFault) (environment : Environment) (b : BlockRecord) → code_fault b.code ≡ None → first ≡ with_faults None (count_faults b) → second ≡ with_faults first (line_faults 0 b.lines) → last ≡ with_faults second (block_faults environment 0 b.code) → last ≡ with_faults None (faults_of_block environment b)
-uncoded first second last environment b none one two three =
+pub faults_without_five : (first second last : Option LoadFault) (environment : Environment) (b : BlockRecord) → code_fault b.code ≡ None → first ≡ with_faults None (count_faults b) → second ≡ with_faults first (line_faults 0 b.lines) → last ≡ with_faults second (block_faults environment 0 b.code) → last ≡ with_faults None (faults_of_block environment b)
+faults_without_five first second last environment b none one two three =
     let lines = line_faults 0 b.lines in
     let ops = block_faults environment 0 b.code in
     three ∙ ap (λ (z : Option LoadFault). with_faults z ops) (two ∙ ap (λ (z : Option LoadFault). with_faults z lines) one ∙ sym (with_more None (count_faults b) lines))

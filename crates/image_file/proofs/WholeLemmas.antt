@@ -469,9 +469,9 @@ verified lens all (b ∷ bs) e =
     let n = nil_parts (block_faults (environment_of_block (Some lens) all b.1) b.0 b.1.code) (op_faults_of_blocks (Some lens) all bs) e in
     (moved (environment_of_block (Some lens) all b.1) b.0 0 b.1.code n.0, verified lens all bs n.1)
 
-unchecked : (lens : List (ℕ × ℕ)) (all : List BlockRecord) (bs : List (ℕ × BlockRecord)) → AreVerified lens all (blocks_of bs) → op_faults_of_blocks (Some lens) all bs ≡ []
-unchecked lens all [] h = refl
-unchecked lens all (b ∷ bs) h = nil_join (moved (environment_of_block (Some lens) all b.1) 0 b.0 b.1.code h.0) (unchecked lens all bs h.1)
+no_faults_where_verified : (lens : List (ℕ × ℕ)) (all : List BlockRecord) (bs : List (ℕ × BlockRecord)) → AreVerified lens all (blocks_of bs) → op_faults_of_blocks (Some lens) all bs ≡ []
+no_faults_where_verified lens all [] h = refl
+no_faults_where_verified lens all (b ∷ bs) h = nil_join (moved (environment_of_block (Some lens) all b.1) 0 b.0 b.1.code h.0) (no_faults_where_verified lens all bs h.1)
 
 pub gives_image : (text : List ℕ) (stamp : Stamp) (p : Program) → IsBytes text → GivesProgram text stamp p → IsLoadable text stamp p
 unfolding faults_of
@@ -498,5 +498,5 @@ image_gives text stamp p are h =
     let clean : faults_in notes ≡ [] = ap (λ (z : List ℕ). faults_in (read_image z).notes) h.spelled ∙ is.clean in
     let m = image_noted text stamp p end are found clean in
     let v : AreVerified (lens_of p.data_blocks) (blocks_of (whole_blocks notes)) (blocks_of (whole_blocks notes)) = subst (λ (z : List BlockRecord). AreVerified (lens_of p.data_blocks) z z) (sym m.codes) h.verifies.blocks in
-    let no_block_faults : op_faults_of_blocks (option_map lens_of (all_blocks notes)) (blocks_of (whole_blocks notes)) (whole_blocks notes) ≡ [] = ap (λ (z : Option (List DataBlock)). op_faults_of_blocks (option_map lens_of z) (blocks_of (whole_blocks notes)) (whole_blocks notes)) m.datas ∙ unchecked (lens_of p.data_blocks) (blocks_of (whole_blocks notes)) (whole_blocks notes) v in
+    let no_block_faults : op_faults_of_blocks (option_map lens_of (all_blocks notes)) (blocks_of (whole_blocks notes)) (whole_blocks notes) ≡ [] = ap (λ (z : Option (List DataBlock)). op_faults_of_blocks (option_map lens_of z) (blocks_of (whole_blocks notes)) (whole_blocks notes)) m.datas ∙ no_faults_where_verified (lens_of p.data_blocks) (blocks_of (whole_blocks notes)) (whole_blocks notes) v in
     record { end = end; found = found; clean = nil_join clean no_block_faults }

@@ -101,8 +101,8 @@ inner_goes stamp total cur log last x end h =
     sym (go_read ((body_layout true).read (cut_cursor total cur)) (end_layout stamp) log ∙ sym (ap (λ (r : RunResult Program). then_run r (λ p end mid. run_of_read (end_layout stamp p end) mid)) (b ∙ run_is_read (body_layout true) (cut_cursor total cur) log)) ∙ end_read stamp (program_of_records x) end last)
 
 -- the condition as the code tests it
-flipped : (a b : ℕ) (n : Bool) (at : ℕ) → n ≡ not (eqb a b) → cond n (Faulty at 10 ∷ []) [] ≡ cond (eqb a b) [] (Faulty at 10 ∷ [])
-flipped a b n at e = ap (λ (z : Bool). cond z (Faulty at 10 ∷ []) []) e ∙ by (eqb a b)
+note_unless_equal : (a b : ℕ) (n : Bool) (at : ℕ) → n ≡ not (eqb a b) → cond n (Faulty at 10 ∷ []) [] ≡ cond (eqb a b) [] (Faulty at 10 ∷ [])
+note_unless_equal a b n at e = ap (λ (z : Bool). cond z (Faulty at 10 ∷ []) []) e ∙ by (eqb a b)
   where
     by : (e : Bool) → cond (not e) (Faulty at 10 ∷ []) [] ≡ cond e [] (Faulty at 10 ∷ [])
     by true = refl
@@ -111,15 +111,15 @@ flipped a b n at e = ap (λ (z : Bool). cond z (Faulty at 10 ∷ []) []) e ∙ b
 pub rest_stops : {X : Type 0} (view : X → List NameRecord) (e : Stop) (r : Reader) (stamp : Stamp) (size total : ℕ) (differ : Bool) (cur place : Cursor) (log mid : Log) → 20 ≤ total → total ≤ size → total ≤ 8388608 → differ ≡ not (eqb size total) → mid ≡ log_after log (cond differ (Faulty total 10 ∷ []) []) → place ≡ cut_cursor total cur
     → IsRecordsRun view (Err e) r (run_layout (records_layout true) place mid) → IsImageRun (Err e) r (run_of_read (read_cut_off true stamp size total cur) log)
 rest_stops view stop.AtFault r stamp size total differ cur place log mid low there high d m at_place h =
-    let mid_is : mid ≡ log_after log (cond (eqb size total) [] (Faulty total 10 ∷ [])) = m ∙ ap (log_after log) (flipped size total differ total d) in
+    let mid_is : mid ≡ log_after log (cond (eqb size total) [] (Faulty total 10 ∷ [])) = m ∙ ap (log_after log) (note_unless_equal size total differ total d) in
     inner_stops stamp total cur mid (log_of r) (h ∙ ap (λ (z : Cursor). run_layout (records_layout true) z mid) at_place) ∙ ap (run_of_read (inner stamp total cur)) mid_is ∙ sym (cut_is stamp size total cur log low there high)
 rest_stops view stop.NoMemory r stamp size total differ cur place log mid low there high d m at_place h = tt
 
 pub rest_goes : (stamp : Stamp) (x : Records) (end : Cursor) (size total : ℕ) (differ left : Bool) (cur place : Cursor) (log mid last after : Log) → 20 ≤ total → total ≤ size → total ≤ 8388608 → differ ≡ not (eqb size total) → mid ≡ log_after log (cond differ (Faulty total 10 ∷ []) [])
     → place ≡ cut_cursor total cur → Continues x end last ≡ run_layout (records_layout true) place mid → left ≡ not (eqb (length end.rest) 0) → after ≡ log_after last (cond left (Faulty end.at 10 ∷ []) []) → Continues (stamp, program_of_records x) end after ≡ run_of_read (read_cut_off true stamp size total cur) log
 rest_goes stamp x end size total differ left cur place log mid last after low there high d m at_place h l a =
-    let mid_is : mid ≡ log_after log (cond (eqb size total) [] (Faulty total 10 ∷ [])) = m ∙ ap (log_after log) (flipped size total differ total d) in
-    let after_is : after ≡ log_after last (cond (eqb (length end.rest) 0) [] (Faulty end.at 10 ∷ [])) = a ∙ ap (log_after last) (flipped (length end.rest) 0 left end.at l) in
+    let mid_is : mid ≡ log_after log (cond (eqb size total) [] (Faulty total 10 ∷ [])) = m ∙ ap (log_after log) (note_unless_equal size total differ total d) in
+    let after_is : after ≡ log_after last (cond (eqb (length end.rest) 0) [] (Faulty end.at 10 ∷ [])) = a ∙ ap (log_after last) (note_unless_equal (length end.rest) 0 left end.at l) in
     ap (Continues (stamp, program_of_records x) end) after_is ∙ inner_goes stamp total cur mid last x end (h ∙ ap (λ (z : Cursor). run_layout (records_layout true) z mid) at_place) ∙ ap (run_of_read (inner stamp total cur)) mid_is ∙ sym (cut_is stamp size total cur log low there high)
 
 -- ---- the whole

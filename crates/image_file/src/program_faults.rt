@@ -158,7 +158,7 @@ fn check_count(block: &CodeBlock) -> Option<LoadFault>
 }
 
 /// The least fault of a block.
-#[tactic(auto, using(crate::proofs::ProgramFaultLemmas::coded, crate::proofs::ProgramFaultLemmas::uncoded))]
+#[tactic(auto, using(crate::proofs::ProgramFaultLemmas::fault_five_alone, crate::proofs::ProgramFaultLemmas::faults_without_five))]
 fn check_code_block(
     alloc: Global,
     environment: &BlockEnvironment,

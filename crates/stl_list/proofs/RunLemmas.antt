@@ -58,13 +58,13 @@ starts_rise ops = rise_from 0 true ops
 
 -- ---- they are found
 
-placed : (x : ℕ) (xs : List ℕ) (i : ℕ) → i < length xs → get_or xs i 0 ≡ x → ((k : ℕ) → k < i → get_or xs k 0 < x) → position_or_len (λ s. eqb s x) xs ≡ i
-placed x [] i lt is before = absurd (omega arith)
-placed x (y ∷ ys) zero lt is before = rw is (let e : eqb x x ≡ true = grind (arith, nat_tests) in rw e refl)
-placed x (y ∷ ys) (suc i) lt is before =
+position_of_first : (x : ℕ) (xs : List ℕ) (i : ℕ) → i < length xs → get_or xs i 0 ≡ x → ((k : ℕ) → k < i → get_or xs k 0 < x) → position_or_len (λ s. eqb s x) xs ≡ i
+position_of_first x [] i lt is before = absurd (omega arith)
+position_of_first x (y ∷ ys) zero lt is before = rw is (let e : eqb x x ≡ true = grind (arith, nat_tests) in rw e refl)
+position_of_first x (y ∷ ys) (suc i) lt is before =
     let less : y < x = before 0 (omega arith) in
     let e : eqb y x ≡ false = grind (arith, nat_tests) in
-    let more = placed x ys i (omega arith) is (λ k le. before (suc k) (omega arith)) in
+    let more = position_of_first x ys i (omega arith) is (λ k le. before (suc k) (omega arith)) in
     rw e (omega (arith, more))
 
 absent : (x : ℕ) (xs : List ℕ) (i : ℕ) → ((k : ℕ) → k < i → get_or xs k 0 < x) → ((k : ℕ) → i ≤ k → k < length xs → x < get_or xs k 0) → position_or_len (λ s. eqb s x) xs ≡ length xs
@@ -95,7 +95,7 @@ pub found_at : (starts : List ℕ) (x i : ℕ) → IsStrictlySortedBy nat_cmp st
 unfolding number_at
 found_at starts x i rise h =
     let s = searched starts x (Ok i) h (not_falling starts rise) in
-    sym (placed x starts i s.0 s.1 (λ k lt. rw (sym s.1) (below_from_sorted starts k i 0 rise lt s.0)))
+    sym (position_of_first x starts i s.0 s.1 (λ k lt. rw (sym s.1) (below_from_sorted starts k i 0 rise lt s.0)))
 
 pub found_nowhere : (starts : List ℕ) (x i : ℕ) → IsStrictlySortedBy nat_cmp starts → IsBinarySearchResult (λ y. nat_cmp y x) starts (Err i) → length starts ≡ number_at starts x
 unfolding number_at
