@@ -98,7 +98,7 @@ name_found name before (e ∷ es) h zero d lt is =
 name_found name before (e ∷ es) h (suc i) d lt is =
     let p = parts_of before e es h in
     let less : slice_cmp nat_cmp e.name (upper_case_name name) ≡ Less = sym (alike_right nat_list_cmp_total (get_or es i d).name (upper_case_name name) e.name is) ∙ later e.name es p.more i d (omega arith) in
-    rw (same_is e.name name p.upper ∙ ap is_eq less) (found name e.name es p.more i d (omega arith) is)
+    rw (same_is e.name name p.upper ∙ ap is_eq less) (name_found name e.name es p.more i d (omega arith) is)
 
 -- the variable that was read from such an entry
 pub found_in : (name : List ℕ) (es : List NameEntry) → names_rise [] es ≡ true → (i : ℕ) (entry : NameEntry) (variable : Place × Width) → i < length es

@@ -8,6 +8,9 @@ use plc_base::Flag;
 /// The kind of timers in the operand of a timer or counter.
 pub const TIMER_KIND: u8 = 1;
 
+/// The kind of counters in the operand of a timer or counter.
+pub(crate) const COUNTER_KIND: u8 = 2;
+
 /// The number of address register 1 in a register-indirect operand.
 pub const AR1_NUMBER: u8 = 1;
 
@@ -16,6 +19,9 @@ pub const DB_REGISTER_NUMBER: u8 = 1;
 
 /// The number of the data block register DI in the operand of OPN.
 pub const DI_REGISTER_NUMBER: u8 = 2;
+
+/// The number of the kind OB in images.
+pub(crate) const ORGANIZATION_BLOCK: u8 = 1;
 
 /// The number of the kind FC in images and in the operand of a call.
 pub const FUNCTION: u8 = 2;

@@ -119,7 +119,8 @@ impl Reader<'_> {
     #[tactic(auto, unfolding(crate::specs::Running::run_layout, crate::specs::Running::log_after, crate::specs::Least::with_faults, flat_code::specs::Codes::code_layout))]
     fn code(&mut self, alloc: Global, size: u32) -> Result<Vec<Op>, Stop>
         requires { self.old.at + length self.old.rest.now < 2 ^ 32 }
-        ensures read { IsReaderRun (λ v. v.items) result self.new (run_layout (code_layout true size)
+        ensures read { IsReaderRun (λ v. v.items) result self.new
+            (run_layout (code_layout true size)
             (reader_cursor self.old) (log_of self.old)) }
         ensures all { OnOk result (self.new.at + length self.new.rest.now
             ≡ self.old.at + length self.old.rest.now) }
@@ -147,7 +148,8 @@ impl Reader<'_> {
 
     fn lines(&mut self, alloc: Global, count: u16) -> Result<Vec<u32>, Stop>
         requires { self.old.at + length self.old.rest.now < 2 ^ 32 }
-        ensures read { IsReaderRun (λ v. v.items) result self.new (run_layout (list_layout
+        ensures read { IsReaderRun (λ v. v.items) result self.new
+            (run_layout (list_layout
             (line_field true) line_after 0 count) (reader_cursor self.old) (log_of self.old)) }
         ensures all { OnOk result (self.new.at + length self.new.rest.now
             ≡ self.old.at + length self.old.rest.now) }
@@ -173,7 +175,8 @@ impl Reader<'_> {
     ) -> Result<Vec<u32>, Stop>
         requires fits { self.old.at + length self.old.rest.now < 2 ^ 32 }
         requires room { start + 8 < 2 ^ 32 }
-        ensures read { IsReaderRun (λ v. v.items) result self.new (run_layout (lines_layout true start
+        ensures read { IsReaderRun (λ v. v.items) result self.new
+            (run_layout (lines_layout true start
             (head_values head) ops.now) (reader_cursor self.old) (log_of self.old)) }
         ensures all { OnOk result (self.new.at + length self.new.rest.now
             ≡ self.old.at + length self.old.rest.now) }
@@ -222,7 +225,8 @@ impl Reader<'_> {
         before: u16,
     ) -> Result<BlockRead, Stop>
         requires { self.old.at + length self.old.rest.now + 8 < 2 ^ 32 }
-        ensures read { IsReaderRun (λ b. b) result self.new (run_layout (plain_block true
+        ensures read { IsReaderRun (λ b. b) result self.new
+            (run_layout (plain_block true
             (kind_before, before) self.old.at) (reader_cursor self.old) (log_of self.old)) }
         ensures all { OnOk result (self.new.at + length self.new.rest.now
             ≡ self.old.at + length self.old.rest.now) }

@@ -46,7 +46,8 @@ impl<'a> Reader<'a> {
     #[tactic(auto, unfolding(flat_code::specs::Image::contents_layout))]
     fn contents(&mut self, alloc: Global, count: u16) -> Result<Vec<u8>, Stop>
         requires { self.old.at + length self.old.rest.now < 2 ^ 32 }
-        ensures read { IsReaderRun (λ v. v.items) result self.new (run_layout (contents_layout count)
+        ensures read { IsReaderRun (λ v. v.items) result self.new
+            (run_layout (contents_layout count)
             (reader_cursor self.old) (log_of self.old)) }
         ensures all { OnOk result (self.new.at + length self.new.rest.now
             ≡ self.old.at + length self.old.rest.now) }
@@ -61,7 +62,8 @@ impl<'a> Reader<'a> {
     #[tactic(auto, unfolding(flat_code::specs::Image::data_block_layout, flat_code::specs::Image::data_rows), using(crate::proofs::RunLemmas::run_seen, crate::proofs::RunLemmas::run_chain))]
     fn data_block(&mut self, alloc: Global, before: u16, sum: u32) -> Result<DataBlock, Stop>
         requires { self.old.at + length self.old.rest.now < 2 ^ 32 }
-        ensures read { IsReaderRun (λ d. d) result self.new (run_layout (data_block_layout (before, sum))
+        ensures read { IsReaderRun (λ d. d) result self.new
+            (run_layout (data_block_layout (before, sum))
             (reader_cursor self.old) (log_of self.old)) }
         ensures all { OnOk result (self.new.at + length self.new.rest.now
             ≡ self.old.at + length self.old.rest.now) }
@@ -85,7 +87,8 @@ impl<'a> Reader<'a> {
         count: u16,
     ) -> Result<Vec<DataBlock>, Stop>
         requires { self.old.at + length self.old.rest.now < 2 ^ 32 }
-        ensures read { IsReaderRun (λ v. v.items) result self.new (run_layout (plain_data_blocks count)
+        ensures read { IsReaderRun (λ v. v.items) result self.new
+            (run_layout (plain_data_blocks count)
             (reader_cursor self.old) (log_of self.old)) }
         ensures all { OnOk result (self.new.at + length self.new.rest.now
             ≡ self.old.at + length self.old.rest.now) }
