@@ -679,22 +679,22 @@ stamp_again (stamps.Two profiles.Large) = refl
 -- ---- the image
 
 -- a program with the version and profile of its image
-abbrev pub Stamped : Type 0
-Stamped = Stamp × Program
+abbrev pub StampedProgram : Type 0
+StampedProgram = Stamp × Program
 
-abbrev rest_of : Bool → Stamp → ℕ → Cursor → ReadResult Stamped
+abbrev rest_of : Bool → Stamp → ℕ → Cursor → ReadResult StampedProgram
 rest_of with_code_faults stamp total cur = bind_reading ((body_layout with_code_faults).read (record { at = cur.at; rest = take (total - front_size) cur.rest })) (end_layout stamp)
 
 -- nothing is cut off, and nothing is noted
-cut_finds : (with_code_faults : Bool) (stamp : Stamp) (total : ℕ) (cur : Cursor) (p : Stamped) (end : Cursor) → 20 ≤ total → total ≤ 8388608 → Finds Stamped (rest_of with_code_faults stamp total cur) p end → Finds Stamped (read_cut_off with_code_faults stamp total total cur) p end
+cut_finds : (with_code_faults : Bool) (stamp : Stamp) (total : ℕ) (cur : Cursor) (p : StampedProgram) (end : Cursor) → 20 ≤ total → total ≤ 8388608 → Finds StampedProgram (rest_of with_code_faults stamp total cur) p end → Finds StampedProgram (read_cut_off with_code_faults stamp total total cur) p end
 cut_finds with_code_faults stamp total cur p end le most h =
     let no_cut : (ltb total 20 || ltb total total) ≡ false = or_from _ _ (le-ltb total 20 le) (le-ltb total total (omega arith)) in
     let same : eqb total total ≡ true = eq-eqb total total refl in
     let small : ltb 8388608 total ≡ false = le-ltb 8388608 total most in
     let shape : read_cut_off with_code_faults stamp total total cur ≡ rest_of with_code_faults stamp total cur = rw (no_cut, small, same) refl in
-    subst (λ (z : ReadResult Stamped). Finds Stamped z p end) (sym shape) h
+    subst (λ (z : ReadResult StampedProgram). Finds StampedProgram z p end) (sym shape) h
 
-pub image_again : (with_code_faults : Bool) (stamp : Stamp) (p : Program) → (body_layout with_code_faults).good p ≡ true → front_size + length (text_of p) ≤ 8388608 → Finds Stamped (read_by with_code_faults (image stamp p)) (stamp, p) (at_place (front_size + length (text_of p)) [])
+pub image_again : (with_code_faults : Bool) (stamp : Stamp) (p : Program) → (body_layout with_code_faults).good p ≡ true → front_size + length (text_of p) ≤ 8388608 → Finds StampedProgram (read_by with_code_faults (image stamp p)) (stamp, p) (at_place (front_size + length (text_of p)) [])
 unfolding read_by image
 image_again with_code_faults stamp p good short =
     let text = text_of p in
@@ -712,11 +712,11 @@ image_again with_code_faults stamp p good short =
     let two = (body_laid with_code_faults).again p 12 [] good in
     let two_at : Finds Program ((body_layout with_code_faults).read (at_place 12 ((body_layout with_code_faults).spell p ++ []))) p (at_place (12 + length text) []) = subst (λ (z : List ℕ). Finds Program ((body_layout with_code_faults).read (at_place 12 ((body_layout with_code_faults).spell p ++ []))) p (at_place (12 + length z) [])) spelled two in
     let two_here : Finds Program ((body_layout with_code_faults).read (at_place 12 (take (total - front_size) text))) p (at_place (12 + length text) []) = subst (λ (z : List ℕ). Finds Program ((body_layout with_code_faults).read (at_place 12 z)) p (at_place (12 + length text) [])) (sym whole) two_at in
-    let three : Finds Stamped (end_layout stamp p (at_place (12 + length text) [])) (stamp, p) end = record { found = refl; clean = refl } in
-    let inner : Finds Stamped (rest_of with_code_faults stamp total (at_place 12 text)) (stamp, p) end = bind_finds _ (end_layout stamp) p (at_place (12 + length text) []) (stamp, p) end two_here three in
-    let cut_there : Finds Stamped (read_cut_off with_code_faults stamp total total (at_place 12 text)) (stamp, p) end = cut_finds with_code_faults stamp total (at_place 12 text) (stamp, p) end (let l = text_long p in omega arith) short inner in
-    let cut_by : Finds Stamped (read_cut_off with_code_faults stamp (length all) total (at_place 12 text)) (stamp, p) end = subst (λ (k : ℕ). Finds Stamped (read_cut_off with_code_faults stamp k total (at_place 12 text)) (stamp, p) end) (sym size) cut_there in
-    let cut_here : Finds Stamped (read_cut_off with_code_faults (stamp_in values) (length all) total (at_place 12 text)) (stamp, p) end = subst (λ (s : Stamp). Finds Stamped (read_cut_off with_code_faults s (length all) total (at_place 12 text)) (stamp, p) end) (sym (stamp_again stamp)) cut_by in
+    let three : Finds StampedProgram (end_layout stamp p (at_place (12 + length text) [])) (stamp, p) end = record { found = refl; clean = refl } in
+    let inner : Finds StampedProgram (rest_of with_code_faults stamp total (at_place 12 text)) (stamp, p) end = bind_finds _ (end_layout stamp) p (at_place (12 + length text) []) (stamp, p) end two_here three in
+    let cut_there : Finds StampedProgram (read_cut_off with_code_faults stamp total total (at_place 12 text)) (stamp, p) end = cut_finds with_code_faults stamp total (at_place 12 text) (stamp, p) end (let l = text_long p in omega arith) short inner in
+    let cut_by : Finds StampedProgram (read_cut_off with_code_faults stamp (length all) total (at_place 12 text)) (stamp, p) end = subst (λ (k : ℕ). Finds StampedProgram (read_cut_off with_code_faults stamp k total (at_place 12 text)) (stamp, p) end) (sym size) cut_there in
+    let cut_here : Finds StampedProgram (read_cut_off with_code_faults (stamp_in values) (length all) total (at_place 12 text)) (stamp, p) end = subst (λ (s : Stamp). Finds StampedProgram (read_cut_off with_code_faults s (length all) total (at_place 12 text)) (stamp, p) end) (sym (stamp_again stamp)) cut_by in
     bind_finds (front_layout.read (at_place 0 all)) (λ f cur. read_cut_off with_code_faults (stamp_in f) (length all) f.total_length cur) values (at_place 12 text) (stamp, p) end one_here cut_here
 
 -- every byte string is the image of at most one program, version and profile
@@ -725,7 +725,7 @@ image_one s t p q hp hq e =
     let a = image_again false s p hp.good hp.short in
     let b = image_again false t q hq.good hq.short in
     let both = same_Some _ _ (sym a.found ∙ ap (λ (z : List ℕ). (read_by false z).found) e ∙ b.found) in
-    (ap (λ (z : Stamped × Cursor). z.0.0) both, ap (λ (z : Stamped × Cursor). z.0.1) both)
+    (ap (λ (z : StampedProgram × Cursor). z.0.0) both, ap (λ (z : StampedProgram × Cursor). z.0.1) both)
 
 no_note : (b : Bool) (at code : ℕ) → faults_in (cond b [] (Faulty at code ∷ [])) ≡ [] → b ≡ true
 no_note true at code h = refl
@@ -786,7 +786,7 @@ good_front f good =
 front_is : (f : Front) (total : ℕ) → GoodFront f → f.total_length ≡ total → f ≡ front_of (stamp_in f) total
 front_is f total g t = ap front_of_row (quad g.magic g.stamp.version_is g.stamp.profile_is t)
 
-pub image_takes : (text : List ℕ) (s : Stamp) (p : Program) (end : Cursor) → IsBytes text → Finds Stamped (read_image text) (s, p) end → (text ≡ image s p) × IsProgram p × IsRight p
+pub image_takes : (text : List ℕ) (s : Stamp) (p : Program) (end : Cursor) → IsBytes text → Finds StampedProgram (read_image text) (s, p) end → (text ≡ image s p) × IsProgram p × IsRight p
 unfolding read_by image
 image_takes text s p end are h =
     let a = bind_parts (front_layout.read (at_place 0 text)) (λ f cur. read_cut_off true (stamp_in f) (length text) f.total_length cur) (s, p) end h in
@@ -804,8 +804,8 @@ image_takes text s p end are h =
     let b = bind_parts ((body_layout true).read (at_place cur.at (take (total - front_size) cur.rest))) (end_layout stamp) (s, p) end (record { found = g.found; clean = n.1 }) in
     let u = (body_laid true).takes (at_place cur.at (take (total - front_size) cur.rest)) b.first b.next (bytes_taken (total - front_size) cur.rest t.text.rest_fits) b.one in
     let made = same_Some ((stamp, b.first), b.next) ((s, p), end) b.two.found in
-    let s_is : stamp ≡ s = ap (λ (z : Stamped × Cursor). z.0.0) made in
-    let p_is : b.first ≡ p = ap (λ (z : Stamped × Cursor). z.0.1) made in
+    let s_is : stamp ≡ s = ap (λ (z : StampedProgram × Cursor). z.0.0) made in
+    let p_is : b.first ≡ p = ap (λ (z : StampedProgram × Cursor). z.0.1) made in
     let none : b.next.rest ≡ [] = nil_from_length b.next.rest (eqb-true _ _ (no_note _ b.next.at 10 b.two.clean)) in
     let lengths : length text ≡ 12 + length cur.rest = ap length t.text.parts ∙ length-append (front_layout.spell f) cur.rest ∙ ap (λ (k : ℕ). k + length cur.rest) (front_length f) in
     let all : take (total - front_size) cur.rest ≡ cur.rest = ap (λ (z : List ℕ). take (total - front_size) z) (sym (append-nil cur.rest)) ∙ take_at cur.rest [] (total - front_size) (omega (arith, lengths, size)) in

@@ -25,11 +25,11 @@ use Rattle.image_file.specs.declared.records.FoundRead.{FoundRead}
 use Rattle.image_file.specs.Running.{located_block, checked_faults, program_read, found_values, HoldsAll, IsCheckResult, with_wholes, with_all, Log, log_after, RunResult, Continues, Stops, run_result, run_of_read, log_of, IsFoundRun, HasFound}
 use Rattle.flat_code.proofs.CodingLemmas.{IsBytes}
 use Rattle.image_file.proofs.EndLemmas.{image_ends}
-use Rattle.image_file.proofs.ImageLemmas.{program_again, program_few, Stamped}
+use Rattle.image_file.proofs.ImageLemmas.{program_again, program_few, StampedProgram}
 use Rattle.image_file.proofs.RunLemmas.{with_more}
 use Rattle.image_file.proofs.WholeLemmas.{image_noted, gives_image}
 
-abbrev Lens : Type 0
+abbrev pub Lens : Type 0
 Lens = Option (List (ℕ × ℕ))
 
 abbrev pub environment_by : Lens → List BlockSignature → BlockRecord → Environment
@@ -73,12 +73,12 @@ abbrev empty_log : Log
 empty_log = record { least = None; blocks = []; datas = None }
 
 -- what one pass keeps is what reading the bytes notes
-record Kept (text : List ℕ) (log : Log) : Type 0 where
+record IsLogOfText (text : List ℕ) (log : Log) : Type 0 where
   least : log.least ≡ with_faults None (faults_in (read_image text).notes)
   blocks : log.blocks ≡ whole_blocks (read_image text).notes
   datas : log.datas ≡ all_blocks (read_image text).notes
 
-kept_by : (text : List ℕ) (log : Log) → log ≡ log_after empty_log (read_image text).notes → Kept text log
+kept_by : (text : List ℕ) (log : Log) → log ≡ log_after empty_log (read_image text).notes → IsLogOfText text log
 unfolding log_after
 kept_by text log e = record {
   least = ap (λ (z : Log). z.least) e;
@@ -86,15 +86,15 @@ kept_by text log e = record {
   datas = ap (λ (z : Log). z.datas) e ∙ datas_kept None (read_image text).notes ∙ later_none (all_blocks (read_image text).notes);
 }
 
-goes_found : (o : Option (Stamped × Cursor)) (p : Stamped) (end : Cursor) (log all : Log) → Continues p end log ≡ run_result o all → (o ≡ Some (p, end)) × (log ≡ all)
+goes_found : (o : Option (StampedProgram × Cursor)) (p : StampedProgram) (end : Cursor) (log all : Log) → Continues p end log ≡ run_result o all → (o ≡ Some (p, end)) × (log ≡ all)
 goes_found None p end log all e = absurd cc
 goes_found (Some x) p end log all e = let a : p ≡ x.0 = cc in let b : end ≡ x.1 = cc in (rw (a, b) refl, cc)
 
-stops_found : (o : Option (Stamped × Cursor)) (log all : Log) → ◌≡◌ {A = RunResult Stamped} (Stops log) (run_result o all) → (o ≡ None) × (log ≡ all)
+stops_found : (o : Option (StampedProgram × Cursor)) (log all : Log) → ◌≡◌ {A = RunResult StampedProgram} (Stops log) (run_result o all) → (o ≡ None) × (log ≡ all)
 stops_found None log all e = (refl, cc)
 stops_found (Some x) log all e = absurd cc
 
-kept_of : (found : Option (Stamp × List NameRecord)) (r : Reader) (text : List ℕ) → IsFoundRun found r (run_of_read (read_image text) empty_log) → Kept text (log_of r)
+kept_of : (found : Option (Stamp × List NameRecord)) (r : Reader) (text : List ℕ) → IsFoundRun found r (run_of_read (read_image text) empty_log) → IsLogOfText text (log_of r)
 unfolding run_of_read
 kept_of None r text h = kept_by text (log_of r) (stops_found (read_image text).found (log_of r) (log_after empty_log (read_image text).notes) h).1
 kept_of (Some found) r text h = kept_by text (log_of r) (goes_found (read_image text).found (found.0, program_of_records h.0) h.1 (log_of r) (log_after empty_log (read_image text).notes) h.2).1

@@ -184,19 +184,19 @@ passed_fits p b q index actual kind number instance called h is last there =
     fits_index p b called index actual (slice_get called.2 index) refl (subst (λ (z : Option CalleeSeen). misfits_callee (environment_in p b) z index actual ≡ false) there whom)
 
 -- what is called among blocks
-record FoundIn (bs : List CodeBlock) (id : BlockId) (kind : ℕ) (called : CalleeSeen) : Type 0 where
+record IsCalleeBlock (bs : List CodeBlock) (id : BlockId) (kind : ℕ) (called : CalleeSeen) : Type 0 where
   block : CodeBlock
   there : block_by_id id bs ≡ Some block
   same : called ≡ (kind, block.instance_len, map record_of_param block.params)
 
-found_in : (bs : List CodeBlock) (id : BlockId) (kind : ℕ) (called : CalleeSeen) → ((k : BlockKind) → eqb (kind_number k) kind ≡ eqb (kind_order k) (kind_order id.kind)) → block_with kind id.number (map signature_of (map record_of_block bs)) ≡ Some called → FoundIn bs id kind called
+found_in : (bs : List CodeBlock) (id : BlockId) (kind : ℕ) (called : CalleeSeen) → ((k : BlockKind) → eqb (kind_number k) kind ≡ eqb (kind_order k) (kind_order id.kind)) → block_with kind id.number (map signature_of (map record_of_block bs)) ≡ Some called → IsCalleeBlock bs id kind called
 found_in [] id kind called agree e = absurd cc
 found_in (b ∷ bs) id kind called agree e =
     by (eqb (kind_number b.id.kind) kind && eqb b.id.number id.number) refl (ap (λ (z : Bool). z && eqb b.id.number id.number) (sym (agree b.id.kind))) e (λ h. found_in bs id kind called agree h)
   where
     by : (t : Bool) → (eqb (kind_number b.id.kind) kind && eqb b.id.number id.number) ≡ t → is_same_id b.id id ≡ (eqb (kind_number b.id.kind) kind && eqb b.id.number id.number)
         → cond t (Some (kind_number b.id.kind, b.instance_len, map record_of_param b.params)) (block_with kind id.number (map signature_of (map record_of_block bs))) ≡ Some called
-        → (block_with kind id.number (map signature_of (map record_of_block bs)) ≡ Some called → FoundIn bs id kind called) → FoundIn (b ∷ bs) id kind called
+        → (block_with kind id.number (map signature_of (map record_of_block bs)) ≡ Some called → IsCalleeBlock bs id kind called) → IsCalleeBlock (b ∷ bs) id kind called
     by true t s e more =
         let k = eqb-true (kind_number b.id.kind) kind (and_parts (eqb (kind_number b.id.kind) kind) (eqb b.id.number id.number) t).0 in
         record {

@@ -381,29 +381,29 @@ line_room true marks [] le = absurd (omega (arith, le))
 line_room true marks (line ∷ lines) le = omega (arith, le)
 line_room false marks lines le = omega (arith, le)
 
-abbrev Lined : ℕ → Bool → List OpData → List ℕ → ℕ → Type 0
-Lined from begin ops lines at = (line : ℕ) × (line_placed from begin ops lines at ≡ Some line)
+abbrev HasLineAt : ℕ → Bool → List OpData → List ℕ → ℕ → Type 0
+HasLineAt from begin ops lines at = (line : ℕ) × (line_placed from begin ops lines at ≡ Some line)
 
-line_here : (from : ℕ) (begin : Bool) (o : OpData) (ops : List OpData) (lines : List ℕ) (at : ℕ) → ends_by_be (o ∷ ops) ≡ true → end_marks (o ∷ ops) ≤ length lines → eqb from at ≡ true → begin ≡ true → Lined from begin (o ∷ ops) lines at
+line_here : (from : ℕ) (begin : Bool) (o : OpData) (ops : List OpData) (lines : List ℕ) (at : ℕ) → ends_by_be (o ∷ ops) ≡ true → end_marks (o ∷ ops) ≤ length lines → eqb from at ≡ true → begin ≡ true → HasLineAt from begin (o ∷ ops) lines at
 line_here from begin o ops lines at ended most t is =
     let mark = mark_there (o ∷ ops) ended in
     let l = first_line lines (omega (arith, mark, most)) in
     (l.0, rw (t, is) l.1)
 
-line_later : (from : ℕ) (begin : Bool) (o : OpData) (ops : List OpData) (lines : List ℕ) (at : ℕ) → eqb from at ≡ false → Lined (from + size_of_op o) o.last ops (cond o.last (drop 1 lines) lines) at → Lined from begin (o ∷ ops) lines at
+line_later : (from : ℕ) (begin : Bool) (o : OpData) (ops : List OpData) (lines : List ℕ) (at : ℕ) → eqb from at ≡ false → HasLineAt (from + size_of_op o) o.last ops (cond o.last (drop 1 lines) lines) at → HasLineAt from begin (o ∷ ops) lines at
 line_later from begin o ops lines at f l = (l.0, rw f l.1)
 
-line_there : (from : ℕ) (brackets : List OpenBracket) (zones : List ℕ) (before ops : List OpData) (lines : List ℕ) (at : ℕ) (q : PlacedOp) → ends_by_be ops ≡ true → end_marks ops ≤ length lines → placed_at at (ops_placed from brackets zones before ops) ≡ Some q → is_empty_list q.before ≡ true → Lined from (is_empty_list before) ops lines at
+line_there : (from : ℕ) (brackets : List OpenBracket) (zones : List ℕ) (before ops : List OpData) (lines : List ℕ) (at : ℕ) (q : PlacedOp) → ends_by_be ops ≡ true → end_marks ops ≤ length lines → placed_at at (ops_placed from brackets zones before ops) ≡ Some q → is_empty_list q.before ≡ true → HasLineAt from (is_empty_list before) ops lines at
 line_there from brackets zones before [] lines at q ended most found first = absurd cc
 line_there from brackets zones before (o ∷ []) lines at q ended most found first =
-    option_by_test (eqb from at) (record { at = from; brackets = brackets; zones = zones; before = before; op = o; rest = [] }) None q found (Lined from (is_empty_list before) (o ∷ []) lines at)
+    option_by_test (eqb from at) (record { at = from; brackets = brackets; zones = zones; before = before; op = o; rest = [] }) None q found (HasLineAt from (is_empty_list before) (o ∷ []) lines at)
     (λ t e. line_here from (is_empty_list before) o [] lines at ended most t (ap (λ (z : PlacedOp). is_empty_list z.before) e ∙ first))
     (λ f e. absurd cc)
 line_there from brackets zones before (o ∷ n ∷ ops) lines at q ended most found first =
-    option_by_test (eqb from at) (record { at = from; brackets = brackets; zones = zones; before = before; op = o; rest = n ∷ ops }) (placed_at at (ops_placed (from + size_of_op o) (brackets_after from o.code brackets) (zones_behind_op from o.code zones) (before_next o before) (n ∷ ops))) q found (Lined from (is_empty_list before) (o ∷ n ∷ ops) lines at)
+    option_by_test (eqb from at) (record { at = from; brackets = brackets; zones = zones; before = before; op = o; rest = n ∷ ops }) (placed_at at (ops_placed (from + size_of_op o) (brackets_after from o.code brackets) (zones_behind_op from o.code zones) (before_next o before) (n ∷ ops))) q found (HasLineAt from (is_empty_list before) (o ∷ n ∷ ops) lines at)
     (λ t e. line_here from (is_empty_list before) o (n ∷ ops) lines at ended most t (ap (λ (z : PlacedOp). is_empty_list z.before) e ∙ first))
     (λ f e. line_later from (is_empty_list before) o (n ∷ ops) lines at f
-    (subst (λ (z : Bool). Lined (from + size_of_op o) z (n ∷ ops) (cond o.last (drop 1 lines) lines) at) (empty_next o before)
+    (subst (λ (z : Bool). HasLineAt (from + size_of_op o) z (n ∷ ops) (cond o.last (drop 1 lines) lines) at) (empty_next o before)
     (line_there (from + size_of_op o) (brackets_after from o.code brackets) (zones_behind_op from o.code zones) (before_next o before) (n ∷ ops) (cond o.last (drop 1 lines) lines) at q ended (line_room o.last (end_marks (n ∷ ops)) lines most) e first)))
 
 pub has_line : (p : Program) (b : CodeBlock) (q : PlacedOp) → ends_by_be b.code ≡ true → end_marks b.code ≡ length b.lines → IsVerifiedOp p b q → begins_its_statement q ≡ true → HasLine b q.at

@@ -11,7 +11,7 @@ use Rattle.image_file.specs.declared.stops.Stop.{Stop}
 use Rattle.image_file.specs.declared.stops.Stop.TheVariants as stop
 use Rattle.image_file.specs.declared.reader.Reader.{Reader}
 use Rattle.image_file.specs.Running.{IsReaderRun, IsBlocksRun, IsDataBlocksRun, IsRecordsRun, IsImageRun, Log, log_after, RunResult, Continues, Stops, run_layout, run_of_read, then_run, log_of}
-use Rattle.image_file.proofs.ImageLemmas.{Stamped}
+use Rattle.image_file.proofs.ImageLemmas.{StampedProgram}
 use Rattle.image_file.proofs.RunLemmas.{chain_goes, chain_ends, chain_breaks, seen_goes, seen_ends, go_read, run_is_read, ended_read, noted_read}
 
 -- the records of a row, and the row of records
@@ -73,7 +73,7 @@ records_go c bs ds ns next two three end cur mid log2 log3 last log p q s t =
 abbrev cut_cursor : ℕ → Cursor → Cursor
 cut_cursor total cur = record { at = cur.at; rest = take (total - front_size) cur.rest }
 
-inner : Stamp → ℕ → Cursor → ReadResult Stamped
+inner : Stamp → ℕ → Cursor → ReadResult StampedProgram
 inner stamp total cur = bind_reading ((body_layout true).read (cut_cursor total cur)) (end_layout stamp)
 
 cut_is : (stamp : Stamp) (size total : ℕ) (cur : Cursor) (log : Log) → 20 ≤ total → total ≤ size → total ≤ 8388608 → run_of_read (read_cut_off true stamp size total cur) log ≡ run_of_read (inner stamp total cur) (log_after log (cond (eqb size total) [] (Faulty total 10 ∷ [])))
@@ -82,9 +82,9 @@ cut_is stamp size total cur log low there high =
     let fits : (ltb total 20 || ltb size total) ≡ false = or_from (ltb total 20) (ltb size total) (le-ltb total 20 low) (le-ltb size total there) in
     let small : ltb 8388608 total ≡ false = le-ltb 8388608 total high in
     let shape : read_cut_off true stamp size total cur ≡ record { notes = cond (eqb size total) [] (Faulty total 10 ∷ []) ++ (inner stamp total cur).notes; found = (inner stamp total cur).found } = rw (fits, small) refl in
-    ap (λ (r : ReadResult Stamped). run_of_read r log) shape ∙ noted_read (cond (eqb size total) [] (Faulty total 10 ∷ [])) (inner stamp total cur) log
+    ap (λ (r : ReadResult StampedProgram). run_of_read r log) shape ∙ noted_read (cond (eqb size total) [] (Faulty total 10 ∷ [])) (inner stamp total cur) log
 
-inner_stops : (stamp : Stamp) (total : ℕ) (cur : Cursor) (log last : Log) → ◌≡◌ {A = RunResult Records} (Stops last) (run_layout (records_layout true) (cut_cursor total cur) log) → ◌≡◌ {A = RunResult Stamped} (Stops last) (run_of_read (inner stamp total cur) log)
+inner_stops : (stamp : Stamp) (total : ℕ) (cur : Cursor) (log last : Log) → ◌≡◌ {A = RunResult Records} (Stops last) (run_layout (records_layout true) (cut_cursor total cur) log) → ◌≡◌ {A = RunResult StampedProgram} (Stops last) (run_of_read (inner stamp total cur) log)
 unfolding inner body_layout
 inner_stops stamp total cur log last h =
     let b : ◌≡◌ {A = RunResult Program} (Stops last) (run_layout (body_layout true) (cut_cursor total cur) log) = seen_ends program_of_records records_of (records_layout true) (cut_cursor total cur) last log h in
@@ -143,20 +143,20 @@ or_true : (a b : Bool) → a ≡ true → (a || b) ≡ true
 or_true true b e = refl
 or_true false b e = absurd cc
 
-bad_total : (stamp : Stamp) (size total : ℕ) (cur : Cursor) (log : Log) → (ltb total 20 || ltb size total) ≡ true → ◌≡◌ {A = RunResult Stamped} (run_of_read (read_cut_off true stamp size total cur) log) (Stops (log_after log (Faulty 8 3 ∷ [])))
+bad_total : (stamp : Stamp) (size total : ℕ) (cur : Cursor) (log : Log) → (ltb total 20 || ltb size total) ≡ true → ◌≡◌ {A = RunResult StampedProgram} (run_of_read (read_cut_off true stamp size total cur) log) (Stops (log_after log (Faulty 8 3 ∷ [])))
 bad_total stamp size total cur log bad =
     let shape : read_cut_off true stamp size total cur ≡ reading_ended 8 3 = rw bad refl in
-    ap (λ (r : ReadResult Stamped). run_of_read r log) shape ∙ ended_read 8 3 log
+    ap (λ (r : ReadResult StampedProgram). run_of_read r log) shape ∙ ended_read 8 3 log
 
-pub small_total : (stamp : Stamp) (size total : ℕ) (cur : Cursor) (log : Log) → total < 20 → ◌≡◌ {A = RunResult Stamped} (run_of_read (read_cut_off true stamp size total cur) log) (Stops (log_after log (Faulty 8 3 ∷ [])))
+pub small_total : (stamp : Stamp) (size total : ℕ) (cur : Cursor) (log : Log) → total < 20 → ◌≡◌ {A = RunResult StampedProgram} (run_of_read (read_cut_off true stamp size total cur) log) (Stops (log_after log (Faulty 8 3 ∷ [])))
 small_total stamp size total cur log lt = bad_total stamp size total cur log (or_true (ltb total 20) (ltb size total) (lt-ltb total 20 lt))
 
-pub far_total : (stamp : Stamp) (size total : ℕ) (cur : Cursor) (log : Log) → size < total → ◌≡◌ {A = RunResult Stamped} (run_of_read (read_cut_off true stamp size total cur) log) (Stops (log_after log (Faulty 8 3 ∷ [])))
+pub far_total : (stamp : Stamp) (size total : ℕ) (cur : Cursor) (log : Log) → size < total → ◌≡◌ {A = RunResult StampedProgram} (run_of_read (read_cut_off true stamp size total cur) log) (Stops (log_after log (Faulty 8 3 ∷ [])))
 far_total stamp size total cur log lt = bad_total stamp size total cur log (or_met_behind (ltb total 20) (ltb size total) (lt-ltb size total lt))
 
-pub great_total : (stamp : Stamp) (size total : ℕ) (cur : Cursor) (log : Log) → 20 ≤ total → total ≤ size → 8388608 < total → ◌≡◌ {A = RunResult Stamped} (run_of_read (read_cut_off true stamp size total cur) log) (Stops (log_after log (Faulty 8 4 ∷ [])))
+pub great_total : (stamp : Stamp) (size total : ℕ) (cur : Cursor) (log : Log) → 20 ≤ total → total ≤ size → 8388608 < total → ◌≡◌ {A = RunResult StampedProgram} (run_of_read (read_cut_off true stamp size total cur) log) (Stops (log_after log (Faulty 8 4 ∷ [])))
 great_total stamp size total cur log low there high =
     let fits : (ltb total 20 || ltb size total) ≡ false = or_from (ltb total 20) (ltb size total) (le-ltb total 20 low) (le-ltb size total there) in
     let great : ltb 8388608 total ≡ true = lt-ltb 8388608 total high in
     let shape : read_cut_off true stamp size total cur ≡ reading_ended 8 4 = rw (fits, great) refl in
-    ap (λ (r : ReadResult Stamped). run_of_read r log) shape ∙ ended_read 8 4 log
+    ap (λ (r : ReadResult StampedProgram). run_of_read r log) shape ∙ ended_read 8 4 log
