@@ -3,6 +3,9 @@ use Rattle.std.proofs.Common.{◌≡◌, ℕ, zero, suc, ◌+◌, ◌<◌, ◌�
 use Rattle.std.proofs.lemmas.Bool.{cases_lt, eq-eqb, and_parts, and_from, eqb-true, ltb-false, le-ltb}
 use Rattle.std.proofs.lemmas.List.{append-nil, take_at, drop_at, take-append-drop, nil_from_length, get_or-drop, get_or-take, get_or_past, length-take}
 use Rattle.flat_code.specs.Ops.{OpData, is_op, op_bytes, op_at}
+use Rattle.flat_code.specs.OpCodes.{op_code_of}
+use Rattle.flat_code.specs.declared.operations.EndOperation.TheVariants as ends
+use Rattle.flat_code.specs.declared.operations.Operation.TheVariants as operation
 use Rattle.flat_code.proofs.CodingLemmas.{IsBytes, Takes}
 use Rattle.flat_code.proofs.OpLemmas.{op_again, op_takes, long_enough}
 use Rattle.flat_code.specs.Layout.{Cursor, ReadResult, reading_ended, reading_given}
@@ -172,7 +175,7 @@ last_of from [] op = omega arith
 last_of from (a ∷ []) op = omega (arith, length-append (op_bytes a) [])
 last_of from (a ∷ b ∷ front) op = omega (arith, last_of (from + length (op_bytes a)) (b ∷ front) op, length-append (op_bytes a) (code_bytes (b ∷ front)))
 
-pub ends_at : (front : List OpData) (op : OpData) → ends_by_be (front ++ op ∷ []) ≡ (eqb op.code 0x7B && op.last)
+pub ends_at : (front : List OpData) (op : OpData) → ends_by_be (front ++ op ∷ []) ≡ (eqb op.code (op_code_of (operation.End ends.Be)) && op.last)
 ends_at [] op = refl
 ends_at (a ∷ []) op = refl
 ends_at (a ∷ b ∷ front) op = ends_at (b ∷ front) op
@@ -198,7 +201,7 @@ abbrev count_after : OpData → ℕ → ℕ
 count_after op count = cond op.last 0 (suc count)
 
 pub read_goes : (code : List ℕ) (ops : List OpData) (at next last count after : ℕ) (ended end : Bool) (op : OpData) → IsBytes code → op_at (drop at code) ≡ Some (op, drop next code) → at < next → next ≤ length code
-    → eqb count 64 ≡ false → after ≡ count_after op count → end ≡ (eqb op.code 0x7B && op.last) → HasReadOps code ops at last ended count → HasReadOps code (ops ++ op ∷ []) next at end after
+    → eqb count 64 ≡ false → after ≡ count_after op count → end ≡ (eqb op.code (op_code_of (operation.End ends.Be)) && op.last) → HasReadOps code ops at last ended count → HasReadOps code (ops ++ op ∷ []) next at end after
 unfolding size_of_op
 read_goes code ops at next last count after ended end op are found lt within not64 counted is_end h =
     let t = op_takes (drop at code) op (drop next code) (bytes_dropped at code are) found in
