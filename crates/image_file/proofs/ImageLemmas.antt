@@ -29,7 +29,7 @@ use Rattle.flat_code.specs.declared.stamps.Stamp.TheVariants as stamps
 use Rattle.flat_code.specs.Image.{no_fault, plain_u16, plain_u32, zero_u8, zero_u16, width_field, bytes_fit, bytes_coding, section_field, parameter_byte, parameter_bit, ParameterRow, parameter_rows, parameter_fields, parameter_row, parameter_of_fields, fields_of_parameter, parameter_layout, kind_field, parameter_count_layout, block_number_layout, local_length_layout, instance_bytes_layout, Head, HeadRow, head_of_row, row_of_head, head_rows, head_layout, same_state, parameters_layout, end_marks, line_after, line_field, lines_layout, code_and_lines, BlockRow, parts_of_block_row, row_of_block_parts, block_rows, block_of_parts, head_of_block, parts_of_block, plain_block, whole_note, code_block_at, code_block_layout, after_block, data_number_layout, instance_field, data_length_layout, contents_layout, DataRow, data_rows, data_fields, data_row, instance_of_number, number_of_instance, data_of_fields, fields_of_data, data_block_layout, after_data, name_len, name_bytes, name_area, name_bit, NameRow, name_rows, name_fields, name_row, name_of_fields, fields_of_name, name_record, after_name, data_count, RecordCounts, CountRow, counts_of_row, row_of_counts, count_rows, counts_layout, counts_of, code_blocks_layout, plain_data_blocks, data_blocks_layout, names_layout, BodyParts, BodyRow, parts_of_body_row, row_of_body_parts, body_rows, records_of_parts, parts_of_records, records_layout, kind_of_number, area_of_number, number_of_area, param_of_record, record_of_param, block_of_record, record_of_block, entry_of_name, name_of_entry, program_of_records, records_of, body_layout, magic_field, version_field, profile_field, Front, FrontRow, front_of_row, row_of_front, front_rows, front_layout, front_size, front_of, stamp_in, image, IsProgram, IsRight, end_layout, read_cut_off, read_by, read_image}
 use Rattle.flat_code.proofs.CodingLemmas.{IsBytes, Takes, IsExact, pair_is, u8_exact, u16_exact, u32_exact}
 use Rattle.flat_code.proofs.PartLemmas.{GoodBlock, behind_head, good_block, chain_parts, from_params, good_head, head_params, unless_fine}
-use Rattle.image_file.specs.Typing.{AreFew}
+use Rattle.image_file.specs.Typing.{HaveFewParameters}
 use Rattle.image_file.proofs.LayoutLemmas.{at_place, Finds, IsLaidOut, bind_parts, bind_finds, field_laid, chain_laid, checked_laid, seen_laid, remembered_laid, many_laid, located_laid, no_faults}
 use Rattle.image_file.proofs.CodeLemmas.{code_laid, cond_finds, ended_finds}
 
@@ -827,7 +827,7 @@ program_again p h = records_there false p h.good
 block_few : (with_code_faults : Bool) (before : ℕ × ℕ) (b : BlockRecord) → (code_block_layout with_code_faults before).good b ≡ true → length b.params ≤ 60
 block_few with_code_faults before b good = head_params before (head_of_block b) (good_block_of with_code_faults before b good).head_good
 
-blocks_few : (with_code_faults : Bool) (s : ℕ × ℕ) (n : ℕ) (bs : List BlockRecord) → good_many (code_block_layout with_code_faults) after_block s n bs ≡ true → AreFew bs
+blocks_few : (with_code_faults : Bool) (s : ℕ × ℕ) (n : ℕ) (bs : List BlockRecord) → good_many (code_block_layout with_code_faults) after_block s n bs ≡ true → HaveFewParameters bs
 blocks_few with_code_faults s zero [] h = tt
 blocks_few with_code_faults s zero (b ∷ bs) h = absurd cc
 blocks_few with_code_faults s (suc n) [] h = absurd cc
@@ -835,10 +835,10 @@ blocks_few with_code_faults s (suc n) (b ∷ bs) h =
     let g = and_parts ((code_block_layout with_code_faults s).good b) (good_many (code_block_layout with_code_faults) after_block (after_block s b) n bs) h in
     (block_few with_code_faults s b g.0, blocks_few with_code_faults (after_block s b) n bs g.1)
 
-codes_few : (with_code_faults : Bool) (n : ℕ) (bs : List BlockRecord) → (code_blocks_layout with_code_faults n).good bs ≡ true → AreFew bs
+codes_few : (with_code_faults : Bool) (n : ℕ) (bs : List BlockRecord) → (code_blocks_layout with_code_faults n).good bs ≡ true → HaveFewParameters bs
 unfolding code_blocks_layout
 codes_few with_code_faults n bs good = blocks_few with_code_faults (0, 0) n bs good
 
-pub program_few : (p : Program) → IsProgram p → AreFew (map record_of_block p.code_blocks)
+pub program_few : (p : Program) → IsProgram p → HaveFewParameters (map record_of_block p.code_blocks)
 unfolding body_layout
 program_few p h = let q = good_records false (records_of p) h.good in codes_few false (length (map record_of_block p.code_blocks)) (map record_of_block p.code_blocks) q.codes_good

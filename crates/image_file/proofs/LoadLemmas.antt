@@ -16,7 +16,7 @@ use Rattle.flat_code.specs.Loading.{environment_of_block, op_faults_of_blocks, l
 use Rattle.image_file.specs.declared.faults.LoadFault.{LoadFault}
 use Rattle.image_file.specs.declared.records.LocatedBlock.{LocatedBlock}
 use Rattle.image_file.specs.Least.{is_fault_less, fault_of_pair, with_faults}
-use Rattle.image_file.specs.Typing.{AreFew, program_from}
+use Rattle.image_file.specs.Typing.{HaveFewParameters, program_from}
 use Rattle.image_file.specs.declared.reader.Reader.{Reader}
 use Rattle.image_file.specs.declared.loading.ImageRead.{ImageRead}
 use Rattle.image_file.specs.declared.loading.CheckResult.{CheckResult}
@@ -149,7 +149,7 @@ pub record Loads (text : List ℕ) (bs : List (ℕ × BlockRecord)) (stamp : Sta
   pub gives : GivesProgram text stamp p
   pub program : IsProgram p
   pub verifies : Verifies p
-  pub few : AreFew (blocks_of bs)
+  pub few : HaveFewParameters (blocks_of bs)
 
 pub has_datas : (text : List ℕ) (bs : List (ℕ × BlockRecord)) (found : Stamp × List NameRecord) → IsBytes text → faults_of text ≡ [] → HasFound text bs None (Some found) → ⊥
 has_datas text bs found are none h =
@@ -172,7 +172,7 @@ loads text bs ds stamp ns are none h =
       gives = subst (GivesProgram text stamp) same gives;
       program = subst IsProgram same is.program;
       verifies = subst Verifies same is.verifies;
-      few = subst AreFew (sym raws) (program_few p is.program);
+      few = subst HaveFewParameters (sym raws) (program_few p is.program);
     }
   where
     programs : {a x : List CodeBlock} {b y : List DataBlock} {c z : List NameEntry} → a ≡ x → b ≡ y → c ≡ z → ◌≡◌ {A = Program} (record { code_blocks = a; data_blocks = b; names = c }) (record { code_blocks = x; data_blocks = y; names = z })

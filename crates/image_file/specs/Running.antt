@@ -144,7 +144,8 @@ IsBlockRun (Err stop.NoMemory) r all = Unit {0}
 -- all code blocks were read and kept, or reading ended at a fault; nothing is said where memory is
 -- wanting
 abbrev pub IsBlocksRun : Result (Unit {0}) Stop → Reader → RunResult (List BlockRecord) → Type 0
-IsBlocksRun (Ok u) r all = (bs : List BlockRecord) × (Continues bs (reader_cursor r) (log_of r) ≡ all)
+IsBlocksRun (Ok u) r all =
+    (bs : List BlockRecord) × (Continues bs (reader_cursor r) (log_of r) ≡ all)
 IsBlocksRun (Err stop.AtFault) r all = Stops (log_of r) ≡ all
 IsBlocksRun (Err stop.NoMemory) r all = Unit {0}
 
@@ -155,7 +156,8 @@ name_values r = record { name = r.0.now; area = r.1; width = r.2; byte = r.3; bi
 -- all data blocks were read and kept, or reading ended at a fault; nothing is said where memory is
 -- wanting
 abbrev pub IsDataBlocksRun : Result (Unit {0}) Stop → Reader → RunResult (List DataBlock) → Type 0
-IsDataBlocksRun (Ok u) r all = (ds : List DataBlock) × (Continues ds (reader_cursor r) (log_of r) ≡ all)
+IsDataBlocksRun (Ok u) r all =
+    (ds : List DataBlock) × (Continues ds (reader_cursor r) (log_of r) ≡ all)
 IsDataBlocksRun (Err stop.AtFault) r all = Stops (log_of r) ≡ all
 IsDataBlocksRun (Err stop.NoMemory) r all = Unit {0}
 
@@ -197,10 +199,11 @@ run_of_read r log = run_result r.found (log_after log r.notes)
 
 -- reading an image comes to `all`: it was read whole, with the version, profile and names that are
 -- answered, or reading ended at a fault (None)
-abbrev pub IsFoundRun : Option (Stamp × List NameRecord) → Reader → RunResult (Stamp × Program) → Type 0
+abbrev pub IsFoundRun :
+    Option (Stamp × List NameRecord) → Reader → RunResult (Stamp × Program) → Type 0
 IsFoundRun (Some found) r all =
-    (x : Records) × (end : Cursor) × (Continues (found.0, program_of_records x) end (log_of r) ≡ all)
-    × (x.names ≡ found.1)
+    (x : Records) × (end : Cursor)
+    × (Continues (found.0, program_of_records x) end (log_of r) ≡ all) × (x.names ≡ found.1)
 IsFoundRun None r all = Stops (log_of r) ≡ all
 
 -- an image was read whole, and its version and profile and its names are answered, or reading ended

@@ -11,7 +11,7 @@ ghost use Rattle.image_file.specs.OpChecking.{environment_of};
 ghost use Rattle.image_file.specs.Least.{with_faults};
 ghost use Rattle.image_file.specs.Refusing.{IsLoadError};
 ghost use Rattle.image_file.specs.Running.{located_block, found_values, checked_faults, run_of_read, log_of, program_read, HoldsAll, IsCheckResult, IsFoundRun};
-ghost use Rattle.image_file.specs.Typing.{AreFew};
+ghost use Rattle.image_file.specs.Typing.{HaveFewParameters};
 
 use crate::environments::{BlockEnvironment, DataLens, SignatureRead, Signatures};
 use crate::faults::LoadFault;
@@ -235,7 +235,7 @@ fn check(alloc: Global, bytes: &[u8]) -> Result<CheckResult, NoMemory>
 /// The program of an image without fault.
 fn loaded(alloc: Global, image: ImageRead) -> Result<Loaded, NoMemory>
     requires program { IsProgram (program_read image) }
-    requires few { AreFew (blocks_of (map located_block image.blocks.items)) }
+    requires few { HaveFewParameters (blocks_of (map located_block image.blocks.items)) }
     requires verifies { Verifies (program_read image) }
     ensures program { IfOk result (λ l. l.program ≡ program_read image) }
     ensures profile { IfOk result (λ l. l.profile ≡ profile_of image.stamp) }

@@ -3,7 +3,7 @@ ghost use Rattle.std.specs.Prelude.{◌≡◌, ◌≤◌, length, map, IfOk};
 ghost use Rattle.flat_code.specs.Image.{param_of_record, block_of_record, entry_of_name, IsProgram};
 ghost use Rattle.flat_code.specs.Loading.{blocks_of};
 ghost use Rattle.image_file.specs.Running.{located_block};
-ghost use Rattle.image_file.specs.Typing.{AreFew, program_from};
+ghost use Rattle.image_file.specs.Typing.{HaveFewParameters, program_from};
 
 use crate::records::{BlockRead, LocatedBlock, NameRead};
 use arrayvec::ArrayVec;
@@ -46,8 +46,8 @@ pub(crate) fn code_blocks(
     alloc: Global,
     blocks: Vec<LocatedBlock>,
 ) -> Result<Vec<CodeBlock>, NoMemory>
-    ensures { IfOk result (λ v. AreFew (blocks_of (map located_block blocks.items)) → v.items
-        ≡ map block_of_record (blocks_of (map located_block blocks.items))) }
+    ensures { IfOk result (λ v. HaveFewParameters (blocks_of (map located_block blocks.items))
+        → v.items ≡ map block_of_record (blocks_of (map located_block blocks.items))) }
 {
     let mut typed = Vec::new(alloc);
     for started in blocks {
@@ -88,7 +88,7 @@ pub(crate) fn program(
 ) -> Result<Program, NoMemory>
     requires program { IsProgram (program_from
         (map located_block blocks.items) data_blocks.items names.items) }
-    requires few { AreFew (blocks_of (map located_block blocks.items)) }
+    requires few { HaveFewParameters (blocks_of (map located_block blocks.items)) }
     ensures { IfOk result (λ p. p
         ≡ program_from (map located_block blocks.items) data_blocks.items names.items) }
 {

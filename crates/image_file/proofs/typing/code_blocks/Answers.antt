@@ -6,11 +6,11 @@ use Rattle.flat_code.specs.Image.{block_of_record}
 use Rattle.flat_code.specs.Loading.{blocks_of}
 use Rattle.image_file.specs.declared.records.LocatedBlock.{LocatedBlock}
 use Rattle.image_file.specs.Running.{located_block}
-use Rattle.image_file.specs.Typing.{AreFew}
+use Rattle.image_file.specs.Typing.{HaveFewParameters}
 use Rattle.image_file.proofs.typing.code_blocks.Goals as goal
 
 abbrev Few : List LocatedBlock → Type 0
-Few xs = AreFew (blocks_of (map located_block xs))
+Few xs = HaveFewParameters (blocks_of (map located_block xs))
 
 abbrev typed_of : List LocatedBlock → List CodeBlock
 typed_of xs = map block_of_record (blocks_of (map located_block xs))
