@@ -6,7 +6,7 @@ use Rattle.flat_code.specs.Ops.{OpData, is_op, op_bytes, op_at}
 use Rattle.flat_code.specs.OpCodes.{op_code_of}
 use Rattle.flat_code.specs.declared.operations.EndOperation.TheVariants as ends
 use Rattle.flat_code.specs.declared.operations.Operation.TheVariants as operation
-use Rattle.flat_code.proofs.CodingLemmas.{IsBytes, Takes}
+use Rattle.flat_code.proofs.CodingLemmas.{IsBytes, BeginsWith}
 use Rattle.flat_code.proofs.OpLemmas.{op_again, op_takes, long_enough}
 use Rattle.flat_code.specs.Layout.{Cursor, ReadResult, reading_ended, reading_given}
 use Rattle.flat_code.specs.Codes.{cons_op, ops_next, ops_from, ends_by_be, are_ops, code_bytes, if_checked, overlong_statement, first_found, stop_at, read_ops, read_code, is_nowhere, code_layout, size_of_op, last_place}
@@ -16,7 +16,7 @@ use Rattle.image_file.proofs.LayoutLemmas.{at_place, Finds, Spells, IsLaidOut, g
 -- ---- runs of ops
 
 abbrev TakesOps : List ℕ → List OpData × List ℕ → Type 0
-TakesOps bytes r = Takes bytes (code_bytes r.0) r.1 × (are_ops r.0 ≡ true)
+TakesOps bytes r = BeginsWith bytes (code_bytes r.0) r.1 × (are_ops r.0 ≡ true)
 
 ops_next_take : (bytes : List ℕ) (o : Option (OpData × List ℕ)) → op_at bytes ≡ o → (more : List ℕ → List OpData × List ℕ) → IsBytes bytes → ((rest : List ℕ) → IsBytes rest → TakesOps rest (more rest)) → TakesOps bytes (ops_next o bytes more)
 ops_next_take bytes None e more are inner = (record { parts = refl; rest_fits = are }, refl)

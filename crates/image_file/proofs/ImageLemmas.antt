@@ -27,7 +27,7 @@ use Rattle.flat_code.specs.Stamps.{version_number, profile_field_of, stamp_of}
 use Rattle.flat_code.specs.declared.stamps.Stamp.{Stamp}
 use Rattle.flat_code.specs.declared.stamps.Stamp.TheVariants as stamps
 use Rattle.flat_code.specs.Image.{no_fault, plain_u16, plain_u32, zero_u8, zero_u16, width_field, bytes_fit, bytes_coding, section_field, parameter_byte, parameter_bit, ParameterRow, parameter_rows, parameter_fields, parameter_row, parameter_of_fields, fields_of_parameter, parameter_layout, kind_field, parameter_count_layout, block_number_layout, local_length_layout, instance_bytes_layout, Head, HeadRow, head_of_row, row_of_head, head_rows, head_layout, same_state, parameters_layout, end_marks, line_after, line_field, lines_layout, code_and_lines, BlockRow, parts_of_block_row, row_of_block_parts, block_rows, block_of_parts, head_of_block, parts_of_block, plain_block, whole_note, code_block_at, code_block_layout, after_block, data_number_layout, instance_field, data_length_layout, contents_layout, DataRow, data_rows, data_fields, data_row, instance_of_number, number_of_instance, data_of_fields, fields_of_data, data_block_layout, after_data, name_len, name_bytes, name_area, name_bit, NameRow, name_rows, name_fields, name_row, name_of_fields, fields_of_name, name_record, after_name, data_count, RecordCounts, CountRow, counts_of_row, row_of_counts, count_rows, counts_layout, counts_of, code_blocks_layout, plain_data_blocks, data_blocks_layout, names_layout, BodyParts, BodyRow, parts_of_body_row, row_of_body_parts, body_rows, records_of_parts, parts_of_records, records_layout, kind_of_number, area_of_number, number_of_area, param_of_record, record_of_param, block_of_record, record_of_block, entry_of_name, name_of_entry, program_of_records, records_of, body_layout, magic_field, version_field, profile_field, Front, FrontRow, front_of_row, row_of_front, front_rows, front_layout, front_size, front_of, stamp_in, image, IsProgram, IsRight, end_layout, read_cut_off, read_by, read_image}
-use Rattle.flat_code.proofs.CodingLemmas.{IsBytes, Takes, IsExact, pair_is, u8_exact, u16_exact, u32_exact}
+use Rattle.flat_code.proofs.CodingLemmas.{IsBytes, BeginsWith, IsExact, pair_is, u8_exact, u16_exact, u32_exact}
 use Rattle.flat_code.proofs.PartLemmas.{GoodBlock, behind_head, good_block, chain_parts, from_params, good_head, head_params, unless_fine}
 use Rattle.image_file.specs.Typing.{HaveFewParameters}
 use Rattle.image_file.proofs.LayoutLemmas.{at_place, Finds, IsLaidOut, bind_parts, bind_finds, field_laid, chain_laid, checked_laid, seen_laid, remembered_laid, many_laid, located_laid, no_faults}
@@ -49,13 +49,13 @@ fit : (bs : List ℕ) → IsBytes bs → bytes_fit bs ≡ true
 fit [] are = refl
 fit (b ∷ bs) are = and_from _ _ (lt-ltb b 256 (are 0)) (fit bs (λ i. are (suc i)))
 
-run_takes : (n : ℕ) (text bs rest : List ℕ) → IsBytes text → (b : Bool) → ltb (length text) n ≡ b → cond {A = Option (List ℕ × List ℕ)} b None (Some (take n text, drop n text)) ≡ Some (bs, rest) → Takes text bs rest × ((eqb (length bs) n && bytes_fit bs) ≡ true)
+run_takes : (n : ℕ) (text bs rest : List ℕ) → IsBytes text → (b : Bool) → ltb (length text) n ≡ b → cond {A = Option (List ℕ × List ℕ)} b None (Some (take n text, drop n text)) ≡ Some (bs, rest) → BeginsWith text bs rest × ((eqb (length bs) n && bytes_fit bs) ≡ true)
 run_takes n text bs rest are true t e = absurd cc
 run_takes n text bs rest are false t e =
     let p = pair_is (take n text) bs (drop n text) rest e in
     let size : length (take n text) ≡ n = let le = ltb-false _ _ t in omega (arith, length-take n text) in
-    subst (λ (z : List ℕ). Takes text z rest × ((eqb (length z) n && bytes_fit z) ≡ true)) p.0
-    (subst (λ (z : List ℕ). Takes text (take n text) z × ((eqb (length (take n text)) n && bytes_fit (take n text)) ≡ true)) p.1
+    subst (λ (z : List ℕ). BeginsWith text z rest × ((eqb (length z) n && bytes_fit z) ≡ true)) p.0
+    (subst (λ (z : List ℕ). BeginsWith text (take n text) z × ((eqb (length (take n text)) n && bytes_fit (take n text)) ≡ true)) p.1
     (record { parts = sym (take-append-drop n text); rest_fits = bytes_dropped n text are }, and_from _ _ (eq-eqb _ _ size) (fit (take n text) (bytes_taken n text are))))
 
 run_exact : (n : ℕ) → IsExact (List ℕ) (bytes_coding n)
