@@ -29,9 +29,9 @@ zero_word_good = refl
 -- ---- the tests
 
 -- as many values as there are
-counted : {S A : Type 0} (l : S → Layout A) (next : S → A → S) (s : S) (xs : List A) → good_many l next s (length xs) xs ≡ all_good l next s xs
-counted l next s [] = refl
-counted l next s (x ∷ xs) = ap (λ (t : Bool). (l s).good x && t) (counted l next (next s x) xs)
+good_many_is_all : {S A : Type 0} (l : S → Layout A) (next : S → A → S) (s : S) (xs : List A) → good_many l next s (length xs) xs ≡ all_good l next s xs
+good_many_is_all l next s [] = refl
+good_many_is_all l next s (x ∷ xs) = ap (λ (t : Bool). (l s).good x && t) (good_many_is_all l next (next s x) xs)
 
 code_good : (ops : List OpData) → are_ops ops ≡ true → (code_layout false (length (code_bytes ops))).good ops ≡ true
 unfolding code_layout
@@ -57,11 +57,11 @@ text_good before bs h = ap (λ (t : Bool). t && is_fine (name_fault before bs)) 
 
 lines_good : (start : ℕ) (before : ℕ × ℕ) (b : CodeBlock) → good_lines b.lines ≡ true → (lines_layout false start (head_of_block (record_of_block b)) b.code).good b.lines ≡ true
 unfolding lines_layout
-lines_good start before b h = counted (line_field false) line_after 0 b.lines ∙ h
+lines_good start before b h = good_many_is_all (line_field false) line_after 0 b.lines ∙ h
 
 params_good : (b : CodeBlock) → (parameters_layout (head_of_block (record_of_block b))).good (map record_of_param b.params) ≡ good_params (kind_number b.id.kind) b.instance_len b.params
 unfolding parameters_layout
-params_good b = counted (λ s. parameter_layout (kind_number b.id.kind) b.instance_len) same_state 0 (map record_of_param b.params)
+params_good b = good_many_is_all (λ s. parameter_layout (kind_number b.id.kind) b.instance_len) same_state 0 (map record_of_param b.params)
 
 -- what comes behind a test counts only where it is met
 both : (t a b : Bool) → (t ≡ true → a ≡ b) → (t && a) ≡ (t && b)
@@ -82,9 +82,9 @@ block_by_parts before b ops lines =
     ∙ params_good b))
 
 -- a test behind another
-pub met : (a b : Bool) → a ≡ true → (a && b) ≡ b
-met true b h = refl
-met false b h = absurd cc
+pub true_before : (a b : Bool) → a ≡ true → (a && b) ≡ b
+true_before true b h = refl
+true_before false b h = absurd cc
 
 counts_good : (a b c : ℕ) → counts_layout.good (record { code_blocks = a; data_blocks = b; names = c; reserved = 0 }) ≡ good_counts a b c
 unfolding counts_layout count_rows plain_u16 data_count zero_u16 field_fault
@@ -92,15 +92,15 @@ counts_good a b c = grind (arith, nat_tests)
 
 blocks_good : (bs : List CodeBlock) → (code_blocks_layout false (length (map record_of_block bs))).good (map record_of_block bs) ≡ good_blocks (0, 0) bs
 unfolding code_blocks_layout
-blocks_good bs = counted (code_block_layout false) after_block (0, 0) (map record_of_block bs)
+blocks_good bs = good_many_is_all (code_block_layout false) after_block (0, 0) (map record_of_block bs)
 
 datas_good : (ds : List DataBlock) → (data_blocks_layout (length ds)).good ds ≡ good_datas (0, 0) ds
 unfolding data_blocks_layout
-datas_good ds = counted data_block_layout after_data (0, 0) ds
+datas_good ds = good_many_is_all data_block_layout after_data (0, 0) ds
 
 names_good : (es : List NameEntry) → (names_layout (length (map name_of_entry es))).good (map name_of_entry es) ≡ good_names [] es
 unfolding names_layout
-names_good es = counted name_record after_name [] (map name_of_entry es)
+names_good es = good_many_is_all name_record after_name [] (map name_of_entry es)
 
 four : (a b c d x y z w : Bool) → a ≡ x → b ≡ y → c ≡ z → d ≡ w → (a && (b && (c && d))) ≡ (x && (y && (z && w)))
 four a b c d x y z w p q r s = cc
@@ -158,8 +158,8 @@ code_spelled : (n : ℕ) (ops : List OpData) → (code_layout false n).spell ops
 unfolding code_layout
 code_spelled n ops = refl
 
-joined : (a b c d : List ℕ) (k l m n : ℕ) → length a ≡ k → length b ≡ l → length c ≡ m → length d ≡ n → length (a ++ (b ++ (c ++ d))) ≡ k + l + m + n
-joined a b c d k l m n p q r s = omega (arith, length-append a (b ++ (c ++ d)), length-append b (c ++ d), length-append c d)
+lengths_of_four : (a b c d : List ℕ) (k l m n : ℕ) → length a ≡ k → length b ≡ l → length c ≡ m → length d ≡ n → length (a ++ (b ++ (c ++ d))) ≡ k + l + m + n
+lengths_of_four a b c d k l m n p q r s = omega (arith, length-append a (b ++ (c ++ d)), length-append b (c ++ d), length-append c d)
 
 record_size : BlockRecord → ℕ
 record_size b = 16 + 6 * length b.params + length (code_bytes b.code) + 4 * length b.lines
@@ -168,7 +168,7 @@ block_sized : (before : ℕ × ℕ) (b : BlockRecord) → length ((code_block_la
 unfolding code_block_layout plain_block block_rows code_and_lines record_size
 block_sized before b =
     let h = head_of_block b in
-    joined ((head_layout before).spell h) ((parameters_layout h).spell b.params) ((code_layout false (length (code_bytes b.code))).spell b.code) ((lines_layout false 0 h b.code).spell b.lines) _ _ _ _
+    lengths_of_four ((head_layout before).spell h) ((parameters_layout h).spell b.params) ((code_layout false (length (code_bytes b.code))).spell b.code) ((lines_layout false 0 h b.code).spell b.lines) _ _ _ _
     (head_sized before h) (params_sized h b.params) (ap length (code_spelled (length (code_bytes b.code)) b.code)) (lines_sized 0 h b.code b.lines)
 
 same_size : (b : CodeBlock) → record_size (record_of_block b) ≡ records_size b
@@ -206,7 +206,7 @@ image_sized : (p : Program) → front_size + length ((body_layout false).spell p
 unfolding body_layout records_layout body_rows
 image_sized p =
     let r = parts_of_records (records_of p) in
-    let all = joined (counts_layout.spell r.counts) ((code_blocks_layout false r.counts.code_blocks).spell r.code_blocks) ((data_blocks_layout r.counts.data_blocks).spell r.data_blocks) ((names_layout r.counts.names).spell r.names) _ _ _ _
+    let all = lengths_of_four (counts_layout.spell r.counts) ((code_blocks_layout false r.counts.code_blocks).spell r.code_blocks) ((data_blocks_layout r.counts.data_blocks).spell r.data_blocks) ((names_layout r.counts.names).spell r.names) _ _ _ _
     (counts_sized r.counts) (blocks_sized r.counts.code_blocks p.code_blocks) (datas_sized r.counts.data_blocks p.data_blocks) (names_sized r.counts.names p.names) in
     omega (arith, all)
 
@@ -226,11 +226,11 @@ abbrev pub of_parts : List CodeBlock → List DataBlock → List NameEntry → P
 of_parts bs ds es = record { code_blocks = bs; data_blocks = ds; names = es }
 
 -- what a test of slices says of the lists
-pub made : (bs xs : List CodeBlock) (ds ys : List DataBlock) (es zs : List NameEntry) (t : Bool) → xs ≡ bs → ys ≡ ds → zs ≡ es → t ≡ makes_program (of_parts xs ys zs) → t ≡ true → IsProgram (of_parts bs ds es)
-made bs xs ds ys es zs t p q r h is = is_program (of_parts bs ds es) (cc)
+pub is_program_by_test : (bs xs : List CodeBlock) (ds ys : List DataBlock) (es zs : List NameEntry) (t : Bool) → xs ≡ bs → ys ≡ ds → zs ≡ es → t ≡ makes_program (of_parts xs ys zs) → t ≡ true → IsProgram (of_parts bs ds es)
+is_program_by_test bs xs ds ys es zs t p q r h is = is_program (of_parts bs ds es) (cc)
 
-pub unmade : (bs xs : List CodeBlock) (ds ys : List DataBlock) (es zs : List NameEntry) (t : Bool) → xs ≡ bs → ys ≡ ds → zs ≡ es → t ≡ makes_program (of_parts xs ys zs) → t ≡ false → IsProgram (of_parts bs ds es) → ⊥
-unmade bs xs ds ys es zs t p q r h is = is_no_program (of_parts bs ds es) (cc)
+pub is_no_program_by_test : (bs xs : List CodeBlock) (ds ys : List DataBlock) (es zs : List NameEntry) (t : Bool) → xs ≡ bs → ys ≡ ds → zs ≡ es → t ≡ makes_program (of_parts xs ys zs) → t ≡ false → IsProgram (of_parts bs ds es) → ⊥
+is_no_program_by_test bs xs ds ys es zs t p q r h is = is_no_program (of_parts bs ds es) (cc)
 
 -- ---- loops
 

@@ -10,7 +10,7 @@ use Rattle.flat_code.specs.OpCodes.{op_code_of}
 use Rattle.flat_code.specs.declared.operations.Operation.{Operation}
 use Rattle.flat_code.specs.declared.operations.Operation.TheVariants as operation
 use Rattle.plc_base.specs.declared.instructions.Check.TheVariants as check
-use Rattle.flat_code.specs.declared.operations.AccuOperation.TheVariants as number
+use Rattle.flat_code.specs.declared.operations.AccuOperation.TheVariants as accu_operation
 use Rattle.flat_code.specs.declared.operations.AddConstant.TheVariants as adding
 use Rattle.plc_base.specs.declared.instructions.Compare.TheVariants as compare
 use Rattle.flat_code.specs.declared.operations.Logic.TheVariants as logic
@@ -74,31 +74,31 @@ operation_again (operation.Pointer pointers.Tar1Ar2) = refl
 operation_again (operation.Pointer pointers.Car) = refl
 operation_again (operation.Pointer pointers.AddAr1) = refl
 operation_again (operation.Pointer pointers.AddAr2) = refl
-operation_again (operation.Number number.Tak) = refl
-operation_again (operation.Number number.Push) = refl
-operation_again (operation.Number number.Pop) = refl
-operation_again (operation.Number number.Caw) = refl
-operation_again (operation.Number number.Cad) = refl
-operation_again (operation.Number number.AddI) = refl
-operation_again (operation.Number number.SubI) = refl
-operation_again (operation.Number number.MulI) = refl
-operation_again (operation.Number number.DivI) = refl
-operation_again (operation.Number number.AddD) = refl
-operation_again (operation.Number number.SubD) = refl
-operation_again (operation.Number number.MulD) = refl
-operation_again (operation.Number number.DivD) = refl
-operation_again (operation.Number number.Mod) = refl
-operation_again (operation.Number number.Bti) = refl
-operation_again (operation.Number number.Itb) = refl
-operation_again (operation.Number number.Btd) = refl
-operation_again (operation.Number number.Dtb) = refl
-operation_again (operation.Number number.Itd) = refl
-operation_again (operation.Number number.Invi) = refl
-operation_again (operation.Number number.Invd) = refl
-operation_again (operation.Number number.Negi) = refl
-operation_again (operation.Number number.Negd) = refl
-operation_again (operation.Number number.Rlda) = refl
-operation_again (operation.Number number.Rrda) = refl
+operation_again (operation.Number accu_operation.Tak) = refl
+operation_again (operation.Number accu_operation.Push) = refl
+operation_again (operation.Number accu_operation.Pop) = refl
+operation_again (operation.Number accu_operation.Caw) = refl
+operation_again (operation.Number accu_operation.Cad) = refl
+operation_again (operation.Number accu_operation.AddI) = refl
+operation_again (operation.Number accu_operation.SubI) = refl
+operation_again (operation.Number accu_operation.MulI) = refl
+operation_again (operation.Number accu_operation.DivI) = refl
+operation_again (operation.Number accu_operation.AddD) = refl
+operation_again (operation.Number accu_operation.SubD) = refl
+operation_again (operation.Number accu_operation.MulD) = refl
+operation_again (operation.Number accu_operation.DivD) = refl
+operation_again (operation.Number accu_operation.Mod) = refl
+operation_again (operation.Number accu_operation.Bti) = refl
+operation_again (operation.Number accu_operation.Itb) = refl
+operation_again (operation.Number accu_operation.Btd) = refl
+operation_again (operation.Number accu_operation.Dtb) = refl
+operation_again (operation.Number accu_operation.Itd) = refl
+operation_again (operation.Number accu_operation.Invi) = refl
+operation_again (operation.Number accu_operation.Invd) = refl
+operation_again (operation.Number accu_operation.Negi) = refl
+operation_again (operation.Number accu_operation.Negd) = refl
+operation_again (operation.Number accu_operation.Rlda) = refl
+operation_again (operation.Number accu_operation.Rrda) = refl
 operation_again (operation.CompareInt compare.Eq) = refl
 operation_again (operation.CompareInt compare.Ne) = refl
 operation_again (operation.CompareInt compare.Gt) = refl

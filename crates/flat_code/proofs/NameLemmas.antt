@@ -88,23 +88,23 @@ rises t before (e ∷ es) h (suc i) zero d le lt = absurd (omega arith)
 rises t before (e ∷ es) h (suc i) (suc j) d le lt = rises t e.name es (parts_of before e es h).more i j d (omega arith) (omega arith)
 
 -- the variable of an entry whose name this is
-found : (name before : List ℕ) (es : List NameEntry) → names_rise before es ≡ true → (i : ℕ) (d : NameEntry) → i < length es
+name_found : (name before : List ℕ) (es : List NameEntry) → names_rise before es ≡ true → (i : ℕ) (d : NameEntry) → i < length es
     → slice_cmp nat_cmp (get_or es i d).name (upper_case_name name) ≡ Equal → find es name ≡ Some ((get_or es i d).place, (get_or es i d).width)
 unfolding find
-found name before [] h i d lt is = absurd (omega arith)
-found name before (e ∷ es) h zero d lt is =
+name_found name before [] h i d lt is = absurd (omega arith)
+name_found name before (e ∷ es) h zero d lt is =
     let p = parts_of before e es h in
     rw (same_is e.name name p.upper ∙ ap is_eq is) refl
-found name before (e ∷ es) h (suc i) d lt is =
+name_found name before (e ∷ es) h (suc i) d lt is =
     let p = parts_of before e es h in
     let less : slice_cmp nat_cmp e.name (upper_case_name name) ≡ Less = sym (alike_right nat_list_cmp_total (get_or es i d).name (upper_case_name name) e.name is) ∙ later e.name es p.more i d (omega arith) in
-    rw (same_is e.name name p.upper ∙ ap is_eq less) (found name e.name es p.more i d (omega arith) is)
+    rw (same_is e.name name p.upper ∙ ap is_eq less) (name_found name e.name es p.more i d (omega arith) is)
 
 -- the variable that was read from such an entry
 pub found_in : (name : List ℕ) (es : List NameEntry) → names_rise [] es ≡ true → (i : ℕ) (entry : NameEntry) (variable : Place × Width) → i < length es
     → slice_cmp nat_cmp (get_or es i entry).name (upper_case_name name) ≡ Equal → entry ≡ get_or es i entry → variable ≡ (entry.place, entry.width) → Some variable ≡ find es name
 found_in name es h i entry variable lt is at reads =
-    ap Some reads ∙ ap (λ (e : NameEntry). Some (e.place, e.width)) at ∙ sym (found name [] es h i entry lt is)
+    ap Some reads ∙ ap (λ (e : NameEntry). Some (e.place, e.width)) at ∙ sym (name_found name [] es h i entry lt is)
 
 -- where no entry has the name, it finds nothing
 none_found : (name before : List ℕ) (es : List NameEntry) → names_rise before es ≡ true

@@ -24,9 +24,9 @@ there None f h = h
 there (Some x) f h = refl
 
 -- where something comes of a test, the test is met
-met : {A : Type 0} (test : Bool) (x : A) → is_some (cond test (Some x) None) ≡ true → test ≡ true
-met true x h = refl
-met false x h = absurd cc
+test_is_met : {A : Type 0} (test : Bool) (x : A) → is_some (cond test (Some x) None) ≡ true → test ≡ true
+test_is_met true x h = refl
+test_is_met false x h = absurd cc
 
 -- an op takes two bytes at least
 pub too_short : (bytes : List ℕ) → length bytes < 2 → is_some (op_at bytes) ≡ true → ⊥
@@ -53,8 +53,8 @@ operand_there (b ∷ n ∷ rest) h =
     ∙ there (payload_in n rest) (with_operand b) h
 
 -- the op that was found, and how many bytes it takes
-abbrev pub measured : Option (OpData × List ℕ) → Option (OpData × ℕ)
-measured found = option_map (λ r. (r.0, size_of_op r.0)) found
+abbrev pub op_and_size : Option (OpData × List ℕ) → Option (OpData × ℕ)
+op_and_size found = option_map (λ r. (r.0, size_of_op r.0)) found
 
 len_of : Option (OpData × ℕ) → ℕ
 len_of None = 0
@@ -70,11 +70,11 @@ begins_within bytes at h = by (ltb (length bytes) at) refl
 
 -- and ends there
 pub ends_within : (bytes : List ℕ) (at : ℕ) (op : OpData) (len : ℕ) → IsBytes bytes → at ≤ length bytes
-    → measured (op_at (drop at bytes)) ≡ Some (op, len) → at + len ≤ length bytes
+    → op_and_size (op_at (drop at bytes)) ≡ Some (op, len) → at + len ≤ length bytes
 unfolding size_of_op len_of
 ends_within bytes at op len are within is = by (op_at (drop at bytes)) refl is
   where
-    by : (o : Option (OpData × List ℕ)) → op_at (drop at bytes) ≡ o → measured o ≡ Some (op, len) → at + len ≤ length bytes
+    by : (o : Option (OpData × List ℕ)) → op_at (drop at bytes) ≡ o → op_and_size o ≡ Some (op, len) → at + len ≤ length bytes
     by None e s = absurd cc
     by (Some r) e s =
         let parts = (op_takes (drop at bytes) r.0 r.1 (bytes_from at bytes are) e).0.parts in
@@ -84,7 +84,7 @@ ends_within bytes at op len are within is = by (op_at (drop at bytes)) refl is
 -- an op of the table, and as long as its operand says
 pub record IsFirst (bytes : List ℕ) (operand : Operand) (len : ℕ) : Type 0 where
   pub op : is_op (get_or bytes 0 0 % 128) operand ≡ true
-  pub is : measured (op_at bytes) ≡ Some (op_of (get_or bytes 0 0 % 128) (leb 128 (get_or bytes 0 0)) operand, len)
+  pub is : op_and_size (op_at bytes) ≡ Some (op_of (get_or bytes 0 0 % 128) (leb 128 (get_or bytes 0 0)) operand, len)
 
 -- what is read for the operand, with the code of the first byte
 pub is_first : (bytes : List ℕ) (operand : Operand) (len : ℕ) → IsBytes bytes → is_some (op_at bytes) ≡ true
@@ -103,7 +103,7 @@ is_first (b ∷ n ∷ rest) operand len are h read sized =
     by (Some r) e t is =
         let same : r.0 ≡ operand = cc in
         let long : length (code_byte (b % 128) (leb 128 b) ∷ form_of_operand operand ∷ payload operand) ≡ len = omega (arith, sized) in
-        let taken : admits (takes_of (b % 128)) operand ≡ true = ap (admits (takes_of (b % 128))) (sym same) ∙ met (admits (takes_of (b % 128)) r.0) (op_of (b % 128) (leb 128 b) r.0, r.1) t in
+        let taken : admits (takes_of (b % 128)) operand ≡ true = ap (admits (takes_of (b % 128))) (sym same) ∙ test_is_met (admits (takes_of (b % 128)) r.0) (op_of (b % 128) (leb 128 b) r.0, r.1) t in
         record {
           op = payload_is_op (b % 128) n rest operand r.1 (λ i. are (suc (suc i))) (e ∙ ap (λ (z : Operand). Some (z, r.1)) same) (omega arith) taken;
           is = rw (e, same, taken) (ap (λ (n : ℕ). Some (op_of (b % 128) (leb 128 b) operand, n)) long);

@@ -8,7 +8,7 @@ use Rattle.plc_base.specs.declared.places.Area.{Area}
 use Rattle.plc_base.specs.declared.places.Area.TheVariants as area
 use Rattle.flat_code.specs.declared.programs.Param.{Param}
 use Rattle.flat_code.specs.declared.image_fields.ParameterRecord.{ParameterRecord}
-use Rattle.flat_code.specs.declared.image_fields.Field.TheVariants as field_of
+use Rattle.flat_code.specs.declared.image_fields.Field.TheVariants as field
 use Rattle.flat_code.specs.Coding.{Coding, u8, u16, u32, behind_fifth, behind_fourth, behind_seventh, behind_third, fifth_value, fourth_value, second_value, seventh_value, sixth_value, third_value}
 use Rattle.flat_code.specs.Forms.{area_code, area_of_code, kind_of_code, width_of_number}
 use Rattle.flat_code.specs.Ops.{OpData}
@@ -34,15 +34,15 @@ plain_u32 = field_layout u32 no_fault
 
 -- the reserved byte of a parameter: 0, else fault 4
 unfoldable pub zero_u8 : Layout ℕ
-zero_u8 = field_layout u8 (λ n. field_fault (field_of.Reserved n))
+zero_u8 = field_layout u8 (λ n. field_fault (field.Reserved n))
 
 -- a reserved u16 of the counts, a code block's head or a data block: 0, else fault 4
 unfoldable pub zero_u16 : Layout ℕ
-zero_u16 = field_layout u16 (λ n. field_fault (field_of.Reserved n))
+zero_u16 = field_layout u16 (λ n. field_fault (field.Reserved n))
 
 -- the width of a parameter, or of a name's variable: 1 to 4, else fault 4
 unfoldable pub width_field : Layout ℕ
-width_field = field_layout u8 (λ n. field_fault (field_of.Width n))
+width_field = field_layout u8 (λ n. field_fault (field.Width n))
 
 -- whether each number of a list is a byte, below 256
 abbrev pub bytes_fit : List ℕ → Bool
@@ -60,17 +60,17 @@ bytes_coding n = record {
 -- the section of a parameter, 1 VAR_INPUT, 2 VAR_OUTPUT or 3 VAR_IN_OUT, else fault 4. A parameter
 -- has the fields section u8, width u8, byte u16, bit u8, zero u8
 unfoldable pub section_field : Layout ℕ
-section_field = field_layout u8 (λ n. field_fault (field_of.Section n))
+section_field = field_layout u8 (λ n. field_fault (field.Section n))
 
 -- the byte of a parameter of the width `w` (1 to 4): in an FB (kind 3) so that it lies within the
 -- `instance` bytes, in an FC 0
 unfoldable pub parameter_byte : ℕ → ℕ → ℕ → Layout ℕ
 parameter_byte kind instance w =
-    field_layout u16 (λ n. field_fault (field_of.ParameterByte kind instance w n))
+    field_layout u16 (λ n. field_fault (field.ParameterByte kind instance w n))
 
 -- the bit of a parameter: 0 to 7 in an FB, whatever the width is, and 0 in an FC
 unfoldable pub parameter_bit : ℕ → Layout ℕ
-parameter_bit kind = field_layout u8 (λ n. field_fault (field_of.ParameterBit kind n))
+parameter_bit kind = field_layout u8 (λ n. field_fault (field.ParameterBit kind n))
 
 -- the fields of a parameter of a code block, six bytes of an image
 pub record ParameterFields : Type 0 where
@@ -138,27 +138,27 @@ parameter_layout kind instance =
 -- for none), else fault 4. A head has the fields kind u8, parameter count u8, number u16, local
 -- bytes u16, instance bytes u16, statement count u16, zero u16, code length u32
 unfoldable pub kind_field : ℕ → Layout ℕ
-kind_field before = field_layout u8 (λ n. field_fault (field_of.Kind before n))
+kind_field before = field_layout u8 (λ n. field_fault (field.Kind before n))
 
 -- the parameter count of a code block: at most 60, and 0 for an OB, else fault 4
 unfoldable pub parameter_count_layout : ℕ → Layout ℕ
-parameter_count_layout kind = field_layout u8 (λ n. field_fault (field_of.ParameterCount kind n))
+parameter_count_layout kind = field_layout u8 (λ n. field_fault (field.ParameterCount kind n))
 
 -- the number of a code block: one that there is of its kind; above `before`, that of the block
 -- before it, where this has the same kind; else fault 4
 unfoldable pub block_number_layout : ℕ → ℕ → ℕ → Layout ℕ
 block_number_layout kind_before before kind =
-    field_layout u16 (λ n. field_fault (field_of.Number kind_before before kind n))
+    field_layout u16 (λ n. field_fault (field.Number kind_before before kind n))
 
 -- how many local bytes (area L) a code block has: at most 1,024; at least 20 for an OB, which has
 -- its start information there; else fault 4
 unfoldable pub local_length_layout : ℕ → Layout ℕ
-local_length_layout kind = field_layout u16 (λ n. field_fault (field_of.LocalBytes kind n))
+local_length_layout kind = field_layout u16 (λ n. field_fault (field.LocalBytes kind n))
 
 -- how many bytes an instance of a code block has: at most 16,384 for an FB, and 0 for another
 -- block, else fault 4
 unfoldable pub instance_bytes_layout : ℕ → Layout ℕ
-instance_bytes_layout kind = field_layout u16 (λ n. field_fault (field_of.InstanceBytes kind n))
+instance_bytes_layout kind = field_layout u16 (λ n. field_fault (field.InstanceBytes kind n))
 
 -- the head of a code block, the first sixteen bytes of it in an image
 pub record Head : Type 0 where
@@ -252,7 +252,7 @@ line_after before line = line
 -- none), else fault 9; without code faults any u32
 unfoldable pub line_field : (with_code_faults : Bool) → (before : ℕ) → Layout ℕ
 line_field with_code_faults before =
-    field_layout u32 (λ n. if_checked with_code_faults (field_fault (field_of.Line before n)))
+    field_layout u32 (λ n. if_checked with_code_faults (field_fault (field.Line before n)))
 
 -- the source lines of a code block at offset `start`, u32 each, as many as its head counts
 -- statements; with code faults, fault 9 at the statement count (`start` + 8) where the ops have
@@ -262,7 +262,7 @@ unfoldable pub lines_layout :
 lines_layout with_code_faults start h ops =
     checked_layout (start + 8)
     (if_checked with_code_faults
-    (field_fault (field_of.StatementCount (end_marks ops) h.statement_count)))
+    (field_fault (field.StatementCount (end_marks ops) h.statement_count)))
     (list_layout (line_field with_code_faults) line_after 0 h.statement_count)
 
 -- the ops and source lines of a code block at offset `start`, behind this head and the parameters;
@@ -383,17 +383,17 @@ after_block before b = (b.kind, b.number)
 -- for none), else fault 4. A data block has the fields number u16, instance u16, length u16, zero
 -- u16, bytes
 unfoldable pub data_number_layout : ℕ → Layout ℕ
-data_number_layout before = field_layout u16 (λ n. field_fault (field_of.DataNumber before n))
+data_number_layout before = field_layout u16 (λ n. field_fault (field.DataNumber before n))
 
 -- the FB of an instance data block: 0 for none, or the number of the FB plus 1, so at most 2,048;
 -- that there is this FB isn't tested
 unfoldable pub instance_field : Layout ℕ
-instance_field = field_layout u16 (λ n. field_fault (field_of.InstanceOf n))
+instance_field = field_layout u16 (λ n. field_fault (field.InstanceOf n))
 
 -- the length of a data block in bytes: at most 16,384, and at most 2,097,152 together with
 -- `before`, the bytes of all data blocks before it, else fault 4
 unfoldable pub data_length_layout : ℕ → Layout ℕ
-data_length_layout before = field_layout u16 (λ n. field_fault (field_of.DataBytes before n))
+data_length_layout before = field_layout u16 (λ n. field_fault (field.DataBytes before n))
 
 -- the n bytes of a data block, of any values
 unfoldable pub contents_layout : ℕ → Layout (List ℕ)
@@ -485,7 +485,7 @@ after_data before d = (d.number, before.1 + length d.bytes)
 -- the length of a name in bytes: 1 to 24, else fault 4. A name has the fields length u8, bytes,
 -- area u8, width u8, byte u16, bit u8
 unfoldable pub name_len : Layout ℕ
-name_len = field_layout u8 (λ n. field_fault (field_of.NameLength n))
+name_len = field_layout u8 (λ n. field_fault (field.NameLength n))
 
 -- the n bytes of a name: above those of the name `before` (empty for none), without a to z, without
 -- a blank at the end, else fault 4
@@ -494,11 +494,11 @@ name_bytes before n = field_layout (bytes_coding n) (name_fault before)
 
 -- the area of a name's variable: 16#81 I, 16#82 Q, 16#83 M, else fault 4
 unfoldable pub name_area : Layout ℕ
-name_area = field_layout u8 (λ n. field_fault (field_of.NameArea n))
+name_area = field_layout u8 (λ n. field_fault (field.NameArea n))
 
 -- the bit of a name's variable: 0 to 7 where its width w is 1 (a bit), else 0
 unfoldable pub name_bit : ℕ → Layout ℕ
-name_bit w = field_layout u8 (λ n. field_fault (field_of.NameBit w n))
+name_bit w = field_layout u8 (λ n. field_fault (field.NameBit w n))
 
 -- the fields of a name of an image, with the place of the variable that it names
 pub record NameFields : Type 0 where
@@ -580,7 +580,7 @@ after_name before n = n.name
 -- the count of an image's data blocks: at most 256, else fault 4. The counts stand behind the total
 -- length: code blocks u16, data blocks u16, names u16, zero u16
 unfoldable pub data_count : Layout ℕ
-data_count = field_layout u16 (λ n. field_fault (field_of.DataBlockCount n))
+data_count = field_layout u16 (λ n. field_fault (field.DataBlockCount n))
 
 -- how many records of each kind an image has, the last eight bytes of its header
 pub record RecordCounts : Type 0 where
@@ -827,15 +827,15 @@ body_layout with_code_faults =
 -- the magic of an image, the bytes `S7FB`, else fault 1. The front of an image has the fields magic
 -- u32, version u16, profile u16, total length u32
 unfoldable pub magic_field : Layout ℕ
-magic_field = field_layout u32 (λ n. field_fault (field_of.Magic n))
+magic_field = field_layout u32 (λ n. field_fault (field.Magic n))
 
 -- the version of an image: 1 or 2, else fault 2
 unfoldable pub version_field : Layout ℕ
-version_field = field_layout u16 (λ n. field_fault (field_of.Version n))
+version_field = field_layout u16 (λ n. field_fault (field.Version n))
 
 -- the profile of an image: in version 2 1 for Small or 2 for Large, in version 1 0, else fault 4
 unfoldable pub profile_field : ℕ → Layout ℕ
-profile_field version = field_layout u16 (λ n. field_fault (field_of.Profile version n))
+profile_field version = field_layout u16 (λ n. field_fault (field.Profile version n))
 
 -- the front of an image: the fields of its header up to the total length, twelve bytes
 pub record Front : Type 0 where
@@ -843,7 +843,8 @@ pub record Front : Type 0 where
   pub magic : ℕ
   -- the version of the image: 1 or 2; another number is fault 2
   pub version : ℕ
-  -- the profile with which the image is run: in version 2 1 for Small or 2 for Large, in version 1 0
+  -- the profile with which the image is run: in version 2 1 for Small or 2 for Large, in version 1
+  -- 0
   pub profile : ℕ
   -- how many bytes the whole image has
   pub total_length : ℕ

@@ -3,7 +3,7 @@ use Rattle.std.specs.Prelude.{ℕ, true, false}
 use Rattle.flat_code.specs.declared.operations.Operation.{Operation}
 use Rattle.flat_code.specs.declared.operations.Operation.TheVariants as operation
 use Rattle.plc_base.specs.declared.instructions.Check.TheVariants as check
-use Rattle.flat_code.specs.declared.operations.AccuOperation.TheVariants as number
+use Rattle.flat_code.specs.declared.operations.AccuOperation.TheVariants as accu_operation
 use Rattle.flat_code.specs.declared.operations.AddConstant.TheVariants as adding
 use Rattle.plc_base.specs.declared.instructions.Compare.TheVariants as compare
 use Rattle.flat_code.specs.declared.operations.Logic.TheVariants as logic
@@ -67,31 +67,31 @@ op_code_of (operation.Pointer pointers.Tar1Ar2) = 0x35
 op_code_of (operation.Pointer pointers.Car) = 0x36
 op_code_of (operation.Pointer pointers.AddAr1) = 0x37
 op_code_of (operation.Pointer pointers.AddAr2) = 0x38
-op_code_of (operation.Number number.Tak) = 0x39
-op_code_of (operation.Number number.Push) = 0x3A
-op_code_of (operation.Number number.Pop) = 0x3B
-op_code_of (operation.Number number.Caw) = 0x3C
-op_code_of (operation.Number number.Cad) = 0x3D
-op_code_of (operation.Number number.AddI) = 0x41
-op_code_of (operation.Number number.SubI) = 0x42
-op_code_of (operation.Number number.MulI) = 0x43
-op_code_of (operation.Number number.DivI) = 0x44
-op_code_of (operation.Number number.AddD) = 0x45
-op_code_of (operation.Number number.SubD) = 0x46
-op_code_of (operation.Number number.MulD) = 0x47
-op_code_of (operation.Number number.DivD) = 0x48
-op_code_of (operation.Number number.Mod) = 0x49
-op_code_of (operation.Number number.Bti) = 0x56
-op_code_of (operation.Number number.Itb) = 0x57
-op_code_of (operation.Number number.Btd) = 0x58
-op_code_of (operation.Number number.Dtb) = 0x59
-op_code_of (operation.Number number.Itd) = 0x5A
-op_code_of (operation.Number number.Invi) = 0x5B
-op_code_of (operation.Number number.Invd) = 0x5C
-op_code_of (operation.Number number.Negi) = 0x5D
-op_code_of (operation.Number number.Negd) = 0x5E
-op_code_of (operation.Number number.Rlda) = 0x6D
-op_code_of (operation.Number number.Rrda) = 0x6E
+op_code_of (operation.Number accu_operation.Tak) = 0x39
+op_code_of (operation.Number accu_operation.Push) = 0x3A
+op_code_of (operation.Number accu_operation.Pop) = 0x3B
+op_code_of (operation.Number accu_operation.Caw) = 0x3C
+op_code_of (operation.Number accu_operation.Cad) = 0x3D
+op_code_of (operation.Number accu_operation.AddI) = 0x41
+op_code_of (operation.Number accu_operation.SubI) = 0x42
+op_code_of (operation.Number accu_operation.MulI) = 0x43
+op_code_of (operation.Number accu_operation.DivI) = 0x44
+op_code_of (operation.Number accu_operation.AddD) = 0x45
+op_code_of (operation.Number accu_operation.SubD) = 0x46
+op_code_of (operation.Number accu_operation.MulD) = 0x47
+op_code_of (operation.Number accu_operation.DivD) = 0x48
+op_code_of (operation.Number accu_operation.Mod) = 0x49
+op_code_of (operation.Number accu_operation.Bti) = 0x56
+op_code_of (operation.Number accu_operation.Itb) = 0x57
+op_code_of (operation.Number accu_operation.Btd) = 0x58
+op_code_of (operation.Number accu_operation.Dtb) = 0x59
+op_code_of (operation.Number accu_operation.Itd) = 0x5A
+op_code_of (operation.Number accu_operation.Invi) = 0x5B
+op_code_of (operation.Number accu_operation.Invd) = 0x5C
+op_code_of (operation.Number accu_operation.Negi) = 0x5D
+op_code_of (operation.Number accu_operation.Negd) = 0x5E
+op_code_of (operation.Number accu_operation.Rlda) = 0x6D
+op_code_of (operation.Number accu_operation.Rrda) = 0x6E
 op_code_of (operation.CompareInt compare.Eq) = 0x4A
 op_code_of (operation.CompareInt compare.Ne) = 0x4B
 op_code_of (operation.CompareInt compare.Gt) = 0x4C

@@ -3,6 +3,7 @@ ghost use Rattle.flat_code.specs.Checking.{good_counts, good_records, makes_prog
 
 use crate::good_blocks::are_good_blocks;
 use crate::good_data::{are_good_data_blocks, are_good_names};
+use crate::image_fields::SECTION_IN;
 use crate::image_size::is_short;
 use crate::names::{NameEntry, Names};
 use crate::ops::Op;
@@ -23,13 +24,14 @@ pub struct Param {
 impl Default for Param {
     ghost use Rattle.std.specs.Prelude.{◌≡◌};
     ghost use Rattle.plc_base.specs.declared.places.Width.TheVariants.{Bit};
+    ghost use Rattle.flat_code.specs.Records.{section_in};
 
     /// An IN parameter of one bit, with no place in an instance.
     fn default() -> Param
-        ensures { result ≡ record { section = 1; width = Bit; byte = 0; bit = 0 } }
+        ensures { result ≡ record { section = section_in; width = Bit; byte = 0; bit = 0 } }
     {
         Param {
-            section: 1,
+            section: SECTION_IN,
             width: Width::Bit,
             byte: 0,
             bit: 0,

@@ -4,6 +4,7 @@ ghost use Rattle.flat_code.specs.Forms.{area_code, kind_of_code, width_of_number
 ghost use Rattle.flat_code.specs.Image.{area_of_number, kind_of_number, number_of_area};
 
 use crate::fields::{area_of, width_of};
+use crate::kinds::{FUNCTION, FUNCTION_BLOCK, ORGANIZATION_BLOCK, SYSTEM_FUNCTION};
 use plc_base::{Area, BlockKind, Place, Width};
 
 /// The width that a number in an image names: 1 bit, 2 byte, 3 word, 4 double word; a bit for the
@@ -23,10 +24,10 @@ pub fn kind_of_code(number: u8) -> Option<BlockKind>
     ensures { result ≡ kind_of_code number }
 {
     match number {
-        1 => Some(BlockKind::Ob),
-        2 => Some(BlockKind::Fc),
-        3 => Some(BlockKind::Fb),
-        5 => Some(BlockKind::Sfc),
+        ORGANIZATION_BLOCK => Some(BlockKind::Ob),
+        FUNCTION => Some(BlockKind::Fc),
+        FUNCTION_BLOCK => Some(BlockKind::Fb),
+        SYSTEM_FUNCTION => Some(BlockKind::Sfc),
         _ => None,
     }
 }

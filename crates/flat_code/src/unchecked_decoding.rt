@@ -182,7 +182,8 @@ fn known_operand_of_part(form: u8, bytes: &[u8]) -> (Operand, u32)
     }
 }
 
-/// The same where nothing is inlined, so that what reads the common forms stays short.
+/// The operand of a form and its op's bytes. Nothing is inlined, so that what reads the common
+/// forms stays short.
 #[inline(never)]
 fn operand_of_part(form: u8, bytes: &[u8]) -> (Operand, u32)
     requires { is_some (payload_in form bytes.now) ≡ true }
@@ -261,7 +262,7 @@ fn first_op(bytes: &[u8]) -> (Op, u32)
     (op, size)
 }
 
-/// The same, for an op of a statement that has several.
+/// The op that bytes begin with, and its size, where the op is one of a statement that has several.
 #[inline(always)]
 fn first_part(bytes: &[u8]) -> (Op, u32)
     requires { is_some (op_at bytes.now) ≡ true }
@@ -286,19 +287,22 @@ fn first_part(bytes: &[u8]) -> (Op, u32)
 pub fn decode_op_unchecked(bytes: &[u8], at: u32) -> (Op, u32)
     requires known { is_some (op_at (drop at bytes.now)) ≡ true }
     requires short { length bytes.now < 2 ^ 32 }
-    ensures { Some result ≡ option_map (λ r. (r.0, at + size_of_op r.0)) (op_at (drop at bytes.now)) }
+    ensures { Some result
+        ≡ option_map (λ r. (r.0, at + size_of_op r.0)) (op_at (drop at bytes.now)) }
 {
     let (op, size) = first_op(behind(bytes, at as usize));
     (op, at + size)
 }
 
-/// The same, for an op of a statement that has several: a call, or a place in a data block that is
-/// opened.
+/// The op at an offset where one is known to stand, and the offset behind it, as
+/// `decode_op_unchecked` gives them, but faster for an op of a statement that has several: a call,
+/// or a place in a data block that is opened.
 #[inline(always)]
 pub fn decode_part_unchecked(bytes: &[u8], at: u32) -> (Op, u32)
     requires known { is_some (op_at (drop at bytes.now)) ≡ true }
     requires short { length bytes.now < 2 ^ 32 }
-    ensures { Some result ≡ option_map (λ r. (r.0, at + size_of_op r.0)) (op_at (drop at bytes.now)) }
+    ensures { Some result
+        ≡ option_map (λ r. (r.0, at + size_of_op r.0)) (op_at (drop at bytes.now)) }
 {
     let (op, size) = first_part(behind(bytes, at as usize));
     (op, at + size)

@@ -52,11 +52,11 @@ no_slot a b s q none e =
     absurd cc
 
 -- the table has the blocks from one on
-pub record Finds (blocks : List CodeBlock) (i : ℕ) (table : List ℕ) : Type 0 where
+pub record FindsFrom (blocks : List CodeBlock) (i : ℕ) (table : List ℕ) : Type 0 where
   pub size : length table ≡ slots
   pub there : (id : BlockId) (slot : ℕ) → slot_of id ≡ Some slot → slice_get blocks (get_or table slot 0) ≡ block_by_id id (drop i blocks)
 
-pub finds_none : (blocks : List CodeBlock) (i : ℕ) (table : List ℕ) → length blocks ≤ i → length blocks ≤ 0xFFFF → length table ≡ slots → ((slot : ℕ) → slot < slots → get_or table slot 0 ≡ 0xFFFF) → Finds blocks i table
+pub finds_none : (blocks : List CodeBlock) (i : ℕ) (table : List ℕ) → length blocks ≤ i → length blocks ≤ 0xFFFF → length table ≡ slots → ((slot : ℕ) → slot < slots → get_or table slot 0 ≡ 0xFFFF) → FindsFrom blocks i table
 finds_none blocks i table past few size all = record {
   size = size;
   there = λ id slot h.
@@ -65,7 +65,7 @@ finds_none blocks i table past few size all = record {
 }
 
 -- a block is put into the table, in its slot if it has one
-pub finds_more : (blocks : List CodeBlock) (table : List ℕ) (i slot : ℕ) (b : CodeBlock) → i < length blocks → b ≡ get_or blocks i b → slot_of b.id ≡ Some slot → Finds blocks (i + 1) table → Finds blocks i (set table slot i)
+pub finds_more : (blocks : List CodeBlock) (table : List ℕ) (i slot : ℕ) (b : CodeBlock) → i < length blocks → b ≡ get_or blocks i b → slot_of b.id ≡ Some slot → FindsFrom blocks (i + 1) table → FindsFrom blocks i (set table slot i)
 finds_more blocks table i slot b lt is has h = record {
   size = length-set table slot i ∙ h.size;
   there = λ id s hs.
@@ -94,7 +94,7 @@ finds_more blocks table i slot b lt is has h = record {
         not_this true q = absurd (eqb-false s slot e (sym (same_block_slots b.id id slot s mine (has_slot id s hs) q)))
 
 -- a block without slot stays out of the table, and is none that has a slot
-pub finds_skip : (blocks : List CodeBlock) (table : List ℕ) (i : ℕ) (b : CodeBlock) → i < length blocks → b ≡ get_or blocks i b → slot_of b.id ≡ None → Finds blocks (i + 1) table → Finds blocks i table
+pub finds_skip : (blocks : List CodeBlock) (table : List ℕ) (i : ℕ) (b : CodeBlock) → i < length blocks → b ≡ get_or blocks i b → slot_of b.id ≡ None → FindsFrom blocks (i + 1) table → FindsFrom blocks i table
 finds_skip blocks table i b lt is none h = record {
   size = h.size;
   there = λ id s hs.
@@ -106,7 +106,7 @@ finds_skip blocks table i b lt is none h = record {
     not_this id s hs false q = refl
     not_this id s hs true q = absurd (no_slot b.id id s (has_slot id s hs) none q)
 
-pub finds_all : (blocks : List CodeBlock) (table : List ℕ) → Finds blocks 0 table → FindsBlocks blocks table
+pub finds_all : (blocks : List CodeBlock) (table : List ℕ) → FindsFrom blocks 0 table → FindsBlocks blocks table
 finds_all blocks table h = record { size = h.size; there = h.there }
 
 -- a block without slot isn't there

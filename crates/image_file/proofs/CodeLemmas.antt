@@ -3,7 +3,10 @@ use Rattle.std.proofs.Common.{◌≡◌, ℕ, zero, suc, ◌+◌, ◌<◌, ◌�
 use Rattle.std.proofs.lemmas.Bool.{cases_lt, eq-eqb, and_parts, and_from, eqb-true, ltb-false, le-ltb}
 use Rattle.std.proofs.lemmas.List.{append-nil, take_at, drop_at, take-append-drop, nil_from_length, get_or-drop, get_or-take, get_or_past, length-take}
 use Rattle.flat_code.specs.Ops.{OpData, is_op, op_bytes, op_at}
-use Rattle.flat_code.proofs.CodingLemmas.{IsBytes, Takes}
+use Rattle.flat_code.specs.OpCodes.{op_code_of}
+use Rattle.flat_code.specs.declared.operations.EndOperation.TheVariants as ends
+use Rattle.flat_code.specs.declared.operations.Operation.TheVariants as operation
+use Rattle.flat_code.proofs.CodingLemmas.{IsBytes, BeginsWith}
 use Rattle.flat_code.proofs.OpLemmas.{op_again, op_takes, long_enough}
 use Rattle.flat_code.specs.Layout.{Cursor, ReadResult, reading_ended, reading_given}
 use Rattle.flat_code.specs.Codes.{cons_op, ops_next, ops_from, ends_by_be, are_ops, code_bytes, if_checked, overlong_statement, first_found, stop_at, read_ops, read_code, is_nowhere, code_layout, size_of_op, last_place}
@@ -13,7 +16,7 @@ use Rattle.image_file.proofs.LayoutLemmas.{at_place, Finds, Spells, IsLaidOut, g
 -- ---- runs of ops
 
 abbrev TakesOps : List ℕ → List OpData × List ℕ → Type 0
-TakesOps bytes r = Takes bytes (code_bytes r.0) r.1 × (are_ops r.0 ≡ true)
+TakesOps bytes r = BeginsWith bytes (code_bytes r.0) r.1 × (are_ops r.0 ≡ true)
 
 ops_next_take : (bytes : List ℕ) (o : Option (OpData × List ℕ)) → op_at bytes ≡ o → (more : List ℕ → List OpData × List ℕ) → IsBytes bytes → ((rest : List ℕ) → IsBytes rest → TakesOps rest (more rest)) → TakesOps bytes (ops_next o bytes more)
 ops_next_take bytes None e more are inner = (record { parts = refl; rest_fits = are }, refl)
@@ -172,7 +175,7 @@ last_of from [] op = omega arith
 last_of from (a ∷ []) op = omega (arith, length-append (op_bytes a) [])
 last_of from (a ∷ b ∷ front) op = omega (arith, last_of (from + length (op_bytes a)) (b ∷ front) op, length-append (op_bytes a) (code_bytes (b ∷ front)))
 
-pub ends_at : (front : List OpData) (op : OpData) → ends_by_be (front ++ op ∷ []) ≡ (eqb op.code 0x7B && op.last)
+pub ends_at : (front : List OpData) (op : OpData) → ends_by_be (front ++ op ∷ []) ≡ (eqb op.code (op_code_of (operation.End ends.Be)) && op.last)
 ends_at [] op = refl
 ends_at (a ∷ []) op = refl
 ends_at (a ∷ b ∷ front) op = ends_at (b ∷ front) op
@@ -198,7 +201,7 @@ abbrev count_after : OpData → ℕ → ℕ
 count_after op count = cond op.last 0 (suc count)
 
 pub read_goes : (code : List ℕ) (ops : List OpData) (at next last count after : ℕ) (ended end : Bool) (op : OpData) → IsBytes code → op_at (drop at code) ≡ Some (op, drop next code) → at < next → next ≤ length code
-    → eqb count 64 ≡ false → after ≡ count_after op count → end ≡ (eqb op.code 0x7B && op.last) → HasReadOps code ops at last ended count → HasReadOps code (ops ++ op ∷ []) next at end after
+    → eqb count 64 ≡ false → after ≡ count_after op count → end ≡ (eqb op.code (op_code_of (operation.End ends.Be)) && op.last) → HasReadOps code ops at last ended count → HasReadOps code (ops ++ op ∷ []) next at end after
 unfolding size_of_op
 read_goes code ops at next last count after ended end op are found lt within not64 counted is_end h =
     let t = op_takes (drop at code) op (drop next code) (bytes_dropped at code are) found in
@@ -233,26 +236,26 @@ left_stop ops [] at size e f lt = absurd (omega (arith, lt))
 left_stop ops (b ∷ left) at size e f lt = ap (λ (o : Option ℕ). first_found o (Some (length (code_bytes ops)))) e ∙ ap (λ (n : ℕ). Some n) f
 
 -- what the code has where no op begins: the ops found, and what is left
-record Ended (code : List ℕ) (ops : List OpData) (at : ℕ) : Type 0 where
+record HasNoMoreOps (code : List ℕ) (ops : List OpData) (at : ℕ) : Type 0 where
   ops_are : ops ≡ (ops_from (length code) code).0
   left_is : drop at code ≡ (ops_from (length code) code).1
   few : overlong_statement 0 0 ops ≡ None
 
-read_ended : (code : List ℕ) (ops : List OpData) (at last count : ℕ) (ended : Bool) → op_at (drop at code) ≡ None → HasReadOps code ops at last ended count → Ended code ops at
+read_ended : (code : List ℕ) (ops : List OpData) (at last count : ℕ) (ended : Bool) → op_at (drop at code) ≡ None → HasReadOps code ops at last ended count → HasNoMoreOps code ops at
 read_ended code ops at last count ended none h =
     let p = ops_stop code ops at (ops_from (length code) code) none h.all in
     let nothing : (ops_from (length code) (drop at code)).0 ≡ [] = ap (λ (r : List OpData × List ℕ). r.0) (nothing_more (length code) (drop at code) none) in
     let few : overlong_statement 0 0 (ops_from (length code) code).0 ≡ None = h.few ∙ ap (overlong_statement count at) nothing in
     record { ops_are = p.0; left_is = p.1; few = ap (overlong_statement 0 0) p.0 ∙ few }
 
-abbrev Stops : List ℕ → Option ℕ → Type 0
-Stops code fault = fault ≡ stop_at true (ops_from (length code) code).0 (ops_from (length code) code).1
+abbrev IsCodeStop : List ℕ → Option ℕ → Type 0
+IsCodeStop code fault = fault ≡ stop_at true (ops_from (length code) code).0 (ops_from (length code) code).1
 
-stop_for : (code : List ℕ) (ops : List OpData) (at : ℕ) → Ended code ops at → stop_at true (ops_from (length code) code).0 (ops_from (length code) code).1 ≡ stop_at true ops (drop at code)
+stop_for : (code : List ℕ) (ops : List OpData) (at : ℕ) → HasNoMoreOps code ops at → stop_at true (ops_from (length code) code).0 (ops_from (length code) code).1 ≡ stop_at true ops (drop at code)
 stop_for code ops at e = rw (← e.ops_are, ← e.left_is) refl
 
 -- bytes that begin no op
-pub read_bad : (code : List ℕ) (ops : List OpData) (at last count : ℕ) (ended : Bool) → op_at (drop at code) ≡ None → at < length code → HasReadOps code ops at last ended count → Stops code (Some at)
+pub read_bad : (code : List ℕ) (ops : List OpData) (at last count : ℕ) (ended : Bool) → op_at (drop at code) ≡ None → at < length code → HasReadOps code ops at last ended count → IsCodeStop code (Some at)
 read_bad code ops at last count ended none lt h =
     let e = read_ended code ops at last count ended none h in
     sym (stop_for code ops at e ∙ left_stop ops (drop at code) at at e.few h.size (omega (arith, length-drop at code)))
@@ -268,9 +271,9 @@ whole_stop code ops at last count ended none le h =
     ∙ rw (← h.ended, ← h.last) refl
 
 -- code whose last op isn't BE with the end mark
-pub read_open : (code : List ℕ) (ops : List OpData) (at last count : ℕ) (ended : Bool) → op_at (drop at code) ≡ None → length code ≤ at → ended ≡ false → HasReadOps code ops at last ended count → Stops code (Some last)
+pub read_open : (code : List ℕ) (ops : List OpData) (at last count : ℕ) (ended : Bool) → op_at (drop at code) ≡ None → length code ≤ at → ended ≡ false → HasReadOps code ops at last ended count → IsCodeStop code (Some last)
 read_open code ops at last count ended none le open_is h = sym (whole_stop code ops at last count ended none le h ∙ rw open_is refl)
 
-pub read_whole : (code : List ℕ) (ops : List OpData) (at last count : ℕ) (ended : Bool) → op_at (drop at code) ≡ None → length code ≤ at → ended ≡ true → HasReadOps code ops at last ended count → Stops code None × (ops ≡ (ops_from (length code) code).0)
+pub read_whole : (code : List ℕ) (ops : List OpData) (at last count : ℕ) (ended : Bool) → op_at (drop at code) ≡ None → length code ≤ at → ended ≡ true → HasReadOps code ops at last ended count → IsCodeStop code None × (ops ≡ (ops_from (length code) code).0)
 read_whole code ops at last count ended none le ended_is h =
     (sym (whole_stop code ops at last count ended none le h ∙ rw ended_is refl), (read_ended code ops at last count ended none h).ops_are)

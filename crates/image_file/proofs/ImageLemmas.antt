@@ -27,9 +27,9 @@ use Rattle.flat_code.specs.Stamps.{version_number, profile_field_of, stamp_of}
 use Rattle.flat_code.specs.declared.stamps.Stamp.{Stamp}
 use Rattle.flat_code.specs.declared.stamps.Stamp.TheVariants as stamps
 use Rattle.flat_code.specs.Image.{no_fault, plain_u16, plain_u32, zero_u8, zero_u16, width_field, bytes_fit, bytes_coding, section_field, parameter_byte, parameter_bit, ParameterRow, parameter_rows, parameter_fields, parameter_row, parameter_of_fields, fields_of_parameter, parameter_layout, kind_field, parameter_count_layout, block_number_layout, local_length_layout, instance_bytes_layout, Head, HeadRow, head_of_row, row_of_head, head_rows, head_layout, same_state, parameters_layout, end_marks, line_after, line_field, lines_layout, code_and_lines, BlockRow, parts_of_block_row, row_of_block_parts, block_rows, block_of_parts, head_of_block, parts_of_block, plain_block, whole_note, code_block_at, code_block_layout, after_block, data_number_layout, instance_field, data_length_layout, contents_layout, DataRow, data_rows, data_fields, data_row, instance_of_number, number_of_instance, data_of_fields, fields_of_data, data_block_layout, after_data, name_len, name_bytes, name_area, name_bit, NameRow, name_rows, name_fields, name_row, name_of_fields, fields_of_name, name_record, after_name, data_count, RecordCounts, CountRow, counts_of_row, row_of_counts, count_rows, counts_layout, counts_of, code_blocks_layout, plain_data_blocks, data_blocks_layout, names_layout, BodyParts, BodyRow, parts_of_body_row, row_of_body_parts, body_rows, records_of_parts, parts_of_records, records_layout, kind_of_number, area_of_number, number_of_area, param_of_record, record_of_param, block_of_record, record_of_block, entry_of_name, name_of_entry, program_of_records, records_of, body_layout, magic_field, version_field, profile_field, Front, FrontRow, front_of_row, row_of_front, front_rows, front_layout, front_size, front_of, stamp_in, image, IsProgram, IsRight, end_layout, read_cut_off, read_by, read_image}
-use Rattle.flat_code.proofs.CodingLemmas.{IsBytes, Takes, IsExact, pair_is, u8_exact, u16_exact, u32_exact}
+use Rattle.flat_code.proofs.CodingLemmas.{IsBytes, BeginsWith, IsExact, pair_is, u8_exact, u16_exact, u32_exact}
 use Rattle.flat_code.proofs.PartLemmas.{GoodBlock, behind_head, good_block, chain_parts, from_params, good_head, head_params, unless_fine}
-use Rattle.image_file.specs.Typing.{AreFew}
+use Rattle.image_file.specs.Typing.{HaveFewParameters}
 use Rattle.image_file.proofs.LayoutLemmas.{at_place, Finds, IsLaidOut, bind_parts, bind_finds, field_laid, chain_laid, checked_laid, seen_laid, remembered_laid, many_laid, located_laid, no_faults}
 use Rattle.image_file.proofs.CodeLemmas.{code_laid, cond_finds, ended_finds}
 
@@ -49,13 +49,13 @@ fit : (bs : List ℕ) → IsBytes bs → bytes_fit bs ≡ true
 fit [] are = refl
 fit (b ∷ bs) are = and_from _ _ (lt-ltb b 256 (are 0)) (fit bs (λ i. are (suc i)))
 
-run_takes : (n : ℕ) (text bs rest : List ℕ) → IsBytes text → (b : Bool) → ltb (length text) n ≡ b → cond {A = Option (List ℕ × List ℕ)} b None (Some (take n text, drop n text)) ≡ Some (bs, rest) → Takes text bs rest × ((eqb (length bs) n && bytes_fit bs) ≡ true)
+run_takes : (n : ℕ) (text bs rest : List ℕ) → IsBytes text → (b : Bool) → ltb (length text) n ≡ b → cond {A = Option (List ℕ × List ℕ)} b None (Some (take n text, drop n text)) ≡ Some (bs, rest) → BeginsWith text bs rest × ((eqb (length bs) n && bytes_fit bs) ≡ true)
 run_takes n text bs rest are true t e = absurd cc
 run_takes n text bs rest are false t e =
     let p = pair_is (take n text) bs (drop n text) rest e in
     let size : length (take n text) ≡ n = let le = ltb-false _ _ t in omega (arith, length-take n text) in
-    subst (λ (z : List ℕ). Takes text z rest × ((eqb (length z) n && bytes_fit z) ≡ true)) p.0
-    (subst (λ (z : List ℕ). Takes text (take n text) z × ((eqb (length (take n text)) n && bytes_fit (take n text)) ≡ true)) p.1
+    subst (λ (z : List ℕ). BeginsWith text z rest × ((eqb (length z) n && bytes_fit z) ≡ true)) p.0
+    (subst (λ (z : List ℕ). BeginsWith text (take n text) z × ((eqb (length (take n text)) n && bytes_fit (take n text)) ≡ true)) p.1
     (record { parts = sym (take-append-drop n text); rest_fits = bytes_dropped n text are }, and_from _ _ (eq-eqb _ _ size) (fit (take n text) (bytes_taken n text are))))
 
 run_exact : (n : ℕ) → IsExact (List ℕ) (bytes_coding n)
@@ -679,22 +679,22 @@ stamp_again (stamps.Two profiles.Large) = refl
 -- ---- the image
 
 -- a program with the version and profile of its image
-abbrev pub Stamped : Type 0
-Stamped = Stamp × Program
+abbrev pub StampedProgram : Type 0
+StampedProgram = Stamp × Program
 
-abbrev rest_of : Bool → Stamp → ℕ → Cursor → ReadResult Stamped
+abbrev rest_of : Bool → Stamp → ℕ → Cursor → ReadResult StampedProgram
 rest_of with_code_faults stamp total cur = bind_reading ((body_layout with_code_faults).read (record { at = cur.at; rest = take (total - front_size) cur.rest })) (end_layout stamp)
 
 -- nothing is cut off, and nothing is noted
-cut_finds : (with_code_faults : Bool) (stamp : Stamp) (total : ℕ) (cur : Cursor) (p : Stamped) (end : Cursor) → 20 ≤ total → total ≤ 8388608 → Finds Stamped (rest_of with_code_faults stamp total cur) p end → Finds Stamped (read_cut_off with_code_faults stamp total total cur) p end
+cut_finds : (with_code_faults : Bool) (stamp : Stamp) (total : ℕ) (cur : Cursor) (p : StampedProgram) (end : Cursor) → 20 ≤ total → total ≤ 8388608 → Finds StampedProgram (rest_of with_code_faults stamp total cur) p end → Finds StampedProgram (read_cut_off with_code_faults stamp total total cur) p end
 cut_finds with_code_faults stamp total cur p end le most h =
     let no_cut : (ltb total 20 || ltb total total) ≡ false = or_from _ _ (le-ltb total 20 le) (le-ltb total total (omega arith)) in
     let same : eqb total total ≡ true = eq-eqb total total refl in
     let small : ltb 8388608 total ≡ false = le-ltb 8388608 total most in
     let shape : read_cut_off with_code_faults stamp total total cur ≡ rest_of with_code_faults stamp total cur = rw (no_cut, small, same) refl in
-    subst (λ (z : ReadResult Stamped). Finds Stamped z p end) (sym shape) h
+    subst (λ (z : ReadResult StampedProgram). Finds StampedProgram z p end) (sym shape) h
 
-pub image_again : (with_code_faults : Bool) (stamp : Stamp) (p : Program) → (body_layout with_code_faults).good p ≡ true → front_size + length (text_of p) ≤ 8388608 → Finds Stamped (read_by with_code_faults (image stamp p)) (stamp, p) (at_place (front_size + length (text_of p)) [])
+pub image_again : (with_code_faults : Bool) (stamp : Stamp) (p : Program) → (body_layout with_code_faults).good p ≡ true → front_size + length (text_of p) ≤ 8388608 → Finds StampedProgram (read_by with_code_faults (image stamp p)) (stamp, p) (at_place (front_size + length (text_of p)) [])
 unfolding read_by image
 image_again with_code_faults stamp p good short =
     let text = text_of p in
@@ -712,11 +712,11 @@ image_again with_code_faults stamp p good short =
     let two = (body_laid with_code_faults).again p 12 [] good in
     let two_at : Finds Program ((body_layout with_code_faults).read (at_place 12 ((body_layout with_code_faults).spell p ++ []))) p (at_place (12 + length text) []) = subst (λ (z : List ℕ). Finds Program ((body_layout with_code_faults).read (at_place 12 ((body_layout with_code_faults).spell p ++ []))) p (at_place (12 + length z) [])) spelled two in
     let two_here : Finds Program ((body_layout with_code_faults).read (at_place 12 (take (total - front_size) text))) p (at_place (12 + length text) []) = subst (λ (z : List ℕ). Finds Program ((body_layout with_code_faults).read (at_place 12 z)) p (at_place (12 + length text) [])) (sym whole) two_at in
-    let three : Finds Stamped (end_layout stamp p (at_place (12 + length text) [])) (stamp, p) end = record { found = refl; clean = refl } in
-    let inner : Finds Stamped (rest_of with_code_faults stamp total (at_place 12 text)) (stamp, p) end = bind_finds _ (end_layout stamp) p (at_place (12 + length text) []) (stamp, p) end two_here three in
-    let cut_there : Finds Stamped (read_cut_off with_code_faults stamp total total (at_place 12 text)) (stamp, p) end = cut_finds with_code_faults stamp total (at_place 12 text) (stamp, p) end (let l = text_long p in omega arith) short inner in
-    let cut_by : Finds Stamped (read_cut_off with_code_faults stamp (length all) total (at_place 12 text)) (stamp, p) end = subst (λ (k : ℕ). Finds Stamped (read_cut_off with_code_faults stamp k total (at_place 12 text)) (stamp, p) end) (sym size) cut_there in
-    let cut_here : Finds Stamped (read_cut_off with_code_faults (stamp_in values) (length all) total (at_place 12 text)) (stamp, p) end = subst (λ (s : Stamp). Finds Stamped (read_cut_off with_code_faults s (length all) total (at_place 12 text)) (stamp, p) end) (sym (stamp_again stamp)) cut_by in
+    let three : Finds StampedProgram (end_layout stamp p (at_place (12 + length text) [])) (stamp, p) end = record { found = refl; clean = refl } in
+    let inner : Finds StampedProgram (rest_of with_code_faults stamp total (at_place 12 text)) (stamp, p) end = bind_finds _ (end_layout stamp) p (at_place (12 + length text) []) (stamp, p) end two_here three in
+    let cut_there : Finds StampedProgram (read_cut_off with_code_faults stamp total total (at_place 12 text)) (stamp, p) end = cut_finds with_code_faults stamp total (at_place 12 text) (stamp, p) end (let l = text_long p in omega arith) short inner in
+    let cut_by : Finds StampedProgram (read_cut_off with_code_faults stamp (length all) total (at_place 12 text)) (stamp, p) end = subst (λ (k : ℕ). Finds StampedProgram (read_cut_off with_code_faults stamp k total (at_place 12 text)) (stamp, p) end) (sym size) cut_there in
+    let cut_here : Finds StampedProgram (read_cut_off with_code_faults (stamp_in values) (length all) total (at_place 12 text)) (stamp, p) end = subst (λ (s : Stamp). Finds StampedProgram (read_cut_off with_code_faults s (length all) total (at_place 12 text)) (stamp, p) end) (sym (stamp_again stamp)) cut_by in
     bind_finds (front_layout.read (at_place 0 all)) (λ f cur. read_cut_off with_code_faults (stamp_in f) (length all) f.total_length cur) values (at_place 12 text) (stamp, p) end one_here cut_here
 
 -- every byte string is the image of at most one program, version and profile
@@ -725,7 +725,7 @@ image_one s t p q hp hq e =
     let a = image_again false s p hp.good hp.short in
     let b = image_again false t q hq.good hq.short in
     let both = same_Some _ _ (sym a.found ∙ ap (λ (z : List ℕ). (read_by false z).found) e ∙ b.found) in
-    (ap (λ (z : Stamped × Cursor). z.0.0) both, ap (λ (z : Stamped × Cursor). z.0.1) both)
+    (ap (λ (z : StampedProgram × Cursor). z.0.0) both, ap (λ (z : StampedProgram × Cursor). z.0.1) both)
 
 no_note : (b : Bool) (at code : ℕ) → faults_in (cond b [] (Faulty at code ∷ [])) ≡ [] → b ≡ true
 no_note true at code h = refl
@@ -786,7 +786,7 @@ good_front f good =
 front_is : (f : Front) (total : ℕ) → GoodFront f → f.total_length ≡ total → f ≡ front_of (stamp_in f) total
 front_is f total g t = ap front_of_row (quad g.magic g.stamp.version_is g.stamp.profile_is t)
 
-pub image_takes : (text : List ℕ) (s : Stamp) (p : Program) (end : Cursor) → IsBytes text → Finds Stamped (read_image text) (s, p) end → (text ≡ image s p) × IsProgram p × IsRight p
+pub image_takes : (text : List ℕ) (s : Stamp) (p : Program) (end : Cursor) → IsBytes text → Finds StampedProgram (read_image text) (s, p) end → (text ≡ image s p) × IsProgram p × IsRight p
 unfolding read_by image
 image_takes text s p end are h =
     let a = bind_parts (front_layout.read (at_place 0 text)) (λ f cur. read_cut_off true (stamp_in f) (length text) f.total_length cur) (s, p) end h in
@@ -804,8 +804,8 @@ image_takes text s p end are h =
     let b = bind_parts ((body_layout true).read (at_place cur.at (take (total - front_size) cur.rest))) (end_layout stamp) (s, p) end (record { found = g.found; clean = n.1 }) in
     let u = (body_laid true).takes (at_place cur.at (take (total - front_size) cur.rest)) b.first b.next (bytes_taken (total - front_size) cur.rest t.text.rest_fits) b.one in
     let made = same_Some ((stamp, b.first), b.next) ((s, p), end) b.two.found in
-    let s_is : stamp ≡ s = ap (λ (z : Stamped × Cursor). z.0.0) made in
-    let p_is : b.first ≡ p = ap (λ (z : Stamped × Cursor). z.0.1) made in
+    let s_is : stamp ≡ s = ap (λ (z : StampedProgram × Cursor). z.0.0) made in
+    let p_is : b.first ≡ p = ap (λ (z : StampedProgram × Cursor). z.0.1) made in
     let none : b.next.rest ≡ [] = nil_from_length b.next.rest (eqb-true _ _ (no_note _ b.next.at 10 b.two.clean)) in
     let lengths : length text ≡ 12 + length cur.rest = ap length t.text.parts ∙ length-append (front_layout.spell f) cur.rest ∙ ap (λ (k : ℕ). k + length cur.rest) (front_length f) in
     let all : take (total - front_size) cur.rest ≡ cur.rest = ap (λ (z : List ℕ). take (total - front_size) z) (sym (append-nil cur.rest)) ∙ take_at cur.rest [] (total - front_size) (omega (arith, lengths, size)) in
@@ -827,7 +827,7 @@ program_again p h = records_there false p h.good
 block_few : (with_code_faults : Bool) (before : ℕ × ℕ) (b : BlockRecord) → (code_block_layout with_code_faults before).good b ≡ true → length b.params ≤ 60
 block_few with_code_faults before b good = head_params before (head_of_block b) (good_block_of with_code_faults before b good).head_good
 
-blocks_few : (with_code_faults : Bool) (s : ℕ × ℕ) (n : ℕ) (bs : List BlockRecord) → good_many (code_block_layout with_code_faults) after_block s n bs ≡ true → AreFew bs
+blocks_few : (with_code_faults : Bool) (s : ℕ × ℕ) (n : ℕ) (bs : List BlockRecord) → good_many (code_block_layout with_code_faults) after_block s n bs ≡ true → HaveFewParameters bs
 blocks_few with_code_faults s zero [] h = tt
 blocks_few with_code_faults s zero (b ∷ bs) h = absurd cc
 blocks_few with_code_faults s (suc n) [] h = absurd cc
@@ -835,10 +835,10 @@ blocks_few with_code_faults s (suc n) (b ∷ bs) h =
     let g = and_parts ((code_block_layout with_code_faults s).good b) (good_many (code_block_layout with_code_faults) after_block (after_block s b) n bs) h in
     (block_few with_code_faults s b g.0, blocks_few with_code_faults (after_block s b) n bs g.1)
 
-codes_few : (with_code_faults : Bool) (n : ℕ) (bs : List BlockRecord) → (code_blocks_layout with_code_faults n).good bs ≡ true → AreFew bs
+codes_few : (with_code_faults : Bool) (n : ℕ) (bs : List BlockRecord) → (code_blocks_layout with_code_faults n).good bs ≡ true → HaveFewParameters bs
 unfolding code_blocks_layout
 codes_few with_code_faults n bs good = blocks_few with_code_faults (0, 0) n bs good
 
-pub program_few : (p : Program) → IsProgram p → AreFew (map record_of_block p.code_blocks)
+pub program_few : (p : Program) → IsProgram p → HaveFewParameters (map record_of_block p.code_blocks)
 unfolding body_layout
 program_few p h = let q = good_records false (records_of p) h.good in codes_few false (length (map record_of_block p.code_blocks)) (map record_of_block p.code_blocks) q.codes_good

@@ -13,7 +13,7 @@ use Rattle.flat_code.specs.Kinds.{jump_number}
 use Rattle.flat_code.specs.declared.kinds.JumpOperation.TheVariants as jump
 use Rattle.flat_code.specs.Blocks.{are_same_codes, are_other_brackets, target_fault, is_bad_list, operand_fault, leads_to_target}
 use Rattle.image_file.specs.Verified.{placed_at, IsVerifiedOp, Lands}
-use Rattle.image_file.proofs.VerifiedLemmas.{chosen, none_if, empty_next, op_long, place_offset, op_none, environment_in, brackets_right}
+use Rattle.image_file.proofs.VerifiedLemmas.{option_by_test, none_if, empty_next, op_long, place_offset, op_none, environment_in, brackets_right}
 
 spot_none : (from : ℕ) (begin : Bool) (brackets : List OpenBracket) (zones : List ℕ) (ops : List OpData) (at : ℕ) → at < from → spot_at (spots_from from begin brackets zones ops) at ≡ None
 spot_none from begin brackets zones [] at lt = refl
@@ -70,7 +70,7 @@ spot_there from brackets zones before (o ∷ ops) at s found = by (is_empty_list
 
     by : (b : Bool) → is_empty_list before ≡ b → spot_at (cond b (spot ∷ behind) behind) at ≡ Some s → (spot_at behind at ≡ Some s → IsSpot rest at s) → IsSpot (here ∷ rest) at s
     by true first e more =
-        chosen (eqb from at) spot (spot_at behind at) s e (IsSpot (here ∷ rest) at s)
+        option_by_test (eqb from at) spot (spot_at behind at) s e (IsSpot (here ∷ rest) at s)
         (λ t same. record {
           there = here;
           place = rw t refl;

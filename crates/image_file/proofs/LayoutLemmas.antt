@@ -4,7 +4,7 @@ use Rattle.std.proofs.Common.{◌≡◌, ℕ, zero, suc, ◌+◌, ◌-◌, true,
 use Rattle.std.proofs.lemmas.Bool.{and_parts, and_from}
 use Rattle.std.proofs.lemmas.Option.{same_Some}
 use Rattle.flat_code.specs.Coding.{Coding}
-use Rattle.flat_code.proofs.CodingLemmas.{IsBytes, Takes, IsExact}
+use Rattle.flat_code.proofs.CodingLemmas.{IsBytes, BeginsWith, IsExact}
 use Rattle.flat_code.specs.Layout.{Note, Faulty, Whole, AllBlocks, Cursor, ReadResult, Layout, reading_given, go_on, bind_reading, fault_note, is_fine, field_of, field_layout, chain_layout, checked_layout, located_layout, spell_many, good_many, read_many, list_layout, seen_as, noted_layout, faults_in}
 
 -- ---- faults of notes
@@ -44,7 +44,7 @@ pub record Finds (A : Type 0) (r : ReadResult A) (x : A) (end : Cursor) : Type 0
   pub clean : faults_in r.notes ≡ []
 
 pub record Spells (A : Type 0) (l : Layout A) (cur : Cursor) (x : A) (end : Cursor) : Type 0 where
-  pub text : Takes cur.rest (l.spell x) end.rest
+  pub text : BeginsWith cur.rest (l.spell x) end.rest
   pub good : l.good x ≡ true
 
 pub record IsLaidOut (A : Type 0) (l : Layout A) : Type 0 where
@@ -52,19 +52,19 @@ pub record IsLaidOut (A : Type 0) (l : Layout A) : Type 0 where
   pub takes : (cur : Cursor) (x : A) (end : Cursor) → IsBytes cur.rest → Finds A (l.read cur) x end → Spells A l cur x end
 
 -- the parts of a reading that goes on
-pub record Parts (A B : Type 0) (r : ReadResult A) (f : A → Cursor → ReadResult B) (y : B) (end : Cursor) : Type 0 where
+pub record ReadingParts (A B : Type 0) (r : ReadResult A) (f : A → Cursor → ReadResult B) (y : B) (end : Cursor) : Type 0 where
   pub first : A
   pub next : Cursor
   pub one : Finds A r first next
   pub two : Finds B (f first next) y end
 
-go_parts : {A B : Type 0} (notes : List Note) (o : Option (A × Cursor)) (f : A → Cursor → ReadResult B) (y : B) (end : Cursor) → Finds B (go_on notes o f) y end → Parts A B (record { notes = notes; found = o }) f y end
+go_parts : {A B : Type 0} (notes : List Note) (o : Option (A × Cursor)) (f : A → Cursor → ReadResult B) (y : B) (end : Cursor) → Finds B (go_on notes o f) y end → ReadingParts A B (record { notes = notes; found = o }) f y end
 go_parts {A = A} {B = B} notes None f y end h = let e = h.found in absurd cc
 go_parts {A = A} {B = B} notes (Some x) f y end h =
     let p = no_faults notes (f x.0 x.1).notes h.clean in
     record { first = x.0; next = x.1; one = record { found = refl; clean = p.0 }; two = record { found = h.found; clean = p.1 } }
 
-pub bind_parts : {A B : Type 0} (r : ReadResult A) (f : A → Cursor → ReadResult B) (y : B) (end : Cursor) → Finds B (bind_reading r f) y end → Parts A B r f y end
+pub bind_parts : {A B : Type 0} (r : ReadResult A) (f : A → Cursor → ReadResult B) (y : B) (end : Cursor) → Finds B (bind_reading r f) y end → ReadingParts A B r f y end
 bind_parts r f y end h = go_parts r.notes r.found f y end h
 
 -- a reading that found something goes on with it
@@ -224,5 +224,5 @@ located_laid {A = A} l spelled goods exact = record {
       ((exact at).again x at rest (goods at x ∙ good));
   takes = λ cur x end are h.
       let t = (exact cur.at).takes cur x end are h in
-      record { text = subst (λ (w : List ℕ). Takes cur.rest w end.rest) (spelled cur.at x) t.text; good = sym (goods cur.at x) ∙ t.good };
+      record { text = subst (λ (w : List ℕ). BeginsWith cur.rest w end.rest) (spelled cur.at x) t.text; good = sym (goods cur.at x) ∙ t.good };
 }

@@ -92,9 +92,9 @@ first_mark : (begins : Bool) (n : ℕ) → n < no_index → eqb (cond begins n i
 first_mark true n few = ne_eqb n no_index (omega (arith, few))
 first_mark false n few = refl
 
-counted : (last : Bool) (n rest : ℕ) → n + (cond last 1 0 + rest) ≡ cond last (suc n) n + rest
-counted true n rest = omega arith
-counted false n rest = omega arith
+statements_behind_op : (last : Bool) (n rest : ℕ) → n + (cond last 1 0 + rest) ≡ cond last (suc n) n + rest
+statements_behind_op true n rest = omega arith
+statements_behind_op false n rest = omega arith
 
 first_tells : (from n : ℕ) (begins : Bool) (op : OpData) (rest : List ℕ) → IsOp op → n < no_index → Tells (Some (cond begins n inside_mark)) from (op_at (op_bytes op ++ rest)) (Some (op, from + size_of_op op))
 first_tells from n begins op rest is few =
@@ -110,7 +110,7 @@ marks_tell from n begins (op ∷ ops) (suc j) are few =
     rw (ne_eqb from (from + suc j) (omega arith))
     (by (within (size_of_op op - 1) j)
     (λ i. marks_tell (from + size_of_op op) (cond op.last (suc n) n) op.last ops i (and_parts (is_op op.code op.operand) (are_ops ops) are).1
-    (subst (λ (k : ℕ). k < no_index) (counted op.last n (end_marks ops)) few)))
+    (subst (λ (k : ℕ). k < no_index) (statements_behind_op op.last n (end_marks ops)) few)))
   where
     rest : List ℕ
     rest = marks_from (cond op.last (suc n) n) op.last ops

@@ -17,6 +17,7 @@ use Rattle.flat_code.specs.declared.operands.Passed.{Passed}
 use Rattle.flat_code.specs.declared.operands.Passed.TheVariants as passed
 use Rattle.flat_code.specs.Forms.{width_of_number}
 use Rattle.plc_base.specs.Widths.{byte_count, width_number}
+use Rattle.flat_code.specs.Records.{section_in}
 use Rattle.flat_code.specs.Programs.{CodeBlock, Program}
 use Rattle.flat_code.specs.Image.{record_of_param, record_of_block}
 use Rattle.flat_code.specs.Loading.{lens_of}
@@ -46,7 +47,7 @@ within p b area.L w byte e = ltb-false b.local_len (byte + byte_count w) e
 fits_place : (p : Program) (b : CodeBlock) (a : Area) (w : Width) (byte bit : ℕ) → is_bad_place (environment_in p b) a w byte bit ≡ false → (is_odd_bit w bit ≡ false) × LiesWithin b a w byte
 fits_place p b a w byte bit e = let o = or_parts (is_odd_bit w bit) (is_past_locals (environment_in p b) a w byte) e in (o.0, within p b a w byte o.1)
 
-is_function : (k : BlockKind) → eqb (kind_number k) 2 ≡ true → k ≡ kinds.Fc
+is_function : (k : BlockKind) → eqb (kind_number k) (kind_number kinds.Fc) ≡ true → k ≡ kinds.Fc
 is_function kinds.Ob e = absurd cc
 is_function kinds.Fc e = refl
 is_function kinds.Fb e = absurd cc
@@ -61,9 +62,9 @@ record Has (b : CodeBlock) (index : ℕ) (w : Width) (own : Option ParameterReco
   own_is : own ≡ Some (record_of_param param)
 
 has_param : (p : Program) (b : CodeBlock) (index : ℕ) (w : Width) → lacks_own_parameter (parameter_meant (environment_in p b) index) w ≡ false → Has b index w (parameter_meant (environment_in p b) index)
-has_param p b index w e = by_kind (eqb (kind_number b.id.kind) 2) refl e
+has_param p b index w e = by_kind (eqb (kind_number b.id.kind) (kind_number kinds.Fc)) refl e
   where
-    by_param : (o : Option Param) → slice_get b.params index ≡ o → eqb (kind_number b.id.kind) 2 ≡ true → lacks_own_parameter (option_map record_of_param o) w ≡ false → Has b index w (option_map record_of_param o)
+    by_param : (o : Option Param) → slice_get b.params index ≡ o → eqb (kind_number b.id.kind) (kind_number kinds.Fc) ≡ true → lacks_own_parameter (option_map record_of_param o) w ≡ false → Has b index w (option_map record_of_param o)
     by_param None is kind l = absurd cc
     by_param (Some param) is kind l =
         let same = eqb-true (width_number param.width) (width_number w) (not-false (eqb (width_number param.width) (width_number w)) l) in
@@ -73,14 +74,14 @@ has_param p b index w e = by_kind (eqb (kind_number b.id.kind) 2) refl e
           own_is = refl;
         }
 
-    by_kind : (k : Bool) → eqb (kind_number b.id.kind) 2 ≡ k → lacks_own_parameter (cond k (slice_get (map record_of_param b.params) index) None) w ≡ false → Has b index w (cond k (slice_get (map record_of_param b.params) index) None)
+    by_kind : (k : Bool) → eqb (kind_number b.id.kind) (kind_number kinds.Fc) ≡ k → lacks_own_parameter (cond k (slice_get (map record_of_param b.params) index) None) w ≡ false → Has b index w (cond k (slice_get (map record_of_param b.params) index) None)
     by_kind false kind l = absurd cc
     by_kind true kind l =
         let there = slice_get-map record_of_param b.params index in
         subst (λ (z : Option ParameterRecord). Has b index w z) (sym there) (by_param (slice_get b.params index) refl kind (subst (λ (z : Option ParameterRecord). lacks_own_parameter z w ≡ false) there l))
 
-not_written : (code section : ℕ) → (writes_operand code && eqb section 1) ≡ false → writes_operand code ≡ true → section ≡ 1 → ⊥
-not_written code section e w is = let f : true ≡ false = sym (rw (w, eq-eqb section 1 is) refl) ∙ e in absurd cc
+not_written : (code section : ℕ) → (writes_operand code && eqb section section_in) ≡ false → writes_operand code ≡ true → section ≡ section_in → ⊥
+not_written code section e w is = let f : true ≡ false = sym (rw (w, eq-eqb section section_in is) refl) ∙ e in absurd cc
 
 fits_operand : (p : Program) (b : CodeBlock) (q : PlacedOp) (o : Operand) → operand_fault (environment_in p b) (statement_spots b.code) q o ≡ None → FitsOperand b q.op o
 fits_operand p b q (operand.Direct a w byte bit) e =
@@ -184,19 +185,19 @@ passed_fits p b q index actual kind number instance called h is last there =
     fits_index p b called index actual (slice_get called.2 index) refl (subst (λ (z : Option CalleeSeen). misfits_callee (environment_in p b) z index actual ≡ false) there whom)
 
 -- what is called among blocks
-record FoundIn (bs : List CodeBlock) (id : BlockId) (kind : ℕ) (called : CalleeSeen) : Type 0 where
+record IsCalleeBlock (bs : List CodeBlock) (id : BlockId) (kind : ℕ) (called : CalleeSeen) : Type 0 where
   block : CodeBlock
   there : block_by_id id bs ≡ Some block
   same : called ≡ (kind, block.instance_len, map record_of_param block.params)
 
-found_in : (bs : List CodeBlock) (id : BlockId) (kind : ℕ) (called : CalleeSeen) → ((k : BlockKind) → eqb (kind_number k) kind ≡ eqb (kind_order k) (kind_order id.kind)) → block_with kind id.number (map signature_of (map record_of_block bs)) ≡ Some called → FoundIn bs id kind called
+found_in : (bs : List CodeBlock) (id : BlockId) (kind : ℕ) (called : CalleeSeen) → ((k : BlockKind) → eqb (kind_number k) kind ≡ eqb (kind_order k) (kind_order id.kind)) → block_with kind id.number (map signature_of (map record_of_block bs)) ≡ Some called → IsCalleeBlock bs id kind called
 found_in [] id kind called agree e = absurd cc
 found_in (b ∷ bs) id kind called agree e =
     by (eqb (kind_number b.id.kind) kind && eqb b.id.number id.number) refl (ap (λ (z : Bool). z && eqb b.id.number id.number) (sym (agree b.id.kind))) e (λ h. found_in bs id kind called agree h)
   where
     by : (t : Bool) → (eqb (kind_number b.id.kind) kind && eqb b.id.number id.number) ≡ t → is_same_id b.id id ≡ (eqb (kind_number b.id.kind) kind && eqb b.id.number id.number)
         → cond t (Some (kind_number b.id.kind, b.instance_len, map record_of_param b.params)) (block_with kind id.number (map signature_of (map record_of_block bs))) ≡ Some called
-        → (block_with kind id.number (map signature_of (map record_of_block bs)) ≡ Some called → FoundIn bs id kind called) → FoundIn (b ∷ bs) id kind called
+        → (block_with kind id.number (map signature_of (map record_of_block bs)) ≡ Some called → IsCalleeBlock bs id kind called) → IsCalleeBlock (b ∷ bs) id kind called
     by true t s e more =
         let k = eqb-true (kind_number b.id.kind) kind (and_parts (eqb (kind_number b.id.kind) kind) (eqb b.id.number id.number) t).0 in
         record {
@@ -206,7 +207,7 @@ found_in (b ∷ bs) id kind called agree e =
         }
     by false t s e more = let m = more e in record { block = m.block; there = rw (s ∙ t) m.there; same = m.same }
 
-functions_agree : (k : BlockKind) → eqb (kind_number k) 2 ≡ eqb (kind_order k) 1
+functions_agree : (k : BlockKind) → eqb (kind_number k) (kind_number kinds.Fc) ≡ eqb (kind_order k) (kind_order kinds.Fc)
 functions_agree kinds.Ob = refl
 functions_agree kinds.Fc = refl
 functions_agree kinds.Fb = refl
@@ -214,7 +215,7 @@ functions_agree kinds.Db = refl
 functions_agree kinds.Sfc = refl
 functions_agree kinds.Udt = refl
 
-function_blocks_agree : (k : BlockKind) → eqb (kind_number k) 3 ≡ eqb (kind_order k) 2
+function_blocks_agree : (k : BlockKind) → eqb (kind_number k) (kind_number kinds.Fb) ≡ eqb (kind_order k) (kind_order kinds.Fb)
 function_blocks_agree kinds.Ob = refl
 function_blocks_agree kinds.Fc = refl
 function_blocks_agree kinds.Fb = refl
@@ -222,14 +223,14 @@ function_blocks_agree kinds.Db = refl
 function_blocks_agree kinds.Sfc = refl
 function_blocks_agree kinds.Udt = refl
 
-function_there : (p : Program) (number : ℕ) (called : CalleeSeen) → callee_among (block_signatures p) 2 number ≡ Some called → IsCalledBlock p 2 number called
+function_there : (p : Program) (number : ℕ) (called : CalleeSeen) → callee_among (block_signatures p) (kind_number kinds.Fc) number ≡ Some called → IsCalledBlock p (kind_number kinds.Fc) number called
 unfolding callee_among
-function_there p number called e = let f = found_in p.code_blocks (record { kind = kinds.Fc; number = number }) 2 called functions_agree e in record { block = f.block; there = f.there; same = f.same }
+function_there p number called e = let f = found_in p.code_blocks (record { kind = kinds.Fc; number = number }) (kind_number kinds.Fc) called functions_agree e in record { block = f.block; there = f.there; same = f.same }
 
-function_block_there : (p : Program) (number : ℕ) (called : CalleeSeen) → callee_among (block_signatures p) 3 number ≡ Some called → IsCalledBlock p 3 number called
+function_block_there : (p : Program) (number : ℕ) (called : CalleeSeen) → callee_among (block_signatures p) (kind_number kinds.Fb) number ≡ Some called → IsCalledBlock p (kind_number kinds.Fb) number called
 unfolding callee_among
-function_block_there p number called e = let f = found_in p.code_blocks (record { kind = kinds.Fb; number = number }) 3 called function_blocks_agree e in record { block = f.block; there = f.there; same = f.same }
+function_block_there p number called e = let f = found_in p.code_blocks (record { kind = kinds.Fb; number = number }) (kind_number kinds.Fb) called function_blocks_agree e in record { block = f.block; there = f.there; same = f.same }
 
-pub called_there : (p : Program) (kind number : ℕ) (called : CalleeSeen) → (kind ≡ 2) ⊎ (kind ≡ 3) → callee_among (block_signatures p) kind number ≡ Some called → IsCalledBlock p kind number called
+pub called_there : (p : Program) (kind number : ℕ) (called : CalleeSeen) → (kind ≡ kind_number kinds.Fc) ⊎ (kind ≡ kind_number kinds.Fb) → callee_among (block_signatures p) kind number ≡ Some called → IsCalledBlock p kind number called
 called_there p kind number called (inl is) e = subst (λ (k : ℕ). IsCalledBlock p k number called) (sym is) (function_there p number called (subst (λ (k : ℕ). callee_among (block_signatures p) k number ≡ Some called) is e))
 called_there p kind number called (inr is) e = subst (λ (k : ℕ). IsCalledBlock p k number called) (sym is) (function_block_there p number called (subst (λ (k : ℕ). callee_among (block_signatures p) k number ≡ Some called) is e))

@@ -22,7 +22,7 @@ use Rattle.image_file.specs.Verifying.{line_faults, count_faults, faults_unless,
 use Rattle.image_file.proofs.CodeLemmas.{bytes-append, ends_at, last_of}
 use Rattle.image_file.proofs.ImageLemmas.{good_block_of, GoodRecords, good_records}
 use Rattle.image_file.proofs.LeastLemmas.{kept_is_least}
-use Rattle.image_file.proofs.LoadLemmas.{none_left}
+use Rattle.image_file.proofs.LoadLemmas.{Lens, none_left}
 use Rattle.image_file.proofs.RunLemmas.{with_more}
 
 -- ---- fault 5
@@ -82,12 +82,12 @@ lines_done least before i lines le = rw (drop_of_length-le lines {i = i} le) ref
 
 -- ---- the least fault of a block
 
-pub coded : (at : ℕ) (environment : Environment) (b : BlockRecord) → code_fault b.code ≡ Some at → Some (record { at = at; code = 5 }) ≡ with_faults None (faults_of_block environment b)
+pub fault_five_alone : (at : ℕ) (environment : Environment) (b : BlockRecord) → code_fault b.code ≡ Some at → Some (record { at = at; code = 5 }) ≡ with_faults None (faults_of_block environment b)
 unfolding with_faults
-coded at environment b e = rw e refl
+fault_five_alone at environment b e = rw e refl
 
-pub uncoded : (first second last : Option LoadFault) (environment : Environment) (b : BlockRecord) → code_fault b.code ≡ None → first ≡ with_faults None (count_faults b) → second ≡ with_faults first (line_faults 0 b.lines) → last ≡ with_faults second (block_faults environment 0 b.code) → last ≡ with_faults None (faults_of_block environment b)
-uncoded first second last environment b none one two three =
+pub faults_without_five : (first second last : Option LoadFault) (environment : Environment) (b : BlockRecord) → code_fault b.code ≡ None → first ≡ with_faults None (count_faults b) → second ≡ with_faults first (line_faults 0 b.lines) → last ≡ with_faults second (block_faults environment 0 b.code) → last ≡ with_faults None (faults_of_block environment b)
+faults_without_five first second last environment b none one two three =
     let lines = line_faults 0 b.lines in
     let ops = block_faults environment 0 b.code in
     three ∙ ap (λ (z : Option LoadFault). with_faults z ops) (two ∙ ap (λ (z : Option LoadFault). with_faults z lines) one ∙ sym (with_more None (count_faults b) lines))
@@ -96,11 +96,8 @@ uncoded first second last environment b none one two three =
 
 -- ---- the first block with a fault
 
-abbrev pub Lens : Type 0
-Lens = Option (List (ℕ × ℕ))
-
 -- what is said of the blocks from one on is said of all
-pub record Passed (lens : Lens) (all : List BlockRecord) (bs rest : List CodeBlock) : Type 0 where
+pub record RestDecides (lens : Lens) (all : List BlockRecord) (bs rest : List CodeBlock) : Type 0 where
   pub later : (f : VerifyFault) → IsFirstOf lens all rest f → IsFirstOf lens all bs f
   pub clean : AreClean lens all rest → AreClean lens all bs
 
@@ -108,13 +105,13 @@ decides : (b : CodeBlock) (f : LoadFault) (fs : List (ℕ × ℕ)) (Later : Type
 decides b f [] Later least = absurd least.one
 decides b f (g ∷ gs) Later least = (refl, least)
 
-pub found_here : (lens : Lens) (all : List BlockRecord) (bs rest tail : List CodeBlock) (b : CodeBlock) (f : LoadFault) → rest ≡ b ∷ tail → Some f ≡ with_faults None (faults_of_block (environment_of_block lens all (record_of_block b)) (record_of_block b)) → Passed lens all bs rest → IsFirstOf lens all bs (record { block = b.id; at = f.at; code = f.code })
+pub found_here : (lens : Lens) (all : List BlockRecord) (bs rest tail : List CodeBlock) (b : CodeBlock) (f : LoadFault) → rest ≡ b ∷ tail → Some f ≡ with_faults None (faults_of_block (environment_of_block lens all (record_of_block b)) (record_of_block b)) → RestDecides lens all bs rest → IsFirstOf lens all bs (record { block = b.id; at = f.at; code = f.code })
 found_here lens all bs rest tail b f shape e passed =
     let fault : VerifyFault = record { block = b.id; at = f.at; code = f.code } in
     let fs = faults_of_block (environment_of_block lens all (record_of_block b)) (record_of_block b) in
     passed.later fault (subst (λ (z : List CodeBlock). IsFirstOf lens all z fault) (sym shape) (decides b f fs (IsFirstOf lens all tail fault) (kept_is_least fs f (sym e))))
 
-pub passes : (lens : Lens) (all : List BlockRecord) (bs rest tail : List CodeBlock) (b : CodeBlock) → rest ≡ b ∷ tail → None ≡ with_faults None (faults_of_block (environment_of_block lens all (record_of_block b)) (record_of_block b)) → Passed lens all bs rest → Passed lens all bs tail
+pub passes : (lens : Lens) (all : List BlockRecord) (bs rest tail : List CodeBlock) (b : CodeBlock) → rest ≡ b ∷ tail → None ≡ with_faults None (faults_of_block (environment_of_block lens all (record_of_block b)) (record_of_block b)) → RestDecides lens all bs rest → RestDecides lens all bs tail
 passes lens all bs rest tail b shape e passed =
     let fs = faults_of_block (environment_of_block lens all (record_of_block b)) (record_of_block b) in
     let none : fs ≡ [] = none_left fs (sym e) in
@@ -123,10 +120,10 @@ passes lens all bs rest tail b shape e passed =
       clean = λ h. passed.clean (subst (λ (z : List CodeBlock). AreClean lens all z) (sym shape) (none, h));
     }
 
-pub passed_none : (lens : Lens) (all : List BlockRecord) (bs : List CodeBlock) → Passed lens all bs bs
+pub passed_none : (lens : Lens) (all : List BlockRecord) (bs : List CodeBlock) → RestDecides lens all bs bs
 passed_none lens all bs = record { later = λ f h. h; clean = λ h. h }
 
-pub passed_all : (lens : Lens) (all : List BlockRecord) (bs : List CodeBlock) (i : ℕ) → length bs ≤ i → Passed lens all bs (drop i bs) → AreClean lens all bs
+pub passed_all : (lens : Lens) (all : List BlockRecord) (bs : List CodeBlock) (i : ℕ) → length bs ≤ i → RestDecides lens all bs (drop i bs) → AreClean lens all bs
 passed_all lens all bs i le passed = passed.clean (subst (λ (z : List CodeBlock). AreClean lens all z) (sym (drop_of_length-le bs {i = i} le)) tt)
 
 -- what is found of a block by its place among the signatures of all

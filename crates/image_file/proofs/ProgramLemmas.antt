@@ -47,7 +47,7 @@ head_small before h good =
     let fine = and_parts (ltb n 65536) (is_fine (fault_unless_met (has_number h.kind n && rises) 4)) parts.number_good in
     let right = and_parts (has_number h.kind n) rises (unless_fine (has_number h.kind n && rises) 4 fine.1) in
     record {
-      number = number_small (eqb h.kind 1) n right.0;
+      number = number_small (eqb h.kind (kind_number kinds.Ob)) n right.0;
       statements = word_fits h.statement_count parts.statements_good;
       code = dword_fits h.code_length parts.size_good;
     }
@@ -130,17 +130,17 @@ code_right n ops h =
     (stops.0, stops.1, b.0)
 
 -- no parameters, and room for the start information
-none_if_ob : (kind count : ℕ) → kind ≡ 1 → (not (eqb kind 1) || eqb count 0) ≡ true → count ≡ 0
+none_if_ob : (kind count : ℕ) → kind ≡ kind_number kinds.Ob → (not (eqb kind (kind_number kinds.Ob)) || eqb count 0) ≡ true → count ≡ 0
 none_if_ob kind count is h = eqb-true count 0 (rw is at h)
 
-room_if_ob : (kind bytes : ℕ) → kind ≡ 1 → (not (eqb kind 1) || leb 20 bytes) ≡ true → 20 ≤ bytes
+room_if_ob : (kind bytes : ℕ) → kind ≡ kind_number kinds.Ob → (not (eqb kind (kind_number kinds.Ob)) || leb 20 bytes) ≡ true → 20 ≤ bytes
 room_if_ob kind bytes is h = leb-true 20 bytes (rw is at h)
 
 locals_right : (before : ℕ × ℕ) (h : Head) → (head_layout before).good h ≡ true → h.local_bytes ≤ 1024
 unfolding local_length_layout field_fault
 locals_right before h good =
     let bytes = h.local_bytes in
-    let has_room = not (eqb h.kind 1) || leb 20 bytes in
+    let has_room = not (eqb h.kind (kind_number kinds.Ob)) || leb 20 bytes in
     let long = and_parts (ltb bytes 65536) (is_fine (fault_unless_met (leb bytes 1024 && has_room) 4)) (good_head before h good).locals_good in
     leb-true bytes 1024 (and_parts (leb bytes 1024) has_room (unless_fine (leb bytes 1024 && has_room) 4 long.1)).0
 
@@ -150,8 +150,8 @@ ob_right before h good is =
     let parts = good_head before h good in
     let count = h.parameter_count in
     let bytes = h.local_bytes in
-    let no_params = not (eqb h.kind 1) || eqb count 0 in
-    let has_room = not (eqb h.kind 1) || leb 20 bytes in
+    let no_params = not (eqb h.kind (kind_number kinds.Ob)) || eqb count 0 in
+    let has_room = not (eqb h.kind (kind_number kinds.Ob)) || leb 20 bytes in
     let few = and_parts (ltb count 256) (is_fine (fault_unless_met (leb count 60 && no_params) 4)) parts.params_good in
     let long = and_parts (ltb bytes 65536) (is_fine (fault_unless_met (leb bytes 1024 && has_room) 4)) parts.locals_good in (
       none_if_ob h.kind count is (and_parts (leb count 60) no_params (unless_fine (leb count 60 && no_params) 4 few.1)).1,

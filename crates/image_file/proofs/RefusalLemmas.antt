@@ -28,8 +28,8 @@ use Rattle.flat_code.proofs.PartLemmas.{all_of_blocks}
 use Rattle.image_file.proofs.CodeLemmas.{is_none}
 use Rattle.image_file.proofs.ImageLemmas.{good_block_of, good_records, image_one}
 use Rattle.image_file.proofs.LeastLemmas.{kept_is_least}
-use Rattle.image_file.proofs.LoadLemmas.{none_left}
-use Rattle.image_file.proofs.ProgramFaultLemmas.{Lens, is_whole, clean_from, lens_are, clean_verifies}
+use Rattle.image_file.proofs.LoadLemmas.{Lens, none_left}
+use Rattle.image_file.proofs.ProgramFaultLemmas.{is_whole, clean_from, lens_are, clean_verifies}
 use Rattle.image_file.proofs.WholeLemmas.{gives_image, image_gives}
 
 -- ---- a program that verifies is clean
@@ -63,8 +63,8 @@ record Right (b : BlockRecord) : Type 0 where
 abbrev IsRightBlock : CodeBlock → Type 0
 IsRightBlock b = Right (record_of_block b)
 
-abbrev AreRight : List CodeBlock → Type 0
-AreRight bs = AllByRecursion IsRightBlock bs
+abbrev AreRightBlocks : List CodeBlock → Type 0
+AreRightBlocks bs = AllByRecursion IsRightBlock bs
 
 lines_of_clean : (b : BlockRecord) → (lines_layout true 0 (head_of_block b) b.code).good b.lines ≡ true → (count_faults b ≡ []) × (line_faults 0 b.lines ≡ [])
 unfolding lines_layout
@@ -80,15 +80,15 @@ block_right before block h =
     let l = lines_of_clean b p.lines_good in
     record { code = code_clean (length (code_bytes b.code)) b.code p.code_good; count = l.0; lines = l.1 }
 
-program_right : (p : Program) → IsRight p → AreRight p.code_blocks
+program_right : (p : Program) → IsRight p → AreRightBlocks p.code_blocks
 unfolding body_layout
 program_right p h = all_of_blocks true IsRightBlock block_right (length (map record_of_block p.code_blocks)) p.code_blocks (good_records true (records_of p) h).codes_good
 
-right_whole : (bs : List CodeBlock) → AreRight bs → are_whole (map record_of_block bs) ≡ true
+right_whole : (bs : List CodeBlock) → AreRightBlocks bs → are_whole (map record_of_block bs) ≡ true
 right_whole [] h = refl
 right_whole (b ∷ bs) h = and_from _ _ (is_whole (code_fault b.code) h.0.code) (right_whole bs h.1)
 
-ops_clean : (lens : List (ℕ × ℕ)) (all : List BlockRecord) (bs : List CodeBlock) → AreRight bs → AreVerified lens all (map record_of_block bs) → AreClean (Some lens) all bs
+ops_clean : (lens : List (ℕ × ℕ)) (all : List BlockRecord) (bs : List CodeBlock) → AreRightBlocks bs → AreVerified lens all (map record_of_block bs) → AreClean (Some lens) all bs
 ops_clean lens all [] h v = tt
 ops_clean lens all (b ∷ bs) h v =
     let r = record_of_block b in

@@ -5,6 +5,8 @@ use Rattle.std.proofs.lemmas.List.{get_or-set_same, get_or-set_other, length-set
 use Rattle.std.proofs.lemmas.Option.{slice_get-get_or}
 use Rattle.std.proofs.Math.ListN.{drop_of_length-le}
 use Rattle.plc_base.proofs.ListLemmas.{get_past}
+use Rattle.plc_base.specs.Kinds.{kind_number}
+use Rattle.plc_base.specs.declared.blocks.BlockKind.TheVariants as kinds
 use Rattle.flat_code.specs.Ops.{OpData}
 use Rattle.flat_code.specs.Codes.{size_of_op, code_bytes}
 use Rattle.flat_code.specs.declared.image_fields.OpenBracket.{OpenBracket}
@@ -155,8 +157,8 @@ same_tests true false f g = sym (f refl)
 same_tests false true f g = g refl
 same_tests false false f g = refl
 
-key_of_function : (number : ℕ) → number < 65536 → (b : BlockSignature) → eqb (call_key b) (2 * number) ≡ (eqb b.kind 2 && eqb b.number number)
-key_of_function number small b = by (eqb b.kind 2) (eqb b.kind 3)
+key_of_function : (number : ℕ) → number < 65536 → (b : BlockSignature) → eqb (call_key b) (2 * number) ≡ (eqb b.kind (kind_number kinds.Fc) && eqb b.number number)
+key_of_function number small b = by (eqb b.kind (kind_number kinds.Fc)) (eqb b.kind (kind_number kinds.Fb))
   where
     by : (f g : Bool) → eqb (cond f (2 * b.number) (cond g (2 * b.number + 1) 131072)) (2 * number) ≡ (f && eqb b.number number)
     by true g = same_tests (eqb (2 * b.number) (2 * number)) (eqb b.number number)
@@ -165,8 +167,8 @@ key_of_function number small b = by (eqb b.kind 2) (eqb b.kind 3)
     by false true = ne_eqb (2 * b.number + 1) (2 * number) (λ e. omega (arith, e))
     by false false = ne_eqb 131072 (2 * number) (λ e. omega (arith, e, small))
 
-key_of_function_block : (number : ℕ) → number < 65536 → (b : BlockSignature) → eqb (call_key b) (2 * number + 1) ≡ (eqb b.kind 3 && eqb b.number number)
-key_of_function_block number small b = by_kind (eqb b.kind 2) refl
+key_of_function_block : (number : ℕ) → number < 65536 → (b : BlockSignature) → eqb (call_key b) (2 * number + 1) ≡ (eqb b.kind (kind_number kinds.Fb) && eqb b.number number)
+key_of_function_block number small b = by_kind (eqb b.kind (kind_number kinds.Fc)) refl
   where
     by_block : (g : Bool) → eqb (cond g (2 * b.number + 1) 131072) (2 * number + 1) ≡ (g && eqb b.number number)
     by_block true = same_tests (eqb (2 * b.number + 1) (2 * number + 1)) (eqb b.number number)
@@ -174,17 +176,17 @@ key_of_function_block number small b = by_kind (eqb b.kind 2) refl
         (λ e. let s = eqb-true b.number number e in eq-eqb (2 * b.number + 1) (2 * number + 1) (omega (arith, s)))
     by_block false = ne_eqb 131072 (2 * number + 1) (λ e. omega (arith, e, small))
 
-    by_kind : (f : Bool) → eqb b.kind 2 ≡ f → eqb (cond f (2 * b.number) (cond (eqb b.kind 3) (2 * b.number + 1) 131072)) (2 * number + 1) ≡ (eqb b.kind 3 && eqb b.number number)
+    by_kind : (f : Bool) → eqb b.kind (kind_number kinds.Fc) ≡ f → eqb (cond f (2 * b.number) (cond (eqb b.kind (kind_number kinds.Fb)) (2 * b.number + 1) 131072)) (2 * number + 1) ≡ (eqb b.kind (kind_number kinds.Fb) && eqb b.number number)
     by_kind true e =
-        let kind = eqb-true b.kind 2 e in
-        let other : eqb b.kind 3 ≡ false = ne_eqb b.kind 3 (λ z. omega (arith, z, kind)) in
+        let kind = eqb-true b.kind (kind_number kinds.Fc) e in
+        let other : eqb b.kind (kind_number kinds.Fb) ≡ false = ne_eqb b.kind (kind_number kinds.Fb) (λ z. omega (arith, z, kind)) in
         rw other (ne_eqb (2 * b.number) (2 * number + 1) (λ z. omega (arith, z)))
-    by_kind false e = by_block (eqb b.kind 3)
+    by_kind false e = by_block (eqb b.kind (kind_number kinds.Fb))
 
 pub finds_callees : (bs : List BlockSignature) (keys table : List ℕ) → keys ≡ map call_key bs → IsTableOf keys 131072 table → FindsCallees bs table
 finds_callees bs keys table keys_is t = record {
-  functions = λ number small. found 2 number (2 * number) (omega (arith, small)) (key_of_function number small);
-  function_blocks = λ number small. found 3 number (2 * number + 1) (omega (arith, small)) (key_of_function_block number small);
+  functions = λ number small. found (kind_number kinds.Fc) number (2 * number) (omega (arith, small)) (key_of_function number small);
+  function_blocks = λ number small. found (kind_number kinds.Fb) number (2 * number + 1) (omega (arith, small)) (key_of_function_block number small);
 }
   where
     found : (kind number key : ℕ) → key < 131072 → ((b : BlockSignature) → eqb (call_key b) key ≡ (eqb b.kind kind && eqb b.number number)) → found_callee bs table key ≡ block_with kind number bs

@@ -21,9 +21,9 @@ use Rattle.image_file.specs.Verified.{placed_at, IsVerifiedOp, HasNext, Brackets
 
 -- ---- no fault of a block is none of its ops
 
-pub chosen : {A : Type 0} (b : Bool) (x : A) (o : Option A) (y : A) → cond b (Some x) o ≡ Some y → (P : Type 0) → (b ≡ true → x ≡ y → P) → (b ≡ false → o ≡ Some y → P) → P
-chosen true x o y e P f g = f refl (same_Some x y e)
-chosen false x o y e P f g = g refl e
+pub option_by_test : {A : Type 0} (b : Bool) (x : A) (o : Option A) (y : A) → cond b (Some x) o ≡ Some y → (P : Type 0) → (b ≡ true → x ≡ y → P) → (b ≡ false → o ≡ Some y → P) → P
+option_by_test true x o y e P f g = f refl (same_Some x y e)
+option_by_test false x o y e P f g = g refl e
 
 none_here : (at : ℕ) (o : Option ℕ) → at_offset at o ≡ [] → o ≡ None
 none_here at None e = refl
@@ -62,7 +62,7 @@ each : (a : Environment) (ss : List StatementSpot) (start : ℕ) (rest : List Pl
 each a ss start [] at q none found = absurd cc
 each a ss start (p ∷ rest) at q none found =
     let n = nil_parts (op_faults a ss start p) (faults_over a ss start rest) none in
-    chosen (eqb p.at at) p (placed_at at rest) q found (op_faults a ss start q ≡ [])
+    option_by_test (eqb p.at at) p (placed_at at rest) q found (op_faults a ss start q ≡ [])
     (λ t e. subst (λ (z : PlacedOp). op_faults a ss start z ≡ []) e n.0)
     (λ f e. each a ss start rest at q n.1 e)
 
@@ -73,7 +73,7 @@ environment_in p b = environment_of_block (Some (lens_of p.data_blocks)) (map re
 verified_at : (lens : List (ℕ × ℕ)) (all : List BlockRecord) (bs : List CodeBlock) (b : CodeBlock) (id : _) → AreVerified lens all (map record_of_block bs) → block_by_id id bs ≡ Some b → block_faults (environment_of_block (Some lens) all (record_of_block b)) 0 b.code ≡ []
 verified_at lens all [] b id h found = absurd cc
 verified_at lens all (c ∷ bs) b id h found =
-    chosen (is_same_id c.id id) c (block_by_id id bs) b found (block_faults (environment_of_block (Some lens) all (record_of_block b)) 0 b.code ≡ [])
+    option_by_test (is_same_id c.id id) c (block_by_id id bs) b found (block_faults (environment_of_block (Some lens) all (record_of_block b)) 0 b.code ≡ [])
     (λ t e. subst (λ (z : CodeBlock). block_faults (environment_of_block (Some lens) all (record_of_block z)) 0 z.code ≡ []) e h.0)
     (λ f e. verified_at lens all bs b id h.1 e)
 
@@ -153,14 +153,14 @@ NextIn ps q (op ∷ ops) = placed_at (q.at + size_of_op q.op) ps ≡ Some (recor
 pub place_offset : (qs : List PlacedOp) (at : ℕ) (q : PlacedOp) → placed_at at qs ≡ Some q → q.at ≡ at
 place_offset [] at q found = absurd cc
 place_offset (p ∷ qs) at q found =
-    chosen (eqb p.at at) p (placed_at at qs) q found (q.at ≡ at)
+    option_by_test (eqb p.at at) p (placed_at at qs) q found (q.at ≡ at)
     (λ t e. sym (ap (λ (z : PlacedOp). z.at) e) ∙ eqb-true p.at at t)
     (λ f e. place_offset qs at q e)
 
 next_in : (from : ℕ) (brackets : List OpenBracket) (zones : List ℕ) (before ops : List OpData) (at : ℕ) (q : PlacedOp) → placed_at at (ops_placed from brackets zones before ops) ≡ Some q → NextIn (ops_placed from brackets zones before ops) q q.rest
 next_in from brackets zones before [] at q found = absurd cc
 next_in from brackets zones before (o ∷ ops) at q found =
-    chosen (eqb from at) here behind q found (NextIn (ops_placed from brackets zones before (o ∷ ops)) q q.rest)
+    option_by_test (eqb from at) here behind q found (NextIn (ops_placed from brackets zones before (o ∷ ops)) q q.rest)
     (λ t e. subst (λ (z : PlacedOp). NextIn (ops_placed from brackets zones before (o ∷ ops)) z z.rest) e (first ops))
     (λ f e. later q.rest (next_in (from + size_of_op o) (brackets_after from o.code brackets) (zones_behind_op from o.code zones) (before_next o before) ops at q e) (place_is (from + size_of_op o) (brackets_after from o.code brackets) (zones_behind_op from o.code zones) (before_next o before) ops at q e) (place_offset (ops_placed (from + size_of_op o) (brackets_after from o.code brackets) (zones_behind_op from o.code zones) (before_next o before) ops) at q e))
   where
@@ -198,11 +198,11 @@ record Same (from : ℕ) (brackets : List OpenBracket) (zones : List ℕ) (ops :
 same_behind : (from : ℕ) (brackets : List OpenBracket) (zones : List ℕ) (before ops : List OpData) (at : ℕ) (q : PlacedOp) → placed_at at (ops_placed from brackets zones before ops) ≡ Some q → Same from brackets zones ops q
 same_behind from brackets zones before [] at q found = absurd cc
 same_behind from brackets zones before (o ∷ []) at q found =
-    chosen (eqb from at) (record { at = from; brackets = brackets; zones = zones; before = before; op = o; rest = [] }) None q found (Same from brackets zones (o ∷ []) q)
+    option_by_test (eqb from at) (record { at = from; brackets = brackets; zones = zones; before = before; op = o; rest = [] }) None q found (Same from brackets zones (o ∷ []) q)
     (λ t e. subst (λ (z : PlacedOp). Same from brackets zones (o ∷ []) z) e (record { open_same = refl; left_same = refl; ends_same = refl }))
     (λ f e. absurd cc)
 same_behind from brackets zones before (o ∷ n ∷ ops) at q found =
-    chosen (eqb from at) (record { at = from; brackets = brackets; zones = zones; before = before; op = o; rest = n ∷ ops }) (placed_at at (ops_placed (from + size_of_op o) (brackets_after from o.code brackets) (zones_behind_op from o.code zones) (before_next o before) (n ∷ ops))) q found (Same from brackets zones (o ∷ n ∷ ops) q)
+    option_by_test (eqb from at) (record { at = from; brackets = brackets; zones = zones; before = before; op = o; rest = n ∷ ops }) (placed_at at (ops_placed (from + size_of_op o) (brackets_after from o.code brackets) (zones_behind_op from o.code zones) (before_next o before) (n ∷ ops))) q found (Same from brackets zones (o ∷ n ∷ ops) q)
     (λ t e. subst (λ (z : PlacedOp). Same from brackets zones (o ∷ n ∷ ops) z) e (record { open_same = refl; left_same = refl; ends_same = refl }))
     (λ f e. let more = same_behind (from + size_of_op o) (brackets_after from o.code brackets) (zones_behind_op from o.code zones) (before_next o before) (n ∷ ops) at q e in record { open_same = more.open_same; left_same = more.left_same; ends_same = more.ends_same })
 
@@ -261,7 +261,7 @@ few_at a ss from brackets zones before [] at q none most found = absurd cc
 few_at a ss from brackets zones before (o ∷ ops) at q none most found =
     let here : PlacedOp = record { at = from; brackets = brackets; zones = zones; before = before; op = o; rest = ops } in
     let n = nil_parts (op_faults a ss 0 here) (faults_over a ss 0 (ops_placed (from + size_of_op o) (brackets_after from o.code brackets) (zones_behind_op from o.code zones) (before_next o before) ops)) none in
-    chosen (eqb from at) here (placed_at at (ops_placed (from + size_of_op o) (brackets_after from o.code brackets) (zones_behind_op from o.code zones) (before_next o before) ops)) q found (length q.brackets ≤ most_brackets)
+    option_by_test (eqb from at) here (placed_at at (ops_placed (from + size_of_op o) (brackets_after from o.code brackets) (zones_behind_op from o.code zones) (before_next o before) ops)) q found (length q.brackets ≤ most_brackets)
     (λ t e. subst (λ (z : PlacedOp). length z.brackets ≤ most_brackets) e most)
     (λ f e. few_at a ss (from + size_of_op o) (brackets_after from o.code brackets) (zones_behind_op from o.code zones) (before_next o before) ops at q n.1 (few_opened from o.code brackets (no_fault a ss 0 here n.0).bracket most) e)
 
@@ -294,7 +294,7 @@ few_zones_at a ss from brackets zones before [] at q none most found = absurd cc
 few_zones_at a ss from brackets zones before (o ∷ ops) at q none most found =
     let here : PlacedOp = record { at = from; brackets = brackets; zones = zones; before = before; op = o; rest = ops } in
     let n = nil_parts (op_faults a ss 0 here) (faults_over a ss 0 (ops_placed (from + size_of_op o) (brackets_after from o.code brackets) (zones_behind_op from o.code zones) (before_next o before) ops)) none in
-    chosen (eqb from at) here (placed_at at (ops_placed (from + size_of_op o) (brackets_after from o.code brackets) (zones_behind_op from o.code zones) (before_next o before) ops)) q found (length q.zones ≤ most_zones)
+    option_by_test (eqb from at) here (placed_at at (ops_placed (from + size_of_op o) (brackets_after from o.code brackets) (zones_behind_op from o.code zones) (before_next o before) ops)) q found (length q.zones ≤ most_zones)
     (λ t e. subst (λ (z : PlacedOp). length z.zones ≤ most_zones) e most)
     (λ f e. few_zones_at a ss (from + size_of_op o) (brackets_after from o.code brackets) (zones_behind_op from o.code zones) (before_next o before) ops at q n.1 (few_zones_behind from o.code zones (no_fault a ss 0 here n.0).zone most) e)
 
@@ -334,7 +334,7 @@ few_before from brackets zones before (o ∷ ops) at q none most found =
     let lt : length before < 64 = let ne = eqb-false (length before) 64 n.0 in grind (arith, ne, most) in
     let next = few_next o before in
     let more : overlong_statement (length (before_next o before)) (from + size_of_op o) ops ≡ None = ap (λ (k : ℕ). overlong_statement k (from + size_of_op o) ops) next ∙ n.1 in
-    chosen (eqb from at) (record { at = from; brackets = brackets; zones = zones; before = before; op = o; rest = ops }) (placed_at at (ops_placed (from + size_of_op o) (brackets_after from o.code brackets) (zones_behind_op from o.code zones) (before_next o before) ops)) q found (length q.before < 64)
+    option_by_test (eqb from at) (record { at = from; brackets = brackets; zones = zones; before = before; op = o; rest = ops }) (placed_at at (ops_placed (from + size_of_op o) (brackets_after from o.code brackets) (zones_behind_op from o.code zones) (before_next o before) ops)) q found (length q.before < 64)
     (λ t e. subst (λ (z : PlacedOp). length z.before < 64) e lt)
     (λ f e. few_before (from + size_of_op o) (brackets_after from o.code brackets) (zones_behind_op from o.code zones) (before_next o before) ops at q more (most_next o.last next lt) e)
   where
@@ -381,29 +381,29 @@ line_room true marks [] le = absurd (omega (arith, le))
 line_room true marks (line ∷ lines) le = omega (arith, le)
 line_room false marks lines le = omega (arith, le)
 
-abbrev Lined : ℕ → Bool → List OpData → List ℕ → ℕ → Type 0
-Lined from begin ops lines at = (line : ℕ) × (line_placed from begin ops lines at ≡ Some line)
+abbrev HasLineAt : ℕ → Bool → List OpData → List ℕ → ℕ → Type 0
+HasLineAt from begin ops lines at = (line : ℕ) × (line_placed from begin ops lines at ≡ Some line)
 
-line_here : (from : ℕ) (begin : Bool) (o : OpData) (ops : List OpData) (lines : List ℕ) (at : ℕ) → ends_by_be (o ∷ ops) ≡ true → end_marks (o ∷ ops) ≤ length lines → eqb from at ≡ true → begin ≡ true → Lined from begin (o ∷ ops) lines at
+line_here : (from : ℕ) (begin : Bool) (o : OpData) (ops : List OpData) (lines : List ℕ) (at : ℕ) → ends_by_be (o ∷ ops) ≡ true → end_marks (o ∷ ops) ≤ length lines → eqb from at ≡ true → begin ≡ true → HasLineAt from begin (o ∷ ops) lines at
 line_here from begin o ops lines at ended most t is =
     let mark = mark_there (o ∷ ops) ended in
     let l = first_line lines (omega (arith, mark, most)) in
     (l.0, rw (t, is) l.1)
 
-line_later : (from : ℕ) (begin : Bool) (o : OpData) (ops : List OpData) (lines : List ℕ) (at : ℕ) → eqb from at ≡ false → Lined (from + size_of_op o) o.last ops (cond o.last (drop 1 lines) lines) at → Lined from begin (o ∷ ops) lines at
+line_later : (from : ℕ) (begin : Bool) (o : OpData) (ops : List OpData) (lines : List ℕ) (at : ℕ) → eqb from at ≡ false → HasLineAt (from + size_of_op o) o.last ops (cond o.last (drop 1 lines) lines) at → HasLineAt from begin (o ∷ ops) lines at
 line_later from begin o ops lines at f l = (l.0, rw f l.1)
 
-line_there : (from : ℕ) (brackets : List OpenBracket) (zones : List ℕ) (before ops : List OpData) (lines : List ℕ) (at : ℕ) (q : PlacedOp) → ends_by_be ops ≡ true → end_marks ops ≤ length lines → placed_at at (ops_placed from brackets zones before ops) ≡ Some q → is_empty_list q.before ≡ true → Lined from (is_empty_list before) ops lines at
+line_there : (from : ℕ) (brackets : List OpenBracket) (zones : List ℕ) (before ops : List OpData) (lines : List ℕ) (at : ℕ) (q : PlacedOp) → ends_by_be ops ≡ true → end_marks ops ≤ length lines → placed_at at (ops_placed from brackets zones before ops) ≡ Some q → is_empty_list q.before ≡ true → HasLineAt from (is_empty_list before) ops lines at
 line_there from brackets zones before [] lines at q ended most found first = absurd cc
 line_there from brackets zones before (o ∷ []) lines at q ended most found first =
-    chosen (eqb from at) (record { at = from; brackets = brackets; zones = zones; before = before; op = o; rest = [] }) None q found (Lined from (is_empty_list before) (o ∷ []) lines at)
+    option_by_test (eqb from at) (record { at = from; brackets = brackets; zones = zones; before = before; op = o; rest = [] }) None q found (HasLineAt from (is_empty_list before) (o ∷ []) lines at)
     (λ t e. line_here from (is_empty_list before) o [] lines at ended most t (ap (λ (z : PlacedOp). is_empty_list z.before) e ∙ first))
     (λ f e. absurd cc)
 line_there from brackets zones before (o ∷ n ∷ ops) lines at q ended most found first =
-    chosen (eqb from at) (record { at = from; brackets = brackets; zones = zones; before = before; op = o; rest = n ∷ ops }) (placed_at at (ops_placed (from + size_of_op o) (brackets_after from o.code brackets) (zones_behind_op from o.code zones) (before_next o before) (n ∷ ops))) q found (Lined from (is_empty_list before) (o ∷ n ∷ ops) lines at)
+    option_by_test (eqb from at) (record { at = from; brackets = brackets; zones = zones; before = before; op = o; rest = n ∷ ops }) (placed_at at (ops_placed (from + size_of_op o) (brackets_after from o.code brackets) (zones_behind_op from o.code zones) (before_next o before) (n ∷ ops))) q found (HasLineAt from (is_empty_list before) (o ∷ n ∷ ops) lines at)
     (λ t e. line_here from (is_empty_list before) o (n ∷ ops) lines at ended most t (ap (λ (z : PlacedOp). is_empty_list z.before) e ∙ first))
     (λ f e. line_later from (is_empty_list before) o (n ∷ ops) lines at f
-    (subst (λ (z : Bool). Lined (from + size_of_op o) z (n ∷ ops) (cond o.last (drop 1 lines) lines) at) (empty_next o before)
+    (subst (λ (z : Bool). HasLineAt (from + size_of_op o) z (n ∷ ops) (cond o.last (drop 1 lines) lines) at) (empty_next o before)
     (line_there (from + size_of_op o) (brackets_after from o.code brackets) (zones_behind_op from o.code zones) (before_next o before) (n ∷ ops) (cond o.last (drop 1 lines) lines) at q ended (line_room o.last (end_marks (n ∷ ops)) lines most) e first)))
 
 pub has_line : (p : Program) (b : CodeBlock) (q : PlacedOp) → ends_by_be b.code ≡ true → end_marks b.code ≡ length b.lines → IsVerifiedOp p b q → begins_its_statement q ≡ true → HasLine b q.at

@@ -19,7 +19,7 @@ use Rattle.flat_code.specs.Blocks.{Environment, operand_fault, call_fault, mark_
 use Rattle.flat_code.specs.Loading.{lens_of, later_data_blocks, environment_of_block, whole_blocks, all_blocks, blocks_of, op_faults_of_blocks, faults_of, GivesProgram, AreVerified, IsLoadable}
 use Rattle.flat_code.proofs.CodingLemmas.{IsBytes}
 use Rattle.image_file.proofs.LayoutLemmas.{at_place, no_faults}
-use Rattle.image_file.proofs.ImageLemmas.{image_again, image_takes, records_back, records_laid, front_laid, bytes_taken, Stamped}
+use Rattle.image_file.proofs.ImageLemmas.{image_again, image_takes, records_back, records_laid, front_laid, bytes_taken, StampedProgram}
 
 -- the blocks of an image that notes name
 record NotedBlocks : Type 0 where
@@ -355,13 +355,13 @@ body_from cur p end are e clean =
 abbrev cut_cursor : ℕ → Cursor → Cursor
 cut_cursor total cur = record { at = cur.at; rest = take (total - front_size) cur.rest }
 
-abbrev cut_inner : Stamp → List ℕ → ℕ → Cursor → ReadResult Stamped
+abbrev cut_inner : Stamp → List ℕ → ℕ → Cursor → ReadResult StampedProgram
 cut_inner stamp text total cur = record {
   notes = cond (eqb (length text) total) [] (Faulty total 10 ∷ []) ++ (bind_reading ((body_layout true).read (cut_cursor total cur)) (end_layout stamp)).notes;
   found = (bind_reading ((body_layout true).read (cut_cursor total cur)) (end_layout stamp)).found;
 }
 
-inner_from : (stamp : Stamp) (text : List ℕ) (total : ℕ) (cur : Cursor) (p : Stamped) (end : Cursor) → IsBytes cur.rest → (cut_inner stamp text total cur).found ≡ Some (p, end) → faults_in (cut_inner stamp text total cur).notes ≡ [] → FromRecords p.1 (cut_inner stamp text total cur).notes
+inner_from : (stamp : Stamp) (text : List ℕ) (total : ℕ) (cur : Cursor) (p : StampedProgram) (end : Cursor) → IsBytes cur.rest → (cut_inner stamp text total cur).found ≡ Some (p, end) → faults_in (cut_inner stamp text total cur).notes ≡ [] → FromRecords p.1 (cut_inner stamp text total cur).notes
 inner_from stamp text total cur p end are e clean =
     let inner = (body_layout true).read (cut_cursor total cur) in
     let a = steps inner (end_layout stamp) p end e in
@@ -371,7 +371,7 @@ inner_from stamp text total cur p end are e clean =
     let f = body_from (cut_cursor total cur) a.first a.next (bytes_taken (total - front_size) cur.rest are) a.one d.0 in
     record {
       records = f.records;
-      program = f.program ∙ ap (λ (z : Stamped × Cursor). z.0.1) made;
+      program = f.program ∙ ap (λ (z : StampedProgram × Cursor). z.0.1) made;
       good = f.good;
       noted = blocks_in-append (cond (eqb (length text) total) [] (Faulty total 10 ∷ [])) (bind_reading inner (end_layout stamp)).notes
           ∙ ap (λ (z : NotedBlocks). join z (blocks_in (bind_reading inner (end_layout stamp)).notes)) (cond_note (eqb (length text) total) total 10)
@@ -380,12 +380,12 @@ inner_from stamp text total cur p end are e clean =
           ∙ f.noted;
     }
 
-cut_from : (stamp : Stamp) (text : List ℕ) (total : ℕ) (cur : Cursor) (p : Stamped) (end : Cursor) (b d : Bool) → IsBytes cur.rest → (cond b (reading_ended 8 3) (cond d (reading_ended 8 4) (cut_inner stamp text total cur))).found ≡ Some (p, end) → faults_in (cond b (reading_ended 8 3) (cond d (reading_ended 8 4) (cut_inner stamp text total cur))).notes ≡ [] → FromRecords p.1 (cond b (reading_ended 8 3) (cond d (reading_ended 8 4) (cut_inner stamp text total cur))).notes
+cut_from : (stamp : Stamp) (text : List ℕ) (total : ℕ) (cur : Cursor) (p : StampedProgram) (end : Cursor) (b d : Bool) → IsBytes cur.rest → (cond b (reading_ended 8 3) (cond d (reading_ended 8 4) (cut_inner stamp text total cur))).found ≡ Some (p, end) → faults_in (cond b (reading_ended 8 3) (cond d (reading_ended 8 4) (cut_inner stamp text total cur))).notes ≡ [] → FromRecords p.1 (cond b (reading_ended 8 3) (cond d (reading_ended 8 4) (cut_inner stamp text total cur))).notes
 cut_from stamp text total cur p end true d are e clean = absurd cc
 cut_from stamp text total cur p end false true are e clean = absurd cc
 cut_from stamp text total cur p end false false are e clean = inner_from stamp text total cur p end are e clean
 
-image_from : (text : List ℕ) (p : Stamped) (end : Cursor) → IsBytes text → (read_image text).found ≡ Some (p, end) → faults_in (read_image text).notes ≡ [] → FromRecords p.1 (read_image text).notes
+image_from : (text : List ℕ) (p : StampedProgram) (end : Cursor) → IsBytes text → (read_image text).found ≡ Some (p, end) → faults_in (read_image text).notes ≡ [] → FromRecords p.1 (read_image text).notes
 unfolding read_by
 image_from text p end are e clean =
     let a = steps (front_layout.read (at_place 0 text)) (λ f cur. read_cut_off true (stamp_in f) (length text) f.total_length cur) p end e in
@@ -402,11 +402,11 @@ image_from text p end are e clean =
     }
 
 -- what reading without fault noted, by the program
-pub record Noted (p : Program) (notes : List Note) : Type 0 where
+pub record AreNotesOf (p : Program) (notes : List Note) : Type 0 where
   pub codes : blocks_of (whole_blocks notes) ≡ map record_of_block p.code_blocks
   pub datas : all_blocks notes ≡ Some p.data_blocks
 
-pub image_noted : (text : List ℕ) (stamp : Stamp) (p : Program) (end : Cursor) → IsBytes text → (read_image text).found ≡ Some ((stamp, p), end) → faults_in (read_image text).notes ≡ [] → Noted p (read_image text).notes
+pub image_noted : (text : List ℕ) (stamp : Stamp) (p : Program) (end : Cursor) → IsBytes text → (read_image text).found ≡ Some ((stamp, p), end) → faults_in (read_image text).notes ≡ [] → AreNotesOf p (read_image text).notes
 unfolding blocks_in blocks_of_records
 image_noted text stamp p end are e clean =
     let f = image_from text (stamp, p) end are e clean in
@@ -469,9 +469,9 @@ verified lens all (b ∷ bs) e =
     let n = nil_parts (block_faults (environment_of_block (Some lens) all b.1) b.0 b.1.code) (op_faults_of_blocks (Some lens) all bs) e in
     (moved (environment_of_block (Some lens) all b.1) b.0 0 b.1.code n.0, verified lens all bs n.1)
 
-unchecked : (lens : List (ℕ × ℕ)) (all : List BlockRecord) (bs : List (ℕ × BlockRecord)) → AreVerified lens all (blocks_of bs) → op_faults_of_blocks (Some lens) all bs ≡ []
-unchecked lens all [] h = refl
-unchecked lens all (b ∷ bs) h = nil_join (moved (environment_of_block (Some lens) all b.1) 0 b.0 b.1.code h.0) (unchecked lens all bs h.1)
+no_faults_where_verified : (lens : List (ℕ × ℕ)) (all : List BlockRecord) (bs : List (ℕ × BlockRecord)) → AreVerified lens all (blocks_of bs) → op_faults_of_blocks (Some lens) all bs ≡ []
+no_faults_where_verified lens all [] h = refl
+no_faults_where_verified lens all (b ∷ bs) h = nil_join (moved (environment_of_block (Some lens) all b.1) 0 b.0 b.1.code h.0) (no_faults_where_verified lens all bs h.1)
 
 pub gives_image : (text : List ℕ) (stamp : Stamp) (p : Program) → IsBytes text → GivesProgram text stamp p → IsLoadable text stamp p
 unfolding faults_of
@@ -498,5 +498,5 @@ image_gives text stamp p are h =
     let clean : faults_in notes ≡ [] = ap (λ (z : List ℕ). faults_in (read_image z).notes) h.spelled ∙ is.clean in
     let m = image_noted text stamp p end are found clean in
     let v : AreVerified (lens_of p.data_blocks) (blocks_of (whole_blocks notes)) (blocks_of (whole_blocks notes)) = subst (λ (z : List BlockRecord). AreVerified (lens_of p.data_blocks) z z) (sym m.codes) h.verifies.blocks in
-    let no_block_faults : op_faults_of_blocks (option_map lens_of (all_blocks notes)) (blocks_of (whole_blocks notes)) (whole_blocks notes) ≡ [] = ap (λ (z : Option (List DataBlock)). op_faults_of_blocks (option_map lens_of z) (blocks_of (whole_blocks notes)) (whole_blocks notes)) m.datas ∙ unchecked (lens_of p.data_blocks) (blocks_of (whole_blocks notes)) (whole_blocks notes) v in
+    let no_block_faults : op_faults_of_blocks (option_map lens_of (all_blocks notes)) (blocks_of (whole_blocks notes)) (whole_blocks notes) ≡ [] = ap (λ (z : Option (List DataBlock)). op_faults_of_blocks (option_map lens_of z) (blocks_of (whole_blocks notes)) (whole_blocks notes)) m.datas ∙ no_faults_where_verified (lens_of p.data_blocks) (blocks_of (whole_blocks notes)) (whole_blocks notes) v in
     record { end = end; found = found; clean = nil_join clean no_block_faults }

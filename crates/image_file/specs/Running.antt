@@ -19,8 +19,8 @@ use Rattle.image_file.specs.declared.records.HeadRead.{HeadRead}
 use Rattle.image_file.specs.declared.records.CountsRead.{CountsRead}
 use Rattle.image_file.specs.declared.records.FrontRead.{FrontRead}
 use Rattle.image_file.specs.declared.records.FoundRead.{FoundRead}
-use Rattle.image_file.specs.declared.records.Started.{Started}
-use Rattle.image_file.specs.declared.stops.Ended.{Ended}
+use Rattle.image_file.specs.declared.records.LocatedBlock.{LocatedBlock}
+use Rattle.image_file.specs.declared.stops.ReadingEnd.{ReadingEnd}
 use Rattle.image_file.specs.declared.stops.Stop.{Stop}
 use Rattle.image_file.specs.declared.stops.Stop.TheVariants as stop
 use Rattle.image_file.specs.Least.{with_faults}
@@ -64,36 +64,36 @@ log_after log notes = record {
 }
 
 -- what reading a value in one pass comes to
-pub data Ran (A : Type 0) : Type 0 where
+pub data RunResult (A : Type 0) : Type 0 where
   -- the value `x` was read; `cur` is the place behind it, `log` what was kept so far
-  Goes : (x : A) (cur : Cursor) (log : Log) → Ran A
+  Continues : (x : A) (cur : Cursor) (log : Log) → RunResult A
   -- reading ended at a fault; `log` is what was kept so far
-  Stops : (log : Log) → Ran A
+  Stops : (log : Log) → RunResult A
 
 -- what reading comes to, by the value and the place behind it that were found, and what is kept;
 -- None means that reading ended at a fault
-abbrev pub run_result : {A : Type 0} → Option (A × Cursor) → Log → Ran A
+abbrev pub run_result : {A : Type 0} → Option (A × Cursor) → Log → RunResult A
 run_result None log = Stops log
-run_result (Some x) log = Goes x.0 x.1 log
+run_result (Some x) log = Continues x.0 x.1 log
 
 -- reading a value by its layout from a place on, where `log` was kept before
-unfoldable pub run_layout : {A : Type 0} → Layout A → Cursor → Log → Ran A
+unfoldable pub run_layout : {A : Type 0} → Layout A → Cursor → Log → RunResult A
 run_layout l cur log = run_result (l.read cur).found (log_after log (l.read cur).notes)
 
 -- a reading, and then `f` with what it read; where it ended at a fault, nothing more is read
-abbrev pub then_run : {A B : Type 0} → Ran A → (A → Cursor → Log → Ran B) → Ran B
-then_run (Goes x cur log) f = f x cur log
+abbrev pub then_run : {A B : Type 0} → RunResult A → (A → Cursor → Log → RunResult B) → RunResult B
+then_run (Continues x cur log) f = f x cur log
 then_run (Stops log) f = Stops log
 
 -- a code block that was read whole, with the offset at which its code begins
-abbrev pub started_block : Started → ℕ × BlockRecord
-started_block s = (s.start, s.block)
+abbrev pub located_block : LocatedBlock → ℕ × BlockRecord
+located_block s = (s.start, s.block)
 
 -- what the `Reader` of the code has kept so far: least fault and blocks
 abbrev pub log_of : Reader → Log
 log_of r = record {
   least = r.least;
-  blocks = map started_block r.blocks.items;
+  blocks = map located_block r.blocks.items;
   datas = option_map (λ v. v.items) r.datas;
 }
 
@@ -103,8 +103,8 @@ reader_cursor r = record { at = r.at; rest = r.rest.now }
 
 -- what a call of a method of `Reader` comes to: a value, seen by `view`, with the reader's place
 -- and what it kept, or that reading ended at a fault
-abbrev pub reader_run : {X A : Type 0} → (X → A) → Result X Ended → Reader → Ran A
-reader_run view (Ok x) r = Goes (view x) (reader_cursor r) (log_of r)
+abbrev pub reader_run : {X A : Type 0} → (X → A) → Result X ReadingEnd → Reader → RunResult A
+reader_run view (Ok x) r = Continues (view x) (reader_cursor r) (log_of r)
 reader_run view (Err e) r = Stops (log_of r)
 
 -- the head of a code block, by the fields that `Reader` answers
@@ -122,31 +122,32 @@ head_values h = record {
 
 -- a call of a method of `Reader` comes to `all`: a value, seen by `view`, with the reader's place
 -- and what it kept, or that reading ended at a fault; nothing is said where memory is wanting
-abbrev pub Sees : {X A : Type 0} → (X → A) → Result X Stop → Reader → Ran A → Type 0
-Sees view (Ok x) r all = Goes (view x) (reader_cursor r) (log_of r) ≡ all
-Sees view (Err stop.AtFault) r all = Stops (log_of r) ≡ all
-Sees view (Err stop.NoMemory) r all = Unit {0}
+abbrev pub IsReaderRun : {X A : Type 0} → (X → A) → Result X Stop → Reader → RunResult A → Type 0
+IsReaderRun view (Ok x) r all = Continues (view x) (reader_cursor r) (log_of r) ≡ all
+IsReaderRun view (Err stop.AtFault) r all = Stops (log_of r) ≡ all
+IsReaderRun view (Err stop.NoMemory) r all = Unit {0}
 
 -- what reading a list comes to, with the values `xs`, which were read before, in front of it
-abbrev pub with_front : {A : Type 0} → List A → Ran (List A) → Ran (List A)
-with_front xs (Goes ys cur log) = Goes (xs ++ ys) cur log
+abbrev pub with_front : {A : Type 0} → List A → RunResult (List A) → RunResult (List A)
+with_front xs (Continues ys cur log) = Continues (xs ++ ys) cur log
 with_front xs (Stops log) = Stops log
 
 -- a code block was read and kept, and its kind and number are answered, or reading ended at a
 -- fault; nothing is said where memory is wanting
-abbrev pub SeesBlock : Result (ℕ × ℕ) Stop → Reader → Ran BlockRecord → Type 0
-SeesBlock (Ok key) r all =
-    (b : BlockRecord) × (Goes b (reader_cursor r) (log_of r) ≡ all) × (key.0 ≡ b.kind)
+abbrev pub IsBlockRun : Result (ℕ × ℕ) Stop → Reader → RunResult BlockRecord → Type 0
+IsBlockRun (Ok key) r all =
+    (b : BlockRecord) × (Continues b (reader_cursor r) (log_of r) ≡ all) × (key.0 ≡ b.kind)
     × (key.1 ≡ b.number)
-SeesBlock (Err stop.AtFault) r all = Stops (log_of r) ≡ all
-SeesBlock (Err stop.NoMemory) r all = Unit {0}
+IsBlockRun (Err stop.AtFault) r all = Stops (log_of r) ≡ all
+IsBlockRun (Err stop.NoMemory) r all = Unit {0}
 
 -- all code blocks were read and kept, or reading ended at a fault; nothing is said where memory is
 -- wanting
-abbrev pub SeesBlocks : Result (Unit {0}) Stop → Reader → Ran (List BlockRecord) → Type 0
-SeesBlocks (Ok u) r all = (bs : List BlockRecord) × (Goes bs (reader_cursor r) (log_of r) ≡ all)
-SeesBlocks (Err stop.AtFault) r all = Stops (log_of r) ≡ all
-SeesBlocks (Err stop.NoMemory) r all = Unit {0}
+abbrev pub IsBlocksRun : Result (Unit {0}) Stop → Reader → RunResult (List BlockRecord) → Type 0
+IsBlocksRun (Ok u) r all =
+    (bs : List BlockRecord) × (Continues bs (reader_cursor r) (log_of r) ≡ all)
+IsBlocksRun (Err stop.AtFault) r all = Stops (log_of r) ≡ all
+IsBlocksRun (Err stop.NoMemory) r all = Unit {0}
 
 -- the record of a name, by the fields that `Reader` answers: bytes, area, width, byte, bit
 abbrev pub name_values : Bor (List ℕ) × ℕ × ℕ × ℕ × ℕ → NameRecord
@@ -154,10 +155,11 @@ name_values r = record { name = r.0.now; area = r.1; width = r.2; byte = r.3; bi
 
 -- all data blocks were read and kept, or reading ended at a fault; nothing is said where memory is
 -- wanting
-abbrev pub SeesDatas : Result (Unit {0}) Stop → Reader → Ran (List DataBlock) → Type 0
-SeesDatas (Ok u) r all = (ds : List DataBlock) × (Goes ds (reader_cursor r) (log_of r) ≡ all)
-SeesDatas (Err stop.AtFault) r all = Stops (log_of r) ≡ all
-SeesDatas (Err stop.NoMemory) r all = Unit {0}
+abbrev pub IsDataBlocksRun : Result (Unit {0}) Stop → Reader → RunResult (List DataBlock) → Type 0
+IsDataBlocksRun (Ok u) r all =
+    (ds : List DataBlock) × (Continues ds (reader_cursor r) (log_of r) ≡ all)
+IsDataBlocksRun (Err stop.AtFault) r all = Stops (log_of r) ≡ all
+IsDataBlocksRun (Err stop.NoMemory) r all = Unit {0}
 
 -- the counts of an image's code blocks, data blocks and names, and the reserved field behind them,
 -- by the fields that `Reader` answers
@@ -171,12 +173,12 @@ counts_values c = record {
 
 -- all records were read, the names are answered and the blocks kept, or reading ended at a fault;
 -- nothing is said where memory is wanting
-abbrev pub SeesRecords :
-    {X : Type 0} → (X → List NameRecord) → Result X Stop → Reader → Ran Records → Type 0
-SeesRecords view (Ok names) r all =
-    (x : Records) × (Goes x (reader_cursor r) (log_of r) ≡ all) × (x.names ≡ view names)
-SeesRecords view (Err stop.AtFault) r all = Stops (log_of r) ≡ all
-SeesRecords view (Err stop.NoMemory) r all = Unit {0}
+abbrev pub IsRecordsRun :
+    {X : Type 0} → (X → List NameRecord) → Result X Stop → Reader → RunResult Records → Type 0
+IsRecordsRun view (Ok names) r all =
+    (x : Records) × (Continues x (reader_cursor r) (log_of r) ≡ all) × (x.names ≡ view names)
+IsRecordsRun view (Err stop.AtFault) r all = Stops (log_of r) ≡ all
+IsRecordsRun view (Err stop.NoMemory) r all = Unit {0}
 
 -- the front of an image, its header up to the total length, by the fields that `Reader` answers
 abbrev pub front_values : FrontRead → Front
@@ -192,23 +194,24 @@ abbrev pub found_values : FoundRead → Stamp × List NameRecord
 found_values f = (f.stamp, f.names.items)
 
 -- what one pass comes to, by what reading by layouts notes and finds, where `log` was kept before
-unfoldable pub run_of_read : {A : Type 0} → ReadResult A → Log → Ran A
+unfoldable pub run_of_read : {A : Type 0} → ReadResult A → Log → RunResult A
 run_of_read r log = run_result r.found (log_after log r.notes)
 
 -- reading an image comes to `all`: it was read whole, with the version, profile and names that are
 -- answered, or reading ended at a fault (None)
-abbrev pub SeesFound : Option (Stamp × List NameRecord) → Reader → Ran (Stamp × Program) → Type 0
-SeesFound (Some found) r all =
-    (x : Records) × (end : Cursor) × (Goes (found.0, program_of_records x) end (log_of r) ≡ all)
-    × (x.names ≡ found.1)
-SeesFound None r all = Stops (log_of r) ≡ all
+abbrev pub IsFoundRun :
+    Option (Stamp × List NameRecord) → Reader → RunResult (Stamp × Program) → Type 0
+IsFoundRun (Some found) r all =
+    (x : Records) × (end : Cursor)
+    × (Continues (found.0, program_of_records x) end (log_of r) ≡ all) × (x.names ≡ found.1)
+IsFoundRun None r all = Stops (log_of r) ≡ all
 
 -- an image was read whole, and its version and profile and its names are answered, or reading ended
 -- at a fault; nothing is said where memory is wanting
-abbrev pub SeesImage : Result FoundRead Stop → Reader → Ran (Stamp × Program) → Type 0
-SeesImage (Ok found) r all = SeesFound (Some (found_values found)) r all
-SeesImage (Err stop.AtFault) r all = SeesFound None r all
-SeesImage (Err stop.NoMemory) r all = Unit {0}
+abbrev pub IsImageRun : Result FoundRead Stop → Reader → RunResult (Stamp × Program) → Type 0
+IsImageRun (Ok found) r all = IsFoundRun (Some (found_values found)) r all
+IsImageRun (Err stop.AtFault) r all = IsFoundRun None r all
+IsImageRun (Err stop.NoMemory) r all = Unit {0}
 
 -- what was kept and answered is what reading the bytes `text` as an image finds: its code blocks,
 -- data blocks, version, profile and names; or (None) reading ends at a fault
@@ -229,11 +232,11 @@ checked_faults log =
 -- the program of an image that was read whole
 abbrev pub program_read : ImageRead → Program
 program_read image =
-    program_from (map started_block image.blocks.items) image.data_blocks.items image.names.items
+    program_from (map located_block image.blocks.items) image.data_blocks.items image.names.items
 
 -- the result of checking is the least fault, or where there is none all that was read
 abbrev pub HoldsAll :
-    Option LoadFault → List Started → Option (List DataBlock) → Option FoundRead → CheckResult
+    Option LoadFault → List LocatedBlock → Option (List DataBlock) → Option FoundRead → CheckResult
     → Type 0
 HoldsAll least blocks datas found (outcome.Faulty f) = least ≡ Some f
 HoldsAll least blocks datas found (outcome.Clean image) =
@@ -247,6 +250,6 @@ IsCheckResult text (outcome.Faulty f) = with_faults None (faults_of text) ≡ So
 IsCheckResult text (outcome.Clean image) =
     (with_faults None (faults_of text) ≡ None)
     × HasFound text
-    (map started_block image.blocks.items)
+    (map located_block image.blocks.items)
     (Some image.data_blocks.items)
     (Some (image.stamp, image.names.items))

@@ -6,9 +6,9 @@ use Rattle.flat_code.specs.Image.{block_of_record, entry_of_name}
 use Rattle.flat_code.specs.Loading.{blocks_of}
 
 -- no block has more than 60 parameters
-abbrev pub AreFew : List BlockRecord → Type 0
-AreFew [] = Unit {0}
-AreFew (b ∷ bs) = (length b.params ≤ 60) × AreFew bs
+abbrev pub HaveFewParameters : List BlockRecord → Type 0
+HaveFewParameters [] = Unit {0}
+HaveFewParameters (b ∷ bs) = (length b.params ≤ 60) × HaveFewParameters bs
 
 -- the program of the code blocks, data blocks and names that one pass over an image kept
 abbrev pub program_from : List (ℕ × BlockRecord) → List DataBlock → List NameRecord → Program

@@ -2,7 +2,7 @@
 -- block's code.
 use Rattle.std.specs.Prelude.{◌≡◌, ℕ, Bool, true, false, ◌&&◌, List, [], ◌∷◌, ◌++◌, length, map, Option, Some, None}
 use Rattle.plc_base.specs.declared.blocks.BlockId.{BlockId}
-use Rattle.flat_code.specs.declared.image_fields.Field.TheVariants as field_of
+use Rattle.flat_code.specs.declared.image_fields.Field.TheVariants as field
 use Rattle.flat_code.specs.Codes.{code_fault, is_nowhere}
 use Rattle.flat_code.specs.Blocks.{Environment, at_offset, block_faults}
 use Rattle.flat_code.specs.Faults.{field_fault}
@@ -19,12 +19,12 @@ use Rattle.image_file.specs.Least.{IsLeastFault}
 abbrev pub line_faults : ℕ → List ℕ → List (ℕ × ℕ)
 line_faults before [] = []
 line_faults before (line ∷ lines) =
-    at_offset 0 (field_fault (field_of.Line before line)) ++ line_faults line lines
+    at_offset 0 (field_fault (field.Line before line)) ++ line_faults line lines
 
 -- the fault 9, at offset 0, of a block that has another number of statements than end marks
 abbrev pub count_faults : BlockRecord → List (ℕ × ℕ)
 count_faults b =
-    at_offset 0 (field_fault (field_of.StatementCount (end_marks b.code) (length b.lines)))
+    at_offset 0 (field_fault (field.StatementCount (end_marks b.code) (length b.lines)))
 
 -- the faults of a block by the offset of its fault 5: that alone, or where there is none (None) 9,
 -- and those of the ops

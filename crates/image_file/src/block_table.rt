@@ -10,8 +10,8 @@ use std::alloc::Global;
 /// How many places the table has: 2,048 for each of OB, FC and FB.
 pub(crate) const SLOTS: usize = 6144;
 
-/// A place past the end of each list, where no block stands.
-const NOWHERE: u16 = 0xFFFF;
+/// The place in the table for no block: it is past the end of each list.
+const NO_BLOCK: u16 = 0xFFFF;
 
 /// The place of a block in the table.
 pub(crate) fn slot_of(block: BlockId) -> Option<usize>
@@ -36,7 +36,7 @@ pub(crate) fn block_table(alloc: Global, blocks: &[LoadedBlock]) -> Result<Vec<u
     requires { length blocks.now ≤ 0xFFFF }
     ensures { IfOk result (λ v. FindsBlocks blocks.now v.items) }
 {
-    let mut table = vec![in alloc; NOWHERE; SLOTS]?;
+    let mut table = vec![in alloc; NO_BLOCK; SLOTS]?;
     for i in (0..blocks.len()).rev() {
         if let Some(slot) = slot_of(id_of(&blocks[i])) {
             table[slot] = i as u16;

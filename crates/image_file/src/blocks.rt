@@ -3,12 +3,12 @@ ghost use Rattle.std.specs.Prelude.{true, ◌≡◌, ◌+◌, ◌*◌, ◌<◌, 
 ghost use Rattle.flat_code.specs.Codes.{code_layout, code_bytes};
 ghost use Rattle.flat_code.specs.Image.{Head, head_layout, parameter_layout, parameters_layout, end_marks, lines_layout, line_field, line_after, code_and_lines, plain_block, code_block_layout, code_blocks_layout};
 ghost use Rattle.flat_code.specs.Layout.{list_layout, chain_layout};
-ghost use Rattle.image_file.specs.Running.{reader_run, run_layout, reader_cursor, log_of, head_values, Sees, SeesBlock, SeesBlocks};
+ghost use Rattle.image_file.specs.Running.{reader_run, run_layout, reader_cursor, log_of, head_values, IsReaderRun, IsBlockRun, IsBlocksRun};
 
 use crate::codes::ops_in;
 use crate::reader::Reader;
-use crate::records::{BlockRead, HeadRead, Started};
-use crate::stops::{Ended, Stop};
+use crate::records::{BlockRead, HeadRead, LocatedBlock};
+use crate::stops::{ReadingEnd, Stop};
 use flat_code::{Field, Op, ParameterRecord};
 use std::alloc::Global;
 
@@ -44,7 +44,7 @@ fn code_start(at: u32, block: &BlockRead) -> u32
 
 impl Reader<'_> {
     #[tactic(auto, unfolding(flat_code::specs::Image::head_layout, flat_code::specs::Image::head_rows), using(crate::proofs::RunLemmas::run_seen, crate::proofs::RunLemmas::run_chain))]
-    fn head(&mut self, kind_before: u8, before: u16) -> Result<HeadRead, Ended>
+    fn head(&mut self, kind_before: u8, before: u16) -> Result<HeadRead, ReadingEnd>
         requires { self.old.at + length self.old.rest.now < 2 ^ 32 }
         ensures read { reader_run head_values result self.new
             ≡ run_layout (head_layout (kind_before, before))
@@ -74,7 +74,7 @@ impl Reader<'_> {
     }
 
     #[tactic(auto, unfolding(flat_code::specs::Image::parameter_layout, flat_code::specs::Image::parameter_rows), using(crate::proofs::RunLemmas::run_seen, crate::proofs::RunLemmas::run_chain))]
-    fn parameter(&mut self, kind: u8, instance: u16) -> Result<ParameterRecord, Ended>
+    fn parameter(&mut self, kind: u8, instance: u16) -> Result<ParameterRecord, ReadingEnd>
         requires { self.old.at + length self.old.rest.now < 2 ^ 32 }
         ensures read { reader_run (λ p. p) result self.new
             ≡ run_layout (parameter_layout kind instance)
@@ -99,7 +99,7 @@ impl Reader<'_> {
     #[tactic(auto, unfolding(flat_code::specs::Image::parameters_layout))]
     fn parameters(&mut self, alloc: Global, head: HeadRead) -> Result<Vec<ParameterRecord>, Stop>
         requires { self.old.at + length self.old.rest.now < 2 ^ 32 }
-        ensures read { Sees (λ v. v.items) result self.new (run_layout
+        ensures read { IsReaderRun (λ v. v.items) result self.new (run_layout
             (parameters_layout (head_values head)) (reader_cursor self.old) (log_of self.old)) }
         ensures all { OnOk result (self.new.at + length self.new.rest.now
             ≡ self.old.at + length self.old.rest.now) }
@@ -119,7 +119,8 @@ impl Reader<'_> {
     #[tactic(auto, unfolding(crate::specs::Running::run_layout, crate::specs::Running::log_after, crate::specs::Least::with_faults, flat_code::specs::Codes::code_layout))]
     fn code(&mut self, alloc: Global, size: u32) -> Result<Vec<Op>, Stop>
         requires { self.old.at + length self.old.rest.now < 2 ^ 32 }
-        ensures read { Sees (λ v. v.items) result self.new (run_layout (code_layout true size)
+        ensures read { IsReaderRun (λ v. v.items) result self.new
+            (run_layout (code_layout true size)
             (reader_cursor self.old) (log_of self.old)) }
         ensures all { OnOk result (self.new.at + length self.new.rest.now
             ≡ self.old.at + length self.old.rest.now) }
@@ -147,7 +148,8 @@ impl Reader<'_> {
 
     fn lines(&mut self, alloc: Global, count: u16) -> Result<Vec<u32>, Stop>
         requires { self.old.at + length self.old.rest.now < 2 ^ 32 }
-        ensures read { Sees (λ v. v.items) result self.new (run_layout (list_layout
+        ensures read { IsReaderRun (λ v. v.items) result self.new
+            (run_layout (list_layout
             (line_field true) line_after 0 count) (reader_cursor self.old) (log_of self.old)) }
         ensures all { OnOk result (self.new.at + length self.new.rest.now
             ≡ self.old.at + length self.old.rest.now) }
@@ -173,7 +175,8 @@ impl Reader<'_> {
     ) -> Result<Vec<u32>, Stop>
         requires fits { self.old.at + length self.old.rest.now < 2 ^ 32 }
         requires room { start + 8 < 2 ^ 32 }
-        ensures read { Sees (λ v. v.items) result self.new (run_layout (lines_layout true start
+        ensures read { IsReaderRun (λ v. v.items) result self.new
+            (run_layout (lines_layout true start
             (head_values head) ops.now) (reader_cursor self.old) (log_of self.old)) }
         ensures all { OnOk result (self.new.at + length self.new.rest.now
             ≡ self.old.at + length self.old.rest.now) }
@@ -200,7 +203,7 @@ impl Reader<'_> {
     ) -> Result<(Vec<Op>, Vec<u32>), Stop>
         requires fits { self.old.at + length self.old.rest.now < 2 ^ 32 }
         requires room { start + 8 < 2 ^ 32 }
-        ensures read { Sees (λ r. (r.0.items, r.1.items)) result self.new (run_layout
+        ensures read { IsReaderRun (λ r. (r.0.items, r.1.items)) result self.new (run_layout
             (code_and_lines true start (head_values head))
             (reader_cursor self.old) (log_of self.old)) }
         ensures all { OnOk result (self.new.at + length self.new.rest.now
@@ -222,7 +225,8 @@ impl Reader<'_> {
         before: u16,
     ) -> Result<BlockRead, Stop>
         requires { self.old.at + length self.old.rest.now + 8 < 2 ^ 32 }
-        ensures read { Sees (λ b. b) result self.new (run_layout (plain_block true
+        ensures read { IsReaderRun (λ b. b) result self.new
+            (run_layout (plain_block true
             (kind_before, before) self.old.at) (reader_cursor self.old) (log_of self.old)) }
         ensures all { OnOk result (self.new.at + length self.new.rest.now
             ≡ self.old.at + length self.old.rest.now) }
@@ -250,7 +254,7 @@ impl Reader<'_> {
     #[tactic(auto, unfolding(flat_code::specs::Image::code_block_layout, crate::specs::Running::log_after, crate::specs::Least::with_faults), using(crate::proofs::RunLemmas::run_located, crate::proofs::RunLemmas::run_remembered))]
     fn code_block(&mut self, alloc: Global, kind_before: u8, before: u16) -> Result<(u8, u16), Stop>
         requires { self.old.at + length self.old.rest.now + 2000 < 2 ^ 32 }
-        ensures read { SeesBlock result self.new (run_layout
+        ensures read { IsBlockRun result self.new (run_layout
             (code_block_layout true (kind_before, before))
             (reader_cursor self.old) (log_of self.old)) }
         ensures all { OnOk result (self.new.at + length self.new.rest.now
@@ -260,7 +264,7 @@ impl Reader<'_> {
         let block = self.plain_block(alloc, kind_before, before)?;
         let key = key_of(&block);
         let start = code_start(at, &block);
-        self.blocks.push(Started { start, block })?;
+        self.blocks.push(LocatedBlock { start, block })?;
         Ok(key)
     }
 
@@ -268,7 +272,7 @@ impl Reader<'_> {
     #[tactic(auto, unfolding(flat_code::specs::Image::code_blocks_layout))]
     pub(crate) fn code_blocks(&mut self, alloc: Global, count: u16) -> Result<(), Stop>
         requires { self.old.at + length self.old.rest.now + 2000 < 2 ^ 32 }
-        ensures read { SeesBlocks result self.new (run_layout (code_blocks_layout true count)
+        ensures read { IsBlocksRun result self.new (run_layout (code_blocks_layout true count)
             (reader_cursor self.old) (log_of self.old)) }
         ensures all { OnOk result (self.new.at + length self.new.rest.now
             ≡ self.old.at + length self.old.rest.now) }

@@ -71,7 +71,7 @@ impl OpenInCode {
 }
 
 /// The op codes of open brackets, if they are at most seven.
-pub(crate) fn few(brackets: &[OpenBracket]) -> Option<ArrayVec<u8, 7>>
+pub(crate) fn codes_of_few_brackets(brackets: &[OpenBracket]) -> Option<ArrayVec<u8, 7>>
     ensures { option_map (λ v. v.items) result ≡ codes_of_few_brackets brackets.now }
 {
     if brackets.len() > 7 {

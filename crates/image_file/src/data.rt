@@ -3,11 +3,11 @@ ghost use Rattle.std.specs.Prelude.{true, ◌≡◌, ◌+◌, ◌≤◌, ◌<◌
 ghost use Rattle.flat_code.specs.Faults.{name_fault};
 ghost use Rattle.flat_code.specs.Image.{instance_of_number, contents_layout, data_block_layout, plain_data_blocks, name_bytes, name_record, after_name};
 ghost use Rattle.flat_code.specs.Layout.{list_layout};
-ghost use Rattle.image_file.specs.Running.{reader_run, run_layout, reader_cursor, log_of, name_values, Sees};
+ghost use Rattle.image_file.specs.Running.{reader_run, run_layout, reader_cursor, log_of, name_values, IsReaderRun};
 
 use crate::reader::Reader;
 use crate::records::NameRead;
-use crate::stops::{Ended, Stop};
+use crate::stops::{ReadingEnd, Stop};
 use flat_code::{DataBlock, ends_blank, is_name_before, is_upper_case};
 use std::alloc::Global;
 
@@ -46,7 +46,8 @@ impl<'a> Reader<'a> {
     #[tactic(auto, unfolding(flat_code::specs::Image::contents_layout))]
     fn contents(&mut self, alloc: Global, count: u16) -> Result<Vec<u8>, Stop>
         requires { self.old.at + length self.old.rest.now < 2 ^ 32 }
-        ensures read { Sees (λ v. v.items) result self.new (run_layout (contents_layout count)
+        ensures read { IsReaderRun (λ v. v.items) result self.new
+            (run_layout (contents_layout count)
             (reader_cursor self.old) (log_of self.old)) }
         ensures all { OnOk result (self.new.at + length self.new.rest.now
             ≡ self.old.at + length self.old.rest.now) }
@@ -61,7 +62,8 @@ impl<'a> Reader<'a> {
     #[tactic(auto, unfolding(flat_code::specs::Image::data_block_layout, flat_code::specs::Image::data_rows), using(crate::proofs::RunLemmas::run_seen, crate::proofs::RunLemmas::run_chain))]
     fn data_block(&mut self, alloc: Global, before: u16, sum: u32) -> Result<DataBlock, Stop>
         requires { self.old.at + length self.old.rest.now < 2 ^ 32 }
-        ensures read { Sees (λ d. d) result self.new (run_layout (data_block_layout (before, sum))
+        ensures read { IsReaderRun (λ d. d) result self.new
+            (run_layout (data_block_layout (before, sum))
             (reader_cursor self.old) (log_of self.old)) }
         ensures all { OnOk result (self.new.at + length self.new.rest.now
             ≡ self.old.at + length self.old.rest.now) }
@@ -85,7 +87,8 @@ impl<'a> Reader<'a> {
         count: u16,
     ) -> Result<Vec<DataBlock>, Stop>
         requires { self.old.at + length self.old.rest.now < 2 ^ 32 }
-        ensures read { Sees (λ v. v.items) result self.new (run_layout (plain_data_blocks count)
+        ensures read { IsReaderRun (λ v. v.items) result self.new
+            (run_layout (plain_data_blocks count)
             (reader_cursor self.old) (log_of self.old)) }
         ensures all { OnOk result (self.new.at + length self.new.rest.now
             ≡ self.old.at + length self.old.rest.now) }
@@ -105,7 +108,7 @@ impl<'a> Reader<'a> {
 
     /// The bytes of a name behind another name.
     #[tactic(auto, unfolding(crate::specs::Running::run_layout, crate::specs::Running::log_after, crate::specs::Least::with_faults, flat_code::specs::Image::name_bytes))]
-    fn name_text(&mut self, before: &[u8], count: u8) -> Result<&'a [u8], Ended>
+    fn name_text(&mut self, before: &[u8], count: u8) -> Result<&'a [u8], ReadingEnd>
         requires { self.old.at + length self.old.rest.now < 2 ^ 32 }
         ensures read { reader_run (λ s. s.now) result self.new
             ≡ run_layout (name_bytes before.now count) (reader_cursor self.old) (log_of self.old) }
@@ -122,7 +125,7 @@ impl<'a> Reader<'a> {
 
     /// A name behind another: its bytes, area, width, byte and bit.
     #[tactic(auto, unfolding(flat_code::specs::Image::name_record, flat_code::specs::Image::name_rows), using(crate::proofs::RunLemmas::run_seen, crate::proofs::RunLemmas::run_chain))]
-    fn name(&mut self, before: &[u8]) -> Result<(&'a [u8], u8, u8, u16, u8), Ended>
+    fn name(&mut self, before: &[u8]) -> Result<(&'a [u8], u8, u8, u16, u8), ReadingEnd>
         requires { self.old.at + length self.old.rest.now < 2 ^ 32 }
         ensures read { reader_run name_values result self.new
             ≡ run_layout (name_record before.now) (reader_cursor self.old) (log_of self.old) }
@@ -140,7 +143,7 @@ impl<'a> Reader<'a> {
 
     pub(crate) fn names(&mut self, alloc: Global, count: u16) -> Result<Vec<NameRead>, Stop>
         requires { self.old.at + length self.old.rest.now < 2 ^ 32 }
-        ensures read { Sees (λ v. v.items) result self.new (run_layout
+        ensures read { IsReaderRun (λ v. v.items) result self.new (run_layout
             (list_layout name_record after_name [] count)
             (reader_cursor self.old) (log_of self.old)) }
         ensures all { OnOk result (self.new.at + length self.new.rest.now

@@ -5,9 +5,10 @@ ghost use Rattle.flat_code.specs.Blocks.{block_with, callee_among};
 ghost use Rattle.image_file.specs.OpChecking.{callee_values};
 ghost use Rattle.image_file.specs.Tables.{call_key, signature_callee, found_callee};
 
-use crate::numbers::{FUNCTION, FUNCTION_BLOCK, SYSTEM_FUNCTION};
 use crate::tables::{place_at, table_of};
-use flat_code::{ParameterRecord, system_function_records};
+use flat_code::{
+    FUNCTION, FUNCTION_BLOCK, ParameterRecord, SYSTEM_FUNCTION, system_function_records,
+};
 use plc_base::NoMemory;
 use std::alloc::Global;
 use std::marker::Model;
@@ -177,7 +178,7 @@ impl Signatures {
                 self.table.as_slice(),
                 number_key + 1,
             ),
-            _ => searched(self.list.as_slice(), kind, number),
+            _ => block_by_search(self.list.as_slice(), kind, number),
         }
     }
 }
@@ -204,7 +205,7 @@ fn callee_at(blocks: &[SignatureRead], place: usize) -> Option<(u8, u16, &[Param
 }
 
 /// The first block of a kind and number: its kind, the bytes of an instance, its parameters.
-fn searched(
+fn block_by_search(
     blocks: &[SignatureRead],
     kind: u8,
     number: u16,

@@ -4,12 +4,12 @@ ghost use Rattle.flat_code.specs.Image.{plain_u16, plain_u32, zero_u8, zero_u16,
 ghost use Rattle.image_file.specs.Running.{reader_run, run_layout, reader_cursor, log_of};
 
 use crate::reader::Reader;
-use crate::stops::Ended;
+use crate::stops::ReadingEnd;
 use flat_code::Field;
 
 impl Reader<'_> {
     #[tactic(auto, unfolding(flat_code::specs::Image::plain_u16))]
-    pub(crate) fn plain_u16(&mut self) -> Result<u16, Ended>
+    pub(crate) fn plain_u16(&mut self) -> Result<u16, ReadingEnd>
         requires { self.old.at + length self.old.rest.now < 2 ^ 32 }
         ensures read { reader_run (λ n. n) result self.new
             ≡ run_layout plain_u16 (reader_cursor self.old) (log_of self.old) }
@@ -22,7 +22,7 @@ impl Reader<'_> {
     }
 
     #[tactic(auto, unfolding(flat_code::specs::Image::plain_u32))]
-    pub(crate) fn plain_u32(&mut self) -> Result<u32, Ended>
+    pub(crate) fn plain_u32(&mut self) -> Result<u32, ReadingEnd>
         requires { self.old.at + min 4 (length self.old.rest.now) < 2 ^ 32 }
         ensures read { reader_run (λ n. n) result self.new
             ≡ run_layout plain_u32 (reader_cursor self.old) (log_of self.old) }
@@ -35,7 +35,7 @@ impl Reader<'_> {
     }
 
     #[tactic(auto, unfolding(crate::specs::Running::run_layout, crate::specs::Running::log_after, crate::specs::Least::with_faults, flat_code::specs::Image::zero_u8))]
-    pub(crate) fn reserved_u8(&mut self) -> Result<u8, Ended>
+    pub(crate) fn reserved_u8(&mut self) -> Result<u8, ReadingEnd>
         requires { self.old.at + length self.old.rest.now < 2 ^ 32 }
         ensures read { reader_run (λ n. n) result self.new
             ≡ run_layout zero_u8 (reader_cursor self.old) (log_of self.old) }
@@ -55,7 +55,7 @@ impl Reader<'_> {
     }
 
     #[tactic(auto, unfolding(crate::specs::Running::run_layout, crate::specs::Running::log_after, crate::specs::Least::with_faults, flat_code::specs::Image::zero_u16))]
-    pub(crate) fn reserved_u16(&mut self) -> Result<u16, Ended>
+    pub(crate) fn reserved_u16(&mut self) -> Result<u16, ReadingEnd>
         requires { self.old.at + min 4 (length self.old.rest.now) < 2 ^ 32 }
         ensures read { reader_run (λ n. n) result self.new
             ≡ run_layout zero_u16 (reader_cursor self.old) (log_of self.old) }
@@ -70,7 +70,7 @@ impl Reader<'_> {
     }
 
     #[tactic(auto, unfolding(crate::specs::Running::run_layout, crate::specs::Running::log_after, crate::specs::Least::with_faults, flat_code::specs::Image::width_field))]
-    pub(crate) fn width(&mut self) -> Result<u8, Ended>
+    pub(crate) fn width(&mut self) -> Result<u8, ReadingEnd>
         requires { self.old.at + length self.old.rest.now < 2 ^ 32 }
         ensures read { reader_run (λ n. n) result self.new
             ≡ run_layout width_field (reader_cursor self.old) (log_of self.old) }
@@ -85,7 +85,7 @@ impl Reader<'_> {
     }
 
     #[tactic(auto, unfolding(crate::specs::Running::run_layout, crate::specs::Running::log_after, crate::specs::Least::with_faults, flat_code::specs::Image::section_field))]
-    pub(crate) fn section(&mut self) -> Result<u8, Ended>
+    pub(crate) fn section(&mut self) -> Result<u8, ReadingEnd>
         requires { self.old.at + length self.old.rest.now < 2 ^ 32 }
         ensures read { reader_run (λ n. n) result self.new
             ≡ run_layout section_field (reader_cursor self.old) (log_of self.old) }
@@ -105,7 +105,7 @@ impl Reader<'_> {
         kind: u8,
         instance: u16,
         width: u8,
-    ) -> Result<u16, Ended>
+    ) -> Result<u16, ReadingEnd>
         requires { self.old.at + length self.old.rest.now < 2 ^ 32 }
         ensures read { reader_run (λ n. n) result self.new
             ≡ run_layout (parameter_byte kind instance width)
@@ -129,7 +129,7 @@ impl Reader<'_> {
     }
 
     #[tactic(auto, unfolding(crate::specs::Running::run_layout, crate::specs::Running::log_after, crate::specs::Least::with_faults, flat_code::specs::Image::parameter_bit))]
-    pub(crate) fn parameter_bit(&mut self, kind: u8) -> Result<u8, Ended>
+    pub(crate) fn parameter_bit(&mut self, kind: u8) -> Result<u8, ReadingEnd>
         requires { self.old.at + length self.old.rest.now < 2 ^ 32 }
         ensures read { reader_run (λ n. n) result self.new
             ≡ run_layout (parameter_bit kind) (reader_cursor self.old) (log_of self.old) }
@@ -144,7 +144,7 @@ impl Reader<'_> {
     }
 
     #[tactic(auto, unfolding(crate::specs::Running::run_layout, crate::specs::Running::log_after, crate::specs::Least::with_faults, flat_code::specs::Image::kind_field))]
-    pub(crate) fn kind(&mut self, before: u8) -> Result<u8, Ended>
+    pub(crate) fn kind(&mut self, before: u8) -> Result<u8, ReadingEnd>
         requires { self.old.at + length self.old.rest.now < 2 ^ 32 }
         ensures read { reader_run (λ n. n) result self.new
             ≡ run_layout (kind_field before) (reader_cursor self.old) (log_of self.old) }
@@ -165,7 +165,7 @@ impl Reader<'_> {
     }
 
     #[tactic(auto, unfolding(crate::specs::Running::run_layout, crate::specs::Running::log_after, crate::specs::Least::with_faults, flat_code::specs::Image::parameter_count_layout))]
-    pub(crate) fn parameter_count(&mut self, kind: u8) -> Result<u8, Ended>
+    pub(crate) fn parameter_count(&mut self, kind: u8) -> Result<u8, ReadingEnd>
         requires { self.old.at + length self.old.rest.now < 2 ^ 32 }
         ensures read { reader_run (λ n. n) result self.new
             ≡ run_layout (parameter_count_layout kind) (reader_cursor self.old) (log_of self.old) }
@@ -191,7 +191,7 @@ impl Reader<'_> {
         kind_before: u8,
         before: u16,
         kind: u8,
-    ) -> Result<u16, Ended>
+    ) -> Result<u16, ReadingEnd>
         requires { self.old.at + length self.old.rest.now < 2 ^ 32 }
         ensures read { reader_run (λ n. n) result self.new
             ≡ run_layout (block_number_layout kind_before before kind)
@@ -215,7 +215,7 @@ impl Reader<'_> {
     }
 
     #[tactic(auto, unfolding(crate::specs::Running::run_layout, crate::specs::Running::log_after, crate::specs::Least::with_faults, flat_code::specs::Image::local_length_layout))]
-    pub(crate) fn local_bytes(&mut self, kind: u8) -> Result<u16, Ended>
+    pub(crate) fn local_bytes(&mut self, kind: u8) -> Result<u16, ReadingEnd>
         requires { self.old.at + length self.old.rest.now < 2 ^ 32 }
         ensures read { reader_run (λ n. n) result self.new
             ≡ run_layout (local_length_layout kind) (reader_cursor self.old) (log_of self.old) }
@@ -236,7 +236,7 @@ impl Reader<'_> {
     }
 
     #[tactic(auto, unfolding(crate::specs::Running::run_layout, crate::specs::Running::log_after, crate::specs::Least::with_faults, flat_code::specs::Image::instance_bytes_layout))]
-    pub(crate) fn instance_bytes(&mut self, kind: u8) -> Result<u16, Ended>
+    pub(crate) fn instance_bytes(&mut self, kind: u8) -> Result<u16, ReadingEnd>
         requires { self.old.at + length self.old.rest.now < 2 ^ 32 }
         ensures read { reader_run (λ n. n) result self.new
             ≡ run_layout (instance_bytes_layout kind) (reader_cursor self.old) (log_of self.old) }
@@ -257,7 +257,7 @@ impl Reader<'_> {
     }
 
     #[tactic(auto, unfolding(crate::specs::Running::run_layout, crate::specs::Running::log_after, crate::specs::Least::with_faults, flat_code::specs::Image::line_field))]
-    pub(crate) fn line(&mut self, before: u32) -> Result<u32, Ended>
+    pub(crate) fn line(&mut self, before: u32) -> Result<u32, ReadingEnd>
         requires { self.old.at + length self.old.rest.now < 2 ^ 32 }
         ensures read { reader_run (λ n. n) result self.new
             ≡ run_layout (line_field true before) (reader_cursor self.old) (log_of self.old) }
@@ -277,7 +277,7 @@ impl Reader<'_> {
     }
 
     #[tactic(auto, unfolding(crate::specs::Running::run_layout, crate::specs::Running::log_after, crate::specs::Least::with_faults, flat_code::specs::Image::data_number_layout))]
-    pub(crate) fn data_number(&mut self, before: u16) -> Result<u16, Ended>
+    pub(crate) fn data_number(&mut self, before: u16) -> Result<u16, ReadingEnd>
         requires { self.old.at + length self.old.rest.now < 2 ^ 32 }
         ensures read { reader_run (λ n. n) result self.new
             ≡ run_layout (data_number_layout before) (reader_cursor self.old) (log_of self.old) }
@@ -291,7 +291,7 @@ impl Reader<'_> {
     }
 
     #[tactic(auto, unfolding(crate::specs::Running::run_layout, crate::specs::Running::log_after, crate::specs::Least::with_faults, flat_code::specs::Image::instance_field))]
-    pub(crate) fn instance_of(&mut self) -> Result<u16, Ended>
+    pub(crate) fn instance_of(&mut self) -> Result<u16, ReadingEnd>
         requires { self.old.at + length self.old.rest.now < 2 ^ 32 }
         ensures read { reader_run (λ n. n) result self.new
             ≡ run_layout instance_field (reader_cursor self.old) (log_of self.old) }
@@ -305,7 +305,7 @@ impl Reader<'_> {
     }
 
     #[tactic(auto, unfolding(crate::specs::Running::run_layout, crate::specs::Running::log_after, crate::specs::Least::with_faults, flat_code::specs::Image::data_length_layout))]
-    pub(crate) fn data_len(&mut self, before: u32) -> Result<u16, Ended>
+    pub(crate) fn data_len(&mut self, before: u32) -> Result<u16, ReadingEnd>
         requires { self.old.at + length self.old.rest.now < 2 ^ 32 }
         ensures read { reader_run (λ n. n) result self.new
             ≡ run_layout (data_length_layout before) (reader_cursor self.old) (log_of self.old) }
@@ -325,7 +325,7 @@ impl Reader<'_> {
     }
 
     #[tactic(auto, unfolding(crate::specs::Running::run_layout, crate::specs::Running::log_after, crate::specs::Least::with_faults, flat_code::specs::Image::name_len))]
-    pub(crate) fn name_len(&mut self) -> Result<u8, Ended>
+    pub(crate) fn name_len(&mut self) -> Result<u8, ReadingEnd>
         requires { self.old.at + length self.old.rest.now < 2 ^ 32 }
         ensures read { reader_run (λ n. n) result self.new
             ≡ run_layout name_len (reader_cursor self.old) (log_of self.old) }
@@ -339,7 +339,7 @@ impl Reader<'_> {
     }
 
     #[tactic(auto, unfolding(crate::specs::Running::run_layout, crate::specs::Running::log_after, crate::specs::Least::with_faults, flat_code::specs::Image::name_area))]
-    pub(crate) fn name_area(&mut self) -> Result<u8, Ended>
+    pub(crate) fn name_area(&mut self) -> Result<u8, ReadingEnd>
         requires { self.old.at + length self.old.rest.now < 2 ^ 32 }
         ensures read { reader_run (λ n. n) result self.new
             ≡ run_layout name_area (reader_cursor self.old) (log_of self.old) }
@@ -353,7 +353,7 @@ impl Reader<'_> {
     }
 
     #[tactic(auto, unfolding(crate::specs::Running::run_layout, crate::specs::Running::log_after, crate::specs::Least::with_faults, flat_code::specs::Image::name_bit))]
-    pub(crate) fn name_bit(&mut self, width: u8) -> Result<u8, Ended>
+    pub(crate) fn name_bit(&mut self, width: u8) -> Result<u8, ReadingEnd>
         requires { self.old.at + length self.old.rest.now < 2 ^ 32 }
         ensures read { reader_run (λ n. n) result self.new
             ≡ run_layout (name_bit width) (reader_cursor self.old) (log_of self.old) }
@@ -367,7 +367,7 @@ impl Reader<'_> {
     }
 
     #[tactic(auto, unfolding(crate::specs::Running::run_layout, crate::specs::Running::log_after, crate::specs::Least::with_faults, flat_code::specs::Image::data_count))]
-    pub(crate) fn data_count(&mut self) -> Result<u16, Ended>
+    pub(crate) fn data_count(&mut self) -> Result<u16, ReadingEnd>
         requires { self.old.at + length self.old.rest.now < 2 ^ 32 }
         ensures read { reader_run (λ n. n) result self.new
             ≡ run_layout data_count (reader_cursor self.old) (log_of self.old) }
@@ -381,7 +381,7 @@ impl Reader<'_> {
     }
 
     #[tactic(auto, unfolding(crate::specs::Running::run_layout, crate::specs::Running::log_after, crate::specs::Least::with_faults, flat_code::specs::Image::magic_field))]
-    pub(crate) fn magic(&mut self) -> Result<u32, Ended>
+    pub(crate) fn magic(&mut self) -> Result<u32, ReadingEnd>
         requires { self.old.at + min 4 (length self.old.rest.now) < 2 ^ 32 }
         ensures read { reader_run (λ n. n) result self.new
             ≡ run_layout magic_field (reader_cursor self.old) (log_of self.old) }
@@ -396,7 +396,7 @@ impl Reader<'_> {
     }
 
     #[tactic(auto, unfolding(crate::specs::Running::run_layout, crate::specs::Running::log_after, crate::specs::Least::with_faults, flat_code::specs::Image::version_field))]
-    pub(crate) fn version(&mut self) -> Result<u16, Ended>
+    pub(crate) fn version(&mut self) -> Result<u16, ReadingEnd>
         requires { self.old.at + min 4 (length self.old.rest.now) < 2 ^ 32 }
         ensures read { reader_run (λ n. n) result self.new
             ≡ run_layout version_field (reader_cursor self.old) (log_of self.old) }
@@ -411,7 +411,7 @@ impl Reader<'_> {
     }
 
     #[tactic(auto, unfolding(crate::specs::Running::run_layout, crate::specs::Running::log_after, crate::specs::Least::with_faults, flat_code::specs::Image::profile_field))]
-    pub(crate) fn profile(&mut self, version: u16) -> Result<u16, Ended>
+    pub(crate) fn profile(&mut self, version: u16) -> Result<u16, ReadingEnd>
         requires { self.old.at + min 4 (length self.old.rest.now) < 2 ^ 32 }
         ensures read { reader_run (λ n. n) result self.new
             ≡ run_layout (profile_field version) (reader_cursor self.old) (log_of self.old) }

@@ -3,7 +3,7 @@ ghost use Rattle.flat_code.specs.Codes.{code_bytes};
 ghost use Rattle.image_file.specs.Marks.{IsInPlace};
 ghost use Rattle.image_file.specs.Tables.{HasSmallCode};
 
-use crate::marks::encoded;
+use crate::marks::bytes_and_marks;
 use arrayvec::ArrayVec;
 use flat_code::{CodeBlock, Param};
 use plc_base::{BlockId, NoMemory};
@@ -54,7 +54,7 @@ impl LoadedBlock {
         requires { HasSmallCode block }
         ensures { IfOk result (λ b. b ≡ block) }
     {
-        let (bytes, marks) = encoded(alloc, block.code.as_slice())?;
+        let (bytes, marks) = bytes_and_marks(alloc, block.code.as_slice())?;
         Ok(LoadedBlock {
             id: block.id,
             local_len: block.local_len,

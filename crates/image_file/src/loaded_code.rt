@@ -86,7 +86,8 @@ impl<'a> LoadedCode<'a> {
         Some(decode_op_unchecked(self.bytes, at))
     }
 
-    /// The same, for an op of a statement that has several.
+    /// The op that begins at an offset and the offset behind it, as `op` gives them, but faster for
+    /// an op of a statement that has several.
     #[inline(always)]
     pub fn part(&self, at: u32) -> Option<(Op, u32)>
         ensures { result ≡ op_placed 0 self.now.code at }

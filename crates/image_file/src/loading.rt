@@ -10,14 +10,14 @@ ghost use Rattle.image_file.specs.Images.{GivesBack, IsImageOf};
 ghost use Rattle.image_file.specs.OpChecking.{environment_of};
 ghost use Rattle.image_file.specs.Least.{with_faults};
 ghost use Rattle.image_file.specs.Refusing.{IsLoadError};
-ghost use Rattle.image_file.specs.Running.{started_block, found_values, checked_faults, run_of_read, log_of, program_read, HoldsAll, IsCheckResult, SeesFound};
-ghost use Rattle.image_file.specs.Typing.{AreFew};
+ghost use Rattle.image_file.specs.Running.{located_block, found_values, checked_faults, run_of_read, log_of, program_read, HoldsAll, IsCheckResult, IsFoundRun};
+ghost use Rattle.image_file.specs.Typing.{HaveFewParameters};
 
 use crate::environments::{BlockEnvironment, DataLens, SignatureRead, Signatures};
 use crate::faults::LoadFault;
 use crate::loaded::Loaded;
 use crate::reader::Reader;
-use crate::records::{BlockRead, FoundRead, NameRead, Started};
+use crate::records::{BlockRead, FoundRead, LocatedBlock, NameRead};
 use crate::refusing::LoadError;
 use crate::stops::Stop;
 use crate::typing::program;
@@ -40,8 +40,8 @@ fn signature(alloc: Global, block: &BlockRead) -> Result<SignatureRead, NoMemory
     })
 }
 
-fn signatures(alloc: Global, blocks: &[Started]) -> Result<Signatures, NoMemory>
-    ensures { IfOk result (λ s. s ≡ map signature_of (blocks_of (map started_block blocks.now))) }
+fn signatures(alloc: Global, blocks: &[LocatedBlock]) -> Result<Signatures, NoMemory>
+    ensures { IfOk result (λ s. s ≡ map signature_of (blocks_of (map located_block blocks.now))) }
 {
     let mut signatures = Vec::new(alloc);
     for started in blocks {
@@ -98,27 +98,27 @@ fn check_blocks(
     alloc: Global,
     signatures: &Signatures,
     lens: &Option<DataLens>,
-    blocks: &[Started],
+    blocks: &[LocatedBlock],
     least: Option<LoadFault>,
 ) -> Result<Option<LoadFault>, NoMemory>
-    requires { signatures.now ≡ map signature_of (blocks_of (map started_block blocks.now)) }
+    requires { signatures.now ≡ map signature_of (blocks_of (map located_block blocks.now)) }
     ensures { IfOk result (λ l. l
         ≡ with_faults least (op_faults_of_blocks lens.now (blocks_of
-        (map started_block blocks.now)) (map started_block blocks.now))) }
+        (map located_block blocks.now)) (map located_block blocks.now))) }
 {
     let mut least = least;
     for started in blocks {
-        least = check_started(alloc, signatures, lens, started, least)?;
+        least = check_located_block(alloc, signatures, lens, started, least)?;
     }
     Ok(least)
 }
 
 /// The lesser of the fault so far and those of the ops of a block.
-fn check_started(
+fn check_located_block(
     alloc: Global,
     signatures: &Signatures,
     lens: &Option<DataLens>,
-    started: &Started,
+    started: &LocatedBlock,
     least: Option<LoadFault>,
 ) -> Result<Option<LoadFault>, NoMemory>
     ensures { IfOk result (λ l. l ≡ with_faults least (block_faults (record {
@@ -150,7 +150,7 @@ fn check_started(
 #[derive(Drop)]
 pub(crate) struct ImageRead {
     pub stamp: Stamp,
-    pub blocks: Vec<Started>,
+    pub blocks: Vec<LocatedBlock>,
     pub data_blocks: Vec<DataBlock>,
     pub names: Vec<NameRead>,
 }
@@ -165,7 +165,7 @@ pub(crate) enum CheckResult {
 /// The version and profile and the names, or none where reading ended at a fault.
 fn found_by(alloc: Global, reader: &mut Reader) -> Result<Option<FoundRead>, NoMemory>
     requires { reader.old.at ≡ 0 }
-    ensures { IfOk result (λ f. SeesFound (option_map found_values f) reader.new (run_of_read
+    ensures { IfOk result (λ f. IsFoundRun (option_map found_values f) reader.new (run_of_read
         (read_image reader.old.rest.now) (log_of reader.old))) }
 {
     match reader.image(alloc) {
@@ -189,7 +189,7 @@ fn least_fault(alloc: Global, reader: &Reader) -> Result<Option<LoadFault>, NoMe
 /// What was read, whose least fault is known. Where there is none, all was read.
 fn outcome_of(
     least: Option<LoadFault>,
-    blocks: Vec<Started>,
+    blocks: Vec<LocatedBlock>,
     datas: Option<Vec<DataBlock>>,
     found: Option<FoundRead>,
 ) -> CheckResult
@@ -235,7 +235,7 @@ fn check(alloc: Global, bytes: &[u8]) -> Result<CheckResult, NoMemory>
 /// The program of an image without fault.
 fn loaded(alloc: Global, image: ImageRead) -> Result<Loaded, NoMemory>
     requires program { IsProgram (program_read image) }
-    requires few { AreFew (blocks_of (map started_block image.blocks.items)) }
+    requires few { HaveFewParameters (blocks_of (map located_block image.blocks.items)) }
     requires verifies { Verifies (program_read image) }
     ensures program { IfOk result (λ l. l.program ≡ program_read image) }
     ensures profile { IfOk result (λ l. l.profile ≡ profile_of image.stamp) }

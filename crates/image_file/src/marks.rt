@@ -42,7 +42,7 @@ fn mark(marks: &mut Vec<u32>, mark: u32, size: u32) -> Result<(), NoMemory>
 }
 
 /// The bytes of ops and their marks.
-pub(crate) fn encoded(alloc: Global, ops: &[Op]) -> Result<(Vec<u8>, Vec<u32>), NoMemory>
+pub(crate) fn bytes_and_marks(alloc: Global, ops: &[Op]) -> Result<(Vec<u8>, Vec<u32>), NoMemory>
     requires { length (code_bytes ops.now) ≤ no_index }
     ensures bytes { IfOk result (λ r. r.0.items ≡ code_bytes ops.now) }
     ensures marks { IfOk result (λ r. r.1.items ≡ marks_from 0 true ops.now) }

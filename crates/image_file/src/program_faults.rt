@@ -26,7 +26,7 @@ use plc_base::{NoMemory, Profile};
 use std::alloc::Global;
 
 /// The offset of the first op that is the 65th of its statement.
-fn overlong(ops: &[Op]) -> Option<u32>
+fn overlong_statement(ops: &[Op]) -> Option<u32>
     requires { length (code_bytes ops.now) < 4294967296 }
     ensures { result ≡ overlong_statement 0 0 ops.now }
 {
@@ -64,7 +64,7 @@ fn code_fault(ops: &[Op]) -> Option<u32>
     requires { length (code_bytes ops.now) < 4294967296 }
     ensures { result ≡ code_fault ops.now }
 {
-    match overlong(ops) {
+    match overlong_statement(ops) {
         Some(at) => Some(at),
         None => without_end(ops),
     }
@@ -158,7 +158,7 @@ fn check_count(block: &CodeBlock) -> Option<LoadFault>
 }
 
 /// The least fault of a block.
-#[tactic(auto, using(crate::proofs::ProgramFaultLemmas::coded, crate::proofs::ProgramFaultLemmas::uncoded))]
+#[tactic(auto, using(crate::proofs::ProgramFaultLemmas::fault_five_alone, crate::proofs::ProgramFaultLemmas::faults_without_five))]
 fn check_code_block(
     alloc: Global,
     environment: &BlockEnvironment,

@@ -8,8 +8,8 @@ ghost use Rattle.image_file.specs.Least.{with_fault, with_faults};
 ghost use Rattle.image_file.specs.Running.{reader_run, run_layout, reader_cursor, log_of, log_after};
 
 use crate::faults::LoadFault;
-use crate::records::Started;
-use crate::stops::Ended;
+use crate::records::LocatedBlock;
+use crate::stops::ReadingEnd;
 use flat_code::{DataBlock, Field};
 
 /// Where reading stands: the bytes that are left, their offset, the least fault so far, the code
@@ -19,7 +19,7 @@ pub(crate) struct Reader<'a> {
     pub rest: &'a [u8],
     pub at: u32,
     pub least: Option<LoadFault>,
-    pub blocks: Vec<Started>,
+    pub blocks: Vec<LocatedBlock>,
     pub datas: Option<Vec<DataBlock>>,
 }
 
@@ -65,7 +65,7 @@ impl<'a> Reader<'a> {
     }
 
     #[tactic(auto, unfolding(crate::specs::Running::run_layout, crate::specs::Running::log_after, crate::specs::Least::with_faults))]
-    pub(crate) fn u8(&mut self) -> Result<u8, Ended>
+    pub(crate) fn u8(&mut self) -> Result<u8, ReadingEnd>
         requires { self.old.at + length self.old.rest.now < 2 ^ 32 }
         ensures read { reader_run (λ n. n) result self.new
             ≡ run_layout (field_layout a_byte no_fault) (reader_cursor self.old) (log_of self.old) }
@@ -81,13 +81,13 @@ impl<'a> Reader<'a> {
             }
             [] => {
                 self.note(self.at, 3);
-                Err(Ended)
+                Err(ReadingEnd)
             }
         }
     }
 
     #[tactic(auto, unfolding(crate::specs::Running::run_layout, crate::specs::Running::log_after, crate::specs::Least::with_faults))]
-    pub(crate) fn u16(&mut self) -> Result<u16, Ended>
+    pub(crate) fn u16(&mut self) -> Result<u16, ReadingEnd>
         requires { self.old.at + min 4 (length self.old.rest.now) < 2 ^ 32 }
         ensures read { reader_run (λ n. n) result self.new
             ≡ run_layout (field_layout a_word no_fault) (reader_cursor self.old) (log_of self.old) }
@@ -104,13 +104,13 @@ impl<'a> Reader<'a> {
             }
             _ => {
                 self.note(self.at, 3);
-                Err(Ended)
+                Err(ReadingEnd)
             }
         }
     }
 
     #[tactic(auto, unfolding(crate::specs::Running::run_layout, crate::specs::Running::log_after, crate::specs::Least::with_faults))]
-    pub(crate) fn u32(&mut self) -> Result<u32, Ended>
+    pub(crate) fn u32(&mut self) -> Result<u32, ReadingEnd>
         requires { self.old.at + min 4 (length self.old.rest.now) < 2 ^ 32 }
         ensures read { reader_run (λ n. n) result self.new
             ≡ run_layout (field_layout a_dword no_fault)
@@ -128,14 +128,14 @@ impl<'a> Reader<'a> {
             }
             _ => {
                 self.note(self.at, 3);
-                Err(Ended)
+                Err(ReadingEnd)
             }
         }
     }
 
     /// The next bytes, as many as are wanted.
     #[tactic(auto, unfolding(crate::specs::Running::run_layout, crate::specs::Running::log_after, crate::specs::Least::with_faults))]
-    pub(crate) fn bytes(&mut self, count: u16) -> Result<&'a [u8], Ended>
+    pub(crate) fn bytes(&mut self, count: u16) -> Result<&'a [u8], ReadingEnd>
         requires { self.old.at + length self.old.rest.now < 2 ^ 32 }
         ensures read { reader_run (λ s. s.now) result self.new
             ≡ run_layout (field_layout (bytes_coding count) (λ bs. None))
@@ -146,7 +146,7 @@ impl<'a> Reader<'a> {
     {
         if self.rest.len() < usize::from(count) {
             self.note(self.at, 3);
-            return Err(Ended);
+            return Err(ReadingEnd);
         }
         let (taken, rest) = self.rest.split_at(usize::from(count));
         self.rest = rest;

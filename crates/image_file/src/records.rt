@@ -66,7 +66,7 @@ impl Model for BlockRead {
 
 /// A code block that was read whole, and the offset at which its code begins.
 #[derive(Drop)]
-pub(crate) struct Started {
+pub(crate) struct LocatedBlock {
     pub start: u32,
     pub block: BlockRead,
     ghost fits: { start + length (code_bytes block.code) < 2 ^ 32 },

@@ -4,7 +4,7 @@ ghost use Rattle.std.specs.Option.{option_map};
 ghost use Rattle.flat_code.specs.Codes.{code_bytes};
 ghost use Rattle.flat_code.specs.Placed.{codes_of_few_brackets, statement_spots, spot_at};
 
-use crate::checking::{OpenInCode, StatementStart, few, is_last};
+use crate::checking::{OpenInCode, StatementStart, codes_of_few_brackets, is_last};
 use crate::tables::{place_at, table_of};
 use flat_code::Op;
 use plc_base::NoMemory;
@@ -66,7 +66,7 @@ fn add_statement(
     if !begin {
         return Ok(());
     }
-    let codes = few(nesting.brackets.as_slice());
+    let codes = codes_of_few_brackets(nesting.brackets.as_slice());
     let zones = nesting.zones.len();
     statements.push(StatementStart { at, codes, zones })?;
     Ok(())

@@ -2,10 +2,10 @@
 ghost use Rattle.std.specs.Prelude.{◌≡◌, ◌≤◌, length, map, IfOk};
 ghost use Rattle.flat_code.specs.Image.{param_of_record, block_of_record, entry_of_name, IsProgram};
 ghost use Rattle.flat_code.specs.Loading.{blocks_of};
-ghost use Rattle.image_file.specs.Running.{started_block};
-ghost use Rattle.image_file.specs.Typing.{AreFew, program_from};
+ghost use Rattle.image_file.specs.Running.{located_block};
+ghost use Rattle.image_file.specs.Typing.{HaveFewParameters, program_from};
 
-use crate::records::{BlockRead, NameRead, Started};
+use crate::records::{BlockRead, LocatedBlock, NameRead};
 use arrayvec::ArrayVec;
 use flat_code::{
     CodeBlock, DataBlock, NameEntry, Names, Param, ParameterRecord, Program, area_of_number,
@@ -42,9 +42,12 @@ fn block_of(block: BlockRead) -> CodeBlock
 }
 
 /// The code blocks of a program, if none has more than 60 parameters.
-pub(crate) fn code_blocks(alloc: Global, blocks: Vec<Started>) -> Result<Vec<CodeBlock>, NoMemory>
-    ensures { IfOk result (λ v. AreFew (blocks_of (map started_block blocks.items)) → v.items
-        ≡ map block_of_record (blocks_of (map started_block blocks.items))) }
+pub(crate) fn code_blocks(
+    alloc: Global,
+    blocks: Vec<LocatedBlock>,
+) -> Result<Vec<CodeBlock>, NoMemory>
+    ensures { IfOk result (λ v. HaveFewParameters (blocks_of (map located_block blocks.items))
+        → v.items ≡ map block_of_record (blocks_of (map located_block blocks.items))) }
 {
     let mut typed = Vec::new(alloc);
     for started in blocks {
@@ -79,15 +82,15 @@ pub(crate) fn entries(alloc: Global, names: Vec<NameRead>) -> Result<Vec<NameEnt
 /// The program of what was read.
 pub(crate) fn program(
     alloc: Global,
-    blocks: Vec<Started>,
+    blocks: Vec<LocatedBlock>,
     data_blocks: Vec<DataBlock>,
     names: Vec<NameRead>,
 ) -> Result<Program, NoMemory>
     requires program { IsProgram (program_from
-        (map started_block blocks.items) data_blocks.items names.items) }
-    requires few { AreFew (blocks_of (map started_block blocks.items)) }
+        (map located_block blocks.items) data_blocks.items names.items) }
+    requires few { HaveFewParameters (blocks_of (map located_block blocks.items)) }
     ensures { IfOk result (λ p. p
-        ≡ program_from (map started_block blocks.items) data_blocks.items names.items) }
+        ≡ program_from (map located_block blocks.items) data_blocks.items names.items) }
 {
     let code_blocks = code_blocks(alloc, blocks)?;
     let names = Names::new(entries(alloc, names)?);

@@ -9,14 +9,14 @@ ghost use Rattle.image_file.specs.Least.{with_faults};
 
 use crate::calls::{is_bad_call, misfits_call};
 use crate::checking::{
-    OpenInCode, StatementStart, bracket_fault, few, lesser_if, mark_fault, prepare, same_codes,
-    seven_if, zone_fault,
+    OpenInCode, StatementStart, bracket_fault, codes_of_few_brackets, lesser_if, mark_fault,
+    prepare, same_codes, seven_if, zone_fault,
 };
 use crate::environments::{BlockEnvironment, DataLens};
 use crate::faults::LoadFault;
 use crate::numbers::{CALL, JUMP_LIST};
 use crate::operands::{
-    ending, is_bad_actual, is_bad_place, is_input, is_stray_pass, is_stray_use_db, lacks_own,
+    ending_op, is_bad_actual, is_bad_place, is_input, is_stray_pass, is_stray_use_db, lacks_own,
     lacks_width, leads, own_parameter, writes,
 };
 use crate::reader::lesser;
@@ -66,7 +66,11 @@ fn codes_differ(here: &Option<ArrayVec<u8, 7>>, there: &StatementStart) -> bool
     are_other(here, &there.codes)
 }
 
-fn differing(here: &Option<ArrayVec<u8, 7>>, zones: usize, there: &StatementStart) -> Option<u16>
+fn nesting_fault(
+    here: &Option<ArrayVec<u8, 7>>,
+    zones: usize,
+    there: &StatementStart,
+) -> Option<u16>
     ensures { result ≡ nesting_fault (option_map (λ v. v.items) here.now) zones there.now }
 {
     if codes_differ(here, there) || zones != there.zones {
@@ -87,7 +91,7 @@ fn target_fault(
 {
     match statements.at(target) {
         None => Some(6),
-        Some(there) => differing(here, zones, there),
+        Some(there) => nesting_fault(here, zones, there),
     }
 }
 
@@ -105,7 +109,7 @@ fn jump_fault(
     if kind == JUMP_LIST && !leads(target, place.at + op.size(), place.rest) {
         return Some(6);
     }
-    let here = few(place.brackets);
+    let here = codes_of_few_brackets(place.brackets);
     target_fault(statements, &here, place.zones.len(), target)
 }
 
@@ -139,10 +143,10 @@ fn operand_fault(
         }
         Operand::Jump { kind, target } => jump_fault(statements, op, place, kind, target),
         Operand::UseDb { .. } => {
-            seven_if(is_stray_use_db(place.before, &ending(op, place.rest)))
+            seven_if(is_stray_use_db(place.before, &ending_op(op, place.rest)))
         }
         Operand::Pass { index, actual } => {
-            let last = ending(op, place.rest);
+            let last = ending_op(op, place.rest);
             seven_if(
                 is_stray_pass(place.before, &last, index) || is_bad_actual(environment, actual),
             )
@@ -167,7 +171,7 @@ fn call_fault_among(
             instance,
         } => { seven_if(is_bad_call(environment, lens, kind, number, instance, place.before)) }
         Operand::Pass { index, actual } => {
-            let last = ending(op, place.rest);
+            let last = ending_op(op, place.rest);
             seven_if(last.code == CALL && misfits_call(environment, &last, index, actual))
         }
         _ => None,
@@ -245,7 +249,7 @@ fn check_open_zones(
     least
 }
 
-/// The same of all that stands open at the end.
+/// The lesser of the fault so far and those of brackets and zones that are open at the end.
 fn check_nesting(
     start: u32,
     nesting: &OpenInCode,

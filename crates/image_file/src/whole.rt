@@ -2,11 +2,11 @@
 ghost use Rattle.std.specs.Prelude.{true, ◌≡◌, ◌+◌, ◌<◌, ◌≤◌, ◌^◌, length, take, [], ◌∷◌, if◌then◌else◌, OnOk, IfOk};
 ghost use Rattle.flat_code.specs.Image.{counts_layout, data_blocks_layout, names_layout, records_layout, front_layout, read_cut_off, read_image};
 ghost use Rattle.flat_code.specs.Layout.{Faulty};
-ghost use Rattle.image_file.specs.Running.{reader_run, run_layout, run_of_read, log_after, reader_cursor, log_of, counts_values, front_values, Sees, SeesDatas, SeesRecords, SeesImage};
+ghost use Rattle.image_file.specs.Running.{reader_run, run_layout, run_of_read, log_after, reader_cursor, log_of, counts_values, front_values, IsReaderRun, IsDataBlocksRun, IsRecordsRun, IsImageRun};
 
 use crate::reader::Reader;
 use crate::records::{CountsRead, FoundRead, FrontRead, NameRead};
-use crate::stops::{Ended, Stop};
+use crate::stops::{ReadingEnd, Stop};
 use flat_code::Stamp;
 use std::alloc::Global;
 
@@ -20,7 +20,7 @@ fn up_to(bytes: &[u8], count: usize) -> &[u8]
 
 impl Reader<'_> {
     #[tactic(auto, unfolding(flat_code::specs::Image::counts_layout, flat_code::specs::Image::count_rows), using(crate::proofs::RunLemmas::run_seen, crate::proofs::RunLemmas::run_chain))]
-    fn counts(&mut self) -> Result<CountsRead, Ended>
+    fn counts(&mut self) -> Result<CountsRead, ReadingEnd>
         requires { self.old.at + length self.old.rest.now < 2 ^ 32 }
         ensures read { reader_run counts_values result self.new
             ≡ run_layout counts_layout (reader_cursor self.old) (log_of self.old) }
@@ -43,7 +43,7 @@ impl Reader<'_> {
     #[tactic(auto, unfolding(flat_code::specs::Image::data_blocks_layout, crate::specs::Running::log_after, crate::specs::Least::with_faults), using(crate::proofs::RunLemmas::run_remembered))]
     fn data_blocks(&mut self, alloc: Global, count: u16) -> Result<(), Stop>
         requires { self.old.at + length self.old.rest.now < 2 ^ 32 }
-        ensures read { SeesDatas result self.new (run_layout (data_blocks_layout count)
+        ensures read { IsDataBlocksRun result self.new (run_layout (data_blocks_layout count)
             (reader_cursor self.old) (log_of self.old)) }
         ensures all { OnOk result (self.new.at + length self.new.rest.now
             ≡ self.old.at + length self.old.rest.now) }
@@ -56,7 +56,7 @@ impl Reader<'_> {
     /// All records behind the total length. The blocks are kept.
     fn records(&mut self, alloc: Global) -> Result<Vec<NameRead>, Stop>
         requires { self.old.at + length self.old.rest.now + 2000 < 2 ^ 32 }
-        ensures read { SeesRecords
+        ensures read { IsRecordsRun
             (λ v. v.items) result self.new (run_layout (records_layout true)
             (reader_cursor self.old) (log_of self.old)) }
         ensures all { OnOk result (self.new.at + length self.new.rest.now
@@ -70,7 +70,7 @@ impl Reader<'_> {
     }
 
     #[tactic(auto, unfolding(flat_code::specs::Image::front_layout, flat_code::specs::Image::front_rows), using(crate::proofs::RunLemmas::run_seen, crate::proofs::RunLemmas::run_chain))]
-    fn front(&mut self) -> Result<FrontRead, Ended>
+    fn front(&mut self) -> Result<FrontRead, ReadingEnd>
         requires { self.old.at ≡ 0 }
         ensures read { reader_run front_values result self.new
             ≡ run_layout front_layout (reader_cursor self.old) (log_of self.old) }
@@ -103,7 +103,7 @@ impl Reader<'_> {
         requires low { 20 ≤ total }
         requires there { total ≤ size }
         requires high { total ≤ 8388608 }
-        ensures { SeesImage result self.new (run_of_read (read_cut_off true stamp size total
+        ensures { IsImageRun result self.new (run_of_read (read_cut_off true stamp size total
             (reader_cursor self.old)) (log_of self.old)) }
     {
         self.note_if(size != total as usize, total, 10);
@@ -116,7 +116,7 @@ impl Reader<'_> {
     /// An image. Its stamp and its names are answered, the blocks are kept.
     pub(crate) fn image(&mut self, alloc: Global) -> Result<FoundRead, Stop>
         requires { self.old.at ≡ 0 }
-        ensures { SeesImage result self.new (run_of_read
+        ensures { IsImageRun result self.new (run_of_read
             (read_image self.old.rest.now) (log_of self.old)) }
     {
         let size = self.rest.len();

@@ -31,7 +31,7 @@ pub(crate) fn append(
     ensures { IfOk result (λ done. AreOpsAppended ops.old.items ops.new.items
         (op_of (op_code_of operation) last operand ∷ []) done) }
 {
-    let Some(op) = Op::taken(operation, last, operand) else {
+    let Some(op) = Op::of_instruction(operation, last, operand) else {
         return Ok(None);
     };
     ops.push(op)?;

@@ -58,13 +58,13 @@ starts_rise ops = rise_from 0 true ops
 
 -- ---- they are found
 
-placed : (x : ℕ) (xs : List ℕ) (i : ℕ) → i < length xs → get_or xs i 0 ≡ x → ((k : ℕ) → k < i → get_or xs k 0 < x) → position_or_len (λ s. eqb s x) xs ≡ i
-placed x [] i lt is before = absurd (omega arith)
-placed x (y ∷ ys) zero lt is before = rw is (let e : eqb x x ≡ true = grind (arith, nat_tests) in rw e refl)
-placed x (y ∷ ys) (suc i) lt is before =
+position_of_first : (x : ℕ) (xs : List ℕ) (i : ℕ) → i < length xs → get_or xs i 0 ≡ x → ((k : ℕ) → k < i → get_or xs k 0 < x) → position_or_len (λ s. eqb s x) xs ≡ i
+position_of_first x [] i lt is before = absurd (omega arith)
+position_of_first x (y ∷ ys) zero lt is before = rw is (let e : eqb x x ≡ true = grind (arith, nat_tests) in rw e refl)
+position_of_first x (y ∷ ys) (suc i) lt is before =
     let less : y < x = before 0 (omega arith) in
     let e : eqb y x ≡ false = grind (arith, nat_tests) in
-    let more = placed x ys i (omega arith) is (λ k le. before (suc k) (omega arith)) in
+    let more = position_of_first x ys i (omega arith) is (λ k le. before (suc k) (omega arith)) in
     rw e (omega (arith, more))
 
 absent : (x : ℕ) (xs : List ℕ) (i : ℕ) → ((k : ℕ) → k < i → get_or xs k 0 < x) → ((k : ℕ) → i ≤ k → k < length xs → x < get_or xs k 0) → position_or_len (λ s. eqb s x) xs ≡ length xs
@@ -95,7 +95,7 @@ pub found_at : (starts : List ℕ) (x i : ℕ) → IsStrictlySortedBy nat_cmp st
 unfolding number_at
 found_at starts x i rise h =
     let s = searched starts x (Ok i) h (not_falling starts rise) in
-    sym (placed x starts i s.0 s.1 (λ k lt. rw (sym s.1) (below_from_sorted starts k i 0 rise lt s.0)))
+    sym (position_of_first x starts i s.0 s.1 (λ k lt. rw (sym s.1) (below_from_sorted starts k i 0 rise lt s.0)))
 
 pub found_nowhere : (starts : List ℕ) (x i : ℕ) → IsStrictlySortedBy nat_cmp starts → IsBinarySearchResult (λ y. nat_cmp y x) starts (Err i) → length starts ≡ number_at starts x
 unfolding number_at
@@ -106,11 +106,11 @@ found_nowhere starts x i rise h =
 -- ---- the table of them
 
 -- those that were noted, and those of the ops that are left, are all
-pub record Reaches (noted : List ℕ) (at : ℕ) (begins : Bool) (left ops : List OpData) : Type 0 where
+pub record StartsGoOn (noted : List ℕ) (at : ℕ) (begins : Bool) (left ops : List OpData) : Type 0 where
   pub listed : noted ++ starts_from at begins left ≡ statement_starts ops
   pub place : at + length (code_bytes left) ≡ length (code_bytes ops)
 
-pub reaches_none : (noted : List ℕ) (ops : List OpData) → noted ≡ [] → Reaches noted 0 true ops ops
+pub reaches_none : (noted : List ℕ) (ops : List OpData) → noted ≡ [] → StartsGoOn noted 0 true ops ops
 unfolding statement_starts
 reaches_none noted ops is = record { listed = ap (λ (z : List ℕ). z ++ starts_from 0 true ops) is; place = omega arith }
 
@@ -121,7 +121,7 @@ bytes_behind at after op rest whole there bytes = omega (arith, there, bytes, le
 
 -- behind one op more
 pub reaches_next : (noted next : List ℕ) (at after : ℕ) (begins : Bool) (op : OpData) (ops : List OpData) (i : ℕ) → i < length ops → op ≡ get_or ops i op
-    → next ≡ noted ++ start_here at begins → after ≡ at + size_of_op op → Reaches noted at begins (drop i ops) ops → Reaches next after op.last (drop (i + 1) ops) ops
+    → next ≡ noted ++ start_here at begins → after ≡ at + size_of_op op → StartsGoOn noted at begins (drop i ops) ops → StartsGoOn next after op.last (drop (i + 1) ops) ops
 reaches_next noted next at after begins op ops i within is more there h =
     let parted : drop i ops ≡ op ∷ drop (i + 1) ops = drop_more ops i op within ∙ ap (λ (y : OpData). y ∷ drop (i + 1) ops) (sym is) in
     let all = subst (λ (z : List OpData). noted ++ starts_from at begins z ≡ statement_starts ops) parted h.listed in
@@ -137,14 +137,14 @@ reaches_next noted next at after begins op ops i within is more there h =
 
 -- an op that is left has room
 pub room_left : (noted : List ℕ) (at : ℕ) (begins : Bool) (op : OpData) (ops : List OpData) (i : ℕ) → i < length ops → op ≡ get_or ops i op
-    → Reaches noted at begins (drop i ops) ops → at + size_of_op op ≤ length (code_bytes ops)
+    → StartsGoOn noted at begins (drop i ops) ops → at + size_of_op op ≤ length (code_bytes ops)
 unfolding size_of_op
 room_left noted at begins op ops i within is h =
     let parted : drop i ops ≡ op ∷ drop (i + 1) ops = drop_more ops i op within ∙ ap (λ (y : OpData). y ∷ drop (i + 1) ops) (sym is) in
     let bytes = subst (λ (z : List OpData). at + length (code_bytes z) ≡ length (code_bytes ops)) parted h.place in
     omega (arith, bytes, length-append (op_bytes op) (code_bytes (drop (i + 1) ops)))
 
-pub reaches_end : (noted : List ℕ) (at : ℕ) (begins : Bool) (left ops : List OpData) → left ≡ [] → Reaches noted at begins left ops → noted ≡ statement_starts ops
+pub reaches_end : (noted : List ℕ) (at : ℕ) (begins : Bool) (left ops : List OpData) → left ≡ [] → StartsGoOn noted at begins left ops → noted ≡ statement_starts ops
 reaches_end noted at begins left ops over h =
     sym (append-nil noted) ∙ sym (ap (λ (z : List OpData). noted ++ starts_from at begins z) over) ∙ h.listed
 

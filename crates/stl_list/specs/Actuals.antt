@@ -17,12 +17,13 @@ use Rattle.stl_list.specs.Joined.{called_id}
 use Rattle.stl_list.specs.Operands.{direct_operand, own_parameter}
 use Rattle.stl_list.specs.Signatures.{Signature, called_formals}
 
--- an OUT or IN_OUT is written
+-- whether a parameter of a section is written by the block that has it: OUT and IN_OUT are
 abbrev pub is_written : PartKind → Bool
 is_written part.Input = false
 is_written _ = true
 
--- what is passed for a parameter. `formals` are the parameters of the block that calls
+-- the operand that is passed for a parameter `f` of the called block; `formals` are the parameters
+-- of the block that calls
 abbrev pub passed_operand : List Formal → Formal → Passed → Operand
 passed_operand formals f (passed.Literal value) = operand.Constant (typed_constant f.kind value)
 passed_operand formals f (passed.Direct a width byte bit) =
@@ -31,17 +32,19 @@ passed_operand formals f (passed.Parameter index width) = own_parameter formals 
 passed_operand formals f (passed.InBlock number a width byte bit) =
     direct_operand (Some number) (is_written f.section) a width byte bit
 
--- the actual parameter for one that the called block has
+-- the actual parameter of a CALL on a line: what is passed for a parameter `f` of the called block
 abbrev pub actual_of_passed : (line : ℕ) → List Formal → Formal → Passed → Actual
 actual_of_passed line formals f p =
     record { line = line; name = f.name; value = passed_operand formals f p }
 
--- what is passed for a parameter that the called block lacks is left out
+-- the actual parameter of a CALL on a line, as a list of one; none where the called block lacks the
+-- parameter (None)
 abbrev pub actual_for : (line : ℕ) → List Formal → Option Formal → Passed → List Actual
 actual_for line formals None p = []
 actual_for line formals (Some f) p = actual_of_passed line formals f p ∷ []
 
--- the actual parameter that an op before the call passes
+-- the actual parameter that an op before a call passes, as a list of one; none where the op is no
+-- PASS
 abbrev pub actual_here : (line : ℕ) → (formals called : List Formal) → FlatOperand → List Actual
 actual_here line formals called (flat.Pass index p) =
     actual_for line formals (slice_get called index) p

@@ -13,7 +13,8 @@ use Rattle.stl_list.specs.Parameters.{is_return}
 use Rattle.stl_list.specs.Signatures.{Signature, formals_of_block}
 use Rattle.stl_list.specs.Statements.{body_of}
 
--- the type of the return value; a function without one is VOID
+-- the type of the return value among a block's parameters; none where there is no return value, as
+-- in a function of type VOID
 abbrev pub result_of : List Formal → Option Simple
 result_of formals = option_map (λ f. f.kind) (find is_return formals)
 
@@ -34,7 +35,7 @@ listed_block signatures reached b = record {
   body = body_of signatures (lines_from reached b.lines) b;
 }
 
--- code blocks one behind the other
+-- the code blocks of a listing, one behind the other, the first behind what reaches to a line
 abbrev pub listed_blocks : List Signature → (reached : ℕ) → List CodeBlock → List Block
 listed_blocks signatures reached [] = []
 listed_blocks signatures reached (b ∷ bs) =

@@ -1,7 +1,9 @@
 -- The constants of a source by their bits.
 use Rattle.std.specs.Prelude.{ℕ, ◌/◌, ◌%◌, ◌^◌, nat_lt, ◌==◌, List, codes, pos, Option, Some, None, if◌then◌else◌}
 use Rattle.std.specs.Int.{cast_signed, w16, w32}
+use Rattle.plc_base.specs.declared.places.Area.TheVariants as area
 use Rattle.plc_base.specs.Bits.{has_bit}
+use Rattle.plc_base.specs.Pointer.{area_number}
 use Rattle.flat_code.specs.declared.operations.AddConstant.TheVariants as adding
 use Rattle.flat_code.specs.declared.operations.Logic.TheVariants as logic
 use Rattle.flat_code.specs.declared.operations.Operation.{Operation}
@@ -15,22 +17,23 @@ use Rattle.stl_ast.specs.declared.operands.Letters.TheVariants as letters
 use Rattle.stl_ast.specs.declared.operands.Operand.{Operand}
 use Rattle.stl_ast.specs.declared.operands.Operand.TheVariants as operand
 
--- the area of a pointer constant by its number; P and 7 have no constant, and are left out
+-- the letters of a pointer constant's area by its number; none for P (0) and 7, which have no
+-- constant
 abbrev pub pointer_area : ℕ → Option Letters
 pointer_area number =
-    if number == 1 then Some letters.I
-    else if number == 2 then Some letters.Q
-    else if number == 3 then Some letters.M
-    else if number == 4 then Some letters.Db
-    else if number == 5 then Some letters.Di
-    else if number == 6 then Some letters.L
+    if number == area_number area.I then Some letters.I
+    else if number == area_number area.Q then Some letters.Q
+    else if number == area_number area.M then Some letters.M
+    else if number == area_number area.Db then Some letters.Db
+    else if number == area_number area.Di then Some letters.Di
+    else if number == area_number area.L then Some letters.L
     else None
 
--- a pointer has an area where its bit 31 is 1
+-- the letters of the area of a pointer, by its bits: it has an area where bit 31 is 1
 abbrev pub pointer_letters : ℕ → Option Letters
 pointer_letters bits = if has_bit bits 31 then pointer_area (bits / 2 ^ 24 % 8) else None
 
--- P#, of the byte and the bit in bits 0 to 18
+-- the constant P# of a pointer's bits: bits 0 to 18 are the byte and the bit
 abbrev pub pointer_constant : ℕ → Operand
 pointer_constant bits =
     operand.Pointer (pointer_letters bits) (bits / 8 % 2 ^ 16) (bits % 8)

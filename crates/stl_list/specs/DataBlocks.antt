@@ -41,7 +41,8 @@ structure_type = record { arrays = []; of = element.Structure }
 abbrev pub function_block : ℕ → BlockId
 function_block number = record { kind = kinds.Fb; number = number }
 
--- the settings of an instance, where its function block is known
+-- the settings of an instance with these bytes, by the signature of its function block; none where
+-- there is no such block (None)
 abbrev pub known_settings : (line : ℕ) → (bytes : List ℕ) → Option Signature → List Setting
 known_settings line bytes None = []
 known_settings line bytes (Some s) = settings_of line bytes s
@@ -61,7 +62,7 @@ listed_data signatures line number bytes (Some of) =
     data_block_tree line number None [] (Some (block.Number (function_block of)))
     (known_settings line bytes (instance_signature signatures of))
 
--- the data blocks, which all stand on one line
+-- the data blocks of a listing, which all stand on one line
 abbrev pub listed_data_blocks : List Signature → (line : ℕ) → List DataBlock → List Block
 listed_data_blocks signatures line ds =
     map (λ d. listed_data signatures line d.number d.bytes d.instance_of) ds

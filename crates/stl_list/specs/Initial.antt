@@ -23,7 +23,8 @@ initial_run value count = record {
   value = literal.Byte value;
 }
 
--- bytes behind so many equal ones: each longest run is one initial value, of at most 65,535 bytes
+-- the initial values of `count` bytes that are `value` and of the bytes behind them: one for each
+-- longest run of equal bytes, of at most 65,535
 abbrev pub inits_from : (value count : ℕ) → List ℕ → List Init
 inits_from value count [] = initial_run value count ∷ []
 inits_from value count (b ∷ bs) =

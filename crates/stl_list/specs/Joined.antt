@@ -116,7 +116,7 @@ links_from blocks first [] = []
 links_from blocks first (b ∷ bs) =
     block_links blocks first b.code ++ links_from blocks (first + length b.params) bs
 
--- the links of a program
+-- the links of all statements of a program's code blocks
 unfoldable pub links : List CodeBlock → List Link
 links blocks = links_from blocks 0 blocks
 
@@ -127,11 +127,12 @@ total_parameter_count (b ∷ bs) = length b.params + total_parameter_count bs
 
 -- ---- chains
 
--- a label, if it is this one, gives way to another
+-- the label itself, but `to` in place of the label `from`
 abbrev pub replaced_label : (from to label : ℕ) → ℕ
 replaced_label from to label = if label == from then to else label
 
--- labels in which each that is the first of these two gives way to the second
+-- labels with the second of two labels in place of each that is the first; where one of the two is
+-- absent (None), the labels as they are
 abbrev pub merged_labels : Option ℕ → Option ℕ → List ℕ → List ℕ
 merged_labels (Some from) (Some to) labels = map (replaced_label from to) labels
 merged_labels _ _ labels = labels
@@ -143,21 +144,22 @@ labels_after_link labels (Joins own other) =
     merged_labels (slice_get labels own) (slice_get labels other) labels
 labels_after_link labels (Has own kind) = labels
 
--- parameters that a chain of passings joins have the same label, and no others have
+-- the labels of so many parameters, by all links: those that a chain of passings joins have the
+-- same label, and no others have
 unfoldable pub chain_labels : (count : ℕ) → List Link → List ℕ
 chain_labels count links = fold labels_after_link (range_with_len 0 count) links
 
--- a type is INT, which a chain hands on
+-- whether a type is INT, which a chain of passings hands on
 abbrev pub is_int_kind : Simple → Bool
 is_int_kind simple.Int = true
 is_int_kind _ = false
 
--- a type is TIME, which a chain hands on
+-- whether a type is TIME, which a chain of passings hands on
 abbrev pub is_time_kind : Simple → Bool
 is_time_kind simple.Time = true
 is_time_kind _ = false
 
--- the marks of labels, with this label marked, where there is one
+-- the marks of labels, with this label marked, where there is one (Some)
 abbrev pub set_label : List Bool → Option ℕ → List Bool
 set_label marks None = marks
 set_label marks (Some label) = slice_set marks label true
@@ -168,7 +170,7 @@ marks_after_link is_meant labels marks (Joins own other) = marks
 marks_after_link is_meant labels marks (Has own kind) =
     if is_meant kind then set_label marks (slice_get labels own) else marks
 
--- which labels a chain joins to a type that is meant
+-- of each label whether a chain of passings joins it to a parameter of a type that is meant
 unfoldable pub marks_of : (Simple → Bool) → (labels : List ℕ) → List Link → List Bool
 marks_of is_meant labels links =
     fold (marks_after_link is_meant labels) (replicate (length labels) false) links
@@ -197,7 +199,7 @@ unfoldable pub chains_of : List CodeBlock → Chains
 chains_of blocks =
     chains_by (chain_labels (total_parameter_count blocks) (links blocks)) (links blocks)
 
--- a label is marked; none is not
+-- whether a label is marked among these marks; where there is no label (None), none is
 abbrev pub mark_at : List Bool → Option ℕ → Bool
 mark_at marks None = false
 mark_at marks (Some label) = unwrap_or (slice_get marks label) false

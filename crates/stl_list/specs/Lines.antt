@@ -26,7 +26,8 @@ first_statement_line b = line_of_statement b.lines 0
 abbrev pub last_statement_line : CodeBlock → ℕ
 last_statement_line b = line_of_statement b.lines (length b.lines - 1)
 
--- code blocks stand by their first lines, then by their last
+-- whether a code block stands before another in a listing: by the line of its first statement, then
+-- of its last
 abbrev pub stands_before : CodeBlock → CodeBlock → Bool
 stands_before a b =
     nat_lt (first_statement_line a) (first_statement_line b)

@@ -24,6 +24,6 @@ listed_tree p = record {
       p.data_blocks;
 }
 
--- the text of the source
+-- the text of the source of a program
 abbrev pub listed_source : Program → List ℕ
 listed_source p = printed_text (listed_tree p)

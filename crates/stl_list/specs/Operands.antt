@@ -43,7 +43,7 @@ letters_for_area writes area.P = if writes then letters.Pq else letters.Pi
 abbrev pub read_letters : Area → Letters
 read_letters a = letters_for_area false a
 
--- the instructions that write their operand
+-- whether the instructions of an operation write their operand
 abbrev pub operation_writes_operand : Operation → Bool
 operation_writes_operand operation.Transfer = true
 operation_writes_operand operation.Assign = true
@@ -63,7 +63,8 @@ abbrev pub block_of_use_db : FlatOperand → Option ℕ
 block_of_use_db (flat.UseDb number) = Some number
 block_of_use_db _ = None
 
--- the data block that a statement opens first, which its first op names
+-- the data block that a statement opens first, which the first of its ops before the last names;
+-- none where this is no USEDB
 abbrev pub block_opened_by_ops : List OpData → Option ℕ
 block_opened_by_ops [] = None
 block_opened_by_ops (op ∷ ops) = block_of_use_db op.operand
@@ -94,7 +95,7 @@ abbrev pub timer_or_counter : (kind number : ℕ) → Operand
 timer_or_counter kind number =
     if kind == timer_kind then operand.Timer number else operand.Counter number
 
--- what a number in memory is one of
+-- of what a number in memory is one: of a timer where the kind is 1, else of a counter
 abbrev pub numbered_by : (kind : ℕ) → Numbered
 numbered_by kind = if kind == timer_kind then numbered.Timer else numbered.Counter
 
@@ -107,7 +108,8 @@ data_block_register register =
 abbrev pub instance_name : ℕ → Option BlockName
 instance_name instance = if instance == 0 then None else Some (name_of_data_block instance)
 
--- a fixed place, in the data block that the statement opens first, if it does
+-- the operand of a fixed place, in the data block that the statement opens first, if it opens one;
+-- `writes`: whether the instruction writes it
 abbrev pub direct_operand : (opened : Option ℕ) → (writes : Bool) → Area → Width → (byte bit : ℕ)
     → Operand
 direct_operand opened writes a width byte bit =

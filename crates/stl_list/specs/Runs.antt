@@ -24,7 +24,7 @@ runs_from before (op ∷ ops) =
 unfoldable pub runs : List OpData → List Run
 runs ops = runs_from [] ops
 
--- one offset, where a statement begins there
+-- the offset of an op, as a list of one, where a statement begins with the op; else none
 abbrev pub start_here : (at : ℕ) → (begins : Bool) → List ℕ
 start_here at begins = if begins then at ∷ [] else []
 
@@ -43,7 +43,7 @@ statement_starts ops = starts_from 0 true ops
 unfoldable pub number_at : (starts : List ℕ) → (offset : ℕ) → ℕ
 number_at starts offset = position_or_len (λ start. start == offset) starts
 
--- the statement at which an op goes on is marked, if it is a jump
+-- the marks of statements, with the one marked to which an op jumps, if it is a jump
 abbrev pub marks_with_target : (starts : List ℕ) → List Bool → Operand → List Bool
 marks_with_target starts marks (flat.Jump kind target) =
     slice_set marks (number_at starts target) true

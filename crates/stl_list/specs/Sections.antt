@@ -16,7 +16,7 @@ use Rattle.stl_ast.specs.declared.declarations.Simple.TheVariants as simple
 use Rattle.stl_types.specs.declared.parameters.Formal.{Formal}
 use Rattle.stl_list.specs.Parameters.{is_return}
 
--- a parameter, `name : type;`
+-- the declaration of a parameter on a line, `name : type;`
 abbrev pub plain_declaration : (line : ℕ) → Formal → Declaration
 plain_declaration line f = record {
   line = line;
@@ -44,11 +44,11 @@ abbrev pub bytes_here : (line : ℕ) → (name : List ℕ) → (count : ℕ) →
 bytes_here line name count values =
     if count == 0 then [] else byte_array line name count values ∷ []
 
--- a parameter is declared in its section, but a return value in the head
+-- whether a parameter is declared in a section: in its own, but a return value in the head
 abbrev pub is_declared_in : PartKind → Formal → Bool
 is_declared_in kind f = nat_eq (part_rank f.section) (part_rank kind) && not (is_return f)
 
--- the declaration of a parameter, where it is one of this section
+-- the declaration of a parameter in a section, as a list of one; none where it isn't declared there
 abbrev pub declared_here : (line : ℕ) → PartKind → Formal → List Declaration
 declared_here line kind f =
     if is_declared_in kind f then plain_declaration line f ∷ [] else []
@@ -57,7 +57,7 @@ declared_here line kind f =
 abbrev pub declarations_of_section : (line : ℕ) → List Formal → PartKind → List Declaration
 declarations_of_section line formals kind = flat_map (declared_here line kind) formals
 
--- a section; one without content is left out
+-- a section with these declarations, as a list of one; none where there are no declarations
 abbrev pub section_part : (line : ℕ) → PartKind → List Declaration → List Part
 section_part line kind items =
     if length items == 0 then [] else record { line = line; kind = kind; items = items } ∷ []

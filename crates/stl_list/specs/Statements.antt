@@ -38,7 +38,7 @@ listing_context signatures lines b = record {
   targets = target_marks (statement_starts b.code) b.code;
 }
 
--- a statement has a label where a jump leads to it
+-- the label of the statement of a number in its block: it has one where a jump leads to it
 abbrev pub label_at : (targets : List Bool) → (n : ℕ) → Option (List ℕ)
 label_at targets n =
     if unwrap_or (slice_get targets n) false then Some (label_of_number n) else None
@@ -63,7 +63,8 @@ label_alone line label = record {
   actuals = [];
 }
 
--- a label before the END clause on this line, where a jump leads there
+-- the label before the END clause on a line, alone, as a list of one; none where no jump leads
+-- there (None)
 abbrev pub label_of_end : (line : ℕ) → Option (List ℕ) → List Statement
 label_of_end line None = []
 label_of_end line (Some label) = label_alone line label ∷ []

@@ -22,7 +22,7 @@ address_text e =
     with_pieces []
     (address_pieces gap.Nothing (read_letters e.place.area) e.width e.place.byte e.place.bit)
 
--- a name, its address, its type, and an empty comment
+-- the fields of a name in the symbols file: the name, its address, its type, and an empty comment
 abbrev pub fields_of : NameEntry → List (List ℕ)
 fields_of e = e.name ∷ address_text e ∷ type_word (kind_of_width e.width) ∷ [] ∷ []
 
@@ -30,6 +30,6 @@ fields_of e = e.name ∷ address_text e ∷ type_word (kind_of_width e.width) �
 abbrev pub name_text : NameEntry → List ℕ
 name_text e = row_text symbols_writer (fields_of e)
 
--- the text of the symbols file
+-- the text of the symbols file of these names
 unfoldable pub listed_names : List NameEntry → List ℕ
 listed_names names = flat_map name_text names

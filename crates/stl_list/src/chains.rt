@@ -36,7 +36,7 @@ fn parameter_count(blocks: &[CodeBlock]) -> usize
     count
 }
 
-fn replaced(from: usize, to: usize, label: usize) -> usize
+fn replaced_label(from: usize, to: usize, label: usize) -> usize
     ensures { result ≡ replaced_label from to label }
 {
     if label == from { to } else { label }
@@ -47,7 +47,7 @@ fn relabel(labels: &mut [usize], from: usize, to: usize)
     ensures { labels.new ≡ map (replaced_label from to) labels.old }
 {
     for label in labels.iter_mut() {
-        *label = replaced(from, to, *label);
+        *label = replaced_label(from, to, *label);
     }
 }
 

@@ -88,7 +88,7 @@ fn byte_array(
     })
 }
 
-/// So many bytes; none are left out.
+/// The declaration of so many bytes; none where the count is 0.
 pub(crate) fn bytes_here(
     alloc: Global,
     line: u32,
@@ -136,7 +136,7 @@ fn add_declared(
     Ok(())
 }
 
-/// The parameters of a section.
+/// The declarations of the parameters of a section.
 fn declared_in(
     alloc: Global,
     line: u32,
@@ -152,7 +152,7 @@ fn declared_in(
     Ok(Declarations::from_vec(items))
 }
 
-/// Adds a section; one without content is left out.
+/// Adds a section with these declarations, if there are any.
 fn add_section(
     parts: &mut Vec<Part>,
     line: u32,

@@ -34,7 +34,7 @@ fn ops(alloc: Global) -> Result<Vec<Op>, Fail> {
         (Operation::Jump, true, jump_to(4)),
         (Operation::End(EndOperation::Be), true, Operand::Nothing),
     ] {
-        ops.push(Op::taken(word, last, operand).ok_or("no op")?)?;
+        ops.push(Op::of_instruction(word, last, operand).ok_or("no op")?)?;
     }
     Ok(ops)
 }
@@ -55,7 +55,7 @@ fn relay_ops(alloc: Global) -> Result<Vec<Op>, Fail> {
         ),
         (Operation::End(EndOperation::Be), Operand::Nothing),
     ] {
-        ops.push(Op::taken(word, true, operand).ok_or("no op")?)?;
+        ops.push(Op::of_instruction(word, true, operand).ok_or("no op")?)?;
     }
     Ok(ops)
 }

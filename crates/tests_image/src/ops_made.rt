@@ -36,7 +36,7 @@ fn is_spelled(rt: &impl Abort, alloc: Global, op: &Op, bytes: &[u8]) -> Result<(
 /// The op of an operation and an operand.
 fn made(rt: &impl Abort, row: &Row, last: bool) -> Op {
     let (operation, operand, _, text) = *row;
-    let Some(op) = Op::taken(operation, last, operand) else {
+    let Some(op) = Op::of_instruction(operation, last, operand) else {
         panic!(rt; "no op: {text}")
     };
     op
@@ -387,7 +387,7 @@ type RefusedOp = (Operation, Operand);
 fn are_refused(rt: &impl Abort, rows: &[RefusedOp]) {
     for row in rows {
         let (operation, operand) = *row;
-        let is_none = Op::taken(operation, true, operand).is_none();
+        let is_none = Op::of_instruction(operation, true, operand).is_none();
         same(rt, (operation.code(), operand), is_none, true);
     }
 }

@@ -29,7 +29,7 @@ type MadeOp = (Operation, bool, Operand);
 fn code_of(alloc: Global, ops: &[MadeOp]) -> Result<Vec<Op>, AllocError> {
     let mut code = Vec::new(alloc);
     for (word, last, operand) in ops {
-        if let Some(op) = Op::taken(*word, *last, *operand) {
+        if let Some(op) = Op::of_instruction(*word, *last, *operand) {
             code.push(op)?;
         }
     }
@@ -426,7 +426,7 @@ fn longest_op() -> Option<Op> {
         byte: 0,
         bit: 0,
     };
-    Op::taken(Operation::Pass, false, Operand::Pass { index: 0, actual })
+    Op::of_instruction(Operation::Pass, false, Operand::Pass { index: 0, actual })
 }
 
 /// Ops of 11 bytes, and behind them one of 5 or of 6.
@@ -435,7 +435,7 @@ fn long_code(alloc: Global, passes: usize, last: Operand) -> Result<Vec<Op>, All
     if let Some(op) = longest_op() {
         code.resize(passes, op)?;
     }
-    if let Some(op) = Op::taken(Operation::Load, true, last) {
+    if let Some(op) = Op::of_instruction(Operation::Load, true, last) {
         code.push(op)?;
     }
     Ok(code)

@@ -1,7 +1,7 @@
 use Rattle.std.proofs.Common.{◌≡◌, ◌+◌, ◌-◌, arith, sym, ap, subst, ◌∙◌, length, get_or}
 use Rattle.std.proofs.lemmas.List.{get_or-replicate}
 use Rattle.image_file.specs.Tables.{slot_of, slots}
-use Rattle.image_file.proofs.BlockTableLemmas.{Finds, finds_none, finds_more, finds_skip, finds_all, slot_small}
+use Rattle.image_file.proofs.BlockTableLemmas.{FindsFrom, finds_none, finds_more, finds_skip, finds_all, slot_small}
 use Rattle.image_file.proofs.block_table.block_table.Goals as goal
 
 pub loop-i-init : goal.loop-i-init
@@ -18,13 +18,13 @@ pub loop-i-preserved-in-Some : goal.loop-i-preserved-in-Some
 loop-i-preserved-in-Some c =
     let has = ap slot_of (sym c.id_of.ensures) ∙ sym c.slot_of.ensures.slot ∙ c.in-Some.is in
     let step : c.loop-i.i - 1 + 1 ≡ c.loop-i.i = omega (arith, c.loop-i-test.true) in
-    finds_more c.args.blocks.now c.loop-i.table.items (c.loop-i.i - 1) c.in-Some.slot c.index-blocks-i.result (omega (arith, c.loop-i-test.true, c.loop-i.auto.i)) c.index-blocks-i.is has (subst (λ k. Finds c.args.blocks.now k c.loop-i.table.items) (sym step) c.loop-i.invariant)
+    finds_more c.args.blocks.now c.loop-i.table.items (c.loop-i.i - 1) c.in-Some.slot c.index-blocks-i.result (omega (arith, c.loop-i-test.true, c.loop-i.auto.i)) c.index-blocks-i.is has (subst (λ k. FindsFrom c.args.blocks.now k c.loop-i.table.items) (sym step) c.loop-i.invariant)
 
 pub loop-i-preserved : goal.loop-i-preserved
 loop-i-preserved c =
     let none = ap slot_of (sym c.id_of.ensures) ∙ sym c.slot_of.ensures.slot ∙ c.in_default.is in
     let step : c.loop-i.i - 1 + 1 ≡ c.loop-i.i = omega (arith, c.loop-i-test.true) in
-    finds_skip c.args.blocks.now c.loop-i.table.items (c.loop-i.i - 1) c.index-blocks-i.result (omega (arith, c.loop-i-test.true, c.loop-i.auto.i)) c.index-blocks-i.is none (subst (λ k. Finds c.args.blocks.now k c.loop-i.table.items) (sym step) c.loop-i.invariant)
+    finds_skip c.args.blocks.now c.loop-i.table.items (c.loop-i.i - 1) c.index-blocks-i.result (omega (arith, c.loop-i-test.true, c.loop-i.auto.i)) c.index-blocks-i.is none (subst (λ k. FindsFrom c.args.blocks.now k c.loop-i.table.items) (sym step) c.loop-i.invariant)
 
 pub returns : goal.returns
-returns c = finds_all c.args.blocks.now c.loop-i.table.items (subst (λ k. Finds c.args.blocks.now k c.loop-i.table.items) (omega (arith, c.loop-i-test.false)) c.loop-i.invariant)
+returns c = finds_all c.args.blocks.now c.loop-i.table.items (subst (λ k. FindsFrom c.args.blocks.now k c.loop-i.table.items) (omega (arith, c.loop-i-test.false)) c.loop-i.invariant)

@@ -2,14 +2,14 @@ use Rattle.std.proofs.Common.{◌≡◌, ℕ, List, [], map, Option, None, subst
 use Rattle.flat_code.specs.Image.{read_image}
 use Rattle.flat_code.specs.declared.stamps.Stamp.{Stamp}
 use Rattle.flat_code.specs.Records.{NameRecord}
-use Rattle.image_file.specs.declared.records.Started.{Started}
+use Rattle.image_file.specs.declared.records.LocatedBlock.{LocatedBlock}
 use Rattle.image_file.specs.declared.reader.Reader.{Reader}
-use Rattle.image_file.specs.Running.{started_block, run_of_read, SeesFound}
+use Rattle.image_file.specs.Running.{located_block, run_of_read, IsFoundRun}
 use Rattle.image_file.proofs.LoadLemmas.{found_of, least_of, image_there, datas_there, checked_by}
 use Rattle.image_file.proofs.loading.check.Goals as goal
 
-from_start : (found : Option (Stamp × List NameRecord)) (r : Reader) (text : List ℕ) (bs : List Started) → bs ≡ [] → SeesFound found r (run_of_read (read_image text) (record { least = None; blocks = map started_block bs; datas = None })) → SeesFound found r (run_of_read (read_image text) (record { least = None; blocks = []; datas = None }))
-from_start found r text bs none h = subst (λ (z : List Started). SeesFound found r (run_of_read (read_image text) (record { least = None; blocks = map started_block z; datas = None }))) none h
+from_start : (found : Option (Stamp × List NameRecord)) (r : Reader) (text : List ℕ) (bs : List LocatedBlock) → bs ≡ [] → IsFoundRun found r (run_of_read (read_image text) (record { least = None; blocks = map located_block bs; datas = None })) → IsFoundRun found r (run_of_read (read_image text) (record { least = None; blocks = []; datas = None }))
+from_start found r text bs none h = subst (λ (z : List LocatedBlock). IsFoundRun found r (run_of_read (read_image text) (record { least = None; blocks = map located_block z; datas = None }))) none h
 
 pub outcome_of-requires-clause-found : goal.outcome_of-requires-clause-found
 outcome_of-requires-clause-found c =

@@ -4,28 +4,28 @@ use Rattle.std.proofs.lemmas.Iterator.Consumers.{YieldsList-end}
 use Rattle.flat_code.specs.Programs.{CodeBlock}
 use Rattle.flat_code.specs.Image.{block_of_record}
 use Rattle.flat_code.specs.Loading.{blocks_of}
-use Rattle.image_file.specs.declared.records.Started.{Started}
-use Rattle.image_file.specs.Running.{started_block}
-use Rattle.image_file.specs.Typing.{AreFew}
+use Rattle.image_file.specs.declared.records.LocatedBlock.{LocatedBlock}
+use Rattle.image_file.specs.Running.{located_block}
+use Rattle.image_file.specs.Typing.{HaveFewParameters}
 use Rattle.image_file.proofs.typing.code_blocks.Goals as goal
 
-abbrev Few : List Started → Type 0
-Few xs = AreFew (blocks_of (map started_block xs))
+abbrev Few : List LocatedBlock → Type 0
+Few xs = HaveFewParameters (blocks_of (map located_block xs))
 
-abbrev typed_of : List Started → List CodeBlock
-typed_of xs = map block_of_record (blocks_of (map started_block xs))
+abbrev typed_of : List LocatedBlock → List CodeBlock
+typed_of xs = map block_of_record (blocks_of (map located_block xs))
 
-few_front : (xs : List Started) (s : Started) → Few (xs ++ s ∷ []) → Few xs × (length s.block.params ≤ 60)
+few_front : (xs : List LocatedBlock) (s : LocatedBlock) → Few (xs ++ s ∷ []) → Few xs × (length s.block.params ≤ 60)
 few_front [] s h = (tt, h.0)
 few_front (x ∷ xs) s h = let f = few_front xs s h.1 in ((h.0, f.0), f.1)
 
-typed_more : (xs : List Started) (s : Started) → typed_of xs ++ block_of_record s.block ∷ [] ≡ typed_of (xs ++ s ∷ [])
+typed_more : (xs : List LocatedBlock) (s : LocatedBlock) → typed_of xs ++ block_of_record s.block ∷ [] ≡ typed_of (xs ++ s ∷ [])
 typed_more [] s = refl
 typed_more (x ∷ xs) s = ap (λ (z : List CodeBlock). block_of_record x.block ∷ z) (typed_more xs s)
 
-same_list : (xs : List Started) → map (λ y. y) xs ≡ xs
+same_list : (xs : List LocatedBlock) → map (λ y. y) xs ≡ xs
 same_list [] = refl
-same_list (x ∷ xs) = ap (λ (z : List Started). x ∷ z) (same_list xs)
+same_list (x ∷ xs) = ap (λ (z : List LocatedBlock). x ∷ z) (same_list xs)
 
 pub loop-started-preserved : goal.loop-started-preserved
 loop-started-preserved c = λ few.

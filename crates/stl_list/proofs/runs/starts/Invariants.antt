@@ -1,7 +1,7 @@
 use Rattle.std.proofs.Common.{drop}
-use Rattle.stl_list.proofs.RunLemmas.{Reaches}
+use Rattle.stl_list.proofs.RunLemmas.{StartsGoOn}
 use Rattle.stl_list.proofs.runs.starts.Given as goal
 
 abbrev pub invariant-loop-op : goal.invariant-loop-op
 invariant-loop-op l =
-    Reaches l.starts.items l.at l.begins (drop l.op-index l.ops) l.ops
+    StartsGoOn l.starts.items l.at l.begins (drop l.op-index l.ops) l.ops

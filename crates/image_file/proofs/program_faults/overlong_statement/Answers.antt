@@ -1,7 +1,7 @@
 use Rattle.std.proofs.Common.{arith, ap, ◌∙◌, ◌+◌, ℕ}
 use Rattle.image_file.proofs.CheckLemmas.{here_fits, left_next}
 use Rattle.image_file.proofs.ProgramFaultLemmas.{overlong_here, overlong_next, overlong_done, count_few}
-use Rattle.image_file.proofs.program_faults.overlong.Goals as goal
+use Rattle.image_file.proofs.program_faults.overlong_statement.Goals as goal
 
 pub returns-then-count-eq64 : goal.returns-then-count-eq64
 returns-then-count-eq64 c = overlong_here c.loop-op.count c.loop-op.at c.loop-op.op-index c.args.ops.now c.op-item.result c.loop-op-test.true c.op-item.is c.if-count-eq64.true ∙ c.loop-op.invariant.same

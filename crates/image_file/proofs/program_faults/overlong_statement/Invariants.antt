@@ -1,6 +1,6 @@
 use Rattle.std.proofs.Common.{◌≡◌, ◌+◌, ◌≤◌, length, drop}
 use Rattle.flat_code.specs.Codes.{code_bytes, overlong_statement}
-use Rattle.image_file.proofs.program_faults.overlong.Given as goal
+use Rattle.image_file.proofs.program_faults.overlong_statement.Given as goal
 
 abbrev pub invariant-loop-op : goal.invariant-loop-op
 invariant-loop-op l = record {

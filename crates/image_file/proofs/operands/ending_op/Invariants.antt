@@ -1,6 +1,6 @@
 use Rattle.std.proofs.Common.{◌≡◌, drop}
 use Rattle.flat_code.specs.Placed.{ending_op}
-use Rattle.image_file.proofs.operands.ending.Given as goal
+use Rattle.image_file.proofs.operands.ending_op.Given as goal
 
 abbrev pub invariant-loop-next : goal.invariant-loop-next
 invariant-loop-next l = ending_op l.last (drop l.next-index l.rest) ≡ ending_op l.fn.op l.rest

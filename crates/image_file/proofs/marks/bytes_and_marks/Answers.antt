@@ -1,6 +1,6 @@
 use Rattle.std.proofs.Common.{arith}
 use Rattle.image_file.proofs.MarkLemmas.{number_left, two_bytes}
-use Rattle.image_file.proofs.marks.encoded.Goals as goal
+use Rattle.image_file.proofs.marks.bytes_and_marks.Goals as goal
 
 pub mark-requires-clause-some : goal.mark-requires-clause-some
 mark-requires-clause-some c = omega (arith, two_bytes c.op-item.result, c.size.ensures.size)
