@@ -180,10 +180,10 @@ actual_bound kind own q g below access (passed.InBlock number area width byte bi
 -- ---- one after another
 
 -- a function's bindings are supplied, so they are those of a function block too
-supplied : (q : Param) (frames : List Frame) (m : Areas) (b : Binding) → IsBound kinds.Fc q frames m b → IsBound kinds.Fb q frames m b
-supplied q frames m (binding.AtPlace at width frame) is = is
-supplied q frames m (binding.Constant value) is = is
-supplied q frames m binding.Unsupplied is = absurd is
+function_block_binding : (q : Param) (frames : List Frame) (m : Areas) (b : Binding) → IsBound kinds.Fc q frames m b → IsBound kinds.Fb q frames m b
+function_block_binding q frames m (binding.AtPlace at width frame) is = is
+function_block_binding q frames m (binding.Constant value) is = is
+function_block_binding q frames m binding.Unsupplied is = absurd is
 
 none_supplied : (ps : List Param) (frames : List Frame) (m : Areas) → AreBound kinds.Fb ps frames m (no_bindings ps)
 none_supplied [] frames m = tt
@@ -255,7 +255,7 @@ one_more ps frames m before bs i q b h found is =
     let within = get_within ps i q found in
     let there : i < length bs = omega (arith, len, within) in
     rw (set_is bs i b there) (record {
-      all = bound_set ps frames m bs i q b h.all found (supplied q frames m b is);
+      all = bound_set ps frames m bs i q b h.all found (function_block_binding q frames m b is);
       some = λ j r at was. by j r at (eqb i j) refl was there;
     })
   where

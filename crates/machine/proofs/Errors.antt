@@ -521,7 +521,7 @@ HasRoom operation.Pass brackets r = ⊥
 HasRoom _ brackets r = Unit {0}
 
 pub record Suits (v : Operation) (o : Operand) (p : ExecState) : Type 0 where
-  pub admitted : admits (takes_of_operation v) o ≡ true
+  pub operand_admitted : admits (takes_of_operation v) o ≡ true
   pub has : ParamHas p.local (is_writing v) o
   pub other : goes_by_statement v o ≡ false
   pub room : HasRoom v p.local.inner.brackets p.local.inner.relay
@@ -584,44 +584,44 @@ pub effect_known : (v : Operation) (o : Operand) (p : ExecState) → Suits v o p
 unfolding operation_effect
 effect_known operation.Nop o p s = tt
 effect_known operation.Bld o p s = tt
-effect_known (operation.Check with) o p s = registers_known p _ (checking_known o p with s.admitted s.has)
+effect_known (operation.Check with) o p s = registers_known p _ (checking_known o p with s.operand_admitted s.has)
 effect_known operation.OrBare o p s = tt
 effect_known (operation.Nest with) o p s = own_known p _ (nest_done p with s.room)
 effect_known operation.Unnest o p s = own_known p _ (unnesting_done p.local s.room)
 effect_known (operation.Relay which) o p s = own_known p _ (relayed_done which p.local s.room)
-effect_known operation.Load o p s = registers_known p _ (loading_known o p s.admitted s.has)
+effect_known operation.Load o p s = registers_known p _ (loading_known o p s.operand_admitted s.has)
 effect_known operation.Transfer o p s =
-    local_memory_known p _ (transferred_known (if is_writing_off p.local then 0 else p.local.regs.a1) o p.local p.memory (written_place o takes.Transfer p.local (inl refl) s.admitted s.has))
+    local_memory_known p _ (transferred_known (if is_writing_off p.local then 0 else p.local.regs.a1) o p.local p.memory (written_place o takes.Transfer p.local (inl refl) s.operand_admitted s.has))
 effect_known operation.Assign o p s =
-    local_memory_known p _ (assigned_known o p.local p.memory (written_place o takes.Bit p.local (inr refl) s.admitted s.has))
-effect_known operation.Set o p s = set_known o p s.admitted s.has
-effect_known operation.Reset o p s = reset_known o p s.admitted s.has
+    local_memory_known p _ (assigned_known o p.local p.memory (written_place o takes.Bit p.local (inr refl) s.operand_admitted s.has))
+effect_known operation.Set o p s = set_known o p s.operand_admitted s.has
+effect_known operation.Reset o p s = reset_known o p s.operand_admitted s.has
 effect_known (operation.Edge rising) o p s =
-    local_memory_known p _ (edge_known rising o p.local p.memory (written_place o takes.Bit p.local (inr refl) s.admitted s.has))
+    local_memory_known p _ (edge_known rising o p.local p.memory (written_place o takes.Bit p.local (inr refl) s.operand_admitted s.has))
 effect_known operation.SetRlo o p s = tt
 effect_known operation.ClearRlo o p s = tt
 effect_known operation.NegateRlo o p s = tt
 effect_known operation.SaveRlo o p s = tt
-effect_known operation.LoadBcd o p s = registers_known p _ (loading_bcd_known o p (numbered_by o takes.Numbered (inl refl) s.admitted))
+effect_known operation.LoadBcd o p s = registers_known p _ (loading_bcd_known o p (numbered_by o takes.Numbered (inl refl) s.operand_admitted))
 effect_known operation.LoadStatus o p s = tt
 effect_known operation.TransferStatus o p s = tt
-effect_known operation.LoadOpenBlock o p s = registers_known p _ (open_fact_known o p.local p.memory s.admitted)
-effect_known (operation.Pointer what) o p s = local_memory_known p _ (pointed_known what o p.local p.memory s.admitted)
+effect_known operation.LoadOpenBlock o p s = registers_known p _ (open_fact_known o p.local p.memory s.operand_admitted)
+effect_known (operation.Pointer what) o p s = local_memory_known p _ (pointed_known what o p.local p.memory s.operand_admitted)
 effect_known (operation.Number what) o p s = registers_known p _ (counted_known what p.local.regs)
 effect_known (operation.Add what) o p s = tt
 effect_known (operation.CompareInt how) o p s = tt
 effect_known (operation.CompareDint how) o p s = tt
 effect_known (operation.Logic what) o p s = tt
 effect_known (operation.Shift what) o p s = tt
-effect_known (operation.Start how) o p s = timers_known p _ (starting_known how o p.local p.memory p.timers (numbered_by o takes.Timer (inr (inl refl)) s.admitted))
-effect_known operation.Free o p s = free_known o p (numbered_by o takes.Numbered (inl refl) s.admitted)
-effect_known operation.CountUp o p s = counters_known p _ (up_known o p.local p.memory p.counters (numbered_by o takes.Counter (inr (inr refl)) s.admitted))
-effect_known operation.CountDown o p s = counters_known p _ (down_known o p.local p.memory p.counters (numbered_by o takes.Counter (inr (inr refl)) s.admitted))
-effect_known operation.OpenBlock o p s = own_known p _ (opening_known o p.local p.memory s.admitted)
+effect_known (operation.Start how) o p s = timers_known p _ (starting_known how o p.local p.memory p.timers (numbered_by o takes.Timer (inr (inl refl)) s.operand_admitted))
+effect_known operation.Free o p s = free_known o p (numbered_by o takes.Numbered (inl refl) s.operand_admitted)
+effect_known operation.CountUp o p s = counters_known p _ (up_known o p.local p.memory p.counters (numbered_by o takes.Counter (inr (inr refl)) s.operand_admitted))
+effect_known operation.CountDown o p s = counters_known p _ (down_known o p.local p.memory p.counters (numbered_by o takes.Counter (inr (inr refl)) s.operand_admitted))
+effect_known operation.OpenBlock o p s = own_known p _ (opening_known o p.local p.memory s.operand_admitted)
 effect_known operation.Exchange o p s = tt
-effect_known operation.Jump o p s = absurd (no_jump o s.admitted s.other)
-effect_known (operation.Call how) o p s = absurd (no_call how o s.admitted s.other)
+effect_known operation.Jump o p s = absurd (no_jump o s.operand_admitted s.other)
+effect_known (operation.Call how) o p s = absurd (no_call how o s.operand_admitted s.other)
 effect_known (operation.End how) o p s = absurd (let e = s.other in cc)
 effect_known operation.UseDb o p s = absurd s.room
 effect_known operation.Pass o p s = absurd s.room
-effect_known operation.NoOperation o p s = absurd (no_code o s.admitted)
+effect_known operation.NoOperation o p s = absurd (no_code o s.operand_admitted)

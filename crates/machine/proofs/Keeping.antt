@@ -200,8 +200,8 @@ zones_after (operation.Relay relay.Close) zones = zones - 1
 zones_after _ zones = zones
 
 -- what is open after an instruction
-abbrev pub left_open : Operation → OpenAt → OpenAt
-left_open w held = record { codes = codes_after w held.codes; zones = zones_after w held.zones }
+abbrev pub open_after_operation : Operation → OpenAt → OpenAt
+open_after_operation w held = record { codes = codes_after w held.codes; zones = zones_after w held.zones }
 
 pub record Keeps (w : Operation) (p q : ExecState) : Type 0 where
   pub memory : SameSizes p.memory q.memory
@@ -211,11 +211,11 @@ pub record Keeps (w : Operation) (p q : ExecState) : Type 0 where
   pub bindings : q.local.inner.bindings ≡ p.local.inner.bindings
   pub db : IsOpen p.local.inner.db p.memory → IsOpen p.local.inner.di p.memory → IsOpen q.local.inner.db q.memory
   pub di : IsOpen p.local.inner.db p.memory → IsOpen p.local.inner.di p.memory → IsOpen q.local.inner.di q.memory
-  pub held : open_in_frame q.local.inner.brackets q.local.inner.relay ≡ left_open w (open_in_frame p.local.inner.brackets p.local.inner.relay)
+  pub held : open_in_frame q.local.inner.brackets q.local.inner.relay ≡ open_after_operation w (open_in_frame p.local.inner.brackets p.local.inner.relay)
 
 -- after it the same is open as before
 abbrev pub Quiet : Operation → Type 0
-Quiet w = (held : OpenAt) → left_open w held ≡ held
+Quiet w = (held : OpenAt) → open_after_operation w held ≡ held
 
 pub same_keeps : (w : Operation) (p : ExecState) → Quiet w → Keeps w p p
 same_keeps w p quiet = record {
@@ -335,7 +335,7 @@ unnesting_keeps p = unnested_keeps p p.local.inner.brackets refl
 
 relay_keeps :
     (w : Operation) (r : Relay) (regs : Regs) (p : ExecState)
-    → open_in_frame p.local.inner.brackets r ≡ left_open w (open_in_frame p.local.inner.brackets p.local.inner.relay)
+    → open_in_frame p.local.inner.brackets r ≡ open_after_operation w (open_in_frame p.local.inner.brackets p.local.inner.relay)
     → Keeps w p (record p { local = with_frame_relay r (record p.local { regs = regs }) })
 relay_keeps w r regs p is = record {
   memory = same_sizes p.memory;
@@ -521,10 +521,10 @@ effect_keeps operation.UseDb o p = tt
 effect_keeps operation.Pass o p = tt
 effect_keeps operation.NoOperation o p = tt
 
-opened_first :
+keeps_with_db_opened :
     (w : Operation) (number : ℕ) (p q : ExecState) → is_block_loaded number p.memory ≡ true → Keeps w (with_db_opened number p) q
     → Keeps w p q
-opened_first w number p q loaded kept = record {
+keeps_with_db_opened w number p q loaded kept = record {
   memory = kept.memory;
   starts = kept.starts;
   len = kept.len;
@@ -549,5 +549,5 @@ does_with_keeps (Some number) w o p = by (is_block_loaded number p.memory) refl
         → IfDone (Keeps w p) (if loaded then operation_effect w o (with_db_opened number p) else Err 0x3A)
     by true is =
         done_more (Keeps w (with_db_opened number p)) (Keeps w p) (operation_effect w o (with_db_opened number p))
-        (λ q kept. opened_first w number p q is kept) (effect_keeps w o (with_db_opened number p))
+        (λ q kept. keeps_with_db_opened w number p q is kept) (effect_keeps w o (with_db_opened number p))
     by false is = tt

@@ -20,8 +20,8 @@ one_less k most h = omega arith
 one_more : (k : ℕ) → k + 1 ≡ suc k
 one_more k = omega arith
 
-abbrev walked : Option ℕ → Option OpRun → Option StatementWalk
-walked opens r = option_map (walk_with opens) r
+abbrev walk_of_run : Option ℕ → Option OpRun → Option StatementWalk
+walk_of_run opens r = option_map (walk_with opens) r
 
 run_next :
     (most : ℕ) (ops : List OpData) (at : ℕ)
