@@ -2,7 +2,7 @@
 ghost use Rattle.std.specs.Prelude.{◌≡◌, false};
 ghost use Rattle.machine.specs.Flat.{code_of};
 ghost use Rattle.ob_sched.specs.Views.{scheduler_of};
-ghost use Rattle.controller.specs.Leaves.{call_left, statement_finished, mode_after, regs_called, regs_finished};
+ghost use Rattle.controller.specs.Leaves.{call_finished, statement_finished, mode_after, regs_called, regs_finished};
 ghost use Rattle.controller.specs.Monitoring.{step_record};
 ghost use Rattle.controller.specs.Ready.{HasStatement, IsReady};
 ghost use Rattle.controller.specs.Stack.{IsActivationStack};
@@ -55,7 +55,7 @@ impl Cpu {
         requires there { HasStatement (code_of program.now.program) position.now.block position.now.at }
         requires stack { IsActivationStack self.old.mode self.old.activations }
         ensures state { cpu_state self.new
-            ≡ call_left (code_of program.now.program) number inputs.now to position.now
+            ≡ call_finished (code_of program.now.program) number inputs.now to position.now
             self.old.activations (cpu_state self.old) }
         ensures regs { result ≡ regs_called number inputs.now (scheduler_of self.old.sched)
             self.old.activations position.now.regs }
@@ -103,7 +103,7 @@ impl Cpu {
     }
 
     /// A step outside STOP; the answer is the record of its statement, if its block is monitored.
-    #[tactic(auto, unfolding(crate::specs::Stepping::after_step), using(crate::proofs::StepLemmas::stepped_from, crate::proofs::StepLemmas::stepped_idle, crate::proofs::StepLemmas::idle, crate::proofs::StepLemmas::step_there, crate::proofs::StepLemmas::step_stands, crate::proofs::MonitoringLemmas::step_recorded, crate::proofs::MonitoringLemmas::idle_recorded))]
+    #[tactic(auto, unfolding(crate::specs::Stepping::after_step), using(crate::proofs::StepLemmas::running_step_finished, crate::proofs::StepLemmas::idle_step_finished, crate::proofs::StepLemmas::idle, crate::proofs::StepLemmas::step_there, crate::proofs::StepLemmas::step_stands, crate::proofs::MonitoringLemmas::step_recorded, crate::proofs::MonitoringLemmas::idle_recorded))]
     pub(crate) fn step(&mut self, program: &Loaded) -> Option<MonRecord>
         requires ready { IsReady (code_of program.now.program) self.old.activations }
         requires running { is_stop self.old.mode ≡ false }

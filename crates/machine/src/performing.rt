@@ -67,7 +67,7 @@ fn perform_plain(
     }
 }
 
-// The same of an operand that the operation doesn't take.
+// An instruction whose operand its operation doesn't take; it touches no position.
 #[inline(never)]
 fn perform_other(
     opens: Option<u16>,
@@ -533,7 +533,8 @@ fn perform_op(
     }
 }
 
-// The same, where nothing is inlined.
+// The last op of the statement that begins at `at`, as `perform_op` performs it, but where nothing is
+// inlined.
 #[inline(never)]
 fn perform_op_apart(
     c: &Loaded,
@@ -600,7 +601,8 @@ pub(crate) fn perform(
     )
 }
 
-/// The same, so that the way of those around it stays short.
+/// Performs the instruction of a statement that was found, as `perform` does, but where nothing is
+/// inlined, so that the code around it stays short.
 #[inline(always)]
 pub(crate) fn perform_apart(
     c: &Loaded,

@@ -97,13 +97,13 @@ NeverCalls _ = Unit {0}
 never : (i j : Instr) → NeverCalls i → i ≡ j → NeverCalls j
 never i j calm is = subst (λ (k : Instr). NeverCalls k) is calm
 
-named_by : (found : Option BlockKind) (how made : CallOperation) (number instance : ℕ)
+callee_named : (found : Option BlockKind) (how made : CallOperation) (number instance : ℕ)
     (passings given : List Passing) (block : BlockId) (named : Option ℕ) (other : Instr)
     → NeverCalls other → call_by_number found how number instance passings other ≡ Calls made block named given
     → option_map (block_named number) found ≡ Some block
-named_by None how made number instance passings given block named other calm is =
+callee_named None how made number instance passings given block named other calm is =
     absurd (never other (Calls made block named given) calm is)
-named_by (Some kind) how made number instance passings given block named other calm is =
+callee_named (Some kind) how made number instance passings given block named other calm is =
     ap (λ (i : Instr). Some (block_of_calls block i)) is
 
 jump_never : (w : JumpOperation) (target next : ℕ) (ops : List OpData) → NeverCalls (jump_by_operation w target next ops)
@@ -246,7 +246,7 @@ called_is (operation.Call a) (operand.Pass x0 x1) use_db passings next ops call 
 called_is operation.Jump (operand.Called x0 x1 x2) use_db passings next ops call block named given is =
     absurd (never (Does use_db operation.Jump (operand.Called x0 x1 x2)) (Calls call block named given) tt is)
 called_is (operation.Call a) (operand.Called x0 x1 x2) use_db passings next ops call block named given is =
-    named_by (kind_of_code x0) a call x1 x2 passings given block named
+    callee_named (kind_of_code x0) a call x1 x2 passings given block named
     (Does use_db (operation.Call a) (operand.Called x0 x1 x2)) tt is
 called_is operation.Jump (operand.OpenBlock x0 x1) use_db passings next ops call block named given is =
     absurd (never (Does use_db operation.Jump (operand.OpenBlock x0 x1)) (Calls call block named given) tt is)

@@ -31,7 +31,8 @@ use Rattle.var_access.specs.declared.What.TheVariants as what
 use Rattle.var_access.specs.declared.Request.{Request}
 use Rattle.var_access.specs.declared.Request.TheVariants as request
 use Rattle.controller.specs.Asking.{request_effect}
-use Rattle.controller.specs.Beginning.{ob_block_id, ob_frame, with_start_bytes, ob_begun, ob_activation, with_ob_begun}
+use Rattle.machine.specs.Lasting.{ob_block}
+use Rattle.controller.specs.Beginning.{ob_frame, with_start_bytes, ob_begun, ob_activation, with_ob_begun}
 use Rattle.controller.specs.CyclePoint.{cycle_point, cycle_finished, cycle_info}
 use Rattle.controller.specs.Errors.{is_synchronous, cause_without, error_event, with_caller_registers, error_in, error_ob_started, error_raised}
 use Rattle.controller.specs.Event.{entry_counted, entry_effect, state_after}
@@ -83,7 +84,7 @@ with_start_bytes_stack (value ∷ rest) byte a =
     ∙ byte_stack byte value a
 
 begun_room : (z : Profile) (c : List Bound) (class ob : ℕ) (info : StartInfo) (h : BlockHead)
-    → RoomFor z (bound_of (ob_block_id ob) c) [] → Roomy z c (ob_begun z class ob info h)
+    → RoomFor z (bound_of (ob_block ob) c) [] → Roomy z c (ob_begun z class ob info h)
 unfolding ob_begun
 begun_room z c class ob info h room = (
   with_start_bytes_profile info.bytes 0 (activation_begun z class ob (ob_frame ob h)),
@@ -92,7 +93,7 @@ begun_room z c class ob info h room = (
 )
 
 ob_room_by : (z : Profile) (code : Code) (c : List Bound) (class ob : ℕ) (info : StartInfo) (found : Option BlockHead)
-    → Certifies z code c → code.head (ob_block_id ob) ≡ found
+    → Certifies z code c → code.head (ob_block ob) ≡ found
     → RoomIf z c (option_map (ob_begun z class ob info) found)
 ob_room_by z code c class ob info None holds is = tt
 ob_room_by z code c class ob info (Some h) holds is =
@@ -101,7 +102,7 @@ ob_room_by z code c class ob info (Some h) holds is =
 ob_room : (z : Profile) (code : Code) (c : List Bound) (class ob : ℕ) (info : StartInfo) → Certifies z code c
     → RoomIf z c (ob_activation z code class ob info)
 ob_room z code c class ob info holds =
-    ob_room_by z code c class ob info (code.head (ob_block_id ob)) holds refl
+    ob_room_by z code c class ob info (code.head (ob_block ob)) holds refl
 
 begins_room : (z : Profile) (c : List Bound) (one : Option Activation) (s : State) → RoomIf z c one → Bounded z c s
     → Bounded z c (with_ob_begun one s)

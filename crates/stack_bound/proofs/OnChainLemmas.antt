@@ -24,7 +24,7 @@ use Rattle.stack_bound.specs.declared.measures.Measure.{Measure}
 use Rattle.stack_bound.specs.declared.measures.Measure.TheVariants.{Depth, Bytes}
 use Rattle.stack_bound.proofs.BlockLemmas.{same_is}
 use Rattle.stack_bound.proofs.MarkLemmas.{mark_len}
-use Rattle.stack_bound.proofs.RankLemmas.{IsIn, called_most, layer_has, layer_lacks, loaded_in, settled}
+use Rattle.stack_bound.proofs.RankLemmas.{IsIn, called_most, layer_has, layer_lacks, loaded_in, layer_counts_block}
 
 -- ---- organization blocks above the limits
 
@@ -184,7 +184,7 @@ pub counts_down : (profile : Profile) (p : Program) (m : Measure) (x called : Bl
 counts_down profile p m x called b there calls few =
     counts_in (measure_in_layer m (highest profile p) (Some x)) (measure_of_block m b)
     (most_called m (highest profile p) b.code) (measure_in_layer m (highest profile p) (Some called))
-    (settled m p (suc (most_frames profile)) x b there
+    (layer_counts_block m p (suc (most_frames profile)) x b there
     (below_top (measure_in_layer Depth (highest profile p) (Some x)) (most_frames profile) few))
     (called_most m (highest profile p) b.code called calls)
 

@@ -244,10 +244,10 @@ stays p (suc k) m (Some block) less = by (block_by_id block p.code_blocks) refl 
         ∙ sym (above m p (layer_of_height k p) block b is)
 
 -- so a layer counts each block as itself and what it calls, where its depth is below the layer's number
-pub settled : (m : Measure) (p : Program) (k : ℕ) (block : BlockId) (b : CodeBlock)
+pub layer_counts_block : (m : Measure) (p : Program) (k : ℕ) (block : BlockId) (b : CodeBlock)
     → block_by_id block p.code_blocks ≡ Some b → measure_in_layer Depth (layer_of_height k p) (Some block) < k
     → measure_in_layer m (layer_of_height k p) (Some block) ≡ measure_of_block m b + most_called m (layer_of_height k p) b.code
-settled m p k block b is less =
+layer_counts_block m p k block b is less =
     sym (stays p k m (Some block) less) ∙ above m p (layer_of_height k p) block b is
 
 -- ---- what is called
