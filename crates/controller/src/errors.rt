@@ -61,7 +61,8 @@ impl Cpu {
     /// the controller stops.
     #[tactic(auto, unfolding(crate::specs::Errors::error_raised), using(crate::proofs::StandingLemmas::room_for_error, crate::proofs::StandingLemmas::error_stands))]
     pub(crate) fn fail(&mut self, program: &Loaded, position: &At, code: u8)
-        requires there { HasStatement (code_of program.now.program) position.now.block position.now.at }
+        requires there { HasStatement (code_of program.now.program)
+            position.now.block position.now.at }
         requires stack { IsActivationStack self.old.mode self.old.activations }
         ensures state { cpu_state self.new
             ≡ error_handled (code_of program.now.program) code position.now self.old.activations

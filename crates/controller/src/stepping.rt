@@ -52,7 +52,8 @@ impl Cpu {
         inputs: &Inputs,
         to: Option<Binding>,
     ) -> Regs
-        requires there { HasStatement (code_of program.now.program) position.now.block position.now.at }
+        requires there { HasStatement (code_of program.now.program)
+            position.now.block position.now.at }
         requires stack { IsActivationStack self.old.mode self.old.activations }
         ensures state { cpu_state self.new
             ≡ call_finished (code_of program.now.program) number inputs.now to position.now
@@ -75,7 +76,8 @@ impl Cpu {
     // all of it.
     #[tactic(auto, unfolding(crate::specs::Leaves::statement_finished))]
     fn finish(&mut self, program: &Loaded, position: &At, outcome: Outcome) -> Regs
-        requires there { HasStatement (code_of program.now.program) position.now.block position.now.at }
+        requires there { HasStatement (code_of program.now.program)
+            position.now.block position.now.at }
         requires stack { IsActivationStack (mode_after self.old.mode position.now.ob outcome)
             self.old.activations }
         ensures state { cpu_state self.new

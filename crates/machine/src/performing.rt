@@ -108,7 +108,8 @@ fn jump_to(operation: JumpOperation, target: u32, next: u32, a: &mut Activation)
 #[inline(never)]
 fn jump(code: &LoadedCode<'_>, operation: JumpOperation, target: u32, next: u32, a: &mut Activation)
     ensures { (c : Code) (w : GlobalStore) (other : OutcomeOf) →
-        IsInstructionOutcome (instruction_step c (jump_by_operation operation target next code.now.code)
+        IsInstructionOutcome (instruction_step c
+        (jump_by_operation operation target next code.now.code)
         next a.old w) next
         a.old a.new w w true other }
 {
@@ -184,7 +185,8 @@ fn call_block(
     requires depth { length a.old.running.locals.starts ≡ length (frames_of a.old) }
     requires params { length called.now.params ≤ 60 }
     ensures { (t : List Timer) (n : List Counter) →
-        IsInstructionOutcome (call_step (call_with_bindings (Ok bindings.now) called.now next a.old m.old)
+        IsInstructionOutcome (call_step
+        (call_with_bindings (Ok bindings.now) called.now next a.old m.old)
         next a.old (global_store m.old t n))
         next a.old a.new (global_store m.old t n) (global_store m.new t n) result other.new }
 {
@@ -213,7 +215,8 @@ fn call_with(
     requires depth { length a.old.running.locals.starts ≡ length (frames_of a.old) }
     requires params { length called.now.params ≤ 60 }
     ensures { (t : List Timer) (n : List Counter) →
-        IsInstructionOutcome (call_step (call_of called.now (passings_at code.now.code at) next a.old m.old)
+        IsInstructionOutcome (call_step
+        (call_of called.now (passings_at code.now.code at) next a.old m.old)
         next a.old (global_store m.old t n))
         next a.old a.new (global_store m.old t n) (global_store m.new t n) result other.new }
 {
@@ -241,7 +244,8 @@ fn call_loaded(
 ) -> bool
     requires depth { length a.old.running.locals.starts ≡ length (frames_of a.old) }
     ensures { (t : List Timer) (n : List Counter) →
-        IsInstructionOutcome (call_step (call_of (called_block block instance (block_head_of callee.now))
+        IsInstructionOutcome (call_step
+        (call_of (called_block block instance (block_head_of callee.now))
         (passings_at code.now.code at) next a.old m.old) next a.old (global_store m.old t n))
         next a.old a.new (global_store m.old t n) (global_store m.new t n) result other.new }
 {
@@ -321,7 +325,8 @@ fn call_system_with(
     requires few { length params.now ≤ 4 }
     requires inputs { count_inputs params.now ≤ 3 }
     ensures { (w : GlobalStore) →
-        IsInstructionOutcome (after_system_call (system_call params.now (passings_at code.now.code at)
+        IsInstructionOutcome (after_system_call
+        (system_call params.now (passings_at code.now.code at)
         (local_of a.old.running) m.now) number next a.old) next a.old a.new w w false other.new }
 {
     match bind_all(code, at, params, &a.running, m, spare) {
@@ -378,7 +383,8 @@ fn call_any(
 ) -> bool
     requires depth { length a.old.running.locals.starts ≡ length (frames_of a.old) }
     ensures { (t : List Timer) (n : List Counter) →
-        IsInstructionOutcome (call_made (code_of c.now.program) block instance (passings_at code.now.code at)
+        IsInstructionOutcome (call_made (code_of c.now.program) block instance
+        (passings_at code.now.code at)
         next a.old (global_store m.old t n))
         next a.old a.new (global_store m.old t n) (global_store m.new t n) result other.new }
 {
@@ -430,7 +436,8 @@ fn end_loaded(
 ) -> bool
     requires stands { a.old.ended ≡ false }
     ensures { (next : ℕ) (t : List Timer) (n : List Counter) →
-        IsInstructionOutcome (return_made (Some (block_head_of code.now)) a.old (global_store m.old t n))
+        IsInstructionOutcome (return_made (Some (block_head_of code.now)) a.old
+        (global_store m.old t n))
         next
         a.old a.new (global_store m.old t n) (global_store m.new t n) result other.new }
 {
@@ -446,7 +453,8 @@ fn end_loaded(
 fn end_any(c: &Loaded, a: &mut Activation, m: &mut Memory, other: &mut Outcome) -> bool
     requires stands { a.old.ended ≡ false }
     ensures { (next : ℕ) (t : List Timer) (n : List Counter) →
-        IsInstructionOutcome (return_made ((code_of c.now.program).head a.old.running.frame.block) a.old
+        IsInstructionOutcome (return_made
+        ((code_of c.now.program).head a.old.running.frame.block) a.old
         (global_store m.old t n))
         next a.old a.new (global_store m.old t n) (global_store m.new t n) result other.new }
 {
@@ -579,7 +587,8 @@ pub(crate) fn perform(
 ) -> bool
     requires stands { a.old.ended ≡ false }
     requires depth { length a.old.running.locals.starts ≡ length (frames_of a.old) }
-    ensures { IsInstructionOutcome (instruction_step (code_of c.now.program) f.now.instr f.now.next a.old
+    ensures { IsInstructionOutcome (instruction_step (code_of c.now.program)
+        f.now.instr f.now.next a.old
         (global_store m.old t.old n.old)) f.now.next a.old a.new (global_store m.old t.old n.old)
         (global_store m.new t.new n.new) result other.new }
 {
@@ -616,7 +625,8 @@ pub(crate) fn perform_apart(
 ) -> bool
     requires stands { a.old.ended ≡ false }
     requires depth { length a.old.running.locals.starts ≡ length (frames_of a.old) }
-    ensures { IsInstructionOutcome (instruction_step (code_of c.now.program) f.now.instr f.now.next a.old
+    ensures { IsInstructionOutcome (instruction_step (code_of c.now.program)
+        f.now.instr f.now.next a.old
         (global_store m.old t.old n.old)) f.now.next a.old a.new (global_store m.old t.old n.old)
         (global_store m.new t.new n.new) result other.new }
 {
