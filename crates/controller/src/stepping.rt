@@ -14,15 +14,13 @@ use crate::activations::At;
 use crate::cpus::Cpu;
 use crate::monitoring::statement_record;
 use crate::spots::spot_at;
+use crate::starting::STARTUP_OB;
 use frames::Binding;
 use image_file::Loaded;
 use machine::{Inputs, Outcome};
 use monitor::MonRecord;
 use plc_base::Mode;
 use status_word::Regs;
-
-/// The startup.
-const STARTUP_OB: u16 = 100;
 
 impl Cpu {
     /// RUN begins.

@@ -17,6 +17,7 @@ use Rattle.timers_counters.specs.declared.faults.TimerFault.TheVariants.{NoNumbe
 use Rattle.frames.specs.declared.relay.Relay.{Relay}
 use Rattle.frames.specs.declared.bindings.Binding.{Binding}
 use Rattle.frames.specs.declared.bindings.Binding.TheVariants as binding
+use Rattle.flat_code.specs.Kinds.{counter_kind, timer_kind}
 use Rattle.flat_code.specs.declared.operands.Operand.{Operand}
 use Rattle.flat_code.specs.declared.operands.Operand.TheVariants as operand
 use Rattle.flat_code.specs.declared.table.OperandForms.{OperandForms}
@@ -285,8 +286,8 @@ bcd_loaded_known (operand.NumberedBy kind from byte) s m t n has =
     then_known (pointer_number from byte widths.Word s m) (λ number. bcd_of_numbered kind number t n) (pointer_known from byte widths.Word s m) (λ number. bcd_known kind number t n)
 bcd_loaded_known _ s m t n has = absurd has
 
-pub kind_none : (kind : ℕ) (t : OperandForms) → takes_timer t ≡ false → takes_counter t ≡ false → (kind == 1 && takes_timer t || kind == 2 && takes_counter t) ≡ true → ⊥
-kind_none kind t a b h = none (kind == 1) (kind == 2) (rw (a, b) at h)
+pub kind_none : (kind : ℕ) (t : OperandForms) → takes_timer t ≡ false → takes_counter t ≡ false → (kind == timer_kind && takes_timer t || kind == counter_kind && takes_counter t) ≡ true → ⊥
+kind_none kind t a b h = none (kind == timer_kind) (kind == counter_kind) (rw (a, b) at h)
   where
     none : (x y : Bool) → (x && false || y && false) ≡ true → ⊥
     none true true e = cc

@@ -18,6 +18,7 @@ use Rattle.frames.specs.FrameData.{FrameData}
 use Rattle.frames.specs.Relay.{outer_zones, zone_opened, zone_ended}
 use Rattle.frames.specs.declared.relay.Relay.{Relay}
 use Rattle.frames.specs.Locals.{LocalData, local_written, local_operand_start}
+use Rattle.flat_code.specs.Kinds.{db_register_number}
 use Rattle.flat_code.specs.Placed.{is_empty_list, most_zones}
 use Rattle.flat_code.specs.declared.operands.Operand.{Operand}
 use Rattle.flat_code.specs.declared.operands.Operand.TheVariants as operand
@@ -414,7 +415,7 @@ opened_at w number p false quiet loaded = record {
 opened_keeps :
     (w : Operation) (register number : ℕ) (p : ExecState) (loaded : Bool) → Quiet w → is_block_loaded number p.memory ≡ loaded
     → IfDone (Keeps w p) (on_local p (opened_if loaded register number p.local))
-opened_keeps w register number p true quiet is = opened_at w number p (register == 1) quiet is
+opened_keeps w register number p true quiet is = opened_at w number p (register == db_register_number) quiet is
 opened_keeps w register number p false quiet is = tt
 
 by_pointer_keeps :

@@ -28,7 +28,7 @@ use Rattle.frames.specs.declared.frame.Frame.{Frame}
 use Rattle.flat_code.specs.declared.programs.Param.{Param}
 use Rattle.flat_code.specs.Instr.{Passing}
 use Rattle.flat_code.specs.Programs.{CodeBlock, Program}
-use Rattle.flat_code.specs.Records.{section_out}
+use Rattle.flat_code.specs.Records.{section_out, section_in}
 use Rattle.image_file.specs.Readers.{block_by_id}
 use Rattle.machine.specs.declared.places.Location.{Location}
 use Rattle.machine.specs.Bindings.{param_bindings}
@@ -169,7 +169,7 @@ inputs_fit :
     → FitWidths (input_widths ps) (inputs_from ps i bs s m)
 inputs_fit [] frames m bs i s each = tt
 inputs_fit (p ∷ ps) frames m bs i s each =
-    by (eqb p.section 1)
+    by (eqb p.section section_in)
     (inputs_fit ps frames m bs (i + 1) s (λ j q found.
     let one = each (suc j) q found in
     let at : i + 1 + j ≡ i + suc j = omega arith in

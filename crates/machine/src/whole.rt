@@ -14,7 +14,7 @@ use crate::relay::relay;
 use crate::timing::{
     count_down, count_up, free_counter, free_timer, reset_counter, reset_timer, set_counter, start,
 };
-use flat_code::{Operand, Operation};
+use flat_code::{Operand, Operation, TIMER_KIND};
 use frames::Running;
 use plc_base::error_codes;
 use plc_mem::Memory;
@@ -67,7 +67,7 @@ fn reset(
 {
     match kind_named(operand) {
         None => set_bit(false, operand, s, m),
-        Some(1) => reset_timer(operand, s, m, t),
+        Some(TIMER_KIND) => reset_timer(operand, s, m, t),
         Some(_) => reset_counter(operand, s, m, n),
     }
 }
@@ -88,7 +88,7 @@ fn free(
 {
     match kind_named(operand) {
         None => Err(0),
-        Some(1) => free_timer(operand, s, m, t),
+        Some(TIMER_KIND) => free_timer(operand, s, m, t),
         Some(_) => free_counter(operand, s, m, n),
     }
 }
