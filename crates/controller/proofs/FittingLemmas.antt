@@ -29,7 +29,7 @@ use Rattle.machine.specs.Lasting.{FitsProgram, GoesOnFitting, IsStatementReady a
 use Rattle.machine.specs.Statement.{GlobalStore, StatementStep, Went, Ended, SyncError, SysCall, Stop as Stops, Stuck, statement_step}
 use Rattle.machine.proofs.Sizes.{same_sizes, sizes_then, same_parts}
 use Rattle.ob_sched.specs.TickState.{TickState, ob_requested}
-use Rattle.ob_sched.specs.Millisecond.{tick_begun as course_begun, after_tick}
+use Rattle.ob_sched.specs.Millisecond.{tick_begun, after_tick}
 use Rattle.ob_sched.specs.OrganizationBlock.{priority_class_in, is_delay}
 use Rattle.ob_sched.specs.StartRequest.{best_of}
 use Rattle.ob_sched.specs.Scheduler.{Scheduler, best_removed, delay_of, delay_started, delay_cancelled, cycle_retriggered}
@@ -507,9 +507,9 @@ stopped_fits : (l : MachineLaws) (p : Program) (cause : Option ℕ) (s : State) 
 stopped_fits l p None s fit = fit
 stopped_fits l p (Some cause) s fit = halted_fits l p cause s fit
 
-course_fits : (l : MachineLaws) (p : Program) (c : TickState) (s : State) → HasWholeSchedule c.sched → IsFit p s
+tick_state_fits : (l : MachineLaws) (p : Program) (c : TickState) (s : State) → HasWholeSchedule c.sched → IsFit p s
     → IsFit p (tick_state_taken (code_of p) c s)
-course_fits l p c s is fit =
+tick_state_fits l p c s is fit =
     stopped_fits l p c.passed.stop
     (each_diagnosed c.passed.records.items (record s { sched = c.sched }))
     (each_fit p c.passed.records.items (record s { sched = c.sched })
@@ -520,17 +520,17 @@ arrived_fits : (l : MachineLaws) (p : Program) (ob value : ℕ) (s : State)
 unfolding arrival_served
 arrived_fits l p ob value s known fit =
     unless_stop p s _ fit
-    (λ running. course_fits l p
-    (ob_requested s.mode ob (start_info (Arrival ob value) (priority_class_in s.mode ob)) (course_begun s.sched))
+    (λ running. tick_state_fits l p
+    (ob_requested s.mode ob (start_info (Arrival ob value) (priority_class_in s.mode ob)) (tick_begun s.sched))
     s
     (requested_known s.mode ob (start_info (Arrival ob value) (priority_class_in s.mode ob))
-    (course_begun s.sched) (arrival_waits ob known) fit.sched)
+    (tick_begun s.sched) (arrival_waits ob known) fit.sched)
     fit)
 
 tick_fits : (l : MachineLaws) (p : Program) (c : TickState) (s : State) → HasWholeSchedule c.sched → IsFit p s
     → IsFit p (tick_taken (code_of p) c s)
 tick_fits l p c s is fit =
-    course_fits l p c (record s { store = timers_moved c.passed.ms s.store }) is
+    tick_state_fits l p c (record s { store = timers_moved c.passed.ms s.store }) is
     (moved_memory l p s (timers_moved c.passed.ms s.store) (same_sizes s.store.memory) fit)
 
 time_fits : (l : MachineLaws) (p : Program) (ms : ℕ) (s : State) → IsFit p s

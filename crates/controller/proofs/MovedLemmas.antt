@@ -19,7 +19,7 @@ use Rattle.monitor.specs.declared.MonRecord.{MonRecord}
 use Rattle.ob_sched.specs.TickState.{TickState, ob_requested}
 use Rattle.ob_sched.specs.Scheduler.{Scheduler, cycle_retriggered, delay_of, delay_started, delay_cancelled}
 use Rattle.ob_sched.specs.StartInformation.{ob_of_error, start_info}
-use Rattle.ob_sched.specs.Millisecond.{after_tick, tick_begun as course_begun}
+use Rattle.ob_sched.specs.Millisecond.{after_tick, tick_begun}
 use Rattle.ob_sched.specs.OrganizationBlock.{priority_class_in, is_delay}
 use Rattle.ob_sched.specs.StartRequest.{best_of}
 use Rattle.ob_sched.specs.declared.requests.Pending.{Pending}
@@ -142,12 +142,12 @@ stopped_moves :
 stopped_moves f c d None s follows = refl
 stopped_moves f c d (Some cause) s follows = halted_moves f c d cause s follows
 
-course_moves :
-    (f : Positions) (c d : Code) (course : TickState) (s : State) → FollowsCode f c d
-    → tick_state_taken d course (moved_state f s) ≡ moved_state f (tick_state_taken c course s)
-course_moves f c d course s follows =
-    ap (stopped_if d course.passed.stop) (diagnosed_moves f course.passed.records.items (record s { sched = course.sched }))
-    ∙ stopped_moves f c d course.passed.stop (each_diagnosed course.passed.records.items (record s { sched = course.sched })) follows
+tick_state_moves :
+    (f : Positions) (c d : Code) (tick : TickState) (s : State) → FollowsCode f c d
+    → tick_state_taken d tick (moved_state f s) ≡ moved_state f (tick_state_taken c tick s)
+tick_state_moves f c d tick s follows =
+    ap (stopped_if d tick.passed.stop) (diagnosed_moves f tick.passed.records.items (record s { sched = tick.sched }))
+    ∙ stopped_moves f c d tick.passed.stop (each_diagnosed tick.passed.records.items (record s { sched = tick.sched })) follows
 
 -- ---- system functions
 
@@ -344,10 +344,10 @@ stepped_moves f c d s statements follows = stepped_on_moves f c d s.activations 
 arrived_moves :
     (f : Positions) (c d : Code) (ob value : ℕ) (s : State) → FollowsCode f c d → arrival_served d ob value (moved_state f s) ≡ moved_state f (arrival_served c ob value s)
 unfolding arrival_served
-arrived_moves f c d ob value s follows = either (moved_state f) (is_stop s.mode) s _ (tick_state_taken c (arrival_of s ob value) s) _ refl (course_moves f c d (arrival_of s ob value) s follows)
+arrived_moves f c d ob value s follows = either (moved_state f) (is_stop s.mode) s _ (tick_state_taken c (arrival_of s ob value) s) _ refl (tick_state_moves f c d (arrival_of s ob value) s follows)
   where
     arrival_of : State → (ob value : ℕ) → TickState
-    arrival_of s ob value = ob_requested s.mode ob (start_info (Arrival ob value) (priority_class_in s.mode ob)) (course_begun s.sched)
+    arrival_of s ob value = ob_requested s.mode ob (start_info (Arrival ob value) (priority_class_in s.mode ob)) (tick_begun s.sched)
 
 active_same : (f : Positions) (activations : List Activation) → active_obs (map (moved_activation f) activations) ≡ active_obs activations
 active_same f activations =
@@ -372,7 +372,7 @@ time_passes_moves :
 unfolding time_passed
 time_passes_moves f c d ms s follows =
     ap (λ (obs : List ℕ). tick_taken d (after_tick s.mode obs ms s.sched) (moved_state f s)) (active_same f s.activations)
-    ∙ course_moves f c d (after_tick s.mode (active_obs s.activations) ms s.sched)
+    ∙ tick_state_moves f c d (after_tick s.mode (active_obs s.activations) ms s.sched)
     (record s { store = timers_moved (after_tick s.mode (active_obs s.activations) ms s.sched).passed.ms s.store }) follows
 
 may_start_same : (f : Positions) (class : ℕ) (activations : List Activation) → may_start class (map (moved_activation f) activations) ≡ may_start class activations

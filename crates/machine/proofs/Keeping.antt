@@ -214,7 +214,7 @@ pub record Keeps (w : Operation) (p q : ExecState) : Type 0 where
   pub di : IsOpen p.local.inner.db p.memory → IsOpen p.local.inner.di p.memory → IsOpen q.local.inner.di q.memory
   pub held : open_in_frame q.local.inner.brackets q.local.inner.relay ≡ open_after_operation w (open_in_frame p.local.inner.brackets p.local.inner.relay)
 
--- after it the same is open as before
+-- an operation opens and closes no bracket and no zone
 abbrev pub Quiet : Operation → Type 0
 Quiet w = (held : OpenAt) → open_after_operation w held ≡ held
 

@@ -186,7 +186,7 @@ pub none_before : (before : List OpData) → is_empty_list before ≡ true → b
 none_before [] e = refl
 none_before (op ∷ before) e = absurd cc
 
--- its ops
+-- a statement of a block at an offset: where it begins, its source line and its run of ops
 pub record Statement (p : Program) (block : BlockId) (at : ℕ) (held : OpenAt) : Type 0 where
   pub statement_start : StatementStart p block at held
   pub line : ℕ

@@ -9,7 +9,7 @@ ghost use Rattle.timers_counters.specs.Counter.{Counter};
 ghost use Rattle.frames.specs.Activations.{frames_of};
 ghost use Rattle.flat_code.specs.Instr.{Calls, Returns};
 ghost use Rattle.machine.specs.Code.{Code};
-ghost use Rattle.machine.specs.Effect.{statement_effect as does_with_of};
+ghost use Rattle.machine.specs.Effect.{statement_effect as statement_effect_of};
 ghost use Rattle.machine.specs.Entering.{block_call as call_of, call_with_bindings, activation_continued_at};
 ghost use Rattle.machine.specs.Flat.{code_of, jump_by_operation, is_jl as is_jl_of, instance_named as instance_named_of, instr_of, block_head_of};
 ghost use Rattle.machine.specs.Jumps.{regs_after_jump, jump_goal as goes_to_of, is_jump_taken as is_taken_of, rlo_tested};
@@ -51,7 +51,7 @@ fn perform_plain(
     n: &mut Counters,
     other: &mut Outcome,
 ) -> bool
-    ensures { IsInstructionOutcome (continue_with (does_with_of opens operation operand.now
+    ensures { IsInstructionOutcome (continue_with (statement_effect_of opens operation operand.now
         (exec_state_of a.old.running m.old t.old n.old)) next a.old) next a.old a.new
         (global_store m.old t.old n.old) (global_store m.new t.new n.new) result other.new }
 {
@@ -80,7 +80,7 @@ fn perform_other(
     n: &mut Counters,
     other: &mut Outcome,
 ) -> bool
-    ensures { IsInstructionOutcome (continue_with (does_with_of opens operation operand.now
+    ensures { IsInstructionOutcome (continue_with (statement_effect_of opens operation operand.now
         (exec_state_of a.old.running m.old t.old n.old)) next a.old) next a.old a.new
         (global_store m.old t.old n.old) (global_store m.new t.new n.new) result other.new }
 {

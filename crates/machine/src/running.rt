@@ -150,7 +150,7 @@ fn inside(silent: bool) -> Silent
 
 #[inline(always)]
 fn across(silent: bool) -> Silent
-    ensures passed { shows_nothing result ≡ silent }
+    ensures silent { shows_nothing result ≡ silent }
     ensures across { is_still_inside result ≡ false }
 {
     if silent { Silent::Across } else { Silent::Not }

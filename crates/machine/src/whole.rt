@@ -2,7 +2,7 @@
 ghost use Rattle.std.specs.Prelude.{◌≡◌};
 ghost use Rattle.machine.specs.ExecState.{exec_state_of};
 ghost use Rattle.machine.specs.Outcomes.{ChangesExecState};
-ghost use Rattle.machine.specs.Effect.{operation_effect as does_of, statement_effect as does_with_of, kind_of_numbered_operand as kind_named_of, set_effect, reset_effect, enable_effect, with_db_opened};
+ghost use Rattle.machine.specs.Effect.{operation_effect as operation_effect_of, statement_effect as statement_effect_of, kind_of_numbered_operand as kind_named_of, set_effect, reset_effect, enable_effect, with_db_opened};
 
 use crate::bit_logic::{assign, check, edge, set_bit};
 use crate::data_blocks::{exchange, is_loaded, load_open_block, open};
@@ -104,7 +104,7 @@ pub(crate) fn effect(
     t: &mut Timers,
     n: &mut Counters,
 ) -> Result<(), u8>
-    ensures { ChangesExecState (does_of operation operand.now
+    ensures { ChangesExecState (operation_effect_of operation operand.now
         (exec_state_of s.old m.old t.old n.old))
         s.old s.new m.old m.new t.old t.new n.old n.new result }
 {
@@ -201,7 +201,7 @@ fn effect_opened(
     t: &mut Timers,
     n: &mut Counters,
 ) -> Result<(), u8>
-    ensures { ChangesExecState (does_of operation operand.now
+    ensures { ChangesExecState (operation_effect_of operation operand.now
         (with_db_opened number (exec_state_of s.old m.old t.old n.old)))
         s.old s.new m.old m.new t.old t.new n.old n.new result }
 {
@@ -228,7 +228,7 @@ pub(crate) fn effect_with(
     t: &mut Timers,
     n: &mut Counters,
 ) -> Result<(), u8>
-    ensures { ChangesExecState (does_with_of opens operation operand.now
+    ensures { ChangesExecState (statement_effect_of opens operation operand.now
         (exec_state_of s.old m.old t.old n.old))
         s.old s.new m.old m.new t.old t.new n.old n.new result }
 {

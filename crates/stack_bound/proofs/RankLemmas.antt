@@ -84,7 +84,7 @@ bounds_have p layer (id ∷ ids) block b is there =
     by false apart among next =
         skip (block_by_id id p.code_blocks) apart ∙ next (not_here false apart refl among)
 
--- and of a block that isn't loaded none
+-- the bounds above a layer have none of a block that isn't loaded
 bounds_lack : (p : Program) (layer : List Bound) (ids : List BlockId) (block : BlockId)
     → block_by_id block p.code_blocks ≡ None → bound_of block (bounds_above p layer ids) ≡ None
 bounds_lack p layer [] block is = refl
