@@ -19,7 +19,7 @@ use Rattle.machine.specs.ExecState.{Local, then_ok}
 use Rattle.machine.specs.Bindings.{bound_params, binding_for_param}
 use Rattle.machine.specs.Flat.{OpRun, op_run_at, run_with, with_op, most_ops_of_statement, passings_of, use_db_of, with_passing, fetched_of, statement_fetched, instr_of}
 use Rattle.machine.specs.Statement.{GlobalStore, step_found, instruction_step, IsNotStuck}
-use Rattle.machine.specs.Walking.{StatementWalk, walk_with, bindings_by_ops, binding_by, bindings_after_op, passings_up_to, passings_with, fetched_at}
+use Rattle.machine.specs.Walking.{StatementWalk, walk_with, bindings_by_ops, binding_by, bindings_after_op, passings_up_to, passings_with, statement_of_walk}
 
 -- a pass over the bindings that fails or goes on
 then_same :
@@ -147,7 +147,7 @@ run_passes (suc most) ops at r h =
 with_line :
     (b : CodeBlock) (at : ℕ) (line : Option ℕ) (found : Option OpRun) (walk : StatementWalk) → op_run_at most_ops_of_statement b.code at ≡ found
     → line_placed 0 true b.code b.lines at ≡ line → is_some line ≡ true → Some walk ≡ option_map (walk_with None) found
-    → option_and_then (λ line. option_map (fetched_of b.code line) found) line ≡ Some (fetched_at b at walk)
+    → option_and_then (λ line. option_map (fetched_of b.code line) found) line ≡ Some (statement_of_walk b at walk)
 with_line b at None found walk is placed there h = cc
 with_line b at (Some line) None walk is placed there h = absurd (none_some walk h)
 with_line b at (Some line) (Some r) walk is placed there h =
@@ -161,7 +161,7 @@ with_line b at (Some line) (Some r) walk is placed there h =
 pub found_at :
     (b : CodeBlock) (at : ℕ) (walk there : StatementWalk) → there ≡ walk → is_some (line_placed 0 true b.code b.lines at) ≡ true
     → Some walk ≡ option_map (walk_with None) (op_run_at most_ops_of_statement b.code at)
-    → statement_fetched b at ≡ Some (fetched_at b at there)
+    → statement_fetched b at ≡ Some (statement_of_walk b at there)
 unfolding statement_fetched
 found_at b at walk there same line h =
     rw same
@@ -188,7 +188,7 @@ no_walk (Some r) h some = none_some (walk_with None r) (sym h)
 pub found_there :
     (b : CodeBlock) (at : ℕ) (walk there : StatementWalk) → there ≡ walk → is_some (statement_fetched b at) ≡ true
     → Some walk ≡ option_map (walk_with None) (op_run_at most_ops_of_statement b.code at)
-    → statement_fetched b at ≡ Some (fetched_at b at there)
+    → statement_fetched b at ≡ Some (statement_of_walk b at there)
 unfolding statement_fetched
 found_there b at walk there same is h =
     found_at b at walk there same
@@ -211,7 +211,7 @@ goes_there c (Some f) a w there = refl
 pub found_is :
     (b : CodeBlock) (at : ℕ) (walk there : StatementWalk) (c : Code) (a : Activation) (w : GlobalStore) → there ≡ walk
     → Some walk ≡ option_map (walk_with None) (op_run_at most_ops_of_statement b.code at) → IsNotStuck (step_found c (statement_fetched b at) a w)
-    → step_found c (statement_fetched b at) a w ≡ instruction_step c (fetched_at b at there).instr (fetched_at b at there).next a w
+    → step_found c (statement_fetched b at) a w ≡ instruction_step c (statement_of_walk b at there).instr (statement_of_walk b at there).next a w
 found_is b at walk there c a w same h goes =
     ap (λ (f : Option Fetched). step_found c f a w)
     (found_there b at walk there same (goes_there c (statement_fetched b at) a w goes) h)

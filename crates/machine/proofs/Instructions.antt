@@ -55,7 +55,7 @@ use Rattle.machine.specs.DataBlocks.{is_block_loaded}
 use Rattle.machine.specs.Effect.{on_local, operation_effect, with_db_opened, statement_effect}
 use Rattle.machine.specs.Entering.{activation_continued_at}
 use Rattle.machine.specs.Fitting.{HasInstance, IsBound, IsMemoryOf, OpenAt, codes_of}
-use Rattle.machine.specs.Flat.{call_by_number, code_of, block_head_of, instance_named, instr_of, is_jl, jump_by_operation, list_of, listed_with, most_listed, passings_of, use_db_of, use_db_first}
+use Rattle.machine.specs.Flat.{call_by_number, code_of, block_head_of, instance_named, instr_of, is_jl, jump_by_operation, list_of, list_with, most_listed, passings_of, use_db_of, use_db_first}
 use Rattle.machine.specs.Jumps.{regs_after_jump, jump_goal, is_jump_taken, list_goal, rlo_tested}
 use Rattle.machine.specs.ImageLaws.{ImageLaws}
 use Rattle.machine.specs.Lasting.{FitsProgram, StepFitsAgain}
@@ -293,7 +293,7 @@ unfolding list_of
 list_start l p block b held target zero at rest leading s = tt
 list_start l p block b held target (suc most) at [] leading s = by (eqb at target) leading
   where
-    by : (t : Bool) → t ≡ true → AreStatementStarts p block held (cond t [] (listed_with (op_placed 0 b.code at) at (λ next. list_of most b.code target next)))
+    by : (t : Bool) → t ≡ true → AreStatementStarts p block held (cond t [] (list_with (op_placed 0 b.code at) at (λ next. list_of most b.code target next)))
     by true e = tt
     by false e = absurd cc
 list_start l p block b held target (suc most) at (op ∷ ops) leading s =
@@ -301,7 +301,7 @@ list_start l p block b held target (suc most) at (op ∷ ops) leading s =
   where
     by : (t : Bool) → (t || (is_ju_operand op.operand && leads_to_target most target (at + size_of_op op) ops)) ≡ true
         → (AtRest p block b held (at + size_of_op op) ops → leads_to_target most target (at + size_of_op op) ops ≡ true → AreStatementStarts p block held (list_of most b.code target (at + size_of_op op)))
-        → AreStatementStarts p block held (cond t [] (listed_with (op_placed 0 b.code at) at (λ next. list_of most b.code target next)))
+        → AreStatementStarts p block held (cond t [] (list_with (op_placed 0 b.code at) at (λ next. list_of most b.code target next)))
     by true e more = tt
     by false e more =
         let parts = and_parts (is_ju_operand op.operand) (leads_to_target most target (at + size_of_op op) ops) e in

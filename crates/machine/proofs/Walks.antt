@@ -10,7 +10,7 @@ use Rattle.flat_code.specs.declared.operands.Operand.{Operand}
 use Rattle.flat_code.specs.declared.operands.Operand.TheVariants as operand
 use Rattle.flat_code.specs.declared.programs.Param.{Param}
 use Rattle.machine.specs.ExecState.{Local, then_ok}
-use Rattle.machine.specs.Flat.{OpRun, op_run_at, run_with, use_db_of, use_db_first, list_of, listed_with, with_op}
+use Rattle.machine.specs.Flat.{OpRun, op_run_at, run_with, use_db_of, use_db_first, list_of, list_with, with_op}
 use Rattle.machine.specs.Walking.{StatementWalk, walk_by, walk_with, first_present, opens_after, list_jump, bindings_by_ops, binding_by, bindings_after_op}
 
 -- what is behind a count of which some are done
@@ -228,7 +228,7 @@ bound_fails k ops at next op params bindings s m code less h more b =
 list_step :
     (most : ℕ) (ops : List OpData) (target at : ℕ)
     → list_of (suc most) ops target at
-    ≡ (if at == target then [] else listed_with (op_placed 0 ops at) at (λ next. list_of most ops target next))
+    ≡ (if at == target then [] else list_with (op_placed 0 ops at) at (λ next. list_of most ops target next))
 unfolding list_of
 list_step most ops target at = refl
 

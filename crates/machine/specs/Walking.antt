@@ -102,8 +102,8 @@ abbrev pub passings_at : List OpData → ℕ → List Passing
 passings_at ops at = passings_up_to most_ops_of_statement ops at
 
 -- the statement at an offset of a block, by what was found along its ops
-abbrev pub fetched_at : CodeBlock → ℕ → StatementWalk → Fetched
-fetched_at b at walk = record {
+abbrev pub statement_of_walk : CodeBlock → ℕ → StatementWalk → Fetched
+statement_of_walk b at walk = record {
   instr =
       instr_of (operation_of walk.last.code) walk.last.operand walk.opens (passings_at b.code at)
       walk.next b.code;
