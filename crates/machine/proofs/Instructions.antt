@@ -70,7 +70,7 @@ use Rattle.machine.proofs.BindingLemmas.{PassingsFit, bound_of}
 use Rattle.machine.proofs.Called.{Caller, own_bound, function_lasts, function_block_lasts, going_fits, head_there}
 use Rattle.machine.proofs.Entered.{AreParams, of_blocks, of_functions, passings_fit, all_among, instance_long}
 use Rattle.machine.proofs.Errors.{IsKnownError, IfKnownError, IsSupplied, IsPlace, ParamHas, is_writing, goes_by_statement, HasRoom, Suits, effect_known, either_known, kind_none, zone_room, zone_there}
-use Rattle.machine.proofs.Keeping.{IfDone, Keeps, Quiet, codes_after, open_after_operation, does_with_keeps}
+use Rattle.machine.proofs.Keeping.{IfDone, Keeps, KeepsOpen, codes_after, open_after_operation, does_with_keeps}
 use Rattle.machine.proofs.Moving.{stands_of, frame_open, activation_follows}
 use Rattle.machine.proofs.Ready.{IsCallable, callable_kind, kind_callable}
 use Rattle.machine.proofs.Returned.{returned_lasts}
@@ -108,7 +108,7 @@ code_goes_on code h is = let e : true ≡ false = rw is at h in cc
 -- behind a statement that ends no block, and opens and closes nothing, the next one stands
 next_same :
     (l : ImageLaws) (p : Program) (a : Activation) (w : GlobalStore) (at : At p a w) (v : Operation)
-    → operation_of at.here.run.last.code ≡ v → is_be v ≡ false → Quiet v
+    → operation_of at.here.run.last.code ≡ v → is_be v ≡ false → KeepsOpen v
     → StatementStart p a.running.frame.block at.here.run.next (frame_open a.running.frame)
 next_same l p a w at v is goes quiet =
     let f = a.running.frame in
@@ -144,7 +144,7 @@ went_fits l p a w at v q is goes kept =
 -- what an error of an instruction says: its code, and that brackets and zones are as they were
 pub record Erring (v : Operation) (code : ℕ) : Type 0 where
   -- the operation opens and closes no bracket and no zone
-  pub quiet : Quiet v
+  pub quiet : KeepsOpen v
   -- the code is one that an error may have
   pub known : IsKnownError code
 
@@ -215,7 +215,7 @@ picked_start p block held (at ∷ rest) zero otherwise all other = all.0
 picked_start p block held (at ∷ rest) (suc i) otherwise all other = picked_start p block held rest i otherwise all.1 other
 
 -- what takes a jump opens and closes nothing, and prepares nothing
-jump_quiet : (v : Operation) → is_jump_form (takes_of_operation v) ≡ true → Quiet v
+jump_quiet : (v : Operation) → is_jump_form (takes_of_operation v) ≡ true → KeepsOpen v
 jump_quiet (operation.Nest with) h held = absurd cc
 jump_quiet operation.Unnest h held = absurd cc
 jump_quiet (operation.Relay which) h held = absurd cc
@@ -837,7 +837,7 @@ with_known (Some number) v o q s =
       room = s.room;
     })) refl
 
-quiet_erring : (v : Operation) (r : Result ExecState ℕ) → Quiet v → IfKnownError r → IfErring v r
+quiet_erring : (v : Operation) (r : Result ExecState ℕ) → KeepsOpen v → IfKnownError r → IfErring v r
 quiet_erring v (Ok q) quiet known = tt
 quiet_erring v (Err code) quiet known = record { quiet = quiet; known = known }
 

@@ -215,10 +215,10 @@ pub record Keeps (w : Operation) (p q : ExecState) : Type 0 where
   pub held : open_in_frame q.local.inner.brackets q.local.inner.relay ≡ open_after_operation w (open_in_frame p.local.inner.brackets p.local.inner.relay)
 
 -- an operation opens and closes no bracket and no zone
-abbrev pub Quiet : Operation → Type 0
-Quiet w = (held : OpenAt) → open_after_operation w held ≡ held
+abbrev pub KeepsOpen : Operation → Type 0
+KeepsOpen w = (held : OpenAt) → open_after_operation w held ≡ held
 
-pub same_keeps : (w : Operation) (p : ExecState) → Quiet w → Keeps w p p
+pub same_keeps : (w : Operation) (p : ExecState) → KeepsOpen w → Keeps w p p
 same_keeps w p quiet = record {
   memory = same_sizes p.memory;
   starts = refl;
@@ -231,7 +231,7 @@ same_keeps w p quiet = record {
 }
 
 -- other registers, timers or counters
-regs_kept : (w : Operation) (p : ExecState) (r : Result Regs ℕ) → Quiet w → IfDone (Keeps w p) (effect_on_regs p r)
+regs_kept : (w : Operation) (p : ExecState) (r : Result Regs ℕ) → KeepsOpen w → IfDone (Keeps w p) (effect_on_regs p r)
 regs_kept w p (Ok r) quiet = record {
   memory = same_sizes p.memory;
   starts = refl;
@@ -244,7 +244,7 @@ regs_kept w p (Ok r) quiet = record {
 }
 regs_kept w p (Err e) quiet = tt
 
-timers_kept : (w : Operation) (p : ExecState) (t : Result (List Timer) ℕ) → Quiet w → IfDone (Keeps w p) (on_timers p t)
+timers_kept : (w : Operation) (p : ExecState) (t : Result (List Timer) ℕ) → KeepsOpen w → IfDone (Keeps w p) (on_timers p t)
 timers_kept w p (Ok t) quiet = record {
   memory = same_sizes p.memory;
   starts = refl;
@@ -258,7 +258,7 @@ timers_kept w p (Ok t) quiet = record {
 timers_kept w p (Err e) quiet = tt
 
 counters_kept :
-    (w : Operation) (p : ExecState) (n : Result (List Counter) ℕ) → Quiet w → IfDone (Keeps w p) (on_counters p n)
+    (w : Operation) (p : ExecState) (n : Result (List Counter) ℕ) → KeepsOpen w → IfDone (Keeps w p) (on_counters p n)
 counters_kept w p (Ok n) quiet = record {
   memory = same_sizes p.memory;
   starts = refl;
@@ -277,7 +277,7 @@ open_after o r m n same sizes is = rw same (open_still o m n sizes is)
 
 -- bytes written
 local_memory_kept :
-    (w : Operation) (p : ExecState) (c : Result LocalMemory ℕ) → Quiet w → IfDone (KeepsLocalMemory p.local p.memory) c
+    (w : Operation) (p : ExecState) (c : Result LocalMemory ℕ) → KeepsOpen w → IfDone (KeepsLocalMemory p.local p.memory) c
     → IfDone (Keeps w p) (on_local_memory p c)
 local_memory_kept w p (Ok c) quiet kept = record {
   memory = kept.memory;
@@ -386,7 +386,7 @@ relayed_keeps relay.Close p = ending_zone_keeps p
 -- ---- data blocks
 
 opened_at :
-    (w : Operation) (number : ℕ) (p : ExecState) (first : Bool) → Quiet w → is_block_loaded number p.memory ≡ true
+    (w : Operation) (number : ℕ) (p : ExecState) (first : Bool) → KeepsOpen w → is_block_loaded number p.memory ≡ true
     → Keeps w p (record p {
       local = if first then record p.local { inner = record p.local.inner { db = Some number } }
           else record p.local { inner = record p.local.inner { di = Some number } };
@@ -413,19 +413,19 @@ opened_at w number p false quiet loaded = record {
 }
 
 opened_keeps :
-    (w : Operation) (register number : ℕ) (p : ExecState) (loaded : Bool) → Quiet w → is_block_loaded number p.memory ≡ loaded
+    (w : Operation) (register number : ℕ) (p : ExecState) (loaded : Bool) → KeepsOpen w → is_block_loaded number p.memory ≡ loaded
     → IfDone (Keeps w p) (on_local p (opened_if loaded register number p.local))
 opened_keeps w register number p true quiet is = opened_at w number p (register == db_register_number) quiet is
 opened_keeps w register number p false quiet is = tt
 
 by_pointer_keeps :
-    (w : Operation) (register : ℕ) (p : ExecState) (found : Result ℕ ℕ) → Quiet w
+    (w : Operation) (register : ℕ) (p : ExecState) (found : Result ℕ ℕ) → KeepsOpen w
     → IfDone (Keeps w p) (on_local p (then_ok found (λ number. opened_if (is_block_loaded number p.memory) register number p.local)))
 by_pointer_keeps w register p (Ok number) quiet = opened_keeps w register number p (is_block_loaded number p.memory) quiet refl
 by_pointer_keeps w register p (Err e) quiet = tt
 
 opening_keeps :
-    (w : Operation) (o : Operand) (p : ExecState) → Quiet w → IfDone (Keeps w p) (on_local p (block_opened_by o p.local p.memory))
+    (w : Operation) (o : Operand) (p : ExecState) → KeepsOpen w → IfDone (Keeps w p) (on_local p (block_opened_by o p.local p.memory))
 unfolding block_opened_by
 opening_keeps w (operand.OpenBlock register number) p quiet =
     opened_keeps w register number p (is_block_loaded number p.memory) quiet refl
@@ -433,7 +433,7 @@ opening_keeps w (operand.OpenBy register from byte) p quiet =
     by_pointer_keeps w register p (pointer_number from byte widths.Word p.local p.memory) quiet
 opening_keeps w _ p quiet = tt
 
-exchanged_keeps : (w : Operation) (p : ExecState) → Quiet w → Keeps w p (record p { local = registers_exchanged p.local })
+exchanged_keeps : (w : Operation) (p : ExecState) → KeepsOpen w → Keeps w p (record p { local = registers_exchanged p.local })
 unfolding registers_exchanged
 exchanged_keeps w p quiet = record {
   memory = same_sizes p.memory;
@@ -449,12 +449,12 @@ exchanged_keeps w p quiet = record {
 -- ---- by kind of operand
 
 set_of_keeps :
-    (w : Operation) (kind : Option ℕ) (o : Operand) (p : ExecState) → Quiet w → IfDone (Keeps w p) (set_effect kind o p)
+    (w : Operation) (kind : Option ℕ) (o : Operand) (p : ExecState) → KeepsOpen w → IfDone (Keeps w p) (set_effect kind o p)
 set_of_keeps w None o p quiet = local_memory_kept w p (bit_set true o p.local p.memory) quiet (set_keeps true o p.local p.memory)
 set_of_keeps w (Some kind) o p quiet = counters_kept w p _ quiet
 
 reset_of_keeps :
-    (w : Operation) (kind : Option ℕ) (o : Operand) (p : ExecState) → Quiet w → IfDone (Keeps w p) (reset_effect kind o p)
+    (w : Operation) (kind : Option ℕ) (o : Operand) (p : ExecState) → KeepsOpen w → IfDone (Keeps w p) (reset_effect kind o p)
 reset_of_keeps w None o p quiet = local_memory_kept w p (bit_set false o p.local p.memory) quiet (set_keeps false o p.local p.memory)
 reset_of_keeps w (Some kind) o p quiet = by (is_timer_kind kind)
   where
@@ -464,7 +464,7 @@ reset_of_keeps w (Some kind) o p quiet = by (is_timer_kind kind)
     by false = counters_kept w p _ quiet
 
 free_of_keeps :
-    (w : Operation) (kind : Option ℕ) (o : Operand) (p : ExecState) → Quiet w → IfDone (Keeps w p) (enable_effect kind o p)
+    (w : Operation) (kind : Option ℕ) (o : Operand) (p : ExecState) → KeepsOpen w → IfDone (Keeps w p) (enable_effect kind o p)
 free_of_keeps w None o p quiet = tt
 free_of_keeps w (Some kind) o p quiet = by (is_timer_kind kind)
   where

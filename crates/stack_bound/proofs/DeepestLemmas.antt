@@ -12,8 +12,8 @@ use Rattle.stack_bound.specs.declared.deepest.Best.{Best}
 use Rattle.stack_bound.specs.declared.measures.Measure.{Measure}
 
 -- what is best is called by ops, or none is
-abbrev IsBest : Measure → List Bound → List OpData → Best → Type 0
-IsBest m layer ops best =
+abbrev IsBestOfOps : Measure → List Bound → List OpData → Best → Type 0
+IsBestOfOps m layer ops best =
     ((called : BlockId) → best.block ≡ Some called
     → CallsIn ops called × (measure_in_layer m layer (Some called) ≡ best.most) × (0 < best.most))
     × (best.block ≡ None → best.most ≡ 0)

@@ -34,7 +34,7 @@ RoomFor z None below = ⊥
 RoomFor z (Some b) below =
     (length below + b.depth ≤ most_frames z) × (bytes_below below + b.bytes ≤ most_local_bytes)
 
--- so it is for each frame above those below it
+-- each frame has room above those below it
 abbrev pub HasRoom : Profile → List Bound → List (BlockId × ℕ) → Type 0
 HasRoom z c [] = Unit {0}
 HasRoom z c (f ∷ below) = RoomFor z (bound_of f.0 c) below × HasRoom z c below
