@@ -8,11 +8,11 @@ use Rattle.alu.specs.declared.codes.Codes.{Codes}
 abbrev pub of_sign : ℤ → (ov : Bool) → Codes
 of_sign z ov = record { cc1 = int_lt (pos 0) z; cc0 = int_lt z (pos 0); ov = ov }
 
--- a division by zero: CC 1/1 and OV 1
+-- the codes of a division by zero: CC 1/1 and OV 1
 abbrev pub unordered_codes : Codes
 unordered_codes = record { cc1 = true; cc0 = true; ov = true }
 
--- the status word that shows them: OS becomes 1 with OV 1, and else it is kept
+-- the status word that shows condition codes: OS becomes 1 with OV 1, and else it is kept
 unfoldable pub codes_shown : Codes → Status → Status
 codes_shown codes s =
     record s { cc1 = codes.cc1; cc0 = codes.cc0; ov = codes.ov; os = s.os || codes.ov }

@@ -18,12 +18,13 @@ holds_between Lt left right = int_lt left right
 holds_between Ge left right = int_le right left
 holds_between Le left right = int_le left right
 
--- CC 1/CC 0 by the order of the two, whatever is asked: 1/0 where the left is greater, 0/1 where it
--- is less, 0/0 where they are equal
+-- CC 1/CC 0 by the order of two integers, whatever comparison is asked: 1/0 where the left one is
+-- greater, 0/1 where it is less, 0/0 where they are equal
 abbrev pub order_codes : (left right : ℤ) → Codes
 order_codes left right = record { cc1 = int_lt right left; cc0 = int_lt left right; ov = false }
 
--- the answer in a status word, as the first check of a logic string: RLO and STA, OR 0, /FC 1
+-- the answer of a comparison in a status word, as the first check of a logic string: RLO and STA,
+-- OR 0, /FC 1
 abbrev pub with_answer : Bool → Status → Status
 with_answer answer s = record s { rlo = answer; sta = answer; or = false; fc = true }
 

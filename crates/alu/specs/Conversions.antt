@@ -11,7 +11,7 @@ use Rattle.alu.specs.Accumulators.{with_low}
 unfoldable pub accumulator_inverted : (w : ℕ) → Regs → Regs
 accumulator_inverted w r = record r { a1 = with_low w r.a1 (2 ^ w - 1 - r.a1 % 2 ^ w) }
 
--- ITD: the integer of 16 bits as one of 32
+-- ITD: the integer in ACCU 1-L as one of 32 bits in accumulator 1
 unfoldable pub accumulator_widened : Regs → Regs
 accumulator_widened r = record r { a1 = modulo 32 (signed_value 16 r.a1) }
 
@@ -26,7 +26,7 @@ from_bcd_word r =
 unfoldable pub from_bcd_dword : Regs → Option Regs
 from_bcd_dword r = option_map (λ n. record r { a1 = modulo 32 n }) (signed_of_bcd 7 r.a1)
 
--- OV as given; OS becomes 1 with it, and else is kept
+-- a status word with OV as given; OS becomes 1 with OV 1, and else it is kept
 abbrev pub with_overflow : Bool → Status → Status
 with_overflow ov s = record s { ov = ov; os = s.os || ov }
 

@@ -14,7 +14,7 @@ quotient dividend divisor =
     in if exclusive_or (is_below_zero dividend) (is_below_zero divisor) then neg_ℤ (pos size)
     else pos size
 
--- the remainder: what the quotient leaves of the dividend
+-- the remainder of a division: what the quotient leaves of the dividend
 abbrev pub remainder : (dividend divisor : ℤ) → ℤ
 remainder dividend divisor = dividend -ℤ quotient dividend divisor *ℤ divisor
 
@@ -22,13 +22,13 @@ remainder dividend divisor = dividend -ℤ quotient dividend divisor *ℤ diviso
 abbrev pub is_zero : ℤ → Bool
 is_zero z = unsigned_abs z == 0
 
--- the one pair of integers of w bits whose quotient has more: the least of them by -1
+-- the one pair of integers of w bits whose quotient has more than w bits: the least of them by -1
 abbrev pub is_least_by_minus_one : (w : ℕ) → (dividend divisor : ℤ) → Bool
 is_least_by_minus_one w dividend divisor =
     is_below_zero dividend && unsigned_abs dividend == 2 ^ (w - 1) && is_below_zero divisor
     && unsigned_abs divisor == 1
 
--- accumulator 1 and the codes of a division
+-- the registers with accumulator 1 and the codes of a division
 abbrev pub with_result : (accumulator : ℕ) → Codes → Regs → Regs
 with_result accumulator codes r = record r { a1 = accumulator; status = codes_shown codes r.status }
 

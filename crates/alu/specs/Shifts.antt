@@ -8,7 +8,7 @@ use Rattle.alu.specs.Signed.{signed_value, modulo}
 use Rattle.alu.specs.Codes.{codes_shown}
 use Rattle.alu.specs.Accumulators.{with_low}
 
--- the number of places: the literal, or else ACCU 2-L-L
+-- the number of places of a shift or rotate instruction: the literal, or else ACCU 2-L-L
 abbrev pub places_of : (literal : Option ℕ) → Regs → ℕ
 places_of literal r = unwrap_or literal (r.a2 % 2 ^ 8)
 
@@ -20,7 +20,8 @@ with_shifted w bits last r = record r {
   status = codes_shown (record { cc1 = last; cc0 = false; ov = false }) r.status;
 }
 
--- n places left, of w bits: zeros move in from the right; bit w - n is the last one out
+-- the lowest w bits of accumulator 1 n places left: zeros move in from the right; bit w - n is the
+-- last one out
 unfoldable pub shifted_left : (w n : ℕ) → Regs → Regs
 shifted_left w n r =
     let bits = r.a1 % 2 ^ w
@@ -28,7 +29,8 @@ shifted_left w n r =
     else if nat_lt w n then with_shifted w 0 false r
     else with_shifted w (bits * 2 ^ n % 2 ^ w) (has_bit bits (w - n)) r
 
--- n places right, of w bits: zeros move in from the left; bit n - 1 is the last one out
+-- the lowest w bits of accumulator 1 n places right: zeros move in from the left; bit n - 1 is the
+-- last one out
 unfoldable pub shifted_right : (w n : ℕ) → Regs → Regs
 shifted_right w n r =
     let bits = r.a1 % 2 ^ w
@@ -36,8 +38,8 @@ shifted_right w n r =
     else if nat_lt w n then with_shifted w 0 false r
     else with_shifted w (bits / 2 ^ n) (has_bit bits (n - 1)) r
 
--- n places right, of an integer of w bits: its sign moves in from the left, so that it is divided
--- by 2 ^ n and rounded down
+-- the integer in the lowest w bits of accumulator 1 n places right: its sign moves in from the
+-- left, so that it is divided by 2 ^ n and rounded down
 unfoldable pub shifted_signed : (w n : ℕ) → Regs → Regs
 shifted_signed w n r =
     let places = min n w

@@ -15,7 +15,7 @@ sum_codes w z =
     else if int_lt (pos 0) z then record { cc1 = false; cc0 = true; ov = true }
     else record { cc1 = not (unsigned_abs z == 2 ^ w); cc0 = false; ov = true }
 
--- the true sum z, modulo 2 ^ w, in the lowest w bits of accumulator 1, and its codes
+-- a true sum z, modulo 2 ^ w, in the lowest w bits of accumulator 1, and its codes
 unfoldable pub with_sum : (w : ℕ) → ℤ → Regs → Regs
 with_sum w z r =
     record r { a1 = with_low w r.a1 (modulo w z); status = codes_shown (sum_codes w z) r.status }
@@ -24,10 +24,10 @@ with_sum w z r =
 abbrev pub accumulators_added : (w : ℕ) → Regs → Regs
 accumulators_added w r = with_sum w (signed_value w r.a2 +ℤ signed_value w r.a1) r
 
--- -I and -D: accumulator 2 minus accumulator 1
+-- -I (w = 16) and -D (w = 32): accumulator 2 minus accumulator 1
 abbrev pub accumulators_subtracted : (w : ℕ) → Regs → Regs
 accumulators_subtracted w r = with_sum w (signed_value w r.a2 -ℤ signed_value w r.a1) r
 
--- NEGI and NEGD: 0 minus accumulator 1
+-- NEGI (w = 16) and NEGD (w = 32): 0 minus accumulator 1
 abbrev pub accu_negated : (w : ℕ) → Regs → Regs
 accu_negated w r = with_sum w (neg_ℤ (signed_value w r.a1)) r

@@ -16,21 +16,21 @@ pub(crate) struct Codes {
 }
 
 impl Codes {
-    /// CC 1, CC 0 and OV.
+    /// The codes with these values of CC 1, CC 0 and OV.
     pub(crate) fn new(cc1: bool, cc0: bool, ov: bool) -> Codes
         ensures { result ≡ record { cc1 = cc1; cc0 = cc0; ov = ov } }
     {
         Codes { cc1, cc0, ov }
     }
 
-    /// The sign of a result.
+    /// The codes of a result by its sign, with OV as given.
     pub(crate) fn of_sign(number: i64, ov: bool) -> Codes
         ensures { result ≡ of_sign number ov }
     {
         Codes::new(number > 0, number < 0, ov)
     }
 
-    /// The range in which a true sum lies.
+    /// The codes of a true sum, by the range in which it lies.
     #[tactic(auto, unfolding(crate::specs::Sums::sum_codes))]
     pub(crate) fn of_sum(format: Format, sum: i64) -> Codes
         ensures { result ≡ sum_codes (format_width format) sum }
@@ -44,14 +44,14 @@ impl Codes {
         }
     }
 
-    /// A division by zero.
-    pub(crate) fn unordered() -> Codes
+    /// The codes of a division by zero.
+    pub(crate) fn unordered_codes() -> Codes
         ensures { result ≡ unordered_codes }
     {
         Codes::new(true, true, true)
     }
 
-    /// An overflow of the quotient.
+    /// The codes of an overflow of the quotient.
     pub(crate) fn quotient_overflow() -> Codes
         ensures { result ≡ quotient_overflow }
     {

@@ -148,7 +148,7 @@ fn put_result(r: &mut Regs, accumulator: u32, codes: Codes)
 fn divide_by_zero(r: &mut Regs)
     ensures { r.new ≡ divided_by_zero r.old }
 {
-    Codes::unordered().show(&mut r.status);
+    Codes::unordered_codes().show(&mut r.status);
 }
 
 /// /I: divides ACCU 2-L by ACCU 1-L as integers of 16 bits: the quotient goes to ACCU 1-L, the

@@ -155,18 +155,18 @@ range_and_rest xs a b le =
     ap (λ (ys : List ℕ). slice_range xs a b ++ ys) (sym rest) ∙ take-append-drop (b - a) (drop a xs)
 
 -- the pieces, one behind the other
-joined :
+concat_pieces :
     (starts bytes : List ℕ) → Rises starts (length bytes)
     → concat (bytes_cut starts bytes) ≡ drop (begin starts (length bytes) 0) bytes
-joined [] bytes rises = sym (drop_all (length bytes) bytes (omega arith))
-joined (s ∷ rest) bytes rises =
-    let more = joined rest bytes (λ k. rises (suc k)) in
+concat_pieces [] bytes rises = sym (drop_all (length bytes) bytes (omega arith))
+concat_pieces (s ∷ rest) bytes rises =
+    let more = concat_pieces rest bytes (λ k. rises (suc k)) in
     ap (λ (ys : List ℕ). slice_range bytes s (begin rest (length bytes) 0) ++ ys) more
     ∙ range_and_rest bytes s (begin rest (length bytes) 0) (rises 0)
 
 pub together : (l : LocalData) → IsLaidOut l → concat (own_bytes l) ≡ l.bytes
 together l laid =
-    joined l.starts l.bytes (rises_from l laid) ∙ ap (λ (n : ℕ). drop n l.bytes) laid.begins
+    concat_pieces l.starts l.bytes (rises_from l laid) ∙ ap (λ (n : ℕ). drop n l.bytes) laid.begins
 
 -- ---- one piece more
 
@@ -404,19 +404,19 @@ range_other xs a b p v out =
     ]
 
 -- an operand that lies outside a range
-abbrev Outside : (a b p k : ℕ) → Type 0
-Outside a b p k = (b ≤ p) ⊎ (p + k ≤ a)
+abbrev IsOutsideRange : (a b p k : ℕ) → Type 0
+IsOutsideRange a b p k = (b ≤ p) ⊎ (p + k ≤ a)
 
-outside_at : (a b p k i : ℕ) → i < k → Outside a b p k → (b ≤ p + i) ⊎ (p + i < a)
+outside_at : (a b p k i : ℕ) → i < k → IsOutsideRange a b p k → (b ≤ p + i) ⊎ (p + i < a)
 outside_at a b p k i h (inl le) = inl (omega (arith, le))
 outside_at a b p k i h (inr le) = inr (omega (arith, le, h))
 
-outside_first : (a b p k : ℕ) → 0 < k → Outside a b p k → (b ≤ p) ⊎ (p < a)
+outside_first : (a b p k : ℕ) → 0 < k → IsOutsideRange a b p k → (b ≤ p) ⊎ (p < a)
 outside_first a b p k h (inl le) = inl le
 outside_first a b p k h (inr le) = inr (omega (arith, le, h))
 
 stored_other :
-    (bytes : List ℕ) (a b p bit : ℕ) (width : Width) (value : ℕ) → Outside a b p (byte_count width)
+    (bytes : List ℕ) (a b p bit : ℕ) (width : Width) (value : ℕ) → IsOutsideRange a b p (byte_count width)
     → slice_range (bytes_with_number bytes p bit width value) a b ≡ slice_range bytes a b
 stored_other bytes a b p bit Bit value out =
     range_other bytes a b p (byte_with_bit (slice_index bytes p) bit value) (outside_first a b p 1 (lit< tt) out)
@@ -504,7 +504,7 @@ apart n m other = grind arith
 outside_others :
     (l : LocalData) → IsLaidOut l → (frame start at k other from : ℕ)
     → slice_get l.starts frame ≡ Some start → slice_get l.starts other ≡ Some from → other ≢ frame
-    → start + at + k ≤ frame_bytes_end l frame → Outside from (frame_bytes_end l other) (start + at) k
+    → start + at + k ≤ frame_bytes_end l frame → IsOutsideRange from (frame_bytes_end l other) (start + at) k
 outside_others l laid frame start at k other from is there apart_is within =
     let rises = rises_from l laid in
     let here = begin_is l.starts (length l.bytes) frame start is in

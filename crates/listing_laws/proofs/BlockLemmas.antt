@@ -29,7 +29,7 @@ use Rattle.stl_list.specs.Signatures.{Signature, formals_of_block, signatures}
 use Rattle.print_laws.specs.Standing.{IsNonTitleName, HasPrintableTokens, IsPrintableBlock, IsPrintableDeclaration, IsPrintableInit, IsPrintablePart, IsPrintableSetting}
 use Rattle.listing_laws.proofs.NameLemmas.{AreFormals, AreSignatures, IsSignature, all_joined, all_signatures, block_named, either_way, typed_printable}
 use Rattle.listing_laws.proofs.StatementLemmas.{body_printable}
-use Rattle.listing_laws.proofs.RangeLemmas.{IsInstanceOf, IsListedCode, IsListedData, IsListed, program_listed}
+use Rattle.listing_laws.proofs.RangeLemmas.{IsNumberOrNone, IsListedCode, IsListedData, IsListed, program_listed}
 use Rattle.listing_laws.specs.Ranges.{AreListedPrintable}
 
 abbrev pub AreBytes : List ℕ → Type 0
@@ -189,7 +189,7 @@ known_printable line bytes test (s ∷ ss) h (one, more) =
 
 -- ---- data blocks
 
-data_printable : (ss : List Signature) (line number : ℕ) (bytes : List ℕ) (of_ : Option ℕ) → AreSignatures ss → IsNumber number → IsInstanceOf of_ → length bytes ≤ 65536 → AreBytes bytes
+data_printable : (ss : List Signature) (line number : ℕ) (bytes : List ℕ) (of_ : Option ℕ) → AreSignatures ss → IsNumber number → IsNumberOrNone of_ → length bytes ≤ 65536 → AreBytes bytes
     → IsPrintableBlock (listed_data ss line number bytes of_)
 data_printable ss line number bytes None known is instance short h = record {
   name = is;

@@ -4,12 +4,14 @@ use Rattle.std.specs.Prelude.{codes, MatchOption, option_map, nat_le, nat_lt, �
 use Rattle.std.specs.List.{AllByRecursion}
 use Rattle.std.proofs.lemmas.Bool.{agree_below_at, and_parts, cond_both, eqb-true, false≢true, leb-true, ltb-true}
 use Rattle.plc_base.proofs.ListLemmas.{all_append}
-use Rattle.plc_base.specs.Kinds.{is_same_block, is_system_function}
+use Rattle.plc_base.specs.Kinds.{is_same_block, is_system_function, kind_number}
+use Rattle.plc_base.specs.declared.blocks.BlockKind.TheVariants as kinds
 use Rattle.plc_base.specs.declared.blocks.BlockId.{BlockId}
 use Rattle.plc_base.specs.declared.places.Area.TheVariants as area
 use Rattle.plc_base.specs.declared.places.Area.{Area}
 use Rattle.plc_base.specs.declared.places.Width.TheVariants as width
 use Rattle.plc_base.specs.declared.places.Width.{Width}
+use Rattle.flat_code.specs.Kinds.{timer_kind, counter_kind}
 use Rattle.flat_code.specs.Forms.{passed_coding, actual_fits, is_crossing_area, direct_coding, holds_pointers, is_memory_area, payload_fits}
 use Rattle.flat_code.specs.Operations.{operation_of}
 use Rattle.flat_code.specs.Ops.{IsOp, OpData, is_op}
@@ -52,7 +54,7 @@ use Rattle.print_laws.specs.Reading.{FitsSyntax, IsArea, IsAreaOf, IsBlockOf, Is
 use Rattle.print_laws.specs.Standing.{IsNonTitleName as IsCutName}
 use Rattle.listing_laws.proofs.FormLemmas.{labels_printed, typed_printed}
 use Rattle.listing_laws.proofs.NameLemmas.{either_way, parameter_is, signed_long, system_named}
-use Rattle.listing_laws.specs.Bodies.{AreBodiesPrinted, AreWords, IsCallBy, IsNoBit, IsOpenedIn, IsPlace, IsLastOperandPrinted, IsSourceRun, PassesPlace, Prepares}
+use Rattle.listing_laws.specs.Bodies.{AreBodiesPrinted, AreWords, IsCallBy, IsNoBit, IsOpenedIn, IsPlace, IsLastOperandPrinted, IsSourceRun, PassesPlace, PreparesPlace}
 
 -- ---- areas
 
@@ -309,13 +311,13 @@ neither false true h = false≢true h
 neither false false h = false≢true h
 
 kind_plain : (t : OperandForms) (kind : ℕ) → takes_kind t kind ≡ true → is_plain_takes t ≡ true
-kind_plain takes.NoCode kind h = absurd (neither (kind == 1) (kind == 2) h)
-kind_plain takes.Nothing kind h = absurd (neither (kind == 1) (kind == 2) h)
-kind_plain takes.UseDb kind h = absurd (neither (kind == 1) (kind == 2) h)
-kind_plain takes.Pass kind h = absurd (neither (kind == 1) (kind == 2) h)
-kind_plain takes.Jump kind h = absurd (neither (kind == 1) (kind == 2) h)
-kind_plain takes.Call kind h = absurd (neither (kind == 1) (kind == 2) h)
-kind_plain takes.Open kind h = absurd (neither (kind == 1) (kind == 2) h)
+kind_plain takes.NoCode kind h = absurd (neither (kind == timer_kind) (kind == counter_kind) h)
+kind_plain takes.Nothing kind h = absurd (neither (kind == timer_kind) (kind == counter_kind) h)
+kind_plain takes.UseDb kind h = absurd (neither (kind == timer_kind) (kind == counter_kind) h)
+kind_plain takes.Pass kind h = absurd (neither (kind == timer_kind) (kind == counter_kind) h)
+kind_plain takes.Jump kind h = absurd (neither (kind == timer_kind) (kind == counter_kind) h)
+kind_plain takes.Call kind h = absurd (neither (kind == timer_kind) (kind == counter_kind) h)
+kind_plain takes.Open kind h = absurd (neither (kind == timer_kind) (kind == counter_kind) h)
 kind_plain _ kind h = refl
 
 -- ---- statements by what stands behind their word
@@ -390,12 +392,12 @@ for_printed : (line : ℕ) (formals : List Formal) (o : Option Formal) (p : Pass
 for_printed line formals None p named f e place = tt
 for_printed line formals (Some f) p named name e place = (record { line_is = refl; word = name; value = passed_printed formals f p named e place }, tt)
 
-here_printed : (line : ℕ) (formals called : List Formal) (o : FlatOperand) → AreWords formals → AreWords called → payload_fits o ≡ true → Prepares o → AllByRecursion (IsPrintedActual line) (actual_here line formals called o)
+here_printed : (line : ℕ) (formals called : List Formal) (o : FlatOperand) → AreWords formals → AreWords called → payload_fits o ≡ true → PreparesPlace o → AllByRecursion (IsPrintedActual line) (actual_here line formals called o)
 unfolding passed_coding
 here_printed line formals called (flat.Pass index p) named others e place = for_printed line formals (slice_get called index) p named (named_word called index others) (and_parts _ (actual_fits p) e).1 place
 here_printed line formals called _ named others e place = tt
 
-before_printed : (line : ℕ) (formals called : List Formal) (before : List OpData) → AreWords formals → AreWords called → AllByRecursion IsOp before → AllByRecursion (λ op. Prepares op.operand) before
+before_printed : (line : ℕ) (formals called : List Formal) (before : List OpData) → AreWords formals → AreWords called → AllByRecursion IsOp before → AllByRecursion (λ op. PreparesPlace op.operand) before
     → AllByRecursion (IsPrintedActual line) (actuals_before line formals called before)
 unfolding is_op
 before_printed line formals called [] named others h k = tt
@@ -405,10 +407,10 @@ before_printed line formals called (op ∷ before) named others (one, more) (pla
 
 -- ---- calls
 
-instance_called : (kind number instance : ℕ) → IsNumber number → IsNumber instance → (instance ≡ 0) ⊎ (kind ≡ 3) → IsCallOperand (operand.Called (block.Number (called_id kind number)) (instance_name instance))
+instance_called : (kind number instance : ℕ) → IsNumber number → IsNumber instance → (instance ≡ 0) ⊎ (kind ≡ kind_number kinds.Fb) → IsCallOperand (operand.Called (block.Number (called_id kind number)) (instance_name instance))
 instance_called kind number instance n i (inl none) = subst (λ (k : ℕ). IsCallOperand (operand.Called (block.Number (called_id kind number)) (instance_name k))) (sym none) n
 instance_called kind number instance n i (inr fb) = subst (λ (k : ℕ). IsCallOperand (operand.Called (block.Number (called_id k number)) (instance_name instance))) (sym fb)
-    (either_way (λ o. IsCallOperand (operand.Called (block.Number (called_id 3 number)) o)) (instance == 0) None (Some (name_of_data_block instance)) n ((refl, n), (refl, i)))
+    (either_way (λ o. IsCallOperand (operand.Called (block.Number (called_id (kind_number kinds.Fb) number)) o)) (instance == 0) None (Some (name_of_data_block instance)) n ((refl, n), (refl, i)))
 
 -- CALL with its actual parameters, or UC and CC
 called_fits : (line code kind number instance : ℕ) (formals called : List Formal) (before : List OpData) → code < 128 → is_call_form (takes_of code) ≡ true → IsNumber number → IsNumber instance
@@ -432,11 +434,11 @@ one_or_two (suc (suc zero)) h k = inr refl
 one_or_two (suc (suc (suc n))) h k = let most = leb-true (suc (suc (suc n))) 2 k in absurd (omega (arith, most))
 
 timer_printed : (kind number : ℕ) → number ≤ 65535 → IsPrintedOperand (timer_or_counter kind number)
-timer_printed kind number h = either_way IsPrintedOperand (kind == 1) (operand.Timer number) (operand.Counter number) h h
+timer_printed kind number h = either_way IsPrintedOperand (kind == timer_kind) (operand.Timer number) (operand.Counter number) h h
 
 -- operand and actual parameters of the last op of a statement
 fits : (ss : List Signature) (line : ℕ) (formals : List Formal) (starts : List ℕ) (before : List OpData) (code : ℕ) (o : FlatOperand) → AreBlocksWords ss → AreWords formals
-    → AllByRecursion IsOp before → AllByRecursion (λ op. Prepares op.operand) before → code < 128 → admits (takes_of code) o ≡ true → payload_fits o ≡ true → IsLastOperandPrinted before code o
+    → AllByRecursion IsOp before → AllByRecursion (λ op. PreparesPlace op.operand) before → code < 128 → admits (takes_of code) o ≡ true → payload_fits o ≡ true → IsLastOperandPrinted before code o
     → is_empty_statement (word_by code o) ≡ false
     → FitsSyntax line (syntax_of (word_by code o)) (operand_by formals starts (block_opened_by_ops before) (operation_of code) o) (actuals_by ss line formals before o)
 unfolding operand_by plain_operand actuals_by admits

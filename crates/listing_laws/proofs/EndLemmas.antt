@@ -55,9 +55,9 @@ count_of (s ∷ ss) = count_of_statement s + count_of ss
 abbrev AreUnlabelled : List Statement → Type 0
 AreUnlabelled ss = AllByRecursion (λ s. is_empty_statement s.code ≡ true → s.label ≡ None) ss
 
-unlabelled : (ss : List Statement) → AllByRecursion IsStatement ss → AreUnlabelled ss
-unlabelled [] h = tt
-unlabelled (s ∷ ss) (one, more) = (one.unlabelled, unlabelled ss more)
+are_unlabelled : (ss : List Statement) → AllByRecursion IsStatement ss → AreUnlabelled ss
+are_unlabelled [] h = tt
+are_unlabelled (s ∷ ss) (one, more) = (one.unlabelled, are_unlabelled ss more)
 
 some_behind : (o : Option ℕ) → is_none (option_map (λ k. suc k) o) ≡ false → is_none o ≡ false
 some_behind None h = h
@@ -183,7 +183,7 @@ statements_free c b is n e =
     let front = stated_from c b.body 0 b.body in
     let same : count_of b.body ≡ n = omega (arith, e, length-append front (return_statement b ∷ []), stated_count c b.body 0 b.body) in
     ap (λ (k : ℕ). list_any (λ s. jumps_to k s.instr) (front ++ return_statement b ∷ [])) (sym same)
-    ∙ none_any (count_of b.body) (front ++ return_statement b ∷ []) (all_append (StaysOff (count_of b.body)) front (return_statement b ∷ []) (stated_free c b.body 0 b.body (omega arith) (unlabelled b.body is.0) (labels_known b.body b.body is.1)) (refl, tt))
+    ∙ none_any (count_of b.body) (front ++ return_statement b ∷ []) (all_append (StaysOff (count_of b.body)) front (return_statement b ∷ []) (stated_free c b.body 0 b.body (omega arith) (are_unlabelled b.body is.0) (labels_known b.body b.body is.1)) (refl, tt))
 
 block_free : (c : Context) (b : Block) (l : BlockLayout) (id : Option BlockId) → IsRight b → AllByRecursion IsFree (code_block_of c b l id)
 block_free c b l None is = tt

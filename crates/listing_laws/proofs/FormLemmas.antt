@@ -45,7 +45,7 @@ use Rattle.print_laws.specs.Reading.{IsCountOf, IsPrintedDeclarationIn, IsNonKey
 use Rattle.listing_laws.proofs.BlockLemmas.{AreBytes, all_sorted, range_below, value_is, byte_is}
 use Rattle.listing_laws.proofs.IdLemmas.{same_order}
 use Rattle.listing_laws.proofs.NameLemmas.{all_joined, either_way, label_is, parameter_is, signed_int, signed_long}
-use Rattle.listing_laws.proofs.RangeLemmas.{IsInstanceOf, IsListedCode, IsListedData, ops_fit, program_listed}
+use Rattle.listing_laws.proofs.RangeLemmas.{IsNumberOrNone, IsListedCode, IsListedData, ops_fit, program_listed}
 use Rattle.listing_laws.specs.Forms.{AreDataPrinted, AreFramesPrinted, AreLabelsPrinted, IsPrintedFrame}
 
 -- ---- names
@@ -419,7 +419,7 @@ known_printed line bytes test (s ∷ ss) h (one, more) =
 
 -- ---- data blocks
 
-one_printed : (ss : List Signature) (line number : ℕ) (bytes : List ℕ) (of_ : Option ℕ) → AllByRecursion IsFormed ss → IsNumber number → IsInstanceOf of_ → length bytes ≤ 65536 → AreBytes bytes
+one_printed : (ss : List Signature) (line number : ℕ) (bytes : List ℕ) (of_ : Option ℕ) → AllByRecursion IsFormed ss → IsNumber number → IsNumberOrNone of_ → length bytes ≤ 65536 → AreBytes bytes
     → IsPrintedBlock (listed_data ss line number bytes of_)
 one_printed ss line number bytes None known is instance short h =
     ((refl, is), inr (record { kind = refl; result = refl; parts = refl; body = refl; shape = (refl, bytes_printed line data_name (length bytes) (values_of bytes) data_is short (values_printed bytes h), refl) }))

@@ -115,15 +115,15 @@ abbrev AreSeparate : StatedBlock → StatedBlock → Type 0
 AreSeparate x y = (closes x ≤ opens y) ⊎ (closes y ≤ opens x)
 
 -- one block, if it has code, and those behind it
-joined : (c : Context) (b : Block) (l : BlockLayout) (id : Option BlockId) (low : ℕ) (rest : List StatedBlock)
+block_joined : (c : Context) (b : Block) (l : BlockLayout) (id : Option BlockId) (low : ℕ) (rest : List StatedBlock)
     → AreRisingLines b.end_line low (statement_lines_of b) → low ≤ b.end_line → AllByRecursion (StandsFrom b.end_line) rest → Pairs AreSeparate rest
     → AllByRecursion (StandsFrom low) (code_block_of c b l id ++ rest) × Pairs AreSeparate (code_block_of c b l id ++ rest)
-joined c b l None low rest h le all pairs = (all_lower rest all, pairs)
+block_joined c b l None low rest h le all pairs = (all_lower rest all, pairs)
   where
     all_lower : (xs : List StatedBlock) → AllByRecursion (StandsFrom b.end_line) xs → AllByRecursion (StandsFrom low) xs
     all_lower [] h = tt
     all_lower (x ∷ xs) h = (record { rises = lower low b.end_line (closes x) (lines_by x) le h.0.rises; some = h.0.some }, all_lower xs h.1)
-joined c b l (Some id) low rest h le all pairs = by (is_code id.kind)
+block_joined c b l (Some id) low rest h le all pairs = by (is_code id.kind)
   where
     all_lower : (xs : List StatedBlock) → AllByRecursion (StandsFrom b.end_line) xs → AllByRecursion (StandsFrom low) xs
     all_lower [] h = tt
@@ -152,7 +152,7 @@ blocks_stand c last low (b ∷ bs) [] h = (tt, tt)
 blocks_stand c last low (b ∷ bs) (l ∷ ls) h =
     let parts = split last low (map (λ s. s.line) b.body) b.end_line (flat_map statement_lines_of bs) h in
     let more = blocks_stand (record c { block = suc c.block }) last b.end_line bs ls parts.outer in
-    joined c b l l.id low (each_block (λ c b l. code_block_of c b l l.id) (record c { block = suc c.block }) bs ls) parts.inner parts.low more.0 more.1
+    block_joined c b l l.id low (each_block (λ c b l. code_block_of c b l l.id) (record c { block = suc c.block }) bs ls) parts.inner parts.low more.0 more.1
 
 -- ---- in the order of their lines
 
@@ -203,8 +203,8 @@ in_turn a b is order h (inl le) =
     omega (arith, ends, le, same, order)
 in_turn a b is order h (inr le) = le
 
-ordered : (low : ℕ) (b : CodeBlock) → StandsAs low b → first_statement_line b ≤ last_statement_line b
-ordered low b is = first_below low (last_statement_line b) b.lines is.rises is.some
+first_before_last : (low : ℕ) (b : CodeBlock) → StandsAs low b → first_statement_line b ≤ last_statement_line b
+first_before_last low b is = first_below low (last_statement_line b) b.lines is.rises is.some
 
 lines_same : (reached high : ℕ) (lines : List ℕ) → AreRisingLines high reached lines → lines_from reached lines ≡ lines
 lines_same reached high [] h = refl
@@ -239,7 +239,7 @@ Begins reached (b ∷ bs) = reached ≤ first_statement_line b
 
 begin_next : (a : CodeBlock) (bs : List CodeBlock) → AllByRecursion (StandsAs 1) bs → Heads stands_before a bs → AllByRecursion (λ y. AreApart y a) bs → Begins (last_statement_line a) bs
 begin_next a [] all heads apart = tt
-begin_next a (b ∷ bs) all heads apart = in_turn a b all.0 (ordered 1 b all.0) heads apart.0
+begin_next a (b ∷ bs) all heads apart = in_turn a b all.0 (first_before_last 1 b all.0) heads apart.0
 
 all_stand : (reached : ℕ) (bs : List CodeBlock) → AllByRecursion (StandsAs 1) bs → InOrder stands_before bs → Pairs AreApart bs → Begins reached bs → StandBehind reached bs
 all_stand reached [] all order apart begins = tt

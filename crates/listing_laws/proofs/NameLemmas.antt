@@ -93,18 +93,18 @@ unfolding is_word_byte is_word_start
 sign_name = (refl, refl)
 
 -- the parameters of a system function, by the row of its number
-known : (b : Bool) (fs : List Formal) (o : Option (List Formal)) → AreFormals fs → AreKnown o → AreKnown (if b then Some fs else o)
-known b fs o h k = either_way AreKnown b (Some fs) o h k
+formals_known : (b : Bool) (fs : List Formal) (o : Option (List Formal)) → AreFormals fs → AreKnown o → AreKnown (if b then Some fs else o)
+formals_known b fs o h k = either_way AreKnown b (Some fs) o h k
 
 pub system_named : (n : ℕ) → AreFormals (system_parameters n)
 unfolding system_formals
 system_named n =
-    known (nat_eq n 32) (ob_nr_formal ∷ dtime_formal ∷ sign_formal ∷ return_value_formal simple.Int ∷ []) _ (ob_nr_name, (dtime_name, (sign_name, (return_is, tt))))
-    (known (nat_eq n 33) (ob_nr_formal ∷ return_value_formal simple.Int ∷ []) _ (ob_nr_name, (return_is, tt))
-    (known (is_one_of (39 ∷ 40 ∷ []) n) (mode_formal ∷ ob_nr_formal ∷ return_value_formal simple.Int ∷ []) _ (mode_name, (ob_nr_name, (return_is, tt)))
-    (known (is_one_of (41 ∷ 42 ∷ []) n) (return_value_formal simple.Int ∷ []) _ (return_is, tt)
-    (known (is_one_of (43 ∷ 46 ∷ []) n) [] _ tt
-    (known (nat_eq n 64) (return_value_formal simple.Time ∷ []) None (return_is, tt) tt)))))
+    formals_known (nat_eq n 32) (ob_nr_formal ∷ dtime_formal ∷ sign_formal ∷ return_value_formal simple.Int ∷ []) _ (ob_nr_name, (dtime_name, (sign_name, (return_is, tt))))
+    (formals_known (nat_eq n 33) (ob_nr_formal ∷ return_value_formal simple.Int ∷ []) _ (ob_nr_name, (return_is, tt))
+    (formals_known (is_one_of (39 ∷ 40 ∷ []) n) (mode_formal ∷ ob_nr_formal ∷ return_value_formal simple.Int ∷ []) _ (mode_name, (ob_nr_name, (return_is, tt)))
+    (formals_known (is_one_of (41 ∷ 42 ∷ []) n) (return_value_formal simple.Int ∷ []) _ (return_is, tt)
+    (formals_known (is_one_of (43 ∷ 46 ∷ []) n) [] _ tt
+    (formals_known (nat_eq n 64) (return_value_formal simple.Time ∷ []) None (return_is, tt) tt)))))
 
 formals_named : (c : Chains) (returns behind : Bool) (index first : ℕ) (ps : List Param) → index + length ps < 2 ^ 64 → AreFormals (formals_from c returns behind index first ps)
 formals_named c returns behind index first [] h = tt

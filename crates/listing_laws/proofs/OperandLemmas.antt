@@ -3,6 +3,7 @@ use Rattle.std.proofs.Common.{◌≡◌, ℕ, zero, suc, ◌≤◌, ◌<◌, ◌
 use Rattle.std.specs.Prelude.{MatchOption, option_map, nat_lt, ◌==◌, slice_get}
 use Rattle.std.specs.List.{AllByRecursion}
 use Rattle.std.proofs.lemmas.Bool.{and_parts, ltb-true}
+use Rattle.flat_code.specs.Kinds.{timer_kind}
 use Rattle.flat_code.specs.Forms.{actual_fits, direct_coding, payload_fits}
 use Rattle.flat_code.specs.Ops.{OpData}
 use Rattle.flat_code.specs.declared.operands.Operand.TheVariants as flat
@@ -70,7 +71,7 @@ instance_is : (instance : ℕ) → instance ≤ 65535 → IsNumberedOrNone (inst
 instance_is instance h = either_way IsNumberedOrNone (instance == 0) None (Some (name_of_data_block instance)) tt h
 
 timer_is : (kind number : ℕ) → number ≤ 65535 → IsPrintableOperand (timer_or_counter kind number)
-timer_is kind number h = either_way IsPrintableOperand (kind == 1) (operand.Timer number) (operand.Counter number) h h
+timer_is kind number h = either_way IsPrintableOperand (kind == timer_kind) (operand.Timer number) (operand.Counter number) h h
 
 implied_is : (o : Operation) → IsPrintableOperand (implied_operand o)
 unfolding is_word_byte is_word_start

@@ -26,15 +26,15 @@ pub record IsListedCode (b : CodeBlock) : Type 0 where
   pub params : length b.params < 65536
   pub code : AllByRecursion IsListedOp b.code
 
--- the function block of an instance, if it is one
-abbrev pub IsInstanceOf : Option ℕ → Type 0
-IsInstanceOf None = Unit {0}
-IsInstanceOf (Some number) = IsNumber number
+-- the number of a function block, where there is one
+abbrev pub IsNumberOrNone : Option ℕ → Type 0
+IsNumberOrNone None = Unit {0}
+IsNumberOrNone (Some number) = IsNumber number
 
 -- a data block
 pub record IsListedData (d : DataBlock) : Type 0 where
   pub number : IsNumber d.number
-  pub instance_of : IsInstanceOf d.instance_of
+  pub instance_of : IsNumberOrNone d.instance_of
   pub size : length d.bytes ≤ 65536
   pub bytes : AllByRecursion (λ b. b < 256) d.bytes
 
@@ -116,7 +116,7 @@ size_fits : (before n : ℕ) → (data_length_layout before).good n ≡ true →
 unfolding data_length_layout
 size_fits before n good = ltb-true n 65536 (and_parts (nat_lt n 65536) _ good).0
 
-instance_of_fits : (of_ : Option ℕ) → instance_field.good (number_of_instance of_) ≡ true → IsInstanceOf of_
+instance_of_fits : (of_ : Option ℕ) → instance_field.good (number_of_instance of_) ≡ true → IsNumberOrNone of_
 unfolding instance_field
 instance_of_fits None good = tt
 instance_of_fits (Some n) good = omega (arith, ltb-true (suc n) 65536 (and_parts (nat_lt (suc n) 65536) _ good).0)

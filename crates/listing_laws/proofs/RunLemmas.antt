@@ -17,17 +17,17 @@ use Rattle.listing_laws.specs.Statements.{AreNumbersFound, AreRunsFound, AreStar
 
 -- ---- the ops of an instruction in two parts
 
-pub unaimed : (o : Operand) → operand_with_target (λ n. n) o ≡ o
-unaimed (operand.Jump kind target) = refl
-unaimed _ = refl
+pub same_target : (o : Operand) → operand_with_target (λ n. n) o ≡ o
+same_target (operand.Jump kind target) = refl
+same_target _ = refl
 
-parted : (i : Instr) → ops_of i ≡ (run_of (λ n. n) i).before ++ (run_of (λ n. n) i).op ∷ []
+ops_of_run : (i : Instr) → ops_of i ≡ (run_of (λ n. n) i).before ++ (run_of (λ n. n) i).op ∷ []
 unfolding ops_of
-parted (Does use_db w o) = ap (λ (p : Operand). use_db_ops use_db ++ op_with_end_mark w p ∷ []) (sym (unaimed o))
-parted (Jumps how target) = refl
-parted (JumpsByList targets otherwise) = refl
-parted (Calls how block instance passings) = refl
-parted (Returns how) = refl
+ops_of_run (Does use_db w o) = ap (λ (p : Operand). use_db_ops use_db ++ op_with_end_mark w p ∷ []) (sym (same_target o))
+ops_of_run (Jumps how target) = refl
+ops_of_run (JumpsByList targets otherwise) = refl
+ops_of_run (Calls how block instance passings) = refl
+ops_of_run (Returns how) = refl
 
 abbrev IsPreparing : OpData → Type 0
 IsPreparing op = op.last ≡ false
@@ -70,14 +70,14 @@ aimed_ops f (Calls how block instance passings) =
     map_append f (pass_ops passings) (call_op how block instance ∷ []) ∙ rw (passing_still f passings) refl
 aimed_ops f (Returns how) = refl
 
-abbrev placed : (ℕ → ℕ) → List SourceInstruction → List OpData
-placed f ss = map (op_with_target f) (ops_in ss)
+abbrev ops_with_targets : (ℕ → ℕ) → List SourceInstruction → List OpData
+ops_with_targets f ss = map (op_with_target f) (ops_in ss)
 
-placed_next : (f : ℕ → ℕ) (s : SourceInstruction) (ss : List SourceInstruction) → placed f (s ∷ ss) ≡ (run_of f s.instr).before ++ (run_of f s.instr).op ∷ placed f ss
-placed_next f s ss =
+next_ops_with_targets : (f : ℕ → ℕ) (s : SourceInstruction) (ss : List SourceInstruction) → ops_with_targets f (s ∷ ss) ≡ (run_of f s.instr).before ++ (run_of f s.instr).op ∷ ops_with_targets f ss
+next_ops_with_targets f s ss =
     map_append f (ops_of s.instr) (ops_in ss)
-    ∙ ap (λ (z : List OpData). z ++ placed f ss) (aimed_ops f s.instr)
-    ∙ append_assoc (run_of f s.instr).before ((run_of f s.instr).op ∷ []) (placed f ss)
+    ∙ ap (λ (z : List OpData). z ++ ops_with_targets f ss) (aimed_ops f s.instr)
+    ∙ append_assoc (run_of f s.instr).before ((run_of f s.instr).op ∷ []) (ops_with_targets f ss)
 
 -- ---- the statements
 
@@ -89,11 +89,11 @@ run_next b (x ∷ front) op rest h e =
     ∙ run_next (b ++ x ∷ []) front op rest h.1 e
     ∙ ap (λ (z : List OpData). record { before = z; op = op } ∷ runs_from [] rest) (append_assoc b (x ∷ []) front)
 
-runs_are : (f : ℕ → ℕ) (ss : List SourceInstruction) → runs_from [] (placed f ss) ≡ map (λ s. run_of f s.instr) ss
+runs_are : (f : ℕ → ℕ) (ss : List SourceInstruction) → runs_from [] (ops_with_targets f ss) ≡ map (λ s. run_of f s.instr) ss
 runs_are f [] = refl
 runs_are f (s ∷ ss) =
-    ap (runs_from []) (placed_next f s ss)
-    ∙ run_next [] (run_of f s.instr).before (run_of f s.instr).op (placed f ss) (prepares f s.instr) (does f s.instr)
+    ap (runs_from []) (next_ops_with_targets f s ss)
+    ∙ run_next [] (run_of f s.instr).before (run_of f s.instr).op (ops_with_targets f ss) (prepares f s.instr) (does f s.instr)
     ∙ ap (λ (z : List Run). run_of f s.instr ∷ z) (runs_are f ss)
 
 pub runs_found : AreRunsFound
@@ -136,11 +136,11 @@ start_next : (at : ℕ) (front : List OpData) (op : OpData) (rest : List OpData)
 start_next at [] op rest h e = ap (λ (z : List ℕ). at ∷ z) (later at [] op rest h e)
 start_next at (x ∷ front) op rest h e = ap (λ (z : List ℕ). at ∷ z) (later at (x ∷ front) op rest h e)
 
-starts_are : (f : ℕ → ℕ) (at : ℕ) (ss : List SourceInstruction) → starts_from at true (placed f ss) ≡ offsets_from f at ss
+starts_are : (f : ℕ → ℕ) (at : ℕ) (ss : List SourceInstruction) → starts_from at true (ops_with_targets f ss) ≡ offsets_from f at ss
 starts_are f at [] = refl
 starts_are f at (s ∷ ss) =
-    ap (starts_from at true) (placed_next f s ss)
-    ∙ start_next at (run_of f s.instr).before (run_of f s.instr).op (placed f ss) (prepares f s.instr) (does f s.instr)
+    ap (starts_from at true) (next_ops_with_targets f s ss)
+    ∙ start_next at (run_of f s.instr).before (run_of f s.instr).op (ops_with_targets f ss) (prepares f s.instr) (does f s.instr)
     ∙ ap (λ (z : List ℕ). at ∷ z) (starts_are f (at + bytes f s) ss)
 
 -- the same of the offsets that the code generator knows
@@ -161,13 +161,13 @@ offset_first : (at : ℕ) (front : List OpData) (op : OpData) (rest : List OpDat
 offset_first at [] op rest = refl
 offset_first at (x ∷ front) op rest = refl
 
-offsets_are : (f : ℕ → ℕ) (at : ℕ) (ss : List SourceInstruction) (n : ℕ) → offset_from at true (placed f ss) n ≡ offset_at f at ss n
+offsets_are : (f : ℕ → ℕ) (at : ℕ) (ss : List SourceInstruction) (n : ℕ) → offset_from at true (ops_with_targets f ss) n ≡ offset_at f at ss n
 offsets_are f at [] n = refl
 offsets_are f at (s ∷ ss) zero =
-    ap (λ (z : List OpData). offset_from at true z zero) (placed_next f s ss) ∙ offset_first at (run_of f s.instr).before (run_of f s.instr).op (placed f ss)
+    ap (λ (z : List OpData). offset_from at true z zero) (next_ops_with_targets f s ss) ∙ offset_first at (run_of f s.instr).before (run_of f s.instr).op (ops_with_targets f ss)
 offsets_are f at (s ∷ ss) (suc n) =
-    ap (λ (z : List OpData). offset_from at true z (suc n)) (placed_next f s ss)
-    ∙ offset_next at n (run_of f s.instr).before (run_of f s.instr).op (placed f ss) (prepares f s.instr) (does f s.instr)
+    ap (λ (z : List OpData). offset_from at true z (suc n)) (next_ops_with_targets f s ss)
+    ∙ offset_next at n (run_of f s.instr).before (run_of f s.instr).op (ops_with_targets f ss) (prepares f s.instr) (does f s.instr)
     ∙ offsets_are f (at + bytes f s) ss n
 
 -- a target is as long as any other

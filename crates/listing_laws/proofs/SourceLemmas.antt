@@ -36,7 +36,7 @@ use Rattle.listing_laws.specs.Opened.{ActsInOpened, OpensRight, PassesInOpened, 
 use Rattle.listing_laws.proofs.EndLemmas.{ends_free}
 use Rattle.listing_laws.proofs.RunLemmas.{runs_found}
 use Rattle.listing_laws.proofs.WordLemmas.{have_words}
-use Rattle.listing_laws.specs.Bodies.{IsEndFree, IsLastOperandPrinted, IsSourceRun, PassesPlace, Prepares}
+use Rattle.listing_laws.specs.Bodies.{IsEndFree, IsLastOperandPrinted, IsSourceRun, PassesPlace, PreparesPlace}
 use Rattle.listing_laws.specs.Labels.{HasWord}
 use Rattle.listing_laws.specs.Statements.{statement_offset, run_of}
 use Rattle.stl_list.specs.CodeBlocks.{in_lines, line_reached, listed_block, listed_blocks}
@@ -46,7 +46,7 @@ use Rattle.stl_list.specs.Lines.{line_behind_statements, lines_from, stands_befo
 use Rattle.stl_list.specs.Listing.{listed_tree}
 use Rattle.stl_list.specs.Signatures.{Signature, signatures}
 use Rattle.print_laws.specs.Printed.{IsPrintable}
-use Rattle.print_laws.specs.Reading.{HasPrintedForms as IsReadable, IsPrintedBlock}
+use Rattle.print_laws.specs.Reading.{HasPrintedForms, IsPrintedBlock}
 use Rattle.listing_laws.proofs.BlockLemmas.{all_sorted, listed_printable}
 use Rattle.listing_laws.proofs.BodyLemmas.{AreBlocksWords, bodies_printed, words_of}
 use Rattle.listing_laws.proofs.FormLemmas.{IsHead, data_printed, frames_printed, program_heads}
@@ -55,7 +55,7 @@ use Rattle.listing_laws.proofs.PlaceLemmas.{HasLines, all_have_lines, lines_coun
 use Rattle.listing_laws.proofs.RangeLemmas.{program_listed}
 use Rattle.listing_laws.specs.Forms.{IsPrintedFrame}
 use Rattle.listing_laws.specs.Ranges.{IsOffsetWritable, IsWrittenBlock, IsWrittenProgram}
-use Rattle.listing_laws.specs.Sources.{ActsOnNamed, IsRunNamed, IsNamedProgram, IsSourceBlock, PassesPlaceOn, PreparesOnNamed}
+use Rattle.listing_laws.specs.Sources.{ActsOnNamed, IsRunNamed, IsNamedProgram, IsSourceBlock, PassesNamedPlace, PreparesOnNamed}
 
 signatures_words : (ss : List Signature) → AreSignatures ss → AreBlocksWords ss
 signatures_words [] h = tt
@@ -90,7 +90,7 @@ in_order : (bs : List CodeBlock) → AllByRecursion IsSourceBlock bs → AllByRe
 unfolding in_lines
 in_order bs h = all_sorted IsSourceBlock stands_before bs h
 
-source_readable : (p : Program) → IsProgram p → IsWrittenProgram p → AllByRecursion IsSourceBlock p.code_blocks → IsReadable (listed_tree p)
+source_readable : (p : Program) → IsProgram p → IsWrittenProgram p → AllByRecursion IsSourceBlock p.code_blocks → HasPrintedForms (listed_tree p)
 unfolding listed_tree
 source_readable p is w h =
     let ss = signatures (chains_of p.code_blocks) p.code_blocks in
@@ -103,7 +103,7 @@ source_readable p is w h =
     }
 
 pub source_printable : (p : Program) → IsProgram p → IsWrittenProgram p → AllByRecursion IsSourceBlock p.code_blocks → IsPrintable (listed_tree p)
-source_printable p is w h = record { cut = listed_printable p is w; read = source_readable p is w h }
+source_printable p is w h = record { tokens = listed_printable p is w; forms = source_readable p is w h }
 
 -- ---- the program of a source
 
@@ -160,16 +160,16 @@ program_words t symbols layouts =
     all_sorted HasWords is_code_before (each_block (λ c b l. code_block_of c b l l.id) (first_context symbols layouts t.blocks) t.blocks layouts)
     (blocks_have_words (first_context symbols layouts t.blocks) t.blocks layouts)
 
-passes_place : (p : Passed) → PassesInOpened p → PassesPlaceOn p → PassesPlace p
+passes_place : (p : Passed) → PassesInOpened p → PassesNamedPlace p → PassesPlace p
 passes_place (passed.Direct a w byte bit) h k = k
 passes_place (passed.InBlock number a w byte bit) h k = (h, k)
 passes_place _ h k = tt
 
-prepares_place : (o : FlatOperand) → PreparesInOpened o → PreparesOnNamed o → Prepares o
+prepares_place : (o : FlatOperand) → PreparesInOpened o → PreparesOnNamed o → PreparesPlace o
 prepares_place (flat.Pass index p) h k = passes_place p h k
 prepares_place _ h k = tt
 
-all_prepare : (ops : List OpData) → AllByRecursion (λ op. PreparesInOpened op.operand) ops → AllByRecursion (λ op. PreparesOnNamed op.operand) ops → AllByRecursion (λ op. Prepares op.operand) ops
+all_prepare : (ops : List OpData) → AllByRecursion (λ op. PreparesInOpened op.operand) ops → AllByRecursion (λ op. PreparesOnNamed op.operand) ops → AllByRecursion (λ op. PreparesPlace op.operand) ops
 all_prepare [] h k = tt
 all_prepare (op ∷ ops) (one, more) (on, others) = (prepares_place op.operand one on, all_prepare ops more others)
 

@@ -90,8 +90,8 @@ last_quote (b ∷ front) =
     let here : length (b ∷ (front ++ 34 ∷ [])) - 1 ≡ suc (length (front ++ 34 ∷ []) - 1) = omega (arith, size) in
     ap (λ k. get_or (b ∷ (front ++ 34 ∷ [])) k 0) here ∙ last_quote front
 
-unstripped : (text : List ℕ) → EndsQuoted text → strip_carriage_return text ≡ text
-unstripped text h = subst (λ (t : List ℕ). strip_carriage_return t ≡ t) (sym h.is) (rw (last_quote h.front) refl)
+strip_quoted : (text : List ℕ) → EndsQuoted text → strip_carriage_return text ≡ text
+strip_quoted text h = subst (λ (t : List ℕ). strip_carriage_return t ≡ t) (sym h.is) (rw (last_quote h.front) refl)
 
 -- ---- the lines of names
 
@@ -162,7 +162,7 @@ ends_fields x (y ∷ rest) = ends_behind (44 ∷ (34 ∷ (escaped symbols_writer
 
 line_ends : (e : NameEntry) → strip_carriage_return (line_of e) ≡ line_of e
 line_ends e =
-    unstripped (line_of e)
+    strip_quoted (line_of e)
     (ends_behind (34 ∷ (escaped symbols_writer e.name ++ 34 ∷ [])) _ (ends_fields (address_text e) (type_word (kind_of_width e.width) ∷ [] ∷ [])))
 
 pub listed_lines : (es : List NameEntry) → AllByRecursion IsNamed es → lines (listed_names es) ≡ map line_of es

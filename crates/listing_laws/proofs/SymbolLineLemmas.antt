@@ -68,12 +68,12 @@ unfolding escaped
 same_escaped [] = refl
 same_escaped (b ∷ x) = rw (same_escaped x) refl
 
-run : (fields : List (List ℕ)) (x : List ℕ) (rest : List (List ℕ))
+fields_run : (fields : List (List ℕ)) (x : List ℕ) (rest : List (List ℕ))
     → next_record default_config st.InQuoted fields [] (escaped symbols_writer x ++ 34 ∷ fields_text symbols_writer rest) ≡ Some (fields ++ x ∷ rest, st.StartRecord, [])
 unfolding next_record fields_text
-run fields x [] = rw (same_escaped x, quoted-run fields [] x []) refl
-run fields x (y ∷ rest) =
-    let more = run (fields ++ x ∷ []) y rest in
+fields_run fields x [] = rw (same_escaped x, quoted-run fields [] x []) refl
+fields_run fields x (y ∷ rest) =
+    let more = fields_run (fields ++ x ∷ []) y rest in
     rw (same_escaped x, quoted-run fields [] x (44 ∷ 34 ∷ (escaped symbols_writer y ++ 34 ∷ []) ++ fields_text symbols_writer rest), append_assoc (escaped symbols_writer y) (34 ∷ []) (fields_text symbols_writer rest))
     (more ∙ rw (append_assoc fields (x ∷ []) (y ∷ rest)) refl)
 
@@ -86,7 +86,7 @@ bare (a ∷ b ∷ x) = refl
 one_record : (x : List ℕ) (rest : List (List ℕ)) → only_record (row_body symbols_writer (x ∷ rest)) ≡ Some (x ∷ rest)
 unfolding only_record next_record
 one_record x rest =
-    rw (append_assoc (escaped symbols_writer x) (34 ∷ []) (fields_text symbols_writer rest), bare (escaped symbols_writer x ++ 34 ∷ fields_text symbols_writer rest), run [] x rest) refl
+    rw (append_assoc (escaped symbols_writer x) (34 ∷ []) (fields_text symbols_writer rest), bare (escaped symbols_writer x ++ 34 ∷ fields_text symbols_writer rest), fields_run [] x rest) refl
 
 pub columns_are : (e : NameEntry) → columns_of_line (line_of e) ≡ Some (record { name = e.name; address = address_text e; kind = type_word (kind_of_width e.width) })
 unfolding columns_of_line
@@ -208,15 +208,15 @@ wide_letters area.M width.Dword text h b = refl
 wide_letters _ w text h b = absurd cc
 
 -- the text of an address, without its blank
-joined : (word : List ℕ) (byte : ℕ) → filter (λ b. not (is_blank b)) word ≡ word → list_all is_ascii_digit (decimal byte) ≡ true
+address_joined : (word : List ℕ) (byte : ℕ) → filter (λ b. not (is_blank b)) word ≡ word → list_all is_ascii_digit (decimal byte) ≡ true
     → filter (λ b. not (is_blank b)) ((word ++ 32 ∷ []) ++ decimal byte) ≡ word ++ decimal byte
-joined word byte plain are =
+address_joined word byte plain are =
     rw (filter-append (λ b. not (is_blank b)) (word ++ 32 ∷ []) (decimal byte), filter-append (λ b. not (is_blank b)) word (32 ∷ []), plain, none_blank (decimal byte) are, append-nil word) refl
 
 bit_joined : (word : List ℕ) (byte bit : ℕ) → filter (λ b. not (is_blank b)) word ≡ word → list_all is_ascii_digit (decimal byte) ≡ true → list_all is_ascii_digit (decimal bit) ≡ true
     → filter (λ b. not (is_blank b)) (((((word ++ 32 ∷ []) ++ decimal byte) ++ []) ++ 46 ∷ []) ++ []) ++ filter (λ b. not (is_blank b)) (decimal bit) ≡ word ++ (decimal byte ++ 46 ∷ decimal bit)
 bit_joined word byte bit plain are few =
-    rw (append-nil ((word ++ 32 ∷ []) ++ decimal byte), append-nil (((word ++ 32 ∷ []) ++ decimal byte) ++ 46 ∷ []), filter-append (λ b. not (is_blank b)) ((word ++ 32 ∷ []) ++ decimal byte) (46 ∷ []), joined word byte plain are, none_blank (decimal bit) few)
+    rw (append-nil ((word ++ 32 ∷ []) ++ decimal byte), append-nil (((word ++ 32 ∷ []) ++ decimal byte) ++ 46 ∷ []), filter-append (λ b. not (is_blank b)) ((word ++ 32 ∷ []) ++ decimal byte) (46 ∷ []), address_joined word byte plain are, none_blank (decimal bit) few)
     (append_assoc (word ++ decimal byte) (46 ∷ []) (decimal bit) ∙ append_assoc word (decimal byte) (46 ∷ decimal bit))
 
 -- the address of a name
@@ -240,7 +240,7 @@ wide_named a w byte has b low =
     let word : List ℕ = letters_for (read_letters a) w in
     let d = numeral byte (omega (arith, low)) in
     let plain = plain_letters a w has in
-    ap (λ (t : List ℕ). address_of English t) (joined word byte plain.1 d.digits ∙ ap (λ (t : List ℕ). word ++ t) (sym (append-nil (decimal byte))))
+    ap (λ (t : List ℕ). address_of English t) (address_joined word byte plain.1 d.digits ∙ ap (λ (t : List ℕ). word ++ t) (sym (append-nil (decimal byte))))
     ∙ letters_read word (decimal byte) [] plain.0 d.digits d.some
     ∙ ap (λ (t : List ℕ). option_and_then (λ l. numbered_address l t) (letters_spelled_as English address_letters word)) (append-nil (decimal byte))
     ∙ wide_letters a w (decimal byte) has b

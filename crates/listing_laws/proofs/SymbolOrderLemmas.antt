@@ -62,9 +62,9 @@ stripped_line text h = by (eqb (get_or text (length text - 1) 0) 13)
     by true = front_line (length text - 1) text h
     by false = h
 
-begun : (b : ℕ) (parts : List (List ℕ)) → ends_no_line b ≡ true → AllByRecursion IsLine parts → AllByRecursion IsLine (onto_first b parts)
-begun b [] h k = (rw h refl, tt)
-begun b (p ∷ ps) h k = (rw h (k.0), k.1)
+lines_onto_first : (b : ℕ) (parts : List (List ℕ)) → ends_no_line b ≡ true → AllByRecursion IsLine parts → AllByRecursion IsLine (onto_first b parts)
+lines_onto_first b [] h k = (rw h refl, tt)
+lines_onto_first b (p ∷ ps) h k = (rw h (k.0), k.1)
 
 parts_lines : (text : List ℕ) → AllByRecursion IsLine (slice_split (λ b. b == 10) text)
 parts_lines [] = (refl, tt)
@@ -73,7 +73,7 @@ parts_lines (b ∷ text) = by (b == 10) refl (parts_lines text)
     by : (t : Bool) → (b == 10) ≡ t → AllByRecursion IsLine (slice_split (λ b. b == 10) text)
         → AllByRecursion IsLine (cond t ([] ∷ slice_split (λ b. b == 10) text) (onto_first b (slice_split (λ b. b == 10) text)))
     by true e more = (refl, more)
-    by false e more = begun b (slice_split (λ b. b == 10) text) (ap not e) more
+    by false e more = lines_onto_first b (slice_split (λ b. b == 10) text) (ap not e) more
 
 lines_parts : (parts : List (List ℕ)) → AllByRecursion IsLine parts → AllByRecursion IsLine (lines_of_parts parts)
 lines_parts [] h = tt
@@ -281,8 +281,8 @@ all_few (s ∷ symbols) =
 
 -- ---- in order
 
-turned : (f e : NameEntry) → NotSame f e → NotSame e f
-turned f e h = nat_list_eq_equiv.symm (upper_case_name e.name) (upper_case_name f.name) ∙ h
+not_same_turned : (f e : NameEntry) → NotSame f e → NotSame e f
+not_same_turned f e h = nat_list_eq_equiv.symm (upper_case_name e.name) (upper_case_name f.name) ∙ h
 
 -- ---- the law
 
@@ -297,7 +297,7 @@ names_read language file symbols are =
     let size = length_sorted is_name_before (entries_of symbols) in
     let few = all_few symbols in
     let most = right.few in
-    file_read (name_entries_of symbols) (names_named language file symbols are) (pairs_sorted NotSame turned is_name_before (entries_of symbols) (all_apart symbols right.apart)) (omega (arith, size, few, most))
+    file_read (name_entries_of symbols) (names_named language file symbols are) (pairs_sorted NotSame not_same_turned is_name_before (entries_of symbols) (all_apart symbols right.apart)) (omega (arith, size, few, most))
 
 back : (es : List NameEntry) → AllByRecursion IsNamed es → entries_of (map symbol_of es) ≡ es
 back [] h = refl

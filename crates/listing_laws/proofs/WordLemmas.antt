@@ -36,7 +36,7 @@ use Rattle.stl_codegen.specs.Operands.{numbered_operand, block_opened_by_operand
 use Rattle.stl_codegen.specs.Operations.{add_operation, call_operation_of, end_operation_of, jump_operation_of, load_operation, load_pointer_operation, operation_for, or_operation, store_pointer_operation, transfer_operation}
 use Rattle.stl_list.specs.Mnemonics.{jump_word, word_by, word_of}
 use Rattle.listing_laws.specs.Labels.{AreCallWordsFound, AreEndWordsFound, AreJumpWordsFound, AreWordsFound, HasWord, HaveWords}
-use Rattle.listing_laws.proofs.RunLemmas.{unaimed}
+use Rattle.listing_laws.proofs.RunLemmas.{same_target}
 
 -- ---- where the operand has a say
 
@@ -321,7 +321,7 @@ unfolding word_of
 filler_has = refl
 
 does_has : (u : Option ℕ) (w : Operation) (o : FlatOperand) → IsPlain o → is_empty_statement (word_of (op_code_of w)) ≡ false → HasWord (Does u w o)
-does_has u w o plain h = ap (λ (z : FlatOperand). is_empty_statement (word_by (op_code_of w) z)) (unaimed o) ∙ ap is_empty_statement (plain (op_code_of w)) ∙ h
+does_has u w o plain h = ap (λ (z : FlatOperand). is_empty_statement (word_by (op_code_of w) z)) (same_target o) ∙ ap is_empty_statement (plain (op_code_of w)) ∙ h
 
 ended_has : (s : Statement) (v : ResolvedOperand) (found : Option EndOperation) → is_empty_statement s.code ≡ false → jump_operation_of s.code ≡ None → call_operation_of s.code ≡ None → end_operation_of s.code ≡ found
     → HasWord (end_instr s v found)

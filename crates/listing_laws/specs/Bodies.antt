@@ -54,9 +54,9 @@ PassesPlace _ = Unit {0}
 
 -- the operand of an op before the last one of a statement: a place that it passes is named as in a
 -- source
-abbrev pub Prepares : Operand → Type 0
-Prepares (flat.Pass index p) = PassesPlace p
-Prepares _ = Unit {0}
+abbrev pub PreparesPlace : Operand → Type 0
+PreparesPlace (flat.Pass index p) = PassesPlace p
+PreparesPlace _ = Unit {0}
 
 -- CALL (`code`) passes parameters by the ops `before`, and has no instance (0) or that of a
 -- function block; UC and CC do neither
@@ -83,7 +83,7 @@ pub record IsSourceRun (r : Run) : Type 0 where
   -- the last op is one that the tables have
   pub op : IsOp r.op
   -- what is passed before the last op
-  pub prepares : AllByRecursion (λ op. Prepares op.operand) r.before
+  pub prepares : AllByRecursion (λ op. PreparesPlace op.operand) r.before
   -- the operand of the last op is one that a source writes
   pub shown : IsLastOperandPrinted r.before r.op.code r.op.operand
   -- its instruction word isn't that of an empty statement
@@ -95,7 +95,7 @@ pub record IsSourceRun (r : Run) : Type 0 where
 abbrev pub AreWords : List Formal → Type 0
 AreWords formals = AllByRecursion (λ f. is_word f.name ≡ true) formals
 
--- no jump leads to the last of so many statements, the END clause
+-- no jump leads to the last of `count` statements, the END clause
 abbrev pub IsEndFree : (count : ℕ) → CodeBlock → Type 0
 IsEndFree count b =
     (n : ℕ) → suc n ≡ count

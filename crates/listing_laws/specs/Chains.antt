@@ -84,9 +84,9 @@ LinkHasType (Has own kind) n type = (own ≡ n) × (kind ≡ type)
 LinkHasType (Joins own other) n type = ⊥
 
 -- one of these links says that the parameter `n` has this type
-abbrev pub HasTyped : List Link → (n : ℕ) → Simple → Type 0
-HasTyped [] n type = ⊥
-HasTyped (l ∷ ls) n type = LinkHasType l n type ⊎ HasTyped ls n type
+abbrev pub LinksHaveType : List Link → (n : ℕ) → Simple → Type 0
+LinksHaveType [] n type = ⊥
+LinksHaveType (l ∷ ls) n type = LinkHasType l n type ⊎ LinksHaveType ls n type
 
 -- a type that a listing gives to a parameter
 abbrev pub is_listed_type : Simple → Bool
@@ -110,7 +110,8 @@ pub record AreTypesAsDeclared (blocks : List CodeBlock) (declared : ℕ → Simp
   pub ends : (m n : ℕ) → HasStep (links blocks) m n → (w : Width)
       → kind_at (chains_of blocks) m w ≡ kind_at (chains_of blocks) n w
   -- what is passed to a system function has the type that it asks for
-  pub seeds : (n : ℕ) (type : Simple) → HasTyped (links blocks) n type → is_listed_type type ≡ true
+  pub seeds : (n : ℕ) (type : Simple) → LinksHaveType (links blocks) n type
+      → is_listed_type type ≡ true
       → kind_at (chains_of blocks) n (width_of type) ≡ type
 
 -- a listing says of the types of parameters what was declared, where the declared types agree with

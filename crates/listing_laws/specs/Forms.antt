@@ -9,15 +9,10 @@ use Rattle.stl_ast.specs.WellFormed.{AreSectionsInOrder}
 use Rattle.stl_ast.specs.declared.blocks.Block.{Block}
 use Rattle.stl_list.specs.CodeBlocks.{in_lines, listed_blocks}
 use Rattle.stl_list.specs.DataBlocks.{listed_data_blocks}
-use Rattle.stl_list.specs.Joined.{chains_of}
-use Rattle.stl_list.specs.Signatures.{Signature, signatures}
 use Rattle.print_laws.specs.Reading.{IsPrintedLabel, IsNumberedBlockOf, IsPrintedBlock, IsPrintedPart, IsResultOf}
 use Rattle.stl_list.specs.Labels.{label_of_number}
+use Rattle.listing_laws.specs.Declared.{signatures_in}
 use Rattle.listing_laws.specs.Ranges.{IsWrittenProgram}
-
--- what a listing says of the blocks of a program
-abbrev pub program_signatures : Program → List Signature
-program_signatures p = signatures (chains_of p.code_blocks) p.code_blocks
 
 -- a code block of a form that is read back, but for its statements
 pub record IsPrintedFrame (b : Block) : Type 0 where
@@ -44,14 +39,14 @@ pub record IsPrintedFrame (b : Block) : Type 0 where
 abbrev pub AreDataPrinted : Type 0
 AreDataPrinted =
     (p : Program) (line : ℕ) → IsProgram p → IsWrittenProgram p
-    → AllByRecursion IsPrintedBlock (listed_data_blocks (program_signatures p) line p.data_blocks)
+    → AllByRecursion IsPrintedBlock (listed_data_blocks (signatures_in p) line p.data_blocks)
 
 -- the code blocks of a listing, but for their statements, are of a form that is read back
 abbrev pub AreFramesPrinted : Type 0
 AreFramesPrinted =
     (p : Program) → IsProgram p → IsWrittenProgram p
     → AllByRecursion IsPrintedFrame
-    (listed_blocks (program_signatures p) 1 (in_lines p.code_blocks))
+    (listed_blocks (signatures_in p) 1 (in_lines p.code_blocks))
 
 -- a label that a listing makes is no keyword, and short
 abbrev pub AreLabelsPrinted : Type 0

@@ -37,7 +37,7 @@ pub record AreNestedAlike (ss ts : List Statement) : Type 0 where
       with_brackets (λ brackets s. broken_if (closes_no_bracket brackets s) s.line 29) [] ss
       ≡ with_brackets (λ brackets s. broken_if (closes_no_bracket brackets s) s.line 29) [] ts
   -- rule 30: brackets that are left open
-  pub left : brackets_left_open ss ≡ brackets_left_open ts
+  pub brackets_left : brackets_left_open ss ≡ brackets_left_open ts
   -- rule 31: an eighth open bracket
   pub eighth :
       with_brackets (λ brackets s. broken_if (is_eighth_bracket brackets s) s.line 31) [] ss

@@ -81,11 +81,11 @@ pub record IsConstantCoded (value : Literal) : Type 0 where
   -- a constant that fits WORD has at most 16 bits
   pub word : fits_elementary_type value simple.Word ≡ true → bits_of value ≤ 65535
 
--- a view is that of a constant exactly where the operand is one
-abbrev pub IsConstantSeen : Operand → ResolvedOperand → Type 0
-IsConstantSeen (operand.Constant value) v = (v ≡ view.Constant) × IsConstantCoded value
-IsConstantSeen o view.Constant = ⊥
-IsConstantSeen o _ = Unit {0}
+-- an operand resolves to a constant exactly where it is one, and this has its bits
+abbrev pub IsConstantResolved : Operand → ResolvedOperand → Type 0
+IsConstantResolved (operand.Constant value) v = (v ≡ view.Constant) × IsConstantCoded value
+IsConstantResolved o view.Constant = ⊥
+IsConstantResolved o _ = Unit {0}
 
 -- ---- operands
 
@@ -96,7 +96,7 @@ pub record IsActedAgain (listed : Context) (m : Mnemonic) (o again : Operand) (v
   -- what the listing's operand names
   pub found : ResolvedOperand
   -- the listing's operand resolves to `found`
-  pub sees : resolution_of listed again ≡ Resolved found
+  pub resolves : resolution_of listed again ≡ Resolved found
   -- the instruction takes the listing's operand
   pub right : operand_rule listed (form_of m) again ≡ None
   -- the same data block is opened before it, if any
@@ -118,6 +118,6 @@ AreOperandsKept =
     (c listed : Context) (formals : List Formal) (starts : List ℕ) (f : ℕ → ℕ) (m : Mnemonic)
     (o : Operand) (v : ResolvedOperand)
     → IsStraightLine m → operand_rule c (form_of m) o ≡ None → resolution_of c o ≡ Resolved v
-    → IsConstantSeen o v → StandsAgain listed formals v
+    → IsConstantResolved o v → StandsAgain listed formals v
     → IsActedAgain listed m o
     (listed_operand formals starts (run_of f (operand_instruction m o v))) v

@@ -41,14 +41,14 @@ AreListingsRead =
     × IsTree (listed_source p) tokens (listed_tree p)
 
 -- a place that is passed has a bit number as in a source
-abbrev pub PassesPlaceOn : Passed → Type 0
-PassesPlaceOn (passed.Direct a w byte bit) = IsPlace a w bit
-PassesPlaceOn (passed.InBlock number a w byte bit) = IsPlace a w bit
-PassesPlaceOn _ = Unit {0}
+abbrev pub PassesNamedPlace : Passed → Type 0
+PassesNamedPlace (passed.Direct a w byte bit) = IsPlace a w bit
+PassesNamedPlace (passed.InBlock number a w byte bit) = IsPlace a w bit
+PassesNamedPlace _ = Unit {0}
 
 -- the operand of an op before a call: a place that it passes has a bit number as in a source
 abbrev pub PreparesOnNamed : Operand → Type 0
-PreparesOnNamed (flat.Pass index p) = PassesPlaceOn p
+PreparesOnNamed (flat.Pass index p) = PassesNamedPlace p
 PreparesOnNamed _ = Unit {0}
 
 -- the operand of the last op of a statement: a place has a bit number as in a source, and a call is

@@ -10,7 +10,7 @@ use Rattle.flat_code.specs.declared.operations.CallOperation.{CallOperation}
 use Rattle.stl_types.specs.declared.parameters.Formal.{Formal}
 use Rattle.stl_codegen.specs.Compiled.{SourceInstruction, StatedBlock, compiled_block}
 use Rattle.stl_list.specs.Joined.{first_of, links, total_parameter_count, system_parameters}
-use Rattle.listing_laws.specs.Chains.{HasStep, HasTyped}
+use Rattle.listing_laws.specs.Chains.{HasStep, LinksHaveType}
 
 -- a statement of a block, `b`, passes the parameter of index `own` of `b` to the block `id`, for
 -- its parameter of an index
@@ -59,7 +59,7 @@ AreSeedsFound =
     (front back : List StatedBlock) (b : StatedBlock) (id : BlockId) (index own : ℕ) (f : Formal)
     → PassesParameterOn b id index own → is_system_function id.kind ≡ true
     → slice_get (system_parameters id.number) index ≡ Some f
-    → HasTyped (links (map compiled_block (front ++ b ∷ back)))
+    → LinksHaveType (links (map compiled_block (front ++ b ∷ back)))
     (total_parameter_count (map compiled_block front) + own) f.kind
 
 -- the parameters of a block begin behind those of the blocks in front of it

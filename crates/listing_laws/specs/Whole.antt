@@ -109,7 +109,7 @@ pub record IsDataAt (p : Program) (blocks : List Block) (layouts : List BlockLay
       ≡ Some (listed_data (signatures_in p) (line_reached 1 (in_lines p.code_blocks)) d.number
       d.bytes d.instance_of)
   -- the layout is the one at this place
-  pub laid : slice_get layouts place ≡ Some layout
+  pub layout_is : slice_get layouts place ≡ Some layout
   -- the layout has the number of the data block
   pub id : layout.id ≡ Some (data_id d.number)
   -- the layout has as many bytes as the data block

@@ -1,8 +1,6 @@
-ghost use Rattle.listing_laws.specs.Jumps.{AreLabelsKnown, AreLabelsOnce};
+ghost use Rattle.listing_laws.specs.Jumps.{AreLabelsOnce};
 
-/// In the listed body of a block no label stands twice, and where its jumps lead to its statements
-/// each label that is named stands there.
+/// In the listed body of a code block no label stands twice.
 pub fn law_of_listed_jumps()
-    ensures once { AreLabelsOnce }
-    ensures known { AreLabelsKnown }
+    ensures { AreLabelsOnce }
 {}

@@ -10,7 +10,7 @@ use Rattle.plc_mem.specs.BitPlace.{PeripheralInputs}
 use Rattle.plc_mem.specs.Fresh.{initial_memory}
 use Rattle.plc_mem.specs.Peripherals.{with_input, outputs_cleared}
 use Rattle.plc_mem.specs.Refresh.{memory_refreshed}
-use Rattle.plc_mem.proofs.Runs.{mapped}
+use Rattle.plc_mem.proofs.Runs.{mapped_value}
 use Rattle.status_word.specs.declared.Regs.{Regs}
 use Rattle.frames.specs.Activations.{activation_begun, with_local_byte}
 use Rattle.frames.specs.Locals.{LocalData, no_locals, open_locals, local_byte_set}
@@ -111,7 +111,7 @@ pub local_byte_fits :
     (p : Program) (m : Areas) (a b : Activation) (frame byte value : ℕ) → with_local_byte frame byte value a ≡ Some b
     → FitsProgram p m a → FitsProgram p m b
 local_byte_fits p m a b frame byte value done h =
-    let was = mapped (λ (l : LocalData). let r : Activation = record a { running = record a.running { locals = l } } in r)
+    let was = mapped_value (λ (l : LocalData). let r : Activation = record a { running = record a.running { locals = l } } in r)
     (local_byte_set a.running.locals frame byte value) b done in
     let kept = local_kept a.running.locals was.0 frame byte 0 widths.Byte value was.1 in
     let s = stands_of (code_of p) (open_codes p) m a h.fits in

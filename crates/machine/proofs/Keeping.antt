@@ -6,7 +6,7 @@ use Rattle.std.specs.Option.{option_map}
 use Rattle.plc_base.specs.declared.Width.TheVariants as widths
 use Rattle.plc_mem.specs.Areas.{Areas}
 use Rattle.plc_mem.specs.Writing.{put_number, number_written}
-use Rattle.plc_mem.proofs.Runs.{length-put, mapped, chained}
+use Rattle.plc_mem.proofs.Runs.{length-put, mapped_value, chained_value}
 use Rattle.status_word.specs.Brackets.{entry_of, bracket_begun}
 use Rattle.status_word.specs.Store.{after_store}
 use Rattle.status_word.specs.declared.Bracket.{Bracket}
@@ -85,9 +85,9 @@ pub local_kept :
     → KeepsLocals l k
 unfolding local_written
 local_kept l k frame at bit width value done =
-    let found = chained (λ (place : ℕ). option_map (λ (bytes : List ℕ). let r : LocalData = record l { bytes = bytes } in r) (put_number l.bytes place bit width value))
+    let found = chained_value (λ (place : ℕ). option_map (λ (bytes : List ℕ). let r : LocalData = record l { bytes = bytes } in r) (put_number l.bytes place bit width value))
     (local_operand_start l frame at width) k done in
-    let was = mapped (λ (bytes : List ℕ). let r : LocalData = record l { bytes = bytes } in r) (put_number l.bytes found.0 bit width value) k found.2 in
+    let was = mapped_value (λ (bytes : List ℕ). let r : LocalData = record l { bytes = bytes } in r) (put_number l.bytes found.0 bit width value) k found.2 in
     rw (sym was.2) (record { starts = refl; len = length-put l.bytes was.0 found.0 bit width value was.1 })
 
 either_stored :
@@ -99,12 +99,12 @@ either_stored :
     ≡ Some c
     → KeepsLocalMemory s m c
 either_stored at value s m c true done =
-    let was = mapped (λ (l : LocalData). let r : LocalMemory = record { local = with_locals s l; memory = m } in r)
+    let was = mapped_value (λ (l : LocalData). let r : LocalMemory = record { local = with_locals s l; memory = m } in r)
     (local_written s.locals at.frame at.place.byte at.place.bit at.width value) c done in
     let kept = local_kept s.locals was.0 at.frame at.place.byte at.place.bit at.width value was.1 in
     rw (sym was.2) (record { inner = refl; starts = kept.starts; len = kept.len; memory = same_sizes m })
 either_stored at value s m c false done =
-    let was = mapped (λ (n : Areas). let r : LocalMemory = record { local = s; memory = n } in r) (number_written m at.place at.width value) c done in
+    let was = mapped_value (λ (n : Areas). let r : LocalMemory = record { local = s; memory = n } in r) (number_written m at.place at.width value) c done in
     rw (sym was.2) (record { inner = refl; starts = refl; len = refl; memory = writing_sizes m was.0 at.place at.width value was.1 })
 
 stored_if :

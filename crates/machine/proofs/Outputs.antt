@@ -14,7 +14,7 @@ use Rattle.plc_mem.specs.Areas.{Areas, PeripheralBytes}
 use Rattle.plc_mem.specs.BitPlace.{Region, Inputs, Outputs, BitMemory, PeripheralInputs, PeripheralOutputs, DataBlock}
 use Rattle.plc_mem.specs.Number.{region_of}
 use Rattle.plc_mem.specs.Writing.{put_number as put_bytes, put_peripheral, put_in_block, number_written, number_written_in}
-use Rattle.plc_mem.proofs.Runs.{mapped}
+use Rattle.plc_mem.proofs.Runs.{mapped_value}
 use Rattle.status_word.specs.declared.Regs.{Regs}
 use Rattle.timers_counters.specs.Timer.{Timer}
 use Rattle.timers_counters.specs.Counter.{Counter}
@@ -57,21 +57,21 @@ region_stays :
     (m n : Areas) (region : Region) (byte bit : ℕ) (width : Width) (value : ℕ) → IsInsideRegion region
     → number_written_in m region byte bit width value ≡ Some n → Stay m n
 region_stays m n Inputs byte bit width value inside done =
-    let was = mapped (λ (s : List ℕ). let r : Areas = record m { inputs = s } in r) (put_bytes m.inputs byte bit width value) n done in
+    let was = mapped_value (λ (s : List ℕ). let r : Areas = record m { inputs = s } in r) (put_bytes m.inputs byte bit width value) n done in
     rw (sym was.2) refl
 region_stays m n Outputs byte bit width value inside done =
-    let was = mapped (λ (s : List ℕ). let r : Areas = record m { outputs = s } in r) (put_bytes m.outputs byte bit width value) n done in
+    let was = mapped_value (λ (s : List ℕ). let r : Areas = record m { outputs = s } in r) (put_bytes m.outputs byte bit width value) n done in
     rw (sym was.2) refl
 region_stays m n BitMemory byte bit width value inside done =
-    let was = mapped (λ (s : List ℕ). let r : Areas = record m { bit_memory = s } in r) (put_bytes m.bit_memory byte bit width value) n done in
+    let was = mapped_value (λ (s : List ℕ). let r : Areas = record m { bit_memory = s } in r) (put_bytes m.bit_memory byte bit width value) n done in
     rw (sym was.2) refl
 region_stays m n PeripheralInputs byte bit width value inside done =
-    let was = mapped (λ (p : PeripheralBytes). let r : Areas = record m { peripheral_inputs = p } in r)
+    let was = mapped_value (λ (p : PeripheralBytes). let r : Areas = record m { peripheral_inputs = p } in r)
     (put_peripheral m.peripheral_inputs byte bit width value) n done in
     rw (sym was.2) refl
 region_stays m n PeripheralOutputs byte bit width value inside done = absurd inside
 region_stays m n (DataBlock k) byte bit width value inside done =
-    let was = mapped (λ (blocks : finmap.FinMap nat_cmp (List ℕ)). let r : Areas = record m { data_blocks = blocks } in r)
+    let was = mapped_value (λ (blocks : finmap.FinMap nat_cmp (List ℕ)). let r : Areas = record m { data_blocks = blocks } in r)
     (put_in_block m.data_blocks k byte bit width value) n done in
     rw (sym was.2) refl
 
@@ -115,11 +115,11 @@ either_stored :
     ≡ Some c
     → MemoryStays m c
 either_stored at value s m c true inside done =
-    let was = mapped (λ (l : LocalData). let r : LocalMemory = record { local = with_locals s l; memory = m } in r)
+    let was = mapped_value (λ (l : LocalData). let r : LocalMemory = record { local = with_locals s l; memory = m } in r)
     (local_written s.locals at.frame at.place.byte at.place.bit at.width value) c done in
     rw (sym was.2) refl
 either_stored at value s m c false inside done =
-    let was = mapped (λ (n : Areas). let r : LocalMemory = record { local = s; memory = n } in r) (number_written m at.place at.width value) c done in
+    let was = mapped_value (λ (n : Areas). let r : LocalMemory = record { local = s; memory = n } in r) (number_written m at.place at.width value) c done in
     rw (sym was.2) (written_stays m was.0 at.place at.width value inside was.1)
 
 stored_if :

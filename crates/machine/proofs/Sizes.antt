@@ -18,7 +18,7 @@ use Rattle.plc_mem.specs.Fresh.{initial_memory}
 use Rattle.plc_mem.specs.Number.{number_at_place, EachBitExists, region_read, region_written, operand_bit}
 use Rattle.plc_mem.specs.Writing.{put_number, put_peripheral, put_in_block, number_written, number_written_in}
 use Rattle.plc_mem.proofs.Lawful.{reads_where_each_bit_exists}
-use Rattle.plc_mem.proofs.Runs.{PartPut, part_put, block_put, length-put, chained, mapped, in_low, in_high}
+use Rattle.plc_mem.proofs.Runs.{PartPut, part_put, block_put, length-put, chained_value, mapped_value, in_low, in_high}
 use Rattle.machine.specs.Code.{Code}
 use Rattle.machine.specs.Fitting.{IsMemoryOf, SameParts, SameSizes, len_in}
 
@@ -204,24 +204,24 @@ pub region_sizes :
     (m n : Areas) (region : Region) (byte bit : ℕ) (width : Width) (value : ℕ)
     → number_written_in m region byte bit width value ≡ Some n → SameSizes m n
 region_sizes m n Inputs byte bit width value done =
-    let was = mapped (λ (s : List ℕ). let r : Areas = record m { inputs = s } in r) (put_number m.inputs byte bit width value) n done in
+    let was = mapped_value (λ (s : List ℕ). let r : Areas = record m { inputs = s } in r) (put_number m.inputs byte bit width value) n done in
     rw (sym was.2) (areas_of_same_sizes m was.0 m.outputs m.bit_memory m.peripheral_inputs m.peripheral_outputs
     (length-put m.inputs was.0 byte bit width value was.1) refl refl (same_parts m.peripheral_inputs) (same_parts m.peripheral_outputs))
 region_sizes m n Outputs byte bit width value done =
-    let was = mapped (λ (s : List ℕ). let r : Areas = record m { outputs = s } in r) (put_number m.outputs byte bit width value) n done in
+    let was = mapped_value (λ (s : List ℕ). let r : Areas = record m { outputs = s } in r) (put_number m.outputs byte bit width value) n done in
     rw (sym was.2) (areas_of_same_sizes m m.inputs was.0 m.bit_memory m.peripheral_inputs m.peripheral_outputs
     refl (length-put m.outputs was.0 byte bit width value was.1) refl (same_parts m.peripheral_inputs) (same_parts m.peripheral_outputs))
 region_sizes m n BitMemory byte bit width value done =
-    let was = mapped (λ (s : List ℕ). let r : Areas = record m { bit_memory = s } in r) (put_number m.bit_memory byte bit width value) n done in
+    let was = mapped_value (λ (s : List ℕ). let r : Areas = record m { bit_memory = s } in r) (put_number m.bit_memory byte bit width value) n done in
     rw (sym was.2) (areas_of_same_sizes m m.inputs m.outputs was.0 m.peripheral_inputs m.peripheral_outputs
     refl refl (length-put m.bit_memory was.0 byte bit width value was.1) (same_parts m.peripheral_inputs) (same_parts m.peripheral_outputs))
 region_sizes m n PeripheralInputs byte bit width value done =
-    let was = mapped (λ (p : PeripheralBytes). let r : Areas = record m { peripheral_inputs = p } in r)
+    let was = mapped_value (λ (p : PeripheralBytes). let r : Areas = record m { peripheral_inputs = p } in r)
     (put_peripheral m.peripheral_inputs byte bit width value) n done in
     rw (sym was.2) (areas_of_same_sizes m m.inputs m.outputs m.bit_memory was.0 m.peripheral_outputs
     refl refl refl (parts_put m.peripheral_inputs was.0 byte bit width value was.1) (same_parts m.peripheral_outputs))
 region_sizes m n PeripheralOutputs byte bit width value done =
-    let was = mapped (λ (p : PeripheralBytes). let r : Areas = record m {
+    let was = mapped_value (λ (p : PeripheralBytes). let r : Areas = record m {
       outputs = unwrap_or (put_number m.outputs byte bit width value) m.outputs;
       peripheral_outputs = p;
     } in r) (put_peripheral m.peripheral_outputs byte bit width value) n done in
@@ -229,7 +229,7 @@ region_sizes m n PeripheralOutputs byte bit width value done =
     refl (or_before (put_number m.outputs byte bit width value) m.outputs (λ s is. length-put m.outputs s byte bit width value is)) refl
     (same_parts m.peripheral_inputs) (parts_put m.peripheral_outputs was.0 byte bit width value was.1))
 region_sizes m n (DataBlock k) byte bit width value done =
-    let was = mapped (λ (blocks : finmap.FinMap nat_cmp (List ℕ)). let r : Areas = record m { data_blocks = blocks } in r)
+    let was = mapped_value (λ (blocks : finmap.FinMap nat_cmp (List ℕ)). let r : Areas = record m { data_blocks = blocks } in r)
     (put_in_block m.data_blocks k byte bit width value) n done in
     rw (sym was.2) (blocks_changed m was.0 (λ number. block_lens m.data_blocks was.0 k byte bit width value was.1 number))
 
@@ -238,5 +238,5 @@ pub writing_sizes :
     → SameSizes m n
 unfolding number_written
 writing_sizes m n place width value done =
-    let found = chained (λ (region : Region). number_written_in m region place.byte place.bit width value) (region_written place) n done in
+    let found = chained_value (λ (region : Region). number_written_in m region place.byte place.bit width value) (region_written place) n done in
     region_sizes m n found.0 place.byte place.bit width value found.2

@@ -18,7 +18,7 @@ use Rattle.plc_mem.specs.Writing.{number_written}
 use Rattle.plc_base.specs.Widths.{bit_count}
 use Rattle.plc_mem.specs.Run.{number_over}
 use Rattle.plc_mem.proofs.Kept.{number_fits, over_fits}
-use Rattle.plc_mem.proofs.Runs.{chained}
+use Rattle.plc_mem.proofs.Runs.{chained_value}
 use Rattle.plc_mem.proofs.Lawful.{reads_where_each_bit_exists, writing_exists}
 use Rattle.frames.specs.Locals.{LocalData, local_operand_start, local_number, local_written}
 use Rattle.frames.specs.declared.Activation.{Activation}
@@ -141,7 +141,7 @@ local_fits :
     (l : LocalData) (frame at bit : ℕ) (width : Width) (n : ℕ) → local_number l frame at bit width ≡ Some n → n < 2 ^ bit_count width
 unfolding local_number
 local_fits l frame at bit width n is =
-    let found = chained (λ (place : ℕ). number_over (slice_get l.bytes) place bit width) (local_operand_start l frame at width) n is in
+    let found = chained_value (λ (place : ℕ). number_over (slice_get l.bytes) place bit width) (local_operand_start l frame at width) n is in
     over_fits (slice_get l.bytes) found.0 bit width (Some n) (sym found.2)
 
 place_fits : (at : Location) (l : LocalData) (m : Areas) (n : ℕ) → location_number at l m ≡ Some n → n < 2 ^ bit_count at.width

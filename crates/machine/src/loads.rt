@@ -135,7 +135,7 @@ pub(crate) fn transfer(operand: &Operand, s: &mut Running, m: &mut Memory) -> Re
 pub(crate) fn load_status(r: &mut Regs)
     ensures { r.new ≡ status_loaded r.old }
 {
-    let number = r.status.loaded();
+    let number = r.status.loaded_number();
     put_loaded(r, u32::from(number));
 }
 
@@ -144,5 +144,5 @@ pub(crate) fn load_status(r: &mut Regs)
 pub(crate) fn transfer_status(r: &mut Regs)
     ensures { r.new ≡ status_transferred r.old }
 {
-    r.status = Status::transferred(r.a1);
+    r.status = Status::transferred_status(r.a1);
 }

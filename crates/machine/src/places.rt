@@ -217,7 +217,7 @@ fn by_pointer(access: Access, area: Area, width: Width, n: u32, s: &Running) -> 
     ensures { result ≡ by_pointer_of access area width n (local_of s.now) }
 {
     if !is_aligned(width, n) {
-        return Err(access.error(error_codes::UNALIGNED));
+        return Err(access.error(error_codes::ALIGNMENT_ERROR));
     }
     at_pointer(area, width, n, s)
 }
@@ -247,7 +247,7 @@ fn by_crossing(
     ensures { result ≡ by_crossing_of access width address n (local_of s.now) }
 {
     if !is_aligned(width, n) {
-        return Err(access.error(error_codes::UNALIGNED));
+        return Err(access.error(error_codes::ALIGNMENT_ERROR));
     }
     match place_of_pointer(address) {
         Ok(place) => in_named(access, place.area, width, n, s),

@@ -8,7 +8,7 @@ use Rattle.ob_sched.specs.OrganizationBlock.{priority_class, can_wait}
 use Rattle.ob_sched.specs.StartRequest.{StartRequest, request_queued, waiting_count}
 use Rattle.ob_sched.specs.Bin.{requests_by_rank, are_of_class, are_placed_from, waiting_in, empty_bin}
 use Rattle.ob_sched.specs.declared.bin.Bin.{Bin}
-use Rattle.ob_sched.proofs.QueueLemmas.{AtLeast, Below, AtLeast-append, AtLeast-lower, queued-last, queued-append, waiting-append, waiting-above, waiting-below}
+use Rattle.ob_sched.proofs.QueueLemmas.{AreFromClass, AreBelowClass, AreFromClass-append, AreFromClass-lower, queued-last, queued-append, waiting-append, waiting-above, waiting-below}
 
 -- a bin with one request more
 abbrev pub with_request : StartRequest → Bin → Bin
@@ -21,40 +21,40 @@ same_class class x h = same (priority_class x.0) class (and_parts (can_wait x.0)
     same : (a b : ℕ) → (a == b) ≡ true → a ≡ b
     same a b h = grind (arith, nat_tests)
 
-of_class-AtLeast : (class : ℕ) (xs : List StartRequest) → are_of_class class xs ≡ true → AtLeast class xs
-of_class-AtLeast class [] h = tt
-of_class-AtLeast class (x ∷ xs) h =
+of_class-AreFromClass : (class : ℕ) (xs : List StartRequest) → are_of_class class xs ≡ true → AreFromClass class xs
+of_class-AreFromClass class [] h = tt
+of_class-AreFromClass class (x ∷ xs) h =
     let parts = and_parts (can_wait x.0 && priority_class x.0 == class) (are_of_class class xs) h in
-    (at_least class (priority_class x.0) (same_class class x parts.0), of_class-AtLeast class xs parts.1)
+    (at_least class (priority_class x.0) (same_class class x parts.0), of_class-AreFromClass class xs parts.1)
   where
     at_least : (a b : ℕ) → b ≡ a → a ≤ b
     at_least a b e = omega arith
 
-pub of_class-Below : (class high : ℕ) (xs : List StartRequest) → class < high → are_of_class class xs ≡ true → Below high xs
-of_class-Below class high [] lt h = tt
-of_class-Below class high (x ∷ xs) lt h =
+pub of_class-AreBelowClass : (class high : ℕ) (xs : List StartRequest) → class < high → are_of_class class xs ≡ true → AreBelowClass high xs
+of_class-AreBelowClass class high [] lt h = tt
+of_class-AreBelowClass class high (x ∷ xs) lt h =
     let parts = and_parts (can_wait x.0 && priority_class x.0 == class) (are_of_class class xs) h in
-    (below class high (priority_class x.0) lt (same_class class x parts.0), of_class-Below class high xs lt parts.1)
+    (below class high (priority_class x.0) lt (same_class class x parts.0), of_class-AreBelowClass class high xs lt parts.1)
   where
     below : (a b c : ℕ) → a < b → c ≡ a → c < b
     below a b c h e = omega arith
 
-pub ranked-AtLeast : (class : ℕ) (bins : List Bin) → are_placed_from class bins ≡ true → AtLeast class (requests_by_rank bins)
-ranked-AtLeast class [] h = tt
-ranked-AtLeast class (bin ∷ rest) h =
+pub ranked-AreFromClass : (class : ℕ) (bins : List Bin) → are_placed_from class bins ≡ true → AreFromClass class (requests_by_rank bins)
+ranked-AreFromClass class [] h = tt
+ranked-AreFromClass class (bin ∷ rest) h =
     let parts = and_parts (are_of_class class bin.waiting.items) (are_placed_from (class + 1) rest) h in
-    AtLeast-append class (requests_by_rank rest) bin.waiting.items
-    (AtLeast-lower class (class + 1) (requests_by_rank rest) (omega arith) (ranked-AtLeast (class + 1) rest parts.1))
-    (of_class-AtLeast class bin.waiting.items parts.0)
+    AreFromClass-append class (requests_by_rank rest) bin.waiting.items
+    (AreFromClass-lower class (class + 1) (requests_by_rank rest) (omega arith) (ranked-AreFromClass (class + 1) rest parts.1))
+    (of_class-AreFromClass class bin.waiting.items parts.0)
 
 -- a request that is queued goes to the end of its bin
 pub queued-ranked : (class n : ℕ) (bins : List Bin) (r : StartRequest) → are_placed_from class bins ≡ true → n < length bins
     → priority_class r.0 ≡ class + n → request_queued r (requests_by_rank bins) ≡ requests_by_rank (set bins n (with_request r (get_or bins n empty_bin)))
 queued-ranked class n [] r h lt e = absurd (omega arith)
 queued-ranked class zero (bin ∷ rest) r h lt e =
-    let all = ranked-AtLeast class (bin ∷ rest) h in
+    let all = ranked-AreFromClass class (bin ∷ rest) h in
     let here : priority_class r.0 ≡ class = plain (priority_class r.0) class e in
-    let last = queued-last r (requests_by_rank (bin ∷ rest)) (subst (λ c. AtLeast c (requests_by_rank (bin ∷ rest))) (sym here) all) in
+    let last = queued-last r (requests_by_rank (bin ∷ rest)) (subst (λ c. AreFromClass c (requests_by_rank (bin ∷ rest))) (sym here) all) in
     last ∙ append_assoc (requests_by_rank rest) bin.waiting.items (r ∷ [])
   where
     plain : (a b : ℕ) → a ≡ b + 0 → a ≡ b
@@ -62,7 +62,7 @@ queued-ranked class zero (bin ∷ rest) r h lt e =
 queued-ranked class (suc n) (bin ∷ rest) r h lt e =
     let parts = and_parts (are_of_class class bin.waiting.items) (are_placed_from (class + 1) rest) h in
     let higher : class < priority_class r.0 = above (priority_class r.0) class n e in
-    queued-append r (requests_by_rank rest) bin.waiting.items (of_class-Below class (priority_class r.0) bin.waiting.items higher parts.0)
+    queued-append r (requests_by_rank rest) bin.waiting.items (of_class-AreBelowClass class (priority_class r.0) bin.waiting.items higher parts.0)
     ∙ ap (λ (front : List StartRequest). front ++ bin.waiting.items) (queued-ranked (class + 1) n rest r parts.1 (omega arith) (next (priority_class r.0) class n e))
   where
     above : (a b n : ℕ) → a ≡ b + suc n → b < a
@@ -101,7 +101,7 @@ pub waiting-ranked : (ob class n : ℕ) (bins : List Bin) → are_placed_from cl
 waiting-ranked ob class n [] h lt e = absurd (omega arith)
 waiting-ranked ob class zero (bin ∷ rest) h lt e =
     let parts = and_parts (are_of_class class bin.waiting.items) (are_placed_from (class + 1) rest) h in
-    let above = AtLeast-lower (suc (priority_class ob)) (class + 1) (requests_by_rank rest) (plain (priority_class ob) class e) (ranked-AtLeast (class + 1) rest parts.1) in
+    let above = AreFromClass-lower (suc (priority_class ob)) (class + 1) (requests_by_rank rest) (plain (priority_class ob) class e) (ranked-AreFromClass (class + 1) rest parts.1) in
     waiting-append ob (requests_by_rank rest) bin.waiting.items ∙ none (waiting-above ob (requests_by_rank rest) above)
   where
     plain : (a b : ℕ) → a ≡ b + 0 → suc a ≤ b + 1
@@ -113,7 +113,7 @@ waiting-ranked ob class (suc n) (bin ∷ rest) h lt e =
     let parts = and_parts (are_of_class class bin.waiting.items) (are_placed_from (class + 1) rest) h in
     let higher : class < priority_class ob = above (priority_class ob) class n e in
     waiting-append ob (requests_by_rank rest) bin.waiting.items
-    ∙ none (waiting-below ob bin.waiting.items (of_class-Below class (priority_class ob) bin.waiting.items higher parts.0))
+    ∙ none (waiting-below ob bin.waiting.items (of_class-AreBelowClass class (priority_class ob) bin.waiting.items higher parts.0))
     ∙ waiting-ranked ob (class + 1) n rest parts.1 (omega arith) (next (priority_class ob) class n e)
   where
     above : (a b n : ℕ) → a ≡ b + suc n → b < a

@@ -77,7 +77,7 @@ bitmap-or n bins bin lt some =
     plain : (joined shared old new p kept to : ℕ) → joined + shared ≡ old + p → shared ≡ kept → new + kept ≡ old + to * p → to ≡ 1 → joined ≡ new
     plain joined shared old new p kept to e f g h = let one : to * p ≡ 1 * p = ap (λ (t : ℕ). t * p) h in omega (arith, one)
 
--- clearing a bit, where the bin held a request and bit_of none then
+-- clearing a bit, where the bin held a request and holds none then
 pub bitmap-and : (n : ℕ) (bins : List Bin) (bin : Bin) → n < length bins → bitmap_of bins < 2 ^ 32 → 2 ^ n < 2 ^ 32
     → 0 < length (waiting_in bins n) → length bin.waiting.items ≡ 0
     → bit_and (bitmap_of bins) (2 ^ 32 - 1 - 2 ^ n) ≡ bitmap_of (set bins n bin)

@@ -14,7 +14,8 @@ use Rattle.ob_sched.proofs.QueueLemmas.{one_if, waiting-queued, waiting-drop}
 use Rattle.ob_sched.proofs.BinLemmas.{with_request, queued-ranked, ranked-set, ranked-split, placed-at, placed-set, of_class-push, of_class-drop, bin_found, waiting-found, waiting-part}
 use Rattle.ob_sched.proofs.RoomLemmas.{room}
 
--- what the bins keep
+-- what every change of the bins keeps: there are 32, each request waits in the bin of its class, and no
+-- queue is longer than it may be
 pub record KeepsBins (bins : List Bin) : Type 0 where
   pub count : length bins ≡ 32
   pub placed : are_placed_from 0 bins ≡ true

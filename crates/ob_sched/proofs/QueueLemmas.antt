@@ -9,23 +9,23 @@ use Rattle.plc_base.specs.declared.Mode.{Mode}
 use Rattle.ob_sched.specs.StartRequest.{StartRequest, request_queued, waiting_count, best_of, IsBest}
 use Rattle.ob_sched.specs.declared.requests.Pending.{Pending}
 
--- all requests have at least this class
-abbrev pub AtLeast : ℕ → List StartRequest → Type 0
-AtLeast class [] = Unit {0}
-AtLeast class (first ∷ rest) = (class ≤ priority_class first.0) × AtLeast class rest
+-- all of some requests have at least this priority class
+abbrev pub AreFromClass : ℕ → List StartRequest → Type 0
+AreFromClass class [] = Unit {0}
+AreFromClass class (first ∷ rest) = (class ≤ priority_class first.0) × AreFromClass class rest
 
--- all have a lower one
-abbrev pub Below : ℕ → List StartRequest → Type 0
-Below class [] = Unit {0}
-Below class (first ∷ rest) = (priority_class first.0 < class) × Below class rest
+-- all of some requests have a priority class below this one
+abbrev pub AreBelowClass : ℕ → List StartRequest → Type 0
+AreBelowClass class [] = Unit {0}
+AreBelowClass class (first ∷ rest) = (priority_class first.0 < class) × AreBelowClass class rest
 
-pub AtLeast-append : (class : ℕ) (xs ys : List StartRequest) → AtLeast class xs → AtLeast class ys → AtLeast class (xs ++ ys)
-AtLeast-append class [] ys h k = k
-AtLeast-append class (x ∷ xs) ys h k = (h.0, AtLeast-append class xs ys h.1 k)
+pub AreFromClass-append : (class : ℕ) (xs ys : List StartRequest) → AreFromClass class xs → AreFromClass class ys → AreFromClass class (xs ++ ys)
+AreFromClass-append class [] ys h k = k
+AreFromClass-append class (x ∷ xs) ys h k = (h.0, AreFromClass-append class xs ys h.1 k)
 
-pub AtLeast-lower : (low high : ℕ) (xs : List StartRequest) → low ≤ high → AtLeast high xs → AtLeast low xs
-AtLeast-lower low high [] le h = tt
-AtLeast-lower low high (x ∷ xs) le h = (≤-through low high (priority_class x.0) le h.0, AtLeast-lower low high xs le h.1)
+pub AreFromClass-lower : (low high : ℕ) (xs : List StartRequest) → low ≤ high → AreFromClass high xs → AreFromClass low xs
+AreFromClass-lower low high [] le h = tt
+AreFromClass-lower low high (x ∷ xs) le h = (≤-through low high (priority_class x.0) le h.0, AreFromClass-lower low high xs le h.1)
   where
     ≤-through : (a b c : ℕ) → a ≤ b → b ≤ c → a ≤ c
     ≤-through a b c h k = omega arith
@@ -34,14 +34,14 @@ isnt_below : (a b : ℕ) → b ≤ a → nat_lt a b ≡ false
 isnt_below a b h = grind (arith, nat_tests)
 
 -- behind requests of its class or a higher one a request is the last
-pub queued-last : (r : StartRequest) (xs : List StartRequest) → AtLeast (priority_class r.0) xs → request_queued r xs ≡ xs ++ r ∷ []
+pub queued-last : (r : StartRequest) (xs : List StartRequest) → AreFromClass (priority_class r.0) xs → request_queued r xs ≡ xs ++ r ∷ []
 queued-last r [] h = refl
 queued-last r (x ∷ xs) h =
     ap (λ (b : Bool). if b then r ∷ x ∷ xs else x ∷ request_queued r xs) (isnt_below (priority_class x.0) (priority_class r.0) h.0)
     ∙ ap (λ (rest : List StartRequest). x ∷ rest) (queued-last r xs h.1)
 
 -- it stands before requests of lower classes
-pub queued-append : (r : StartRequest) (xs ys : List StartRequest) → Below (priority_class r.0) ys → request_queued r (xs ++ ys) ≡ request_queued r xs ++ ys
+pub queued-append : (r : StartRequest) (xs ys : List StartRequest) → AreBelowClass (priority_class r.0) ys → request_queued r (xs ++ ys) ≡ request_queued r xs ++ ys
 queued-append r [] [] h = refl
 queued-append r [] (y ∷ ys) h =
     ap (λ (b : Bool). if b then r ∷ y ∷ ys else y ∷ request_queued r ys) (lt-ltb (priority_class y.0) (priority_class r.0) h.0)
@@ -55,26 +55,26 @@ queued-append r (x ∷ xs) ys h = by (nat_lt (priority_class x.0) (priority_clas
 abbrev pub one_if : Bool → ℕ
 one_if b = if b then 1 else 0
 
--- one of an OB counts one
-abbrev pub counts : ℕ → StartRequest → ℕ
-counts ob request = one_if (request.0 == ob)
+-- how much one request counts as a request of an OB: 1 if it is one, else 0
+abbrev pub request_count : ℕ → StartRequest → ℕ
+request_count ob request = one_if (request.0 == ob)
 
-pub waiting-cons : (ob : ℕ) (x : StartRequest) (xs : List StartRequest) → waiting_count ob (x ∷ xs) ≡ counts ob x + waiting_count ob xs
-waiting-cons ob x xs = sum_by-cons (counts ob) x xs
+pub waiting-cons : (ob : ℕ) (x : StartRequest) (xs : List StartRequest) → waiting_count ob (x ∷ xs) ≡ request_count ob x + waiting_count ob xs
+waiting-cons ob x xs = sum_by-cons (request_count ob) x xs
 
 pub waiting-append : (ob : ℕ) (xs ys : List StartRequest) → waiting_count ob (xs ++ ys) ≡ waiting_count ob xs + waiting_count ob ys
-waiting-append ob xs ys = sum_by-append (counts ob) xs ys
+waiting-append ob xs ys = sum_by-append (request_count ob) xs ys
 
 -- a request that is queued is one more
-pub waiting-queued : (ob : ℕ) (r : StartRequest) (xs : List StartRequest) → waiting_count ob (request_queued r xs) ≡ counts ob r + waiting_count ob xs
+pub waiting-queued : (ob : ℕ) (r : StartRequest) (xs : List StartRequest) → waiting_count ob (request_queued r xs) ≡ request_count ob r + waiting_count ob xs
 waiting-queued ob r [] = waiting-cons ob r []
 waiting-queued ob r (x ∷ xs) = by (nat_lt (priority_class x.0) (priority_class r.0)) (waiting-queued ob r xs)
   where
-    by : (b : Bool) → waiting_count ob (request_queued r xs) ≡ counts ob r + waiting_count ob xs
-        → waiting_count ob (if b then r ∷ x ∷ xs else x ∷ request_queued r xs) ≡ counts ob r + waiting_count ob (x ∷ xs)
+    by : (b : Bool) → waiting_count ob (request_queued r xs) ≡ request_count ob r + waiting_count ob xs
+        → waiting_count ob (if b then r ∷ x ∷ xs else x ∷ request_queued r xs) ≡ request_count ob r + waiting_count ob (x ∷ xs)
     by true e = waiting-cons ob r (x ∷ xs)
     by false e =
-        plain (waiting_count ob (x ∷ request_queued r xs)) (counts ob x) (waiting_count ob (request_queued r xs)) (counts ob r) (waiting_count ob xs) (waiting_count ob (x ∷ xs))
+        plain (waiting_count ob (x ∷ request_queued r xs)) (request_count ob x) (waiting_count ob (request_queued r xs)) (request_count ob r) (waiting_count ob xs) (waiting_count ob (x ∷ xs))
         (waiting-cons ob x (request_queued r xs)) e (waiting-cons ob x xs)
       where
         plain : (whole one new more rest old : ℕ) → whole ≡ one + new → new ≡ more + rest → old ≡ one + rest → whole ≡ more + old
@@ -86,8 +86,8 @@ waiting-drop ob [] = omega arith
 waiting-drop ob (x ∷ xs) = omega (arith, waiting-cons ob x xs)
 
 -- requests of other classes aren't of the OB
-counts-other : (ob : ℕ) (x : StartRequest) → (x.0 ≡ ob → ⊥) → counts ob x ≡ 0
-counts-other ob x other = by (x.0 == ob) (λ same. other (equal x.0 ob same))
+request_count-other : (ob : ℕ) (x : StartRequest) → (x.0 ≡ ob → ⊥) → request_count ob x ≡ 0
+request_count-other ob x other = by (x.0 == ob) (λ same. other (equal x.0 ob same))
   where
     equal : (a b : ℕ) → (a == b) ≡ true → a ≡ b
     equal a b h = grind (arith, nat_tests)
@@ -96,11 +96,11 @@ counts-other ob x other = by (x.0 == ob) (λ same. other (equal x.0 ob same))
     by true h = absurd (h refl)
     by false h = refl
 
-pub waiting-above : (ob : ℕ) (xs : List StartRequest) → AtLeast (suc (priority_class ob)) xs → waiting_count ob xs ≡ 0
+pub waiting-above : (ob : ℕ) (xs : List StartRequest) → AreFromClass (suc (priority_class ob)) xs → waiting_count ob xs ≡ 0
 waiting-above ob [] h = refl
 waiting-above ob (x ∷ xs) h =
     let other : (x.0 ≡ ob → ⊥) = λ e. strict (priority_class ob) (priority_class x.0) h.0 (ap priority_class e) in
-    waiting-cons ob x xs ∙ both (counts-other ob x other) (waiting-above ob xs h.1)
+    waiting-cons ob x xs ∙ both (request_count-other ob x other) (waiting-above ob xs h.1)
   where
     strict : (a b : ℕ) → suc a ≤ b → b ≡ a → ⊥
     strict a b h e = omega arith
@@ -108,11 +108,11 @@ waiting-above ob (x ∷ xs) h =
     both : {a b : ℕ} → a ≡ 0 → b ≡ 0 → a + b ≡ 0
     both e f = omega arith
 
-pub waiting-below : (ob : ℕ) (xs : List StartRequest) → Below (priority_class ob) xs → waiting_count ob xs ≡ 0
+pub waiting-below : (ob : ℕ) (xs : List StartRequest) → AreBelowClass (priority_class ob) xs → waiting_count ob xs ≡ 0
 waiting-below ob [] h = refl
 waiting-below ob (x ∷ xs) h =
     let other : (x.0 ≡ ob → ⊥) = λ e. strict (priority_class ob) (priority_class x.0) h.0 (ap priority_class e) in
-    waiting-cons ob x xs ∙ both (counts-other ob x other) (waiting-below ob xs h.1)
+    waiting-cons ob x xs ∙ both (request_count-other ob x other) (waiting-below ob xs h.1)
   where
     strict : (a b : ℕ) → b < a → b ≡ a → ⊥
     strict a b h e = omega arith

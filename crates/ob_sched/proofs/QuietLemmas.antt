@@ -28,9 +28,9 @@ first_of : {A : Type 0} (P : A → Type 0) (x : A) (xs : List A) → All P (x �
 first_of P x xs all = all 0 x (omega arith)
 
 -- a delay that lasts another millisecond doesn't end with this one
-lasting : (delay : Option ℕ) → DelayLasts 2 delay → is_ending delay ≡ false
-lasting None h = refl
-lasting (Some left) h = grind (arith, nat_tests)
+isnt_ending : (delay : Option ℕ) → DelayLasts 2 delay → is_ending delay ≡ false
+isnt_ending None h = refl
+isnt_ending (Some left) h = grind (arith, nat_tests)
 
 counted_lasting : (delay : Option ℕ) → DelayLasts 2 delay → delay_counted delay ≡ shorter 1 delay
 counted_lasting None h = refl
@@ -42,7 +42,7 @@ ending_from-none : (ob : ℕ) (xs : List (Option ℕ)) → All (DelayLasts 2) xs
 ending_from-none ob [] all = refl
 ending_from-none ob (x ∷ xs) all =
     let rest = ending_from (ob + 1) xs in
-    ap (λ (b : Bool). if b then ob ∷ rest else rest) (lasting x (first_of (DelayLasts 2) x xs all))
+    ap (λ (b : Bool). if b then ob ∷ rest else rest) (isnt_ending x (first_of (DelayLasts 2) x xs all))
     ∙ ending_from-none (ob + 1) xs (rest_of (DelayLasts 2) x xs all)
 
 map-delay_counted : (xs : List (Option ℕ)) → All (DelayLasts 2) xs → map delay_counted xs ≡ map (shorter 1) xs
@@ -51,24 +51,24 @@ map-delay_counted (x ∷ xs) all =
     ap (λ (y : Option ℕ). y ∷ map delay_counted xs) (counted_lasting x (first_of (DelayLasts 2) x xs all))
     ∙ ap (λ (ys : List (Option ℕ)). shorter 1 x ∷ ys) (map-delay_counted xs (rest_of (DelayLasts 2) x xs all))
 
-abbrev AtLeast : ℕ → ℕ → Type 0
-AtLeast ms left = ms ≤ left
+abbrev PeriodLasts : ℕ → ℕ → Type 0
+PeriodLasts ms left = ms ≤ left
 
 later : (left : ℕ) → 2 ≤ left → nat_le left 1 ≡ false
 later left h = grind (arith, nat_tests)
 
-due_from-none : (ob : ℕ) (xs : List ℕ) → All (AtLeast 2) xs → due_from ob xs ≡ []
+due_from-none : (ob : ℕ) (xs : List ℕ) → All (PeriodLasts 2) xs → due_from ob xs ≡ []
 due_from-none ob [] all = refl
 due_from-none ob (x ∷ xs) all =
     let rest = due_from (ob + 1) xs in
-    ap (λ (b : Bool). if b then ob ∷ rest else rest) (later x (first_of (AtLeast 2) x xs all))
-    ∙ due_from-none (ob + 1) xs (rest_of (AtLeast 2) x xs all)
+    ap (λ (b : Bool). if b then ob ∷ rest else rest) (later x (first_of (PeriodLasts 2) x xs all))
+    ∙ due_from-none (ob + 1) xs (rest_of (PeriodLasts 2) x xs all)
 
-periods_counted-less : (ob : ℕ) (xs : List ℕ) → All (AtLeast 2) xs → periods_counted_from ob xs ≡ map (less 1) xs
+periods_counted-less : (ob : ℕ) (xs : List ℕ) → All (PeriodLasts 2) xs → periods_counted_from ob xs ≡ map (less 1) xs
 periods_counted-less ob [] all = refl
 periods_counted-less ob (x ∷ xs) all =
-    ap (λ (b : Bool). (if b then period_of ob else x - 1) ∷ periods_counted_from (ob + 1) xs) (later x (first_of (AtLeast 2) x xs all))
-    ∙ ap (λ (ys : List ℕ). (x - 1) ∷ ys) (periods_counted-less (ob + 1) xs (rest_of (AtLeast 2) x xs all))
+    ap (λ (b : Bool). (if b then period_of ob else x - 1) ∷ periods_counted_from (ob + 1) xs) (later x (first_of (PeriodLasts 2) x xs all))
+    ∙ ap (λ (ys : List ℕ). (x - 1) ∷ ys) (periods_counted-less (ob + 1) xs (rest_of (PeriodLasts 2) x xs all))
 
 -- the stages of a quiet millisecond
 delays_quiet : (mode : Mode) (c : TickState) → All (DelayLasts 2) c.sched.countdowns.delays
@@ -80,7 +80,7 @@ delays_quiet mode c all =
     (ending_from-none 20 c.sched.countdowns.delays all)
     ∙ ap moved (map-delay_counted c.sched.countdowns.delays all)
 
-periods_quiet : (mode : Mode) (active : List ℕ) (c : TickState) → All (AtLeast 2) c.sched.countdowns.periods
+periods_quiet : (mode : Mode) (active : List ℕ) (c : TickState) → All (PeriodLasts 2) c.sched.countdowns.periods
     → periods_passed mode active c ≡ record c { sched = record c.sched { countdowns = periods_shortened 1 c.sched.countdowns } }
 periods_quiet mode active c all =
     let moved : List ℕ → TickState = λ periods.
@@ -100,16 +100,16 @@ cycle_quiet mode c h =
     within : (a : ℕ) → a + 2 ≤ 151 → nat_lt (a + 1) 151 ≡ true
     within a h = grind (arith, nat_tests)
 
-running : (next : TickState → TickState) (c : TickState) → c.passed.stop ≡ None → unless_stopped next c ≡ next c
-running next c e = ap (λ (stop : Option ℕ). if is_some stop then c else next c) e
+unless_stopped-goes_on : (next : TickState → TickState) (c : TickState) → c.passed.stop ≡ None → unless_stopped next c ≡ next c
+unless_stopped-goes_on next c e = ap (λ (stop : Option ℕ). if is_some stop then c else next c) e
 
 run_quiet : (mode : Mode) (active : List ℕ) (c : TickState) → RunLastsIn mode 2 c.sched → c.passed.stop ≡ None
     → run_passed mode active c ≡ record c { sched = run_shortened_in mode 1 c.sched }
 run_quiet Run active c lasts e =
     let periods = periods_quiet Run active c lasts.periods in
     let moved : TickState = record c { sched = record c.sched { countdowns = periods_shortened 1 c.sched.countdowns } } in
-    ap (unless_stopped (cycle_counted Run)) (running (periods_passed Run active) c e ∙ periods)
-    ∙ running (cycle_counted Run) moved e
+    ap (unless_stopped (cycle_counted Run)) (unless_stopped-goes_on (periods_passed Run active) c e ∙ periods)
+    ∙ unless_stopped-goes_on (cycle_counted Run) moved e
     ∙ cycle_quiet Run moved lasts.cycle
 run_quiet Startup active c lasts e = refl
 run_quiet (Stop cause at) active c lasts e = refl
@@ -117,7 +117,7 @@ run_quiet (Stop cause at) active c lasts e = refl
 RunLastsIn-after : (mode : Mode) (ms : ℕ) (s : Scheduler) (countdowns : Countdowns) (clock : ℕ) → countdowns.periods ≡ s.countdowns.periods → RunLastsIn mode ms s
     → RunLastsIn mode ms (record s { countdowns = countdowns; clock = clock })
 RunLastsIn-after Run ms s countdowns clock e lasts = record {
-  periods = subst (λ (xs : List ℕ). All (AtLeast ms) xs) (sym e) lasts.periods;
+  periods = subst (λ (xs : List ℕ). All (PeriodLasts ms) xs) (sym e) lasts.periods;
   cycle = lasts.cycle;
 }
 RunLastsIn-after Startup ms s countdowns clock e lasts = tt
@@ -129,7 +129,7 @@ unfolding after_ms
 one_ms-quiet mode active c lasts e =
     let timed : TickState = time_counted c in
     let moved : TickState = record timed { sched = record timed.sched { countdowns = delays_shortened 1 c.sched.countdowns } } in
-    running (λ (d : TickState). run_passed mode active (delays_passed mode (time_counted d))) c e
+    unless_stopped-goes_on (λ (d : TickState). run_passed mode active (delays_passed mode (time_counted d))) c e
     ∙ ap (run_passed mode active) (delays_quiet mode timed lasts.delays)
     ∙ run_quiet mode active moved (RunLastsIn-after mode 2 c.sched (delays_shortened 1 c.sched.countdowns) (clock_counted c.sched.clock) refl lasts.run) e
 
@@ -162,10 +162,10 @@ delays_last ms [] all k d h = absurd (omega arith)
 delays_last ms (x ∷ xs) all zero d h = DelayLasts-shorter ms x (first_of (DelayLasts (suc ms)) x xs all)
 delays_last ms (x ∷ xs) all (suc k) d h = delays_last ms xs (rest_of (DelayLasts (suc ms)) x xs all) k d (omega arith)
 
-periods_last : (ms : ℕ) (xs : List ℕ) → All (AtLeast (suc ms)) xs → All (AtLeast ms) (map (less 1) xs)
+periods_last : (ms : ℕ) (xs : List ℕ) → All (PeriodLasts (suc ms)) xs → All (PeriodLasts ms) (map (less 1) xs)
 periods_last ms [] all k d h = absurd (omega arith)
-periods_last ms (x ∷ xs) all zero d h = let one = first_of (AtLeast (suc ms)) x xs all in omega (arith, one)
-periods_last ms (x ∷ xs) all (suc k) d h = periods_last ms xs (rest_of (AtLeast (suc ms)) x xs all) k d (omega arith)
+periods_last ms (x ∷ xs) all zero d h = let one = first_of (PeriodLasts (suc ms)) x xs all in omega (arith, one)
+periods_last ms (x ∷ xs) all (suc k) d h = periods_last ms xs (rest_of (PeriodLasts (suc ms)) x xs all) k d (omega arith)
 
 Lasts-waited : (mode : Mode) (ms : ℕ) (c : TickState) → NothingDueFor mode (suc ms) c.sched → NothingDueFor mode ms (after_quiet_ms mode 1 c).sched
 Lasts-waited Run ms c lasts = record {
@@ -272,7 +272,7 @@ pub each_of-at : (next : ℕ → TickState → TickState) (obs : List ℕ) (i : 
     → each_ob next (drop i obs) c ≡ each_ob next (drop (i + 1) obs) (next (get_or obs i 0) c)
 each_of-at next obs i c lt e =
     ap (λ (xs : List ℕ). each_ob next xs c) (drop-cons obs i 0 lt)
-    ∙ ap (each_ob next (drop (suc i) obs)) (running (next (get_or obs i 0)) c e)
+    ∙ ap (each_ob next (drop (suc i) obs)) (unless_stopped-goes_on (next (get_or obs i 0)) c e)
     ∙ ap (λ (n : ℕ). each_ob next (drop n obs) (next (get_or obs i 0) c)) (plain i)
   where
     plain : (n : ℕ) → suc n ≡ n + 1

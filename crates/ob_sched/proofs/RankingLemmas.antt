@@ -56,35 +56,35 @@ abbrev place : NumberedRequest → List NumberedRequest → ℕ
 place one [] = 0
 place one (first ∷ rest) = if nat_lt (priority_class first.request.0) (priority_class one.request.0) then 0 else suc (place one rest)
 
-abbrev joined : NumberedRequest → List NumberedRequest → List NumberedRequest
-joined one set = insert set (place one set) one
+abbrev with_member : NumberedRequest → List NumberedRequest → List NumberedRequest
+with_member one set = insert set (place one set) one
 
 isnt_lower : (a b : ℕ) → nat_lt a b ≡ false → b ≤ a
 isnt_lower a b e = grind (arith, nat_tests)
 
-joined-lower : (one first : NumberedRequest) (rest : List NumberedRequest) → nat_lt (priority_class first.request.0) (priority_class one.request.0) ≡ true
-    → joined one (first ∷ rest) ≡ one ∷ first ∷ rest
-joined-lower one first rest e = ap (λ (b : Bool). insert (first ∷ rest) (if b then 0 else suc (place one rest)) one) e
+with_member-lower : (one first : NumberedRequest) (rest : List NumberedRequest) → nat_lt (priority_class first.request.0) (priority_class one.request.0) ≡ true
+    → with_member one (first ∷ rest) ≡ one ∷ first ∷ rest
+with_member-lower one first rest e = ap (λ (b : Bool). insert (first ∷ rest) (if b then 0 else suc (place one rest)) one) e
 
-joined-other : (one first : NumberedRequest) (rest : List NumberedRequest) → nat_lt (priority_class first.request.0) (priority_class one.request.0) ≡ false
-    → joined one (first ∷ rest) ≡ first ∷ joined one rest
-joined-other one first rest e = ap (λ (b : Bool). insert (first ∷ rest) (if b then 0 else suc (place one rest)) one) e
+with_member-other : (one first : NumberedRequest) (rest : List NumberedRequest) → nat_lt (priority_class first.request.0) (priority_class one.request.0) ≡ false
+    → with_member one (first ∷ rest) ≡ first ∷ with_member one rest
+with_member-other one first rest e = ap (λ (b : Bool). insert (first ∷ rest) (if b then 0 else suc (place one rest)) one) e
 
 abbrev requests_of : List NumberedRequest → List StartRequest
 requests_of set = map (λ (one : NumberedRequest). one.request) set
 
-requests-joined : (one : NumberedRequest) (set : List NumberedRequest) → requests_of (joined one set) ≡ request_queued one.request (requests_of set)
-requests-joined one [] = refl
-requests-joined one (first ∷ rest) = by (nat_lt (priority_class first.request.0) (priority_class one.request.0)) refl (requests-joined one rest)
+requests-with_member : (one : NumberedRequest) (set : List NumberedRequest) → requests_of (with_member one set) ≡ request_queued one.request (requests_of set)
+requests-with_member one [] = refl
+requests-with_member one (first ∷ rest) = by (nat_lt (priority_class first.request.0) (priority_class one.request.0)) refl (requests-with_member one rest)
   where
-    by : (b : Bool) → nat_lt (priority_class first.request.0) (priority_class one.request.0) ≡ b → requests_of (joined one rest) ≡ request_queued one.request (requests_of rest)
-        → requests_of (joined one (first ∷ rest))
+    by : (b : Bool) → nat_lt (priority_class first.request.0) (priority_class one.request.0) ≡ b → requests_of (with_member one rest) ≡ request_queued one.request (requests_of rest)
+        → requests_of (with_member one (first ∷ rest))
         ≡ (if nat_lt (priority_class first.request.0) (priority_class one.request.0) then one.request ∷ requests_of (first ∷ rest) else first.request ∷ request_queued one.request (requests_of rest))
     by true e h =
-        ap requests_of (joined-lower one first rest e)
+        ap requests_of (with_member-lower one first rest e)
         ∙ ap (λ (b : Bool). if b then one.request ∷ requests_of (first ∷ rest) else first.request ∷ request_queued one.request (requests_of rest)) (sym e)
     by false e h =
-        ap requests_of (joined-other one first rest e)
+        ap requests_of (with_member-other one first rest e)
         ∙ ap (λ (xs : List StartRequest). first.request ∷ xs) h
         ∙ ap (λ (b : Bool). if b then one.request ∷ requests_of (first ∷ rest) else first.request ∷ request_queued one.request (requests_of rest)) (sym e)
 
@@ -109,16 +109,16 @@ outranks_below mode one first (other ∷ rest) lt all = (by all.0, outranks_belo
     by (inl h) = inl (omega (arith, h, lt))
     by (inr h) = inl (omega (arith, h.0, lt))
 
-outranks_joined : (mode : Mode) (first one : NumberedRequest) (rest : List NumberedRequest) → Outranks mode first one
-    → OutranksAll mode first rest → OutranksAll mode first (joined one rest)
-outranks_joined mode first one [] h all = (h, tt)
-outranks_joined mode first one (other ∷ rest) h all =
-    by (nat_lt (priority_class other.request.0) (priority_class one.request.0)) refl (outranks_joined mode first one rest h all.1)
+outranks_with_member : (mode : Mode) (first one : NumberedRequest) (rest : List NumberedRequest) → Outranks mode first one
+    → OutranksAll mode first rest → OutranksAll mode first (with_member one rest)
+outranks_with_member mode first one [] h all = (h, tt)
+outranks_with_member mode first one (other ∷ rest) h all =
+    by (nat_lt (priority_class other.request.0) (priority_class one.request.0)) refl (outranks_with_member mode first one rest h all.1)
   where
-    by : (b : Bool) → nat_lt (priority_class other.request.0) (priority_class one.request.0) ≡ b → OutranksAll mode first (joined one rest)
-        → OutranksAll mode first (joined one (other ∷ rest))
-    by true e more = subst (OutranksAll mode first) (sym (joined-lower one other rest e)) (h, all)
-    by false e more = subst (OutranksAll mode first) (sym (joined-other one other rest e)) (all.0, more)
+    by : (b : Bool) → nat_lt (priority_class other.request.0) (priority_class one.request.0) ≡ b → OutranksAll mode first (with_member one rest)
+        → OutranksAll mode first (with_member one (other ∷ rest))
+    by true e more = subst (OutranksAll mode first) (sym (with_member-lower one other rest e)) (h, all)
+    by false e more = subst (OutranksAll mode first) (sym (with_member-other one other rest e)) (all.0, more)
 
 -- an earlier request of no lower class outranks one that arrives last
 outranks_last : (mode : Mode) (first one : NumberedRequest) → can_wait first.request.0 ≡ true → can_wait one.request.0 ≡ true
@@ -134,21 +134,21 @@ outranks_last mode first one h k early le = by (nat_lt (priority_class one.reque
         equal : (a b : ℕ) → a ≤ b → b ≤ a → a ≡ b
         equal a b h k = omega arith
 
-ranked-joined : (mode : Mode) (one : NumberedRequest) (set : List NumberedRequest) → AllWait set → can_wait one.request.0 ≡ true
-    → ArrivedBefore one.arrival set → IsRanked mode set → IsRanked mode (joined one set)
-ranked-joined mode one [] all known before ranked = (tt, tt)
-ranked-joined mode one (first ∷ rest) all known before ranked =
-    by (nat_lt (priority_class first.request.0) (priority_class one.request.0)) refl (ranked-joined mode one rest all.1 known before.1 ranked.1)
+ranked-with_member : (mode : Mode) (one : NumberedRequest) (set : List NumberedRequest) → AllWait set → can_wait one.request.0 ≡ true
+    → ArrivedBefore one.arrival set → IsRanked mode set → IsRanked mode (with_member one set)
+ranked-with_member mode one [] all known before ranked = (tt, tt)
+ranked-with_member mode one (first ∷ rest) all known before ranked =
+    by (nat_lt (priority_class first.request.0) (priority_class one.request.0)) refl (ranked-with_member mode one rest all.1 known before.1 ranked.1)
   where
-    by : (b : Bool) → nat_lt (priority_class first.request.0) (priority_class one.request.0) ≡ b → IsRanked mode (joined one rest)
-        → IsRanked mode (joined one (first ∷ rest))
+    by : (b : Bool) → nat_lt (priority_class first.request.0) (priority_class one.request.0) ≡ b → IsRanked mode (with_member one rest)
+        → IsRanked mode (with_member one (first ∷ rest))
     by true e more =
         let lower = lower_in mode first.request.0 one.request.0 all.0 known (ltb-true (priority_class first.request.0) (priority_class one.request.0) e) in
-        subst (IsRanked mode) (sym (joined-lower one first rest e)) ((inl lower, outranks_below mode one first rest lower ranked.0), ranked)
+        subst (IsRanked mode) (sym (with_member-lower one first rest e)) ((inl lower, outranks_below mode one first rest lower ranked.0), ranked)
     by false e more =
         let le = isnt_lower (priority_class first.request.0) (priority_class one.request.0) e in
-        subst (IsRanked mode) (sym (joined-other one first rest e)) (
-          outranks_joined mode first one rest (outranks_last mode first one all.0 known before.0 le) ranked.0,
+        subst (IsRanked mode) (sym (with_member-other one first rest e)) (
+          outranks_with_member mode first one rest (outranks_last mode first one all.0 known before.0 le) ranked.0,
           more,
         )
 
@@ -168,11 +168,11 @@ pub queued_joins : QueuedJoins
 queued_joins mode set pending number request stands before known =
     let one : NumberedRequest = record { arrival = number; request = request } in
     let all = all_wait set (ap (list_all (λ (r : StartRequest). can_wait r.0)) stands.requests ∙ stands.known) in (
-      joined one set,
+      with_member one set,
       IsPermutation-insert set (place one set) one,
       record {
-        ranked = ranked-joined mode one set all known before stands.ranked;
-        requests = requests-joined one set ∙ ap (request_queued request) stands.requests;
+        ranked = ranked-with_member mode one set all known before stands.ranked;
+        requests = requests-with_member one set ∙ ap (request_queued request) stands.requests;
         known = known-queued request pending known stands.known;
       },
     )

@@ -73,5 +73,6 @@ BestOutranksAll =
 -- law: when the first pending request is started, its member leaves the set, and all others stay
 abbrev pub StartedLeaves : Type 0
 StartedLeaves =
-    (mode : Mode) (first : NumberedRequest) (rest : List NumberedRequest) (pending : List StartRequest)
+    (mode : Mode) (first : NumberedRequest) (rest : List NumberedRequest)
+    (pending : List StartRequest)
     → StandsFor mode (first ∷ rest) pending → StandsFor mode rest (drop 1 pending)

@@ -5,7 +5,7 @@ ghost use Rattle.ob_sched.specs.OrganizationBlock.{is_delay, is_cyclic};
 ghost use Rattle.ob_sched.specs.Quiet.{DelayLasts, delays_shortened, periods_shortened};
 ghost use Rattle.ob_sched.specs.Scheduler.{no_delays, whole_periods, delay_set, delay_of};
 
-use crate::dues::{FIRST_CYCLIC, FIRST_DELAY, Remaining, left_of, listed, period_left};
+use crate::dues::{FIRST_CYCLIC, FIRST_DELAY, Remaining, left_of, period_left, remaining_list};
 use crate::organization_blocks::period_of;
 use arrayvec::ArrayVec;
 use std::marker::Model;
@@ -146,7 +146,7 @@ impl Countdowns {
         ensures { result ≡ record { delays = delays; periods = periods } }
     {
         Countdowns {
-            dues: listed(&delays, &periods),
+            dues: remaining_list(&delays, &periods),
         }
     }
 
@@ -221,7 +221,7 @@ impl Countdowns {
     }
 
     /// The organization blocks whose delays end with the next millisecond, by number.
-    pub(crate) fn ending(&self) -> ArrayVec<u16, 4>
+    pub(crate) fn ending_delays(&self) -> ArrayVec<u16, 4>
         ensures ending { result.items ≡ ending_from 20 self.now.delays }
         ensures known { AllPass is_delay result.items }
     {

@@ -49,7 +49,7 @@ impl Bins {
     }
 
     /// How many requests of an organization block are pending.
-    pub(crate) fn waiting(&self, ob: u16) -> usize
+    pub(crate) fn waiting_count(&self, ob: u16) -> usize
         requires { IsTrue (can_wait ob) }
         ensures { result ≡ waiting_count ob (pending_of self.now) }
     {

@@ -81,7 +81,7 @@ impl Sched {
         if !self.is_loaded(ob) {
             return Arrived::NotLoaded;
         }
-        if self.pending.waiting(ob) >= queue_length(ob) {
+        if self.pending.waiting_count(ob) >= queue_length(ob) {
             return Arrived::Full;
         }
         self.pending.push(ob, info);

@@ -35,7 +35,7 @@ impl Sched {
         if self.is_disabled(ob) || !self.is_loaded(ob) {
             return;
         }
-        if self.pending.waiting(ob) > 0 || active.contains(&ob) {
+        if self.pending.waiting_count(ob) > 0 || active.contains(&ob) {
             self.time_error(mode, StartEvent::Missed { ob }, ob, passed);
             return;
         }
@@ -109,7 +109,7 @@ impl Sched {
         ensures { tick_state_of self.new passed.new
             ≡ delays_passed mode (tick_state_of self.old passed.old) }
     {
-        let obs = self.countdowns.ending();
+        let obs = self.countdowns.ending_delays();
         self.countdowns.count_delays();
         self.end_delays(mode, obs.as_slice(), passed);
     }

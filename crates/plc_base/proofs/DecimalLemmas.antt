@@ -21,9 +21,9 @@ pub decimal_range : (most : ℕ) (word : List ℕ) (n : ℕ) → decimal_up_to m
 unfolding decimal_up_to
 decimal_range most word n is = grind (arith, nat_tests, is)
 
-found : (o : Option ℕ) (P : ℕ → Type 0) → ((n : ℕ) → o ≡ Some n → P n) → IfSome o P
-found None P each = tt
-found (Some n) P each = each n refl
+if_some_from : (o : Option ℕ) (P : ℕ → Type 0) → ((n : ℕ) → o ≡ Some n → P n) → IfSome o P
+if_some_from None P each = tt
+if_some_from (Some n) P each = each n refl
 
 pub decimal_within : (most : ℕ) (word : List ℕ) → IfSome (decimal_up_to most word) (λ n. n ≤ most)
-decimal_within most word = found (decimal_up_to most word) (λ n. n ≤ most) (decimal_range most word)
+decimal_within most word = if_some_from (decimal_up_to most word) (λ n. n ≤ most) (decimal_range most word)

@@ -17,7 +17,7 @@ pub const NO_TIMER: u8 = 0x26;
 pub const NO_COUNTER: u8 = 0x27;
 
 /// A byte, word or double word at a pointer whose bit isn't 0, to read; to write 16#29.
-pub const UNALIGNED: u8 = 0x28;
+pub const ALIGNMENT_ERROR: u8 = 0x28;
 
 /// No data block is open in the DB register.
 pub const NO_DB_OPEN: u8 = 0x32;

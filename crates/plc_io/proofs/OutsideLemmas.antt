@@ -52,21 +52,21 @@ CountsAt-handed X Y a b c name e r same counts handed =
     subst (λ (s : Result Y IoFault). CountsFailureByName a c name s) (sym handed) (CountsAt-failed X Y a b c name e same counts)
 
 -- two pieces were taken one after the other
-joined : (a b c : Option (List ℕ)) (xs ys : List ℕ) → b ≡ option_map (λ had. had ++ xs) a → c ≡ option_map (λ had. had ++ ys) b
+append_twice : (a b c : Option (List ℕ)) (xs ys : List ℕ) → b ≡ option_map (λ had. had ++ xs) a → c ≡ option_map (λ had. had ++ ys) b
     → c ≡ option_map (λ had. had ++ (xs ++ ys)) a
-joined None b c xs ys p q = q ∙ ap (option_map (λ had. had ++ ys)) p
-joined (Some had) b c xs ys p q = q ∙ ap (option_map (λ had. had ++ ys)) p ∙ ap Some (append_assoc had xs ys)
+append_twice None b c xs ys p q = q ∙ ap (option_map (λ had. had ++ ys)) p
+append_twice (Some had) b c xs ys p q = q ∙ ap (option_map (λ had. had ++ ys)) p ∙ ap Some (append_assoc had xs ys)
 
 pub Took-append : (a b c : SinkAt) (xs ys : List ℕ) → TookBytes a b xs → TookBytes b c ys → TookBytes a c (xs ++ ys)
-Took-append a b c xs ys p q = joined a.taken b.taken c.taken xs ys p q
+Took-append a b c xs ys p q = append_twice a.taken b.taken c.taken xs ys p q
 
 -- nothing was taken
-nothing : (a : Option (List ℕ)) → a ≡ option_map (λ had. had ++ []) a
-nothing None = refl
-nothing (Some had) = ap Some (sym (simp append-nil))
+append_nothing : (a : Option (List ℕ)) → a ≡ option_map (λ had. had ++ []) a
+append_nothing None = refl
+append_nothing (Some had) = ap Some (sym (simp append-nil))
 
 pub Took-nothing : (a : SinkAt) → TookBytes a a []
-Took-nothing a = nothing a.taken
+Took-nothing a = append_nothing a.taken
 
 -- the rest of a text was offered, and some of it was taken
 pub Took-more : (a b c : SinkAt) (bytes : List ℕ) (done n : ℕ) → done ≤ length bytes → TookBytes a b (take done bytes)

@@ -15,7 +15,7 @@ pub record NoCalls (calls : Calls) : Type 0 where
   -- no call has a number at which it is to fail
   pub failing : calls.failing.items ≡ []
 
--- the count after one more
+-- a count of calls after one more; it stands still at its last value
 abbrev pub next_count : ℕ → ℕ
 next_count n = min (n + 1) last_count
 

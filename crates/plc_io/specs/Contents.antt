@@ -13,14 +13,14 @@ pub record Contents : Type 0 where
 abbrev pub FileHoldsBytes : Contents → List ℕ → List ℕ → Type 0
 FileHoldsBytes c name bytes = c.told ≡ true → c.at name ≡ Some bytes
 
--- every name holds what it held
+-- the file of every name holds what it held
 pub record SameFiles (before after : Contents) : Type 0 where
   -- contents are told after exactly if they were before
   pub told : after.told ≡ before.told
   -- each name has the same bytes as before, or no file as before
   pub at : (name : List ℕ) → after.at name ≡ before.at name
 
--- every name but this one holds what it held
+-- the file of every name but this one holds what it held
 pub record SameElsewhere (before after : Contents) (name : List ℕ) : Type 0 where
   -- contents are told after exactly if they were before
   pub told : after.told ≡ before.told

@@ -16,7 +16,7 @@ CountRose before now = min (before + 1) last_count ≤ now
 abbrev pub SameCounts : (List ℕ → ℕ) → (List ℕ → ℕ) → Type 0
 SameCounts before now = (name : List ℕ) → now name ≡ before name
 
--- no count fell
+-- the count of no name fell
 abbrev pub NoCountFell : (List ℕ → ℕ) → (List ℕ → ℕ) → Type 0
 NoCountFell before now = (name : List ℕ) → before name ≤ now name
 
@@ -35,6 +35,6 @@ CountsFailure before now (Ok x) = now ≡ before
 CountsFailure before now (Err Failed) = (before ≤ now) × CountRose before now
 CountsFailure before now (Err NoMemory) = now ≡ before
 
--- one count for all names
+-- one count for all names, as a function of the name
 abbrev pub for_every_name : ℕ → List ℕ → ℕ
 for_every_name count name = count

@@ -5,7 +5,7 @@ use Rattle.plc_io.specs.Contents.{FileHoldsBytes, IsWriteCutShort, SameElsewhere
 use Rattle.plc_io.specs.Counts.{CountsFailureByName, SameCounts}
 use Rattle.plc_io.specs.Moments.{FilesAt}
 
--- neither contents nor counts changed
+-- neither the contents of files nor their counts of failures changed
 pub record AreFilesUnchanged (before after : FilesAt) : Type 0 where
   -- all files hold what they held
   pub contents : SameFiles before.contents after.contents
@@ -27,8 +27,8 @@ pub record LeavesRead
   -- no name has another count of failed writes than before
   pub writes : SameCounts before.failed_writes after.failed_writes
 
--- the file holds what was written, or, after a failure, what it held, or the first bytes of what
--- was to be written
+-- the file `name` holds what was written, or, after a failure, what it held, or the first bytes of
+-- what was to be written
 abbrev pub HoldsWritten :
     {X : Type 0} → FilesAt → FilesAt → List ℕ → List ℕ → Result X IoFault → Type 0
 HoldsWritten before after name bytes (Ok x) = FileHoldsBytes after.contents name bytes

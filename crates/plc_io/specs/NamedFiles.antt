@@ -4,21 +4,22 @@ use Rattle.plc_io.specs.Contents.{Contents}
 use Rattle.plc_io.specs.Counts.{for_every_name}
 use Rattle.plc_io.specs.Moments.{FilesAt}
 
--- the bytes under a name
+-- the bytes under a name in a list of files; `None` where no file has the name
 abbrev pub bytes_of : List (List ℕ × List ℕ) → List ℕ → Option (List ℕ)
 bytes_of files name = option_map (λ f. f.1) (find (λ f. bytes_eq f.0 name) files)
 
--- the files with these bytes under this name: in place of those that stood there, else at the end
+-- a list of files with these bytes under this name: in place of those that stood there, else at the
+-- end
 abbrev pub with_file : List (List ℕ × List ℕ) → List ℕ → List ℕ → List (List ℕ × List ℕ)
 with_file [] name bytes = (name, bytes) ∷ []
 with_file (f ∷ fs) name bytes =
     if bytes_eq f.0 name then (f.0, bytes) ∷ fs else f ∷ with_file fs name bytes
 
--- what such files hold is told, name by name
+-- the contents of a list of files, which are told name by name
 abbrev pub contents_of : List (List ℕ × List ℕ) → Contents
 contents_of files = record { told = true; at = bytes_of files }
 
--- the bytes under a name, none where the name is absent
+-- the bytes under a name in a list of files; no bytes where no file has the name
 abbrev pub bytes_or_empty : List (List ℕ × List ℕ) → List ℕ → List ℕ
 bytes_or_empty files name = unwrap_or (bytes_of files name) []
 
@@ -26,7 +27,7 @@ bytes_or_empty files name = unwrap_or (bytes_of files name) []
 abbrev pub sure_contents_of : List (List ℕ × List ℕ) → Contents
 sure_contents_of files = record { told = true; at = λ name. Some (bytes_or_empty files name) }
 
--- no name stands twice
+-- no name stands twice in a list of files
 abbrev pub EachNameOnce : List (List ℕ × List ℕ) → Type 0
 EachNameOnce [] = Unit {0}
 EachNameOnce (f ∷ fs) = (bytes_of fs f.0 ≡ None) × EachNameOnce fs

@@ -30,8 +30,11 @@ use std::alloc::Global;
 /// Files in memory, of which chosen reads and writes fail.
 #[derive(Drop)]
 pub struct MemFiles {
+    /// The files by name.
     pub files: NamedFiles,
+    /// The reads that were made, and those that are to fail.
     pub reads: Calls,
+    /// The writes that were made, and those that are to fail.
     pub writes: Calls,
 }
 
@@ -145,8 +148,11 @@ pub(crate) fn copy_from(all: &[u8], at: u64, into: &mut [u8]) -> usize
 /// A sink in memory that takes at most so many bytes of a piece, and of which chosen pushes fail.
 #[derive(Drop)]
 pub struct MemSink {
+    /// All bytes that the sink took, in order.
     pub taken: Bytes,
+    /// How many bytes a push takes at most.
     pub most: usize,
+    /// The pushes that were made, and those that are to fail.
     pub pushes: Calls,
     ghost some: { 1 ≤ most },
 }

@@ -13,6 +13,7 @@ use std::alloc::Global;
 /// Files in memory of which no read and no write fails. A name without file is an empty file.
 #[derive(Drop)]
 pub struct SureFiles {
+    /// The files by name.
     pub files: NamedFiles,
 }
 
@@ -70,6 +71,7 @@ impl Files for SureFiles {
 /// A sink in memory that takes every piece whole and never fails.
 #[derive(Drop)]
 pub struct SureSink {
+    /// All bytes that the sink took, in order.
     pub taken: Bytes,
 }
 

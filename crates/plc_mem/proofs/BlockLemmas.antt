@@ -43,8 +43,8 @@ is_there : (v : Vec ℕ Global) (o : Option (Vec ℕ Global)) → o ≡ Some v �
 is_there v o e = subst IsSome (sym e) refl
 
 -- to put a vector at a number is to insert its bytes there
-pub inserted : (m n : BTreeMap ℕ (Vec ℕ Global)) (k : ℕ) (w : Vec ℕ Global) → tree.Updates nat_cmp m n k (Some w) → data_block_map n.entries ≡ map.insert (data_block_map m.entries) k w.items
-inserted m n k w updates =
+pub inserted_bytes : (m n : BTreeMap ℕ (Vec ℕ Global)) (k : ℕ) (w : Vec ℕ Global) → tree.Updates nat_cmp m n k (Some w) → data_block_map n.entries ≡ map.insert (data_block_map m.entries) k w.items
+inserted_bytes m n k w updates =
     same_map nat_cmp_total nat_cmp-IsAntisymmetric _ _ (λ q.
     get_blocks n q
     ∙ ap (option_map (λ (x : Vec ℕ Global). x.items)) (updates.0 q)
@@ -54,7 +54,7 @@ inserted m n k w updates =
     ∙ sym (get-insert nat_cmp_total (data_block_map m.entries) k w.items q))
 
 put_blocks : (m n : BTreeMap ℕ (Vec ℕ Global)) (k : ℕ) (v w : Vec ℕ Global) → tree.get nat_cmp m k ≡ Some v → tree.WritesThrough nat_cmp (nat_cmp k) m w n → data_block_map n.entries ≡ map.insert (data_block_map m.entries) k w.items
-put_blocks m n k v w found through = inserted m n k w (through.3 (is_there v _ found))
+put_blocks m n k v w found through = inserted_bytes m n k w (through.3 (is_there v _ found))
 
 same_choice : (b : map.FinMap nat_cmp (List ℕ)) (k q : ℕ) (x : List ℕ) (r : Ordering) → nat_cmp q k ≡ r → map.get b k ≡ Some x → cond (is_eq r) (Some x) (map.get b q) ≡ map.get b q
 same_choice b k q x Less e found = refl
@@ -92,9 +92,9 @@ put_nowhere m k at bit width value none = rw (get_blocks, none) refl
 
 -- ---- copies of a list of data blocks
 
-reached : (P : ℕ → Type 0) (k : ℕ) (v : Vec ℕ Global) (done rest : List (ℕ × Vec ℕ Global)) → AllByRecursion P (block_numbers (done ++ (k, v) ∷ rest)) → P k
-reached P k v [] rest h = h.0
-reached P k v (e ∷ es) rest h = reached P k v es rest h.1
+holds_at_item : (P : ℕ → Type 0) (k : ℕ) (v : Vec ℕ Global) (done rest : List (ℕ × Vec ℕ Global)) → AllByRecursion P (block_numbers (done ++ (k, v) ∷ rest)) → P k
+holds_at_item P k v [] rest h = h.0
+holds_at_item P k v (e ∷ es) rest h = holds_at_item P k v es rest h.1
 
 apart : (a b : ℕ) (r : Ordering) → nat_cmp b a ≡ r → nat_eq a b ≡ false → is_eq r ≡ false
 apart a b Less e differ = refl
@@ -106,7 +106,7 @@ absent : (k : ℕ) (v : Vec ℕ Global) (done rest : List (ℕ × Vec ℕ Global
 absent k v [] rest differ = refl
 absent k v (e ∷ es) rest differ =
     let other : eq_by_cmp nat_cmp k e.0 ≡ false =
-    apart e.0 k (nat_cmp k e.0) refl (reached (λ (y : ℕ). nat_eq e.0 y ≡ false) k v es rest (IsDistinct-head nat_eq e.0 _ differ)) in
+    apart e.0 k (nat_cmp k e.0) refl (holds_at_item (λ (y : ℕ). nat_eq e.0 y ≡ false) k v es rest (IsDistinct-head nat_eq e.0 _ differ)) in
     rw other (absent k v es rest (IsDistinct-tail nat_eq e.0 _ differ))
 
 -- one more block
@@ -118,7 +118,7 @@ pub one_more :
     → w.items ≡ v.items
     → data_block_map n.entries ≡ map.from_entries (bytes_by_number (done ++ (k, v) ∷ []))
 one_more m n k v w done rest differ before updates same =
-    inserted m n k w updates
+    inserted_bytes m n k w updates
     ∙ ap (λ (b : map.FinMap nat_cmp (List ℕ)). map.insert b k w.items) before
     ∙ ap (map.insert (map.from_entries (bytes_by_number done)) k) same
     ∙ sym (from_entries_push nat_cmp_total nat_cmp-IsAntisymmetric (bytes_by_number done) k v.items (absent k v done rest differ))

@@ -20,8 +20,8 @@ SameBits : (xs ys : List ℕ) → Type 0
 SameBits xs ys = (i b : ℕ) → bit_of_byte (slice_get ys i) b ≡ bit_of_byte (slice_get xs i) b
 
 -- a bit of a byte that stands
-standing : (xs : List ℕ) (i b : ℕ) → i < length xs → b < 8 → bit_of_byte (slice_get xs i) b ≡ Some (is_bit_one (slice_index xs i) b)
-standing xs i b within low = ap (λ (o : Option ℕ). bit_of_byte o b) (slice_get-get_or xs i 0 within) ∙ bit_in_some (slice_index xs i) b low
+existing_bit : (xs : List ℕ) (i b : ℕ) → i < length xs → b < 8 → bit_of_byte (slice_get xs i) b ≡ Some (is_bit_one (slice_index xs i) b)
+existing_bit xs i b within low = ap (λ (o : Option ℕ). bit_of_byte o b) (slice_get-get_or xs i 0 within) ∙ bit_in_some (slice_index xs i) b low
 
 at_most_or_more : (a b : ℕ) → (a ≤ b) ⊎ (b < a)
 at_most_or_more a b = grind arith
@@ -32,7 +32,7 @@ no_longer xs ys same =
     elim (at_most_or_more (length ys) (length xs)) [
       | inl most ↦ most
       | inr more ↦
-          absurd (none_some (is_bit_one (slice_index ys (length xs)) 0) (sym (ap (λ (o : Option ℕ). bit_of_byte o 0) (slice_get_past xs (length xs) (omega arith))) ∙ sym (same (length xs) 0) ∙ standing ys (length xs) 0 more (lit< tt)))
+          absurd (none_some (is_bit_one (slice_index ys (length xs)) 0) (sym (ap (λ (o : Option ℕ). bit_of_byte o 0) (slice_get_past xs (length xs) (omega arith))) ∙ sym (same (length xs) 0) ∙ existing_bit ys (length xs) 0 more (lit< tt)))
     ]
 
 -- truth values tell bits apart
@@ -53,7 +53,7 @@ same_runs xs ys bx by same =
     same_number_lists ys xs size (λ i within.
     same_from_bits_below 8 (slice_index ys i) (slice_index xs i) (by i) (bx i) (λ b low.
     same_digit (number_bit (slice_index ys i) b) (number_bit (slice_index xs i) b) (bit_at-lt (slice_index ys i) b) (bit_at-lt (slice_index xs i) b)
-    (same_Some _ _ (sym (standing ys i b within low) ∙ same i b ∙ standing xs i b (omega arith) low))))
+    (same_Some _ _ (sym (existing_bit ys i b within low) ∙ same i b ∙ existing_bit xs i b (omega arith) low))))
 
 -- ---- peripheral areas
 

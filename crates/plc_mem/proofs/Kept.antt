@@ -25,7 +25,7 @@ use Rattle.plc_mem.specs.Run.{number_over, operand_bit_of}
 use Rattle.plc_mem.specs.Writing.{put_number, put_peripheral, put_in_block}
 use Rattle.plc_mem.proofs.OneMemory.{put_run, put_peripheral_run, put_blocks_bytes, found_block}
 use Rattle.plc_mem.proofs.Lawful.{zero_count, zero_memory}
-use Rattle.plc_mem.proofs.Runs.{none_some, chained}
+use Rattle.plc_mem.proofs.Runs.{none_some, chained_value}
 
 pub run_kept : (count : ℕ) (old new : List ℕ) (at bit : ℕ) (width : Width) (value : ℕ) (r : Result (Unit {0}) Missing)
     → IsRun count old → value < 2 ^ bit_count width → ChangesOrStays (put_number old at bit width value) old new r → IsRun count new
@@ -123,7 +123,7 @@ weights_below f (suc n) v e = more_weight n (weights_of f n) (f n) v (λ x is. w
 pub number_fits : (m : Areas) (place : Place) (width : Width) (v : ℕ) → number_at_place m place width ≡ Some v → v < 2 ^ bit_count width
 unfolding number_at_place region_number
 number_fits m place width v e =
-    let found = chained (λ (region : Region). region_number m region place width) (region_read place) v e in
+    let found = chained_value (λ (region : Region). region_number m region place width) (region_read place) v e in
     weights_below (λ j. bit_at m (operand_bit found.0 place width j)) (bit_count width) v found.2
 
 pub over_fits : (bytes : ℕ → Option ℕ) (at bit : ℕ) (width : Width) (o : Option ℕ) → o ≡ number_over bytes at bit width → IfSome o (λ n. n < 2 ^ bit_count width)

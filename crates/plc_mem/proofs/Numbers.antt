@@ -64,12 +64,12 @@ weights_value f v (suc n) bits =
 
 -- ---- bytes, the highest first
 
--- the number in k bytes from `at`
+-- the number in k bytes from `at`, the highest byte first
 abbrev pub bytes_value : (ℕ → ℕ) → (at k : ℕ) → ℕ
 bytes_value g at zero = 0
 bytes_value g at (suc k) = bytes_value g at k * 2 ^ 8 + g (at + k)
 
--- bit j of that number, among the bytes
+-- bit j of the number in k bytes from `at`, the highest byte first
 abbrev pub byte_bit : (ℕ → Option ℕ) → (at k j : ℕ) → Option Bool
 byte_bit f at k j = bit_of_byte (f (at + (k - 1 - j / 8))) (j % 8)
 

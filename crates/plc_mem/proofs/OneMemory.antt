@@ -20,7 +20,7 @@ use Rattle.plc_mem.specs.Laws.{BitsDetermineMemory, WritingGivesTheOneMemory}
 use Rattle.plc_mem.proofs.Writes.{written_is}
 use Rattle.plc_mem.proofs.Extensional.{same_memory}
 use Rattle.plc_mem.proofs.OneBit.{bit_set}
-use Rattle.plc_mem.proofs.Runs.{put_done, length-put, part_put, block_put, mapped, chained}
+use Rattle.plc_mem.proofs.Runs.{put_done, length-put, part_put, block_put, mapped_value, chained_value}
 use Rattle.std.specs.FinMap as map
 use Rattle.std.specs.FinMap.{get-insert}
 use Rattle.std.specs.Ordering.{nat_cmp, eq_by_cmp}
@@ -126,22 +126,22 @@ put_bits bytes new at bit width value is fits done =
 pub written_in_memory :
     (m n : Areas) (region : Region) (at bit : ℕ) (width : Width) (value : ℕ) → IsMemory m → value < 2 ^ bit_count width → number_written_in m region at bit width value ≡ Some n → IsMemory n
 written_in_memory m n Inputs at bit width value is fits done =
-    let was = mapped (λ (s : List ℕ). let r : Areas = record m { inputs = s } in r) (put_number m.inputs at bit width value) n done in
+    let was = mapped_value (λ (s : List ℕ). let r : Areas = record m { inputs = s } in r) (put_number m.inputs at bit width value) n done in
     subst IsMemory was.2 (record { inputs = put_run 128 m.inputs was.0 at bit width value is.inputs fits was.1; outputs = is.outputs; bit_memory = is.bit_memory; peripheral_inputs = is.peripheral_inputs; peripheral_outputs = is.peripheral_outputs; data_blocks = is.data_blocks })
 written_in_memory m n Outputs at bit width value is fits done =
-    let was = mapped (λ (s : List ℕ). let r : Areas = record m { outputs = s } in r) (put_number m.outputs at bit width value) n done in
+    let was = mapped_value (λ (s : List ℕ). let r : Areas = record m { outputs = s } in r) (put_number m.outputs at bit width value) n done in
     subst IsMemory was.2 (record { inputs = is.inputs; outputs = put_run 128 m.outputs was.0 at bit width value is.outputs fits was.1; bit_memory = is.bit_memory; peripheral_inputs = is.peripheral_inputs; peripheral_outputs = is.peripheral_outputs; data_blocks = is.data_blocks })
 written_in_memory m n BitMemory at bit width value is fits done =
-    let was = mapped (λ (s : List ℕ). let r : Areas = record m { bit_memory = s } in r) (put_number m.bit_memory at bit width value) n done in
+    let was = mapped_value (λ (s : List ℕ). let r : Areas = record m { bit_memory = s } in r) (put_number m.bit_memory at bit width value) n done in
     subst IsMemory was.2 (record { inputs = is.inputs; outputs = is.outputs; bit_memory = put_bits m.bit_memory was.0 at bit width value is.bit_memory fits was.1; peripheral_inputs = is.peripheral_inputs; peripheral_outputs = is.peripheral_outputs; data_blocks = is.data_blocks })
 written_in_memory m n PeripheralInputs at bit width value is fits done =
-    let was = mapped (λ (p : PeripheralBytes). let r : Areas = record m { peripheral_inputs = p } in r) (put_peripheral m.peripheral_inputs at bit width value) n done in
+    let was = mapped_value (λ (p : PeripheralBytes). let r : Areas = record m { peripheral_inputs = p } in r) (put_peripheral m.peripheral_inputs at bit width value) n done in
     subst IsMemory was.2 (record { inputs = is.inputs; outputs = is.outputs; bit_memory = is.bit_memory; peripheral_inputs = put_peripheral_run m.peripheral_inputs was.0 at bit width value is.peripheral_inputs fits was.1; peripheral_outputs = is.peripheral_outputs; data_blocks = is.data_blocks })
 written_in_memory m n PeripheralOutputs at bit width value is fits done =
-    let was = mapped (λ (p : PeripheralBytes). let r : Areas = record m { outputs = unwrap_or (put_number m.outputs at bit width value) m.outputs; peripheral_outputs = p } in r) (put_peripheral m.peripheral_outputs at bit width value) n done in
+    let was = mapped_value (λ (p : PeripheralBytes). let r : Areas = record m { outputs = unwrap_or (put_number m.outputs at bit width value) m.outputs; peripheral_outputs = p } in r) (put_peripheral m.peripheral_outputs at bit width value) n done in
     subst IsMemory was.2 (record { inputs = is.inputs; outputs = image_run m.outputs at bit width value is.outputs fits (put_number m.outputs at bit width value) refl; bit_memory = is.bit_memory; peripheral_inputs = is.peripheral_inputs; peripheral_outputs = put_peripheral_run m.peripheral_outputs was.0 at bit width value is.peripheral_outputs fits was.1; data_blocks = is.data_blocks })
 written_in_memory m n (DataBlock k) at bit width value is fits done =
-    let was = mapped (λ (blocks : map.FinMap nat_cmp (List ℕ)). let r : Areas = record m { data_blocks = blocks } in r) (put_in_block m.data_blocks k at bit width value) n done in
+    let was = mapped_value (λ (blocks : map.FinMap nat_cmp (List ℕ)). let r : Areas = record m { data_blocks = blocks } in r) (put_in_block m.data_blocks k at bit width value) n done in
     subst IsMemory was.2 (record { inputs = is.inputs; outputs = is.outputs; bit_memory = is.bit_memory; peripheral_inputs = is.peripheral_inputs; peripheral_outputs = is.peripheral_outputs; data_blocks = put_blocks_bytes m.data_blocks was.0 k at bit width value is.data_blocks fits was.1 })
 
 pub has_image : (m : Areas) → IsMemory m → HasImage m
@@ -150,7 +150,7 @@ has_image m is = record { image = is.outputs.count_is; outputs_low = is.peripher
 pub written_memory : (m n : Areas) (place : Place) (width : Width) (value : ℕ) → IsMemory m → value < 2 ^ bit_count width → number_written m place width value ≡ Some n → IsMemory n
 unfolding number_written
 written_memory m n place width value is fits done =
-    let found = chained (λ (region : Region). number_written_in m region place.byte place.bit width value) (region_written place) n done in
+    let found = chained_value (λ (region : Region). number_written_in m region place.byte place.bit width value) (region_written place) n done in
     written_in_memory m n found.0 place.byte place.bit width value is fits found.2
 
 -- two memories that are written alike from one are the same

@@ -25,13 +25,13 @@ pub none_some : {A : Type 0} (x : A) → None ≡ Some x → ⊥
 none_some x e = cc
 
 -- what stands in a mapped option
-pub mapped : {A B : Type 0} (f : A → B) (o : Option A) (y : B) → option_map f o ≡ Some y → (x : A) × (o ≡ Some x) × (f x ≡ y)
-mapped f (Some x) y e = (x, refl, same_Some (f x) y e)
-mapped f None y e = absurd (cc)
+pub mapped_value : {A B : Type 0} (f : A → B) (o : Option A) (y : B) → option_map f o ≡ Some y → (x : A) × (o ≡ Some x) × (f x ≡ y)
+mapped_value f (Some x) y e = (x, refl, same_Some (f x) y e)
+mapped_value f None y e = absurd (cc)
 
-pub chained : {A B : Type 0} (f : A → Option B) (o : Option A) (y : B) → option_and_then f o ≡ Some y → (x : A) × (o ≡ Some x) × (f x ≡ Some y)
-chained f (Some x) y e = (x, refl, e)
-chained f None y e = absurd (cc)
+pub chained_value : {A B : Type 0} (f : A → Option B) (o : Option A) (y : B) → option_and_then f o ≡ Some y → (x : A) × (o ≡ Some x) × (f x ≡ Some y)
+chained_value f (Some x) y e = (x, refl, e)
+chained_value f None y e = absurd (cc)
 
 put_cases : (bytes new : List ℕ) (at bit : ℕ) (width : Width) (value : ℕ) (within : Bool) → is_within bytes at bit width ≡ within → cond within (Some (bytes_with_number bytes at bit width value)) None ≡ Some new → (is_within bytes at bit width ≡ true) × (bytes_with_number bytes at bit width value ≡ new)
 put_cases bytes new at bit width value true e is = (e, same_Some _ new is)
@@ -143,8 +143,8 @@ in_low p n low = rw (lt-ltb n 256 low) refl
 pub in_high : (p : PeripheralBytes) (n : ℕ) → 256 ≤ n → peripheral_byte p n ≡ slice_get p.high (n - 256)
 in_high p n high = let test : nat_lt n 256 ≡ false = grind (arith, nat_tests) in rw test refl
 
-pub unchanged : (old new : Option ℕ) (at bit : ℕ) (width : Width) (value n b : ℕ) → (n < at) ⊎ (at + byte_count width ≤ n) → new ≡ old → bit_of_byte new b ≡ option_map (value_of_bit value (weight_in at bit width n b)) (bit_of_byte old b)
-unchanged old new at bit width value n b out same =
+pub bit_stays : (old new : Option ℕ) (at bit : ℕ) (width : Width) (value n b : ℕ) → (n < at) ⊎ (at + byte_count width ≤ n) → new ≡ old → bit_of_byte new b ≡ option_map (value_of_bit value (weight_in at bit width n b)) (bit_of_byte old b)
+bit_stays old new at bit width value n b out same =
     ap (λ (o : Option ℕ). bit_of_byte o b) same
     ∙ kept_bit (bit_of_byte old b)
     ∙ sym (ap (λ (w : Option ℕ). option_map (value_of_bit value w) (bit_of_byte old b)) (no_weight at bit width n b out))
@@ -166,7 +166,7 @@ low_part_after p low at bit width value short first fits done n b =
           ∙ sym (ap (λ (o : Option ℕ). option_map (value_of_bit value (weight_in at bit width n b)) (bit_of_byte o b)) (in_low p n below))
       | inr from ↦
           let end = put_within p.low low at bit width value done in
-          unchanged (peripheral_byte p n) (peripheral_byte q n) at bit width value n b (inr (omega arith)) (in_high q n from ∙ sym (in_high p n from))
+          bit_stays (peripheral_byte p n) (peripheral_byte q n) at bit width value n b (inr (omega arith)) (in_high q n from ∙ sym (in_high p n from))
     ]
 
 high_part_after :
@@ -179,7 +179,7 @@ high_part_after :
 high_part_after p high at bit width value first fits done n b =
     let q : PeripheralBytes = record p { high = high } in
     elim (below_or_from n) [
-      | inl below ↦ unchanged (peripheral_byte p n) (peripheral_byte q n) at bit width value n b (inl (omega arith)) (in_low q n below ∙ sym (in_low p n below))
+      | inl below ↦ bit_stays (peripheral_byte p n) (peripheral_byte q n) at bit width value n b (inl (omega arith)) (in_low q n below ∙ sym (in_low p n below))
       | inr from ↦
           ap (λ (o : Option ℕ). bit_of_byte o b) (in_high q n from)
           ∙ run_after p.high high (at - 256) bit width value fits done (n - 256) b
@@ -199,10 +199,10 @@ part_cases :
     → cond first (option_map (λ (bytes : List ℕ). record p { low = bytes }) (put_number p.low at bit width value)) (option_map (λ (bytes : List ℕ). record p { high = bytes }) (put_number p.high (at - 256) bit width value)) ≡ Some q
     → PartPut p q at bit width value
 part_cases p q at bit width value true e done =
-    let was = mapped (λ (bytes : List ℕ). let r : PeripheralBytes = record p { low = bytes } in r) (put_number p.low at bit width value) q done in
+    let was = mapped_value (λ (bytes : List ℕ). let r : PeripheralBytes = record p { low = bytes } in r) (put_number p.low at bit width value) q done in
     inl (was.0, ltb-true at 256 e, was.1, was.2)
 part_cases p q at bit width value false e done =
-    let was = mapped (λ (bytes : List ℕ). let r : PeripheralBytes = record p { high = bytes } in r) (put_number p.high (at - 256) bit width value) q done in
+    let was = mapped_value (λ (bytes : List ℕ). let r : PeripheralBytes = record p { high = bytes } in r) (put_number p.high (at - 256) bit width value) q done in
     inr (was.0, grind (arith, nat_tests), was.1, was.2)
 
 pub part_put : (p q : PeripheralBytes) (at bit : ℕ) (width : Width) (value : ℕ) → put_peripheral p at bit width value ≡ Some q → PartPut p q at bit width value
@@ -277,8 +277,8 @@ pub block_put :
     → (bytes : List ℕ) × (stored : List ℕ) × (map.get blocks k ≡ Some bytes) × (put_number bytes at bit width value ≡ Some stored) × (map.insert blocks k stored ≡ new)
 unfolding put_in_block
 block_put blocks new k at bit width value done =
-    let found = chained (λ (bytes : List ℕ). option_map (λ (s : List ℕ). map.insert blocks k s) (put_number bytes at bit width value)) (map.get blocks k) new done in
-    let was = mapped (λ (s : List ℕ). map.insert blocks k s) (put_number found.0 at bit width value) new found.2 in
+    let found = chained_value (λ (bytes : List ℕ). option_map (λ (s : List ℕ). map.insert blocks k s) (put_number bytes at bit width value)) (map.get blocks k) new done in
+    let was = mapped_value (λ (s : List ℕ). map.insert blocks k s) (put_number found.0 at bit width value) new found.2 in
     (found.0, was.0, found.1, was.1, was.2)
 
 block_byte_after :

@@ -21,14 +21,14 @@ use Rattle.plc_mem.proofs.Numbers.{byte_bits, byte_bit, weights_value, stands, b
 -- ---- one bit of a byte
 
 -- a number as its bits from k on, and those below
-parted : (n k : ℕ) → n ≡ n / 2 ^ k * 2 ^ k + n % 2 ^ k
-parted n k = omega (arith, div-add-mod n (2 ^ k))
+number_in_parts : (n k : ℕ) → n ≡ n / 2 ^ k * 2 ^ k + n % 2 ^ k
+number_in_parts n k = omega (arith, div-add-mod n (2 ^ k))
 
 -- with_bit, in parts: the bits above k, the new bit, the bits below
 with_bit_parts : (n k v : ℕ) → byte_with_bit n k v ≡ (n / 2 ^ k / 2 * 2 ^ 1 + v) * 2 ^ k + n % 2 ^ k
 with_bit_parts n k v =
     let q : n / 2 ^ k ≡ n / 2 ^ k / 2 * 2 + n / 2 ^ k % 2 = omega arith in
-    omega (arith, parted n k, ap (λ (x : ℕ). x * 2 ^ k) q)
+    omega (arith, number_in_parts n k, ap (λ (x : ℕ). x * 2 ^ k) q)
 
 below_pow : (n k : ℕ) → n % 2 ^ k < 2 ^ k
 below_pow n k = mod-lt n (pow_pos k)
@@ -57,13 +57,13 @@ with_bit_other n k v i small other =
       | inl below ↦
           ap (λ (x : ℕ). bit_at x i) (with_bit_parts n k v)
           ∙ bit_at_cat_low (n / 2 ^ k / 2 * 2 ^ 1 + v) k (n % 2 ^ k) i below
-          ∙ sym (ap (λ (x : ℕ). bit_at x i) (parted n k) ∙ bit_at_cat_low (n / 2 ^ k) k (n % 2 ^ k) i below)
+          ∙ sym (ap (λ (x : ℕ). bit_at x i) (number_in_parts n k) ∙ bit_at_cat_low (n / 2 ^ k) k (n % 2 ^ k) i below)
       | inr above ↦
           let halves : n / 2 ^ k ≡ n / 2 ^ k / 2 * 2 ^ 1 + n / 2 ^ k % 2 = omega arith in
           ap (λ (x : ℕ). bit_at x i) (with_bit_parts n k v)
           ∙ bit_at_cat_high (n / 2 ^ k / 2 * 2 ^ 1 + v) k (n % 2 ^ k) i (below_pow n k) (omega arith)
           ∙ same_bit_above (n / 2 ^ k / 2) v (n / 2 ^ k % 2) (i - k) small (omega arith) (omega arith)
-          ∙ sym (ap (λ (x : ℕ). bit_at x i) (parted n k) ∙ bit_at_cat_high (n / 2 ^ k) k (n % 2 ^ k) i (below_pow n k) (omega arith) ∙ ap (λ (x : ℕ). bit_at x (i - k)) halves)
+          ∙ sym (ap (λ (x : ℕ). bit_at x i) (number_in_parts n k) ∙ bit_at_cat_high (n / 2 ^ k) k (n % 2 ^ k) i (below_pow n k) (omega arith) ∙ ap (λ (x : ℕ). bit_at x (i - k)) halves)
     ]
 
 -- ---- the bytes of a run

@@ -19,7 +19,7 @@ use Rattle.plc_mem.specs.Written.{IsNumberWrittenIn, IsNumberWritten, bit_after_
 use Rattle.std.specs.Ordering.{nat_cmp}
 use Rattle.std.proofs.lemmas.Option.{slice_get_past}
 use Rattle.plc_mem.proofs.Numbers.{no_byte}
-use Rattle.plc_mem.proofs.Runs.{mapped, part_put, put_done, unchanged, none_some, run_after, run_holds, peripheral_after, peripheral_holds, block_after, block_holds, block_loaded}
+use Rattle.plc_mem.proofs.Runs.{mapped_value, part_put, put_done, bit_stays, none_some, run_after, run_holds, peripheral_after, peripheral_holds, block_after, block_holds, block_loaded}
 use Rattle.plc_mem.proofs.Stored.{kept_bit}
 
 -- the number in an operand of a region is that of its bytes
@@ -38,7 +38,7 @@ inputs_bits m new at bit width value fits done region n b = kept_bit (bit_at m (
 
 inputs_written : (m n : Areas) (place : Place) (width : Width) (value : ℕ) → value < 2 ^ bit_count width → number_written_in m Inputs place.byte place.bit width value ≡ Some n → IsNumberWrittenIn m n Inputs place width value
 inputs_written m n place width value fits done =
-    let was = mapped (λ (s : List ℕ). let r : Areas = record m { inputs = s } in r) (put_number m.inputs place.byte place.bit width value) n done in
+    let was = mapped_value (λ (s : List ℕ). let r : Areas = record m { inputs = s } in r) (put_number m.inputs place.byte place.bit width value) n done in
     let now : Areas = record m { inputs = was.0 } in
     subst (λ (r : Areas). IsNumberWrittenIn m r Inputs place width value) was.2 (record {
       number = number_of_region now Inputs place width ∙ run_holds m.inputs was.0 place.byte place.bit width value fits was.1;
@@ -54,7 +54,7 @@ outputs_bits m new at bit width value fits done region n b = kept_bit (bit_at m 
 
 outputs_written : (m n : Areas) (place : Place) (width : Width) (value : ℕ) → value < 2 ^ bit_count width → number_written_in m Outputs place.byte place.bit width value ≡ Some n → IsNumberWrittenIn m n Outputs place width value
 outputs_written m n place width value fits done =
-    let was = mapped (λ (s : List ℕ). let r : Areas = record m { outputs = s } in r) (put_number m.outputs place.byte place.bit width value) n done in
+    let was = mapped_value (λ (s : List ℕ). let r : Areas = record m { outputs = s } in r) (put_number m.outputs place.byte place.bit width value) n done in
     let now : Areas = record m { outputs = was.0 } in
     subst (λ (r : Areas). IsNumberWrittenIn m r Outputs place width value) was.2 (record {
       number = number_of_region now Outputs place width ∙ run_holds m.outputs was.0 place.byte place.bit width value fits was.1;
@@ -70,7 +70,7 @@ memory_bits m new at bit width value fits done region n b = kept_bit (bit_at m (
 
 memory_written : (m n : Areas) (place : Place) (width : Width) (value : ℕ) → value < 2 ^ bit_count width → number_written_in m BitMemory place.byte place.bit width value ≡ Some n → IsNumberWrittenIn m n BitMemory place width value
 memory_written m n place width value fits done =
-    let was = mapped (λ (s : List ℕ). let r : Areas = record m { bit_memory = s } in r) (put_number m.bit_memory place.byte place.bit width value) n done in
+    let was = mapped_value (λ (s : List ℕ). let r : Areas = record m { bit_memory = s } in r) (put_number m.bit_memory place.byte place.bit width value) n done in
     let now : Areas = record m { bit_memory = was.0 } in
     subst (λ (r : Areas). IsNumberWrittenIn m r BitMemory place width value) was.2 (record {
       number = number_of_region now BitMemory place width ∙ run_holds m.bit_memory was.0 place.byte place.bit width value fits was.1;
@@ -86,7 +86,7 @@ peripheral_inputs_bits m new at bit width value sizes fits done region n b = kep
 
 peripheral_inputs_written : (m n : Areas) (place : Place) (width : Width) (value : ℕ) → length m.peripheral_inputs.low ≡ 128 → value < 2 ^ bit_count width → number_written_in m PeripheralInputs place.byte place.bit width value ≡ Some n → IsNumberWrittenIn m n PeripheralInputs place width value
 peripheral_inputs_written m n place width value sizes fits done =
-    let was = mapped (λ (p : PeripheralBytes). let r : Areas = record m { peripheral_inputs = p } in r) (put_peripheral m.peripheral_inputs place.byte place.bit width value) n done in
+    let was = mapped_value (λ (p : PeripheralBytes). let r : Areas = record m { peripheral_inputs = p } in r) (put_peripheral m.peripheral_inputs place.byte place.bit width value) n done in
     let now : Areas = record m { peripheral_inputs = was.0 } in
     subst (λ (r : Areas). IsNumberWrittenIn m r PeripheralInputs place width value) was.2 (record {
       number = number_of_region now PeripheralInputs place width ∙ peripheral_holds m.peripheral_inputs was.0 place.byte place.bit width value (omega (arith, sizes)) fits was.1;
@@ -126,7 +126,7 @@ image_after m q at bit width value sizes fits done n b None e =
           absurd (none_some (bytes_with_number m.outputs at bit width value) (sym e ∙ put_fits m.outputs at bit width value within))
       | inr w ↦
           elim (below_or_past n) [
-            | inl below ↦ unchanged (slice_get m.outputs n) (slice_get m.outputs n) at bit width value n b (inl (omega (arith, w.1))) refl
+            | inl below ↦ bit_stays (slice_get m.outputs n) (slice_get m.outputs n) at bit width value n b (inl (omega (arith, w.1))) refl
             | inr past ↦
                 let none : slice_get m.outputs n ≡ None = slice_get_past m.outputs n (omega (arith, sizes.image)) in
                 ap (λ (o : Option ℕ). bit_of_byte o b) none ∙ no_byte (nat_lt b 8) b
@@ -143,7 +143,7 @@ peripheral_outputs_bits m new at bit width value sizes fits done region n b = ke
 
 peripheral_outputs_written : (m n : Areas) (place : Place) (width : Width) (value : ℕ) → HasImage m → value < 2 ^ bit_count width → number_written_in m PeripheralOutputs place.byte place.bit width value ≡ Some n → IsNumberWrittenIn m n PeripheralOutputs place width value
 peripheral_outputs_written m n place width value sizes fits done =
-    let was = mapped (λ (p : PeripheralBytes). let r : Areas = record m { outputs = unwrap_or (put_number m.outputs place.byte place.bit width value) m.outputs; peripheral_outputs = p } in r) (put_peripheral m.peripheral_outputs place.byte place.bit width value) n done in
+    let was = mapped_value (λ (p : PeripheralBytes). let r : Areas = record m { outputs = unwrap_or (put_number m.outputs place.byte place.bit width value) m.outputs; peripheral_outputs = p } in r) (put_peripheral m.peripheral_outputs place.byte place.bit width value) n done in
     let now : Areas = record m { outputs = unwrap_or (put_number m.outputs place.byte place.bit width value) m.outputs; peripheral_outputs = was.0 } in
     subst (λ (r : Areas). IsNumberWrittenIn m r PeripheralOutputs place width value) was.2 (record {
       number = number_of_region now PeripheralOutputs place width ∙ peripheral_holds m.peripheral_outputs was.0 place.byte place.bit width value (omega (arith, sizes.outputs_low)) fits was.1;
@@ -159,7 +159,7 @@ block_bits m new k at bit width value fits done region n b = kept_bit (bit_at m 
 
 block_written : (m n : Areas) (k : ℕ) (place : Place) (width : Width) (value : ℕ) → value < 2 ^ bit_count width → number_written_in m (DataBlock k) place.byte place.bit width value ≡ Some n → IsNumberWrittenIn m n (DataBlock k) place width value
 block_written m n k place width value fits done =
-    let was = mapped (λ (blocks : map.FinMap nat_cmp (List ℕ)). let r : Areas = record m { data_blocks = blocks } in r) (put_in_block m.data_blocks k place.byte place.bit width value) n done in
+    let was = mapped_value (λ (blocks : map.FinMap nat_cmp (List ℕ)). let r : Areas = record m { data_blocks = blocks } in r) (put_in_block m.data_blocks k place.byte place.bit width value) n done in
     let now : Areas = record m { data_blocks = was.0 } in
     subst (λ (r : Areas). IsNumberWrittenIn m r (DataBlock k) place width value) was.2 (record {
       number = number_of_region now (DataBlock k) place width ∙ block_holds m.data_blocks was.0 k place.byte place.bit width value fits was.1;

@@ -117,7 +117,7 @@ impl Memory {
     {
         let data_blocks = DataBlocks::new(alloc, blocks)?;
         let bit_memory = clear_bytes(alloc, profile.bit_memory_size())?;
-        Ok(Memory::cleared(profile, bit_memory, data_blocks))
+        Ok(Memory::with_data_blocks(profile, bit_memory, data_blocks))
     }
 
     /// Law, which does nothing: each memory has its areas, each of its size and made of bytes.
@@ -215,7 +215,7 @@ impl Memory {
     }
 
     // Memory with these data blocks, in which all else is 0.
-    fn cleared(profile: Profile, bit_memory: Vec<u8>, data_blocks: DataBlocks) -> Self
+    fn with_data_blocks(profile: Profile, bit_memory: Vec<u8>, data_blocks: DataBlocks) -> Self
         requires bits { bit_memory.items ≡ replicate (bit_memory_size profile) 0 }
         requires blocks { AreBlocks data_blocks }
         ensures { result ≡ zeroed_memory profile data_blocks }

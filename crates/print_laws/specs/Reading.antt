@@ -49,6 +49,7 @@ use Rattle.stl_parser.specs.declared.clauses.Clause.TheVariants as clause
 use Rattle.stl_print.specs.Clauses.{line_of}
 use Rattle.stl_print.specs.Gaps.{line_behind}
 use Rattle.stl_print.specs.Trees.{block_clauses, pieces_of_tree}
+use Rattle.print_laws.specs.Standing.{IsNumberedBlock}
 
 -- ---- names
 
@@ -83,11 +84,6 @@ pub record IsRegister (name : List ℕ) : Type 0 where
   pub no_true : str_eq_ignore_ascii_case name (codes "TRUE") ≡ false
   -- the name isn't FALSE
   pub no_false : str_eq_ignore_ascii_case name (codes "FALSE") ≡ false
-
--- a block is named by its kind and number, not by a quoted name
-abbrev pub IsBlockByNumber : BlockName → Type 0
-IsBlockByNumber (block.Number id) = IsNumber id.number
-IsBlockByNumber (block.Quoted name) = ⊥
 
 -- a data block is named by its kind and number, not by a quoted name
 abbrev pub IsDataBlock : BlockName → Type 0
@@ -173,12 +169,12 @@ IsOpenOperand _ = ⊥
 
 -- the operand of UC and CC: a block by its number
 abbrev pub IsBlockCallOperand : Operand → Type 0
-IsBlockCallOperand (operand.Called name None) = IsBlockByNumber name
+IsBlockCallOperand (operand.Called name None) = IsNumberedBlock name
 IsBlockCallOperand _ = ⊥
 
 -- the operand of CALL: a block by its number, or a function block with its instance
 abbrev pub IsCallOperand : Operand → Type 0
-IsCallOperand (operand.Called name None) = IsBlockByNumber name
+IsCallOperand (operand.Called name None) = IsNumberedBlock name
 IsCallOperand (operand.Called name (Some instance)) = IsFunctionBlock name × IsDataBlock instance
 IsCallOperand _ = ⊥
 

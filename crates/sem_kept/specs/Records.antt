@@ -12,7 +12,7 @@ use Rattle.sem_kept.specs.Accepted.{IsAccepted, program_in}
 
 -- the code of a block has no fault, and its statements and bytes are few enough for their fields
 pub record HasFaultlessCode (b : CodeBlock) : Type 0 where
-  -- each is an op of the table
+  -- each op of the code is one of the table
   pub ops : are_ops b.code ≡ true
   -- no statement has a 65th op, and the last op is BE
   pub ends : code_fault b.code ≡ None
@@ -21,7 +21,7 @@ pub record HasFaultlessCode (b : CodeBlock) : Type 0 where
   -- the number of its bytes fits 32 bits
   pub size : length (code_bytes b.code) < 4294967296
 
--- a symbols file is made of bytes
+-- a symbols file is made of bytes: what `AreBytes` says of its elements, by their places
 abbrev pub IsOfBytes : List ℕ → Type 0
 IsOfBytes file = (i : ℕ) → get_or file i 0 < 256
 

@@ -3,7 +3,8 @@
 use Rattle.std.specs.Prelude.{true, false, if◌then◌else◌}
 use Rattle.status_word.specs.declared.registers.Regs.{Regs}
 
--- within a logic string OR takes over the RLO, else it stays; STA 1, and a new string begins
+-- O without an operand: within a logic string the OR bit takes over the RLO, else it stays; STA 1,
+-- and a new string begins
 unfoldable pub or_bare : Regs → Regs
 or_bare r =
     record r {

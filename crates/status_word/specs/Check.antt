@@ -5,7 +5,7 @@ use Rattle.plc_base.specs.declared.instructions.Check.{Check}
 use Rattle.plc_base.specs.declared.instructions.Check.TheVariants.{A, An, O, On, X, Xn}
 use Rattle.status_word.specs.declared.registers.Regs.{Regs}
 
--- the value of the check, where `read` is the bit read: AN, ON and XN invert it
+-- the value of a check, where `read` is the bit read: AN, ON and XN invert it
 abbrev pub check_value : (code : Check) (read : Bool) → Bool
 check_value A read = read
 check_value An read = not read
@@ -19,7 +19,7 @@ abbrev pub exclusive_or : Bool → Bool → Bool
 exclusive_or true b = not b
 exclusive_or false b = b
 
--- the RLO combined with the value: by AND, OR or exclusive OR
+-- the RLO combined with the value of a check: by AND, OR or exclusive OR
 abbrev pub rlo_joined : (code : Check) (rlo value : Bool) → Bool
 rlo_joined A rlo value = rlo && value
 rlo_joined An rlo value = rlo && value
@@ -28,7 +28,7 @@ rlo_joined On rlo value = rlo || value
 rlo_joined X rlo value = exclusive_or rlo value
 rlo_joined Xn rlo value = exclusive_or rlo value
 
--- X and XN
+-- whether a check is one by exclusive OR: X or XN
 abbrev pub is_exclusive : Check → Bool
 is_exclusive A = false
 is_exclusive An = false
@@ -37,7 +37,7 @@ is_exclusive On = false
 is_exclusive X = true
 is_exclusive Xn = true
 
--- A and AN
+-- whether a check is one by AND: A or AN
 abbrev pub is_and : Check → Bool
 is_and A = true
 is_and An = true
@@ -46,18 +46,19 @@ is_and On = false
 is_and X = false
 is_and Xn = false
 
--- the first check of a logic string (/FC 0) begins with its value, each further one is combined
--- with the RLO
+-- what a check makes of the RLO, without the OR bit: the value of the check where it is the first
+-- one of a logic string (/FC 0), else the RLO combined with the value
 abbrev pub check_base : (code : Check) (fc rlo value : Bool) → Bool
 check_base code fc rlo value = if fc then rlo_joined code rlo value else value
 
--- the new RLO: that base or the OR bit, but for X and XN within a string the base alone
+-- the RLO after a check: `check_base` or the OR bit, but for X and XN within a logic string
+-- `check_base` alone
 abbrev pub rlo_after : (code : Check) (fc rlo or read : Bool) → Bool
 rlo_after code fc rlo or read =
     if fc && is_exclusive code then check_base code fc rlo (check_value code read)
     else check_base code fc rlo (check_value code read) || or
 
--- the new OR bit: A and AN keep it, the others clear it
+-- the OR bit after a check: A and AN keep it, the others clear it
 abbrev pub or_after : (code : Check) (or : Bool) → Bool
 or_after code or = is_and code && or
 

@@ -18,6 +18,6 @@ status_at_rest = record {
   br = false;
 }
 
--- with these an activation begins: all registers 0, and the status word 0
+-- the registers with which an activation begins: all 0, and the status word 0
 abbrev pub regs_at_rest : Regs
 regs_at_rest = record { a1 = 0; a2 = 0; ar1 = 0; ar2 = 0; status = status_at_rest }

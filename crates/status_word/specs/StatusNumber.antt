@@ -4,11 +4,11 @@ use Rattle.std.specs.Prelude.{ℕ, ◌+◌, ◌*◌, Bool, false, if◌then◌el
 use Rattle.plc_base.specs.Bits.{has_bit}
 use Rattle.status_word.specs.declared.statuses.Status.{Status}
 
--- 1 or 0
+-- a bit as a number: 1 where it is 1, else 0
 abbrev pub bit : Bool → ℕ
 bit b = if b then 1 else 0
 
--- the number of all nine bits: a bit k that is 1 weighs 2 ^ k
+-- the number of all nine bits of a status word: a bit k that is 1 weighs 2 ^ k
 unfoldable pub status_number : Status → ℕ
 status_number s =
     bit s.fc + 2 * bit s.rlo + 4 * bit s.sta + 8 * bit s.or + 16 * bit s.os + 32 * bit s.ov

@@ -77,7 +77,7 @@ impl Status {
     }
 
     /// The number that `L STW` loads: RLO, OS, OV, CC 0, CC 1 and BR at their bits, 0 elsewhere.
-    pub fn loaded(self) -> u16
+    pub fn loaded_number(self) -> u16
         ensures value { result ≡ status_number (status_shown self) }
         ensures lost { status_of result ≡ status_shown self }
         ensures bound { result < 512 }
@@ -93,7 +93,7 @@ impl Status {
 
     /// The status word that `T STW` makes of the lowest nine bits of accumulator 1.
     #[tactic(auto, using(crate::proofs::StatusNumberLaws::number_of_status_lem), unfolding(crate::specs::StatusNumber::status_of))]
-    pub fn transferred(accumulator: u32) -> Status
+    pub fn transferred_status(accumulator: u32) -> Status
         ensures value { result ≡ status_of accumulator }
         ensures number { status_number result ≡ accumulator % 512 }
     {

@@ -3,7 +3,7 @@ ghost use Rattle.ob_sched.specs.Views.{scheduler_of};
 ghost use Rattle.sys_funcs.specs.Returned.{LeavesSystemFunctionResult};
 ghost use Rattle.sys_funcs.specs.Functions.{IsDelayOb, srt_dint as starts, can_dint as cancels};
 
-use crate::returns::returned;
+use crate::returns::returned_value;
 use frames::Activation;
 use ob_sched::Sched;
 
@@ -36,13 +36,13 @@ pub fn srt_dint(s: &mut Sched, a: &mut Activation, ob_nr: u32, dtime: u32, sign:
 {
     let _ = sign;
     let Some(ob) = delay_ob(ob_nr) else {
-        return returned(a, WRONG_OB_NR);
+        return returned_value(a, WRONG_OB_NR);
     };
     if !(1..=60_000).contains(&dtime) {
-        return returned(a, WRONG_DTIME);
+        return returned_value(a, WRONG_DTIME);
     }
     s.start_delay(ob, dtime);
-    returned(a, 0)
+    returned_value(a, 0)
 }
 
 /// SFC 33 CAN_DINT: ends a started delay of OB 20 to 23. Another OB_NR is 16#8090; after that 16#80A0
@@ -53,11 +53,11 @@ pub fn can_dint(s: &mut Sched, a: &mut Activation, ob_nr: u32) -> u32
         (scheduler_of s.new) a.new result }
 {
     let Some(ob) = delay_ob(ob_nr) else {
-        return returned(a, WRONG_OB_NR);
+        return returned_value(a, WRONG_OB_NR);
     };
     if s.cancel_delay(ob) {
-        returned(a, 0)
+        returned_value(a, 0)
     } else {
-        returned(a, NOT_STARTED)
+        returned_value(a, NOT_STARTED)
     }
 }

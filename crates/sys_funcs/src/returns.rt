@@ -11,7 +11,7 @@ pub fn set_br(a: &mut Activation, br: bool)
 }
 
 /// Sets BR by an INT return value, 0 for an error code 16#8080 to 16#80FF, and hands the value on.
-pub fn returned(a: &mut Activation, value: u32) -> u32
+pub fn returned_value(a: &mut Activation, value: u32) -> u32
     ensures value { result ≡ value }
     ensures br { a.new ≡ with_br (br_of value) a.old }
 {

@@ -3,7 +3,7 @@ ghost use Rattle.ob_sched.specs.Views.{scheduler_of};
 ghost use Rattle.sys_funcs.specs.Returned.{LeavesSystemFunctionResult};
 ghost use Rattle.sys_funcs.specs.Functions.{dis_airt as disables, en_airt as enables};
 
-use crate::returns::returned;
+use crate::returns::returned_value;
 use frames::Activation;
 use ob_sched::Sched;
 
@@ -23,7 +23,7 @@ pub fn dis_airt(s: &mut Sched, a: &mut Activation) -> u32
     let _ = s;
     let delay = a.delay.min(MOST_DELAYS - 1) + 1;
     a.delay = delay;
-    returned(a, u32::from(delay))
+    returned_value(a, u32::from(delay))
 }
 
 /// SFC 42 EN_AIRT: takes one delay of interrupts back, and returns how often they are delayed then.
@@ -35,9 +35,9 @@ pub fn en_airt(s: &mut Sched, a: &mut Activation) -> u32
 {
     let _ = s;
     if a.delay == 0 {
-        return returned(a, NOT_DELAYED);
+        return returned_value(a, NOT_DELAYED);
     }
     a.delay -= 1;
     let delay = a.delay;
-    returned(a, u32::from(delay))
+    returned_value(a, u32::from(delay))
 }

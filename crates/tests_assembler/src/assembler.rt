@@ -5,7 +5,9 @@
 //! block the place as `IW@2.0`), or `DB 10 { bytes`, or `DB 5 2 { bytes` for an instance of FB 2. Blocks
 //! stand in the order of an image. Statements end with `;`, ops before the last of a statement with `,`.
 //! Literals are hexadecimal behind `#`, a parameter is `@0W`, an address register's place `MW[AR1+2.0]`.
-use crate::places::{area_and_width, byte_and_bit, decimal, in_named_block, spelled, width_number};
+use crate::places::{
+    area_and_width, byte_and_bit, decimal, in_named_block, spelled_place, width_number,
+};
 use crate::words::{code_of, condition_number, jump_kind};
 use std::alloc::{AllocError, Global};
 
@@ -52,7 +54,7 @@ fn hexadecimal(text: &str) -> u32 {
 const UNREADABLE: u8 = 0xFF;
 
 fn direct(out: &mut Vec<u8>, text: &str) -> Written {
-    let Some(place) = spelled(text) else {
+    let Some(place) = spelled_place(text) else {
         return byte(out, UNREADABLE);
     };
     out.extend_from_slice(&[0x02, place.area, place.width])?;
@@ -62,7 +64,7 @@ fn direct(out: &mut Vec<u8>, text: &str) -> Written {
 
 /// The area and the byte of a pointer's own place.
 fn pointer(out: &mut Vec<u8>, text: &str) -> Written {
-    let Some(place) = spelled(text) else {
+    let Some(place) = spelled_place(text) else {
         return byte(out, UNREADABLE);
     };
     out.push(place.area)?;
@@ -81,7 +83,7 @@ fn register(out: &mut Vec<u8>, text: &str) -> Written {
 }
 
 /// A place that is pointed at: the letters, and what stands in the brackets.
-fn pointed(out: &mut Vec<u8>, letters: &str, inside: &str) -> Written {
+fn put_pointed_place(out: &mut Vec<u8>, letters: &str, inside: &str) -> Written {
     let inside = inside.strip_suffix(']').unwrap_or("");
     match letters {
         "T" => {
@@ -122,16 +124,16 @@ fn parameter(out: &mut Vec<u8>, text: &str) -> Written {
 }
 
 /// A number behind letters, as `T5` or `DB10`.
-fn numbered(text: &str, letters: &str) -> Option<u16> {
+fn number_behind(text: &str, letters: &str) -> Option<u16> {
     decimal(text.strip_prefix(letters)?)
 }
 
 /// `FC1`, `FB2:5`, `SFC41`.
-fn called(out: &mut Vec<u8>, text: &str) -> Written {
+fn put_called_block(out: &mut Vec<u8>, text: &str) -> Written {
     let (block, instance) = text.split_once(':').unwrap_or((text, "0"));
     let instance = decimal(instance).unwrap_or(0);
     for (letters, kind) in [("FC", 2), ("FB", 3), ("SFC", 5)] {
-        if let Some(number) = numbered(block, letters) {
+        if let Some(number) = number_behind(block, letters) {
             out.extend_from_slice(&[0x0D, kind])?;
             word(out, number)?;
             return word(out, instance);
@@ -141,14 +143,14 @@ fn called(out: &mut Vec<u8>, text: &str) -> Written {
 }
 
 /// Operands that are a number behind letters: timers, counters, data blocks.
-fn counted(out: &mut Vec<u8>, text: &str) -> Result<bool, AllocError> {
+fn put_numbered_place(out: &mut Vec<u8>, text: &str) -> Result<bool, AllocError> {
     for (letters, form, what) in [
         ("T", 0x06, 1),
         ("C", 0x06, 2),
         ("DB", 0x0E, 1),
         ("DI", 0x0E, 2),
     ] {
-        if let Some(number) = numbered(text, letters) {
+        if let Some(number) = number_behind(text, letters) {
             out.extend_from_slice(&[form, what])?;
             word(out, number)?;
             return Ok(true);
@@ -169,21 +171,21 @@ fn operand(out: &mut Vec<u8>, text: &str) -> Written {
         return parameter(out, rest);
     }
     if let Some((letters, inside)) = text.split_once('[') {
-        return pointed(out, letters, inside);
+        return put_pointed_place(out, letters, inside);
     }
     if let Some(condition) = condition_number(text) {
         return out.extend_from_slice(&[0x09, condition]);
     }
-    if counted(out, text)? {
+    if put_numbered_place(out, text)? {
         return Ok(());
     }
     if text.starts_with("FC") || text.starts_with("FB") || text.starts_with("SFC") {
-        return called(out, text);
+        return put_called_block(out, text);
     }
     direct(out, text)
 }
 
-fn passed(out: &mut Vec<u8>, index: &str, actual: &str) -> Written {
+fn put_passed_actual(out: &mut Vec<u8>, index: &str, actual: &str) -> Written {
     out.extend_from_slice(&[0x0B, u8::from_str_radix(index, 10).unwrap_or(255)])?;
     let Some((block, rest)) = in_named_block(actual) else {
         return operand(out, actual);
@@ -191,7 +193,7 @@ fn passed(out: &mut Vec<u8>, index: &str, actual: &str) -> Written {
     out.push(0x0C)?;
     word(out, block)?;
     // as form 02, without its form byte
-    let Some(place) = spelled(rest) else {
+    let Some(place) = spelled_place(rest) else {
         return Ok(());
     };
     out.extend_from_slice(&[place.area, place.width])?;
@@ -216,7 +218,7 @@ fn op(out: &mut Vec<u8>, text: &str, is_last: bool, target: u32) -> Written {
     }
     if name == "PASS" {
         out.push(0x04 | mark)?;
-        return passed(out, first, second);
+        return put_passed_actual(out, first, second);
     }
     if let Some((block, rest)) = in_named_block(first) {
         out.extend_from_slice(&[0x02, 0x0A])?;
@@ -229,7 +231,7 @@ fn op(out: &mut Vec<u8>, text: &str, is_last: bool, target: u32) -> Written {
 }
 
 /// A statement without its label.
-fn unlabelled(statement: &str) -> &str {
+fn without_label(statement: &str) -> &str {
     let text = statement.trim();
     match text.split_once(' ') {
         Some((first, rest)) if first.ends_with(':') => rest,
@@ -250,7 +252,7 @@ fn label_in(statement: &str) -> &str {
 }
 
 fn statement(out: &mut Vec<u8>, text: &str, target: u32) -> Written {
-    let text = unlabelled(text);
+    let text = without_label(text);
     let last = text.split(',').count();
     let mut place = 0_usize;
     for part in text.split(',') {
@@ -283,7 +285,7 @@ fn code_bytes(alloc: Global, code: &str) -> Result<(Vec<u8>, u16), AllocError> {
             continue;
         }
         let mut target = 0;
-        let name = unlabelled(text)
+        let name = without_label(text)
             .split_ascii_whitespace()
             .next()
             .unwrap_or("");
@@ -382,7 +384,7 @@ fn data_block(alloc: Global, out: &mut Vec<u8>, text: &str) -> Written {
 }
 
 /// The image of a program.
-pub fn assembled(alloc: Global, program: &str) -> Result<Image, AllocError> {
+pub fn assembled_image(alloc: Global, program: &str) -> Result<Image, AllocError> {
     let mut records = Vec::new(alloc);
     let mut end = None;
     let mut code_blocks = 0_u16;

@@ -5,5 +5,5 @@ mod assembler;
 mod places;
 mod words;
 
-pub use assembler::{Image, assembled, data_of, is_data_block};
-pub use places::{Address, area_of, decimal, in_named_block, spelled, width_of};
+pub use assembler::{Image, assembled_image, data_of, is_data_block};
+pub use places::{Address, area_of, decimal, in_named_block, spelled_place, width_of};

@@ -71,7 +71,7 @@ fn is_number_part(letter: char) -> bool {
 }
 
 /// A direct place.
-pub fn spelled(text: &str) -> Option<Address> {
+pub fn spelled_place(text: &str) -> Option<Address> {
     let letters = text.trim_end_matches(|letter: char| is_number_part(letter));
     let (area, width) = area_and_width(letters)?;
     let (byte, bit) = byte_and_bit(text.strip_prefix(letters)?)?;

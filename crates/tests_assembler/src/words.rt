@@ -103,7 +103,8 @@ static WORDS: [(&str, u8); 99] = [
     ("RRDA", 0x6E),
 ];
 
-/// The same of timers, counters, calls, returns and data blocks.
+/// Words of timers, counters, calls, returns and data blocks, with one op code whatever their
+/// operand.
 static MORE_WORDS: [(&str, u8); 16] = [
     ("SP", 0x70),
     ("SE", 0x71),
@@ -134,7 +135,7 @@ static CONDITIONS: [&str; 10] = [
     "BR", "OV", "OS", "==0", "<>0", ">0", "<0", ">=0", "<=0", "UO",
 ];
 
-fn found(table: &[(&str, u8)], word: &str) -> Option<u8> {
+fn found_code(table: &[(&str, u8)], word: &str) -> Option<u8> {
     for (name, code) in table {
         if *name == word {
             return Some(*code);
@@ -156,9 +157,9 @@ fn place_in(table: &[&str], word: &str) -> Option<u8> {
 
 /// The op code of a word; 0, which is none, where there is no such word.
 pub(crate) fn code_of(word: &str) -> u8 {
-    match found(&WORDS, word) {
+    match found_code(&WORDS, word) {
         Some(code) => code,
-        None => found(&MORE_WORDS, word).unwrap_or(0),
+        None => found_code(&MORE_WORDS, word).unwrap_or(0),
     }
 }
 

@@ -9,7 +9,7 @@ use stack_bound::{Bound, Found, find, holds};
 use std::alloc::{AllocError, Global};
 use std::process::Abort;
 use std::test::Fail;
-use tests_assembler::assembled;
+use tests_assembler::assembled_image;
 
 /// A program, and what is found of it.
 pub(crate) type Row = (&'static str, &'static str);
@@ -60,7 +60,7 @@ fn write_found(out: &mut String, found: &Found) -> Result<(), AllocError> {
 
 /// A program as it is loaded, with a profile.
 pub(crate) fn loaded(alloc: Global, program: &str, profile: Profile) -> Result<Loaded, Fail> {
-    let image = assembled(alloc, program)?;
+    let image = assembled_image(alloc, program)?;
     let loaded = load(alloc, image.bytes.as_slice())?;
     Ok(loaded.with_profile(profile))
 }

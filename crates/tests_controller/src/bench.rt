@@ -16,7 +16,7 @@ use plc_base::{BlockKind, Mode, Profile, Spot};
 use std::alloc::{AllocError, Global};
 use std::process::Abort;
 use std::test::Fail;
-use tests_assembler::assembled;
+use tests_assembler::assembled_image;
 use var_access::{Entry, Reply, What};
 
 /// A program, a history, and the text of its run.
@@ -223,7 +223,7 @@ fn load_image(alloc: Global, image: &[u8]) -> Result<Loaded, Fail> {
 
 /// A program that is spelled as text, with the small profile, as its image has version 1.
 pub(crate) fn loaded(alloc: Global, program: &str) -> Result<Loaded, Fail> {
-    let image = assembled(alloc, program)?;
+    let image = assembled_image(alloc, program)?;
     load_image(alloc, image.bytes.as_slice())
 }
 

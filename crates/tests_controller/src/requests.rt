@@ -2,7 +2,7 @@
 use monitor::{DiagRecord, MonRecord};
 use plc_base::{Area, BlockId, BlockKind, Place, Width};
 use std::alloc::AllocError;
-use tests_assembler::{area_of, decimal, in_named_block, spelled, width_of};
+use tests_assembler::{area_of, decimal, in_named_block, spelled_place, width_of};
 use var_access::{MOST_VARS, Reply, Request, Var, Vars};
 
 type Written = Result<(), AllocError>;
@@ -21,7 +21,7 @@ const UNREADABLE: Var = Var {
 /// `M0.1`, `MW10`, `DB10.DBW2`.
 fn var_of(word: &str) -> Var {
     let (number, rest) = in_named_block(word).unwrap_or((0, word));
-    match spelled(rest) {
+    match spelled_place(rest) {
         None => UNREADABLE,
         Some(at) => Var {
             place: Place {

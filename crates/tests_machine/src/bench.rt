@@ -21,7 +21,8 @@ use std::alloc::Global;
 use std::process::Abort;
 use std::test::Fail;
 use tests_assembler::{
-    Image, area_of, assembled, data_of, decimal, in_named_block, is_data_block, spelled, width_of,
+    Image, area_of, assembled_image, data_of, decimal, in_named_block, is_data_block,
+    spelled_place, width_of,
 };
 use timers_counters::{Counters, Timers};
 
@@ -78,7 +79,7 @@ fn given(text: &str, name: &str) -> Option<u32> {
 /// The place in memory that a name spells, and its width.
 fn memory_place(name: &str) -> Option<(Place, Width)> {
     let (number, rest) = in_named_block(name).unwrap_or((0, name));
-    let place = spelled(rest)?;
+    let place = spelled_place(rest)?;
     Some((
         Place {
             area: area_of(place.area),
@@ -187,7 +188,7 @@ fn memory_of(alloc: Global, profile: Profile, program: &str) -> Result<Memory, F
 
 impl Bench {
     fn new(alloc: Global, profile: Profile, program: &str) -> Result<Bench, Fail> {
-        let image: Image = assembled(alloc, program)?;
+        let image: Image = assembled_image(alloc, program)?;
         let loaded = load(alloc, image.bytes.as_slice())?;
         let ob = BlockId {
             kind: BlockKind::Ob,
@@ -237,7 +238,7 @@ impl Bench {
             "A2" => regs.a2 = value,
             "AR1" => regs.ar1 = value,
             "AR2" => regs.ar2 = value,
-            "STW" => regs.status = Status::transferred(value),
+            "STW" => regs.status = Status::transferred_status(value),
             _ => self.set_memory(name, value),
         }
         self.activation.running.regs = regs;

@@ -1,5 +1,5 @@
 use crate::compare::same;
-use crate::tools::{expect_arrival, expect_best, running, start_best};
+use crate::tools::{expect_arrival, expect_best, running_scheduler, start_best};
 use ob_sched::{Arrived, Sched, laws};
 use plc_base::Mode;
 use std::process::Abort;
@@ -59,7 +59,7 @@ fn is_best_alone(rt: &impl Abort, sched: &mut Sched, mode: Mode, request: (u16, 
 // class the earlier arrival first.
 #[test]
 fn every_class_is_best_once(rt: HostRuntime) {
-    let mut sched = running(&rt, rt.alloc(), &LOADED);
+    let mut sched = running_scheduler(&rt, rt.alloc(), &LOADED);
     for (ob, class) in CLASSES {
         is_best_alone(&rt, &mut sched, Mode::Run, (ob, class, 7));
         let class = if class == 26 { 28 } else { class };
@@ -96,7 +96,7 @@ fn every_class_is_best_once(rt: HostRuntime) {
 // each other organization block has a queue of one.
 #[test]
 fn queues(rt: HostRuntime) {
-    let mut sched = running(&rt, rt.alloc(), &[1, 10, 40, 80]);
+    let mut sched = running_scheduler(&rt, rt.alloc(), &[1, 10, 40, 80]);
     for number in 1..9 {
         expect_arrival(&rt, &mut sched, 40, number, Arrived::Queued);
     }
@@ -116,7 +116,7 @@ fn queues(rt: HostRuntime) {
 // enables all of them.
 #[test]
 fn disabled_blocks(rt: HostRuntime) {
-    let mut sched = running(&rt, rt.alloc(), &[1, 10, 40, 80]);
+    let mut sched = running_scheduler(&rt, rt.alloc(), &[1, 10, 40, 80]);
     expect_arrival(&rt, &mut sched, 10, 1, Arrived::Queued);
     expect_arrival(&rt, &mut sched, 41, 1, Arrived::NotLoaded);
     sched.disable(41);

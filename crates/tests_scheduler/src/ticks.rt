@@ -1,5 +1,5 @@
 use crate::compare::same;
-use crate::tools::{expect_arrival, expect_best, running, start_best};
+use crate::tools::{expect_arrival, expect_best, running_scheduler, start_best};
 use ob_sched::{Arrived, Sched, StartEvent, StartInfo, TickResult};
 use plc_base::Mode;
 use std::process::Abort;
@@ -55,15 +55,15 @@ fn nothing_waits(rt: &impl Abort, sched: &Sched, when: &str) {
 // RE_TRIGR the counter alone, and the begin of RUN the counter.
 #[test]
 fn cycle_time(rt: HostRuntime) {
-    let mut sched = running(&rt, rt.alloc(), &[]);
+    let mut sched = running_scheduler(&rt, rt.alloc(), &[]);
     passes(&rt, &mut sched, 150, Mode::Run);
     expect_tick(&rt, &mut sched, 1, Mode::Run, 1, Some(9), &[(1, 1)]);
 
-    let mut sched = running(&rt, rt.alloc(), &[80]);
+    let mut sched = running_scheduler(&rt, rt.alloc(), &[80]);
     expect_tick(&rt, &mut sched, 151, Mode::Run, 151, None, &[(1, 1)]);
     expect_tick(&rt, &mut sched, 151, Mode::Run, 151, Some(10), &[]);
 
-    let mut sched = running(&rt, rt.alloc(), &[80]);
+    let mut sched = running_scheduler(&rt, rt.alloc(), &[80]);
     expect_tick(&rt, &mut sched, 151, Mode::Run, 151, None, &[(1, 1)]);
     sched.re_trigger();
     passes(&rt, &mut sched, 150, Mode::Run);
@@ -99,20 +99,20 @@ fn cycle_time(rt: HostRuntime) {
 // time error is lost, and the cycle time stops the controller.
 #[test]
 fn long_ticks(rt: HostRuntime) {
-    let mut sched = running(&rt, rt.alloc(), &[38]);
+    let mut sched = running_scheduler(&rt, rt.alloc(), &[38]);
     expect_tick(&rt, &mut sched, 60_000, Mode::Run, 20, Some(9), &[(1, 38)]);
 
-    let mut sched = running(&rt, rt.alloc(), &[38, 80]);
+    let mut sched = running_scheduler(&rt, rt.alloc(), &[38, 80]);
     expect_tick(&rt, &mut sched, 20, Mode::Run, 20, None, &[(1, 38)]);
     expect_best(&rt, &mut sched, Mode::Run, (80, 26, 0x35));
     expect_best(&rt, &mut sched, Mode::Run, (38, 15, 0x11));
 
-    let mut sched = running(&rt, rt.alloc(), &[38, 80]);
+    let mut sched = running_scheduler(&rt, rt.alloc(), &[38, 80]);
     let passed = sched.pass_ms(60_000, Mode::Run, &[]);
     expect_second_cycle_time(&rt, &passed, 59, &[(0, (1, 38)), (58, (2, 80))]);
 
     // Of 103 records the last 100 are left.
-    let mut sched = running(&rt, rt.alloc(), &[36, 37, 38, 80]);
+    let mut sched = running_scheduler(&rt, rt.alloc(), &[36, 37, 38, 80]);
     let passed = sched.pass_ms(60_000, Mode::Run, &[36, 37, 38]);
     expect_second_cycle_time(&rt, &passed, 100, &[(0, (1, 38)), (1, (2, 80))]);
 }
@@ -121,7 +121,7 @@ fn long_ticks(rt: HostRuntime) {
 // as the periods go into the time.
 #[test]
 fn periods(rt: HostRuntime) {
-    let mut sched = running(&rt, rt.alloc(), &[30, 31, 32, 33, 34, 35, 36, 37, 38, 80]);
+    let mut sched = running_scheduler(&rt, rt.alloc(), &[30, 31, 32, 33, 34, 35, 36, 37, 38, 80]);
     let mut counts = [0u32; 9];
     for _ in 0..6_000 {
         passes(&rt, &mut sched, 4, Mode::Run);
@@ -144,7 +144,7 @@ fn periods(rt: HostRuntime) {
 // or of one that isn't loaded, is nothing. In STARTUP and in STOP no period moves.
 #[test]
 fn cyclic_interrupts(rt: HostRuntime) {
-    let mut sched = running(&rt, rt.alloc(), &[38, 80]);
+    let mut sched = running_scheduler(&rt, rt.alloc(), &[38, 80]);
     let passed = sched.pass_ms(10, Mode::Run, &[1, 38]);
     expect_records(&rt, &passed, &[(1, 38)]);
     expect_best(&rt, &mut sched, Mode::Run, (80, 26, 0x35));
@@ -173,7 +173,7 @@ fn cyclic_interrupts(rt: HostRuntime) {
 // stops the controller before OB 38 is requested.
 #[test]
 fn delays(rt: HostRuntime) {
-    let mut sched = running(&rt, rt.alloc(), &[20, 38, 80]);
+    let mut sched = running_scheduler(&rt, rt.alloc(), &[20, 38, 80]);
     sched.start_delay(20, 9);
     sched.start_delay(20, 5);
     passes(&rt, &mut sched, 4, Mode::Startup);
@@ -228,7 +228,7 @@ fn expect_error(rt: &impl Abort, sched: &mut Sched, error: (u16, u8, u8, u8)) {
 // or OB 85 that is lost is only recorded; without the block the controller stops.
 #[test]
 fn errors(rt: HostRuntime) {
-    let mut sched = running(&rt, rt.alloc(), &[10, 40, 80, 85]);
+    let mut sched = running_scheduler(&rt, rt.alloc(), &[10, 40, 80, 85]);
     let mut passed = TickResult::new();
     let info = StartInfo::new(StartEvent::Arrival { ob: 40, value: 0 }, 16);
     for _ in 0..10 {
@@ -259,7 +259,7 @@ fn errors(rt: HostRuntime) {
 
 #[test]
 fn errors_without_their_blocks(rt: HostRuntime) {
-    let mut sched = running(&rt, rt.alloc(), &[]);
+    let mut sched = running_scheduler(&rt, rt.alloc(), &[]);
     let mut passed = TickResult::new();
     let info = StartInfo::new(StartEvent::Arrival { ob: 40, value: 0 }, 16);
     sched.request(Mode::Run, 10, info, &mut passed);

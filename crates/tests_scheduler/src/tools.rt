@@ -5,7 +5,7 @@ use std::alloc::Global;
 use std::process::Abort;
 
 /// A scheduler in RUN, with these organization blocks loaded.
-pub(crate) fn running(rt: &impl Abort, alloc: Global, loaded: &[u16]) -> Sched {
+pub(crate) fn running_scheduler(rt: &impl Abort, alloc: Global, loaded: &[u16]) -> Sched {
     let mut sched = Sched::new(alloc, loaded).expect(rt, "memory");
     sched.begin_run();
     sched
@@ -14,7 +14,7 @@ pub(crate) fn running(rt: &impl Abort, alloc: Global, loaded: &[u16]) -> Sched {
 /// A request with this number in its start information.
 pub(crate) fn arrive(rt: &impl Abort, sched: &mut Sched, ob: u16, number: u8) -> Arrived {
     assert!(rt; can_wait(ob));
-    sched.arrive(ob, numbered(number))
+    sched.arrive(ob, numbered_info(number))
 }
 
 /// A request with this number in its start information is answered so.
@@ -30,7 +30,7 @@ pub(crate) fn expect_arrival(
 }
 
 /// A start information with this number in its first byte.
-fn numbered(number: u8) -> StartInfo {
+fn numbered_info(number: u8) -> StartInfo {
     let mut bytes = [0; 20];
     bytes[0] = number;
     StartInfo { bytes }

@@ -144,7 +144,7 @@ fn conditions(rt: HostRuntime) {
         ];
         same(&rt, ("CC 1 and CC 0", cc1, cc0), got, hold);
     }
-    let all = Status::transferred(0xFFFF_FFFF);
+    let all = Status::transferred_status(0xFFFF_FFFF);
     same(&rt, "BR of all bits", all.flag(Flag::Br), true);
     same(&rt, "OV of all bits", all.flag(Flag::Ov), true);
     same(&rt, "OS of no bit", Status::new().flag(Flag::Os), false);
@@ -155,15 +155,30 @@ fn numbers(rt: HostRuntime) {
     // Monitoring lines after 32767 + 1, -32768 + -32768, 13 / 4 and 3 / 0 on fresh registers, the
     // last with RLO 0 throughout.
     for number in [0x0070, 0x0030, 0x0080, 0x00F0] {
-        let status = Status::transferred(number);
+        let status = Status::transferred_status(number);
         let got = (u32::from(status.number()), status.rlo);
         same(&rt, ("number and RLO", number), got, (number, false));
     }
-    same(&rt, "CC 0 of 16#70", Status::transferred(0x0070).cc0, true);
-    same(&rt, "CC 1 of 16#80", Status::transferred(0x0080).cc1, true);
-    same(&rt, "BR of 16#100", Status::transferred(0x0100).br, true);
+    same(
+        &rt,
+        "CC 0 of 16#70",
+        Status::transferred_status(0x0070).cc0,
+        true,
+    );
+    same(
+        &rt,
+        "CC 1 of 16#80",
+        Status::transferred_status(0x0080).cc1,
+        true,
+    );
+    same(
+        &rt,
+        "BR of 16#100",
+        Status::transferred_status(0x0100).br,
+        true,
+    );
     // Of all nine bits L STW shows bits 1 and 4 to 8.
-    let all = Status::transferred(0xFFFF_FFFF);
+    let all = Status::transferred_status(0xFFFF_FFFF);
     same(&rt, "all bits", all.number(), 0x1FF);
-    same(&rt, "L STW of all bits", all.loaded(), 0x1F2);
+    same(&rt, "L STW of all bits", all.loaded_number(), 0x1F2);
 }

@@ -14,12 +14,12 @@ fn regs(a2: u32, a1: u32, stw: u32) -> Regs {
     let mut regs = Regs::new();
     regs.a2 = a2;
     regs.a1 = a1;
-    regs.status = Status::transferred(stw);
+    regs.status = Status::transferred_status(stw);
     regs
 }
 
 /// Accumulator 2, accumulator 1 and the number of the status word.
-fn shown(r: &Regs) -> (u32, u32, u32) {
+fn shown_registers(r: &Regs) -> (u32, u32, u32) {
     (r.a2, r.a1, u32::from(r.status.number()))
 }
 
@@ -100,7 +100,7 @@ fn sums(rt: HostRuntime) {
         let mut r = regs(a2, a1, stw);
         calculate(&mut r, what);
         let row = (what, a2, a1, stw);
-        same(&rt, row, shown(&r), (a2, a1_after, stw_after));
+        same(&rt, row, shown_registers(&r), (a2, a1_after, stw_after));
     }
 }
 
@@ -181,7 +181,12 @@ fn singles(rt: HostRuntime) {
     for (what, a1, stw, a1_after, stw_after) in SINGLES {
         let mut r = regs(77, a1, stw);
         change(&mut r, what);
-        same(&rt, (what, a1, stw), shown(&r), (77, a1_after, stw_after));
+        same(
+            &rt,
+            (what, a1, stw),
+            shown_registers(&r),
+            (77, a1_after, stw_after),
+        );
     }
 }
 
@@ -189,12 +194,12 @@ fn singles(rt: HostRuntime) {
 fn accumulators_and_bcd(rt: HostRuntime) {
     let mut r = regs(1, 2, 0);
     tak(&mut r);
-    same(&rt, "TAK", shown(&r), (2, 1, 0));
+    same(&rt, "TAK", shown_registers(&r), (2, 1, 0));
     push(&mut r);
-    same(&rt, "PUSH", shown(&r), (1, 1, 0));
+    same(&rt, "PUSH", shown_registers(&r), (1, 1, 0));
     r.a2 = 5;
     pop(&mut r);
-    same(&rt, "POP", shown(&r), (5, 5, 0));
+    same(&rt, "POP", shown_registers(&r), (5, 5, 0));
 
     // -123; a digit 10 and a sign digit 14 are refused, and nothing changes.
     for (a1, answer, a1_after) in [
@@ -248,7 +253,7 @@ fn comparisons(rt: HostRuntime) {
             compare_d(&mut r, how);
         }
         let row = (how, a2, a1, stw, narrow);
-        same(&rt, row, shown(&r), (a2, a1, stw_after));
+        same(&rt, row, shown_registers(&r), (a2, a1, stw_after));
     }
 }
 
@@ -256,19 +261,34 @@ fn comparisons(rt: HostRuntime) {
 fn word_logic(rt: HostRuntime) {
     let mut r = regs(0x00FF, 0xAAAA_0FF0, 0x70);
     and_w(&mut r, None);
-    same(&rt, "AW", shown(&r), (0x00FF, 0xAAAA_00F0, 0x90));
+    same(&rt, "AW", shown_registers(&r), (0x00FF, 0xAAAA_00F0, 0x90));
     and_w(&mut r, Some(0xF00F));
-    same(&rt, "AW constant", shown(&r), (0x00FF, 0xAAAA_0000, 0x10));
+    same(
+        &rt,
+        "AW constant",
+        shown_registers(&r),
+        (0x00FF, 0xAAAA_0000, 0x10),
+    );
     or_w(&mut r, Some(0x0F00));
-    same(&rt, "OW constant", shown(&r), (0x00FF, 0xAAAA_0F00, 0x90));
+    same(
+        &rt,
+        "OW constant",
+        shown_registers(&r),
+        (0x00FF, 0xAAAA_0F00, 0x90),
+    );
     xor_w(&mut r, None);
-    same(&rt, "XOW", shown(&r), (0x00FF, 0xAAAA_0FFF, 0x90));
+    same(&rt, "XOW", shown_registers(&r), (0x00FF, 0xAAAA_0FFF, 0x90));
     and_d(&mut r, Some(0xFF00_0FF0));
-    same(&rt, "AD constant", shown(&r), (0x00FF, 0xAA00_0FF0, 0x90));
+    same(
+        &rt,
+        "AD constant",
+        shown_registers(&r),
+        (0x00FF, 0xAA00_0FF0, 0x90),
+    );
     or_d(&mut r, None);
-    same(&rt, "OD", shown(&r), (0x00FF, 0xAA00_0FFF, 0x90));
+    same(&rt, "OD", shown_registers(&r), (0x00FF, 0xAA00_0FFF, 0x90));
     xor_d(&mut r, Some(0xAA00_0FFF));
-    same(&rt, "XOD constant", shown(&r), (0x00FF, 0, 0x10));
+    same(&rt, "XOD constant", shown_registers(&r), (0x00FF, 0, 0x10));
 }
 
 #[derive(Clone, Copy, Debug)]
@@ -341,10 +361,10 @@ fn shifts(rt: HostRuntime) {
         let row = (what, places, a1, stw);
         let mut r = regs(0, a1, stw);
         move_bits(&mut r, what, Some(places));
-        same(&rt, row, shown(&r), (0, a1_after, stw_after));
+        same(&rt, row, shown_registers(&r), (0, a1_after, stw_after));
         let a2 = 0xFFFF_FF00 + u32::from(places);
         let mut r = regs(a2, a1, stw);
         move_bits(&mut r, what, None);
-        same(&rt, row, shown(&r), (a2, a1_after, stw_after));
+        same(&rt, row, shown_registers(&r), (a2, a1_after, stw_after));
     }
 }

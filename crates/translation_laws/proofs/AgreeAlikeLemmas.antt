@@ -43,19 +43,19 @@ same_option (Some x) (Some y) a = ap Some a.agree
 same_option None (Some y) a = absurd a.agree
 same_option (Some x) None a = absurd a.agree
 
-pub mapped : {X Y : Type 0} {R : X → X → Type 0} {Q : Y → Y → Type 0} {o o' : Option X} (f g : X → Y)
+pub agree_mapped : {X Y : Type 0} {R : X → X → Type 0} {Q : Y → Y → Type 0} {o o' : Option X} (f g : X → Y)
     → Agree R o o' → ((x y : X) → R x y → Q (f x) (g y)) → Agree Q (option_map f o) (option_map g o')
-mapped {o = None} {o' = None} f g a h = nothing
-mapped {o = Some x} {o' = Some y} f g a h = something (h x y a.agree)
-mapped {o = None} {o' = Some y} f g a h = absurd a.agree
-mapped {o = Some x} {o' = None} f g a h = absurd a.agree
+agree_mapped {o = None} {o' = None} f g a h = nothing
+agree_mapped {o = Some x} {o' = Some y} f g a h = something (h x y a.agree)
+agree_mapped {o = None} {o' = Some y} f g a h = absurd a.agree
+agree_mapped {o = Some x} {o' = None} f g a h = absurd a.agree
 
-pub chained : {X Y : Type 0} {R : X → X → Type 0} {Q : Y → Y → Type 0} {o o' : Option X} (f g : X → Option Y)
+pub agree_chained : {X Y : Type 0} {R : X → X → Type 0} {Q : Y → Y → Type 0} {o o' : Option X} (f g : X → Option Y)
     → Agree R o o' → ((x y : X) → R x y → Agree Q (f x) (g y)) → Agree Q (option_and_then f o) (option_and_then g o')
-chained {o = None} {o' = None} f g a h = nothing
-chained {o = Some x} {o' = Some y} f g a h = h x y a.agree
-chained {o = None} {o' = Some y} f g a h = absurd a.agree
-chained {o = Some x} {o' = None} f g a h = absurd a.agree
+agree_chained {o = None} {o' = None} f g a h = nothing
+agree_chained {o = Some x} {o' = Some y} f g a h = h x y a.agree
+agree_chained {o = None} {o' = Some y} f g a h = absurd a.agree
+agree_chained {o = Some x} {o' = None} f g a h = absurd a.agree
 
 pub either : {X : Type 0} {R : X → X → Type 0} {a b c d : Option X} → Agree R a c → Agree R b d → Agree R (option_or a b) (option_or c d)
 either {a = None} {c = None} x y = y
@@ -63,33 +63,33 @@ either {a = Some p} {c = Some q} x y = something x.agree
 either {a = None} {c = Some q} x y = absurd x.agree
 either {a = Some p} {c = None} x y = absurd x.agree
 
-pub chosen : {X : Type 0} {R : X → X → Type 0} {x y : Bool} {a b c d : Option X}
+pub agree_chosen : {X : Type 0} {R : X → X → Type 0} {x y : Bool} {a b c d : Option X}
     → x ≡ y → Agree R a c → Agree R b d → Agree R (if x then a else b) (if y then c else d)
-chosen {x = true} {y = true} e h g = h
-chosen {x = false} {y = false} e h g = g
-chosen {x = true} {y = false} e h g = absurd cc
-chosen {x = false} {y = true} e h g = absurd cc
+agree_chosen {x = true} {y = true} e h g = h
+agree_chosen {x = false} {y = false} e h g = g
+agree_chosen {x = true} {y = false} e h g = absurd cc
+agree_chosen {x = false} {y = true} e h g = absurd cc
 
 -- a test that passes, or nothing
-pub tested : {X : Type 0} {R : X → X → Type 0} {x y : Bool} {a c : Option X}
+pub agree_tested : {X : Type 0} {R : X → X → Type 0} {x y : Bool} {a c : Option X}
     → x ≡ y → (x ≡ true → Agree R a c) → Agree R (if x then a else None) (if y then c else None)
-tested {x = true} {y = true} e h = h refl
-tested {x = false} {y = false} e h = nothing
-tested {x = true} {y = false} e h = absurd cc
-tested {x = false} {y = true} e h = absurd cc
+agree_tested {x = true} {y = true} e h = h refl
+agree_tested {x = false} {y = false} e h = nothing
+agree_tested {x = true} {y = false} e h = absurd cc
+agree_tested {x = false} {y = true} e h = absurd cc
 
 -- where a test passes
-pub guarded : {X : Type 0} {R : X → X → Type 0} {a c : Option X} (b : Bool) → Agree R a c → Agree R (if b then a else None) (if b then c else None)
-guarded true h = h
-guarded false h = nothing
+pub agree_guarded : {X : Type 0} {R : X → X → Type 0} {a c : Option X} (b : Bool) → Agree R a c → Agree R (if b then a else None) (if b then c else None)
+agree_guarded true h = h
+agree_guarded false h = nothing
 
 -- what a test decides
-pub decided : {X : Type 0} {R : X → X → Type 0} {x y : Bool} {a b c d : Option X}
+pub agree_decided : {X : Type 0} {R : X → X → Type 0} {x y : Bool} {a b c d : Option X}
     → x ≡ y → (x ≡ true → Agree R a c) → (x ≡ false → Agree R b d) → Agree R (if x then a else b) (if y then c else d)
-decided {x = true} {y = true} e h g = h refl
-decided {x = false} {y = false} e h g = g refl
-decided {x = true} {y = false} e h g = absurd cc
-decided {x = false} {y = true} e h g = absurd cc
+agree_decided {x = true} {y = true} e h g = h refl
+agree_decided {x = false} {y = false} e h g = g refl
+agree_decided {x = true} {y = false} e h g = absurd cc
+agree_decided {x = false} {y = true} e h g = absurd cc
 
 pub if_same : {X : Type 0} {x y : Bool} {a b c d : X} → x ≡ y → (x ≡ true → a ≡ c) → (x ≡ false → b ≡ d)
     → (if x then a else b) ≡ (if y then c else d)
@@ -207,12 +207,12 @@ goes_on {o = None} {o' = Some y} f g a h = absurd a.agree
 goes_on {o = Some x} {o' = None} f g a h = absurd a.agree
 
 -- two values that are the same, and what follows
-abbrev pub Numbered : (s e : List ℕ) (F : List (Pair s e) → Type 0) {X : Type 0} → X × ℕ × List Token → X × ℕ × List Token → Type 0
-Numbered s e F p q = (p.0 ≡ q.0) × (p.1 ≡ q.1) × Rests s e F p.2 q.2
+abbrev pub SameValueAndRest : (s e : List ℕ) (F : List (Pair s e) → Type 0) {X : Type 0} → X × ℕ × List Token → X × ℕ × List Token → Type 0
+SameValueAndRest s e F p q = (p.0 ≡ q.0) × (p.1 ≡ q.1) × Rests s e F p.2 q.2
 
 pub numbers_on : {s e : List ℕ} {F : List (Pair s e) → Type 0} {X Y : Type 0} {Q : Y → Y → Type 0} {o o' : Option (X × ℕ × List Token)}
     (f g : X × ℕ × List Token → Option Y)
-    → Agree (Numbered s e F) o o' → ((x : X) (n : ℕ) (ps : List (Pair s e)) → F ps → Agree Q (f (x, n, lefts ps)) (g (x, n, rights ps)))
+    → Agree (SameValueAndRest s e F) o o' → ((x : X) (n : ℕ) (ps : List (Pair s e)) → F ps → Agree Q (f (x, n, lefts ps)) (g (x, n, rights ps)))
     → Agree Q (option_and_then f o) (option_and_then g o')
 numbers_on {o = None} {o' = None} f g a h = nothing
 numbers_on {o = Some (x, n, ts)} {o' = Some (y, m, us)} f g a h =
@@ -252,9 +252,9 @@ pub parts_agree : {X Y : Type 0} (s e : List ℕ) (F : List (Pair s e) → Type 
     → (read : List X) (n : ℕ) (ps : List (Pair s e)) → F ps
     → Agree (λ p q. (p.0 ≡ q.0) × Q p.1 q.1) (parts_from end part read n (lefts ps)) (parts_from end' part' read n (rights ps))
 unfolding parts_from
-parts_agree s e F Q end end' part part' ends parts read zero ps h = mapped _ _ (ends ps h) (λ x y k. (refl, k))
+parts_agree s e F Q end end' part part' ends parts read zero ps h = agree_mapped _ _ (ends ps h) (λ x y k. (refl, k))
 parts_agree s e F Q end end' part part' ends parts read (suc n) ps h =
-    either (mapped _ _ (ends ps h) (λ x y k. (refl, k)))
+    either (agree_mapped _ _ (ends ps h) (λ x y k. (refl, k)))
     (goes_on _ _ (parts ps h) (λ x qs k. parts_agree s e F Q end end' part part' ends parts (read ++ x ∷ []) n qs k))
 
 pub parts_follow : {X Y : Type 0} (s e : List ℕ) (F : List (Pair s e) → Type 0) (Q : Y → Y → Type 0)
@@ -264,9 +264,9 @@ pub parts_follow : {X Y : Type 0} (s e : List ℕ) (F : List (Pair s e) → Type
     → (read : List X) (n : ℕ) (ps : List (Pair s e)) → F ps
     → Follows (λ p q. (p.0 ≡ q.0) × Q p.1 q.1) (parts_from end part read n (lefts ps)) (parts_from end' part' read n (rights ps))
 unfolding parts_from
-parts_follow s e F Q end end' part part' ends parts read zero ps h = also (mapped _ _ (ends ps h) (λ x y k. (refl, k)))
+parts_follow s e F Q end end' part part' ends parts read zero ps h = also (agree_mapped _ _ (ends ps h) (λ x y k. (refl, k)))
 parts_follow s e F Q end end' part part' ends parts read (suc n) ps h =
-    then_either (mapped _ _ (ends ps h) (λ x y k. (refl, k)))
+    then_either (agree_mapped _ _ (ends ps h) (λ x y k. (refl, k)))
     (then_goes_on _ _ (parts ps h) (λ x qs k. parts_follow s e F Q end end' part part' ends parts (read ++ x ∷ []) n qs k))
 
 -- what is read to the end

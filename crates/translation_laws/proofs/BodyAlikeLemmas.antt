@@ -24,7 +24,7 @@ use Rattle.stl_parser.specs.Frame.{next_place, next_place_in_body}
 use Rattle.stl_parser.specs.Tables.{head_words, keywords, look_up}
 use Rattle.stl_parser.specs.Terminals.{has_kind}
 use Rattle.de_mnemonics.specs.Words.{operand_partner}
-use Rattle.translation_laws.proofs.AgreeAlikeLemmas.{Equal, Follows, IsNamedPair, OpensNone, Pair, chained, lefts, rights, some_follows, something, then_mapped}
+use Rattle.translation_laws.proofs.AgreeAlikeLemmas.{Equal, Follows, IsNamedPair, OpensNone, Pair, agree_chained, lefts, rights, some_follows, something, then_mapped}
 use Rattle.translation_laws.proofs.LikeAlikeLemmas.{line_like}
 use Rattle.translation_laws.proofs.TypeAlikeLemmas.{declaration_agrees}
 use Rattle.translation_laws.proofs.ClauseAlikeLemmas.{keyword_agrees, note_rests, structure_clause_agrees}
@@ -123,7 +123,7 @@ module _ (s e : List ℕ) where
   unfolding declaration_clause declaration_of declared_name_at
   declarations_none k [] h kinds none = refl
   declarations_none k (p ∷ ps) h kinds none =
-      none_too {R = λ x y. Unit {0}} _ _ (chained _ _ (declaration_agrees s e (Weak s e) (weak_closed s e) (weak_apart s e) 0 p ps h kinds) (λ d f same. something tt)) none
+      none_too {R = λ x y. Unit {0}} _ _ (agree_chained _ _ (declaration_agrees s e (Weak s e) (weak_closed s e) (weak_apart s e) 0 p ps h kinds) (λ d f same. something tt)) none
 
   statement_found : (line : ℕ) (ps : List (Pair s e)) → AreStatement s e ps → Follows Equal (statement_clause s line (lefts ps)) (statement_clause e line (rights ps))
   unfolding statement_clause
@@ -156,11 +156,11 @@ module _ (s e : List ℕ) where
   module _ (F : List (Pair s e) → Type 0) (behind : (p : Pair s e) (ps : List (Pair s e)) → F (p ∷ ps) → F ps)
       (beside : (p q : Pair s e) (ps : List (Pair s e)) → F (p ∷ q ∷ ps) → IsNamedPair p → is_some (operand_partner English (text_of s p.left)) ≡ false → OpensNone q) where
     -- the tokens of a statement at the front are alike
-    abbrev pub Stated : List (Pair s e) → Clause × List Token × Bool → Type 0
-    Stated ps r = (n : ℕ) (cut : IsCut s e n ps) (y : Statement) → r.0 ≡ clause.Runs y → AreStatement s e (take n ps)
+    abbrev pub StatementTokens : List (Pair s e) → Clause × List Token × Bool → Type 0
+    StatementTokens ps r = (n : ℕ) (cut : IsCut s e n ps) (y : Statement) → r.0 ≡ clause.Runs y → AreStatement s e (take n ps)
 
     plain_body : (k : BlockKind) (next : ClausePlace) (line : ℕ) (p : Pair s e) (ps : List (Pair s e)) → F (p ∷ ps) → Weak s e (p ∷ ps)
-        → has_kind p.left kind.Word ≡ has_kind p.right kind.Word → (r : Clause × List Token × Bool) → Stated (p ∷ ps) r → next_place (place.Body k) r.0 ≡ Some next
+        → has_kind p.left kind.Word ≡ has_kind p.right kind.Word → (r : Clause × List Token × Bool) → StatementTokens (p ∷ ps) r → next_place (place.Body k) r.0 ≡ Some next
         → plain_clause s (place.Body k) line (p.left ∷ lefts ps) ≡ Some r → IsFound s e F behind beside r (plain_clause e (place.Body k) line (p.right ∷ rights ps))
     unfolding plain_clause
     plain_body k next line p ps h weak kinds r stated may is =
@@ -171,7 +171,7 @@ module _ (s e : List ℕ) where
         (λ y runs. stated n cut y (sym first ∙ runs)) (ap (next_place (place.Body k)) first ∙ may) at)) is
 
     word_body : (k : BlockKind) (next : ClausePlace) (p : Pair s e) (ps : List (Pair s e)) → F (p ∷ ps) → Weak s e (p ∷ ps)
-        → IsFront s e p → (r : Clause × List Token × Bool) → Stated (p ∷ ps) r → next_place (place.Body k) r.0 ≡ Some next → (o : Option Keyword)
+        → IsFront s e p → (r : Clause × List Token × Bool) → StatementTokens (p ∷ ps) r → next_place (place.Body k) r.0 ≡ Some next → (o : Option Keyword)
         → word_clause s (place.Body k) p.left (lefts ps) (p.left ∷ lefts ps) o ≡ Some r
         → IsFound s e F behind beside r (word_clause e (place.Body k) p.right (rights ps) (p.right ∷ rights ps) o)
     unfolding word_clause
@@ -185,7 +185,7 @@ module _ (s e : List ℕ) where
         (sym (free_body s k p.left (lefts ps) (p.left ∷ lefts ps) (look_up head_words (text_of s p.left))) ∙ is)))
 
     kind_body : (k : BlockKind) (next : ClausePlace) (p : Pair s e) (ps : List (Pair s e)) → F (p ∷ ps) → Weak s e (p ∷ ps)
-        → IsFront s e p → (r : Clause × List Token × Bool) → Stated (p ∷ ps) r → next_place (place.Body k) r.0 ≡ Some next → (j : TokenKind)
+        → IsFront s e p → (r : Clause × List Token × Bool) → StatementTokens (p ∷ ps) r → next_place (place.Body k) r.0 ≡ Some next → (j : TokenKind)
         → clause_by_kind s (place.Body k) p.left (lefts ps) (p.left ∷ lefts ps) j ≡ Some r
         → IsFound s e F behind beside r (clause_by_kind e (place.Body k) p.right (rights ps) (p.right ∷ rights ps) j)
     unfolding clause_by_kind other_clause
@@ -205,7 +205,7 @@ module _ (s e : List ℕ) where
     front_kind p (inr cased) = cased.word ∙ sym cased.other
 
     pub body_gives : (k : BlockKind) (next : ClausePlace) (p : Pair s e) (ps : List (Pair s e)) → F (p ∷ ps) → Weak s e (p ∷ ps)
-        → IsFront s e p → (r : Clause × List Token × Bool) → Stated (p ∷ ps) r → next_place (place.Body k) r.0 ≡ Some next
+        → IsFront s e p → (r : Clause × List Token × Bool) → StatementTokens (p ∷ ps) r → next_place (place.Body k) r.0 ≡ Some next
         → clause_at s (place.Body k) (p.left ∷ lefts ps) ≡ Some r → IsFound s e F behind beside r (clause_at e (place.Body k) (p.right ∷ rights ps))
     unfolding clause_at
     body_gives k next p ps h weak front r stated may is =

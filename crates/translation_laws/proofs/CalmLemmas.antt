@@ -294,24 +294,24 @@ quiet_attribute s t e = quiet_plain s t (plain_by_rank t.kind 10 e refl refl)
 
 -- ---- words
 
-is_word_class : (k : TokenKind) (text : List ℕ) → nat_eq (kind_rank k) (kind_rank kind.Word) ≡ true → class_of k text ≡ class.Word
+word_class_of_kind : (k : TokenKind) (text : List ℕ) → nat_eq (kind_rank k) (kind_rank kind.Word) ≡ true → class_of k text ≡ class.Word
 unfolding class_of
-is_word_class kind.Word text e = refl
-is_word_class kind.Number text e = absurd (false≢true e)
-is_word_class kind.Quoted text e = absurd (false≢true e)
-is_word_class kind.Local text e = absurd (false≢true e)
-is_word_class kind.Characters text e = absurd (false≢true e)
-is_word_class kind.Based text e = absurd (false≢true e)
-is_word_class kind.NumberLiteral text e = absurd (false≢true e)
-is_word_class kind.TimeLiteral text e = absurd (false≢true e)
-is_word_class kind.Mark text e = absurd (false≢true e)
-is_word_class kind.SignWord text e = absurd (false≢true e)
-is_word_class kind.Attribute text e = absurd (false≢true e)
-is_word_class kind.Title text e = absurd (false≢true e)
+word_class_of_kind kind.Word text e = refl
+word_class_of_kind kind.Number text e = absurd (false≢true e)
+word_class_of_kind kind.Quoted text e = absurd (false≢true e)
+word_class_of_kind kind.Local text e = absurd (false≢true e)
+word_class_of_kind kind.Characters text e = absurd (false≢true e)
+word_class_of_kind kind.Based text e = absurd (false≢true e)
+word_class_of_kind kind.NumberLiteral text e = absurd (false≢true e)
+word_class_of_kind kind.TimeLiteral text e = absurd (false≢true e)
+word_class_of_kind kind.Mark text e = absurd (false≢true e)
+word_class_of_kind kind.SignWord text e = absurd (false≢true e)
+word_class_of_kind kind.Attribute text e = absurd (false≢true e)
+word_class_of_kind kind.Title text e = absurd (false≢true e)
 
 word_class : (s : List ℕ) (t : Token) → has_kind t kind.Word ≡ true → class_in s t ≡ class.Word
 unfolding has_kind
-word_class s t e = is_word_class t.kind (text_of s t) e
+word_class s t e = word_class_of_kind t.kind (text_of s t) e
 
 calm_word : (before : TokenClass) (text : List ℕ) → is_block_word text ≡ false → calm_of before class.Word text ≡ true
 calm_word before text e = rw e (or_true (not (may_be_keyword before)))
@@ -348,14 +348,14 @@ quiet_key s t k e =
     quiet_word s t parts.0 (same_block_word (text_of s t) (key_text k) parts.1 ∙ key_is_free k)
 
 -- a test that goes by no case holds of a word where it holds of all texts of the table that the word is in
-listed : {X : Type 0} (table : List (List ℕ × X)) (word : List ℕ) (test : List ℕ → Bool)
+found_in_table : {X : Type 0} (table : List (List ℕ × X)) (word : List ℕ) (test : List ℕ → Bool)
     → ((a b : List ℕ) → str_eq_ignore_ascii_case a b ≡ true → test a ≡ test b) → list_all (λ e. test e.0) table ≡ true
     → IfSome (look_up table word) (λ x. test word ≡ true)
 unfolding look_up
-listed [] word test same all = tt
-listed {X} (p ∷ ps) word test same all =
+found_in_table [] word test same all = tt
+found_in_table {X} (p ∷ ps) word test same all =
     let parts = and_parts (test p.0) (list_all (λ e. test e.0) ps) all in
-    by_test (str_eq_ignore_ascii_case word p.0) refl parts.0 (listed ps word test same parts.1)
+    by_test (str_eq_ignore_ascii_case word p.0) refl parts.0 (found_in_table ps word test same parts.1)
   where
     by_test : (b : Bool) → str_eq_ignore_ascii_case word p.0 ≡ b → test p.0 ≡ true
         → IfSome (option_map (λ q. q.1) (find (λ q. str_eq_ignore_ascii_case word q.0) ps)) (λ x. test word ≡ true)
@@ -372,7 +372,7 @@ same_free a b e = rw (same_block_word a b e, same_class a b e) refl
 
 free_word : {X : Type 0} (table : List (List ℕ × X)) (text : List ℕ) → list_all (λ e. is_free e.0) table ≡ true
     → IfSome (look_up table text) (λ x. is_free text ≡ true)
-free_word table text all = listed table text is_free same_free all
+free_word table text all = found_in_table table text is_free same_free all
 
 block_kinds_free : list_all (λ e. is_free e.0) block_kinds ≡ true
 unfolding block_kinds is_word_in_list code_openings data_openings begin_words class_of_mark mark_text
@@ -468,9 +468,9 @@ free_letters word =
     (λ x e. false_from_ne_true (is_block_word word) (λ is. false≢true (sym (block_word_names_none word is) ∙ ap is_some e)))
 
 -- where a test passes, and where it fails
-tested : {A : Type 0} (b : Bool) (x y : Option A) (P : A → Type 0) → (b ≡ true → IfSome x P) → (b ≡ false → IfSome y P) → IfSome (if b then x else y) P
-tested true x y P h k = h refl
-tested false x y P h k = k refl
+branch_holds : {A : Type 0} (b : Bool) (x y : Option A) (P : A → Type 0) → (b ≡ true → IfSome x P) → (b ≡ false → IfSome y P) → IfSome (if b then x else y) P
+branch_holds true x y P h k = h refl
+branch_holds false x y P h k = k refl
 
 -- ---- readers
 
@@ -500,8 +500,8 @@ module _ (s : List ℕ) (P Q : List Token → Type 0) (on : GoesOn s P Q) where
   abbrev Behind : {X : Type 0} → X × List Token → Type 0
   Behind r = P r.1
 
-  abbrev Ended : {X : Type 0} → X × List Token → Type 0
-  Ended r = Q r.1
+  abbrev EndBehind : {X : Type 0} → X × List Token → Type 0
+  EndBehind r = Q r.1
 
   abbrev Third : {X : Type 0} → X × ℕ × List Token → Type 0
   Third r = Q r.2
@@ -515,21 +515,21 @@ module _ (s : List ℕ) (P Q : List Token → Type 0) (on : GoesOn s P Q) where
   unfolding number_of
   quiet_of t = quiet_up_to (greatest_number false) t
 
-  signed : (sign : Token) (ts : List Token) → (IsQuiet s sign → P ts) → IfSome (signed_number_at s sign ts) Ended
+  signed : (sign : Token) (ts : List Token) → (IsQuiet s sign → P ts) → IfSome (signed_number_at s sign ts) EndBehind
   unfolding signed_number_at
   signed sign [] h = tt
   signed sign (t ∷ rest) h =
-      tested (is_mark s sign mark.Minus) (option_map (λ n. (pos 0 -ℤ pos n, rest)) (number_up_to (greatest_number true) s t)) _ Ended
-      (λ is. mapped (number_up_to (greatest_number true) s t) (λ n. (pos 0 -ℤ pos n, rest)) (λ n. IsQuiet s t) Ended (quiet_up_to (greatest_number true) t) (λ n q. passed_quiet t rest q (h (quiet_minus s sign is))))
-      (λ isnt. passed (is_mark s sign mark.Plus) (option_map (λ n. (pos n, rest)) (number_of s t)) Ended
-      (λ is. mapped (number_of s t) (λ n. (pos n, rest)) (λ n. IsQuiet s t) Ended (quiet_of t) (λ n q. passed_quiet t rest q (h (quiet_plus s sign is)))))
+      branch_holds (is_mark s sign mark.Minus) (option_map (λ n. (pos 0 -ℤ pos n, rest)) (number_up_to (greatest_number true) s t)) _ EndBehind
+      (λ is. mapped (number_up_to (greatest_number true) s t) (λ n. (pos 0 -ℤ pos n, rest)) (λ n. IsQuiet s t) EndBehind (quiet_up_to (greatest_number true) t) (λ n q. passed_quiet t rest q (h (quiet_minus s sign is))))
+      (λ isnt. passed (is_mark s sign mark.Plus) (option_map (λ n. (pos n, rest)) (number_of s t)) EndBehind
+      (λ is. mapped (number_of s t) (λ n. (pos n, rest)) (λ n. IsQuiet s t) EndBehind (quiet_of t) (λ n q. passed_quiet t rest q (h (quiet_plus s sign is)))))
 
-  int_behind : (ts : List Token) → P ts → IfSome (int_at s ts) Ended
+  int_behind : (ts : List Token) → P ts → IfSome (int_at s ts) EndBehind
   unfolding int_at
   int_behind [] h = tt
   int_behind (t ∷ rest) h =
-      either (option_map (λ n. (pos n, rest)) (number_of s t)) (signed_number_at s t rest) Ended
-      (mapped (number_of s t) (λ n. (pos n, rest)) (λ n. IsQuiet s t) Ended (quiet_of t) (λ n q. passed_quiet t rest q h))
+      either (option_map (λ n. (pos n, rest)) (number_of s t)) (signed_number_at s t rest) EndBehind
+      (mapped (number_of s t) (λ n. (pos n, rest)) (λ n. IsQuiet s t) EndBehind (quiet_of t) (λ n q. passed_quiet t rest q h))
       (signed t rest (λ q. step_quiet t rest q h))
 
   -- constants
@@ -540,7 +540,7 @@ module _ (s : List ℕ) (P Q : List Token → Type 0) (on : GoesOn s P Q) where
   truth_quiet : (t : Token) → IfSome (truth_of s t) (λ l. IsQuiet s t)
   unfolding truth_of
   truth_quiet t =
-      tested (is_key s t key.True) (Some (literal.Truth true)) _ (λ l. IsQuiet s t) (λ is. quiet_key s t key.True is)
+      branch_holds (is_key s t key.True) (Some (literal.Truth true)) _ (λ l. IsQuiet s t) (λ is. quiet_key s t key.True is)
       (λ isnt. passed (is_key s t key.False) (Some (literal.Truth false)) (λ l. IsQuiet s t) (λ is. quiet_key s t key.False is))
 
   literal_quiet : (t : Token) (k : TokenKind) → t.kind ≡ k → IfSome (literal_token s t k) (λ l. IsQuiet s t)
@@ -558,51 +558,51 @@ module _ (s : List ℕ) (P Q : List Token → Type 0) (on : GoesOn s P Q) where
   literal_quiet t kind.Attribute is = tt
   literal_quiet t kind.Title is = tt
 
-  bytes_last : (a b : ℕ) (ts : List Token) → P ts → IfSome (last_bytes s a b ts) Ended
+  bytes_last : (a b : ℕ) (ts : List Token) → P ts → IfSome (last_bytes s a b ts) EndBehind
   unfolding last_bytes
   bytes_last a b [] h = tt
   bytes_last a b (c ∷ []) h = tt
   bytes_last a b (c ∷ comma ∷ []) h = tt
   bytes_last a b (c ∷ comma ∷ d ∷ []) h = tt
   bytes_last a b (c ∷ comma ∷ d ∷ close ∷ rest) h =
-      passed (is_mark s comma mark.Comma && is_mark s close mark.CloseParen) _ Ended
-      (λ is. chained (byte_of s c) _ (λ n. IsQuiet s c) Ended (byte_quiet c)
-      (λ third q. mapped (byte_of s d) _ (λ n. IsQuiet s d) Ended (byte_quiet d)
+      passed (is_mark s comma mark.Comma && is_mark s close mark.CloseParen) _ EndBehind
+      (λ is. chained (byte_of s c) _ (λ n. IsQuiet s c) EndBehind (byte_quiet c)
+      (λ third q. mapped (byte_of s d) _ (λ n. IsQuiet s d) EndBehind (byte_quiet d)
       (λ fourth r. passed_quiet close rest (quiet_close_paren s close (and_parts (is_mark s comma mark.Comma) (is_mark s close mark.CloseParen) is).1)
       (step_quiet d (close ∷ rest) r (step_quiet comma (d ∷ close ∷ rest) (quiet_comma s comma (and_parts (is_mark s comma mark.Comma) (is_mark s close mark.CloseParen) is).0)
       (step_quiet c (comma ∷ d ∷ close ∷ rest) q h))))))
 
-  bytes_more : (a b : ℕ) (t : Token) (rest : List Token) → P (t ∷ rest) → IfSome (bytes_behind s a b t rest) Ended
+  bytes_more : (a b : ℕ) (t : Token) (rest : List Token) → P (t ∷ rest) → IfSome (bytes_behind s a b t rest) EndBehind
   unfolding bytes_behind
   bytes_more a b t rest h =
-      tested (is_mark s t mark.CloseParen) (Some (literal.Bytes (a ∷ b ∷ []), rest)) _ Ended (λ is. passed_quiet t rest (quiet_close_paren s t is) h)
-      (λ isnt. passed (is_mark s t mark.Comma) (last_bytes s a b rest) Ended (λ is. bytes_last a b rest (step_quiet t rest (quiet_comma s t is) h)))
+      branch_holds (is_mark s t mark.CloseParen) (Some (literal.Bytes (a ∷ b ∷ []), rest)) _ EndBehind (λ is. passed_quiet t rest (quiet_close_paren s t is) h)
+      (λ isnt. passed (is_mark s t mark.Comma) (last_bytes s a b rest) EndBehind (λ is. bytes_last a b rest (step_quiet t rest (quiet_comma s t is) h)))
 
-  bytes_read : (ts : List Token) → P ts → IfSome (bytes_at s ts) Ended
+  bytes_read : (ts : List Token) → P ts → IfSome (bytes_at s ts) EndBehind
   unfolding bytes_at
   bytes_read [] h = tt
   bytes_read (a ∷ []) h = tt
   bytes_read (a ∷ comma ∷ []) h = tt
   bytes_read (a ∷ comma ∷ b ∷ []) h = tt
   bytes_read (a ∷ comma ∷ b ∷ next ∷ rest) h =
-      passed (is_mark s comma mark.Comma) _ Ended
-      (λ is. chained (byte_of s a) _ (λ n. IsQuiet s a) Ended (byte_quiet a)
-      (λ first q. chained (byte_of s b) _ (λ n. IsQuiet s b) Ended (byte_quiet b)
+      passed (is_mark s comma mark.Comma) _ EndBehind
+      (λ is. chained (byte_of s a) _ (λ n. IsQuiet s a) EndBehind (byte_quiet a)
+      (λ first q. chained (byte_of s b) _ (λ n. IsQuiet s b) EndBehind (byte_quiet b)
       (λ second r. bytes_more first second next rest
       (step_quiet b (next ∷ rest) r (step_quiet comma (b ∷ next ∷ rest) (quiet_comma s comma is) (step_quiet a (comma ∷ b ∷ next ∷ rest) q h))))))
 
-  long_read : (t : Token) (rest : List Token) → P (t ∷ rest) → IfSome (long_literal s t rest) Ended
+  long_read : (t : Token) (rest : List Token) → P (t ∷ rest) → IfSome (long_literal s t rest) EndBehind
   unfolding long_literal
   long_read t rest h =
-      tested (is_mark s t mark.Bytes) (bytes_at s rest) _ Ended (λ is. bytes_read rest (step_quiet t rest (quiet_bytes s t is) h))
-      (λ isnt. mapped (signed_number_at s t rest) _ Ended Ended (signed t rest (λ q. step_quiet t rest q h)) (λ r q. q))
+      branch_holds (is_mark s t mark.Bytes) (bytes_at s rest) _ EndBehind (λ is. bytes_read rest (step_quiet t rest (quiet_bytes s t is) h))
+      (λ isnt. mapped (signed_number_at s t rest) _ EndBehind EndBehind (signed t rest (λ q. step_quiet t rest q h)) (λ r q. q))
 
-  literal_read : (ts : List Token) → P ts → IfSome (literal_at s ts) Ended
+  literal_read : (ts : List Token) → P ts → IfSome (literal_at s ts) EndBehind
   unfolding literal_at
   literal_read [] h = tt
   literal_read (t ∷ rest) h =
-      either (option_map (λ l. (l, rest)) (literal_token s t t.kind)) (long_literal s t rest) Ended
-      (mapped (literal_token s t t.kind) (λ l. (l, rest)) (λ l. IsQuiet s t) Ended (literal_quiet t t.kind refl) (λ l q. passed_quiet t rest q h))
+      either (option_map (λ l. (l, rest)) (literal_token s t t.kind)) (long_literal s t rest) EndBehind
+      (mapped (literal_token s t t.kind) (λ l. (l, rest)) (λ l. IsQuiet s t) EndBehind (literal_quiet t t.kind refl) (λ l q. passed_quiet t rest q h))
       (long_read t rest h)
 
   -- what is all of the tokens
@@ -636,60 +636,60 @@ module _ (s : List ℕ) (P Q : List Token → Type 0) (on : GoesOn s P Q) where
       (λ x free. mapped (number_of s n) (λ m. (x, m, rest)) (λ m. IsQuiet s n) (Third {X = BlockKind}) (quiet_of n) (λ m q. passed_quiet n rest q (weaker (n ∷ rest) (h (quiet_text s w free)))))
 
   -- a block that begins with this token
-  block_first : (w : Token) (rest : List Token) → (IsQuiet s w → Q rest) → IfSome (block_at s (w ∷ rest)) Ended
+  block_first : (w : Token) (rest : List Token) → (IsQuiet s w → Q rest) → IfSome (block_at s (w ∷ rest)) EndBehind
   unfolding block_at block_number_at letters_and_number_at quoted_block_at
   block_first w rest h =
-      either _ _ Ended
-      (mapped _ _ Third Ended
+      either _ _ EndBehind
+      (mapped _ _ Third EndBehind
       (passed (has_kind w kind.Word) _ Third
       (λ is. either (glued_letters_and_number block_kinds (text_of s w) rest) (separate_letters_and_number block_kinds s (text_of s w) rest) Third (glued w rest h is) (separate w rest h is)))
       (λ r q. q))
-      (passed (has_kind w kind.Quoted) _ Ended (λ is. h (quiet_quoted s w is)))
+      (passed (has_kind w kind.Quoted) _ EndBehind (λ is. h (quiet_quoted s w is)))
 
   block_none : block_at s [] ≡ None
   unfolding block_at block_number_at letters_and_number_at quoted_block_at
   block_none = refl
 
-  block : (ts : List Token) → P ts → IfSome (block_at s ts) Ended
+  block : (ts : List Token) → P ts → IfSome (block_at s ts) EndBehind
   block [] h = rw block_none tt
   block (w ∷ rest) h = block_first w rest (λ q. passed_quiet w rest q h)
 
   -- types
-  array_ended : (low high : ℤ) (ts : List Token) → P ts → IfSome (array_end s low high ts) Ended
+  array_ended : (low high : ℤ) (ts : List Token) → P ts → IfSome (array_end s low high ts) EndBehind
   unfolding array_end
   array_ended low high [] h = tt
   array_ended low high (a ∷ []) h = tt
   array_ended low high (a ∷ b ∷ rest) h =
-      passed (is_mark s a mark.CloseBracket && is_key s b key.Of) _ Ended
+      passed (is_mark s a mark.CloseBracket && is_key s b key.Of) _ EndBehind
       (λ is. let parts = and_parts (is_mark s a mark.CloseBracket) (is_key s b key.Of) is in
       passed_quiet b rest (quiet_key s b key.Of parts.1) (step_quiet a (b ∷ rest) (quiet_close_bracket s a parts.0) h))
 
-  array_upper : (low : ℤ) (ts : List Token) → P ts → IfSome (array_high s low ts) Ended
+  array_upper : (low : ℤ) (ts : List Token) → P ts → IfSome (array_high s low ts) EndBehind
   unfolding array_high
   array_upper low [] h = tt
   array_upper low (t ∷ rest) h =
-      passed (is_mark s t mark.DotDot) _ Ended
-      (λ is. chained (int_at s rest) _ Ended Ended (int_behind rest (step_quiet t rest (quiet_dots s t is) h)) (λ r k. array_ended low r.0 r.1 (weaker r.1 k)))
+      passed (is_mark s t mark.DotDot) _ EndBehind
+      (λ is. chained (int_at s rest) _ EndBehind EndBehind (int_behind rest (step_quiet t rest (quiet_dots s t is) h)) (λ r k. array_ended low r.0 r.1 (weaker r.1 k)))
 
-  array : (ts : List Token) → P ts → IfSome (array_at s ts) Ended
+  array : (ts : List Token) → P ts → IfSome (array_at s ts) EndBehind
   unfolding array_at
   array [] h = tt
   array (a ∷ []) h = tt
   array (a ∷ b ∷ rest) h =
-      passed (is_key s a key.Array && is_mark s b mark.OpenBracket) _ Ended
+      passed (is_key s a key.Array && is_mark s b mark.OpenBracket) _ EndBehind
       (λ is. let parts = and_parts (is_key s a key.Array) (is_mark s b mark.OpenBracket) is in
-      chained (int_at s rest) _ Ended Ended (int_behind rest (step_quiet b rest (quiet_open_bracket s b parts.1) (step_quiet a (b ∷ rest) (quiet_key s a key.Array parts.0) h)))
+      chained (int_at s rest) _ EndBehind EndBehind (int_behind rest (step_quiet b rest (quiet_open_bracket s b parts.1) (step_quiet a (b ∷ rest) (quiet_key s a key.Array parts.0) h)))
       (λ r k. array_upper r.0 r.1 (weaker r.1 k)))
 
   -- parts that follow one another; R is what holds behind the end
   parts : {X Y : Type 0} (R : Y → Type 0) (end : List Token → Option Y) (part : List Token → Option (X × List Token)) (read : List X) (n : ℕ) (ts : List Token)
-      → ((us : List Token) → P us → IfSome (end us) R) → ((us : List Token) → P us → IfSome (part us) Ended) → P ts
+      → ((us : List Token) → P us → IfSome (end us) R) → ((us : List Token) → P us → IfSome (part us) EndBehind) → P ts
       → IfSome (parts_from end part read n ts) (λ r. R r.1)
   unfolding parts_from
   parts R end part read zero ts j k h = mapped (end ts) (λ y. (read, y)) R (λ r. R r.1) (j ts h) (λ y i. i)
   parts R end part read (suc n) ts j k h =
       either (option_map (λ y. (read, y)) (end ts)) _ (λ r. R r.1) (mapped (end ts) (λ y. (read, y)) R (λ r. R r.1) (j ts h) (λ y i. i))
-      (chained (part ts) _ Ended (λ r. R r.1) (k ts h) (λ p i. parts R end part (read ++ p.0 ∷ []) n p.1 j k (weaker p.1 i)))
+      (chained (part ts) _ EndBehind (λ r. R r.1) (k ts h) (λ p i. parts R end part (read ++ p.0 ∷ []) n p.1 j k (weaker p.1 i)))
 
   arrays : (ts : List Token) → P ts → IfSome (arrays_at s ts) Behind
   unfolding arrays_at arrays_end
@@ -702,51 +702,51 @@ module _ (s : List ℕ) (P Q : List Token → Type 0) (on : GoesOn s P Q) where
       ended : (us : List Token) → P us → IfSome (arrays_end s us) P
       ended us k = none_more (array_at s us) us k
 
-  simple : (t : Token) (rest : List Token) → P (t ∷ rest) → IfSome (simple_at s t rest) Ended
+  simple : (t : Token) (rest : List Token) → P (t ∷ rest) → IfSome (simple_at s t rest) EndBehind
   unfolding simple_at
   simple t rest h =
-      passed (has_kind t kind.Word) _ Ended
-      (λ word. tested (is_key s t key.DateAndTime) _ _ Ended (λ is. passed_quiet t rest (quiet_key s t key.DateAndTime is) h)
-      (λ isnt. mapped (look_up simple_types (text_of s t)) _ (λ k. is_free (text_of s t) ≡ true) Ended (free_word simple_types (text_of s t) simple_types_free)
+      passed (has_kind t kind.Word) _ EndBehind
+      (λ word. branch_holds (is_key s t key.DateAndTime) _ _ EndBehind (λ is. passed_quiet t rest (quiet_key s t key.DateAndTime is) h)
+      (λ isnt. mapped (look_up simple_types (text_of s t)) _ (λ k. is_free (text_of s t) ≡ true) EndBehind (free_word simple_types (text_of s t) simple_types_free)
       (λ k free. passed_quiet t rest (quiet_text s t free) h)))
 
-  element_read : (ts : List Token) → P ts → IfSome (element_at s ts) Ended
+  element_read : (ts : List Token) → P ts → IfSome (element_at s ts) EndBehind
   unfolding element_at udt_at
   element_read [] h = tt
   element_read (t ∷ rest) h =
-      either (simple_at s t rest) _ Ended (simple t rest h)
-      (chained (block_at s (t ∷ rest)) _ Ended Ended (block (t ∷ rest) h) (λ r q. mapped (udt_of r.0) _ (λ name. Unit {0}) Ended (none_holds (udt_of r.0)) (λ name k. q)))
+      either (simple_at s t rest) _ EndBehind (simple t rest h)
+      (chained (block_at s (t ∷ rest)) _ EndBehind EndBehind (block (t ∷ rest) h) (λ r q. mapped (udt_of r.0) _ (λ name. Unit {0}) EndBehind (none_holds (udt_of r.0)) (λ name k. q)))
 
   -- initial values
-  counted_close : (count : ℕ) (value : Literal) (ts : List Token) → P ts → IfSome (counted_init_end s count value ts) Ended
+  counted_close : (count : ℕ) (value : Literal) (ts : List Token) → P ts → IfSome (counted_init_end s count value ts) EndBehind
   unfolding counted_init_end
   counted_close count value [] h = tt
-  counted_close count value (t ∷ rest) h = passed (is_mark s t mark.CloseParen) _ Ended (λ is. passed_quiet t rest (quiet_close_paren s t is) h)
+  counted_close count value (t ∷ rest) h = passed (is_mark s t mark.CloseParen) _ EndBehind (λ is. passed_quiet t rest (quiet_close_paren s t is) h)
 
-  counted : (ts : List Token) → P ts → IfSome (counted_init_at s ts) Ended
+  counted : (ts : List Token) → P ts → IfSome (counted_init_at s ts) EndBehind
   unfolding counted_init_at
   counted [] h = tt
   counted (n ∷ []) h = tt
   counted (n ∷ open_ ∷ rest) h =
-      passed (is_mark s open_ mark.OpenParen) _ Ended
-      (λ is. chained (number_of s n) _ (λ m. IsQuiet s n) Ended (quiet_of n)
-      (λ count q. chained (literal_at s rest) _ Ended Ended (literal_read rest (step_quiet open_ rest (quiet_open_paren s open_ is) (step_quiet n (open_ ∷ rest) q h)))
+      passed (is_mark s open_ mark.OpenParen) _ EndBehind
+      (λ is. chained (number_of s n) _ (λ m. IsQuiet s n) EndBehind (quiet_of n)
+      (λ count q. chained (literal_at s rest) _ EndBehind EndBehind (literal_read rest (step_quiet open_ rest (quiet_open_paren s open_ is) (step_quiet n (open_ ∷ rest) q h)))
       (λ r k. counted_close count r.0 r.1 (weaker r.1 k))))
 
-  init : (ts : List Token) → P ts → IfSome (init_at s ts) Ended
+  init : (ts : List Token) → P ts → IfSome (init_at s ts) EndBehind
   unfolding init_at
   init ts h =
-      either (counted_init_at s ts) _ Ended (counted ts h) (mapped (literal_at s ts) _ Ended Ended (literal_read ts h) (λ r q. q))
+      either (counted_init_at s ts) _ EndBehind (counted ts h) (mapped (literal_at s ts) _ EndBehind EndBehind (literal_read ts h) (λ r q. q))
 
-  init_next : (ts : List Token) → P ts → IfSome (next_init s ts) Ended
+  init_next : (ts : List Token) → P ts → IfSome (next_init s ts) EndBehind
   unfolding next_init
   init_next [] h = tt
-  init_next (t ∷ rest) h = passed (is_mark s t mark.Comma) (init_at s rest) Ended (λ is. init rest (step_quiet t rest (quiet_comma s t is) h))
+  init_next (t ∷ rest) h = passed (is_mark s t mark.Comma) (init_at s rest) EndBehind (λ is. init rest (step_quiet t rest (quiet_comma s t is) h))
 
   inits : (ts : List Token) → P ts → IfSome (init_list s ts) (λ l. P [])
   unfolding init_list end_of_tokens
   inits ts h =
-      chained (init_at s ts) _ Ended (λ l. P []) (init ts h)
+      chained (init_at s ts) _ EndBehind (λ l. P []) (init ts h)
       (λ r q. weakly_whole (parts_from end_of_tokens (next_init s) (r.0 ∷ []) (length r.1) r.1)
       (parts P end_of_tokens (next_init s) (r.0 ∷ []) (length r.1) r.1 ended init_next (weaker r.1 q)))
     where
@@ -801,12 +801,12 @@ module _ (s : List ℕ) (P Q : List Token → Type 0) (on : GoesOn s P Q) where
   struct [] h = tt
   struct (t ∷ rest) h = passed (is_key s t key.Struct) (Some rest) Q (λ is. passed_quiet t rest (quiet_key s t key.Struct is) h)
 
-  structure : (level : ℕ) (w : Token) (rest : List Token) → P rest → IfSome (structure_at s level (w ∷ rest)) Ended
+  structure : (level : ℕ) (w : Token) (rest : List Token) → P rest → IfSome (structure_at s level (w ∷ rest)) EndBehind
   unfolding structure_at
   structure level w rest h =
-      chained (declared_name_at s (w ∷ rest)) _ Behind Ended (declared w rest h)
-      (λ d i. chained (arrays_at s d.1) _ Behind Ended (arrays d.1 i)
-      (λ a j. mapped (after_struct s a.1) _ Q Ended (struct a.1 j) (λ left k. k)))
+      chained (declared_name_at s (w ∷ rest)) _ Behind EndBehind (declared w rest h)
+      (λ d i. chained (arrays_at s d.1) _ Behind EndBehind (arrays d.1 i)
+      (λ a j. mapped (after_struct s a.1) _ Q EndBehind (struct a.1 j) (λ left k. k)))
 
   init_later : (arrays : List Bounds) (e : ElementType) (ts : List Token) → P ts → IfSome (init_behind s arrays e ts) (λ l. P [])
   unfolding init_behind
@@ -818,27 +818,27 @@ module _ (s : List ℕ) (P Q : List Token → Type 0) (on : GoesOn s P Q) where
   declaration level w rest h =
       chained (declared_name_at s (w ∷ rest)) _ Behind (λ d. P []) (declared w rest h)
       (λ d i. chained (arrays_at s d.1) _ Behind (λ z. P []) (arrays d.1 i)
-      (λ a j. chained (element_at s a.1) _ Ended (λ z. P []) (element_read a.1 j)
+      (λ a j. chained (element_at s a.1) _ EndBehind (λ z. P []) (element_read a.1 j)
       (λ e k. mapped (init_behind s a.0 e.0 e.1) _ (λ l. P []) (λ z. P []) (init_later a.0 e.0 e.1 (weaker e.1 k)) (λ l z. z))))
 
   -- settings
-  index : (at : ℤ) (ts : List Token) → P ts → IfSome (index_end s at ts) Ended
+  index : (at : ℤ) (ts : List Token) → P ts → IfSome (index_end s at ts) EndBehind
   unfolding index_end
   index at [] h = tt
-  index at (t ∷ rest) h = passed (is_mark s t mark.CloseBracket) _ Ended (λ is. passed_quiet t rest (quiet_close_bracket s t is) h)
+  index at (t ∷ rest) h = passed (is_mark s t mark.CloseBracket) _ EndBehind (λ is. passed_quiet t rest (quiet_close_bracket s t is) h)
 
-  name : (dot : Token) (ts : List Token) → IsSign s dot → P (dot ∷ ts) → IfSome (name_step s ts) Ended
+  name : (dot : Token) (ts : List Token) → IsSign s dot → P (dot ∷ ts) → IfSome (name_step s ts) EndBehind
   unfolding name_step
   name dot [] sign h = tt
-  name dot (w ∷ rest) sign h = passed (has_kind w kind.Word) _ Ended (λ is. passed_name dot w rest sign is h)
+  name dot (w ∷ rest) sign h = passed (has_kind w kind.Word) _ EndBehind (λ is. passed_name dot w rest sign is h)
 
-  path_step : (ts : List Token) → P ts → IfSome (step_at s ts) Ended
+  path_step : (ts : List Token) → P ts → IfSome (step_at s ts) EndBehind
   unfolding step_at
   path_step [] h = tt
   path_step (t ∷ rest) h =
-      tested (is_mark s t mark.Dot) (name_step s rest) _ Ended (λ is. name t rest (sign_dot s t is) h)
-      (λ isnt. passed (is_mark s t mark.OpenBracket) _ Ended
-      (λ is. chained (int_at s rest) _ Ended Ended (int_behind rest (step_quiet t rest (quiet_open_bracket s t is) h)) (λ r k. index r.0 r.1 (weaker r.1 k))))
+      branch_holds (is_mark s t mark.Dot) (name_step s rest) _ EndBehind (λ is. name t rest (sign_dot s t is) h)
+      (λ isnt. passed (is_mark s t mark.OpenBracket) _ EndBehind
+      (λ is. chained (int_at s rest) _ EndBehind EndBehind (int_behind rest (step_quiet t rest (quiet_open_bracket s t is) h)) (λ r k. index r.0 r.1 (weaker r.1 k))))
 
   steps : (first : List PathStep) (ts : List Token) → P ts → IfSome (steps_from s first ts) Behind
   unfolding steps_from path_end
@@ -862,17 +862,17 @@ module _ (s : List ℕ) (P Q : List Token → Type 0) (on : GoesOn s P Q) where
       (λ first k. chained (steps_from s (first ∷ []) rest) _ Behind (λ v. P []) (steps (first ∷ []) rest h) (λ r i. value line r.0 r.1 i))
 
   -- heads
-  type_behind : (ts : List Token) → P ts → IfSome (result_type s ts) Ended
+  type_behind : (ts : List Token) → P ts → IfSome (result_type s ts) EndBehind
   unfolding result_type
   type_behind [] h = tt
   type_behind (t ∷ rest) h =
-      tested (is_key s t key.Void) (Some (None, rest)) _ Ended (λ is. passed_quiet t rest (quiet_key s t key.Void is) h)
-      (λ isnt. mapped (look_up simple_types (text_of s t)) _ (λ k. is_free (text_of s t) ≡ true) Ended (free_word simple_types (text_of s t) simple_types_free)
+      branch_holds (is_key s t key.Void) (Some (None, rest)) _ EndBehind (λ is. passed_quiet t rest (quiet_key s t key.Void is) h)
+      (λ isnt. mapped (look_up simple_types (text_of s t)) _ (λ k. is_free (text_of s t) ≡ true) EndBehind (free_word simple_types (text_of s t) simple_types_free)
       (λ k free. passed_quiet t rest (quiet_text s t free) h))
 
-  result : (k : BlockKind) (ts : List Token) → Q ts → IfSome (result_at s k ts) Ended
+  result : (k : BlockKind) (ts : List Token) → Q ts → IfSome (result_at s k ts) EndBehind
   unfolding result_at
-  result kinds.Fc ts h = chained (after_colon s ts) _ P Ended (colon ts (weaker ts h)) (λ rest k. type_behind rest k)
+  result kinds.Fc ts h = chained (after_colon s ts) _ P EndBehind (colon ts (weaker ts h)) (λ rest k. type_behind rest k)
   result _ ts h = h
 
   skipped : (ts : List Token) → Q ts → Q (skip_semicolon s ts)
@@ -921,9 +921,9 @@ module _ (s : List ℕ) (P Q : List Token → Type 0) (on : GoesOn s P Q) where
   head : (line : ℕ) (k : BlockKind) (ts : List Token) → Q ts → IfSome (head_clause s line k ts) IsRead
   unfolding head_clause block_of_kind_at
   head line k ts h =
-      chained (option_and_then (λ r. if is_of_kind k r.0 then Some r else None) (block_at s ts)) _ Ended IsRead
-      (chained (block_at s ts) _ Ended Ended (block ts (weaker ts h)) (λ r q. passed (is_of_kind k r.0) (Some r) Ended (λ is. q)))
-      (λ b i. mapped (result_at s k b.1) _ Ended IsRead (result k b.1 i) (λ r j isnt. j))
+      chained (option_and_then (λ r. if is_of_kind k r.0 then Some r else None) (block_at s ts)) _ EndBehind IsRead
+      (chained (block_at s ts) _ EndBehind EndBehind (block ts (weaker ts h)) (λ r q. passed (is_of_kind k r.0) (Some r) EndBehind (λ is. q)))
+      (λ b i. mapped (result_at s k b.1) _ EndBehind IsRead (result k b.1 i) (λ r j isnt. j))
 
   inner : (ts : List Token) → Q ts → IfSome (inner_end s ts) IsRead
   unfolding inner_end
@@ -952,13 +952,13 @@ module _ (s : List ℕ) (P Q : List Token → Type 0) (on : GoesOn s P Q) where
   based : (w : Token) (rest : List Token) → (IsQuiet s w → Q rest) → IfSome (base_block_at s (w ∷ rest)) IsRead
   unfolding base_block_at
   based w rest h =
-      chained (block_at s (w ∷ rest)) _ Ended IsRead (block_first w rest h) (λ r q. passed (is_base_block r.0) (Some (clause.Based r.0, r.1, false)) IsRead (λ is isnt. q))
+      chained (block_at s (w ∷ rest)) _ EndBehind IsRead (block_first w rest h) (λ r q. passed (is_base_block r.0) (Some (clause.Based r.0, r.1, false)) IsRead (λ is isnt. q))
 
   structure_read : (p : ClausePlace) (w : Token) (rest : List Token) → P rest → IfSome (structure_clause s p (w ∷ rest)) IsRead
   unfolding structure_clause
   structure_read p w rest h =
       failed (takes_parameters p) (option_map to_clause (structure_at s (level_at p) (w ∷ rest))) IsRead
-      (λ is. mapped (structure_at s (level_at p) (w ∷ rest)) to_clause Ended IsRead (structure (level_at p) w rest h) (λ r q isnt. q))
+      (λ is. mapped (structure_at s (level_at p) (w ∷ rest)) to_clause EndBehind IsRead (structure (level_at p) w rest h) (λ r q isnt. q))
     where
       to_clause : Declaration × List Token → Clause × List Token × Bool
       to_clause r = (clause.Declares r.0, r.1, false)

@@ -27,7 +27,7 @@ use Rattle.stl_parser.specs.Declarations.{structure_at}
 use Rattle.stl_parser.specs.Tables.{look_up, simple_types}
 use Rattle.stl_parser.specs.Terminals.{has_kind, is_mark}
 use Rattle.de_mnemonics.specs.Words.{operand_partner}
-use Rattle.translation_laws.proofs.AgreeAlikeLemmas.{Agree, Behind, IsNamedPair, IsSamePair, Like, OpensNone, Pair, Rests, chained, chosen, equal, goes_on, guarded, lefts, mapped, nothing, rest, rights, something, tested}
+use Rattle.translation_laws.proofs.AgreeAlikeLemmas.{Agree, Behind, IsNamedPair, IsSamePair, Like, OpensNone, Pair, Rests, agree_chained, agree_chosen, equal, goes_on, agree_guarded, lefts, agree_mapped, nothing, rest, rights, something, agree_tested}
 use Rattle.translation_laws.proofs.LikeAlikeLemmas.{key_like, kind_like, mark_like}
 use Rattle.translation_laws.proofs.NumberAlikeLemmas.{block_agrees}
 use Rattle.translation_laws.proofs.TextAlikeLemmas.{SeesNoCase, is_operand, no_entry, no_type}
@@ -80,7 +80,7 @@ module _ (s e : List ℕ) (F : List (Pair s e) → Type 0) (closed : (p : Pair s
 
   named_agrees : (k : BlockKind) (ps : List (Pair s e)) → F ps → Agree (Behind s e F {X = BlockName}) (block_of_kind_at s k (lefts ps)) (block_of_kind_at e k (rights ps))
   unfolding block_of_kind_at
-  named_agrees k ps h = goes_on _ _ (block_agrees s e F closed apart ps h) (λ x qs j. guarded (is_of_kind k x) (something (refl, rest s e F qs j)))
+  named_agrees k ps h = goes_on _ _ (block_agrees s e F closed apart ps h) (λ x qs j. agree_guarded (is_of_kind k x) (something (refl, rest s e F qs j)))
 
   type_word : (p : Pair s e) → look_up simple_types (text_of s p.left) ≡ look_up simple_types (text_of e p.right)
   type_word p = by p.like
@@ -98,26 +98,26 @@ module _ (s e : List ℕ) (F : List (Pair s e) → Type 0) (closed : (p : Pair s
   unfolding result_type
   result_type_agrees [] h = nothing
   result_type_agrees (p ∷ ps) h =
-      chosen (key_like s e p key.Void) (something (refl, rest s e F ps (closed p ps h)))
-      (mapped _ _ (equal _ _ (type_word p)) (λ x y k. (ap Some k, rest s e F ps (closed p ps h))))
+      agree_chosen (key_like s e p key.Void) (something (refl, rest s e F ps (closed p ps h)))
+      (agree_mapped _ _ (equal _ _ (type_word p)) (λ x y k. (ap Some k, rest s e F ps (closed p ps h))))
 
   result_behind : (ts us : List Token) → Rests s e F ts us → Agree (Behind s e F {X = Option Simple}) (result_type s ts) (result_type e us)
   result_behind ts us r = rw (sym r.left, sym r.right) (result_type_agrees r.pairs r.fits)
 
   result_agrees : (k : BlockKind) (ps : List (Pair s e)) → F ps → Agree (Behind s e F {X = Option Simple}) (result_at s k (lefts ps)) (result_at e k (rights ps))
   unfolding result_at
-  result_agrees kinds.Fc ps h = chained _ _ (colon_agrees s e F closed apart ps h) (λ ts us r. result_behind ts us r)
+  result_agrees kinds.Fc ps h = agree_chained _ _ (colon_agrees s e F closed apart ps h) (λ ts us r. result_behind ts us r)
   result_agrees _ ps h = something (refl, rest s e F ps h)
 
   head_agrees : (line : ℕ) (k : BlockKind) (ps : List (Pair s e)) → F ps → Agree SameRead (head_clause s line k (lefts ps)) (head_clause e line k (rights ps))
   unfolding head_clause
   head_agrees line k ps h =
-      goes_on _ _ (named_agrees k ps h) (λ b qs j. mapped _ _ (result_agrees k qs j) (λ x y l. (ap (λ r. clause.Head line k b r) l.0, l.1, refl)))
+      goes_on _ _ (named_agrees k ps h) (λ b qs j. agree_mapped _ _ (result_agrees k qs j) (λ x y l. (ap (λ r. clause.Head line k b r) l.0, l.1, refl)))
 
   inner_agrees : (ps : List (Pair s e)) → F ps → Agree SameRead (inner_end s (lefts ps)) (inner_end e (rights ps))
   unfolding inner_end
   inner_agrees [] h = nothing
-  inner_agrees (p ∷ ps) h = tested (mark_like s e p mark.Semicolon) (λ is. something (refl, rest s e F ps (closed p ps h), refl))
+  inner_agrees (p ∷ ps) h = agree_tested (mark_like s e p mark.Semicolon) (λ is. something (refl, rest s e F ps (closed p ps h), refl))
 
   structure_end_agrees : (cp : ClausePlace) (ps : List (Pair s e)) → F ps → Agree SameRead (structure_end s cp (lefts ps)) (structure_end e cp (rights ps))
   unfolding structure_end
@@ -144,7 +144,7 @@ module _ (s e : List ℕ) (F : List (Pair s e) → Type 0) (closed : (p : Pair s
   version_agrees : (ps : List (Pair s e)) → F ps → Agree (Rests s e F) (version_at s (lefts ps)) (version_at e (rights ps))
   unfolding version_at
   version_agrees (a ∷ b ∷ c ∷ d ∷ ps) h =
-      tested (rw (mark_like s e a mark.Colon, kind_like s e b kind.Number refl refl, mark_like s e c mark.Dot, kind_like s e d kind.Number refl refl) refl)
+      agree_tested (rw (mark_like s e a mark.Colon, kind_like s e b kind.Number refl refl, mark_like s e c mark.Dot, kind_like s e d kind.Number refl refl) refl)
       (λ is. something (rest s e F ps (closed d ps (closed c (d ∷ ps) (closed b (c ∷ d ∷ ps) (closed a (b ∷ c ∷ d ∷ ps) h))))))
   version_agrees _ h = nothing
 
@@ -163,14 +163,14 @@ module _ (s e : List ℕ) (F : List (Pair s e) → Type 0) (closed : (p : Pair s
   word_agrees : (ps : List (Pair s e)) → F ps → NoteKind ps → Agree (Rests s e F) (colon_and_word_at s (lefts ps)) (colon_and_word_at e (rights ps))
   unfolding colon_and_word_at
   word_agrees (p ∷ q ∷ ps) h note =
-      tested (colon_word (is_mark s p.left mark.Colon) (is_mark e p.right mark.Colon) (has_kind q.left kind.Word) (has_kind q.right kind.Word) (mark_like s e p mark.Colon) note)
+      agree_tested (colon_word (is_mark s p.left mark.Colon) (is_mark e p.right mark.Colon) (has_kind q.left kind.Word) (has_kind q.right kind.Word) (mark_like s e p mark.Colon) note)
       (λ is. something (rest s e F ps (closed q ps (closed p (q ∷ ps) h))))
   word_agrees [] h note = nothing
   word_agrees (p ∷ []) h note = nothing
 
   pub head_word_agrees : (cp : ClausePlace) (w : HeadWord) (ps : List (Pair s e)) → F ps → NoteKind ps → Agree SameRead (head_word_clause s cp w (lefts ps)) (head_word_clause e cp w (rights ps))
   unfolding head_word_clause head_word_at
-  head_word_agrees cp w ps h note = mapped _ _ (at w) (λ ts us r. (refl, note_of cp ts us r, refl))
+  head_word_agrees cp w ps h note = agree_mapped _ _ (at w) (λ ts us r. (refl, note_of cp ts us r, refl))
     where
       at : (w : HeadWord) → Agree (Rests s e F) (head_word_at s w (lefts ps)) (head_word_at e w (rights ps))
       at head_word.Version = version_agrees ps h
@@ -179,7 +179,7 @@ module _ (s e : List ℕ) (F : List (Pair s e) → Type 0) (closed : (p : Pair s
 
   pub based_agrees : (ps : List (Pair s e)) → F ps → Agree SameRead (base_block_at s (lefts ps)) (base_block_at e (rights ps))
   unfolding base_block_at
-  based_agrees ps h = goes_on _ _ (block_agrees s e F closed apart ps h) (λ x qs j. guarded (is_base_block x) (something (refl, rest s e F qs j, refl)))
+  based_agrees ps h = goes_on _ _ (block_agrees s e F closed apart ps h) (λ x qs j. agree_guarded (is_base_block x) (something (refl, rest s e F qs j, refl)))
 
   -- a clause that opens a structure is the same where the declared name is
   abbrev pub NamedRead : Pair s e → Clause × List Token × Bool → Clause × List Token × Bool → Type 0
@@ -193,4 +193,4 @@ module _ (s e : List ℕ) (F : List (Pair s e) → Type 0) (closed : (p : Pair s
       by : (b : Bool) → Agree (NamedRead p) (if b then None else option_map (λ r. (clause.Declares r.0, r.1, false)) (structure_at s (level_at cp) (p.left ∷ lefts ps)))
           (if b then None else option_map (λ r. (clause.Declares r.0, r.1, false)) (structure_at e (level_at cp) (p.right ∷ rights ps)))
       by true = nothing
-      by false = mapped _ _ (structure_agrees s e F closed apart (level_at cp) p ps h kinds) (λ x y k. ((λ same. ap clause.Declares (k.0 same)), k.1, refl))
+      by false = agree_mapped _ _ (structure_agrees s e F closed apart (level_at cp) p ps h kinds) (λ x y k. ((λ same. ap clause.Declares (k.0 same)), k.1, refl))

@@ -260,8 +260,8 @@ heads_seen p zero (c ∷ x) a b h = refl
 heads_seen p (suc n) (c ∷ x) a b h = heads_seen p n x a b (omega (arith, h))
 
 -- an end that lies in a token whole
-seen : (rest x a b : List ℕ) → length rest < length x → ends_word rest (x ++ a) ≡ true → ends_word rest (x ++ b) ≡ true
-seen rest x a b h e =
+word_end_within : (rest x a b : List ℕ) → length rest < length x → ends_word rest (x ++ a) ≡ true → ends_word rest (x ++ b) ≡ true
+word_end_within rest x a b h e =
     let parts = and_parts (fronts rest (x ++ a)) (not (heads is_word_byte (drop (length rest) (x ++ a)))) e in
     and_from (fronts rest (x ++ b)) (not (heads is_word_byte (drop (length rest) (x ++ b))))
     (fronts_cut rest x b (omega (arith, h)) ∙ sym (fronts_cut rest x a (omega (arith, h))) ∙ parts.0)
@@ -348,7 +348,7 @@ other_word_ends rest x (b ∷ w) after later e word_x word_w why stops ends h =
 kept_ends : (kind : TokenKind) (x after later rest : List ℕ) → has_form kind x after ≡ true → (kind ≡ Word → heads is_word_byte after ≡ false) → Front kind after later → IsEnding rest → ends_word rest (x ++ later) ≡ true → ends_word rest (x ++ after) ≡ true
 unfolding has_form
 kept_ends kind x after later rest fits word f e h = elim (cases_lt (length rest) (length x)) [
-  | inl inside ↦ seen rest x later after inside h
+  | inl inside ↦ word_end_within rest x later after inside h
   | inr beyond ↦
       let parts = and_parts (fronts rest (x ++ later)) (not (heads is_word_byte (drop (length rest) (x ++ later)))) h in
       let over = fronts_over rest x later beyond parts.0 in

@@ -20,7 +20,7 @@ use Rattle.stl_lexer.specs.Tokens.{AreTokens, TokensFollow, IsEndOfTokens, is_mi
 use Rattle.stl_ast.specs.declared.mnemonics.Mnemonic.{Mnemonic}
 use Rattle.stl_symbols.specs.declared.languages.Language.TheVariants.{English, German}
 use Rattle.stl_parser.specs.declared.tables.OperandSyntax.{OperandSyntax}
-use Rattle.stl_parser.specs.declared.tables.OperandSyntax.TheVariants as form
+use Rattle.stl_parser.specs.declared.tables.OperandSyntax.TheVariants as operand_syntax
 use Rattle.stl_parser.specs.Tables.{look_up, mnemonics}
 use Rattle.stl_parser.specs.Terminals.{has_kind, is_mark, kind_rank}
 use Rattle.de_mnemonics.specs.declared.classes.TokenClass.{TokenClass}
@@ -188,7 +188,7 @@ found_passes {X = X} test blind such (y ∷ ys) all w x is that =
     by y o false e h more found = more found
 
 abbrev is_jump_syntax : OperandSyntax → Bool
-is_jump_syntax form.Jump = true
+is_jump_syntax operand_syntax.Jump = true
 is_jump_syntax _ = false
 
 abbrev is_jump_form : Mnemonic × OperandSyntax → Bool
@@ -218,14 +218,14 @@ abbrev pub AreFormed : List ℕ → List Token → Type 0
 AreFormed s [] = Unit {0}
 AreFormed s (t ∷ ts) = IsFormed s t × AreFormed s ts
 
-followed : (s : List ℕ) (from : ℕ) (minus : Bool) (ts : List Token) → TokensFollow s (λ from minus. IsEndOfTokens s from) from minus ts → AreFormed s ts
-followed s from minus [] h = tt
-followed s from minus (t ∷ ts) h =
-    ((drop (t.end - t.start) (drop t.start s), h.0.longest.fits.fits), followed s t.end (is_minus t.kind (text_of s t)) ts h.1)
+tokens_formed_from : (s : List ℕ) (from : ℕ) (minus : Bool) (ts : List Token) → TokensFollow s (λ from minus. IsEndOfTokens s from) from minus ts → AreFormed s ts
+tokens_formed_from s from minus [] h = tt
+tokens_formed_from s from minus (t ∷ ts) h =
+    ((drop (t.end - t.start) (drop t.start s), h.0.longest.fits.fits), tokens_formed_from s t.end (is_minus t.kind (text_of s t)) ts h.1)
 
-pub formed : (s : List ℕ) (ts : List Token) → AreTokens s ts → AreFormed s ts
+pub tokens_formed : (s : List ℕ) (ts : List Token) → AreTokens s ts → AreFormed s ts
 unfolding AreTokens
-formed s ts are = followed s 0 false ts are
+tokens_formed s ts are = tokens_formed_from s 0 false ts are
 
 -- the word of a jump is a word, and one for the walk
 jump_word : (s : List ℕ) (t : Token) (m : Mnemonic × OperandSyntax) → IsFormed s t → look_up mnemonics (text_of s t) ≡ Some m → is_jump_form m ≡ true
@@ -412,11 +412,11 @@ module _ (s e : List ℕ) where
 
   labels_from : (n : ℕ) (p : TokenPlace) (q : Pair s e) (qs : List (Pair s e)) → IsFormed s q.left → GoesOn p (text_of s q.left) (class_in s q.left) → Walk s e p (class_in s q.left) qs
       → (m : Mnemonic × OperandSyntax) → look_up mnemonics (text_of s q.left) ≡ Some m → (f : OperandSyntax) → m.1 ≡ f → Labels s e f (take n qs)
-  labels_from n p q qs shape on h m found form.Operand is = tt
-  labels_from n p q qs shape on h m found form.Open is = tt
-  labels_from n p q qs shape on h m found form.BlockCall is = tt
-  labels_from n p q qs shape on h m found form.Call is = tt
-  labels_from n p q qs shape on h m found form.Jump is =
+  labels_from n p q qs shape on h m found operand_syntax.Operand is = tt
+  labels_from n p q qs shape on h m found operand_syntax.Open is = tt
+  labels_from n p q qs shape on h m found operand_syntax.BlockCall is = tt
+  labels_from n p q qs shape on h m found operand_syntax.Call is = tt
+  labels_from n p q qs shape on h m found operand_syntax.Jump is =
       let word = jump_word s q.left m shape found (ap is_jump_syntax is) in
       head_label n (class_in s q.left) qs (subst (λ (x : TokenPlace). Walk s e x (class_in s q.left) qs) (on.jumps (word_class q.left word.0) word.1) h)
 
@@ -503,11 +503,11 @@ module _ (s e : List ℕ) where
   no_colon t isnt = no_colon_kind t t.kind refl isnt
 
   labels_end : (f : OperandSyntax) → Labels s e f []
-  labels_end form.Jump = tt
-  labels_end form.Operand = tt
-  labels_end form.Open = tt
-  labels_end form.BlockCall = tt
-  labels_end form.Call = tt
+  labels_end operand_syntax.Jump = tt
+  labels_end operand_syntax.Operand = tt
+  labels_end operand_syntax.Open = tt
+  labels_end operand_syntax.BlockCall = tt
+  labels_end operand_syntax.Call = tt
 
   alone_first : (q : Pair s e) → IsFront q → IsFirst s e q []
   alone_first q front = record { text = front_text q front; labels = λ m found. labels_end m.1; fits = tt }

@@ -432,11 +432,11 @@ agree true true = true
 agree false false = true
 agree _ _ = false
 
-agreed : (a b : Bool) → agree a b ≡ true → a ≡ b
-agreed true true e = refl
-agreed false false e = refl
-agreed true false e = absurd (false≢true e)
-agreed false true e = absurd (false≢true e)
+same_if_agreed : (a b : Bool) → agree a b ≡ true → a ≡ b
+same_if_agreed true true e = refl
+same_if_agreed false false e = refl
+same_if_agreed true false e = absurd (false≢true e)
+same_if_agreed false true e = absurd (false≢true e)
 
 -- which of the walk's words a keyword is
 abbrev code_key : Keyword → Bool
@@ -505,11 +505,11 @@ key_fits word k e =
     let third = and_parts (agree (is_word_in_list begin_words word) (begin_key k)) (agree (is_word_in_list block_end_words word) (end_key k) && agree (is_word_in_list network_words word) (network_key k)) second.1 in
     let fourth = and_parts (agree (is_word_in_list block_end_words word) (end_key k)) (agree (is_word_in_list network_words word) (network_key k)) third.1 in
     record {
-      code = agreed (is_word_in_list code_openings word) (code_key k) first.0;
-      data_ = agreed (is_word_in_list data_openings word) (data_key k) second.0;
-      begin = agreed (is_word_in_list begin_words word) (begin_key k) third.0;
-      ends = agreed (is_word_in_list block_end_words word) (end_key k) fourth.0;
-      network = agreed (is_word_in_list network_words word) (network_key k) fourth.1;
+      code = same_if_agreed (is_word_in_list code_openings word) (code_key k) first.0;
+      data_ = same_if_agreed (is_word_in_list data_openings word) (data_key k) second.0;
+      begin = same_if_agreed (is_word_in_list begin_words word) (begin_key k) third.0;
+      ends = same_if_agreed (is_word_in_list block_end_words word) (end_key k) fourth.0;
+      network = same_if_agreed (is_word_in_list network_words word) (network_key k) fourth.1;
     }
 
 -- each of the walk's words is a keyword

@@ -24,7 +24,7 @@ use Rattle.stl_parser.specs.Terminals.{has_kind}
 use Rattle.stl_parser.specs.Values.{based_value, duration_literal, long_or_count}
 use Rattle.translation_laws.specs.Alike.{IsOperandWordAsLocal, IsSameToken}
 use Rattle.de_mnemonics.specs.Words.{operand_partner}
-use Rattle.translation_laws.proofs.AgreeAlikeLemmas.{Agree, Behind, IsNamedPair, Like, Numbered, OpensNone, Pair, chained, chosen, either, equal, lefts, mapped, nothing, rest, rights, something, tested, whole_same}
+use Rattle.translation_laws.proofs.AgreeAlikeLemmas.{Agree, Behind, IsNamedPair, Like, SameValueAndRest, OpensNone, Pair, agree_chained, agree_chosen, either, equal, lefts, agree_mapped, nothing, rest, rights, something, agree_tested, whole_same}
 use Rattle.translation_laws.proofs.LikeAlikeLemmas.{itself, key_like, kind_like, mark_like, named_no_key, number_like, of_kind, same_kind, text_like}
 use Rattle.translation_laws.proofs.TextAlikeLemmas.{Same, decimal_same, is_operand, no_address, no_address_letters, no_block, no_block_letters}
 use Rattle.translation_laws.proofs.LookUpLemmas.{same_looked_up}
@@ -38,16 +38,16 @@ module _ (s e : List ℕ) (F : List (Pair s e) → Type 0) (closed : (p : Pair s
   unfolding signed_number_at number_of
   signed_agrees p [] h = nothing
   signed_agrees p (q ∷ qs) h =
-      chosen (mark_like s e p mark.Minus)
-      (mapped _ _ (equal _ _ (number_like s e (greatest_number true) q)) (λ n m k. (ap (λ n. pos 0 -ℤ pos n) k, rest s e F qs (closed q qs h))))
-      (chosen (mark_like s e p mark.Plus)
-      (mapped _ _ (equal _ _ (number_like s e (greatest_number false) q)) (λ n m k. (ap pos k, rest s e F qs (closed q qs h)))) nothing)
+      agree_chosen (mark_like s e p mark.Minus)
+      (agree_mapped _ _ (equal _ _ (number_like s e (greatest_number true) q)) (λ n m k. (ap (λ n. pos 0 -ℤ pos n) k, rest s e F qs (closed q qs h))))
+      (agree_chosen (mark_like s e p mark.Plus)
+      (agree_mapped _ _ (equal _ _ (number_like s e (greatest_number false) q)) (λ n m k. (ap pos k, rest s e F qs (closed q qs h)))) nothing)
 
   pub int_agrees : (ps : List (Pair s e)) → F ps → Agree (Behind s e F) (int_at s (lefts ps)) (int_at e (rights ps))
   unfolding int_at number_of
   int_agrees [] h = nothing
   int_agrees (p ∷ ps) h =
-      either (mapped _ _ (equal _ _ (number_like s e (greatest_number false) p)) (λ n m k. (ap pos k, rest s e F ps (closed p ps h))))
+      either (agree_mapped _ _ (equal _ _ (number_like s e (greatest_number false) p)) (λ n m k. (ap pos k, rest s e F ps (closed p ps h))))
       (signed_agrees p ps (closed p ps h))
 
   -- ---- constants
@@ -102,22 +102,22 @@ module _ (s e : List ℕ) (F : List (Pair s e) → Type 0) (closed : (p : Pair s
   last_agrees : (a b : ℕ) (ps : List (Pair s e)) → F ps → Agree (Behind s e F) (last_bytes s a b (lefts ps)) (last_bytes e a b (rights ps))
   unfolding last_bytes
   last_agrees a b (p ∷ q ∷ r ∷ t ∷ ps) h =
-      chosen (both_marks (mark_like s e q mark.Comma) (mark_like s e t mark.CloseParen))
-      (chained _ _ (equal _ _ (byte_like p)) (λ x y k. mapped _ _ (equal _ _ (byte_like r)) (λ z w l. (four a b x y z w k l, rest s e F ps (closed t ps (closed r (t ∷ ps) (closed q (r ∷ t ∷ ps) (closed p (q ∷ r ∷ t ∷ ps) h))))))))
+      agree_chosen (both_marks (mark_like s e q mark.Comma) (mark_like s e t mark.CloseParen))
+      (agree_chained _ _ (equal _ _ (byte_like p)) (λ x y k. agree_mapped _ _ (equal _ _ (byte_like r)) (λ z w l. (four a b x y z w k l, rest s e F ps (closed t ps (closed r (t ∷ ps) (closed q (r ∷ t ∷ ps) (closed p (q ∷ r ∷ t ∷ ps) h))))))))
       nothing
   last_agrees a b _ h = nothing
 
   behind_agrees : (a b : ℕ) (p : Pair s e) (ps : List (Pair s e)) → F ps → Agree (Behind s e F) (bytes_behind s a b p.left (lefts ps)) (bytes_behind e a b p.right (rights ps))
   unfolding bytes_behind
   behind_agrees a b p ps h =
-      chosen (mark_like s e p mark.CloseParen) (something (refl, rest s e F ps h))
-      (chosen (mark_like s e p mark.Comma) (last_agrees a b ps h) nothing)
+      agree_chosen (mark_like s e p mark.CloseParen) (something (refl, rest s e F ps h))
+      (agree_chosen (mark_like s e p mark.Comma) (last_agrees a b ps h) nothing)
 
   bytes_agree : (ps : List (Pair s e)) → F ps → Agree (Behind s e F) (bytes_at s (lefts ps)) (bytes_at e (rights ps))
   unfolding bytes_at
   bytes_agree (p ∷ q ∷ r ∷ t ∷ ps) h =
-      chosen (mark_like s e q mark.Comma)
-      (chained _ _ (equal _ _ (byte_like p)) (λ x y k. chained _ _ (equal _ _ (byte_like r))
+      agree_chosen (mark_like s e q mark.Comma)
+      (agree_chained _ _ (equal _ _ (byte_like p)) (λ x y k. agree_chained _ _ (equal _ _ (byte_like r))
       (λ z w l. rw (k, l) (behind_agrees y w t ps (closed t ps (closed r (t ∷ ps) (closed q (r ∷ t ∷ ps) (closed p (q ∷ r ∷ t ∷ ps) h))))))))
       nothing
   bytes_agree _ h = nothing
@@ -125,14 +125,14 @@ module _ (s e : List ℕ) (F : List (Pair s e) → Type 0) (closed : (p : Pair s
   pub long_agrees : (p : Pair s e) (ps : List (Pair s e)) → F ps → Agree (Behind s e F) (long_literal s p.left (lefts ps)) (long_literal e p.right (rights ps))
   unfolding long_literal
   long_agrees p ps h =
-      chosen (mark_like s e p mark.Bytes) (bytes_agree ps h)
-      (mapped _ _ (signed_agrees p ps h) (λ x y k. (ap literal.Number k.0, k.1)))
+      agree_chosen (mark_like s e p mark.Bytes) (bytes_agree ps h)
+      (agree_mapped _ _ (signed_agrees p ps h) (λ x y k. (ap literal.Number k.0, k.1)))
 
   pub literal_agrees : (ps : List (Pair s e)) → F ps → Agree (Behind s e F) (literal_at s (lefts ps)) (literal_at e (rights ps))
   unfolding literal_at
   literal_agrees [] h = nothing
   literal_agrees (p ∷ ps) h =
-      either (mapped _ _ (equal _ _ (token_like p)) (λ x y k. (k, rest s e F ps (closed p ps h)))) (long_agrees p ps (closed p ps h))
+      either (agree_mapped _ _ (equal _ _ (token_like p)) (λ x y k. (k, rest s e F ps (closed p ps h)))) (long_agrees p ps (closed p ps h))
 
   pub literal_same : (ps : List (Pair s e)) → F ps → literal_of s (lefts ps) ≡ literal_of e (rights ps)
   unfolding literal_of
@@ -141,19 +141,19 @@ module _ (s e : List ℕ) (F : List (Pair s e) → Type 0) (closed : (p : Pair s
   -- ---- letters and a number
 
   glued_agrees : {X : Type 0} (table : List (List ℕ × X)) (a b : List ℕ) → Same a b → (ps : List (Pair s e)) → F ps
-      → Agree (Numbered s e F {X = X}) (glued_letters_and_number table a (lefts ps)) (glued_letters_and_number table b (rights ps))
+      → Agree (SameValueAndRest s e F {X = X}) (glued_letters_and_number table a (lefts ps)) (glued_letters_and_number table b (rights ps))
   unfolding glued_letters_and_number
   glued_agrees table a b is ps h =
-      chained _ _ (equal _ _ (same_looked_up table (take (letter_count a) a) (take (letter_count b) b) (same_letters a b is)))
-      (λ x y k. mapped _ _ (equal _ _ (decimal_same (greatest_number false) a b is)) (λ n m l. (k, l, rest s e F ps h)))
+      agree_chained _ _ (equal _ _ (same_looked_up table (take (letter_count a) a) (take (letter_count b) b) (same_letters a b is)))
+      (λ x y k. agree_mapped _ _ (equal _ _ (decimal_same (greatest_number false) a b is)) (λ n m l. (k, l, rest s e F ps h)))
 
   separate_agrees : {X : Type 0} (table : List (List ℕ × X)) (a b : List ℕ) → Same a b → (ps : List (Pair s e)) → F ps
-      → Agree (Numbered s e F {X = X}) (separate_letters_and_number table s a (lefts ps)) (separate_letters_and_number table e b (rights ps))
+      → Agree (SameValueAndRest s e F {X = X}) (separate_letters_and_number table s a (lefts ps)) (separate_letters_and_number table e b (rights ps))
   unfolding separate_letters_and_number
   separate_agrees table a b is [] h = nothing
   separate_agrees table a b is (p ∷ ps) h =
-      chained _ _ (equal _ _ (same_looked_up table a b is))
-      (λ x y k. mapped _ _ (equal _ _ (number_of_like p)) (λ n m l. (k, l, rest s e F ps (closed p ps h))))
+      agree_chained _ _ (equal _ _ (same_looked_up table a b is))
+      (λ x y k. agree_mapped _ _ (equal _ _ (number_of_like p)) (λ n m l. (k, l, rest s e F ps (closed p ps h))))
 
   -- a name is neither letters of the table nor has it a number
   abbrev pub IsNone : {X : Type 0} → List (List ℕ × X) → List ℕ → List Token → Type 0
@@ -184,19 +184,19 @@ module _ (s e : List ℕ) (F : List (Pair s e) → Type 0) (closed : (p : Pair s
 
   numbered_agrees : {X : Type 0} (table : List (List ℕ × X)) (p : Pair s e) (ps : List (Pair s e)) → F ps
       → (IsNamedPair p → IsNone table (text_of s p.left) (lefts ps))
-      → Agree (Numbered s e F {X = X}) (letters_and_number_at table s (p.left ∷ lefts ps)) (letters_and_number_at table e (p.right ∷ rights ps))
+      → Agree (SameValueAndRest s e F {X = X}) (letters_and_number_at table s (p.left ∷ lefts ps)) (letters_and_number_at table e (p.right ∷ rights ps))
   unfolding letters_and_number_at
   numbered_agrees {X = X} table p ps h none = by p.like
     where
       two : (x y : Bool) → x ≡ y → Same (text_of s p.left) (text_of e p.right)
-          → Agree (Numbered s e F {X = X}) (if x then option_or (glued_letters_and_number table (text_of s p.left) (lefts ps)) (separate_letters_and_number table s (text_of s p.left) (lefts ps)) else None)
+          → Agree (SameValueAndRest s e F {X = X}) (if x then option_or (glued_letters_and_number table (text_of s p.left) (lefts ps)) (separate_letters_and_number table s (text_of s p.left) (lefts ps)) else None)
           (if y then option_or (glued_letters_and_number table (text_of e p.right) (rights ps)) (separate_letters_and_number table e (text_of e p.right) (rights ps)) else None)
       two x y same text =
-          chosen same
+          agree_chosen same
           (either (glued_agrees table (text_of s p.left) (text_of e p.right) text ps h) (separate_agrees table (text_of s p.left) (text_of e p.right) text ps h)) nothing
 
       by : Like s e p.left p.right
-          → Agree (Numbered s e F {X = X}) (if has_kind p.left kind.Word then option_or (glued_letters_and_number table (text_of s p.left) (lefts ps)) (separate_letters_and_number table s (text_of s p.left) (lefts ps)) else None)
+          → Agree (SameValueAndRest s e F {X = X}) (if has_kind p.left kind.Word then option_or (glued_letters_and_number table (text_of s p.left) (lefts ps)) (separate_letters_and_number table s (text_of s p.left) (lefts ps)) else None)
           (if has_kind p.right kind.Word then option_or (glued_letters_and_number table (text_of e p.right) (rights ps)) (separate_letters_and_number table e (text_of e p.right) (rights ps)) else None)
       by (inl k) = two (has_kind p.left kind.Word) (has_kind p.right kind.Word) (same_kind s e p.left p.right kind.Word k) (itself (text_of s p.left) (text_of e p.right) k.text)
       by (inr (inl k)) = two (has_kind p.left kind.Word) (has_kind p.right kind.Word) (of_kind p.left kind.Word kind.Word k.word ∙ sym (of_kind p.right kind.Word kind.Word k.other)) k.text
@@ -204,7 +204,7 @@ module _ (s e : List ℕ) (F : List (Pair s e) → Type 0) (closed : (p : Pair s
           let found = none k in
           rw (of_kind p.left kind.Word kind.Word k.named.word, of_kind p.right kind.Local kind.Word k.named.other, found.0, found.1) nothing
 
-  pub block_number_agrees : (ps : List (Pair s e)) → F ps → Agree (Numbered s e F {X = BlockKind}) (block_number_at s (lefts ps)) (block_number_at e (rights ps))
+  pub block_number_agrees : (ps : List (Pair s e)) → F ps → Agree (SameValueAndRest s e F {X = BlockKind}) (block_number_at s (lefts ps)) (block_number_at e (rights ps))
   unfolding block_number_at letters_and_number_at
   block_number_agrees [] h = nothing
   block_number_agrees (p ∷ ps) h = numbered_agrees block_kinds p ps (closed p ps h) (λ named. by named.named.operand)
@@ -236,7 +236,7 @@ module _ (s e : List ℕ) (F : List (Pair s e) → Type 0) (closed : (p : Pair s
       let found = named_none p ps h named in
       rw (of_kind p.left kind.Word kind.Word named.named.word, found.0, found.1) refl
 
-  pub address_agrees : (ps : List (Pair s e)) → F ps → Agree (Numbered s e F {X = AddressKind}) (address_at s (lefts ps)) (address_at e (rights ps))
+  pub address_agrees : (ps : List (Pair s e)) → F ps → Agree (SameValueAndRest s e F {X = AddressKind}) (address_at s (lefts ps)) (address_at e (rights ps))
   unfolding address_at letters_and_number_at
   address_agrees [] h = nothing
   address_agrees (p ∷ ps) h = numbered_agrees addresses p ps (closed p ps h) (λ named. named_none p ps h named)
@@ -245,7 +245,7 @@ module _ (s e : List ℕ) (F : List (Pair s e) → Type 0) (closed : (p : Pair s
   unfolding quoted_block_at
   quoted_agrees [] h = nothing
   quoted_agrees (p ∷ ps) h =
-      tested (kind_like s e p kind.Quoted refl refl)
+      agree_tested (kind_like s e p kind.Quoted refl refl)
       (λ is. something (ap (λ t. block.Quoted (text_between_quotes t)) (text_like s e p kind.Quoted refl is), rest s e F ps (closed p ps h)))
 
   block_name : (k l : BlockKind) (n m : ℕ) → k ≡ l → n ≡ m → block.Number (record { kind = k; number = n }) ≡ block.Number (record { kind = l; number = m })
@@ -254,7 +254,7 @@ module _ (s e : List ℕ) (F : List (Pair s e) → Type 0) (closed : (p : Pair s
   pub block_agrees : (ps : List (Pair s e)) → F ps → Agree (Behind s e F) (block_at s (lefts ps)) (block_at e (rights ps))
   unfolding block_at
   block_agrees ps h =
-      either (mapped _ _ (block_number_agrees ps h) (λ x y k. (block_name x.0 y.0 x.1 y.1 k.0 k.1, k.2))) (quoted_agrees ps h)
+      either (agree_mapped _ _ (block_number_agrees ps h) (λ x y k. (block_name x.0 y.0 x.1 y.1 k.0 k.1, k.2))) (quoted_agrees ps h)
 
   pub bit_same : (ps : List (Pair s e)) → bit_of s (lefts ps) ≡ bit_of e (rights ps)
   unfolding bit_of

@@ -33,7 +33,7 @@ use Rattle.stl_parser.specs.Tables.{addresses, flags, look_up, registers}
 use Rattle.stl_parser.specs.Terminals.{has_kind, is_mark}
 use Rattle.translation_laws.specs.Alike.{IsSameWordButForCase, IsSameToken}
 use Rattle.de_mnemonics.specs.Words.{operand_partner}
-use Rattle.translation_laws.proofs.AgreeAlikeLemmas.{Agree, Behind, Equal, Follows, IsName, IsNamedPair, IsSamePair, Numbered, OpensNone, Pair, Rests, also, chained, counts, decided, equal, goes_on, if_same, lefts, nothing, numbers_on, of_none, parts_agree, rest, rights, same_option, something, tested, whole_same}
+use Rattle.translation_laws.proofs.AgreeAlikeLemmas.{Agree, Behind, Equal, Follows, IsName, IsNamedPair, IsSamePair, SameValueAndRest, OpensNone, Pair, Rests, also, agree_chained, counts, agree_decided, equal, goes_on, if_same, lefts, nothing, numbers_on, of_none, parts_agree, rest, rights, same_option, something, agree_tested, whole_same}
 use Rattle.translation_laws.proofs.LikeAlikeLemmas.{itself, key_like, mark_like, named_no_key, no_mark, of_kind, same_kind}
 use Rattle.translation_laws.proofs.NumberAlikeLemmas.{address_agrees, bit_same, int_agrees, literal_same, named_no_address, no_truth, number_of_like}
 use Rattle.translation_laws.proofs.TextAlikeLemmas.{Same, address_word_same, english_word, is_operand, no_address, no_address_letters, no_flag, no_register}
@@ -46,14 +46,14 @@ IsKnown {s = s} {e = e} p =
 
 -- what two tokens that stand side by side say of each other: behind a `.` and before `:=` they are the same, and no number stands
 -- behind a name
-pub record Joined {s e : List ℕ} (p q : Pair s e) : Type 0 where
+pub record SideBySide {s e : List ℕ} (p q : Pair s e) : Type 0 where
   pub dotted : is_mark s p.left mark.Dot ≡ true → IsSamePair q
   pub assigned : is_mark s q.left mark.Assign ≡ true → IsSamePair p
   pub apart : IsNamedPair p → is_operand English (text_of s p.left) ≡ false → OpensNone q
 
 abbrev pub JoinedTo : {s e : List ℕ} → Pair s e → List (Pair s e) → Type 0
 JoinedTo p [] = Unit {0}
-JoinedTo p (q ∷ qs) = Joined p q
+JoinedTo p (q ∷ qs) = SideBySide p q
 
 -- the tokens behind an instruction word
 abbrev pub Fits : (s e : List ℕ) → List (Pair s e) → Type 0
@@ -84,7 +84,7 @@ module _ (s e : List ℕ) where
   dotted_head p [] h is = tt
   dotted_head p (q ∷ qs) h is = h.1.dotted is
 
-  addressed : (ps : List (Pair s e)) → Fits s e ps → Agree (Numbered s e (Fits s e) {X = AddressKind}) (address_at s (lefts ps)) (address_at e (rights ps))
+  addressed : (ps : List (Pair s e)) → Fits s e ps → Agree (SameValueAndRest s e (Fits s e) {X = AddressKind}) (address_at s (lefts ps)) (address_at e (rights ps))
   addressed ps h = address_agrees s e (Fits s e) closed apart ps h
 
   bits : (ps : List (Pair s e)) → bit_of s (lefts ps) ≡ bit_of e (rights ps)
@@ -98,25 +98,25 @@ module _ (s e : List ℕ) where
   index_agrees : (at : ℤ) (ps : List (Pair s e)) → Fits s e ps → Agree (Behind s e (Fits s e)) (index_end s at (lefts ps)) (index_end e at (rights ps))
   unfolding index_end
   index_agrees at [] h = nothing
-  index_agrees at (p ∷ ps) h = tested (mark_like s e p mark.CloseBracket) (λ is. something (refl, rest s e (Fits s e) ps h.2))
+  index_agrees at (p ∷ ps) h = agree_tested (mark_like s e p mark.CloseBracket) (λ is. something (refl, rest s e (Fits s e) ps h.2))
 
   name_agrees : (ps : List (Pair s e)) → Fits s e ps → HeadSame s e ps → Agree (Behind s e (Fits s e)) (name_step s (lefts ps)) (name_step e (rights ps))
   unfolding name_step
   name_agrees [] h same = nothing
-  name_agrees (p ∷ ps) h same = tested (same_kind s e p.left p.right kind.Word same) (λ is. something (ap step.Named same.text, rest s e (Fits s e) ps h.2))
+  name_agrees (p ∷ ps) h same = agree_tested (same_kind s e p.left p.right kind.Word same) (λ is. something (ap step.Named same.text, rest s e (Fits s e) ps h.2))
 
   step_agrees : (ps : List (Pair s e)) → Fits s e ps → Agree (Behind s e (Fits s e)) (step_at s (lefts ps)) (step_at e (rights ps))
   unfolding step_at
   step_agrees [] h = nothing
   step_agrees (p ∷ ps) h =
-      decided (mark_like s e p mark.Dot) (λ is. name_agrees ps h.2 (dotted_head p ps h is))
-      (λ isnt. tested (mark_like s e p mark.OpenBracket)
+      agree_decided (mark_like s e p mark.Dot) (λ is. name_agrees ps h.2 (dotted_head p ps h is))
+      (λ isnt. agree_tested (mark_like s e p mark.OpenBracket)
       (λ is. goes_on _ _ (int_agrees s e (Fits s e) closed apart ps h.2) (λ n qs k. index_agrees n qs k)))
 
   end_agrees : (ps : List (Pair s e)) → Fits s e ps → Agree (Rests s e (Fits s e)) (path_end s (lefts ps)) (path_end e (rights ps))
   unfolding path_end
   end_agrees [] h = something (rest s e (Fits s e) [] tt)
-  end_agrees (p ∷ ps) h = tested (mark_like s e p mark.Assign) (λ is. something (rest s e (Fits s e) (p ∷ ps) h))
+  end_agrees (p ∷ ps) h = agree_tested (mark_like s e p mark.Assign) (λ is. something (rest s e (Fits s e) (p ∷ ps) h))
 
   pub steps_agree : (first : List PathStep) (ps : List (Pair s e)) → Fits s e ps → Agree (Behind s e (Fits s e)) (steps_from s first (lefts ps)) (steps_from e first (rights ps))
   unfolding steps_from
@@ -316,7 +316,7 @@ module _ (s e : List ℕ) where
   unfolding operand_with_pointer
   with_pointer_same p ps h fits =
       rw (same_looked_up addresses (text_of s p.left) (text_of e p.right) h.text)
-      (same_option _ _ (chained _ _ (equal (look_up addresses (text_of e p.right)) (look_up addresses (text_of e p.right)) refl) (λ a b k. rw k (equal _ _ (indirect_same b ps fits)))))
+      (same_option _ _ (agree_chained _ _ (equal (look_up addresses (text_of e p.right)) (look_up addresses (text_of e p.right)) refl) (λ a b k. rw k (equal _ _ (indirect_same b ps fits)))))
 
   or_same : {X : Type 0} (a b c d : Option X) → a ≡ c → b ≡ d → option_or a b ≡ option_or c d
   or_same a b c d h k = rw (h, k) refl

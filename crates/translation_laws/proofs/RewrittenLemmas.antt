@@ -170,9 +170,9 @@ spelled_is source from minus (t ∷ ts) (next, others) =
     ∙ slice_rest source from t.start next.start.forward
 
 -- tokens are pieces that stand
-standing : (source : List ℕ) (from : ℕ) (minus : Bool) (ts : List Token) → ToEnd source from minus ts → ArePiecesStanding minus (pieces_of source from ts) (rest_of source from ts)
-standing source from minus [] h = h
-standing source from minus (t ∷ ts) (next, others) =
+pieces_stand : (source : List ℕ) (from : ℕ) (minus : Bool) (ts : List Token) → ToEnd source from minus ts → ArePiecesStanding minus (pieces_of source from ts) (rest_of source from ts)
+pieces_stand source from minus [] h = h
+pieces_stand source from minus (t ∷ ts) (next, others) =
     let rest = spelled_is source t.end (is_minus t.kind (text_of source t)) ts others in
     let there : text_of source t ++ text_of_pieces (pieces_of source t.end ts) (rest_of source t.end ts) ≡ drop t.start source =
     ap (λ l. text_of source t ++ l) rest ∙ slice_rest source t.start t.end (omega (arith, next.forward)) in
@@ -185,7 +185,7 @@ standing source from minus (t ∷ ts) (next, others) =
         longest = subst (λ l. IsLongestToken l t.kind (length (text_of source t))) (sym there) (subst (λ n. IsLongestToken (drop t.start source) t.kind n) (sym size) next.longest);
         right = next.right;
       },
-      standing source t.end (is_minus t.kind (text_of source t)) ts others,
+      pieces_stand source t.end (is_minus t.kind (text_of source t)) ts others,
     )
 
 pieces_anew : (source : List ℕ) (before : TokenKind) (from : ℕ) (ts : List Token) (ws : List (List ℕ)) → AreRewrittenTexts source before ts ws → ArePiecesAnew before (pieces_of source from ts) ws
@@ -263,7 +263,7 @@ unfolding AreTokens
 rewritten_tokens source ts ws tokens r =
     let ps : List Piece = pieces_of source 0 ts in
     let end : List ℕ = rest_of source 0 ts in
-    let stands = stand Mark false ps ws end (standing source 0 false ts tokens) (pieces_anew source Mark 0 ts ws r) in
+    let stands = stand Mark false ps ws end (pieces_stand source 0 false ts tokens) (pieces_anew source Mark 0 ts ws r) in
     let read = pieces_read (anew ps ws) end stands in
     let text : text_of_pieces (anew ps ws) end ≡ rewritten_source source 0 ts ws = sym (rewritten_is source Mark 0 ts ws r) in
     record {

@@ -24,6 +24,7 @@ use Rattle.de_mnemonics.specs.Tables.{WordPairs, common_jumps, block_end_words, 
 use Rattle.de_mnemonics.specs.Words.{digits_of_word, exchanged_word, instruction_partner, letter_count_of_word, letters_of_word, numbered_partner, operand_partner, partner_in_table, translated_word}
 use Rattle.de_mnemonics.proofs.CaseLemmas.{same_among, same_text}
 use Rattle.de_mnemonics.proofs.WordLemmas.{letters_end}
+use Rattle.translation_laws.specs.Statements.{is_number_class}
 use Rattle.translation_laws.proofs.LetterLemmas.{same_letters}
 
 -- ---- neighbours
@@ -423,9 +424,9 @@ pub record Renumbers (x w : List ℕ) : Type 0 where
   there : is_some (partner_in_table German operand_pairs (letters_of_word x)) ≡ true
   back : is_some (partner_in_table English operand_pairs (letters_of_word w)) ≡ true
 
-renumbered : (x w f : List ℕ) → list_all is_ascii_digit (digits_of_word x) ≡ true → partner_in_table German operand_pairs (letters_of_word x) ≡ Some f
+operand_renumbered : (x w f : List ℕ) → list_all is_ascii_digit (digits_of_word x) ≡ true → partner_in_table German operand_pairs (letters_of_word x) ≡ Some f
     → IsEntry letters_pair (letters_of_word x) f → f ++ digits_of_word x ≡ w → Renumbers x w
-renumbered x w f all there h is =
+operand_renumbered x w f all there h is =
     let first = and_parts (is_word_in_pairs operand_pairs h.pair.0) (is_word_in_pairs operand_pairs h.pair.1 && (list_all (λ b. not (is_ascii_digit b)) h.pair.1 && is_some (partner_in_table English operand_pairs h.pair.1))) h.passes in
     let second = and_parts (is_word_in_pairs operand_pairs h.pair.1) (list_all (λ b. not (is_ascii_digit b)) h.pair.1 && is_some (partner_in_table English operand_pairs h.pair.1)) first.1 in
     let third = and_parts (list_all (λ b. not (is_ascii_digit b)) h.pair.1) (is_some (partner_in_table English operand_pairs h.pair.1)) second.1 in
@@ -450,7 +451,7 @@ numbered_renumbers x w is = by_digits (list_all is_ascii_digit (digits_of_word x
     by_letters : list_all is_ascii_digit (digits_of_word x) ≡ true → (o : Option (List ℕ)) → partner_in_table German operand_pairs (letters_of_word x) ≡ o
         → option_map (λ (found : List ℕ). found ++ digits_of_word x) o ≡ Some w → Renumbers x w
     by_letters all None e found = absurd (none-some w found)
-    by_letters all (Some f) e found = renumbered x w f all e (entry letters_pair operand_pairs (letters_of_word x) f operands_letters e) (same_Some (f ++ digits_of_word x) w found)
+    by_letters all (Some f) e found = operand_renumbered x w f all e (entry letters_pair operand_pairs (letters_of_word x) f operands_letters e) (same_Some (f ++ digits_of_word x) w found)
 
     by_digits : (b : Bool) → list_all is_ascii_digit (digits_of_word x) ≡ b
         → (if b then option_map (λ (found : List ℕ). found ++ digits_of_word x) (partner_in_table German operand_pairs (letters_of_word x)) else None) ≡ Some w → Renumbers x w
@@ -686,10 +687,6 @@ path_opens place.Path b x n e = in_path (is_component b n) (is_operand_place b x
 path_opens place.Inside b x n e = in_path (is_component b n) (is_operand_place b x n) (opens_path place.Inside b) e
 
 -- ---- no name stands behind a number
-
-abbrev pub is_number_class : TokenClass → Bool
-is_number_class class.Number = true
-is_number_class _ = false
 
 -- behind a number no path begins
 abbrev pub IsFit : TokenPlace → TokenClass → Type 0

@@ -27,7 +27,8 @@ use Rattle.de_mnemonics.specs.Words.{marked_name, operand_partner, translated_wo
 use Rattle.translation_laws.specs.Alike.{AreTokensAlike, ComesBackInRole, IsSameWordButForCase, IsOperandWordAsLocal as IsNamedToken, IsSameToken, TreesAlike}
 use Rattle.translation_laws.specs.Rewritten.{AreRewrittenTexts, IsRewrittenText, RewritingKeepsTokens, RewritesSource, ShowRewrittenTexts, kind_of_rewritten, rewritten_source}
 use Rattle.translation_laws.specs.RoundTrip.{ComesBackWithTree, RoundTrips}
-use Rattle.translation_laws.proofs.RoleLemmas.{IsFit, IsNear, fits_next, is_number_class, is_word_kind, kind_plain, path_no_number, role_plain}
+use Rattle.translation_laws.specs.Statements.{is_number_class}
+use Rattle.translation_laws.proofs.RoleLemmas.{IsFit, IsNear, fits_next, is_word_kind, kind_plain, path_no_number, role_plain}
 use Rattle.translation_laws.proofs.BackLemmas.{IsOperandWord, Spellings, StepBack, TextBack, same_is_word, token_back, token_near, word_kind}
 
 -- ---- the texts that a translation writes
@@ -85,21 +86,21 @@ makes language s position (t ∷ ts) (w ∷ ws) are =
 
 -- ---- words are words
 
-abbrev AreWords : List ℕ → List Token → Type 0
-AreWords s [] = Unit {0}
-AreWords s (t ∷ ts) = (t.kind ≡ kind.Word → is_word (text_of s t) ≡ true) × AreWords s ts
+abbrev AreWordTokens : List ℕ → List Token → Type 0
+AreWordTokens s [] = Unit {0}
+AreWordTokens s (t ∷ ts) = (t.kind ≡ kind.Word → is_word (text_of s t) ≡ true) × AreWordTokens s ts
 
 next_is_word : (s : List ℕ) (from : ℕ) (minus : Bool) (t : Token) → IsNextToken s from minus t → t.kind ≡ kind.Word → is_word (text_of s t) ≡ true
 unfolding has_form
 next_is_word s from minus t next is =
     subst (λ k. has_form k (take (t.end - t.start) (drop t.start s)) (drop (t.end - t.start) (drop t.start s)) ≡ true) is next.longest.fits.fits
 
-words_follow : (s : List ℕ) (from : ℕ) (minus : Bool) (ts : List Token) → TokensFollow s (λ from minus. IsEndOfTokens s from) from minus ts → AreWords s ts
+words_follow : (s : List ℕ) (from : ℕ) (minus : Bool) (ts : List Token) → TokensFollow s (λ from minus. IsEndOfTokens s from) from minus ts → AreWordTokens s ts
 words_follow s from minus [] are = tt
 words_follow s from minus (t ∷ ts) are =
     (λ is. next_is_word s from minus t are.0 is, words_follow s t.end (is_minus t.kind (text_of s t)) ts are.1)
 
-words_of : (s : List ℕ) (ts : List Token) → AreTokens s ts → AreWords s ts
+words_of : (s : List ℕ) (ts : List Token) → AreTokens s ts → AreWordTokens s ts
 unfolding AreTokens
 words_of s ts are = words_follow s 0 false ts are
 
@@ -157,7 +158,7 @@ token_rewritten spelled p b before kind.Attribute x w n fit stands word is = oth
 token_rewritten spelled p b before kind.Title x w n fit stands word is = other_rewritten p b before kind.Title x w n refl is
 
 there_rewritten : Spellings → (s : List ℕ) (position : TranslationPosition) (before : TokenKind) (ts : List Token) (ws : List (List ℕ)) → IsFit position.place position.before
-    → IsBefore before position.before → AreWords s ts → AreWritten German s position ts ws → AreRewrittenTexts s before ts ws
+    → IsBefore before position.before → AreWordTokens s ts → AreWritten German s position ts ws → AreRewrittenTexts s before ts ws
 there_rewritten spelled s position before [] [] fit stands words are = tt
 there_rewritten spelled s position before [] (w ∷ ws) fit stands words are = are
 there_rewritten spelled s position before (t ∷ ts) [] fit stands words are = are
@@ -220,7 +221,7 @@ record IsPositionNear (position position' : TranslationPosition) : Type 0 where
   place : position'.place ≡ position.place
   before : IsNear position.before position'.before
 
-returns : Spellings → (s g : List ℕ) (position position' : TranslationPosition) (ts : List Token) (ws : List (List ℕ)) (us : List Token) → IsPositionNear position position' → AreWords s ts
+returns : Spellings → (s g : List ℕ) (position position' : TranslationPosition) (ts : List Token) (ws : List (List ℕ)) (us : List Token) → IsPositionNear position position' → AreWordTokens s ts
     → AreWritten German s position ts ws → ShowRewrittenTexts g ts ws us → Returns s g position position' ts us
 returns spelled s g position position' [] [] [] near words are shows = record { texts = []; are = tt; kept = tt }
 returns spelled s g position position' [] [] (u ∷ us) near words are shows = absurd shows
@@ -294,7 +295,7 @@ token_again p b before k x v n fit stands word back =
       | inr stays ↦ inl (sym (back_stays (role_of p b (class_of k x) x n) x v stays back))
     ]
 
-back_again : (s : List ℕ) (p : TokenPlace) (b : TokenClass) (before : TokenKind) (ts : List Token) (vs : List (List ℕ)) → IsFit p b → IsBefore before b → AreWords s ts
+back_again : (s : List ℕ) (p : TokenPlace) (b : TokenClass) (before : TokenKind) (ts : List Token) (vs : List (List ℕ)) → IsFit p b → IsBefore before b → AreWordTokens s ts
     → AreBack s p b ts vs → AreRewrittenTexts s before ts vs
 back_again s p b before [] [] fit stands words back = tt
 back_again s p b before [] (v ∷ vs) fit stands words back = back
@@ -373,7 +374,7 @@ comes s e t u v role.Path (inl is) word shows (inl same) = inl (same_token s e t
 comes s e t u v role.Path (inl is) word shows (inr named_) = inr (named_token s e t u v is shows named_.0 named_.1)
 comes s e t u v role.Path (inr other) word shows back = absurd cc
 
-alike : (s e : List ℕ) (p : TokenPlace) (b : TokenClass) (ts : List Token) (vs : List (List ℕ)) (us : List Token) → AreWords s ts → AreBack s p b ts vs → ShowRewrittenTexts e ts vs us
+alike : (s e : List ℕ) (p : TokenPlace) (b : TokenClass) (ts : List Token) (vs : List (List ℕ)) (us : List Token) → AreWordTokens s ts → AreBack s p b ts vs → ShowRewrittenTexts e ts vs us
     → AreTokensAlike s e p b ts us
 alike s e p b [] [] [] words back shows = tt
 alike s e p b [] [] (u ∷ us) words back shows = absurd shows
@@ -406,7 +407,7 @@ comes_back : Laws → (s : List ℕ) (ts : List Token) (tree : Tree) (ws : List 
     → ComesBackWithTree (rewritten_source s 0 ts ws) tree
 unfolding translation_of
 comes_back laws s ts tree ws are is there =
-    let words : AreWords s ts = words_of s ts are in
+    let words : AreWordTokens s ts = words_of s ts are in
     let german : RewritesSource s ts ws = laws.keeps s ts ws are (there_rewritten laws.spelled s front_position kind.Mark ts ws front_fits front_stands words there) in
     let back : Returns s (rewritten_source s 0 ts ws) front_position front_position ts german.us =
     returns laws.spelled s (rewritten_source s 0 ts ws) front_position front_position ts ws german.us (record { place = refl; before = inl refl }) words there german.shows in

@@ -25,7 +25,7 @@ use Rattle.stl_parser.specs.declared.keywords.ClauseWord.TheVariants as key
 use Rattle.stl_parser.specs.declared.statements.BareStatement.{BareStatement}
 use Rattle.stl_parser.specs.declared.tables.AddressKind.{AddressKind}
 use Rattle.stl_parser.specs.declared.tables.OperandSyntax.{OperandSyntax}
-use Rattle.stl_parser.specs.declared.tables.OperandSyntax.TheVariants as form
+use Rattle.stl_parser.specs.declared.tables.OperandSyntax.TheVariants as operand_syntax
 use Rattle.stl_parser.specs.declared.keywords.ClauseWord.{ClauseWord}
 use Rattle.stl_parser.specs.Addresses.{address_at, block_at, block_number_at, glued_letters_and_number, letter_count, letters_and_number_at, quoted_block_at, separate_letters_and_number}
 use Rattle.stl_parser.specs.Literals.{literal_at, literal_of, literal_token, long_literal, truth_of, text_between_quotes}
@@ -35,7 +35,7 @@ use Rattle.stl_parser.specs.Parts.{parts_from}
 use Rattle.stl_parser.specs.Statements.{actual_at, actuals_behind, actuals_end, actuals_of, after_paren, behind_word, block_call_of, call_of, one_token_instruction, data_block_at, instance_at, instruction_of, is_long_label, jump_of, labelled_statement, may_be_of_kind, next_actual, open_of, opening_instruction, statement_without_actuals, statement_with_label, statement_of, unlabelled_statement, value_ends, value_length, value_of, statement_with_operand, zone_end_of}
 use Rattle.stl_parser.specs.Tables.{addresses, look_up, mnemonics, opening_mnemonics}
 use Rattle.stl_parser.specs.Terminals.{has_kind, is_key, is_mark, key_text, kind_rank}
-use Rattle.translation_laws.proofs.AgreeAlikeLemmas.{Agree, Behind, Equal, Follows, Pair, Rests, IsSamePair, also, counts, decided, guarded, equal, goes_on, lefts, mapped, nothing, of_none, parts_follow, rest, rights, something, tested, then_decided, then_either, then_goes_on, then_mapped, then_nothing, whole_follows, whole_same}
+use Rattle.translation_laws.proofs.AgreeAlikeLemmas.{Agree, Behind, Equal, Follows, Pair, Rests, IsSamePair, also, counts, agree_decided, agree_guarded, equal, goes_on, lefts, agree_mapped, nothing, of_none, parts_follow, rest, rights, something, agree_tested, then_decided, then_either, then_goes_on, then_mapped, then_nothing, whole_follows, whole_same}
 use Rattle.translation_laws.proofs.LikeAlikeLemmas.{key_like, kind_like, mark_like, no_key, no_mark, of_kind, same_kind, text_like}
 use Rattle.translation_laws.proofs.NumberAlikeLemmas.{block_agrees}
 use Rattle.translation_laws.proofs.OperandAlikeLemmas.{Fits, HeadForeign, HeadSame, JoinedTo, apart, closed, first, foreign_none, operand_follows, operand_same_or, second}
@@ -149,7 +149,7 @@ module _ (s e : List ℕ) where
 
   actuals_end_agree : (ps : List (Pair s e)) → Fits s e ps → Agree (Rests s e (Fits s e)) (actuals_end s (lefts ps)) (actuals_end e (rights ps))
   unfolding actuals_end
-  actuals_end_agree (p ∷ []) h = tested (mark_like s e p mark.CloseParen) (λ is. something (rest s e (Fits s e) [] tt))
+  actuals_end_agree (p ∷ []) h = agree_tested (mark_like s e p mark.CloseParen) (λ is. something (rest s e (Fits s e) [] tt))
   actuals_end_agree _ h = nothing
 
   actuals_behind_follow : (ps : List (Pair s e)) → Fits s e ps → Follows Equal (actuals_behind s (lefts ps)) (actuals_behind e (rights ps))
@@ -171,14 +171,14 @@ module _ (s e : List ℕ) where
 
   data_block_agrees : (ps : List (Pair s e)) → Fits s e ps → Agree (Behind s e (Fits s e) {X = BlockName}) (data_block_at s (lefts ps)) (data_block_at e (rights ps))
   unfolding data_block_at
-  data_block_agrees ps h = goes_on _ _ (blocks ps h) (λ x qs k. guarded (may_be_of_kind x is_data_block) (something (refl, rest s e (Fits s e) qs k)))
+  data_block_agrees ps h = goes_on _ _ (blocks ps h) (λ x qs k. agree_guarded (may_be_of_kind x is_data_block) (something (refl, rest s e (Fits s e) qs k)))
 
   instance_agrees : (name : BlockName) (ps : List (Pair s e)) → Fits s e ps → Agree (Behind s e (Fits s e) {X = Option BlockName}) (instance_at s name (lefts ps)) (instance_at e name (rights ps))
   unfolding instance_at
   instance_agrees name [] h = something (refl, rest s e (Fits s e) [] tt)
   instance_agrees name (p ∷ ps) h =
-      decided (mark_like s e p mark.Comma)
-      (λ is. guarded (may_be_of_kind name is_function_block) (mapped _ _ (data_block_agrees ps h.2) (λ x y k. (ap Some k.0, k.1))))
+      agree_decided (mark_like s e p mark.Comma)
+      (λ is. agree_guarded (may_be_of_kind name is_function_block) (agree_mapped _ _ (data_block_agrees ps h.2) (λ x y k. (ap Some k.0, k.1))))
       (λ isnt. something (refl, rest s e (Fits s e) (p ∷ ps) h))
 
   call_follows : (code : Mnemonic) (ps : List (Pair s e)) → Fits s e ps → Follows Equal (call_of s code (lefts ps)) (call_of e code (rights ps))
@@ -226,16 +226,16 @@ module _ (s e : List ℕ) where
 
   -- of a jump the first token behind the word is the same
   abbrev pub Labels : OperandSyntax → List (Pair s e) → Type 0
-  Labels form.Jump ps = HeadSame s e ps
+  Labels operand_syntax.Jump ps = HeadSame s e ps
   Labels _ ps = Unit {0}
 
   behind_follows : (f : OperandSyntax) (code : Mnemonic) (ps : List (Pair s e)) → Fits s e ps → Labels f ps → Follows Equal (behind_word s f code (lefts ps)) (behind_word e f code (rights ps))
   unfolding behind_word
-  behind_follows form.Operand code ps h same = with_operand_follows code ps h
-  behind_follows form.Jump code ps h same = jump_follows code ps h same
-  behind_follows form.Open code ps h same = open_follows code ps h
-  behind_follows form.BlockCall code ps h same = also (equal _ _ (block_call_same code ps h))
-  behind_follows form.Call code ps h same = call_follows code ps h
+  behind_follows operand_syntax.Operand code ps h same = with_operand_follows code ps h
+  behind_follows operand_syntax.Jump code ps h same = jump_follows code ps h same
+  behind_follows operand_syntax.Open code ps h same = open_follows code ps h
+  behind_follows operand_syntax.BlockCall code ps h same = also (equal _ _ (block_call_same code ps h))
+  behind_follows operand_syntax.Call code ps h same = call_follows code ps h
 
   -- ---- instructions
 
@@ -339,11 +339,11 @@ module _ (s e : List ℕ) where
 
   paren_behind : (f : OperandSyntax) (code : Mnemonic) (t : Token) (ts : List Token) → is_mark s t mark.OpenParen ≡ true → behind_word s f code (t ∷ ts) ≡ None
   unfolding behind_word block_call_of call_of
-  paren_behind form.Operand code t ts is = paren_with code t ts is
-  paren_behind form.Jump code t ts is = paren_jump code t ts is
-  paren_behind form.Open code t ts is = paren_open code t ts is
-  paren_behind form.BlockCall code t ts is = rw (paren_block t ts is) refl
-  paren_behind form.Call code t ts is = rw (paren_block t ts is) refl
+  paren_behind operand_syntax.Operand code t ts is = paren_with code t ts is
+  paren_behind operand_syntax.Jump code t ts is = paren_jump code t ts is
+  paren_behind operand_syntax.Open code t ts is = paren_open code t ts is
+  paren_behind operand_syntax.BlockCall code t ts is = rw (paren_block t ts is) refl
+  paren_behind operand_syntax.Call code t ts is = rw (paren_block t ts is) refl
 
   nothing_of : {X Y : Type 0} (o : Option X) → option_and_then {T = X} {U = Y} (λ x. None) o ≡ None
   nothing_of None = refl
@@ -493,7 +493,7 @@ module _ (s e : List ℕ) where
       or_none _ _ (ap (option_map operand.Constant) (zone_literal w u us is))
       (ap (λ k. operand_by_kind s w (u ∷ us) (w ∷ u ∷ us) k) (is_word w key.Mcr is) ∙ zone_rest w u us is word)
 
-  closing : (t : Token) → is_mark s t mark.CloseParen ≡ true → look_up mnemonics (text_of s t) ≡ Some (mnemonic.Close, form.Operand)
+  closing : (t : Token) → is_mark s t mark.CloseParen ≡ true → look_up mnemonics (text_of s t) ≡ Some (mnemonic.Close, operand_syntax.Operand)
   unfolding look_up mnemonics is_mark mark_text
   closing t is = same_looked_up mnemonics (text_of s t) (codes ")") (second (has_kind t kind.Mark) (str_eq_ignore_ascii_case (text_of s t) (codes ")")) is)
 

@@ -248,10 +248,10 @@ opening_class class.CloseParen e = absurd (false≢true e)
 opening_class class.Pointer e = absurd (false≢true e)
 opening_class class.Other e = absurd (false≢true e)
 
-opened : (b : TokenClass) (x : List ℕ) (n : TokenClass)
+path_opened : (b : TokenClass) (x : List ℕ) (n : TokenClass)
     → (role_of place.Instruction b class.OpenParen x n ≡ role.Stays) × (place_behind place.Instruction b class.OpenParen x n ≡ place.Path)
 unfolding role_of place_behind place_behind_sign
-opened b x n = (refl, refl)
+path_opened b x n = (refl, refl)
 
 opening_rest : (s : List ℕ) (inside : List Token) (semicolon : Token) (rest : List Token) → Ends s inside semicolon
     → roles_from s place.Instruction class.Word (inside ++ semicolon ∷ rest) ≡ opening_roles s (inside ++ semicolon ∷ []) ++ Next s rest
@@ -267,7 +267,7 @@ opening_rest s (t ∷ inside) semicolon rest h = by (is_opening_class (class_in 
         else roles_beside s true class.Word (t ∷ (inside ++ semicolon ∷ []))) ++ Next s rest
     by true e =
         let is : class_in s t ≡ class.OpenParen = opening_class (class_in s t) e in
-        let facts = opened class.Word (text_of s t) (next_class s (inside ++ semicolon ∷ rest)) in
+        let facts = path_opened class.Word (text_of s t) (next_class s (inside ++ semicolon ∷ rest)) in
         step s place.Instruction place.Path class.Word t (inside ++ semicolon ∷ rest) role.Stays (roles_beside s true class.OpenParen (inside ++ semicolon ∷ []) ++ Next s rest)
         (ap (λ c. role_of place.Instruction class.Word c (text_of s t) (next_class s (inside ++ semicolon ∷ rest))) is ∙ facts.0)
         (ap (λ c. place_behind place.Instruction class.Word c (text_of s t) (next_class s (inside ++ semicolon ∷ rest))) is ∙ facts.1)

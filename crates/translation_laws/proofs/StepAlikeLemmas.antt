@@ -22,7 +22,7 @@ use Rattle.stl_parser.specs.declared.clauses.Clause.TheVariants as clause
 use Rattle.stl_parser.specs.declared.places.ClausePlace.{ClausePlace}
 use Rattle.stl_parser.specs.declared.tables.HeadWord.{HeadWord}
 use Rattle.stl_parser.specs.declared.tables.OperandSyntax.{OperandSyntax}
-use Rattle.stl_parser.specs.declared.tables.OperandSyntax.TheVariants as form
+use Rattle.stl_parser.specs.declared.tables.OperandSyntax.TheVariants as operand_syntax
 use Rattle.stl_parser.specs.declared.tables.Keyword.{Keyword}
 use Rattle.stl_parser.specs.Clauses.{base_block_at, behind_note, clause_at, clause_by_kind, declaration_clause, first_step, free_word_clause, head_word_clause, in_data_head, inside_clause, is_outer, keyword_clause, level_at, other_clause, plain_clause, semicolon_clause, semicolon_place, setting_clause, setting_of, statement_clause, structure_clause, takes_parameters, until_semicolon, value_behind, word_clause}
 use Rattle.stl_parser.specs.Declarations.{declaration_of, declared_name_at}
@@ -130,12 +130,12 @@ module _ (s e : List ℕ) where
       }
 
   labels_same : (f : OperandSyntax) (ps : List (Pair s e)) → AllSame ps → Labels s e f ps
-  labels_same form.Jump [] h = tt
-  labels_same form.Jump (p ∷ ps) h = h.0
-  labels_same form.Operand ps h = tt
-  labels_same form.Open ps h = tt
-  labels_same form.BlockCall ps h = tt
-  labels_same form.Call ps h = tt
+  labels_same operand_syntax.Jump [] h = tt
+  labels_same operand_syntax.Jump (p ∷ ps) h = h.0
+  labels_same operand_syntax.Operand ps h = tt
+  labels_same operand_syntax.Open ps h = tt
+  labels_same operand_syntax.BlockCall ps h = tt
+  labels_same operand_syntax.Call ps h = tt
 
   first_same : (p : Pair s e) (ps : List (Pair s e)) → IsSamePair p → AllSame ps → IsFirst s e p ps
   first_same p ps same h = record {
@@ -340,10 +340,10 @@ module _ (s e : List ℕ) where
     -- ---- outside of bodies
 
     -- the tokens of such a clause are the same up to its `;`
-    abbrev pub Held : ClausePlace → ℕ → List (Pair s e) → Clause × List Token × Bool → Type 0
-    Held cp line ps r = (n : ℕ) (cut : IsCut s e n ps) → r.1 ≡ lefts cut.rest → (x : Clause × Bool) → x.0 ≡ r.0 → inside_clause s cp line (lefts (take n ps)) ≡ Some x → AllSame s e (take n ps)
+    abbrev pub SameToSemicolon : ClausePlace → ℕ → List (Pair s e) → Clause × List Token × Bool → Type 0
+    SameToSemicolon cp line ps r = (n : ℕ) (cut : IsCut s e n ps) → r.1 ≡ lefts cut.rest → (x : Clause × Bool) → x.0 ≡ r.0 → inside_clause s cp line (lefts (take n ps)) ≡ Some x → AllSame s e (take n ps)
 
-    plain_gives : (cp : ClausePlace) (line : ℕ) (p : Pair s e) (ps : List (Pair s e)) → F (p ∷ ps) → IsSamePair p → (r : Clause × List Token × Bool) → Held cp line (p ∷ ps) r
+    plain_gives : (cp : ClausePlace) (line : ℕ) (p : Pair s e) (ps : List (Pair s e)) → F (p ∷ ps) → IsSamePair p → (r : Clause × List Token × Bool) → SameToSemicolon cp line (p ∷ ps) r
         → plain_clause s cp line (p.left ∷ lefts ps) ≡ Some r → IsFound r (plain_clause e cp line (p.right ∷ rights ps))
     unfolding plain_clause
     plain_gives cp line p ps h same r held is =
@@ -353,7 +353,7 @@ module _ (s e : List ℕ) where
         agrees : Agree (NamedRead s e F behind beside p) (structure_clause s cp (p.left ∷ lefts ps)) (structure_clause e cp (p.right ∷ rights ps))
         agrees = structure_clause_agrees s e F behind beside cp p ps h (same_kind s e p.left p.right kind.Word same)
 
-    other_gives : (cp : ClausePlace) (line : ℕ) (p : Pair s e) (ps : List (Pair s e)) → F (p ∷ ps) → IsSamePair p → (r : Clause × List Token × Bool) → Held cp line (p ∷ ps) r
+    other_gives : (cp : ClausePlace) (line : ℕ) (p : Pair s e) (ps : List (Pair s e)) → F (p ∷ ps) → IsSamePair p → (r : Clause × List Token × Bool) → SameToSemicolon cp line (p ∷ ps) r
         → other_clause s cp line (p.left ∷ lefts ps) ≡ Some r → IsFound r (other_clause e cp line (p.right ∷ rights ps))
     unfolding other_clause
     other_gives cp line p ps h same r held = by (in_data_head cp)
@@ -372,7 +372,7 @@ module _ (s e : List ℕ) where
         by None is = absurd (no_read r is)
         by (Some ts) is = sym (ap (λ (z : Clause × List Token × Bool). z.0) (same_Some (clause.Note, behind_note s cp ts, false) r is))
 
-    free_gives : (cp : ClausePlace) (p : Pair s e) (ps : List (Pair s e)) → F (p ∷ ps) → IsSamePair p → (r : Clause × List Token × Bool) → Held cp p.left.line (p ∷ ps) r
+    free_gives : (cp : ClausePlace) (p : Pair s e) (ps : List (Pair s e)) → F (p ∷ ps) → IsSamePair p → (r : Clause × List Token × Bool) → SameToSemicolon cp p.left.line (p ∷ ps) r
         → (r.0 ≡ clause.Note → NoteKind s e F behind beside ps) → (o : Option HeadWord)
         → free_word_clause s cp p.left (lefts ps) (p.left ∷ lefts ps) o ≡ Some r → IsFound r (free_word_clause e cp p.right (rights ps) (p.right ∷ rights ps) o)
     unfolding free_word_clause
@@ -385,7 +385,7 @@ module _ (s e : List ℕ) where
         by true is = agree_gives r _ _ (head_word_agrees s e F behind beside cp w ps (behind p ps h) (note (note_only cp w (lefts ps) r is))) is
         by false is = subst (λ (l : ℕ). IsFound r (other_clause e cp l (p.right ∷ rights ps))) same.line (other_gives cp p.left.line p ps h same r held is)
 
-    word_gives : (cp : ClausePlace) (p : Pair s e) (ps : List (Pair s e)) → F (p ∷ ps) → IsSamePair p → (r : Clause × List Token × Bool) → Held cp p.left.line (p ∷ ps) r
+    word_gives : (cp : ClausePlace) (p : Pair s e) (ps : List (Pair s e)) → F (p ∷ ps) → IsSamePair p → (r : Clause × List Token × Bool) → SameToSemicolon cp p.left.line (p ∷ ps) r
         → (r.0 ≡ clause.Note → NoteKind s e F behind beside ps) → (o : Option Keyword)
         → word_clause s cp p.left (lefts ps) (p.left ∷ lefts ps) o ≡ Some r → IsFound r (word_clause e cp p.right (rights ps) (p.right ∷ rights ps) o)
     unfolding word_clause
@@ -396,7 +396,7 @@ module _ (s e : List ℕ) where
         subst (λ (w : List ℕ). IsFound r (free_word_clause e cp p.right (rights ps) (p.right ∷ rights ps) (look_up head_words w))) same.text
         (free_gives cp p ps h same r held note (look_up head_words (text_of s p.left)) is)
 
-    kind_gives : (cp : ClausePlace) (p : Pair s e) (ps : List (Pair s e)) → F (p ∷ ps) → IsSamePair p → (r : Clause × List Token × Bool) → Held cp p.left.line (p ∷ ps) r
+    kind_gives : (cp : ClausePlace) (p : Pair s e) (ps : List (Pair s e)) → F (p ∷ ps) → IsSamePair p → (r : Clause × List Token × Bool) → SameToSemicolon cp p.left.line (p ∷ ps) r
         → (r.0 ≡ clause.Note → NoteKind s e F behind beside ps) → (k : TokenKind)
         → clause_by_kind s cp p.left (lefts ps) (p.left ∷ lefts ps) k ≡ Some r → IsFound r (clause_by_kind e cp p.right (rights ps) (p.right ∷ rights ps) k)
     unfolding clause_by_kind
@@ -410,7 +410,7 @@ module _ (s e : List ℕ) where
     kind_gives cp p ps h same r held note _ is =
         subst (λ (l : ℕ). IsFound r (other_clause e cp l (p.right ∷ rights ps))) same.line (other_gives cp p.left.line p ps h same r held is)
 
-    pub clause_gives : (cp : ClausePlace) (p : Pair s e) (ps : List (Pair s e)) → F (p ∷ ps) → IsSamePair p → (r : Clause × List Token × Bool) → Held cp p.left.line (p ∷ ps) r
+    pub clause_gives : (cp : ClausePlace) (p : Pair s e) (ps : List (Pair s e)) → F (p ∷ ps) → IsSamePair p → (r : Clause × List Token × Bool) → SameToSemicolon cp p.left.line (p ∷ ps) r
         → (r.0 ≡ clause.Note → NoteKind s e F behind beside ps)
         → clause_at s cp (p.left ∷ lefts ps) ≡ Some r → IsFound r (clause_at e cp (p.right ∷ rights ps))
     unfolding clause_at

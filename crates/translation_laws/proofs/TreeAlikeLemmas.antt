@@ -39,7 +39,7 @@ use Rattle.translation_laws.proofs.LikeAlikeLemmas.{same_kind}
 use Rattle.translation_laws.proofs.BodyAlikeLemmas.{Weak, body_gives}
 use Rattle.translation_laws.proofs.CalmLemmas.{AreCalm, IsCalmClause, calm_of, is_statement, last_class}
 use Rattle.translation_laws.proofs.ClauseAlikeLemmas.{NoteKind}
-use Rattle.translation_laws.proofs.FormAlikeLemmas.{AreFormed, formed, start_front, statement_from, statement_walked}
+use Rattle.translation_laws.proofs.FormAlikeLemmas.{AreFormed, tokens_formed, start_front, statement_from, statement_walked}
 use Rattle.translation_laws.proofs.FrameAlikeLemmas.{Stands, is_body, is_note, is_quiet, place_after, quiet_place}
 use Rattle.translation_laws.proofs.StatementAlikeLemmas.{lefts_drop, lefts_take}
 use Rattle.translation_laws.proofs.StepAlikeLemmas.{AllSame, IsFound, clause_gives, cut_at, inside_no_begin, next_drop}
@@ -166,8 +166,8 @@ module _ (frame : Frame) (s e : List ℕ) where
       → is_some (operand_partner English (text_of s p.left)) ≡ false → OpensNone q
   tail_apart all p q ps h named isnt = h.weak.0 named isnt
 
-  abbrev Found : List (Pair s e) → Clause × List Token × Bool → Option (Clause × List Token × Bool) → Type 0
-  Found all r o = IsFound s e (IsTail all) (tail_closed all) (tail_apart all) r o
+  abbrev IsFoundHere : List (Pair s e) → Clause × List Token × Bool → Option (Clause × List Token × Bool) → Type 0
+  IsFoundHere all r o = IsFound s e (IsTail all) (tail_closed all) (tail_apart all) r o
 
   -- the same clause of the other source, and where the walk stands behind it
   pub record IsStep (cp : ClausePlace) (c : Clause) (next : ClausePlace) (rest : List Token) (ps : List (Pair s e)) : Type 0 where
@@ -185,7 +185,7 @@ module _ (frame : Frame) (s e : List ℕ) where
 
   -- what was found, with the walk behind it
   joined : (cp : ClausePlace) (c : Clause) (next : ClausePlace) (rest : List Token) (ps qs : List (Pair s e)) (n : ℕ) (pl : TokenPlace) (b : TokenClass)
-      → Found ps (c, rest, false) (clause_at e cp (rights ps)) → drop n ps ≡ qs → lefts qs ≡ rest → Walk s e pl b qs → Stands next pl b → IsStep cp c next rest ps
+      → IsFoundHere ps (c, rest, false) (clause_at e cp (rights ps)) → drop n ps ≡ qs → lefts qs ≡ rest → Walk s e pl b qs → Stands next pl b → IsStep cp c next rest ps
   joined cp c next rest ps qs n pl b f at left walk stands =
       let r = f.rests in
       let same : r.pairs ≡ qs = sym r.fits.at ∙ same_drop r.fits.count n ps
@@ -451,7 +451,7 @@ alike_by frame s e ts us t are alike is =
       clauses = is.clauses;
       reads = subst (λ (l : List Token). ReadsClauses e clause_place.Outside l is.clauses clause_place.Outside []) z.right
           (reads_alike frame s e is.clauses clause_place.Outside place.Outside class.Other z.pairs
-          (subst (λ (l : List Token). AreFormed s l) (sym z.left) (formed s ts are)) (refl, refl) z.walk
+          (subst (λ (l : List Token). AreFormed s l) (sym z.left) (tokens_formed s ts are)) (refl, refl) z.walk
           (subst (λ (l : List Token). ReadsClauses s clause_place.Outside l is.clauses clause_place.Outside []) (sym z.left) is.reads));
       those = is.those;
     }

@@ -19,7 +19,7 @@ use Rattle.stl_parser.specs.Tables.{look_up, simple_types}
 use Rattle.stl_parser.specs.Terminals.{has_kind}
 use Rattle.stl_parser.specs.Types.{array_at, array_end, array_high, arrays_at, arrays_end, end_of_tokens, counted_init_at, counted_init_end, element_at, init_at, init_list, init_of, next_init, no_array, simple_at, single_init, udt_at, udt_of}
 use Rattle.de_mnemonics.specs.Words.{operand_partner}
-use Rattle.translation_laws.proofs.AgreeAlikeLemmas.{Agree, Behind, IsNamedPair, IsSamePair, Like, OpensNone, Pair, Rests, chained, chosen, counts, either, equal, goes_on, if_same, lefts, mapped, nothing, parts_agree, rest, rights, same_option, something, tested, whole_same}
+use Rattle.translation_laws.proofs.AgreeAlikeLemmas.{Agree, Behind, IsNamedPair, IsSamePair, Like, OpensNone, Pair, Rests, agree_chained, agree_chosen, counts, either, equal, goes_on, if_same, lefts, agree_mapped, nothing, parts_agree, rest, rights, same_option, something, agree_tested, whole_same}
 use Rattle.translation_laws.proofs.LikeAlikeLemmas.{itself, key_like, kind_like, mark_like, named_no_key, of_kind, same_kind}
 use Rattle.translation_laws.proofs.NumberAlikeLemmas.{block_agrees, both_marks, int_agrees, literal_agrees, literal_same, number_of_like}
 use Rattle.translation_laws.proofs.TextAlikeLemmas.{Same, is_operand, no_type}
@@ -32,7 +32,7 @@ module _ (s e : List ℕ) (F : List (Pair s e) → Type 0) (closed : (p : Pair s
   array_end_agrees : (low high : ℤ) (ps : List (Pair s e)) → F ps → Agree (Behind s e F {X = Bounds}) (array_end s low high (lefts ps)) (array_end e low high (rights ps))
   unfolding array_end
   array_end_agrees low high (p ∷ q ∷ ps) h =
-      tested (both_marks s e F closed apart (mark_like s e p mark.CloseBracket) (key_like s e q key.Of))
+      agree_tested (both_marks s e F closed apart (mark_like s e p mark.CloseBracket) (key_like s e q key.Of))
       (λ is. something (refl, rest s e F ps (closed q ps (closed p (q ∷ ps) h))))
   array_end_agrees low high _ h = nothing
 
@@ -40,13 +40,13 @@ module _ (s e : List ℕ) (F : List (Pair s e) → Type 0) (closed : (p : Pair s
   unfolding array_high
   array_high_agrees low [] h = nothing
   array_high_agrees low (p ∷ ps) h =
-      tested (mark_like s e p mark.DotDot)
+      agree_tested (mark_like s e p mark.DotDot)
       (λ is. goes_on _ _ (int_agrees s e F closed apart ps (closed p ps h)) (λ n qs k. array_end_agrees low n qs k))
 
   array_agrees : (ps : List (Pair s e)) → F ps → Agree (Behind s e F {X = Bounds}) (array_at s (lefts ps)) (array_at e (rights ps))
   unfolding array_at
   array_agrees (p ∷ q ∷ ps) h =
-      tested (both_marks s e F closed apart (key_like s e p key.Array) (mark_like s e q mark.OpenBracket))
+      agree_tested (both_marks s e F closed apart (key_like s e p key.Array) (mark_like s e q mark.OpenBracket))
       (λ is. goes_on _ _ (int_agrees s e F closed apart ps (closed q ps (closed p (q ∷ ps) h))) (λ n qs k. array_high_agrees n qs k))
   array_agrees _ h = nothing
 
@@ -72,8 +72,8 @@ module _ (s e : List ℕ) (F : List (Pair s e) → Type 0) (closed : (p : Pair s
       → Agree (Behind s e F {X = ElementType}) (simple_at s p.left (lefts ps)) (simple_at e p.right (rights ps))
   unfolding simple_at
   type_there p ps h kinds text =
-      tested kinds (λ is. chosen (key_like s e p key.DateAndTime) (something (refl, rest s e F ps h))
-      (mapped _ _ (equal _ _ (same_looked_up simple_types (text_of s p.left) (text_of e p.right) text)) (λ x y k. (ap element.Plain k, rest s e F ps h))))
+      agree_tested kinds (λ is. agree_chosen (key_like s e p key.DateAndTime) (something (refl, rest s e F ps h))
+      (agree_mapped _ _ (equal _ _ (same_looked_up simple_types (text_of s p.left) (text_of e p.right) text)) (λ x y k. (ap element.Plain k, rest s e F ps h))))
 
   name_no_type : (p : Pair s e) (ps : List (Pair s e)) → IsNamedPair p → Agree (Behind s e F {X = ElementType}) (simple_at s p.left (lefts ps)) (simple_at e p.right (rights ps))
   unfolding simple_at
@@ -101,7 +101,7 @@ module _ (s e : List ℕ) (F : List (Pair s e) → Type 0) (closed : (p : Pair s
   unfolding udt_at
   udt_agrees ps h =
       goes_on _ _ (block_agrees s e F closed apart ps h)
-      (λ x qs k. mapped _ _ (equal (udt_of x) (udt_of x) refl) (λ a b l. (ap element.Udt l, rest s e F qs k)))
+      (λ x qs k. agree_mapped _ _ (equal (udt_of x) (udt_of x) refl) (λ a b l. (ap element.Udt l, rest s e F qs k)))
 
   pub element_agrees : (ps : List (Pair s e)) → F ps → Agree (Behind s e F {X = ElementType}) (element_at s (lefts ps)) (element_at e (rights ps))
   unfolding element_at
@@ -113,13 +113,13 @@ module _ (s e : List ℕ) (F : List (Pair s e) → Type 0) (closed : (p : Pair s
   counted_end_agrees : (count : ℕ) (value : Literal) (ps : List (Pair s e)) → F ps → Agree (Behind s e F {X = Init}) (counted_init_end s count value (lefts ps)) (counted_init_end e count value (rights ps))
   unfolding counted_init_end
   counted_end_agrees count value [] h = nothing
-  counted_end_agrees count value (p ∷ ps) h = tested (mark_like s e p mark.CloseParen) (λ is. something (refl, rest s e F ps (closed p ps h)))
+  counted_end_agrees count value (p ∷ ps) h = agree_tested (mark_like s e p mark.CloseParen) (λ is. something (refl, rest s e F ps (closed p ps h)))
 
   counted_agrees : (ps : List (Pair s e)) → F ps → Agree (Behind s e F {X = Init}) (counted_init_at s (lefts ps)) (counted_init_at e (rights ps))
   unfolding counted_init_at
   counted_agrees (p ∷ q ∷ ps) h =
-      tested (mark_like s e q mark.OpenParen)
-      (λ is. chained _ _ (equal _ _ (number_of_like s e F closed apart p))
+      agree_tested (mark_like s e q mark.OpenParen)
+      (λ is. agree_chained _ _ (equal _ _ (number_of_like s e F closed apart p))
       (λ n m k. rw k (goes_on _ _ (literal_agrees s e F closed apart ps (closed q ps (closed p (q ∷ ps) h))) (λ l qs j. counted_end_agrees m l qs j))))
   counted_agrees _ h = nothing
 
@@ -131,12 +131,12 @@ module _ (s e : List ℕ) (F : List (Pair s e) → Type 0) (closed : (p : Pair s
 
   init_agrees : (ps : List (Pair s e)) → F ps → Agree (Behind s e F {X = Init}) (init_at s (lefts ps)) (init_at e (rights ps))
   unfolding init_at
-  init_agrees ps h = either (counted_agrees ps h) (mapped _ _ (literal_agrees s e F closed apart ps h) (λ x y k. (value_is x.0 y.0 k.0, k.1)))
+  init_agrees ps h = either (counted_agrees ps h) (agree_mapped _ _ (literal_agrees s e F closed apart ps h) (λ x y k. (value_is x.0 y.0 k.0, k.1)))
 
   next_agrees : (ps : List (Pair s e)) → F ps → Agree (Behind s e F {X = Init}) (next_init s (lefts ps)) (next_init e (rights ps))
   unfolding next_init
   next_agrees [] h = nothing
-  next_agrees (p ∷ ps) h = tested (mark_like s e p mark.Comma) (λ is. init_agrees ps (closed p ps h))
+  next_agrees (p ∷ ps) h = agree_tested (mark_like s e p mark.Comma) (λ is. init_agrees ps (closed p ps h))
 
   at_end_agrees : (ps : List (Pair s e)) → F ps → Agree (Rests s e F) (end_of_tokens (lefts ps)) (end_of_tokens (rights ps))
   unfolding end_of_tokens
@@ -179,7 +179,7 @@ module _ (s e : List ℕ) (F : List (Pair s e) → Type 0) (closed : (p : Pair s
   pub colon_agrees : (ps : List (Pair s e)) → F ps → Agree (Rests s e F) (after_colon s (lefts ps)) (after_colon e (rights ps))
   unfolding after_colon
   colon_agrees [] h = nothing
-  colon_agrees (p ∷ ps) h = tested (mark_like s e p mark.Colon) (λ is. something (rest s e F ps (closed p ps h)))
+  colon_agrees (p ∷ ps) h = agree_tested (mark_like s e p mark.Colon) (λ is. something (rest s e F ps (closed p ps h)))
 
   colon_behind : (ts us : List Token) → Rests s e F ts us → Agree (Rests s e F) (after_colon s ts) (after_colon e us)
   colon_behind ts us r = rw (sym r.left, sym r.right) (colon_agrees r.pairs r.fits)
@@ -190,19 +190,19 @@ module _ (s e : List ℕ) (F : List (Pair s e) → Type 0) (closed : (p : Pair s
   HeadKind (p ∷ ps) = has_kind p.left kind.Word ≡ has_kind p.right kind.Word
 
   -- the token of a declared name, and what follows
-  abbrev Declared : Pair s e → Token × List Token → Token × List Token → Type 0
-  Declared p x y = (x.0 ≡ p.left) × (y.0 ≡ p.right) × Rests s e F x.1 y.1
+  abbrev NameAndRest : Pair s e → Token × List Token → Token × List Token → Type 0
+  NameAndRest p x y = (x.0 ≡ p.left) × (y.0 ≡ p.right) × Rests s e F x.1 y.1
 
   declared_agrees : (p : Pair s e) (ps : List (Pair s e)) → F (p ∷ ps) → HeadKind (p ∷ ps)
-      → Agree (Declared p) (declared_name_at s (p.left ∷ lefts ps)) (declared_name_at e (p.right ∷ rights ps))
+      → Agree (NameAndRest p) (declared_name_at s (p.left ∷ lefts ps)) (declared_name_at e (p.right ∷ rights ps))
   unfolding declared_name_at
   declared_agrees p ps h kinds =
-      tested kinds (λ is. mapped _ _ (colon_behind (after_attribute (lefts ps)) (after_attribute (rights ps)) (attribute_rests ps (closed p ps h))) (λ x y k. (refl, refl, k)))
+      agree_tested kinds (λ is. agree_mapped _ _ (colon_behind (after_attribute (lefts ps)) (after_attribute (rights ps)) (attribute_rests ps (closed p ps h))) (λ x y k. (refl, refl, k)))
 
   pub struct_agrees : (ps : List (Pair s e)) → F ps → Agree (Rests s e F) (after_struct s (lefts ps)) (after_struct e (rights ps))
   unfolding after_struct
   struct_agrees [] h = nothing
-  struct_agrees (p ∷ ps) h = tested (key_like s e p key.Struct) (λ is. something (rest s e F ps (closed p ps h)))
+  struct_agrees (p ∷ ps) h = agree_tested (key_like s e p key.Struct) (λ is. something (rest s e F ps (closed p ps h)))
 
   -- a declaration is the same where the declared name is
   declaration_is : (level : ℕ) (p : Pair s e) (arrays : List Bounds) (t : ElementType) (x y : List Init) → x ≡ y → IsSamePair p
@@ -210,11 +210,11 @@ module _ (s e : List ℕ) (F : List (Pair s e) → Type 0) (closed : (p : Pair s
   declaration_is level p arrays t x y k same = rw (same.line, same.text, k) refl
 
   -- the declaration of a name
-  abbrev Named : Pair s e → Declaration → Declaration → Type 0
-  Named p x y = IsSamePair p → x ≡ y
+  abbrev SameDeclaration : Pair s e → Declaration → Declaration → Type 0
+  SameDeclaration p x y = IsSamePair p → x ≡ y
 
   declared_on : {Y : Type 0} {Q : Y → Y → Type 0} (p : Pair s e) (o o' : Option (Token × List Token)) (f g : Token × List Token → Option Y)
-      → Agree (Declared p) o o' → ((qs : List (Pair s e)) → F qs → Agree Q (f (p.left, lefts qs)) (g (p.right, rights qs)))
+      → Agree (NameAndRest p) o o' → ((qs : List (Pair s e)) → F qs → Agree Q (f (p.left, lefts qs)) (g (p.right, rights qs)))
       → Agree Q (option_and_then f o) (option_and_then g o')
   declared_on p None None f g a h = nothing
   declared_on p (Some (t, ts)) (Some (u, us)) f g a h =
@@ -223,16 +223,16 @@ module _ (s e : List ℕ) (F : List (Pair s e) → Type 0) (closed : (p : Pair s
   declared_on p (Some x) None f g a h = absurd a.agree
 
   pub structure_agrees : (level : ℕ) (p : Pair s e) (ps : List (Pair s e)) → F (p ∷ ps) → HeadKind (p ∷ ps)
-      → Agree (λ x y. Named p x.0 y.0 × Rests s e F x.1 y.1) (structure_at s level (p.left ∷ lefts ps)) (structure_at e level (p.right ∷ rights ps))
+      → Agree (λ x y. SameDeclaration p x.0 y.0 × Rests s e F x.1 y.1) (structure_at s level (p.left ∷ lefts ps)) (structure_at e level (p.right ∷ rights ps))
   unfolding structure_at
   structure_agrees level p ps h kinds =
       declared_on p _ _ _ _ (declared_agrees p ps h kinds)
-      (λ qs k. goes_on _ _ (arrays_agree qs k) (λ a rs l. mapped _ _ (struct_agrees rs l) (λ x y m. (declaration_is level p a element.Structure [] [] refl, m))))
+      (λ qs k. goes_on _ _ (arrays_agree qs k) (λ a rs l. agree_mapped _ _ (struct_agrees rs l) (λ x y m. (declaration_is level p a element.Structure [] [] refl, m))))
 
   pub declaration_agrees : (level : ℕ) (p : Pair s e) (ps : List (Pair s e)) → F (p ∷ ps) → HeadKind (p ∷ ps)
-      → Agree (Named p) (declaration_of s level (p.left ∷ lefts ps)) (declaration_of e level (p.right ∷ rights ps))
+      → Agree (SameDeclaration p) (declaration_of s level (p.left ∷ lefts ps)) (declaration_of e level (p.right ∷ rights ps))
   unfolding declaration_of
   declaration_agrees level p ps h kinds =
       declared_on p _ _ _ _ (declared_agrees p ps h kinds)
       (λ qs k. goes_on _ _ (arrays_agree qs k) (λ a rs l. goes_on _ _ (element_agrees rs l)
-      (λ t vs m. mapped _ _ (equal _ _ (init_behind_same a t vs m)) (λ x y j. declaration_is level p a t x y j))))
+      (λ t vs m. agree_mapped _ _ (equal _ _ (init_behind_same a t vs m)) (λ x y j. declaration_is level p a t x y j))))

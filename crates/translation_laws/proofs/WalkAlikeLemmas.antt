@@ -33,7 +33,7 @@ use Rattle.de_mnemonics.specs.Translation.{class_in, next_class}
 use Rattle.de_mnemonics.specs.Words.{digits_of_word, letters_of_word, numbered_partner, operand_partner, partner_in_table}
 use Rattle.translation_laws.proofs.AgreeAlikeLemmas.{IsName, IsNamedPair, Like, OpensNone, Pair, lefts, rights}
 use Rattle.translation_laws.proofs.LikeAlikeLemmas.{of_kind}
-use Rattle.translation_laws.proofs.OperandAlikeLemmas.{Fits, IsKnown, Joined, JoinedTo, second}
+use Rattle.translation_laws.proofs.OperandAlikeLemmas.{Fits, IsKnown, SideBySide, JoinedTo, second}
 use Rattle.translation_laws.proofs.StatementAlikeLemmas.{is_of_mark}
 use Rattle.translation_laws.proofs.TextAlikeLemmas.{Same, is_operand, own, partner_passes}
 use Rattle.de_mnemonics.proofs.CaseLemmas.{same_text}
@@ -480,7 +480,7 @@ module _ (s e : List ℕ) where
   component_assign : (before next : TokenClass) → next ≡ class.Assign → is_component before next ≡ true
   component_assign before next e = ap (λ (c : TokenClass). is_component before c) e ∙ at_end (is_dot before)
 
-  joined : (p : TokenPlace) (before : TokenClass) (q r : Pair s e) (rs : List (Pair s e)) → in_statement p ≡ true → is_mark s q.left mark.Semicolon ≡ false → Walk p before (q ∷ r ∷ rs) → Joined q r
+  joined : (p : TokenPlace) (before : TokenClass) (q r : Pair s e) (rs : List (Pair s e)) → in_statement p ≡ true → is_mark s q.left mark.Semicolon ≡ false → Walk p before (q ∷ r ∷ rs) → SideBySide q r
   joined p before q r rs inside isnt h = record {
     dotted = λ is. subst (λ (x : Role). ComesBackInRole s e x r.left r.right)
         (component_stays (place_behind p before (class_in s q.left) (text_of s q.left) (class_in s r.left)) (class_in s q.left) (class_in s r.left) (text_of s r.left) (next_class s (lefts rs))

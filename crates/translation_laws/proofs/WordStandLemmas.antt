@@ -83,8 +83,8 @@ free_tail SignedRun z e = refl
 free_tail Line z e = absurd (false≢true e)
 
 -- behind a word, an entry has a `#` alone, or a `#` and what begins no word
-hashed : Tail → List ℕ → List ℕ → Bool
-hashed tail word behind =
+hash_joins : Tail → List ℕ → List ℕ → Bool
+hash_joins tail word behind =
     heads (λ b. b == hash) behind
     && (heads (λ b. not (is_word_start b)) (drop 1 behind) || length behind == 1 && (is_word_in_list joining_words word && is_free tail))
 
@@ -92,7 +92,7 @@ hashed tail word behind =
 word_row : Tail → List ℕ → Bool
 word_row tail e =
     nat_lt 0 (length e) && not (heads is_word_start e)
-    || (nat_lt (prefix_len is_word_byte e) (length e) && hashed tail (take (prefix_len is_word_byte e) e) (drop (prefix_len is_word_byte e) e)
+    || (nat_lt (prefix_len is_word_byte e) (length e) && hash_joins tail (take (prefix_len is_word_byte e) e) (drop (prefix_len is_word_byte e) e)
     || nat_lt 0 (length e) && list_all is_word_byte e && (is_word_in_list joining_words e && is_line tail))
 
 -- a token longer than a word that begins with it: the word is one of those that join, and where a word alike stood, such a token stood there
@@ -158,8 +158,8 @@ bare_joined k tail e w later form size begins behind whole among free mark = rec
 
 hash_joined : (k : TokenKind) (tail : Tail) (e w later : List ℕ) → list_all is_word_byte w ≡ true → heads is_word_byte later ≡ false → IsNameFront later
     → ((y z : List ℕ) → fronts e y ≡ true → is_tail tail (drop (length e) y) z ≡ true → has_form k y z ≡ true)
-    → prefix_len is_word_byte e < length e → hashed tail (take (prefix_len is_word_byte e) e) (drop (prefix_len is_word_byte e) e) ≡ true → fronts e (w ++ later) ≡ true → IsJoined k w later
-unfolding hashed
+    → prefix_len is_word_byte e < length e → hash_joins tail (take (prefix_len is_word_byte e) e) (drop (prefix_len is_word_byte e) e) ≡ true → fronts e (w ++ later) ≡ true → IsJoined k w later
+unfolding hash_joins
 hash_joined k tail e w later word stops name form some tested h =
     let n : ℕ = prefix_len is_word_byte e in
     let split = split_word e w later word stops h some in
@@ -207,22 +207,22 @@ title_joined k tail e w later word stops form some words among line h ends =
     }
 
 -- what of a table stands where a word does
-joined : (k : TokenKind) (w later : List ℕ) (m : ℕ) → is_table k ≡ true → all_rows k word_row ≡ true → is_word w ≡ true → heads is_word_byte later ≡ false → IsNameFront later → IsFormAt (has_form k) (w ++ later) m → IsJoined k w later
+word_joined : (k : TokenKind) (w later : List ℕ) (m : ℕ) → is_table k ≡ true → all_rows k word_row ≡ true → is_word w ≡ true → heads is_word_byte later ≡ false → IsNameFront later → IsFormAt (has_form k) (w ++ later) m → IsJoined k w later
 unfolding word_row
-joined k w later m t all word stops name at =
+word_joined k w later m t all word stops name at =
     let y : List ℕ = take m (w ++ later) in
     let z : List ℕ = drop m (w ++ later) in
     let row = row_of k word_row y z t all at.fits in
     let e : List ℕ = row.entry in
     let text : y ++ z ≡ w ++ later = take-append-drop m (w ++ later) in
     let begun : fronts e (w ++ later) ≡ true = ap (fronts e) (sym text) ∙ fronts_cut e y z (fronts_within e y row.begins) ∙ row.begins in
-    elim (or_cases (nat_lt 0 (length e) && not (heads is_word_start e)) (nat_lt (prefix_len is_word_byte e) (length e) && hashed row.tail (take (prefix_len is_word_byte e) e) (drop (prefix_len is_word_byte e) e) || nat_lt 0 (length e) && list_all is_word_byte e && (is_word_in_list joining_words e && is_line row.tail)) row.tested) [
+    elim (or_cases (nat_lt 0 (length e) && not (heads is_word_start e)) (nat_lt (prefix_len is_word_byte e) (length e) && hash_joins row.tail (take (prefix_len is_word_byte e) e) (drop (prefix_len is_word_byte e) e) || nat_lt 0 (length e) && list_all is_word_byte e && (is_word_in_list joining_words e && is_line row.tail)) row.tested) [
       | inl other ↦
           let parts = and_parts (nat_lt 0 (length e)) (not (heads is_word_start e)) other in
           absurd (false≢true (sym (not-true (heads is_word_start e) parts.1) ∙ front_start e w later (ltb-true 0 (length e) parts.0) word begun))
-      | inr more ↦ elim (or_cases (nat_lt (prefix_len is_word_byte e) (length e) && hashed row.tail (take (prefix_len is_word_byte e) e) (drop (prefix_len is_word_byte e) e)) (nat_lt 0 (length e) && list_all is_word_byte e && (is_word_in_list joining_words e && is_line row.tail)) more) [
+      | inr more ↦ elim (or_cases (nat_lt (prefix_len is_word_byte e) (length e) && hash_joins row.tail (take (prefix_len is_word_byte e) e) (drop (prefix_len is_word_byte e) e)) (nat_lt 0 (length e) && list_all is_word_byte e && (is_word_in_list joining_words e && is_line row.tail)) more) [
         | inl mark ↦
-            let parts = and_parts (nat_lt (prefix_len is_word_byte e) (length e)) (hashed row.tail (take (prefix_len is_word_byte e) e) (drop (prefix_len is_word_byte e) e)) mark in
+            let parts = and_parts (nat_lt (prefix_len is_word_byte e) (length e)) (hash_joins row.tail (take (prefix_len is_word_byte e) e) (drop (prefix_len is_word_byte e) e)) mark in
             hash_joined k row.tail e w later (run_words w word) stops name row.form (ltb-true (prefix_len is_word_byte e) (length e) parts.0) parts.1 begun
         | inr title ↦
             let parts = and_parts (nat_lt 0 (length e) && list_all is_word_byte e) (is_word_in_list joining_words e && is_line row.tail) title in
@@ -240,7 +240,7 @@ abbrev pub IsAlone : List ℕ → List ℕ → Type 0
 IsAlone w later = (k : TokenKind) → is_table k ≡ true → HasNoneOfForm (has_form k) (w ++ later)
 
 rows_word : (k : TokenKind) → is_table k ≡ true → all_rows k word_row ≡ true
-unfolding word_row hashed is_free is_line joining_words is_word_in_list is_word_byte is_word_start based_prefixes long_prefixes count_prefixes time_prefixes s5time_prefixes marks mark_text sign_words title_words
+unfolding word_row hash_joins is_free is_line joining_words is_word_in_list is_word_byte is_word_start based_prefixes long_prefixes count_prefixes time_prefixes s5time_prefixes marks mark_text sign_words title_words
 rows_word Word t = refl
 rows_word Number t = refl
 rows_word Quoted t = refl
@@ -257,7 +257,7 @@ rows_word Title t = refl
 quiet_alone : (w later : List ℕ) → is_word w ≡ true → heads is_word_byte later ≡ false → IsNameFront later → is_non_joining_word w ≡ true → IsAlone w later
 unfolding is_non_joining_word
 quiet_alone w later word stops name quiet k t m at =
-    false≢true (sym (not-true (is_word_in_list joining_words w) quiet) ∙ (joined k w later m t (rows_word k t) word stops name at).among)
+    false≢true (sym (not-true (is_word_in_list joining_words w) quiet) ∙ (word_joined k w later m t (rows_word k t) word stops name at).among)
 
 above_word : (k : TokenKind) → is_table k ≡ true → rank_of_kind k ≤ 0 → ⊥
 above_word Word t h = false≢true t
@@ -276,7 +276,7 @@ above_word Title t h = absurd (omega (arith, h))
 alike_alone : (x w after later : List ℕ) → is_word w ≡ true → heads is_word_byte later ≡ false → IsNameFront later → fronts w x ≡ true → length w ≡ length x
     → heads (λ b. b == hash) after ≡ heads (λ b. b == hash) later → IsLongestToken (x ++ after) Word (length x) → IsAlone w later
 alike_alone x w after later word stops name alike same marks l k t m at =
-    let there = (joined k w later m t (rows_word k t) word stops name at).before x after alike same marks (word_ends x after l) in
+    let there = (word_joined k w later m t (rows_word k t) word stops name at).before x after alike same marks (word_ends x after l) in
     elim (l.longest k there.0 there.2) [
       | inl lt ↦ absurd (omega (arith, lt, there.1))
       | inr also ↦ above_word k t also.1

@@ -354,11 +354,11 @@ other_there k (c ∷ []) a l one other f h =
     to_head (b ∷ s) h = (and_parts (to_ascii_lowercase c == to_ascii_lowercase b) true h).0
 
 -- what makes a longer token of a mark stood there before
-extended : (own k : TokenKind) (x a l : List ℕ) (tail : Tail) (e : List ℕ) (m : ℕ) → length x < length e → ((y z : List ℕ) → fronts e y ≡ true → is_tail tail (drop (length e) y) z ≡ true → has_form k y z ≡ true)
+longer_entry : (own k : TokenKind) (x a l : List ℕ) (tail : Tail) (e : List ℕ) (m : ℕ) → length x < length e → ((y z : List ℕ) → fronts e y ≡ true → is_tail tail (drop (length e) y) z ≡ true → has_form k y z ≡ true)
     → may_extend tail (drop (length x) e) ≡ true → Front own a l → KeepsSigns a l
     → fronts e (x ++ l) ≡ true → length e ≤ m → m ≤ length (x ++ l) → is_tail tail (drop (length e) (take m (x ++ l))) (drop m (x ++ l)) ≡ true → Longer k (x ++ a) (length x)
 unfolding may_extend
-extended own k x a l tail e m longer form may f signs begun le within ends =
+longer_entry own k x a l tail e m longer form may f signs begun le within ends =
     let over = fronts_over e x l (omega (arith, longer)) begun in
     elim (or_cases (is_nothing tail && (length (drop (length x) e) == 1 && heads is_other_byte (drop (length x) e))) (is_apart tail && is_sign_rest (drop (length x) e)) may) [
       | inl byte ↦
@@ -553,7 +553,7 @@ table_was k other x a l m token t le at =
       | inl longer ↦
           let pair = longer_pair own.tail mine row.tail e (omega (arith, longer, short)) (fronts_both mine e (x ++ l) front begun (omega (arith, longer, short))) row.tested in
           let whole : length x ≡ length mine = omega (arith, nothing_empty own.tail (drop (length mine) x) a pair.0 own.ends, length-drop (length mine) x, short) in
-          inr (extended k other x a l row.tail e m longer row.form (ap (λ n. may_extend row.tail (drop n e)) whole ∙ pair.1) token.front token.signs begun inside_y at.within row.ends)
+          inr (longer_entry k other x a l row.tail e m longer row.form (ap (λ n. may_extend row.tail (drop n e)) whole ∙ pair.1) token.front token.signs begun inside_y at.within row.ends)
       | inr within ↦
           let begins : fronts e x ≡ true = sym (fronts_cut e x l within) ∙ begun in
           elim (cases_Bool (is_nothing own.tail)) [
@@ -574,17 +574,17 @@ over_longest k other x a m l h at = elim (l.longest other m at) [
   | inr same ↦ absurd (omega (arith, same.0, h))
 ]
 
-abbrev Placed : TokenKind → TokenKind → ℕ → ℕ → Type 0
-Placed other k m n = (m < n) ⊎ ((m ≡ n) × (rank_of_kind other ≤ rank_of_kind k))
+abbrev IsShorterOrOutranked : TokenKind → TokenKind → ℕ → ℕ → Type 0
+IsShorterOrOutranked other k m n = (m < n) ⊎ ((m ≡ n) × (rank_of_kind other ≤ rank_of_kind k))
 
 -- a kind that stands before those of tables, and is no longer
-low_placed : (k other : TokenKind) (m n : ℕ) → is_table k ≡ true → rank_of_kind other ≤ 5 → (n < m → ⊥) → Placed other k m n
+low_placed : (k other : TokenKind) (m n : ℕ) → is_table k ≡ true → rank_of_kind other ≤ 5 → (n < m → ⊥) → IsShorterOrOutranked other k m n
 low_placed k other m n t low no_longer = elim (cases_lt m n) [
   | inl lt ↦ inl lt
   | inr ge ↦ elim (cases_lt n m) [ inl over ↦ absurd (no_longer over) | inr le ↦ inr (omega (arith, ge, le), omega (arith, low, table_rank k t)) ]
 ]
 
-table_placed : (k other : TokenKind) (x a l : List ℕ) (m : ℕ) → IsTableToken k x a l → is_table other ≡ true → IsFormAt (has_form other) (x ++ l) m → Placed other k m (length x)
+table_placed : (k other : TokenKind) (x a l : List ℕ) (m : ℕ) → IsTableToken k x a l → is_table other ≡ true → IsFormAt (has_form other) (x ++ l) m → IsShorterOrOutranked other k m (length x)
 table_placed k other x a l m token t at = elim (cases_lt m (length x)) [
   | inl lt ↦ inl lt
   | inr ge ↦ elim (table_was k other x a l m token t ge at) [
@@ -608,14 +608,14 @@ own_plain : (own : Tail) (mine : List ℕ) → own_row own mine ≡ true → hea
 unfolding own_row
 own_plain own mine e = (and_parts (heads plain_first mine) (all_rows Based (pair_row own mine) && all_rows NumberLiteral (pair_row own mine) && all_rows TimeLiteral (pair_row own mine) && all_rows Mark (pair_row own mine) && all_rows SignWord (pair_row own mine) && all_rows Title (pair_row own mine)) e).0
 
-placed : (k : TokenKind) (x a l : List ℕ) → is_table k ≡ true → IsTableToken k x a l → (other : TokenKind) (m : ℕ) → IsFormAt (has_form other) (x ++ l) m → Placed other k m (length x)
+is_placed : (k : TokenKind) (x a l : List ℕ) → is_table k ≡ true → IsTableToken k x a l → (other : TokenKind) (m : ℕ) → IsFormAt (has_form other) (x ++ l) m → IsShorterOrOutranked other k m (length x)
 unfolding has_form plain_first
-placed k x a l t token other m at =
+is_placed k x a l t token other m at =
     let some : 0 < length x = token.longest.fits.some in
     let plain : heads plain_first x ≡ true = plain_front token.row.entry x (own_plain token.row.tail token.row.entry token.row.tested) token.row.begins in
     by_kind other some plain at
   where
-    by_kind : (other : TokenKind) → 0 < length x → heads plain_first x ≡ true → IsFormAt (has_form other) (x ++ l) m → Placed other k m (length x)
+    by_kind : (other : TokenKind) → 0 < length x → heads plain_first x ≡ true → IsFormAt (has_form other) (x ++ l) m → IsShorterOrOutranked other k m (length x)
     by_kind Word some plain at = low_placed k Word m (length x) t (omega arith) (λ over.
         over_longest k Word x a (length x + 1) token.longest (omega arith) (longer_run is_word_start is_word_byte x a l m some over (goes_of k a l token.front).word at))
     by_kind Number some plain at = low_placed k Number m (length x) t (omega arith) (λ over.
@@ -639,7 +639,7 @@ table_stands k x a l t longest f signs =
     let row = token.row in
     record {
       fits = form_at k x l longest.fits.some (row.form x l row.begins (tail_later row.tail (drop (length row.entry) x) a l (goes_of k a l f).word row.ends));
-      longest = placed k x a l t token;
+      longest = is_placed k x a l t token;
     }
 
 -- ---- what stands behind a sign

@@ -28,7 +28,8 @@ joining_words =
 unfoldable pub is_non_joining_word : List ℕ → Bool
 is_non_joining_word word = not (is_word_in_list joining_words word)
 
--- a word in place of another: the same but for the case of its letters, or a quiet one
+-- a word in place of another: the same but for the case of its letters, or one that is a token of
+-- its own beside any other
 abbrev pub IsOtherWord : List ℕ → List ℕ → Type 0
 IsOtherWord old new =
     (is_word new ≡ true)

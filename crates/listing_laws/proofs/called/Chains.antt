@@ -15,7 +15,7 @@ use Rattle.stl_list.specs.declared.links.Link.{Link}
 use Rattle.stl_list.specs.declared.links.Link.TheVariants.{Joins, Has}
 use Rattle.stl_list.specs.Joined.{chains_of, is_int_kind, is_time_kind, kind_at, kind_by, chain_labels, links, mark_at, marks_after_link, marks_of, total_parameter_count, merged_labels, labels_after_link, replaced_label, set_label}
 use Rattle.stl_list.specs.Parameters.{kind_of_width}
-use Rattle.listing_laws.specs.Chains.{AreChained, AreLabelsJoined, AreMarksHanded, AreTypesKept, HasSeed, HasStep, HasTyped, IsLinkBelow, IsPassingChain, IsHandedType, IsKeptBy, IsSeed, IsPassingStep, is_listed_type}
+use Rattle.listing_laws.specs.Chains.{AreChained, AreLabelsJoined, AreMarksHanded, AreTypesKept, HasSeed, HasStep, LinksHaveType, IsLinkBelow, IsPassingChain, IsHandedType, IsKeptBy, IsSeed, IsPassingStep, is_listed_type}
 
 -- ---- chains
 
@@ -196,15 +196,15 @@ joined_fold all labels (l ∷ ls) steps joined =
     joined_fold all (labels_after_link labels l) ls (λ m n h. steps m n (inr h)) (joined_link all labels l (λ m n h. steps m n (inl h)) joined)
 
 -- at first each has its own
-counted : (a n m x : ℕ) → slice_get (range_with_len a n) m ≡ Some x → x ≡ a + m
-counted a zero m x e = absurd cc
-counted a (suc n) zero x e = let same : a ≡ x = same_Some a x e in omega (arith, same)
-counted a (suc n) (suc m) x e = let rest = counted (a + 1) n m x e in omega (arith, rest)
+range_at : (a n m x : ℕ) → slice_get (range_with_len a n) m ≡ Some x → x ≡ a + m
+range_at a zero m x e = absurd cc
+range_at a (suc n) zero x e = let same : a ≡ x = same_Some a x e in omega (arith, same)
+range_at a (suc n) (suc m) x e = let rest = range_at (a + 1) n m x e in omega (arith, rest)
 
 joined_first : (all : List Link) (count : ℕ) → AreJoined all (range_with_len 0 count)
 joined_first all count m n x e f =
-    let one = counted 0 count m x e in
-    let two = counted 0 count n x f in
+    let one = range_at 0 count m x e in
+    let two = range_at 0 count n x f in
     ([], omega (arith, one, two))
 
 labels_long : (count : ℕ) (ls : List Link) → length (chain_labels count ls) ≡ count
@@ -259,7 +259,7 @@ few_fold count labels (l ∷ ls) few = few_fold count (labels_after_link labels 
 
 few_first : (count : ℕ) → AreFew count (range_with_len 0 count)
 few_first count m x e =
-    let at = counted 0 count m x e in
+    let at = range_at 0 count m x e in
     let within = slice_get_within (range_with_len 0 count) m x e in
     let long = length-range_with_len 0 count in
     omega (arith, at, within, long)
@@ -503,20 +503,20 @@ seed_by false false simple.Char h k i t listed = absurd cc
 seed_by false false simple.S5time h k i t listed = absurd cc
 seed_by false false simple.Dint h k i t listed = absurd cc
 
-typed_seed : (is_meant : Simple → Bool) (ls : List Link) (n : ℕ) (type : Simple) → HasTyped ls n type → is_meant type ≡ true → HasSeed is_meant ls n
+typed_seed : (is_meant : Simple → Bool) (ls : List Link) (n : ℕ) (type : Simple) → LinksHaveType ls n type → is_meant type ≡ true → HasSeed is_meant ls n
 typed_seed is_meant [] n type h e = absurd h
 typed_seed is_meant (l ∷ ls) n type (inr h) e = inr (typed_seed is_meant ls n type h e)
 typed_seed is_meant (Joins own other ∷ ls) n type (inl h) e = absurd h
 typed_seed is_meant (Has own kind ∷ ls) n type (inl h) e = inl (h.0, ap is_meant h.1 ∙ e)
 
-typed_declared : (declared : ℕ → Simple) (ls : List Link) (n : ℕ) (type : Simple) → AllByRecursion (IsKeptBy declared) ls → HasTyped ls n type
+typed_declared : (declared : ℕ → Simple) (ls : List Link) (n : ℕ) (type : Simple) → AllByRecursion (IsKeptBy declared) ls → LinksHaveType ls n type
     → declared n ≡ type
 typed_declared declared [] n type k h = absurd h
 typed_declared declared (l ∷ ls) n type k (inr h) = typed_declared declared ls n type k.1 h
 typed_declared declared (Joins own other ∷ ls) n type k (inl h) = absurd h
 typed_declared declared (Has own kind ∷ ls) n type k (inl h) = ap declared (sym h.0) ∙ k.0 ∙ h.1
 
-typed_below : (count : ℕ) (ls : List Link) (n : ℕ) (type : Simple) → AllByRecursion (IsLinkBelow count) ls → HasTyped ls n type → n < count
+typed_below : (count : ℕ) (ls : List Link) (n : ℕ) (type : Simple) → AllByRecursion (IsLinkBelow count) ls → LinksHaveType ls n type → n < count
 typed_below count [] n type k h = absurd h
 typed_below count (l ∷ ls) n type k (inr h) = typed_below count ls n type k.1 h
 typed_below count (Joins own other ∷ ls) n type k (inl h) = absurd h

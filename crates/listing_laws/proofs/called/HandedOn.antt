@@ -123,8 +123,9 @@ module _ (types : BlockId → List Simple) where
     abbrev IsOf : ℕ → Simple → Type 0
     IsOf n kind = slice_get (kinds_in types all) n ≡ Some kind
 
-    abbrev IsFine : Link → Type 0
-    IsFine l = IsLinkBelow (total_parameter_count all) l × IsKeptBy (declared_type_in types all) l
+    -- a link is of parameters that are there, with one declared type
+    abbrev IsLinkKept : Link → Type 0
+    IsLinkKept l = IsLinkBelow (total_parameter_count all) l × IsKeptBy (declared_type_in types all) l
 
     few : (n : ℕ) (kind : Simple) → IsOf n kind → n < total_parameter_count all
     few n kind e = subst (λ (k : ℕ). n < k) (all_long all long) (slice_get_within (kinds_in types all) n kind e)
@@ -132,10 +133,10 @@ module _ (types : BlockId → List Simple) where
     of_type : (n : ℕ) (kind : Simple) → IsOf n kind → declared_type_in types all n ≡ kind
     of_type n kind e = ap (λ (o : Option Simple). unwrap_or o simple.Bool) e
 
-    joins_fine : (m n : ℕ) (kind : Simple) → IsOf m kind → IsOf n kind → IsFine (Joins m n)
+    joins_fine : (m n : ℕ) (kind : Simple) → IsOf m kind → IsOf n kind → IsLinkKept (Joins m n)
     joins_fine m n kind e f = ((few m kind e, few n kind f), of_type m kind e ∙ sym (of_type n kind f))
 
-    has_fine : (m : ℕ) (kind : Simple) → IsOf m kind → IsFine (Has m kind)
+    has_fine : (m : ℕ) (kind : Simple) → IsOf m kind → IsLinkKept (Has m kind)
     has_fine m kind e = (few m kind e, of_type m kind e)
 
     -- of the block whose first parameter has a number
@@ -145,13 +146,13 @@ module _ (types : BlockId → List Simple) where
     joined_fine : (own : List Simple) (first : ℕ) (id : BlockId) → IsFirst own first
         → list_any (λ (b : CodeBlock). is_same_block b.id id) all ≡ true
         → (ps : List Passing) → AllByRecursion (λ (p : Passing). IsHandedOn own (types id) p.index p.actual) ps
-        → AllByRecursion IsFine (joined_links first (first_of all id) (pass_ops ps))
+        → AllByRecursion IsLinkKept (joined_links first (first_of all id) (pass_ops ps))
     joined_fine own first id at any [] h = tt
     joined_fine own first id at any (p ∷ ps) h =
-        all_append IsFine (joined_link first (first_of all id) (passed_own p.index p.actual)) (joined_links first (first_of all id) (pass_ops ps))
+        all_append IsLinkKept (joined_link first (first_of all id) (passed_own p.index p.actual)) (joined_links first (first_of all id) (pass_ops ps))
         (one p.actual h.0) (joined_fine own first id at any ps h.1)
       where
-        one : (a : Passed) → IsHandedOn own (types id) p.index a → AllByRecursion IsFine (joined_link first (first_of all id) (passed_own p.index a))
+        one : (a : Passed) → IsHandedOn own (types id) p.index a → AllByRecursion IsLinkKept (joined_link first (first_of all id) (passed_own p.index a))
         one (passed.Parameter number w) k =
             (joins_fine (first + number) (first_of all id + p.index) k.0 (at number k.0 k.1) (type_at all id p.index k.0 long any k.2), tt)
         one (passed.Literal value) k = tt
@@ -160,16 +161,16 @@ module _ (types : BlockId → List Simple) where
 
     system_fine : (own : List Simple) (first : ℕ) (formals : List Formal) → IsFirst own first
         → (ps : List Passing) → AllByRecursion (λ (p : Passing). IsHandedOn own (map (λ (f : Formal). f.kind) formals) p.index p.actual) ps
-        → AllByRecursion IsFine (system_links formals first (pass_ops ps))
+        → AllByRecursion IsLinkKept (system_links formals first (pass_ops ps))
     system_fine own first formals at [] h = tt
     system_fine own first formals at (p ∷ ps) h =
-        all_append IsFine (system_link formals first (passed_own p.index p.actual)) (system_links formals first (pass_ops ps))
+        all_append IsLinkKept (system_link formals first (passed_own p.index p.actual)) (system_links formals first (pass_ops ps))
         (one p.actual h.0) (system_fine own first formals at ps h.1)
       where
-        one : (a : Passed) → IsHandedOn own (map (λ (f : Formal). f.kind) formals) p.index a → AllByRecursion IsFine (system_link formals first (passed_own p.index a))
+        one : (a : Passed) → IsHandedOn own (map (λ (f : Formal). f.kind) formals) p.index a → AllByRecursion IsLinkKept (system_link formals first (passed_own p.index a))
         one (passed.Parameter number w) k =
             let f = got_mapped formals p.index k.0 k.2 in
-            subst (λ (o : Option Formal). AllByRecursion IsFine (typed_link (first + number) o)) (sym f.1)
+            subst (λ (o : Option Formal). AllByRecursion IsLinkKept (typed_link (first + number) o)) (sym f.1)
             (has_fine (first + number) f.0.kind (at number k.0 k.1 ∙ ap Some (sym f.2)), tt)
         one (passed.Literal value) k = tt
         one (passed.Direct a w byte bit) k = tt
@@ -177,62 +178,62 @@ module _ (types : BlockId → List Simple) where
 
     call_fine : (own : List Simple) (first : ℕ) (id : BlockId) → IsFirst own first → IsCallable all id
         → (ps : List Passing) → AllByRecursion (λ (p : Passing). IsHandedOn own (called_kinds types id) p.index p.actual) ps
-        → AllByRecursion IsFine (call_links all id first (pass_ops ps))
+        → AllByRecursion IsLinkKept (call_links all id first (pass_ops ps))
     call_fine own first id at callable ps h = by (is_system_function id.kind) callable.1 h
       where
         by : (t : Bool) → (t || list_any (λ (b : CodeBlock). is_same_block b.id id) all) ≡ true
             → AllByRecursion (λ (p : Passing). IsHandedOn own (if t then map (λ (f : Formal). f.kind) (system_parameters id.number) else types id) p.index p.actual) ps
-            → AllByRecursion IsFine (if t then system_links (system_parameters id.number) first (pass_ops ps) else joined_links first (first_of all id) (pass_ops ps))
+            → AllByRecursion IsLinkKept (if t then system_links (system_parameters id.number) first (pass_ops ps) else joined_links first (first_of all id) (pass_ops ps))
         by true any k = system_fine own first (system_parameters id.number) at ps k
         by false any k = joined_fine own first id at any ps k
 
     -- an instruction that calls nothing has no links
-    no_links : (first : ℕ) (use_db : Option ℕ) (o : Operand) → AllByRecursion IsFine (run_links all first (use_db_ops use_db) o)
+    no_links : (first : ℕ) (use_db : Option ℕ) (o : Operand) → AllByRecursion IsLinkKept (run_links all first (use_db_ops use_db) o)
     no_links first None (flat.Called kind number instance) = by (is_system_function (called_id kind number).kind)
       where
-        by : (t : Bool) → AllByRecursion IsFine (if t then system_links (system_parameters (called_id kind number).number) first [] else joined_links first (first_of all (called_id kind number)) [])
+        by : (t : Bool) → AllByRecursion IsLinkKept (if t then system_links (system_parameters (called_id kind number).number) first [] else joined_links first (first_of all (called_id kind number)) [])
         by true = tt
         by false = tt
     no_links first (Some n) (flat.Called kind number instance) = by (is_system_function (called_id kind number).kind)
       where
-        by : (t : Bool) → AllByRecursion IsFine (if t then system_links (system_parameters (called_id kind number).number) first (use_db_ops (Some n)) else joined_links first (first_of all (called_id kind number)) (use_db_ops (Some n)))
+        by : (t : Bool) → AllByRecursion IsLinkKept (if t then system_links (system_parameters (called_id kind number).number) first (use_db_ops (Some n)) else joined_links first (first_of all (called_id kind number)) (use_db_ops (Some n)))
         by true = tt
         by false = tt
     no_links first use_db _ = tt
 
     instr_fine : (own : List Simple) (first : ℕ) (f : ℕ → ℕ) → IsFirst own first → (i : Instr) → HandsTypesOn types all own i
-        → AllByRecursion IsFine (run_links all first (run_of f i).before (run_of f i).op.operand)
+        → AllByRecursion IsLinkKept (run_links all first (run_of f i).before (run_of f i).op.operand)
     instr_fine own first f at (Does use_db w o) h = no_links first use_db (operand_with_target f o)
     instr_fine own first f at (Jumps how target) h = tt
     instr_fine own first f at (JumpsByList targets otherwise) h = tt
     instr_fine own first f at (Returns how) h = tt
     instr_fine own first f at (Calls how id instance ps) h =
-        subst (λ (i : BlockId). AllByRecursion IsFine (call_links all i first (pass_ops ps))) (sym (called_is id h.0.0))
+        subst (λ (i : BlockId). AllByRecursion IsLinkKept (call_links all i first (pass_ops ps))) (sym (called_is id h.0.0))
         (call_fine own first id at h.0 ps h.1)
 
     runs_fine : (own : List Simple) (first : ℕ) (f : ℕ → ℕ) → IsFirst own first → (ss : List SourceInstruction)
         → AllByRecursion (λ (s : SourceInstruction). HandsTypesOn types all own s.instr) ss
-        → AllByRecursion IsFine (links_of_runs all first (map (λ (s : SourceInstruction). run_of f s.instr) ss))
+        → AllByRecursion IsLinkKept (links_of_runs all first (map (λ (s : SourceInstruction). run_of f s.instr) ss))
     runs_fine own first f at [] h = tt
     runs_fine own first f at (s ∷ ss) h =
-        all_append IsFine (run_links all first (run_of f s.instr).before (run_of f s.instr).op.operand)
+        all_append IsLinkKept (run_links all first (run_of f s.instr).before (run_of f s.instr).op.operand)
         (links_of_runs all first (map (λ (s : SourceInstruction). run_of f s.instr) ss))
         (instr_fine own first f at s.instr h.0) (runs_fine own first f at ss h.1)
 
     block_fine : (first : ℕ) (b : StatedBlock) → IsFirst (types b.id) first
         → AllByRecursion (λ (s : SourceInstruction). HandsTypesOn types all (types b.id) s.instr) b.statements
-        → AllByRecursion IsFine (block_links all first (code_in b.statements))
+        → AllByRecursion IsLinkKept (block_links all first (code_in b.statements))
     block_fine first b at h =
-        subst (λ (rs : List Run). AllByRecursion IsFine (links_of_runs all first rs)) (sym (runs_found b.statements))
+        subst (λ (rs : List Run). AllByRecursion IsLinkKept (links_of_runs all first rs)) (sym (runs_found b.statements))
         (runs_fine (types b.id) first (statement_offset b.statements) at b.statements h)
 
     blocks_fine : (front : List Simple) (first : ℕ) (bs : List StatedBlock) → length front ≡ first
         → kinds_in types all ≡ front ++ kinds_in types (map compiled_block bs) → AreLong (map compiled_block bs)
         → AllByRecursion (λ (b : StatedBlock). AllByRecursion (λ (s : SourceInstruction). HandsTypesOn types all (types b.id) s.instr) b.statements) bs
-        → AllByRecursion IsFine (links_from all first (map compiled_block bs))
+        → AllByRecursion IsLinkKept (links_from all first (map compiled_block bs))
     blocks_fine front first [] n e l h = tt
     blocks_fine front first (b ∷ bs) n e l h =
-        all_append IsFine (block_links all first (code_in b.statements)) (links_from all (first + length b.params) (map compiled_block bs))
+        all_append IsLinkKept (block_links all first (code_in b.statements)) (links_from all (first + length b.params) (map compiled_block bs))
         (block_fine first b at h.0)
         (blocks_fine (front ++ types b.id) (first + length b.params) bs longer (e ∙ sym (append_assoc front (types b.id) (kinds_in types (map compiled_block bs)))) l.1 h.1)
       where
@@ -256,13 +257,13 @@ module _ (types : BlockId → List Simple) where
       let long = long_compiled bs h.lengths in
       blocks_fine (map compiled_block bs) long [] 0 bs refl refl long h.calls
 
-parted : (P Q : Link → Type 0) (ls : List Link) → AllByRecursion (λ (l : Link). P l × Q l) ls → AllByRecursion P ls × AllByRecursion Q ls
-parted P Q [] h = (tt, tt)
-parted P Q (l ∷ ls) h = let rest = parted P Q ls h.1 in ((h.0.0, rest.0), (h.0.1, rest.1))
+all_parted : (P Q : Link → Type 0) (ls : List Link) → AllByRecursion (λ (l : Link). P l × Q l) ls → AllByRecursion P ls × AllByRecursion Q ls
+all_parted P Q [] h = (tt, tt)
+all_parted P Q (l ∷ ls) h = let rest = all_parted P Q ls h.1 in ((h.0.0, rest.0), (h.0.1, rest.1))
 
 pub links_handed_on : AreLinksHandedOn
 links_handed_on types blocks h =
-    parted (IsLinkBelow (total_parameter_count (map compiled_block blocks))) (IsKeptBy (declared_type_in types (map compiled_block blocks))) (links (map compiled_block blocks)) (all_fine types blocks h)
+    all_parted (IsLinkBelow (total_parameter_count (map compiled_block blocks))) (IsKeptBy (declared_type_in types (map compiled_block blocks))) (links (map compiled_block blocks)) (all_fine types blocks h)
 
 pub types_listed : AreTypesListed
 types_listed types blocks h =

@@ -192,16 +192,16 @@ own_fits c own f g index there kind section =
 literal_fitted : (c : Context) (f : Formal) (n : ℕ) → is_input_section f.section ≡ true → is_listed_type f.kind ≡ true
     → fits_operand c f (operand.Constant (typed_constant f.kind n)) ≡ true
 unfolding fits_operand
-literal_fitted c f n section listed =
-    both (is_input_section f.section) (fits_elementary_type (typed_constant f.kind n) f.kind) section (literal_kind f.kind n listed)
+literal_fitted c f n section is_listed =
+    both (is_input_section f.section) (fits_elementary_type (typed_constant f.kind n) f.kind) section (literal_kind f.kind n is_listed)
 
-fitted : (c : Context) (own : List Formal) (f : Formal) (p : Passed) → FitsListed c own f p → fits_operand c (in_upper_case f) (passed_operand own f p) ≡ true
-fitted c own f (passed.Literal value) h = literal_fitted c (in_upper_case f) value h.0 h.1
-fitted c own f (passed.Direct a w byte bit) h = direct_fits c (in_upper_case f) a w byte bit h
-fitted c own f (passed.InBlock number a w byte bit) h =
+operand_fitted : (c : Context) (own : List Formal) (f : Formal) (p : Passed) → FitsListed c own f p → fits_operand c (in_upper_case f) (passed_operand own f p) ≡ true
+operand_fitted c own f (passed.Literal value) h = literal_fitted c (in_upper_case f) value h.0 h.1
+operand_fitted c own f (passed.Direct a w byte bit) h = direct_fits c (in_upper_case f) a w byte bit h
+operand_fitted c own f (passed.InBlock number a w byte bit) h =
     subst (λ (g : Area). fits_operand c (in_upper_case f) (direct_operand (Some number) (is_written f.section) g w byte bit) ≡ true)
     (sym h.1) (in_block_fits c (in_upper_case f) number w byte bit h.0 h.3)
-fitted c own f (passed.Parameter index w) h = own_fits c own (in_upper_case f) h.0 index h.4 h.2 h.3
+operand_fitted c own f (passed.Parameter index w) h = own_fits c own (in_upper_case f) h.0 index h.4 h.2 h.3
 
 -- no DATE_AND_TIME among them
 plain_dated : (c : Context) (k : Simple) (n : ℕ) → is_resolved_date (resolution_of c (operand.Constant (typed_constant k n))) ≡ false
@@ -212,13 +212,13 @@ direct_dated : (c : Context) (writes : Bool) (a : Area) (w : Width) (byte bit : 
 unfolding resolution_of
 direct_dated c writes a w byte bit = refl
 
-pub undated : (c : Context) (own : List Formal) (f : Formal) (p : Passed) → FitsListed c own f p → is_resolved_date (resolution_of c (passed_operand own f p)) ≡ false
-undated c own f (passed.Literal value) h = plain_dated c f.kind value
-undated c own f (passed.Direct a w byte bit) h = direct_dated c (is_written f.section) a w byte bit
-undated c own f (passed.InBlock number a w byte bit) h =
+pub operand_undated : (c : Context) (own : List Formal) (f : Formal) (p : Passed) → FitsListed c own f p → is_resolved_date (resolution_of c (passed_operand own f p)) ≡ false
+operand_undated c own f (passed.Literal value) h = plain_dated c f.kind value
+operand_undated c own f (passed.Direct a w byte bit) h = direct_dated c (is_written f.section) a w byte bit
+operand_undated c own f (passed.InBlock number a w byte bit) h =
     subst (λ (g : Area). is_resolved_date (resolution_of c (direct_operand (Some number) (is_written f.section) g w byte bit)) ≡ false)
     (sym h.1) (ap is_resolved_date (in_block_seen c (is_written f.section) number w byte bit h.3))
-undated c own f (passed.Parameter index w) h = ap is_resolved_date h.4
+operand_undated c own f (passed.Parameter index w) h = ap is_resolved_date h.4
 
 -- ---- lists
 
@@ -325,16 +325,16 @@ from_upper (f ∷ fs) (suc i) g e = from_upper fs i g e
 
 -- ---- the actual parameters of a call
 
-abbrev pub listed : (line : ℕ) (own called : List Formal) → List Passing → List Actual
-listed line own called ps = actuals_before line own called (pass_ops ps)
+abbrev pub actuals_listed : (line : ℕ) (own called : List Formal) → List Passing → List Actual
+actuals_listed line own called ps = actuals_before line own called (pass_ops ps)
 
 one_more : (line : ℕ) (own called : List Formal) (p : Passing) (ps : List Passing) (f : Formal) → slice_get called p.index ≡ Some f
-    → listed line own called (p ∷ ps) ≡ actual_of_passed line own f p.actual ∷ listed line own called ps
-one_more line own called p ps f e = ap (λ (o : Option Formal). actual_for line own o p.actual ++ listed line own called ps) e
+    → actuals_listed line own called (p ∷ ps) ≡ actual_of_passed line own f p.actual ∷ actuals_listed line own called ps
+one_more line own called p ps f e = ap (λ (o : Option Formal). actual_for line own o p.actual ++ actuals_listed line own called ps) e
 
 pub all_actuals : (c : Context) (own called : List Formal) (line : ℕ) (P : Actual → Type 0)
     → ((p : Passing) (f : Formal) → slice_get called p.index ≡ Some f → FitsListed c own f p.actual → P (actual_of_passed line own f p.actual))
-    → (ps : List Passing) → AllByRecursion (IsPassable c own called) ps → AllByRecursion P (listed line own called ps)
+    → (ps : List Passing) → AllByRecursion (IsPassable c own called) ps → AllByRecursion P (actuals_listed line own called ps)
 all_actuals c own called line P each [] h = tt
 all_actuals c own called line P each (p ∷ ps) h =
     subst (λ (xs : List Actual). AllByRecursion P xs) (sym (one_more line own called p ps h.0.formal h.0.there))
@@ -346,16 +346,16 @@ passed_at i ps = find (λ (p : Passing). p.index == i) ps
 
 module _ (c : Context) (own called : List Formal) (line : ℕ) (named : AreNamedApart called) where
   supplied_is : (i : ℕ) (f : Formal) → slice_get called i ≡ Some f → (ps : List Passing) → AllByRecursion (IsPassable c own called) ps
-      → actual_of_formal (listed line own called ps) (in_upper_case f) ≡ option_map (λ (p : Passing). actual_of_passed line own f p.actual) (passed_at i ps)
+      → actual_of_formal (actuals_listed line own called ps) (in_upper_case f) ≡ option_map (λ (p : Passing). actual_of_passed line own f p.actual) (passed_at i ps)
   supplied_is i f e [] h = refl
   supplied_is i f e (p ∷ ps) h =
       ap (λ (xs : List Actual). actual_of_formal xs (in_upper_case f)) (one_more line own called p ps h.0.formal h.0.there)
-      ∙ ap (λ (t : Bool). cond t (Some (actual_of_passed line own h.0.formal p.actual)) (actual_of_formal (listed line own called ps) (in_upper_case f))) (named p.index i h.0.formal f h.0.there e)
+      ∙ ap (λ (t : Bool). cond t (Some (actual_of_passed line own h.0.formal p.actual)) (actual_of_formal (actuals_listed line own called ps) (in_upper_case f))) (named p.index i h.0.formal f h.0.there e)
       ∙ by (p.index == i) refl (supplied_is i f e ps h.1)
     where
       by : (t : Bool) → (p.index == i) ≡ t
-          → actual_of_formal (listed line own called ps) (in_upper_case f) ≡ option_map (λ (p : Passing). actual_of_passed line own f p.actual) (passed_at i ps)
-          → cond t (Some (actual_of_passed line own h.0.formal p.actual)) (actual_of_formal (listed line own called ps) (in_upper_case f))
+          → actual_of_formal (actuals_listed line own called ps) (in_upper_case f) ≡ option_map (λ (p : Passing). actual_of_passed line own f p.actual) (passed_at i ps)
+          → cond t (Some (actual_of_passed line own h.0.formal p.actual)) (actual_of_formal (actuals_listed line own called ps) (in_upper_case f))
           ≡ option_map (λ (p : Passing). actual_of_passed line own f p.actual) (cond t (Some p) (passed_at i ps))
       by true is more =
           let same : h.0.formal ≡ f = same_Some h.0.formal f (sym h.0.there ∙ ap (slice_get called) (eqb-true p.index i is) ∙ e) in
@@ -380,7 +380,7 @@ module _ (c : Context) (own called : List Formal) (line : ℕ) (named : AreNamed
       by false is more e = more e
 
   one_passed : (i : ℕ) (f : Formal) → slice_get called i ≡ Some f → (ps : List Passing) → AllByRecursion (IsPassable c own called) ps
-      → passed_actual c i (actual_of_formal (listed line own called ps) (in_upper_case f)) ≡ pick (passed_at i ps)
+      → passed_actual c i (actual_of_formal (actuals_listed line own called ps) (in_upper_case f)) ≡ pick (passed_at i ps)
   one_passed i f e ps h = ap (passed_actual c i) (supplied_is i f e ps h) ∙ by (passed_at i ps) refl
     where
       by : (o : Option Passing) → passed_at i ps ≡ o → passed_actual c i (option_map (λ (p : Passing). actual_of_passed line own f p.actual) o) ≡ pick o
@@ -396,7 +396,7 @@ module _ (c : Context) (own called : List Formal) (line : ℕ) (named : AreNamed
   picks ps i (f ∷ fs) = pick (passed_at i ps) ++ picks ps (suc i) fs
 
   picked_from : (ps : List Passing) → AllByRecursion (IsPassable c own called) ps → (front : List Formal) (i : ℕ) (fs : List Formal)
-      → called ≡ front ++ fs → length front ≡ i → passings_from c (listed line own called ps) i (map in_upper_case fs) ≡ picks ps i fs
+      → called ≡ front ++ fs → length front ≡ i → passings_from c (actuals_listed line own called ps) i (map in_upper_case fs) ≡ picks ps i fs
   picked_from ps h front i [] e n = refl
   picked_from ps h front i (f ∷ fs) e n =
       ap₂ (λ (xs ys : List Passing). xs ++ ys)
@@ -458,7 +458,7 @@ module _ (c : Context) (own called : List Formal) (line : ℕ) (named : AreNamed
   few_passed [] h = tt
   few_passed (p ∷ ps) h = ((let one = slice_get_within called p.index h.0.formal h.0.there in omega (arith, one)), few_passed ps h.1)
 
-  all_passed : (ps : List Passing) → AllByRecursion (IsPassable c own called) ps → AreRising 0 ps → passings_from c (listed line own called ps) 0 (map in_upper_case called) ≡ ps
+  all_passed : (ps : List Passing) → AllByRecursion (IsPassable c own called) ps → AreRising 0 ps → passings_from c (actuals_listed line own called ps) 0 (map in_upper_case called) ≡ ps
   all_passed ps h rising = picked_from ps h [] 0 called refl refl ∙ picked_all 0 called ps rising (few_passed ps h)
 
   -- ---- rules
@@ -486,7 +486,7 @@ module _ (c : Context) (own called : List Formal) (line : ℕ) (named : AreNamed
       by None is = refl
       by (Some g) is =
           ap (λ (z : Formal). not (fits_operand c z (passed_operand own f p.actual))) (sym (is_own g (found_stands (λ (z : Formal). bytes_eq (upper_case_name f.name) z.name) fs g is)))
-          ∙ ap not (fitted c own f p.actual h)
+          ∙ ap not (operand_fitted c own f p.actual h)
 
   -- names that come later are new
   abbrev AreNew : ℕ → List (List ℕ) → Type 0
@@ -513,11 +513,11 @@ module _ (c : Context) (own called : List Formal) (line : ℕ) (named : AreNamed
       (named j p.index g f there e ∙ ne_eqb j p.index (λ same. omega (arith, same, le)))
 
   once_from : (fs : List Formal) (i : ℕ) (before : List (List ℕ)) (ps : List Passing) → AllByRecursion (IsPassable c own called) ps → AreRising i ps
-      → AreNew i before → actuals_supplied_twice fs before (listed line own called ps) ≡ []
+      → AreNew i before → actuals_supplied_twice fs before (actuals_listed line own called ps) ≡ []
   once_from fs i before [] h rising new = refl
   once_from fs i before (p ∷ ps) h rising new =
       ap (actuals_supplied_twice fs before) (one_more line own called p ps h.0.formal h.0.there)
-      ∙ ap (λ (t : Bool). (if t then record { line = line; rule = 35 } ∷ [] else []) ++ actuals_supplied_twice fs (before ++ upper_case_name h.0.formal.name ∷ []) (listed line own called ps)) not_twice
+      ∙ ap (λ (t : Bool). (if t then record { line = line; rule = 35 } ∷ [] else []) ++ actuals_supplied_twice fs (before ++ upper_case_name h.0.formal.name ∷ []) (actuals_listed line own called ps)) not_twice
       ∙ once_from fs (suc p.index) (before ++ upper_case_name h.0.formal.name ∷ []) ps h.1 rising.1 (new_more p h.0.formal i before h.0.there rising.0 new)
     where
       no_second : (t : Bool) → (t && false) ≡ false
@@ -531,11 +531,11 @@ module _ (c : Context) (own called : List Formal) (line : ℕ) (named : AreNamed
 
   -- each parameter that is passed is supplied
   place_there : (i : ℕ) (f : Formal) → slice_get called i ≡ Some f → (ps : List Passing) → AllByRecursion (IsPassable c own called) ps
-      → list_any (λ (p : Passing). p.index == i) ps ≡ true → is_some (name_place (upper_case_name f.name) (supplied_names (listed line own called ps))) ≡ true
+      → list_any (λ (p : Passing). p.index == i) ps ≡ true → is_some (name_place (upper_case_name f.name) (supplied_names (actuals_listed line own called ps))) ≡ true
   place_there i f e [] h passes = absurd cc
   place_there i f e (p ∷ ps) h passes =
       ap (λ (xs : List Actual). is_some (name_place (upper_case_name f.name) (supplied_names xs))) (one_more line own called p ps h.0.formal h.0.there)
-      ∙ ap (λ (t : Bool). is_some (if t then Some 0 else option_map (λ k. suc k) (name_place (upper_case_name f.name) (supplied_names (listed line own called ps))))) test
+      ∙ ap (λ (t : Bool). is_some (if t then Some 0 else option_map (λ k. suc k) (name_place (upper_case_name f.name) (supplied_names (actuals_listed line own called ps))))) test
       ∙ by (p.index == i) passes (place_there i f e ps h.1)
     where
       turned : (a b : ℕ) → (a == b) ≡ (b == a)
@@ -553,20 +553,20 @@ module _ (c : Context) (own called : List Formal) (line : ℕ) (named : AreNamed
       some_suc (Some m) h = refl
 
       by : (t : Bool) → (t || list_any (λ (p : Passing). p.index == i) ps) ≡ true
-          → (list_any (λ (p : Passing). p.index == i) ps ≡ true → is_some (name_place (upper_case_name f.name) (supplied_names (listed line own called ps))) ≡ true)
-          → is_some (if t then Some 0 else option_map (λ k. suc k) (name_place (upper_case_name f.name) (supplied_names (listed line own called ps)))) ≡ true
+          → (list_any (λ (p : Passing). p.index == i) ps ≡ true → is_some (name_place (upper_case_name f.name) (supplied_names (actuals_listed line own called ps))) ≡ true)
+          → is_some (if t then Some 0 else option_map (λ k. suc k) (name_place (upper_case_name f.name) (supplied_names (actuals_listed line own called ps)))) ≡ true
       by true any more = refl
-      by false any more = some_suc (name_place (upper_case_name f.name) (supplied_names (listed line own called ps))) (more any)
+      by false any more = some_suc (name_place (upper_case_name f.name) (supplied_names (actuals_listed line own called ps))) (more any)
 
   all_supplied : (fs : List Formal) (o : Option Block) → in_parameter_order o fs ≡ map in_upper_case called → (ps : List Passing) → AllByRecursion (IsPassable c own called) ps
-      → AreAllPassed called ps → list_all (is_supplied (supplied_names (listed line own called ps))) fs ≡ true
+      → AreAllPassed called ps → list_all (is_supplied (supplied_names (actuals_listed line own called ps))) fs ≡ true
   all_supplied fs o order ps h passes =
-      sym (all_ordered (is_supplied (supplied_names (listed line own called ps))) o fs)
-      ∙ ap (list_all (is_supplied (supplied_names (listed line own called ps)))) order
-      ∙ all_there (is_supplied (supplied_names (listed line own called ps))) (map in_upper_case called)
+      sym (all_ordered (is_supplied (supplied_names (actuals_listed line own called ps))) o fs)
+      ∙ ap (list_all (is_supplied (supplied_names (actuals_listed line own called ps)))) order
+      ∙ all_there (is_supplied (supplied_names (actuals_listed line own called ps))) (map in_upper_case called)
       (λ i g e.
       let raw = from_upper called i g e in
-      ap (is_supplied (supplied_names (listed line own called ps))) (sym raw.2)
+      ap (is_supplied (supplied_names (actuals_listed line own called ps))) (sym raw.2)
       ∙ place_there i raw.0 raw.1 ps h (passes i (slice_get_within called i raw.0 raw.1)))
 
 -- ---- the laws
@@ -579,7 +579,7 @@ passings_kept c own called callee ps s h =
 pub actuals_right : AreActualsRight
 actuals_right c own called callee ps s h = record {
   by_24 = subst (λ (xs : List Actual). AllByRecursion (λ (a : Actual). is_resolved_date (resolution_of c a.value) ≡ false) xs) (sym h.actuals)
-      (all_actuals c own called s.line (λ (a : Actual). is_resolved_date (resolution_of c a.value) ≡ false) (λ p f e k. undated c own f p.actual k) ps h.passable);
+      (all_actuals c own called s.line (λ (a : Actual). is_resolved_date (resolution_of c a.value) ≡ false) (λ p f e k. operand_undated c own f p.actual k) ps h.passable);
   by_34 = subst (λ (xs : List Actual). AllByRecursion (λ (a : Actual). names_no_formal callee.formals a ≡ false) xs) (sym h.actuals)
       (all_actuals c own called s.line (λ (a : Actual). names_no_formal callee.formals a ≡ false)
       (λ p f e k. each_named c own called s.line h.named callee.formals (source_block_at c.blocks callee.place) h.order p f e) ps h.passable);

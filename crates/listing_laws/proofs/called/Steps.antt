@@ -16,7 +16,7 @@ use Rattle.stl_list.specs.declared.links.Link.{Link}
 use Rattle.stl_list.specs.declared.links.Link.TheVariants.{Joins, Has}
 use Rattle.stl_list.specs.Joined.{block_links, call_links, first_of, joined_link, joined_links, links, links_from, links_of_runs, total_parameter_count, passed_own, run_links, system_link, system_links, system_parameters, typed_link}
 use Rattle.stl_list.specs.Runs.{Run}
-use Rattle.listing_laws.specs.Chains.{HasStep, HasTyped}
+use Rattle.listing_laws.specs.Chains.{HasStep, LinksHaveType}
 use Rattle.listing_laws.specs.Statements.{statement_offset, run_of}
 use Rattle.listing_laws.specs.Steps.{AreFirstFound, AreSeedsFound, AreStepsFound, PassesParameterOn}
 use Rattle.listing_laws.proofs.RunLemmas.{runs_found}
@@ -42,9 +42,9 @@ to_step m n [] h = absurd h
 to_step m n (l ∷ ls) (inl h) = subst (λ (x : Link). HasStep (x ∷ ls) m n) (sym h) (inl (inl (refl, refl)))
 to_step m n (l ∷ ls) (inr h) = inr (to_step m n ls h)
 
-to_typed : (m : ℕ) (kind : Simple) (ls : List Link) → IsIn (Has m kind) ls → HasTyped ls m kind
+to_typed : (m : ℕ) (kind : Simple) (ls : List Link) → IsIn (Has m kind) ls → LinksHaveType ls m kind
 to_typed m kind [] h = absurd h
-to_typed m kind (l ∷ ls) (inl h) = subst (λ (x : Link). HasTyped (x ∷ ls) m kind) (sym h) (inl (refl, refl))
+to_typed m kind (l ∷ ls) (inl h) = subst (λ (x : Link). LinksHaveType (x ∷ ls) m kind) (sym h) (inl (refl, refl))
 to_typed m kind (l ∷ ls) (inr h) = inr (to_typed m kind ls h)
 
 -- ---- a passing

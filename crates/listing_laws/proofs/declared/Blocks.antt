@@ -9,6 +9,7 @@ use Rattle.plc_base.specs.Kinds.{is_code, is_data_block, is_data_type, is_functi
 use Rattle.plc_base.specs.declared.blocks.BlockId.{BlockId}
 use Rattle.plc_base.specs.declared.blocks.BlockKind.{BlockKind}
 use Rattle.plc_base.specs.declared.blocks.BlockKind.TheVariants as kinds
+use Rattle.flat_code.specs.declared.image_fields.TheConstants.{SECTION_IN, SECTION_IN_OUT, SECTION_OUT}
 use Rattle.flat_code.specs.Blocks.{Environment, block_faults}
 use Rattle.flat_code.specs.Image.{record_of_block}
 use Rattle.flat_code.specs.Loading.{AreVerified, environment_of_block, lens_of}
@@ -44,7 +45,8 @@ use Rattle.stl_list.specs.Joined.{Chains, chains_of, links, total_parameter_coun
 use Rattle.stl_list.specs.Lines.{lines_from}
 use Rattle.stl_list.specs.Signatures.{Signature, formals_from, formals_of_block, signature, signatures, signatures_from}
 use Rattle.sem_kept.specs.Accepted.{IsAccepted, program_in}
-use Rattle.sem_kept.proofs.accepted.Accepted.{IsSound, all_both, context_at, right_tree, sound_code_blocks, sound_data_blocks}
+use Rattle.sem_kept.specs.Settled.{context_at}
+use Rattle.sem_kept.proofs.accepted.Accepted.{IsSoundBlock, all_both, right_tree, sound_code_blocks, sound_data_blocks}
 use Rattle.sem_kept.proofs.accepted.RecordBlocks.{code_blocks_rise}
 use Rattle.sem_kept.proofs.accepted.RecordData.{id_there}
 use Rattle.sem_kept.proofs.accepted.RecordOrder.{Rise, RiseFrom}
@@ -60,7 +62,7 @@ use Rattle.listing_laws.proofs.declared.Right.{code_right, data_right}
 use Rattle.listing_laws.proofs.declared.Sections.{AreGrouped}
 use Rattle.listing_laws.specs.Rules.{AreDeclarationsRight, AreListedDeclarationsRight, AreListedHeadsRight, AreListedInstancesShort, IsHeadRight}
 use Rattle.listing_laws.proofs.declared.Locals.{body_near}
-use Rattle.listing_laws.proofs.declared.Sources.{HasSections, has_sections, made, made_sections, sections_apart}
+use Rattle.listing_laws.proofs.declared.Sources.{HasSections, has_sections, section_params, made_sections, sections_apart}
 
 -- ---- a block of the source that is no function block
 
@@ -74,11 +76,11 @@ pub record IsOrdinary (b : CodeBlock) : Type 0 where
   pub plain : AllByRecursion IsPlain b.params
   pub last : AreOf 2 groups.last
 
-made_of : (all : List Cell) (section : ℕ) (cs : List Cell) → AreOf section (made false all section cs)
+made_of : (all : List Cell) (section : ℕ) (cs : List Cell) → AreOf section (section_params false all section cs)
 made_of all section [] = tt
 made_of all section (c ∷ cs) = (refl, made_of all section cs)
 
-made_plain : (all : List Cell) (section : ℕ) (cs : List Cell) → AllByRecursion IsPlain (made false all section cs)
+made_plain : (all : List Cell) (section : ℕ) (cs : List Cell) → AllByRecursion IsPlain (section_params false all section cs)
 made_plain all section [] = tt
 made_plain all section (c ∷ cs) = ((refl, refl), made_plain all section cs)
 
@@ -128,7 +130,7 @@ groups_from returns params ins outs [] (Some k) is e input output in_out few =
         last = [];
         are = e ∙ ap (λ z. (ins ++ z) ++ r ∷ []) (append-nil outs) ∙ append_assoc ins outs (r ∷ []) ∙ ap (λ z. ins ++ z) (sym (append-nil (outs ++ r ∷ [])));
         input = input;
-        output = all_append (λ p. p.section ≡ 2) outs (r ∷ []) output (refl, tt);
+        output = all_append (λ p. p.section ≡ SECTION_OUT) outs (r ∷ []) output (refl, tt);
         in_out = tt;
         ends = Ends refl;
         short = omega (arith, size, a, b, c, d, few);
@@ -228,7 +230,7 @@ pub record IsLaidInstance (l : BlockLayout) (b : CodeBlock) : Type 0 where
   pub instance : IsInstance b
   pub are : l.components ≡ instance.cells
 
-pub laid_instance : (symbols : List Symbol) (t : Tree) (k : ℕ) (b : Block) (l : BlockLayout) (id : BlockId) → IsSound symbols t k b l → l.id ≡ Some id → is_code id.kind ≡ true
+pub laid_instance : (symbols : List Symbol) (t : Tree) (k : ℕ) (b : Block) (l : BlockLayout) (id : BlockId) → IsSoundBlock symbols t k b l → l.id ≡ Some id → is_code id.kind ≡ true
     → is_function_block id.kind ≡ true → IsLaidInstance l (compiled_block (code_block (context_at symbols t k) b l id))
 unfolding block_layout params_of
 laid_instance symbols t k b l id h e code fb = record {
@@ -295,7 +297,7 @@ laid_instance symbols t k b l id h e code fb = record {
     has_length : instance_len b l ≡ l.length
     has_length = ap (λ (s : Bool). if s then l.length else 0) own_fb
 
-pub sourced : (symbols : List Symbol) (t : Tree) (k : ℕ) (b : Block) (l : BlockLayout) (id : BlockId) → IsSound symbols t k b l → l.id ≡ Some id → is_code id.kind ≡ true
+pub sourced : (symbols : List Symbol) (t : Tree) (k : ℕ) (b : Block) (l : BlockLayout) (id : BlockId) → IsSoundBlock symbols t k b l → l.id ≡ Some id → is_code id.kind ≡ true
     → IsSourced (compiled_block (code_block (context_at symbols t k) b l id))
 unfolding block_layout params_of
 sourced symbols t k b l id h e code = record {
@@ -355,13 +357,13 @@ sourced symbols t k b l id h e code = record {
         own_fb = ap is_function_block kind ∙ fb
 
         ins : List Param
-        ins = made false l.components 1 parts.ins
+        ins = section_params false l.components SECTION_IN parts.ins
 
         outs : List Param
-        outs = made false l.components 2 parts.outs
+        outs = section_params false l.components SECTION_OUT parts.outs
 
         both : List Param
-        both = made false l.components 3 parts.both
+        both = section_params false l.components SECTION_IN_OUT parts.both
 
         are : params_of b l ≡ (ins ++ (outs ++ both)) ++ returned_params b.result
         are =
@@ -564,8 +566,8 @@ fronts_apart front back b rise = by front (rise_after (front ++ b ∷ back) rise
 
 -- ---- the rules of declarations
 
-pub grouped : (c : Chains) (ss : List Signature) (b : CodeBlock) → IsSourced b → IsKnown c ss b → AreGrouped (formals_of_block ss b.id)
-grouped c ss b s known = subst AreGrouped (sym known.are) (by s.shape)
+pub formals_grouped : (c : Chains) (ss : List Signature) (b : CodeBlock) → IsSourced b → IsKnown c ss b → AreGrouped (formals_of_block ss b.id)
+formals_grouped c ss b s known = subst AreGrouped (sym known.are) (by s.shape)
   where
     by : HasShape b → AreGrouped (formals_from c (is_function b.id.kind) false 0 known.first b.params)
     by (OfInstance fb i) = (all_listed c (is_function b.id.kind) known.first b.params (instance_groups b (is_function b.id.kind) i s.few) known.wide).groups
@@ -574,7 +576,7 @@ grouped c ss b s known = subst AreGrouped (sym known.are) (by s.shape)
 codes_right : (c : Chains) (ss : List Signature) (y : Types) (line : ℕ) (bs : List CodeBlock) → AllByRecursion IsSourced bs → AllByRecursion (IsKnown c ss) bs
     → AllByRecursion (λ b. AreDeclarationsRight y (listed_block ss line b)) bs
 codes_right c ss y line [] h k = tt
-codes_right c ss y line (b ∷ bs) (one, more) (known, knowns) = (code_right y ss line b (grouped c ss b one known), codes_right c ss y line bs more knowns)
+codes_right c ss y line (b ∷ bs) (one, more) (known, knowns) = (code_right y ss line b (formals_grouped c ss b one known), codes_right c ss y line bs more knowns)
 
 datas_right : (ss : List Signature) (y : Types) (line : ℕ) (ds : List DataBlock) → AllByRecursion (λ d. AreDeclarationsRight y (listed_data ss line d.number d.bytes d.instance_of)) ds
 datas_right ss y line [] = tt
@@ -638,7 +640,7 @@ data_kind kinds.Fb n e h = absurd cc
 data_kind kinds.Udt n e h = absurd cc
 data_kind kinds.Sfc n e h = absurd cc
 
-data_numbered : (symbols : List Symbol) (t : Tree) (k : ℕ) (b : Block) (l : BlockLayout) (id : BlockId) → IsSound symbols t k b l → l.id ≡ Some id → is_data_block id.kind ≡ true
+data_numbered : (symbols : List Symbol) (t : Tree) (k : ℕ) (b : Block) (l : BlockLayout) (id : BlockId) → IsSoundBlock symbols t k b l → l.id ≡ Some id → is_data_block id.kind ≡ true
     → IsNumbered (generated_data_block (context_at symbols t k) l id)
 unfolding IsNumbered
 data_numbered symbols t k b l id h e db = data_kind id.kind id.number db (ap is_number_beyond_limits (sym e ∙ id_there symbols t k b l h) ∙ h.head.by_44)
@@ -666,13 +668,13 @@ listed_heads source file symbols t accepted bytes file_bytes y line =
 not_long : (n : ℕ) → n ≤ 16384 → nat_lt 16384 n ≡ false
 not_long n h = grind (arith, nat_tests)
 
-unstructured : (k : BlockKind) → is_code k ≡ true → is_function_block k ≡ false → is_structured k ≡ false
-unstructured kinds.Ob e f = refl
-unstructured kinds.Fc e f = refl
-unstructured kinds.Fb e f = absurd cc
-unstructured kinds.Db e f = absurd cc
-unstructured kinds.Udt e f = absurd cc
-unstructured kinds.Sfc e f = absurd cc
+code_unstructured : (k : BlockKind) → is_code k ≡ true → is_function_block k ≡ false → is_structured k ≡ false
+code_unstructured kinds.Ob e f = refl
+code_unstructured kinds.Fc e f = refl
+code_unstructured kinds.Fb e f = absurd cc
+code_unstructured kinds.Db e f = absurd cc
+code_unstructured kinds.Udt e f = absurd cc
+code_unstructured kinds.Sfc e f = absurd cc
 
 no_length : (y : Types) (blocks : List Block) (b : Block) → is_structured b.kind ≡ false → length_of_block y blocks b ≡ 0
 unfolding length_of_block
@@ -683,7 +685,7 @@ short_code ss y blocks line b s again = by s.shape
   where
     by : HasShape b → nat_lt 16384 (length_of_block y blocks (listed_block ss line b)) ≡ false
     by (OfInstance fb i) = ap (nat_lt 16384) (again.instance_len y blocks line fb) ∙ not_long b.instance_len i.short
-    by (Ordinary fb o) = ap (nat_lt 16384) (no_length y blocks (listed_block ss line b) (unstructured b.id.kind s.code fb)) ∙ refl
+    by (Ordinary fb o) = ap (nat_lt 16384) (no_length y blocks (listed_block ss line b) (code_unstructured b.id.kind s.code fb)) ∙ refl
 
 short_codes : (ss : List Signature) (y : Types) (blocks : List Block) (line : ℕ) (bs : List CodeBlock) → AllByRecursion IsSourced bs → AllByRecursion (IsDeclaredAgain ss) bs
     → AllByRecursion (λ b. nat_lt 16384 (length_of_block y blocks (listed_block ss line b)) ≡ false) bs

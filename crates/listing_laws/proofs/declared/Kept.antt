@@ -10,6 +10,7 @@ use Rattle.plc_base.specs.Kinds.{is_code, is_function, is_function_block}
 use Rattle.plc_base.specs.declared.blocks.BlockKind.{BlockKind}
 use Rattle.plc_base.specs.declared.blocks.BlockKind.TheVariants as kinds
 use Rattle.plc_base.specs.Folding.{upper_case_name}
+use Rattle.flat_code.specs.declared.image_fields.TheConstants.{SECTION_IN, SECTION_IN_OUT, SECTION_OUT}
 use Rattle.flat_code.specs.Programs.{CodeBlock}
 use Rattle.flat_code.specs.declared.programs.Param.{Param}
 use Rattle.stl_ast.specs.Blocks.{is_parameter}
@@ -39,7 +40,7 @@ use Rattle.listing_laws.proofs.declared.Cells.{byte_cell, byte_cells, bytes_coun
 use Rattle.listing_laws.proofs.declared.Groups.{AreListed, AreOf, Ends, HasGroups}
 use Rattle.listing_laws.proofs.declared.Placed.{AreNamed, AreSame, alike_of, end_alike, end_append, end_near, look_in, named_append, named_apart, named_section, params_made, plain_length, same_append, same_section, static_is}
 use Rattle.listing_laws.proofs.declared.Sections.{AreGrouped, IsLast, Nothing as NoLast, Returned as LastReturned, last_result, listed_cells, result_is}
-use Rattle.listing_laws.proofs.declared.Sources.{Begins, HasSections, made}
+use Rattle.listing_laws.proofs.declared.Sources.{Begins, HasSections, section_params}
 
 -- ---- a block that is no function block
 
@@ -155,15 +156,15 @@ pub even : (n : ℕ) → n % 2 ≡ 0 → next_multiple (8 * n) 16 ≡ 8 * n
 unfolding next_multiple
 even n h = omega (arith, h)
 
-pub uncapped : (n : ℕ) → n ≤ 131072 → capped_size n ≡ n
-uncapped n h = grind (arith, nat_tests)
+pub size_uncapped : (n : ℕ) → n ≤ 131072 → capped_size n ≡ n
+size_uncapped n h = grind (arith, nat_tests)
 
 bytes_bits : (kind : PartKind) (name : List ℕ) (n : ℕ) → 0 < n → n % 2 ≡ 0 → n ≤ 16384 → cell_bits (byte_cell kind name n) [] ≡ 8 * n
 unfolding element_of
 bytes_bits kind name n some is_even short =
     let size = bytes_count n some in
     let whole : n * 8 ≡ 8 * n = omega arith in
-    rw (size, whole, uncapped (8 * n) (omega (arith, short)), even n is_even, uncapped (8 * n) (omega (arith, short))) refl
+    rw (size, whole, size_uncapped (8 * n) (omega (arith, short)), even n is_even, size_uncapped (8 * n) (omega (arith, short))) refl
 
 pub up_from : (n : ℕ) → next_multiple 0 16 + n ≡ n
 unfolding next_multiple
@@ -187,8 +188,8 @@ bytes_long kind name n is_even short = by (n == 0) refl
         let some : 0 < n = grind (arith, nat_tests) in
         let end : components_end 0 0 (byte_cell kind name n ∷ []) ≡ 8 * n =
         end_step 0 (byte_cell kind name n) [] ∙ last_step (capped_size (next_multiple 0 16 + cell_bits (byte_cell kind name n) []))
-        ∙ ap (λ m. capped_size (next_multiple 0 16 + m)) (bytes_bits kind name n some is_even short) ∙ ap capped_size (up_from (8 * n)) ∙ uncapped (8 * n) (omega (arith, short)) in
-        ap (λ m. capped_size (next_multiple m 16)) end ∙ ap capped_size (even n is_even) ∙ uncapped (8 * n) (omega (arith, short))
+        ∙ ap (λ m. capped_size (next_multiple 0 16 + m)) (bytes_bits kind name n some is_even short) ∙ ap capped_size (up_from (8 * n)) ∙ size_uncapped (8 * n) (omega (arith, short)) in
+        ap (λ m. capped_size (next_multiple m 16)) end ∙ ap capped_size (even n is_even) ∙ size_uncapped (8 * n) (omega (arith, short))
 
 up_even : (n far least : ℕ) → n % 2 ≡ 0 → far ≤ n → least ≤ n → max least (next_multiple (max (8 * n / 8) far) 2) ≡ n
 unfolding next_multiple
@@ -211,20 +212,20 @@ pub record IsInstance (b : CodeBlock) : Type 0 where
   pub cells : List Cell
   pub by_sections : HasSections cells
   pub apart : CellNamesDiffer (by_sections.ins ++ (by_sections.outs ++ by_sections.both))
-  pub params : b.params ≡ made true cells 1 by_sections.ins ++ (made true cells 2 by_sections.outs ++ made true cells 3 by_sections.both)
+  pub params : b.params ≡ section_params true cells SECTION_IN by_sections.ins ++ (section_params true cells SECTION_OUT by_sections.outs ++ section_params true cells SECTION_IN_OUT by_sections.both)
   pub length : b.instance_len ≡ structure_bits cells / 8
   pub short : b.instance_len ≤ 16384
 
-made_of : (all : List Cell) (section : ℕ) (cs : List Cell) → AreOf section (made true all section cs)
+made_of : (all : List Cell) (section : ℕ) (cs : List Cell) → AreOf section (section_params true all section cs)
 made_of all section [] = tt
 made_of all section (c ∷ cs) = (refl, made_of all section cs)
 
 pub instance_groups : (b : CodeBlock) (returns : Bool) → IsInstance b → length b.params ≤ 60 → HasGroups returns b.params
 instance_groups b returns i few =
     let h = i.by_sections in
-    let ins = made true i.cells 1 h.ins in
-    let outs = made true i.cells 2 h.outs in
-    let both = made true i.cells 3 h.both in
+    let ins = section_params true i.cells SECTION_IN h.ins in
+    let outs = section_params true i.cells SECTION_OUT h.outs in
+    let both = section_params true i.cells SECTION_IN_OUT h.both in
     let size = ap length i.params ∙ length-append ins (outs ++ both) in
     let more = length-append outs both in
     record {
@@ -400,17 +401,17 @@ instance_kept y ss reached b returns i few fb a = record {
     ds = plain_cells part.Input g.ins ++ (plain_cells part.Output g.outs ++ plain_cells part.InOut g.both)
 
     ps : List Param
-    ps = made true i.cells 1 h.ins ++ (made true i.cells 2 h.outs ++ made true i.cells 3 h.both)
+    ps = section_params true i.cells SECTION_IN h.ins ++ (section_params true i.cells SECTION_OUT h.outs ++ section_params true i.cells SECTION_IN_OUT h.both)
 
     whole : i.cells ≡ cs ++ h.rest
     whole = h.are ∙ sym (append_assoc h.ins (h.outs ++ h.both) h.rest ∙ ap (λ z. h.ins ++ z) (append_assoc h.outs h.both h.rest))
 
     same : AreSame (look_in i.cells) cs ps ds
     same =
-        same_append (look_in i.cells) h.ins (made true i.cells 1 h.ins) (plain_cells part.Input g.ins) (h.outs ++ h.both) (made true i.cells 2 h.outs ++ made true i.cells 3 h.both)
+        same_append (look_in i.cells) h.ins (section_params true i.cells SECTION_IN h.ins) (plain_cells part.Input g.ins) (h.outs ++ h.both) (section_params true i.cells SECTION_OUT h.outs ++ section_params true i.cells SECTION_IN_OUT h.both)
         (plain_cells part.Output g.outs ++ plain_cells part.InOut g.both)
         (same_section i.cells part.Input h.ins g.ins refl h.input a.wide_ins)
-        (same_append (look_in i.cells) h.outs (made true i.cells 2 h.outs) (plain_cells part.Output g.outs) h.both (made true i.cells 3 h.both) (plain_cells part.InOut g.both)
+        (same_append (look_in i.cells) h.outs (section_params true i.cells SECTION_OUT h.outs) (plain_cells part.Output g.outs) h.both (section_params true i.cells SECTION_IN_OUT h.both) (plain_cells part.InOut g.both)
         (same_section i.cells part.Output h.outs g.outs refl h.output a.wide_outs) (same_section i.cells part.InOut h.both g.both refl h.in_out a.wide_both))
 
     same_whole : AreSame (look_in (cs ++ h.rest)) cs ps ds

@@ -268,13 +268,13 @@ own_width a ps own w params e = by (a.kind == kind_number kinds.Fc) e
     by true f = own_there ps own w (ap (λ z. lacks_own_parameter (slice_get z own) w) (sym params) ∙ f)
     by false f = absurd cc
 
--- what each passing of a parameter comes to
-abbrev Joined : List Width → Environment → (last : FlatOperand) → (first other : ℕ) → Type 0
-Joined ws a last first other =
+-- each passing of a parameter is for one of the same width
+abbrev PassingsJoinWidths : List Width → Environment → (last : FlatOperand) → (first other : ℕ) → Type 0
+PassingsJoinWidths ws a last first other =
     (index own : ℕ) (w : Width) → lacks_own_parameter (parameter_meant a own) w ≡ false → misfits_call a last index (passed.Parameter own w) ≡ false
     → slice_get ws (first + own) ≡ slice_get ws (other + index)
 
-joined_good : (ws : List Width) (a : Environment) (last : FlatOperand) (first other : ℕ) (v : FlatOperand) → Joined ws a last first other → IsPassedRight a last v
+joined_good : (ws : List Width) (a : Environment) (last : FlatOperand) (first other : ℕ) (v : FlatOperand) → PassingsJoinWidths ws a last first other → IsPassedRight a last v
     → AllByRecursion (IsGoodLink ws) (joined_link first other (passed_parameter v))
 joined_good ws a last first other (flat.Pass index (passed.Parameter own w)) f (h, k) = (f index own w h k, tt)
 joined_good ws a last first other (flat.Pass index (passed.Literal value)) f h = tt
@@ -282,16 +282,16 @@ joined_good ws a last first other (flat.Pass index (passed.Direct x w byte bit))
 joined_good ws a last first other (flat.Pass index (passed.InBlock number x w byte bit)) f h = tt
 joined_good ws a last first other _ f h = tt
 
-all_joined : (ws : List Width) (a : Environment) (last : FlatOperand) (first other : ℕ) (before : List OpData) → Joined ws a last first other
+all_joined : (ws : List Width) (a : Environment) (last : FlatOperand) (first other : ℕ) (before : List OpData) → PassingsJoinWidths ws a last first other
     → AllByRecursion (λ op. IsPassedRight a last op.operand) before → AllByRecursion (IsGoodLink ws) (joined_links first other before)
 all_joined ws a last first other [] f h = tt
 all_joined ws a last first other (op ∷ ops) f (one, more) =
     all_append (IsGoodLink ws) (joined_link first other (passed_parameter op.operand)) (joined_links first other ops) (joined_good ws a last first other op.operand f one)
     (all_joined ws a last first other ops f more)
 
--- and of a system function
-abbrev Typed : List Width → Environment → (last : FlatOperand) → (first : ℕ) → List Formal → Type 0
-Typed ws a last first formals =
+-- each passing of a parameter to a system function has the width of the function's
+abbrev PassingsHaveWidth : List Width → Environment → (last : FlatOperand) → (first : ℕ) → List Formal → Type 0
+PassingsHaveWidth ws a last first formals =
     (index own : ℕ) (w : Width) (f : Formal) → lacks_own_parameter (parameter_meant a own) w ≡ false → misfits_call a last index (passed.Parameter own w) ≡ false → slice_get formals index ≡ Some f
     → slice_get ws (first + own) ≡ Some (width_of f.kind)
 
@@ -299,7 +299,7 @@ typed_good : (ws : List Width) (own : ℕ) (o : Option Formal) → ((f : Formal)
 typed_good ws own None h = tt
 typed_good ws own (Some f) h = (h f refl, tt)
 
-system_good : (ws : List Width) (a : Environment) (last : FlatOperand) (first : ℕ) (formals : List Formal) (v : FlatOperand) → Typed ws a last first formals → IsPassedRight a last v
+system_good : (ws : List Width) (a : Environment) (last : FlatOperand) (first : ℕ) (formals : List Formal) (v : FlatOperand) → PassingsHaveWidth ws a last first formals → IsPassedRight a last v
     → AllByRecursion (IsGoodLink ws) (system_link formals first (passed_parameter v))
 system_good ws a last first formals (flat.Pass index (passed.Parameter own w)) f (h, k) = typed_good ws (first + own) (slice_get formals index) (λ x e. f index own w x h k e)
 system_good ws a last first formals (flat.Pass index (passed.Literal value)) f h = tt
@@ -307,7 +307,7 @@ system_good ws a last first formals (flat.Pass index (passed.Direct x w byte bit
 system_good ws a last first formals (flat.Pass index (passed.InBlock number x w byte bit)) f h = tt
 system_good ws a last first formals _ f h = tt
 
-all_typed : (ws : List Width) (a : Environment) (last : FlatOperand) (first : ℕ) (formals : List Formal) (before : List OpData) → Typed ws a last first formals
+all_typed : (ws : List Width) (a : Environment) (last : FlatOperand) (first : ℕ) (formals : List Formal) (before : List OpData) → PassingsHaveWidth ws a last first formals
     → AllByRecursion (λ op. IsPassedRight a last op.operand) before → AllByRecursion (IsGoodLink ws) (system_links formals first before)
 all_typed ws a last first formals [] f h = tt
 all_typed ws a last first formals (op ∷ ops) f (one, more) =
@@ -343,7 +343,7 @@ record IsAmong (a : Environment) (blocks : List CodeBlock) (first : ℕ) (b : Co
 call_good : (a : Environment) (blocks : List CodeBlock) (first : ℕ) (b : CodeBlock) (kind number instance : ℕ) (before : List OpData) → IsAmong a blocks first b → IsCalledRight a (flat.Called kind number instance)
     → AllByRecursion (λ op. IsPassedRight a (flat.Called kind number instance) op.operand) before → AllByRecursion (IsGoodLink (widths blocks)) (call_links blocks (called_id kind number) first before)
 unfolding callee_among
-call_good a blocks first b kind number instance before among (s, found) h = by (nat_eq kind 5) refl found
+call_good a blocks first b kind number instance before among (s, found) h = by (nat_eq kind (kind_number kinds.Sfc)) refl found
   where
     ws : List Width
     ws = widths blocks
@@ -351,7 +351,7 @@ call_good a blocks first b kind number instance before among (s, found) h = by (
     last : FlatOperand
     last = flat.Called kind number instance
 
-    by : (t : Bool) → nat_eq kind 5 ≡ t → (if t then option_map callee_of_system (system_params number) else block_with kind number a.blocks) ≡ Some s
+    by : (t : Bool) → nat_eq kind (kind_number kinds.Sfc) ≡ t → (if t then option_map callee_of_system (system_params number) else block_with kind number a.blocks) ≡ Some s
         → AllByRecursion (IsGoodLink ws) (call_links blocks (called_id kind number) first before)
     by true e f = system
       where
@@ -361,7 +361,7 @@ call_good a blocks first b kind number instance before among (s, found) h = by (
         there : callee_among a.blocks kind number ≡ option_map callee_of_system (system_params number)
         there = ap (λ (t : Bool). if t then option_map callee_of_system (system_params number) else block_with kind number a.blocks) e
 
-        typed : Typed ws a last first (system_parameters number)
+        typed : PassingsHaveWidth ws a last first (system_parameters number)
         typed index own w x lacks fits at = whether (system_formals number) refl at
           where
             whether : (o : Option (List Formal)) → system_formals number ≡ o → slice_get (unwrap_or o []) index ≡ Some x → slice_get ws (first + own) ≡ Some (width_of x.kind)
@@ -397,7 +397,7 @@ call_good a blocks first b kind number instance before among (s, found) h = by (
         other : ℕ
         other = first_of blocks (called_id kind number)
 
-        joined : Joined ws a last first other
+        joined : PassingsJoinWidths ws a last first other
         joined index own w lacks fits =
             let r = fits_width a (slice_get s.2 index) own w (ap (λ z. misfits_callee a z index (passed.Parameter own w)) (sym there) ∙ fits) in
             among.own own w (own_width a b.params own w among.params lacks)

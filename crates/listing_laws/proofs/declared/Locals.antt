@@ -8,6 +8,7 @@ use Rattle.plc_base.specs.Widths.{byte_count}
 use Rattle.plc_base.specs.declared.places.Area.{Area}
 use Rattle.plc_base.specs.declared.places.Area.TheVariants as area
 use Rattle.plc_base.specs.declared.places.Width.{Width}
+use Rattle.flat_code.specs.Kinds.{timer_kind}
 use Rattle.flat_code.specs.Blocks.{Environment, at_offset, block_faults, faults_over, is_bad_actual, is_bad_place, is_odd_bit, is_stray_pass, lacks_width, op_faults, operand_fault, seven_if}
 use Rattle.flat_code.specs.Operations.{operation_of}
 use Rattle.flat_code.specs.Ops.{OpData}
@@ -147,7 +148,7 @@ implied_end most (operation.Pointer pointers.Tar1Ar2) = omega arith
 implied_end most _ = omega arith
 
 numbered_end : (most kind number : ℕ) → local_end (timer_or_counter kind number) ≤ most
-numbered_end most kind number = either_way (λ o. local_end o ≤ most) (kind == 1) (operand.Timer number) (operand.Counter number) (omega arith) (omega arith)
+numbered_end most kind number = either_way (λ o. local_end o ≤ most) (kind == timer_kind) (operand.Timer number) (operand.Counter number) (omega arith) (omega arith)
 
 operand_end : (most : ℕ) (formals : List Formal) (starts : List ℕ) (opened : Option ℕ) (o : Operation) (v : FlatOperand) → NearOperand most v
     → local_end (operand_by formals starts opened o v) ≤ most

@@ -105,10 +105,10 @@ byte_writes : (at : ℕ) → List ℕ → List Write
 byte_writes at [] = []
 byte_writes at (v ∷ vs) = record { offset = capped_size (0 + capped_size (at * 8)); width = 8; value = v } ∷ byte_writes (at + 1) vs
 
-zipped : (at : ℕ) (vs : List ℕ) → writes_at 8 (map (λ k. capped_size (0 + capped_size (k * 8))) (range_with_len at (length vs))) vs ≡ byte_writes at vs
+writes_zipped : (at : ℕ) (vs : List ℕ) → writes_at 8 (map (λ k. capped_size (0 + capped_size (k * 8))) (range_with_len at (length vs))) vs ≡ byte_writes at vs
 unfolding byte_writes
-zipped at [] = refl
-zipped at (v ∷ vs) = ap (λ z. record { offset = capped_size (0 + capped_size (at * 8)); width = 8; value = v } ∷ z) (zipped (at + 1) vs)
+writes_zipped at [] = refl
+writes_zipped at (v ∷ vs) = ap (λ z. record { offset = capped_size (0 + capped_size (at * 8)); width = 8; value = v } ∷ z) (writes_zipped (at + 1) vs)
 
 place_of_byte : (at : ℕ) → at < 65536 → (capped_size (0 + capped_size (at * 8)) ≡ 8 * at)
 place_of_byte at h = omega (arith, h)
@@ -147,10 +147,10 @@ all_true bytes front (v ∷ vs) at e are (one, more) near =
       all_true bytes (front ++ v ∷ []) vs (at + 1) (omega (arith, e, size)) (are ∙ sym (append_assoc front (v ∷ []) vs)) more (omega (arith, near)),
     )
 
-reached : (vs : List ℕ) (at byte bit : ℕ) → at ≤ byte → byte < at + length vs → at + length vs ≤ 65536 → OneReaches (byte_writes at vs) byte bit
+byte_reached : (vs : List ℕ) (at byte bit : ℕ) → at ≤ byte → byte < at + length vs → at + length vs ≤ 65536 → OneReaches (byte_writes at vs) byte bit
 unfolding byte_writes
-reached [] at byte bit low high near = absurd (omega (arith, low, high))
-reached (v ∷ vs) at byte bit low high near = by (nat_eq byte at) refl (λ further. reached vs (at + 1) byte bit further (omega (arith, high)) (omega (arith, near)))
+byte_reached [] at byte bit low high near = absurd (omega (arith, low, high))
+byte_reached (v ∷ vs) at byte bit low high near = by (nat_eq byte at) refl (λ further. byte_reached vs (at + 1) byte bit further (omega (arith, high)) (omega (arith, near)))
   where
     by : (t : Bool) → nat_eq byte at ≡ t → (at + 1 ≤ byte → OneReaches (byte_writes (at + 1) vs) byte bit) → OneReaches (byte_writes at (v ∷ vs)) byte bit
     by true e more =
@@ -179,7 +179,7 @@ written_again bytes small near =
     (λ byte bit less e. by byte bit (nat_lt byte (length bytes)) refl e)
   where
     by : (byte bit : ℕ) (t : Bool) → nat_lt byte (length bytes) ≡ t → bit_in bytes byte bit ≡ 1 → OneReaches (byte_writes 0 bytes) byte bit
-    by byte bit true is e = reached bytes 0 byte bit (omega arith) (grind (arith, nat_tests)) (omega (arith, near))
+    by byte bit true is e = byte_reached bytes 0 byte bit (omega arith) (grind (arith, nat_tests)) (omega (arith, near))
     by byte bit false is e =
         let behind : length bytes ≤ byte = grind (arith, nat_tests) in
         let none : bit_in bytes byte bit ≡ 0 = ap (λ b. bit_at b bit) (past_end bytes byte behind) ∙ no_bit bit in
@@ -296,7 +296,7 @@ writes_back b bs small near = by (list_all (λ x. x == 0) bytes) refl
           fit = subst (AreFit (length bytes)) (sym some) (record { fit = from_fit b 1 bs; few = omega (arith, few) });
           back = ap (λ vs. fold bytes_with_write (replicate (length bytes) 0) (writes_at 8 offsets (values_in vs))) some
               ∙ ap (λ vs. fold bytes_with_write (replicate (length bytes) 0) (writes_at 8 offsets vs)) (all_values bytes)
-              ∙ ap (fold bytes_with_write (replicate (length bytes) 0)) (zipped 0 bytes) ∙ written_again bytes small near;
+              ∙ ap (fold bytes_with_write (replicate (length bytes) 0)) (writes_zipped 0 bytes) ∙ written_again bytes small near;
         }
 
 no_cells : (of_type : ℕ → List ℕ → List Write) (line : ℕ) (y : Types) (bs : List ℕ) → bs ≡ [] → writes_from of_type 0 (0 ∷ []) 0 (cells_of y of_structure part.Static [] (bytes_here line data_name (length bs) (values_of bs))) ≡ []

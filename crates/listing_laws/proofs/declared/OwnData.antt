@@ -31,7 +31,8 @@ use Rattle.stl_list.specs.DataBlocks.{listed_data}
 use Rattle.stl_list.specs.Initial.{values_of}
 use Rattle.stl_list.specs.Signatures.{Signature}
 use Rattle.sem_kept.specs.Accepted.{program_in}
-use Rattle.sem_kept.proofs.accepted.Accepted.{IsSound, context_at, right_tree, sound_data_blocks}
+use Rattle.sem_kept.specs.Settled.{context_at}
+use Rattle.sem_kept.proofs.accepted.Accepted.{IsSoundBlock, right_tree, sound_data_blocks}
 use Rattle.sem_kept.proofs.accepted.RecordData.{length_there}
 use Rattle.sem_kept.proofs.accepted.RecordParams.{end_step}
 use Rattle.block_layout.proofs.FillLemmas.{written_length}
@@ -41,7 +42,7 @@ use Rattle.listing_laws.specs.OwnData.{AreOwnDataAgain, IsOwnDataAgain}
 use Rattle.listing_laws.proofs.CompiledLemmas.{written_compiled}
 use Rattle.listing_laws.proofs.RangeLemmas.{IsListedData, program_listed}
 use Rattle.listing_laws.proofs.declared.Cells.{bytes_count}
-use Rattle.listing_laws.proofs.declared.Kept.{even, last_step, no_bytes_end, uncapped, up_from}
+use Rattle.listing_laws.proofs.declared.Kept.{even, last_step, no_bytes_end, size_uncapped, up_from}
 use Rattle.listing_laws.proofs.declared.Own.{own_bytes, own_cell, own_cells}
 
 -- ---- lengths of a source
@@ -81,7 +82,7 @@ initial_long l blocks k =
     written_length (replicate (length_at (slice_get l k)) 0) (structure_writes l (structure_of l k) ++ setting_writes l k (settings_at (slice_get blocks k)))
     ∙ length-replicate (length_at (slice_get l k)) 0
 
-source_even : (symbols : List Symbol) (t : Tree) (k : ℕ) (b : Block) (l : BlockLayout) (id : BlockId) → IsSound symbols t k b l → l.id ≡ Some id → is_data_block id.kind ≡ true
+source_even : (symbols : List Symbol) (t : Tree) (k : ℕ) (b : Block) (l : BlockLayout) (id : BlockId) → IsSoundBlock symbols t k b l → l.id ≡ Some id → is_data_block id.kind ≡ true
     → IsEven (generated_data_block (context_at symbols t k) l id)
 source_even symbols t k b l id h named db =
     let y = types_of_source symbols t.blocks in
@@ -97,7 +98,7 @@ unfolding element_of own_cell
 own_bits n values some is_even short =
     let size = bytes_count n some in
     let whole : n * 8 ≡ 8 * n = omega arith in
-    rw (size, whole, uncapped (8 * n) (omega (arith, short)), even n is_even, uncapped (8 * n) (omega (arith, short))) refl
+    rw (size, whole, size_uncapped (8 * n) (omega (arith, short)), even n is_even, size_uncapped (8 * n) (omega (arith, short))) refl
 
 own_end : (n : ℕ) (values : List Init) → components_end 0 0 (own_cell n values ∷ []) ≡ capped_size (next_multiple 0 16 + cell_bits (own_cell n values) [])
 unfolding own_cell
@@ -107,8 +108,8 @@ own_long : (n : ℕ) (values : List Init) → 0 < n → n % 2 ≡ 0 → n ≤ 16
 unfolding structure_bits
 own_long n values some is_even short =
     let end : components_end 0 0 (own_cell n values ∷ []) ≡ 8 * n =
-    own_end n values ∙ ap (λ m. capped_size (next_multiple 0 16 + m)) (own_bits n values some is_even short) ∙ ap capped_size (up_from (8 * n)) ∙ uncapped (8 * n) (omega (arith, short)) in
-    ap (λ m. capped_size (next_multiple m 16)) end ∙ ap capped_size (even n is_even) ∙ uncapped (8 * n) (omega (arith, short))
+    own_end n values ∙ ap (λ m. capped_size (next_multiple 0 16 + m)) (own_bits n values some is_even short) ∙ ap capped_size (up_from (8 * n)) ∙ size_uncapped (8 * n) (omega (arith, short)) in
+    ap (λ m. capped_size (next_multiple m 16)) end ∙ ap capped_size (even n is_even) ∙ size_uncapped (8 * n) (omega (arith, short))
 
 components_long : (y : Types) (ss : List Signature) (line number : ℕ) (bytes : List ℕ) → length bytes % 2 ≡ 0 → length bytes ≤ 16384
     → structure_bits (components_of y (listed_data ss line number bytes None)) ≡ 8 * length bytes

@@ -24,7 +24,7 @@ use Rattle.sem_kept.proofs.accepted.RecordParams.{end_step, found_here, not_both
 use Rattle.listing_laws.specs.Declared.{AreWide}
 use Rattle.listing_laws.proofs.declared.Apart.{parameters_apart}
 use Rattle.listing_laws.proofs.declared.Cells.{AreNumbered, plain_cell, plain_cells}
-use Rattle.listing_laws.proofs.declared.Sources.{AreParameters, IsParameterCell, cell_width, made}
+use Rattle.listing_laws.proofs.declared.Sources.{AreParameters, IsSectionCell, cell_width, section_params}
 
 -- ---- a parameter with its cell in a source and in the listing
 
@@ -60,7 +60,7 @@ same_offset : (o : Option Member) → offset_of o ≡ offset_named o
 same_offset None = refl
 same_offset (Some m) = refl
 
-same_one : (all : List Cell) (kind : PartKind) (opens : Bool) (c : Cell) (f : Formal) → is_parameter kind ≡ true → IsParameterCell kind opens c → width_of f.kind ≡ cell_width c.of
+same_one : (all : List Cell) (kind : PartKind) (opens : Bool) (c : Cell) (f : Formal) → is_parameter kind ≡ true → IsSectionCell kind opens c → width_of f.kind ≡ cell_width c.of
     → IsSame (look_in all) c (param_at_bits (section_number kind) (cell_width c.of) (offset_of (component_of_name 0 0 0 c.name all))) (plain_cell opens kind f)
 same_one all kind opens c f is h wide =
     let own : width_of h.simple ≡ width_of f.kind = sym (ap cell_width h.elementary.of) ∙ sym wide in
@@ -82,14 +82,14 @@ same_one all kind opens c f is h wide =
     }
 
 same_later : (all : List Cell) (kind : PartKind) (cs : List Cell) (fs : List Formal) → is_parameter kind ≡ true → AreParameters kind false cs
-    → AreWide (made true all (section_number kind) cs) fs → AreSame (look_in all) cs (made true all (section_number kind) cs) (map (plain_cell false kind) fs)
+    → AreWide (section_params true all (section_number kind) cs) fs → AreSame (look_in all) cs (section_params true all (section_number kind) cs) (map (plain_cell false kind) fs)
 same_later all kind [] [] is h wide = tt
 same_later all kind [] (f ∷ fs) is h wide = absurd wide
 same_later all kind (c ∷ cs) [] is h wide = absurd wide
 same_later all kind (c ∷ cs) (f ∷ fs) is (one, more) (w, ws) = (same_one all kind false c f is one w, same_later all kind cs fs is more ws)
 
 pub same_section : (all : List Cell) (kind : PartKind) (cs : List Cell) (fs : List Formal) → is_parameter kind ≡ true → AreParameters kind true cs
-    → AreWide (made true all (section_number kind) cs) fs → AreSame (look_in all) cs (made true all (section_number kind) cs) (plain_cells kind fs)
+    → AreWide (section_params true all (section_number kind) cs) fs → AreSame (look_in all) cs (section_params true all (section_number kind) cs) (plain_cells kind fs)
 same_section all kind [] [] is h wide = tt
 same_section all kind [] (f ∷ fs) is h wide = absurd wide
 same_section all kind (c ∷ cs) [] is h wide = absurd wide

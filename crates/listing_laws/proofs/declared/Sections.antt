@@ -121,13 +121,13 @@ declared_groups line kind ps qs rs ts =
     flat_map-append f ps (qs ++ (rs ++ ts))
     ∙ ap (λ z. flat_map f ps ++ z) (flat_map-append f qs (rs ++ ts) ∙ ap (λ z. flat_map f qs ++ z) (flat_map-append f rs ts))
 
-joined : {A : Type 0} (ps qs rs ts ps' qs' rs' ts' : List A) → ps ≡ ps' → qs ≡ qs' → rs ≡ rs' → ts ≡ ts' → ps ++ (qs ++ (rs ++ ts)) ≡ ps' ++ (qs' ++ (rs' ++ ts'))
-joined ps qs rs ts ps' qs' rs' ts' a b c d = λ i. a i ++ (b i ++ (c i ++ d i))
+four_joined : {A : Type 0} (ps qs rs ts ps' qs' rs' ts' : List A) → ps ≡ ps' → qs ≡ qs' → rs ≡ rs' → ts ≡ ts' → ps ++ (qs ++ (rs ++ ts)) ≡ ps' ++ (qs' ++ (rs' ++ ts'))
+four_joined ps qs rs ts ps' qs' rs' ts' a b c d = λ i. a i ++ (b i ++ (c i ++ d i))
 
 pub declared_input : (line : ℕ) (fs : List Formal) (g : AreGrouped fs) → declarations_of_section line fs part.Input ≡ map (plain_declaration line) g.ins
 declared_input line fs g =
     ap (λ z. declarations_of_section line z part.Input) g.are ∙ declared_groups line part.Input g.ins g.outs g.both g.last
-    ∙ joined _ _ _ _ (map (plain_declaration line) g.ins) [] [] []
+    ∙ four_joined _ _ _ _ (map (plain_declaration line) g.ins) [] [] []
     (declared_same line part.Input g.ins g.input.sections (not_return 0 g.ins g.input.named))
     (declared_other line part.Output part.Input g.outs refl g.output.sections)
     (declared_other line part.InOut part.Input g.both refl g.in_out.sections)
@@ -137,7 +137,7 @@ declared_input line fs g =
 pub declared_output : (line : ℕ) (fs : List Formal) (g : AreGrouped fs) → declarations_of_section line fs part.Output ≡ map (plain_declaration line) g.outs
 declared_output line fs g =
     ap (λ z. declarations_of_section line z part.Output) g.are ∙ declared_groups line part.Output g.ins g.outs g.both g.last
-    ∙ joined _ _ _ _ [] (map (plain_declaration line) g.outs) [] []
+    ∙ four_joined _ _ _ _ [] (map (plain_declaration line) g.outs) [] []
     (declared_other line part.Input part.Output g.ins refl g.input.sections)
     (declared_same line part.Output g.outs g.output.sections (not_return (length g.ins) g.outs g.output.named))
     (declared_other line part.InOut part.Output g.both refl g.in_out.sections)
@@ -147,7 +147,7 @@ declared_output line fs g =
 pub declared_in_out : (line : ℕ) (fs : List Formal) (g : AreGrouped fs) → declarations_of_section line fs part.InOut ≡ map (plain_declaration line) g.both
 declared_in_out line fs g =
     ap (λ z. declarations_of_section line z part.InOut) g.are ∙ declared_groups line part.InOut g.ins g.outs g.both g.last
-    ∙ joined _ _ _ _ [] [] (map (plain_declaration line) g.both) []
+    ∙ four_joined _ _ _ _ [] [] (map (plain_declaration line) g.both) []
     (declared_other line part.Input part.InOut g.ins refl g.input.sections)
     (declared_other line part.Output part.InOut g.outs refl g.output.sections)
     (declared_same line part.InOut g.both g.in_out.sections (not_return (length g.ins + length g.outs) g.both g.in_out.named))
@@ -225,7 +225,7 @@ pub record HasCells (y : Types) (o : Outside) (line : ℕ) (fs : List Formal) (g
 pub sections_cells : (y : Types) (o : Outside) (line : ℕ) (fs : List Formal) (g : AreGrouped fs) (b : CodeBlock) → o.depth ≡ 0 → AreTaken 0 false o.names → HasCells y o line fs g b
 unfolding section_parts
 sections_cells y o line fs g b shallow taken = record {
-  components = parts (λ k. not (is_temp k)) ∙ joined _ _ _ _ (plain_cells part.Input g.ins) (plain_cells part.Output g.outs) (plain_cells part.InOut g.both) static_ first second third last;
+  components = parts (λ k. not (is_temp k)) ∙ four_joined _ _ _ _ (plain_cells part.Input g.ins) (plain_cells part.Output g.outs) (plain_cells part.InOut g.both) static_ first second third last;
   temps = parts is_temp ∙ append-nil _ ∙ fifth;
 }
   where

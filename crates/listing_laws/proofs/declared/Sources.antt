@@ -10,6 +10,7 @@ use Rattle.plc_base.proofs.ListLemmas.{all_append}
 use Rattle.plc_base.specs.declared.blocks.BlockKind.{BlockKind}
 use Rattle.plc_base.specs.declared.places.Width.{Width}
 use Rattle.plc_base.specs.declared.places.Width.TheVariants as width
+use Rattle.flat_code.specs.declared.image_fields.TheConstants.{SECTION_IN, SECTION_IN_OUT, SECTION_OUT}
 use Rattle.flat_code.specs.declared.programs.Param.{Param}
 use Rattle.stl_ast.specs.Blocks.{is_parameter, part_rank}
 use Rattle.stl_ast.specs.Outline.{IsOutline}
@@ -28,24 +29,24 @@ use Rattle.block_layout.specs.declared.cells.Cell.{Cell}
 use Rattle.block_layout.specs.declared.cells.Element.{Element}
 use Rattle.block_layout.specs.declared.cells.Element.TheVariants.{Plain}
 use Rattle.stl_codegen.specs.Generated.{param_at_bits, param_bits, param_here, param_of, section_number}
-use Rattle.sem_kept.proofs.accepted.RecordParams.{AllBefore, AreOnce, IsElementary as IsElementaryDeclared, IsNew, NotIn, before_front, before_rest, outer_levels, parameter_sound, seen_by}
+use Rattle.sem_kept.proofs.accepted.RecordParams.{AllBefore, AreCellsOnce, IsElementaryDeclaration, IsNew, NotIn, before_front, before_rest, outer_levels, parameter_sound, seen_by}
 
 -- ---- cells of parameters
 
 -- the cell of a parameter in a section, the first of it or not
-pub record IsParameterCell (kind : PartKind) (opens : Bool) (c : Cell) : Type 0 where
+pub record IsSectionCell (kind : PartKind) (opens : Bool) (c : Cell) : Type 0 where
   pub simple : Simple
   pub elementary : IsElementary c simple
   pub section : c.section ≡ kind
   pub begins : c.opens ≡ opens
 
--- those of a section, of which the first is its first one or not
+-- the cells of the parameters of a section, of which the first is its first one or not
 abbrev pub AreParameters : PartKind → (opens : Bool) → List Cell → Type 0
 AreParameters kind opens [] = Unit {0}
-AreParameters kind opens (c ∷ cs) = IsParameterCell kind opens c × AreParameters kind false cs
+AreParameters kind opens (c ∷ cs) = IsSectionCell kind opens c × AreParameters kind false cs
 
 parameter_section : (y : Types) (o : Outside) (kind : PartKind) (before ds : List Declaration) → o.depth ≡ 0
-    → AllByRecursion (λ d. (d.level ≡ 0) × IsElementaryDeclared d) ds → AllBefore (IsNew o) before ds
+    → AllByRecursion (λ d. (d.level ≡ 0) × IsElementaryDeclaration d) ds → AllBefore (IsNew o) before ds
     → AreParameters kind false (cells_of y o kind before ds)
 unfolding cell_of
 parameter_section y o kind before [] shallow h new = tt
@@ -268,11 +269,11 @@ cell_width (Plain kind) = width_of kind
 cell_width _ = width.Bit
 
 -- the parameters of a section, from the cells of a structure
-abbrev pub made : (in_instance : Bool) → (all : List Cell) → (section : ℕ) → List Cell → List Param
-made in_instance all section [] = []
-made in_instance all section (c ∷ cs) = param_at_bits section (cell_width c.of) (param_bits in_instance all c) ∷ made in_instance all section cs
+abbrev pub section_params : (in_instance : Bool) → (all : List Cell) → (section : ℕ) → List Cell → List Param
+section_params in_instance all section [] = []
+section_params in_instance all section (c ∷ cs) = param_at_bits section (cell_width c.of) (param_bits in_instance all c) ∷ section_params in_instance all section cs
 
-made_here : (in_instance : Bool) (all : List Cell) (kind : PartKind) (opens : Bool) (c : Cell) → is_parameter kind ≡ true → IsParameterCell kind opens c
+made_here : (in_instance : Bool) (all : List Cell) (kind : PartKind) (opens : Bool) (c : Cell) → is_parameter kind ≡ true → IsSectionCell kind opens c
     → param_here in_instance all c ≡ param_at_bits (section_number kind) (cell_width c.of) (param_bits in_instance all c) ∷ []
 made_here in_instance all kind opens c is h =
     let back = sym h.elementary.of in
@@ -281,7 +282,7 @@ made_here in_instance all kind opens c is h =
     ∙ (λ i. param_at_bits (section_number (h.section i)) (cell_width (back i)) (param_bits in_instance all c) ∷ [])
 
 pub made_from : (in_instance : Bool) (all : List Cell) (kind : PartKind) (opens : Bool) (cs : List Cell) → is_parameter kind ≡ true → AreParameters kind opens cs
-    → flat_map (λ c. param_here in_instance all c) cs ≡ made in_instance all (section_number kind) cs
+    → flat_map (λ c. param_here in_instance all c) cs ≡ section_params in_instance all (section_number kind) cs
 made_from in_instance all kind opens [] is h = refl
 made_from in_instance all kind opens (c ∷ cs) is (one, more) =
     let here = made_here in_instance all kind opens c is one in
@@ -293,7 +294,7 @@ made_others in_instance all [] h = refl
 made_others in_instance all (c ∷ cs) (one, more) = rw one (made_others in_instance all cs more)
 
 pub made_sections : (in_instance : Bool) (all cells : List Cell) (h : HasSections cells)
-    → flat_map (λ c. param_here in_instance all c) cells ≡ made in_instance all 1 h.ins ++ (made in_instance all 2 h.outs ++ made in_instance all 3 h.both)
+    → flat_map (λ c. param_here in_instance all c) cells ≡ section_params in_instance all SECTION_IN h.ins ++ (section_params in_instance all SECTION_OUT h.outs ++ section_params in_instance all SECTION_IN_OUT h.both)
 made_sections in_instance all cells h =
     let f = λ (c : Cell). param_here in_instance all c in
     ap (flat_map f) h.are
@@ -301,20 +302,20 @@ made_sections in_instance all cells h =
     ∙ ap (λ z. flat_map f h.ins ++ z) (flat_map-append f h.outs (h.both ++ h.rest) ∙ ap (λ z. flat_map f h.outs ++ z) (flat_map-append f h.both h.rest))
     ∙ (λ i. made_from in_instance all part.Input true h.ins refl h.input i ++ (made_from in_instance all part.Output true h.outs refl h.output i
     ++ (made_from in_instance all part.InOut true h.both refl h.in_out i ++ made_others in_instance all h.rest h.others i)))
-    ∙ ap (λ z. made in_instance all 1 h.ins ++ (made in_instance all 2 h.outs ++ z)) (append-nil (made in_instance all 3 h.both))
+    ∙ ap (λ z. section_params in_instance all SECTION_IN h.ins ++ (section_params in_instance all SECTION_OUT h.outs ++ z)) (append-nil (section_params in_instance all SECTION_IN_OUT h.both))
 
 -- ---- their names are apart
 
-once_front : (seen : List (List ℕ)) (xs ys : List Cell) → AreOnce seen (xs ++ ys) → AreOnce seen xs
+once_front : (seen : List (List ℕ)) (xs ys : List Cell) → AreCellsOnce seen (xs ++ ys) → AreCellsOnce seen xs
 once_front seen [] ys h = tt
 once_front seen (x ∷ xs) ys h = (h.0, once_front (seen_by seen x) xs ys h.1)
 
-apart_from : (seen : List (List ℕ)) (cs : List Cell) → AllByRecursion (λ c. c.level ≡ 0) cs → AreOnce seen cs → CellNamesDiffer cs × AllByRecursion (λ c. NotIn c.name seen) cs
+apart_from : (seen : List (List ℕ)) (cs : List Cell) → AllByRecursion (λ c. c.level ≡ 0) cs → AreCellsOnce seen cs → CellNamesDiffer cs × AllByRecursion (λ c. NotIn c.name seen) cs
 apart_from seen [] h once = (tt, tt)
 apart_from seen (c ∷ cs) (level, levels) (one, more) =
     let outer : nat_eq c.level 0 ≡ true = eq-eqb c.level 0 level in
     let seen_it : seen_by seen c ≡ c.name ∷ seen = ap (λ (t : Bool). if t then c.name ∷ seen else seen) outer in
-    let rest = apart_from (c.name ∷ seen) cs levels (subst (λ z. AreOnce z cs) seen_it more) in
+    let rest = apart_from (c.name ∷ seen) cs levels (subst (λ z. AreCellsOnce z cs) seen_it more) in
     ((firsts cs rest.1, rest.0), (one outer, seconds cs rest.1))
   where
     firsts : (ds : List Cell) → AllByRecursion (λ d. NotIn d.name (c.name ∷ seen)) ds → AllByRecursion (λ d. bytes_eq d.name c.name ≡ false) ds
@@ -329,12 +330,12 @@ levels_of : (kind : PartKind) (opens : Bool) (cs : List Cell) → AreParameters 
 levels_of kind opens [] h = tt
 levels_of kind opens (c ∷ cs) (one, more) = (one.elementary.level, levels_of kind false cs more)
 
-pub sections_apart : (cells : List Cell) (h : HasSections cells) → AreOnce [] cells → CellNamesDiffer (h.ins ++ (h.outs ++ h.both))
+pub sections_apart : (cells : List Cell) (h : HasSections cells) → AreCellsOnce [] cells → CellNamesDiffer (h.ins ++ (h.outs ++ h.both))
 sections_apart cells h once =
     (apart_from [] (h.ins ++ (h.outs ++ h.both))
     (all_append (λ c. c.level ≡ 0) h.ins (h.outs ++ h.both) (levels_of part.Input true h.ins h.input)
     (all_append (λ c. c.level ≡ 0) h.outs h.both (levels_of part.Output true h.outs h.output) (levels_of part.InOut true h.both h.in_out)))
-    (once_front [] (h.ins ++ (h.outs ++ h.both)) h.rest (subst (AreOnce []) (h.are ∙ grouped) once))).0
+    (once_front [] (h.ins ++ (h.outs ++ h.both)) h.rest (subst (AreCellsOnce []) (h.are ∙ grouped) once))).0
   where
     grouped : h.ins ++ (h.outs ++ (h.both ++ h.rest)) ≡ (h.ins ++ (h.outs ++ h.both)) ++ h.rest
     grouped = sym (append_assoc h.ins (h.outs ++ h.both) h.rest ∙ ap (λ z. h.ins ++ z) (append_assoc h.outs h.both h.rest))

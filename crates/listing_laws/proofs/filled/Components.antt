@@ -31,14 +31,14 @@ outer_component block place offset = record {
   offset = offset;
 }
 
-uncapped : (n : ℕ) → n ≤ largest_size → capped_size (0 + capped_size n) ≡ n
-uncapped n h = omega (arith, h)
+offset_uncapped : (n : ℕ) → n ≤ largest_size → capped_size (0 + capped_size n) ≡ n
+offset_uncapped n h = omega (arith, h)
 
 pub entered_sound : (cells : List Cell) (block place : ℕ) (m : Member) (c : Cell) → m.place ≡ place → slice_get cells place ≡ Some c → c.sound ≡ true → m.offset ≤ largest_size
     → path_end_at_member cells block false 0 0 (Some m) ≡ path_end.Reaches (outer_component block place m.offset)
 entered_sound cells block place m c at there sound few =
     let same : 0 + m.place ≡ place = omega (arith, at) in
-    (λ i. path_end_at_cell block false (same i) (uncapped m.offset few i) (slice_get cells (same i)))
+    (λ i. path_end_at_cell block false (same i) (offset_uncapped m.offset few i) (slice_get cells (same i)))
     ∙ ap (path_end_at_cell block false place m.offset) there
     ∙ ap (λ (t : Bool). if t then path_end.Reaches (outer_component block place m.offset) else path_end.Unjudged) sound
 

@@ -42,7 +42,7 @@ use Rattle.stl_list.specs.Joined.{Chains}
 use Rattle.stl_list.specs.Lines.{line_behind_statements}
 use Rattle.stl_list.specs.Sections.{static_len, static_name, static_start}
 use Rattle.stl_list.specs.Signatures.{Signature, formals_from, formals_of_block, is_behind, signature, signatures_from}
-use Rattle.sem_kept.proofs.accepted.Accepted.{context_at}
+use Rattle.sem_kept.specs.Settled.{context_at}
 use Rattle.block_layout.proofs.CommonLemmas.{all_there}
 use Rattle.sem_kept.proofs.accepted.OperandsViews.{data_length, whole_is}
 use Rattle.listing_laws.specs.Chains.{is_listed_type}
@@ -176,10 +176,10 @@ pub behind_all : {A : Type 0} (xs : List A) (y : A) (ys : List A) → slice_get 
 behind_all [] y ys = refl
 behind_all (x ∷ xs) y ys = behind_all xs y ys
 
-pub mapped : {A B : Type 0} (f : A → B) (xs : List A) (j : ℕ) (x : A) → slice_get xs j ≡ Some x → slice_get (map f xs) j ≡ Some (f x)
-mapped f [] j x e = absurd cc
-mapped f (z ∷ zs) zero x e = let same : z ≡ x = cc in ap (λ y. Some (f y)) same
-mapped f (z ∷ zs) (suc j) x e = mapped f zs j x e
+pub slice_get_mapped : {A B : Type 0} (f : A → B) (xs : List A) (j : ℕ) (x : A) → slice_get xs j ≡ Some x → slice_get (map f xs) j ≡ Some (f x)
+slice_get_mapped f [] j x e = absurd cc
+slice_get_mapped f (z ∷ zs) zero x e = let same : z ≡ x = cc in ap (λ y. Some (f y)) same
+slice_get_mapped f (z ∷ zs) (suc j) x e = slice_get_mapped f zs j x e
 
 pub listed_there : (p : Program) (ss : List Signature) (j : ℕ) (b : CodeBlock) → slice_get (in_lines p.code_blocks) j ≡ Some b → (bs : List Block)
     → IsListedAt ss (listed_blocks ss 1 (in_lines p.code_blocks) ++ bs) j b
@@ -208,10 +208,10 @@ block_shape : (y : Types) (blocks before : List Block) (b : Block) → (block_la
 unfolding block_layout
 block_shape y blocks before b = refl
 
-data_id : (y : Types) (blocks before : List Block) (ss : List Signature) (line number : ℕ) (bytes : List ℕ) (n : ℕ)
+instance_id : (y : Types) (blocks before : List Block) (ss : List Signature) (line number : ℕ) (bytes : List ℕ) (n : ℕ)
     → (block_layout y blocks before (listed_data ss line number bytes (Some n))).id ≡ Some (record { kind = kinds.Db; number = number })
 unfolding block_layout
-data_id y blocks before ss line number bytes n = refl
+instance_id y blocks before ss line number bytes n = refl
 
 code_id : (y : Types) (blocks before : List Block) (ss : List Signature) (reached : ℕ) (b : CodeBlock) (n : ℕ) → b.id ≡ function_block n
     → (block_layout y blocks before (listed_block ss reached b)).id ≡ Some (function_block n)
@@ -399,7 +399,7 @@ module _ (others : List Symbol) (t : Tree) (ss : List Signature) (n : ℕ) (b : 
         → data_block_of (context_at others t k) l l.id ≡ record { number = number; instance_of = Some n; bytes = bytes } ∷ []
     data_back set =
         let named : l.id ≡ Some (record { kind = kinds.Db; number = number }) =
-        ap (λ (x : BlockLayout). x.id) own_layout.layout ∙ data_id y t.blocks own_layout.before ss line number bytes n in
+        ap (λ (x : BlockLayout). x.id) own_layout.layout ∙ instance_id y t.blocks own_layout.before ss line number bytes n in
         let of_block : other.layout.id ≡ Some (function_block n) =
         ap (λ (x : BlockLayout). x.id) other_layout.layout ∙ code_id y t.blocks other_layout.before ss h.reached b n h.id in
         let instance : instance_in ls l.shape ≡ Some n =

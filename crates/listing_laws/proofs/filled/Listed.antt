@@ -25,7 +25,8 @@ use Rattle.stl_list.specs.Lines.{stands_before}
 use Rattle.stl_list.specs.Listing.{listed_tree}
 use Rattle.stl_list.specs.Signatures.{Signature, signatures}
 use Rattle.sem_kept.specs.Accepted.{IsAccepted, program_in}
-use Rattle.sem_kept.proofs.accepted.Accepted.{IsSoundTree, context_at, right_tree, sound_code_blocks, sound_data_blocks}
+use Rattle.sem_kept.specs.Settled.{context_at}
+use Rattle.sem_kept.proofs.accepted.Accepted.{IsSoundTree, right_tree, sound_code_blocks, sound_data_blocks}
 use Rattle.sem_kept.proofs.accepted.OperandsMembers.{code_block_there, data_block_there}
 use Rattle.block_layout.proofs.AlignmentLemmas.{structure_even}
 use Rattle.sem_kept.proofs.accepted.RecordBlocks.{code_blocks_rise}
@@ -42,7 +43,7 @@ use Rattle.listing_laws.proofs.declared.Blocks.{IsKnown, IsLaidInstance, IsSourc
 use Rattle.listing_laws.proofs.declared.Groups.{AreListed, all_listed}
 use Rattle.listing_laws.proofs.declared.Kept.{IsKeptInstance, instance_groups, instance_kept, own_length}
 use Rattle.listing_laws.proofs.declared.OwnData.{not_long}
-use Rattle.listing_laws.proofs.filled.Instances.{HasSignature, IsFunctionBlockAt, IsListedAt, all_signed, data_back, data_long, formals_listed, in_front, lies_there, listed_there, mapped, settings_right}
+use Rattle.listing_laws.proofs.filled.Instances.{HasSignature, IsFunctionBlockAt, IsListedAt, all_signed, data_back, data_long, formals_listed, in_front, lies_there, listed_there, slice_get_mapped, settings_right}
 use Rattle.listing_laws.proofs.filled.Origins.{IsSourceInstance, source_instance}
 use Rattle.listing_laws.proofs.filled.Settings.{IsRight}
 
@@ -161,7 +162,7 @@ module _ (source file : List ℕ) (symbols : List Symbol) (t : Tree) (accepted :
           there = listed_block_there.there;
           found = blocks_found t symbols others j (function_block n) by_22 by_44
               (in_front (map (λ (x : CodeBlock). x.id) (in_lines p.code_blocks)) (map (λ (x : DataBlock). data_id x.number) p.data_blocks) j (function_block n)
-              (mapped (λ (x : CodeBlock). x.id) (in_lines p.code_blocks) j b own_ready.place.there));
+              (slice_get_mapped (λ (x : CodeBlock). x.id) (in_lines p.code_blocks) j b own_ready.place.there));
           both = kept.both;
           long = sym (own_length (types_of_source others again.blocks) ss listed_block_there.reached b again.blocks refl) ∙ kept.length again.blocks;
           short = laid.instance.short;

@@ -48,23 +48,23 @@ blocks_none breaks rule j (b ∷ bs) each =
 -- ---- the blocks of a listing
 
 -- a block without settings, or one that a data block is listed as
-pub data IsListedAs (P : DataBlock → Type 0) (of : DataBlock → Block) (b : Block) : Type 0 where
-  Bare : b.settings ≡ [] → IsListedAs P of b
-  Data : (d : DataBlock) → P d → b ≡ of d → IsListedAs P of b
+pub data IsBareOrListed (P : DataBlock → Type 0) (of : DataBlock → Block) (b : Block) : Type 0 where
+  Bare : b.settings ≡ [] → IsBareOrListed P of b
+  Data : (d : DataBlock) → P d → b ≡ of d → IsBareOrListed P of b
 
-data_listed : (P : DataBlock → Type 0) (of : DataBlock → Block) (ds : List DataBlock) (i : ℕ) (b : Block) → AllByRecursion P ds → slice_get (map of ds) i ≡ Some b → IsListedAs P of b
+data_listed : (P : DataBlock → Type 0) (of : DataBlock → Block) (ds : List DataBlock) (i : ℕ) (b : Block) → AllByRecursion P ds → slice_get (map of ds) i ≡ Some b → IsBareOrListed P of b
 data_listed P of [] i b h e = absurd cc
 data_listed P of (d ∷ ds) zero b (one, more) e = let same : of d ≡ b = cc in Data d one (sym same)
 data_listed P of (d ∷ ds) (suc i) b (one, more) e = data_listed P of ds i b more e
 
 block_listed : (P : DataBlock → Type 0) (of : DataBlock → Block) (ss : List Signature) (reached : ℕ) (cs : List CodeBlock) (ds : List DataBlock) (i : ℕ) (b : Block) → AllByRecursion P ds
-    → slice_get (listed_blocks ss reached cs ++ map of ds) i ≡ Some b → IsListedAs P of b
+    → slice_get (listed_blocks ss reached cs ++ map of ds) i ≡ Some b → IsBareOrListed P of b
 block_listed P of ss reached [] ds i b h e = data_listed P of ds i b h e
 block_listed P of ss reached (c ∷ cs) ds zero b h e = let same : listed_block ss reached c ≡ b = cc in Bare (ap (λ (x : Block). x.settings) (sym same))
 block_listed P of ss reached (c ∷ cs) ds (suc i) b h e = block_listed P of ss (line_behind_statements reached c.lines) cs ds i b h e
 
--- no rule of settings is broken by one
-record IsFine (l : List BlockLayout) (k : ℕ) (s : Setting) : Type 0 where
+-- a setting, of the block at a place, breaks no rule of settings
+record BreaksNoSettingRule (l : List BlockLayout) (k : ℕ) (s : Setting) : Type 0 where
   known : sets_unknown l k s ≡ false
   fit : setting_misfits l k s ≡ false
   inside : setting_is_outside l k s ≡ false
@@ -76,9 +76,9 @@ module _ (symbols : List Symbol) (t : Tree) (others : List Symbol) (line : ℕ) 
   abbrev IsInstanceFine : DataBlock → Type 0
   IsInstanceFine d = (n : ℕ) → d.instance_of ≡ Some n → IsAgain symbols t others d
 
-  fine_at : (i : ℕ) (b : Block) → slice_get (listed_again symbols t).blocks i ≡ Some b → IsListedAs IsInstanceFine (data_again symbols t line) b → AllByRecursion (IsFine ls i) b.settings
-  fine_at i b there (Bare none) = subst (AllByRecursion (IsFine ls i)) (sym none) tt
-  fine_at i b there (Data d h same) = subst (λ (x : Block). AllByRecursion (IsFine ls i) x.settings) (sym same) (by d.instance_of refl)
+  fine_at : (i : ℕ) (b : Block) → slice_get (listed_again symbols t).blocks i ≡ Some b → IsBareOrListed IsInstanceFine (data_again symbols t line) b → AllByRecursion (BreaksNoSettingRule ls i) b.settings
+  fine_at i b there (Bare none) = subst (AllByRecursion (BreaksNoSettingRule ls i)) (sym none) tt
+  fine_at i b there (Data d h same) = subst (λ (x : Block). AllByRecursion (BreaksNoSettingRule ls i) x.settings) (sym same) (by d.instance_of refl)
     where
       at : slice_get (listed_again symbols t).blocks i ≡ Some (data_again symbols t line d)
       at = there ∙ ap (λ x. Some x) same
@@ -86,10 +86,10 @@ module _ (symbols : List Symbol) (t : Tree) (others : List Symbol) (line : ℕ) 
       laid : HasLayout ls i
       laid = layout_there others (listed_again symbols t) i (data_again symbols t line d) at
 
-      by : (o : Option ℕ) → d.instance_of ≡ o → AllByRecursion (IsFine ls i) (data_again symbols t line d).settings
-      by None e = subst (λ o. AllByRecursion (IsFine ls i) (listed_data (signatures_in (program_in symbols t)) line d.number d.bytes o).settings) (sym e) tt
+      by : (o : Option ℕ) → d.instance_of ≡ o → AllByRecursion (BreaksNoSettingRule ls i) (data_again symbols t line d).settings
+      by None e = subst (λ o. AllByRecursion (BreaksNoSettingRule ls i) (listed_data (signatures_in (program_in symbols t)) line d.number d.bytes o).settings) (sym e) tt
       by (Some n) e =
-          all_mapped (IsRight ls i d.bytes) (IsFine ls i) (λ s r. record { known = r.known; fit = r.fit; inside = r.inside }) (data_again symbols t line d).settings
+          all_mapped (IsRight ls i d.bytes) (BreaksNoSettingRule ls i) (λ s r. record { known = r.known; fit = r.fit; inside = r.inside }) (data_again symbols t line d).settings
           ((h n e).right i line laid.layout at laid.there)
 
 pub settings_are_right : AreListedSettingsRight
@@ -112,12 +112,12 @@ settings_are_right source file symbols t accepted bytes file_bytes others whole 
     line : ℕ
     line = line_reached 1 (in_lines p.code_blocks)
 
-    at : (breaks : ℕ → Setting → Bool) → ((k : ℕ) (s : Setting) → IsFine ls k s → breaks k s ≡ false) → (i : ℕ) (b : Block) → slice_get again.blocks i ≡ Some b
+    at : (breaks : ℕ → Setting → Bool) → ((k : ℕ) (s : Setting) → BreaksNoSettingRule ls k s → breaks k s ≡ false) → (i : ℕ) (b : Block) → slice_get again.blocks i ≡ Some b
         → AllByRecursion (λ s. breaks (0 + i) s ≡ false) b.settings
     at breaks holds i b e =
         let none : i ≡ 0 + i = omega arith in
         subst (λ k. AllByRecursion (λ s. breaks k s ≡ false) b.settings) none
-        (all_mapped (IsFine ls i) (λ s. breaks i s ≡ false) (holds i) b.settings
+        (all_mapped (BreaksNoSettingRule ls i) (λ s. breaks i s ≡ false) (holds i) b.settings
         (fine_at symbols t others line i b e
         (block_listed (λ d. (n : ℕ) → d.instance_of ≡ Some n → IsAgain symbols t others d) (data_again symbols t line) (signatures_in p) 1 (in_lines p.code_blocks) p.data_blocks i b
         (all_instances source file symbols t accepted bytes file_bytes others whole) e)))

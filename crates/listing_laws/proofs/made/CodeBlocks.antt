@@ -258,8 +258,8 @@ none_again symbols t others i d n high there laid =
 
 -- ---- in order again
 
-ordered : IsOrder is_block_before
-ordered = record {
+order_of_blocks : IsOrder is_block_before
+order_of_blocks = record {
   one_way = λ a b h. ids_one_way a.id b.id h;
   chain = λ a b c h k. ids_chain a.id b.id c.id h k;
 }
@@ -280,7 +280,7 @@ rise_compiled (x ∷ xs) rise = behind_rise x xs rise
 
 sorted_back : (blocks : List CodeBlock) → Rise is_block_before blocks → sorted_list is_block_before (in_lines blocks) ≡ blocks
 unfolding in_lines
-sorted_back blocks rise = back_in_order is_block_before stands_before ordered blocks rise
+sorted_back blocks rise = back_in_order is_block_before stands_before order_of_blocks blocks rise
 
 all_in_lines : (P : CodeBlock → Type 0) (blocks : List CodeBlock) → AllByRecursion P blocks → AllByRecursion P (in_lines blocks)
 unfolding in_lines

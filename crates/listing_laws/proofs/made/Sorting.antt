@@ -17,9 +17,9 @@ pub record IsOrder {A : Type 0} (lt : A → A → Bool) : Type 0 where
   pub chain : (a b c : A) → lt a b ≡ true → lt b c ≡ true → lt a c ≡ true
 
 -- two that differ are put into a list in either order
-swapped : {A : Type 0} (lt : A → A → Bool) → IsOrder lt → (x y : A) (ws : List A) → lt x y ≡ true → sorted_insertion lt x (sorted_insertion lt y ws) ≡ sorted_insertion lt y (sorted_insertion lt x ws)
-swapped lt o x y [] h = here lt x y [] (o.one_way x y h) ∙ sym (past lt y x [] h)
-swapped {A = A} lt o x y (w ∷ ws) h = by (lt w x) (lt w y) refl refl (swapped lt o x y ws h)
+insertions_swapped : {A : Type 0} (lt : A → A → Bool) → IsOrder lt → (x y : A) (ws : List A) → lt x y ≡ true → sorted_insertion lt x (sorted_insertion lt y ws) ≡ sorted_insertion lt y (sorted_insertion lt x ws)
+insertions_swapped lt o x y [] h = here lt x y [] (o.one_way x y h) ∙ sym (past lt y x [] h)
+insertions_swapped {A = A} lt o x y (w ∷ ws) h = by (lt w x) (lt w y) refl refl (insertions_swapped lt o x y ws h)
   where
     by : (a b : Bool) → lt w x ≡ a → lt w y ≡ b → sorted_insertion lt x (sorted_insertion lt y ws) ≡ sorted_insertion lt y (sorted_insertion lt x ws)
         → sorted_insertion lt x (cond b (w ∷ sorted_insertion lt y ws) (y ∷ w ∷ ws)) ≡ sorted_insertion lt y (cond a (w ∷ sorted_insertion lt x ws) (x ∷ w ∷ ws))
@@ -32,25 +32,25 @@ either : {A : Type 0} (lt : A → A → Bool) → IsOrder lt → (x y : A) (ws :
 either lt o x y ws h = by (lt x y) (lt y x) refl refl h
   where
     by : (a b : Bool) → lt x y ≡ a → lt y x ≡ b → (a || b) ≡ true → sorted_insertion lt x (sorted_insertion lt y ws) ≡ sorted_insertion lt y (sorted_insertion lt x ws)
-    by true b e f h = swapped lt o x y ws e
-    by false true e f h = sym (swapped lt o y x ws f)
+    by true b e f h = insertions_swapped lt o x y ws e
+    by false true e f h = sym (insertions_swapped lt o y x ws f)
     by false false e f h = absurd cc
 
-moved : {A : Type 0} (lt other : A → A → Bool) → IsOrder lt → (x : A) (ys : List A) → AllByRecursion (Differ lt x) ys → sorted_list lt (sorted_insertion other x ys) ≡ sorted_insertion lt x (sorted_list lt ys)
+insertion_moved : {A : Type 0} (lt other : A → A → Bool) → IsOrder lt → (x : A) (ys : List A) → AllByRecursion (Differ lt x) ys → sorted_list lt (sorted_insertion other x ys) ≡ sorted_insertion lt x (sorted_list lt ys)
 unfolding sorted_list
-moved lt other o x [] h = refl
-moved lt other o x (y ∷ ys) h = by (other y x) (moved lt other o x ys h.1)
+insertion_moved lt other o x [] h = refl
+insertion_moved lt other o x (y ∷ ys) h = by (other y x) (insertion_moved lt other o x ys h.1)
   where
     by : (b : Bool) → sorted_list lt (sorted_insertion other x ys) ≡ sorted_insertion lt x (sorted_list lt ys)
         → sorted_list lt (cond b (y ∷ sorted_insertion other x ys) (x ∷ y ∷ ys)) ≡ sorted_insertion lt x (sorted_insertion lt y (sorted_list lt ys))
     by true more = ap (sorted_insertion lt y) more ∙ sym (either lt o x y (sorted_list lt ys) h.0)
     by false more = refl
 
-resorted : {A : Type 0} (lt other : A → A → Bool) → IsOrder lt → (xs : List A) → AreApart lt xs → sorted_list lt (sorted_list other xs) ≡ sorted_list lt xs
+list_resorted : {A : Type 0} (lt other : A → A → Bool) → IsOrder lt → (xs : List A) → AreApart lt xs → sorted_list lt (sorted_list other xs) ≡ sorted_list lt xs
 unfolding sorted_list
-resorted lt other o [] h = refl
-resorted lt other o (x ∷ xs) h =
-    moved lt other o x (sorted_list other xs) (all_sorted (Differ lt x) other xs h.0) ∙ ap (sorted_insertion lt x) (resorted lt other o xs h.1)
+list_resorted lt other o [] h = refl
+list_resorted lt other o (x ∷ xs) h =
+    insertion_moved lt other o x (sorted_list other xs) (all_sorted (Differ lt x) other xs h.0) ∙ ap (sorted_insertion lt x) (list_resorted lt other o xs h.1)
 
 -- ---- what rises is in order
 
@@ -77,4 +77,4 @@ rise_order lt o [] rise = tt
 rise_order lt o (x ∷ xs) rise = behind_order lt o x xs rise
 
 pub back_in_order : {A : Type 0} (lt other : A → A → Bool) → IsOrder lt → (xs : List A) → Rise lt xs → sorted_list lt (sorted_list other xs) ≡ xs
-back_in_order lt other o xs rise = resorted lt other o xs (rise_apart lt o xs rise) ∙ in_order lt xs (rise_order lt o xs rise)
+back_in_order lt other o xs rise = list_resorted lt other o xs (rise_apart lt o xs rise) ∙ in_order lt xs (rise_order lt o xs rise)

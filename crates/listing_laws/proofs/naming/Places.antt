@@ -28,9 +28,9 @@ no_bit_is area.Di w e = tt
 no_bit_is area.L w e = tt
 
 -- whatever an option is made of
-pub made : {A B : Type 0} (o : Option A) (f : A → B) (P : B → Type 0) → ((x : A) → P (f x)) → IfSome (option_map f o) P
-made None f P h = tt
-made (Some x) f P h = h x
+pub mapped_holds : {A B : Type 0} (o : Option A) (f : A → B) (P : B → Type 0) → ((x : A) → P (f x)) → IfSome (option_map f o) P
+mapped_holds None f P h = tt
+mapped_holds (Some x) f P h = h x
 
 -- what is found has what all have
 pub found_among : {A : Type 0} (P : A → Type 0) (test : A → Bool) (xs : List A) → AllByRecursion P xs → IfSome (find test xs) P

@@ -17,9 +17,9 @@ use Rattle.listing_laws.proofs.naming.Coded.{ActsOnNoBit, PassedIsNoBit, Prepare
 use Rattle.listing_laws.proofs.naming.Symbols.{symbols_no_bits}
 use Rattle.listing_laws.proofs.naming.Trees.{tree_plain}
 use Rattle.listing_laws.specs.Named.{AreAcceptedRead, AreSourcesNamed}
-use Rattle.listing_laws.specs.Sources.{ActsOnNamed, AreSourcesRead, IsRunNamed, PassesPlaceOn, PreparesOnNamed}
+use Rattle.listing_laws.specs.Sources.{ActsOnNamed, AreSourcesRead, IsRunNamed, PassesNamedPlace, PreparesOnNamed}
 
-passes_on : (p : Passed) → PassedIsNoBit p → PassedBit p → PassesPlaceOn p
+passes_on : (p : Passed) → PassedIsNoBit p → PassedBit p → PassesNamedPlace p
 passes_on (passed.Direct a w byte bit) h k = (h, k)
 passes_on (passed.InBlock number a w byte bit) h k = (h, k)
 passes_on _ h k = tt

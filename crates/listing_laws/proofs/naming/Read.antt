@@ -38,10 +38,10 @@ use Rattle.stl_parser.specs.declared.statements.BareStatement.{BareStatement}
 use Rattle.stl_parser.specs.declared.tables.AddressKind.{AddressKind}
 use Rattle.stl_parser.specs.declared.tables.AddressKind.TheVariants as address
 use Rattle.stl_parser.specs.declared.tables.OperandSyntax.{OperandSyntax}
-use Rattle.stl_parser.specs.declared.tables.OperandSyntax.TheVariants as form
+use Rattle.stl_parser.specs.declared.tables.OperandSyntax.TheVariants as operand_syntax
 use Rattle.stl_parser.proofs.OptionLemmas.{all_push, both, chained, either, entry_passes, mapped, none_holds, parts_hold, passed, weakened, whole_holds}
 use Rattle.stl_types.specs.Addresses.{area_for_letters}
-use Rattle.listing_laws.proofs.naming.Places.{made, no_bit, no_bit_is}
+use Rattle.listing_laws.proofs.naming.Places.{mapped_holds, no_bit, no_bit_is}
 use Rattle.listing_laws.specs.Bodies.{IsNoBit}
 
 -- an address of an operand, whatever data block stands before it, and that of a pointer, which is one of a bit
@@ -75,14 +75,14 @@ unfolding glued_letters_and_number
 glued_plain text rest =
     chained (look_up addresses (take (letter_count text) text)) _ (λ a. letters_no_bit a ≡ true) FirstIsNoBit
     (entry_passes addresses (take (letter_count text) text) letters_no_bit addresses_pass)
-    (λ a h. made (decimal_up_to (greatest_number false) (drop (letter_count text) text)) (λ n. (a, n, rest)) FirstIsNoBit (λ n. h))
+    (λ a h. mapped_holds (decimal_up_to (greatest_number false) (drop (letter_count text) text)) (λ n. (a, n, rest)) FirstIsNoBit (λ n. h))
 
 separate_plain : (source text : List ℕ) (tokens : List Token) → IfSome (separate_letters_and_number addresses source text tokens) FirstIsNoBit
 unfolding separate_letters_and_number
 separate_plain source text [] = tt
 separate_plain source text (n ∷ rest) =
     chained (look_up addresses text) _ (λ a. letters_no_bit a ≡ true) FirstIsNoBit (entry_passes addresses text letters_no_bit addresses_pass)
-    (λ a h. made (number_of source n) (λ number. (a, number, rest)) FirstIsNoBit (λ number. h))
+    (λ a h. mapped_holds (number_of source n) (λ number. (a, number, rest)) FirstIsNoBit (λ number. h))
 
 address_plain : (source : List ℕ) (tokens : List Token) → IfSome (address_at source tokens) FirstIsNoBit
 unfolding address_at letters_and_number_at
@@ -95,21 +95,21 @@ address_plain source (w ∷ rest) =
 
 path_plain : (source : List ℕ) (h : PathHead) (tokens : List Token) → IfSome (spec.path_of source h tokens) OperandIsNoBit
 unfolding spec.path_of
-path_plain source h tokens = made (complete_reading (spec.steps_from source [] tokens)) _ OperandIsNoBit (λ steps. tt)
+path_plain source h tokens = mapped_holds (complete_reading (spec.steps_from source [] tokens)) _ OperandIsNoBit (λ steps. tt)
 
 area_plain : (source : List ℕ) (a : Letters) (w : Width) (byte : ℕ) (rest : List Token) → IsNoBit (area_for_letters a) w → IfSome (spec.area_operand source a w byte rest) OperandIsNoBit
 unfolding spec.area_operand
-area_plain source a w byte rest h = made (spec.place_bit source w rest) _ OperandIsNoBit (λ bit. h)
+area_plain source a w byte rest h = mapped_holds (spec.place_bit source w rest) _ OperandIsNoBit (λ bit. h)
 
 block_path_plain : (source : List ℕ) (name : BlockName) (tokens : List Token) → IfSome (spec.block_path source name tokens) OperandIsNoBit
 unfolding spec.block_path
 block_path_plain source name [] = tt
-block_path_plain source name (w ∷ rest) = passed (has_kind w kind.Word) _ OperandIsNoBit (λ test. made (complete_reading (spec.steps_from source _ rest)) _ OperandIsNoBit (λ steps. tt))
+block_path_plain source name (w ∷ rest) = passed (has_kind w kind.Word) _ OperandIsNoBit (λ test. mapped_holds (complete_reading (spec.steps_from source _ rest)) _ OperandIsNoBit (λ steps. tt))
 
 in_block_plain : (source : List ℕ) (name : BlockName) (tokens : List Token) → IfSome (spec.operand_in_block source name tokens) OperandIsNoBit
 unfolding spec.operand_in_block
 in_block_plain source name tokens =
-    either (option_map _ (spec.block_place source tokens)) _ OperandIsNoBit (made (spec.block_place source tokens) _ OperandIsNoBit (λ p. tt)) (block_path_plain source name tokens)
+    either (option_map _ (spec.block_place source tokens)) _ OperandIsNoBit (mapped_holds (spec.block_place source tokens) _ OperandIsNoBit (λ p. tt)) (block_path_plain source name tokens)
 
 behind_block_plain : (source : List ℕ) (name : BlockName) (tokens : List Token) → IfSome (spec.operand_behind_block source name tokens) OperandIsNoBit
 unfolding spec.operand_behind_block
@@ -134,16 +134,16 @@ direct_plain source (address.Block true) n (t ∷ rest) h = tt
 
 by_register_plain : (source : List ℕ) (a : Option Letters) (w : Width) (tokens : List Token) → IfSome (spec.operand_by_register source a w tokens) OperandIsNoBit
 unfolding spec.operand_by_register
-by_register_plain source a w tokens = made (spec.register_pointer source tokens) _ OperandIsNoBit (λ p. tt)
+by_register_plain source a w tokens = mapped_holds (spec.register_pointer source tokens) _ OperandIsNoBit (λ p. tt)
 
 number_by_plain : (source : List ℕ) (what : Numbered) (tokens : List Token) → IfSome (spec.operand_by_memory_number source what tokens) OperandIsNoBit
 unfolding spec.operand_by_memory_number
-number_by_plain source what tokens = made (spec.memory_pointer source false tokens) _ OperandIsNoBit (λ p. tt)
+number_by_plain source what tokens = mapped_holds (spec.memory_pointer source false tokens) _ OperandIsNoBit (λ p. tt)
 
 area_by_plain : (source : List ℕ) (a : Letters) (w : Width) (tokens : List Token) → IfSome (spec.operand_by_pointer source a w tokens) OperandIsNoBit
 unfolding spec.operand_by_pointer
 area_by_plain source a w tokens =
-    either (option_map _ (spec.memory_pointer source true tokens)) _ OperandIsNoBit (made (spec.memory_pointer source true tokens) _ OperandIsNoBit (λ p. tt))
+    either (option_map _ (spec.memory_pointer source true tokens)) _ OperandIsNoBit (mapped_holds (spec.memory_pointer source true tokens) _ OperandIsNoBit (λ p. tt))
     (by_register_plain source (Some a) w tokens)
 
 indirect_plain : (source : List ℕ) (a : AddressKind) (tokens : List Token) → IfSome (spec.indirect_operand source a tokens) OperandIsNoBit
@@ -156,14 +156,14 @@ indirect_plain source (address.Block true) tokens = number_by_plain source numbe
 
 area_pointer_plain : (source : List ℕ) (a : AddressKind) (byte : ℕ) (rest : List Token) → letters_no_bit a ≡ true → IfSome (spec.area_pointer source a byte rest) OperandIsNoBit
 unfolding spec.area_pointer
-area_pointer_plain source (address.Area a width.Bit) byte rest h = made (bit_of source rest) _ OperandIsNoBit (λ bit. no_bit_is (area_for_letters a) width.Bit h)
+area_pointer_plain source (address.Area a width.Bit) byte rest h = mapped_holds (bit_of source rest) _ OperandIsNoBit (λ bit. no_bit_is (area_for_letters a) width.Bit h)
 area_pointer_plain source _ byte rest h = tt
 
 plain_pointer_plain : (source : List ℕ) (tokens : List Token) → IfSome (spec.plain_pointer source tokens) OperandIsNoBit
 unfolding spec.plain_pointer
 plain_pointer_plain source [] = tt
 plain_pointer_plain source (n ∷ rest) =
-    chained (number_of source n) _ (λ byte. Unit {0}) OperandIsNoBit (none_holds (number_of source n)) (λ byte h. made (bit_of source rest) _ OperandIsNoBit (λ bit. tt))
+    chained (number_of source n) _ (λ byte. Unit {0}) OperandIsNoBit (none_holds (number_of source n)) (λ byte h. mapped_holds (bit_of source rest) _ OperandIsNoBit (λ bit. tt))
 
 pointer_plain : (source : List ℕ) (tokens : List Token) → IfSome (spec.pointer_constant_operand source tokens) OperandIsNoBit
 unfolding spec.pointer_constant_operand
@@ -173,7 +173,7 @@ pointer_plain source tokens =
 
 condition_plain : (source : List ℕ) (t : Token) → IfSome (spec.condition_of source t) OperandIsNoBit
 unfolding spec.condition_of
-condition_plain source t = made (look_up flags (text_of source t)) _ OperandIsNoBit (λ f. tt)
+condition_plain source t = mapped_holds (look_up flags (text_of source t)) _ OperandIsNoBit (λ f. tt)
 
 other_if_plain : (name : List ℕ) (o : Option Bool) → IfSome (spec.register_name_operand_if name o) OperandIsNoBit
 other_if_plain name None = tt
@@ -245,7 +245,7 @@ operand_plain : (source : List ℕ) (tokens : List Token) → IfSome (spec.opera
 unfolding spec.operand_of
 operand_plain source [] = tt
 operand_plain source (t ∷ rest) =
-    either (option_map operand.Constant (literal_of source (t ∷ rest))) _ OperandIsNoBit (made (literal_of source (t ∷ rest)) operand.Constant OperandIsNoBit (λ l. tt))
+    either (option_map operand.Constant (literal_of source (t ∷ rest))) _ OperandIsNoBit (mapped_holds (literal_of source (t ∷ rest)) operand.Constant OperandIsNoBit (λ l. tt))
     (kind_plain source t rest (t ∷ rest) t.kind)
 
 -- ---- statements
@@ -301,7 +301,7 @@ call_plain source code tokens =
 
 block_call_plain : (source : List ℕ) (code : Mnemonic) (tokens : List Token) → IfSome (stated.block_call_of source code tokens) BareIsNoBit
 unfolding stated.block_call_of
-block_call_plain source code tokens = made (complete_reading (block_at source tokens)) _ BareIsNoBit (λ name. (tt, tt))
+block_call_plain source code tokens = mapped_holds (complete_reading (block_at source tokens)) _ BareIsNoBit (λ name. (tt, tt))
 
 with_operand_plain : (source : List ℕ) (code : Mnemonic) (tokens : List Token) → IfSome (stated.statement_with_operand source code tokens) BareIsNoBit
 unfolding stated.statement_with_operand
@@ -321,11 +321,11 @@ open_plain source code (t ∷ u ∷ rest) = with_operand_plain source code (t �
 
 behind_word_plain : (source : List ℕ) (f : OperandSyntax) (code : Mnemonic) (tokens : List Token) → IfSome (stated.behind_word source f code tokens) BareIsNoBit
 unfolding stated.behind_word
-behind_word_plain source form.Operand code tokens = with_operand_plain source code tokens
-behind_word_plain source form.Jump code tokens = jump_plain source code tokens
-behind_word_plain source form.Open code tokens = open_plain source code tokens
-behind_word_plain source form.BlockCall code tokens = block_call_plain source code tokens
-behind_word_plain source form.Call code tokens = call_plain source code tokens
+behind_word_plain source operand_syntax.Operand code tokens = with_operand_plain source code tokens
+behind_word_plain source operand_syntax.Jump code tokens = jump_plain source code tokens
+behind_word_plain source operand_syntax.Open code tokens = open_plain source code tokens
+behind_word_plain source operand_syntax.BlockCall code tokens = block_call_plain source code tokens
+behind_word_plain source operand_syntax.Call code tokens = call_plain source code tokens
 
 opening_plain : (source : List ℕ) (t : Token) (rest : List Token) → IfSome (stated.opening_instruction source t rest) BareIsNoBit
 unfolding stated.opening_instruction

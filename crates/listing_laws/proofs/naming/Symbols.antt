@@ -18,7 +18,7 @@ use Rattle.stl_symbols.specs.Symbols.{and_then_lines, symbol_declaration, declar
 use Rattle.stl_symbols.specs.declared.languages.Language.{Language}
 use Rattle.stl_symbols.specs.declared.targets.Target.{Target}
 use Rattle.stl_symbols.specs.declared.targets.Target.TheVariants as target
-use Rattle.listing_laws.proofs.naming.Places.{found_among, made}
+use Rattle.listing_laws.proofs.naming.Places.{found_among, mapped_holds}
 use Rattle.listing_laws.specs.Bodies.{IsNoBit}
 
 abbrev pub TargetIsNoBit : Target → Type 0
@@ -43,11 +43,11 @@ unfolding bit_address
 bits name a is text =
     let point = prefix_len (λ b. not (b == 46)) text in
     chained (number_of_address (take point text)) _ (λ byte. Unit {0}) (Declares (declared_symbol name)) (none_holds (number_of_address (take point text)))
-    (λ byte h. made (bit_behind (drop point text)) (λ bit. variable_address a width.Bit byte bit) (Declares (declared_symbol name)) (λ bit. is))
+    (λ byte h. mapped_holds (bit_behind (drop point text)) (λ bit. variable_address a width.Bit byte bit) (Declares (declared_symbol name)) (λ bit. is))
 
 -- an address by a number alone
 wide : {A : Type 0} (view : A → Option Symbol) (f : ℕ → A) → ((n : ℕ) → Declares view (f n)) → (text : List ℕ) → IfSome (option_map f (number_of_address text)) (Declares view)
-wide view f h text = made (number_of_address text) f (Declares view) h
+wide view f h text = mapped_holds (number_of_address text) f (Declares view) h
 
 -- all letters of addresses, one by one
 all_plain : (name : List ℕ) → AllByRecursion (λ e. (text : List ℕ) → IfSome (numbered_address e.2 text) (Declares (declared_symbol name))) address_letters

@@ -31,7 +31,7 @@ use Rattle.stl_parser.specs.declared.tables.Keyword.{Keyword}
 use Rattle.stl_parser.specs.declared.tables.Keyword.TheVariants as keyword
 use Rattle.stl_parser.proofs.FrameLemmas.{right_clause}
 use Rattle.stl_parser.proofs.OptionLemmas.{both, chained, either, failed, mapped, none_holds, passed, some_holds}
-use Rattle.listing_laws.proofs.naming.Places.{made}
+use Rattle.listing_laws.proofs.naming.Places.{mapped_holds}
 use Rattle.listing_laws.proofs.naming.Read.{StatementIsNoBit, statement_plain}
 
 -- ---- clauses
@@ -50,7 +50,7 @@ head_plain : (source : List ℕ) (line : ℕ) (k : BlockKind) (tokens : List Tok
 unfolding spec.head_clause
 head_plain source line k tokens =
     chained (spec.block_of_kind_at source k tokens) _ (λ b. Unit {0}) ReadIsNoBit (none_holds (spec.block_of_kind_at source k tokens))
-    (λ b h. made (spec.result_at source k b.1) _ ReadIsNoBit (λ r. tt))
+    (λ b h. mapped_holds (spec.result_at source k b.1) _ ReadIsNoBit (λ r. tt))
 
 inner_end_plain : (source : List ℕ) (tokens : List Token) → IfSome (spec.inner_end source tokens) ReadIsNoBit
 unfolding spec.inner_end
@@ -70,7 +70,7 @@ keyword_plain source p line keyword.EndStructure rest = both (nat_lt 0 (spec.lev
 
 head_word_plain : (source : List ℕ) (p : ClausePlace) (w : HeadWord) (rest : List Token) → IfSome (spec.head_word_clause source p w rest) ReadIsNoBit
 unfolding spec.head_word_clause
-head_word_plain source p w rest = made (spec.head_word_at source w rest) _ ReadIsNoBit (λ behind. tt)
+head_word_plain source p w rest = mapped_holds (spec.head_word_at source w rest) _ ReadIsNoBit (λ behind. tt)
 
 based_plain : (source : List ℕ) (tokens : List Token) → IfSome (spec.base_block_at source tokens) ReadIsNoBit
 unfolding spec.base_block_at
@@ -79,7 +79,7 @@ based_plain source tokens =
 
 structure_plain : (source : List ℕ) (p : ClausePlace) (tokens : List Token) → IfSome (spec.structure_clause source p tokens) ReadIsNoBit
 unfolding spec.structure_clause
-structure_plain source p tokens = failed (spec.takes_parameters p) _ ReadIsNoBit (λ test. made (structure_at source (spec.level_at p) tokens) _ ReadIsNoBit (λ r. tt))
+structure_plain source p tokens = failed (spec.takes_parameters p) _ ReadIsNoBit (λ test. mapped_holds (structure_at source (spec.level_at p) tokens) _ ReadIsNoBit (λ r. tt))
 
 declaration_plain : (source : List ℕ) (p : ClausePlace) (tokens : List Token) → IfSome (spec.declaration_clause source p tokens) InsideIsNoBit
 unfolding spec.declaration_clause
@@ -93,7 +93,7 @@ inside_plain source p line tokens =
     either (spec.declaration_clause source p tokens) (option_or (spec.statement_clause source line tokens) (spec.setting_clause source line tokens)) InsideIsNoBit (declaration_plain source p tokens)
     (either (spec.statement_clause source line tokens) (spec.setting_clause source line tokens) InsideIsNoBit
     (mapped (statement_of source line tokens) _ (λ r. StatementIsNoBit r.0) InsideIsNoBit (statement_plain source line tokens) (λ r h. h))
-    (made (spec.setting_of source line tokens) _ InsideIsNoBit (λ s. tt)))
+    (mapped_holds (spec.setting_of source line tokens) _ InsideIsNoBit (λ s. tt)))
 
 plain_plain : (source : List ℕ) (p : ClausePlace) (line : ℕ) (tokens : List Token) → IfSome (spec.plain_clause source p line tokens) ReadIsNoBit
 unfolding spec.plain_clause spec.semicolon_clause

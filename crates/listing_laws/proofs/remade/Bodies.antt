@@ -44,7 +44,7 @@ use Rattle.stl_list.specs.Signatures.{Signature, called_formals, formals_of_bloc
 use Rattle.stl_list.specs.Statements.{ListingContext, listed_statement}
 use Rattle.sem_kept.specs.Accepted.{IsAccepted, program_in}
 use Rattle.sem_kept.specs.Settled.{HasCalled, HasInstruction, HasOperand, IsResolvedStatement}
-use Rattle.sem_kept.proofs.accepted.Accepted.{IsSound, IsSoundStatement, IsSoundTree, right_tree}
+use Rattle.sem_kept.proofs.accepted.Accepted.{IsSoundBlock, IsSoundStatement, IsSoundTree, right_tree}
 use Rattle.block_layout.proofs.CommonLemmas.{all_there}
 use Rattle.sem_kept.proofs.accepted.Settled.{statements_settle}
 use Rattle.sem_kept.proofs.accepted.SizesOps.{whole_count}
@@ -56,6 +56,7 @@ use Rattle.listing_laws.specs.Declared.{signatures_in}
 use Rattle.listing_laws.specs.Instructions.{HasAgain, IsInstructionKept}
 use Rattle.listing_laws.specs.LabelRules.{LeadsWithin}
 use Rattle.listing_laws.specs.ListedBodies.{AreKeptFrom}
+use Rattle.listing_laws.specs.Operands.{IsOpenedAgain}
 use Rattle.listing_laws.specs.Statements.{jumps_to, statement_offset, run_of}
 use Rattle.listing_laws.proofs.LabelLemmas.{labels_reached}
 use Rattle.listing_laws.proofs.RunLemmas.{numbers_found}
@@ -64,9 +65,9 @@ use Rattle.listing_laws.proofs.called.Calls.{calls_kept, calls_listed, instance_
 use Rattle.listing_laws.proofs.remade.Calls.{call_again, callable_here, called_instr, calls, has}
 use Rattle.listing_laws.proofs.remade.Parameters.{source_sound}
 use Rattle.listing_laws.proofs.remade.Right.{operands_right}
-use Rattle.listing_laws.proofs.remade.Splits.{IsStated, all_split, split_holds, stated}
-use Rattle.listing_laws.proofs.ruled.Calling.{IsInstanceAgain, StandsCalled, called_again, called_plain, no_zero, rule_called, same_kind, sees_called}
-use Rattle.listing_laws.proofs.ruled.Instructions.{instructions_kept, jumped, jumps_kept, resolves, rule_broken, what_seen}
+use Rattle.listing_laws.proofs.remade.Splits.{IsStated, all_split, split_holds, statement_stated}
+use Rattle.listing_laws.proofs.ruled.Calling.{StandsCalled, called_again, called_plain, no_zero, rule_called, same_kind, sees_called}
+use Rattle.listing_laws.proofs.ruled.Instructions.{instructions_kept, jump_instruction, jumps_kept, resolves, rule_broken, what_seen}
 use Rattle.listing_laws.proofs.ruled.Marks.{lines_length}
 use Rattle.listing_laws.proofs.ruled.Rules.{taken_view}
 use Rattle.listing_laws.proofs.ruled.Within.{jumps_within}
@@ -106,9 +107,9 @@ smaller n count h = omega (arith, h)
 
 -- ---- calls
 
-numbered : (listed : Context) (instance : Option ℕ) → IsInstanceAgain listed instance → IsInstanceNumbered instance
-numbered listed None h e = absurd cc
-numbered listed (Some n) h e = no_zero listed (subst (λ m. data_number listed (name_of_data_block m) ≡ Some m) (same n e) h)
+instance_numbered : (listed : Context) (instance : Option ℕ) → IsOpenedAgain listed instance → IsInstanceNumbered instance
+instance_numbered listed None h e = absurd cc
+instance_numbered listed (Some n) h e = no_zero listed (subst (λ m. data_number listed (name_of_data_block m) ≡ Some m) (same n e) h)
   where
     same : (m : ℕ) → Some m ≡ Some 0 → m ≡ 0
     same m e = cc
@@ -148,7 +149,7 @@ module _ (source file : List ℕ) (symbols : List Symbol) (t : Tree) (accepted :
   tree : IsSoundTree symbols t
   tree = right_tree source file symbols t accepted
 
-  sound : IsSound symbols t place b l
+  sound : IsSoundBlock symbols t place b l
   sound = source_sound symbols t tree again place b l id made
 
   stands_again : HasAgain c listed own
@@ -171,7 +172,7 @@ module _ (source file : List ℕ) (symbols : List Symbol) (t : Tree) (accepted :
     sound_here = split_holds (IsSoundStatement (types_of_source symbols t.blocks) c) b.body front s rest sound.statements split
 
     here : IsStated c b.body (statements_of c b) s
-    here = stated c b front s rest split some
+    here = statement_stated c b front s rest split some
 
     -- a jump
     jump_kept : (how : JumpOperation) → jump_operation_of s.code ≡ Some how → (n k : ℕ) → IsKeptHere n k (instruction c b.body n s)
@@ -184,7 +185,7 @@ module _ (source file : List ℕ) (symbols : List Symbol) (t : Tree) (accepted :
         target = target_of b.body s.operand
 
         leaps : jumps_to target (instruction c b.body here.number s) ≡ true
-        leaps = ap (jumps_to target) (jumped c b.body here.number s how is) ∙ leaps_to how here.number target
+        leaps = ap (jumps_to target) (jump_instruction c b.body here.number s how is) ∙ leaps_to how here.number target
 
         within : target < length sb.statements
         within =
@@ -243,8 +244,8 @@ module _ (source file : List ℕ) (symbols : List Symbol) (t : Tree) (accepted :
         whole =
             subst (λ (i : BlockId). is_data_type i.kind ≡ false → whole_called_block listed (Some i) ≡ Some i) (sym (same_id h.id st.id h.instance st.instance st.is)) st.whole plain
 
-        instance_there : IsInstanceAgain listed h.instance
-        instance_there = subst (IsInstanceAgain listed) (sym (same_instance h.id st.id h.instance st.instance st.is)) st.again
+        instance_there : IsOpenedAgain listed h.instance
+        instance_there = subst (IsOpenedAgain listed) (sym (same_instance h.id st.id h.instance st.instance st.is)) st.again
 
         found : IsFoundAgain c listed own (called_formals ss h.id) s h.id h.instance h.callee
         found = call_again source file symbols t accepted bytes file_bytes others clean again place b l id made s front rest split h.id h.instance h.callee h.called h.found
@@ -256,12 +257,12 @@ module _ (source file : List ℕ) (symbols : List Symbol) (t : Tree) (accepted :
         made_words = statements_listed sur k f s.code how h.id h.instance ps callable is
 
         operand_is : listing.operand ≡ operand.Called (block.Number h.id) (option_map name_of_data_block h.instance)
-        operand_is = calls_listed sur.formals sur.starts f how h.id h.instance ps callable (numbered listed h.instance instance_there)
+        operand_is = calls_listed sur.formals sur.starts f how h.id h.instance ps callable (instance_numbered listed h.instance instance_there)
 
         listing_sees : resolution_of listed listing.operand ≡ Resolved (view.Called h.id h.instance)
         listing_sees =
             ap (resolution_of listed) operand_is
-            ∙ ap (λ (x : Option BlockName). resolution_of listed (operand.Called (block.Number h.id) x)) (sym (instance_is h.instance (numbered listed h.instance instance_there)))
+            ∙ ap (λ (x : Option BlockName). resolution_of listed (operand.Called (block.Number h.id) x)) (sym (instance_is h.instance (instance_numbered listed h.instance instance_there)))
             ∙ called_again listed h.id h.instance whole instance_there
 
         right_again : statement_rule listed listing ≡ None

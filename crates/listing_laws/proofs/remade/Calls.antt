@@ -13,6 +13,7 @@ use Rattle.plc_base.specs.declared.blocks.BlockId.{BlockId}
 use Rattle.plc_base.specs.declared.blocks.BlockKind.{BlockKind}
 use Rattle.plc_base.specs.declared.blocks.BlockKind.TheVariants as kinds
 use Rattle.plc_base.specs.declared.places.Width.{Width}
+use Rattle.flat_code.specs.declared.image_fields.TheConstants.{SECTION_IN}
 use Rattle.flat_code.specs.Blocks.{Environment, CalleeSeen as FlatCallee, are_all_passed, is_bad_actual, is_bad_call, is_in_parameter, lacks_own_parameter, misfits_index, misfits_parameter, parameter_meant, signature_of}
 use Rattle.flat_code.specs.Forms.{actual_fits}
 use Rattle.flat_code.specs.Image.{record_of_block, record_of_param}
@@ -61,14 +62,14 @@ use Rattle.sem_kept.specs.Accepted.{IsAccepted, program_in}
 use Rattle.sem_kept.specs.Coded.{StatementHasBytes}
 use Rattle.sem_kept.specs.Operands.{ArePassed, InstrFits}
 use Rattle.sem_kept.specs.Settled.{HasCalled, HasOperand, HasInstruction, IsResolvedStatement}
-use Rattle.sem_kept.proofs.accepted.Accepted.{IsSound, IsSoundStatement, IsSoundTree, right_tree}
+use Rattle.sem_kept.proofs.accepted.Accepted.{IsSoundBlock, IsSoundStatement, IsSoundTree, right_tree}
 use Rattle.sem_kept.proofs.accepted.CodedBytes.{tree_has}
 use Rattle.sem_kept.proofs.accepted.CodedOps.{IsGoodStatement, statement_good}
 use Rattle.sem_kept.proofs.accepted.CodedSources.{context_fit, formals_few}
 use Rattle.sem_kept.proofs.accepted.CodedSymbols.{symbols_fit as symbols_coded}
 use Rattle.sem_kept.proofs.accepted.OperandsCalls.{call_fits}
 use Rattle.block_layout.proofs.CommonLemmas.{all_there}
-use Rattle.sem_kept.proofs.accepted.OperandsOperations.{allowed}
+use Rattle.sem_kept.proofs.accepted.OperandsOperations.{taken_by_rule}
 use Rattle.sem_kept.proofs.accepted.OperandsSymbols.{symbols_fit}
 use Rattle.sem_kept.proofs.accepted.OperandsViews.{EndsBy, Surrounds, ends_by, holds_locals}
 use Rattle.sem_kept.proofs.accepted.Settled.{statements_settle}
@@ -88,9 +89,9 @@ use Rattle.listing_laws.proofs.made.Found.{called_found, data_found}
 use Rattle.listing_laws.proofs.remade.Blocks.{IsListedCode, listed_code}
 use Rattle.listing_laws.proofs.remade.Callees.{IsCalleeAgain, block_again, block_formals, system_again}
 use Rattle.listing_laws.proofs.remade.Parameters.{formal_again, name_there, parameters_again, source_kind, source_sound}
-use Rattle.listing_laws.proofs.remade.Passed.{AreStored, IsFitting, IsStored, all_passed, from_stored, passed_all, passings_fit, rising}
+use Rattle.listing_laws.proofs.remade.Passed.{AreStored, IsFitting, IsStored, all_passed, from_stored, passed_all, passings_fit, passings_rise}
 use Rattle.listing_laws.proofs.remade.Right.{operands_right}
-use Rattle.listing_laws.proofs.remade.Splits.{IsAmong, all_split, among, split_holds, stated}
+use Rattle.listing_laws.proofs.remade.Splits.{IsAmong, all_split, among, split_holds, statement_stated}
 use Rattle.listing_laws.proofs.remade.Types.{asked, given}
 use Rattle.listing_laws.proofs.ruled.Calling.{no_jump, no_zero, sees_called}
 
@@ -183,7 +184,7 @@ own_seen : (c : Context) (own : List Formal) (index : ℕ) → resolution_of c (
 unfolding resolution_of
 own_seen c own index = refl
 
-local_is : (symbols : List Symbol) (t : Tree) (k : ℕ) (b : Block) (l : BlockLayout) → IsSound symbols t k b l → l.local_len ≡ local_len (types_of_source symbols t.blocks) b
+local_is : (symbols : List Symbol) (t : Tree) (k : ℕ) (b : Block) (l : BlockLayout) → IsSoundBlock symbols t k b l → l.local_len ≡ local_len (types_of_source symbols t.blocks) b
 unfolding block_layout
 local_is symbols t k b l h = ap (λ (z : BlockLayout). z.local_len) h.layout
 
@@ -212,7 +213,7 @@ module _ (source file : List ℕ) (symbols : List Symbol) (t : Tree) (accepted :
   tree : IsSoundTree symbols t
   tree = right_tree source file symbols t accepted
 
-  sound : IsSound symbols t place b l
+  sound : IsSoundBlock symbols t place b l
   sound = source_sound symbols t tree again place b l id made
 
   is_kind : b.kind ≡ id.kind
@@ -301,7 +302,7 @@ module _ (source file : List ℕ) (symbols : List Symbol) (t : Tree) (accepted :
 
     is_word : is_call s.code ≡ true
     is_word = form_calls s.code
-        (taken_calls (form_of s.code) cid instance (allowed (form_of s.code) (view.Called cid instance) (rule_called c (form_of s.code) s.operand cid instance sees sound_here.allowed)).taken)
+        (taken_calls (form_of s.code) cid instance (taken_by_rule (form_of s.code) (view.Called cid instance) (rule_called c (form_of s.code) s.operand cid instance sees sound_here.allowed)).taken)
 
     how : (how : CallOperation) × (call_operation_of s.code ≡ Some how)
     how = call_word s.code is_word
@@ -399,7 +400,7 @@ module _ (source file : List ℕ) (symbols : List Symbol) (t : Tree) (accepted :
     passes_on : (lower : List Passing) (index number : ℕ) (w : Width) (higher : List Passing)
         → ps ≡ lower ++ record { index = index; actual = passed.Parameter number w } ∷ higher → PassesParameterOn sb cid index number
     passes_on lower index number w higher e =
-        let at = stated c b front s rest split (call_some s.code is_word) in
+        let at = statement_stated c b front s rest split (call_some s.code is_word) in
         record {
           how = how.0;
           instance = instance;
@@ -461,7 +462,7 @@ module _ (source file : List ℕ) (symbols : List Symbol) (t : Tree) (accepted :
         backed (passed.Parameter number w) is right k store =
             let record_there = no_own (parameter_meant here number) w right in
             let mine = own_there number record_there.0 record_there.1 in
-            let parts = or_parts (not (q.0.width == width_number w)) (not (q.0.section == 1) && is_in_parameter (parameter_meant here number)) k in
+            let parts = or_parts (not (q.0.width == width_number w)) (not (q.0.section == SECTION_IN) && is_in_parameter (parameter_meant here number)) k in
             let wide : width_of mine.formal.kind ≡ width_of asks.0.kind
             = same_kinds_wide asks.0 mine.formal q.0 record_there.0 w asks.2 mine.as_listed parts.0 (ap (λ o. lacks_own_parameter o w) (sym record_there.1) ∙ right) in
             let on = passes_on lower p.index number w higher (e ∙ ap (λ (x : Passed). lower ++ record { index = p.index; actual = x } ∷ higher) is) in
@@ -480,7 +481,7 @@ module _ (source file : List ℕ) (symbols : List Symbol) (t : Tree) (accepted :
       order = again_called.order;
       named = again_called.named;
       passable = all_split (IsPassable listed own called) ps passable;
-      rising = rising here (Some flat) None 0 ps refl passed_here;
+      rising = passings_rise here (Some flat) None 0 ps refl passed_here;
       complete = λ e. all_passed called again_called.params ps again_called.count
           (complete_call (again_called.kind == kind_number kinds.Fb) (are_all_passed 0 again_called.params (pass_ops ps)) _
           (ap (λ o. is_bad_call (lens_of (data_blocks_of t symbols (layouts_of t symbols))) o (instance_number_or_zero instance) (pass_ops ps)) (sym again_called.flat) ∙ fits.2)

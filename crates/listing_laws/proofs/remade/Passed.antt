@@ -126,9 +126,9 @@ above_from : (before : Option ℕ) (from index : ℕ) → IsBehind before from �
 above_from None from index h e = omega (arith, h)
 above_from (Some n) from index h e = let less = ltb-true n index e in omega (arith, h, less)
 
-pub rising : (a : Environment) (s : Option CalleeSeen) (before : Option ℕ) (from : ℕ) (ps : List Passing) → IsBehind before from → ArePassed a s before ps → AreRising from ps
-rising a s before from [] h k = tt
-rising a s before from (p ∷ ps) h k = (above_from before from p.index h k.0, rising a s (Some p.index) (suc p.index) ps refl k.3)
+pub passings_rise : (a : Environment) (s : Option CalleeSeen) (before : Option ℕ) (from : ℕ) (ps : List Passing) → IsBehind before from → ArePassed a s before ps → AreRising from ps
+passings_rise a s before from [] h k = tt
+passings_rise a s before from (p ∷ ps) h k = (above_from before from p.index h k.0, passings_rise a s (Some p.index) (suc p.index) ps refl k.3)
 
 -- ---- each is passed
 

@@ -14,7 +14,7 @@ use Rattle.stl_types.specs.Context.{Context}
 use Rattle.stl_codegen.specs.Compiled.{SourceInstruction, StatedBlock}
 use Rattle.stl_codegen.specs.Generated.{code_block, code_blocks_of, return_statement, stated_from, statements_of}
 use Rattle.stl_codegen.specs.Instruction.{instruction}
-use Rattle.sem_kept.proofs.accepted.Accepted.{IsSound}
+use Rattle.sem_kept.proofs.accepted.Accepted.{IsSoundBlock}
 use Rattle.sem_kept.proofs.accepted.OperandsMembers.{code_block_there}
 use Rattle.listing_laws.specs.Again.{context_at}
 
@@ -42,7 +42,7 @@ pub record IsAmong (symbols : List Symbol) (t : Tree) (x : StatedBlock) : Type 0
   pub back : List StatedBlock
   pub is : code_blocks_of t symbols (layouts_of t symbols) ≡ front ++ x ∷ back
 
-pub among : (symbols : List Symbol) (t : Tree) (k : ℕ) (b : Block) (l : BlockLayout) (id : BlockId) → IsSound symbols t k b l → l.id ≡ Some id → is_code id.kind ≡ true
+pub among : (symbols : List Symbol) (t : Tree) (k : ℕ) (b : Block) (l : BlockLayout) (id : BlockId) → IsSoundBlock symbols t k b l → l.id ≡ Some id → is_code id.kind ≡ true
     → IsAmong symbols t (code_block (context_at symbols t k) b l id)
 among symbols t k b l id sound known code =
     code_block_there symbols t (IsAmong symbols t)
@@ -80,10 +80,10 @@ stated_among c body n (x ∷ front) s rest some = by (is_empty_statement x.code)
       is = ap (λ z. record { instr = instruction c body n x; line = x.line } ∷ z) next.is;
     }
 
-pub stated : (c : Context) (b : Block) (front : List Statement) (s : Statement) (rest : List Statement) → b.body ≡ front ++ s ∷ rest → is_empty_statement s.code ≡ false
+pub statement_stated : (c : Context) (b : Block) (front : List Statement) (s : Statement) (rest : List Statement) → b.body ≡ front ++ s ∷ rest → is_empty_statement s.code ≡ false
     → IsStated c b.body (statements_of c b) s
 unfolding statements_of
-stated c b front s rest e some =
+statement_stated c b front s rest e some =
     let inner = subst (λ z. IsStated c b.body (stated_from c b.body 0 z) s) (sym e) (stated_among c b.body 0 front s rest some) in
     record {
       before = inner.before;

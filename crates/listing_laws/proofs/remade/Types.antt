@@ -22,7 +22,7 @@ use Rattle.sem_kept.proofs.accepted.Accepted.{right_tree}
 use Rattle.sem_kept.proofs.accepted.RecordBlocks.{code_blocks_rise}
 use Rattle.sem_kept.proofs.accepted.RecordOrder.{Rise}
 use Rattle.listing_laws.specs.AcceptedTypes.{declared_kinds}
-use Rattle.listing_laws.specs.Chains.{AreTypesAsDeclared, HasStep, HasTyped, is_listed_type}
+use Rattle.listing_laws.specs.Chains.{AreTypesAsDeclared, HasStep, LinksHaveType, is_listed_type}
 use Rattle.listing_laws.specs.Declared.{AreWide, signatures_in}
 use Rattle.listing_laws.specs.HandedOn.{declared_type_in}
 use Rattle.listing_laws.specs.Listed.{IsParameterOf, params_in}
@@ -79,7 +79,7 @@ module _ (source file : List ℕ) (symbols : List Symbol) (t : Tree) (accepted :
       ends_alike blocks (declared_type_in (declared_kinds t symbols) blocks) own other i j g f kept h k (sym (of_width own i g there h) ∙ wide ∙ of_width other j f here k) step
 
   pub type_given : (own : BlockId) (i : ℕ) (g f : Formal) → slice_get (formals_of_block (signatures_in (program_in symbols t)) own) i ≡ Some g → width_of g.kind ≡ width_of f.kind → is_listed_type f.kind ≡ true
-      → HasTyped (links blocks) (first_of blocks own + i) f.kind → g.kind ≡ f.kind
+      → LinksHaveType (links blocks) (first_of blocks own + i) f.kind → g.kind ≡ f.kind
   type_given own i g f there wide listed typed =
       let h = parameters_listed chains blocks own i g there in
       h.kind ∙ ap (kind_at chains (first_of blocks own + i)) (sym (of_width own i g there h) ∙ wide) ∙ kept.seeds (first_of blocks own + i) f.kind typed listed
@@ -108,5 +108,5 @@ module _ (source file : List ℕ) (symbols : List Symbol) (t : Tree) (accepted :
         → width_of g.kind ≡ width_of f.kind → is_listed_type f.kind ≡ true → g.kind ≡ f.kind
     given other i j g f on system there here wide listed =
         type_given b.id i g f there wide listed
-        (subst (λ n. HasTyped (links blocks) (n + i) f.kind) (sym first_is)
-        (subst (λ z. HasTyped (links z) (total_parameter_count (map compiled_block front) + i) f.kind) all_is (seeds_found front back b other j i f on system here)))
+        (subst (λ n. LinksHaveType (links blocks) (n + i) f.kind) (sym first_is)
+        (subst (λ z. LinksHaveType (links z) (total_parameter_count (map compiled_block front) + i) f.kind) all_is (seeds_found front back b other j i f on system here)))

@@ -48,9 +48,9 @@ use Rattle.listing_laws.specs.Statements.{statement_offset}
 use Rattle.listing_laws.proofs.right.Instances.{instance_there}
 use Rattle.listing_laws.proofs.right.Named.{AreTypesOf}
 use Rattle.listing_laws.proofs.right.Numbered.{landings_kept, lists_kept, numbered_from}
-use Rattle.listing_laws.proofs.right.Placed.{IsBodyOf, all_readable, body_again, body_is, few_stated, listed_as, source_block, source_settled}
+use Rattle.listing_laws.proofs.right.Placed.{IsBodyOf, all_readable, body_in_listing, body_is, few_stated, listed_as, source_block, source_settled}
 use Rattle.listing_laws.proofs.right.Statements.{IsInstanceKept, IsRightAgain, statement_right}
-use Rattle.listing_laws.proofs.right.Words.{crossing, right_from}
+use Rattle.listing_laws.proofs.right.Words.{crossing_in, right_from}
 use Rattle.listing_laws.proofs.ruled.Labels.{labels_once}
 use Rattle.listing_laws.proofs.ruled.Marks.{listed_nestings_kept}
 use Rattle.listing_laws.proofs.ruled.Reached.{labels_known}
@@ -121,22 +121,22 @@ each_empty : (P : Statement → Type 0) (f : Statement → List Refusal) → ((s
 each_empty P f by [] h = refl
 each_empty P f by (s ∷ ss) h = empty_both (f s) (flat_map f ss) (by s h.0) (each_empty P f by ss h.1)
 
-unbroken : (b : Bool) (line rule : ℕ) → b ≡ false → broken_if b line rule ≡ []
-unbroken b line rule e = ap (λ (t : Bool). broken_if t line rule) e
+rule_unbroken : (b : Bool) (line rule : ℕ) → b ≡ false → broken_if b line rule ≡ []
+rule_unbroken b line rule e = ap (λ (t : Bool). broken_if t line rule) e
 
 actual_operands_empty : (breaks : Operand → Bool) (rule : ℕ) (actuals : List Actual) → AllByRecursion (λ (a : Actual). breaks a.value ≡ false) actuals
     → flat_map (λ (o : OperandAtLine). broken_if (breaks o.operand) o.line rule) (map (λ (a : Actual). record { line = a.line; operand = a.value }) actuals) ≡ []
 actual_operands_empty breaks rule [] h = refl
 actual_operands_empty breaks rule (a ∷ more) h =
-    empty_both (broken_if (breaks a.value) a.line rule) _ (unbroken (breaks a.value) a.line rule h.0) (actual_operands_empty breaks rule more h.1)
+    empty_both (broken_if (breaks a.value) a.line rule) _ (rule_unbroken (breaks a.value) a.line rule h.0) (actual_operands_empty breaks rule more h.1)
 
 operands_empty : (breaks : Operand → Bool) (rule : ℕ) (s : Statement) → breaks s.operand ≡ false → AllByRecursion (λ (a : Actual). breaks a.value ≡ false) s.actuals
     → flat_map (λ (o : OperandAtLine). broken_if (breaks o.operand) o.line rule) (operands_of s) ≡ []
-operands_empty breaks rule s own more = empty_both (broken_if (breaks s.operand) s.line rule) _ (unbroken (breaks s.operand) s.line rule own) (actual_operands_empty breaks rule s.actuals more)
+operands_empty breaks rule s own more = empty_both (broken_if (breaks s.operand) s.line rule) _ (rule_unbroken (breaks s.operand) s.line rule own) (actual_operands_empty breaks rule s.actuals more)
 
 actuals_empty : (breaks : Actual → Bool) (rule : ℕ) (actuals : List Actual) → AllByRecursion (λ (a : Actual). breaks a ≡ false) actuals → flat_map (λ (a : Actual). broken_if (breaks a) a.line rule) actuals ≡ []
 actuals_empty breaks rule [] h = refl
-actuals_empty breaks rule (a ∷ more) h = empty_both (broken_if (breaks a) a.line rule) _ (unbroken (breaks a) a.line rule h.0) (actuals_empty breaks rule more h.1)
+actuals_empty breaks rule (a ∷ more) h = empty_both (broken_if (breaks a) a.line rule) _ (rule_unbroken (breaks a) a.line rule h.0) (actuals_empty breaks rule more h.1)
 
 all_of : (P Q : Actual → Type 0) → ((a : Actual) → P a → Q a) → (actuals : List Actual) → AllByRecursion P actuals → AllByRecursion Q actuals
 all_of P Q f [] h = tt
@@ -180,7 +180,7 @@ module _ (y : Types) (c : Context) (body : List Statement) (h : AreRight y c bod
       (λ s r. actuals_empty (λ a. is_resolved_date (resolution_of c a.value)) 24 s.actuals (all_of (IsSoundActual y c) (λ a. is_resolved_date (resolution_of c a.value) ≡ false) (λ a k. k.undated) s.actuals r.actuals))
 
   right_46 : flat_map (λ s. broken_if (calls_unknown c s.operand) s.line 46) body ≡ []
-  right_46 = by_each (λ s. broken_if (calls_unknown c s.operand) s.line 46) (λ s r. unbroken (calls_unknown c s.operand) s.line 46 r.one_of_nine)
+  right_46 = by_each (λ s. broken_if (calls_unknown c s.operand) s.line 46) (λ s r. rule_unbroken (calls_unknown c s.operand) s.line 46 r.one_of_nine)
 
   right_34 : by_calls (λ c callee s. actuals_without_formal callee.formals s.actuals) c body ≡ []
   right_34 = by_call (λ c callee s. actuals_without_formal callee.formals s.actuals) (λ callee s k. actuals_empty (names_no_formal callee.formals) 34 s.actuals k.named)
@@ -189,16 +189,16 @@ module _ (y : Types) (c : Context) (body : List Statement) (h : AreRight y c bod
   right_35 = by_call (λ c callee s. actuals_supplied_twice callee.formals [] s.actuals) (λ callee s k. k.once)
 
   right_36 : by_calls (λ c callee s. broken_if (lacks_actual callee s) s.line 36) c body ≡ []
-  right_36 = by_call (λ c callee s. broken_if (lacks_actual callee s) s.line 36) (λ callee s k. unbroken (lacks_actual callee s) s.line 36 k.complete)
+  right_36 = by_call (λ c callee s. broken_if (lacks_actual callee s) s.line 36) (λ callee s k. rule_unbroken (lacks_actual callee s) s.line 36 k.complete)
 
   right_37 : by_calls call_37 c body ≡ []
   right_37 = by_call call_37 (λ callee s k. actuals_empty (λ a. misfits_formal c a (formal_named callee.formals a.name)) 37 s.actuals k.fits)
 
   right_38 : by_calls (λ c callee s. broken_if (has_wrong_instance c callee s.operand) s.line 38) c body ≡ []
-  right_38 = by_call (λ c callee s. broken_if (has_wrong_instance c callee s.operand) s.line 38) (λ callee s k. unbroken (has_wrong_instance c callee s.operand) s.line 38 k.instance)
+  right_38 = by_call (λ c callee s. broken_if (has_wrong_instance c callee s.operand) s.line 38) (λ callee s k. rule_unbroken (has_wrong_instance c callee s.operand) s.line 38 k.instance)
 
   right_40 : by_calls (λ c callee s. broken_if (is_bare_call callee s) s.line 40) c body ≡ []
-  right_40 = by_call (λ c callee s. broken_if (is_bare_call callee s) s.line 40) (λ callee s k. unbroken (is_bare_call callee s) s.line 40 k.bare)
+  right_40 = by_call (λ c callee s. broken_if (is_bare_call callee s) s.line 40) (λ callee s k. rule_unbroken (is_bare_call callee s) s.line 40 k.bare)
 
 -- ---- each statement of a listed body
 
@@ -238,10 +238,10 @@ body_right signatures stated y y' c listed b is e few settled sound source types
       (subst (λ (ss : List SourceInstruction). AllByRecursion (λ s. LeadsWithin (length ss) s.instr) ss) (sym e) (jumps_within c b));
   by_27 = labels_once signatures (lines_in stated.statements) stated few;
   by_29 = nested.closing ∙ source.by_29;
-  by_30 = nested.left ∙ source.by_30;
+  by_30 = nested.brackets_left ∙ source.by_30;
   by_31 = nested.eighth ∙ source.by_31;
   by_32 = ap (lists_from []) is.is ∙ lists_kept b.body sur.targets (listed_as sur (statement_offset stated.statements) c b.body) (right_from b.body source) is.placed;
-  by_33 = ap crossing is.is ∙ landings_kept b.body sur.targets (listed_as sur (statement_offset stated.statements) c b.body) is.placed source.by_33;
+  by_33 = ap crossing_in is.is ∙ landings_kept b.body sur.targets (listed_as sur (statement_offset stated.statements) c b.body) is.placed source.by_33;
   by_34 = right_34 y listed body each;
   by_35 = right_35 y listed body each;
   by_36 = right_36 y listed body each;
@@ -279,7 +279,7 @@ instances_kept symbols t tree k (s ∷ ss) sound others again own has = (instanc
 pub made_right : (source file : List ℕ) (symbols : List Symbol) (t : Tree) → IsAccepted source file symbols t → AreBytes source → (again place : ℕ) (b : Block) (l : BlockLayout) (id : BlockId)
     → (made : IsMadeOf symbols t again place b l id) → (y : Types) (others : List Symbol) → AreTypesOf y (again_at symbols t others again)
     → IsBodyReady (context_at symbols t place) (again_at symbols t others again) (signatures_in (program_in symbols t)) (formals_of_block (signatures_in (program_in symbols t)) id) b.body
-    → IsRightBody y (again_at symbols t others again) (body_again symbols t again place b l id made)
+    → IsRightBody y (again_at symbols t others again) (body_in_listing symbols t again place b l id made)
 made_right source file symbols t accepted bytes again place b l id made y others types ready =
     let c = context_at symbols t place in
     let listed = again_at symbols t others again in

@@ -6,6 +6,7 @@ use Rattle.plc_base.specs.Folding.{upper_case_name}
 use Rattle.plc_base.specs.Kinds.{is_data_block, is_system_function}
 use Rattle.plc_base.specs.declared.blocks.BlockId.{BlockId}
 use Rattle.plc_base.specs.declared.places.Width.{Width}
+use Rattle.flat_code.specs.Kinds.{timer_kind}
 use Rattle.flat_code.specs.declared.operands.Operand.{Operand as FlatOperand}
 use Rattle.flat_code.specs.declared.operands.Operand.TheVariants as flat
 use Rattle.flat_code.specs.declared.operands.Passed.{Passed}
@@ -23,7 +24,7 @@ use Rattle.stl_ast.specs.declared.operands.Operand.TheVariants as operand
 use Rattle.stl_ast.specs.declared.operands.PathHead.TheVariants as head
 use Rattle.stl_symbols.specs.Symbol.{Symbol}
 use Rattle.block_layout.specs.Blocks.{found_block, known_block, named_block}
-use Rattle.block_layout.specs.Paths.{folded_path, holds_where_reached, if_whole, in_sections, is_checkable, walked_local, whole_at}
+use Rattle.block_layout.specs.Paths.{folded_path, holds_where_reached, if_whole, in_sections, is_checkable, path_end_of_local, whole_at}
 use Rattle.block_layout.specs.Rule23.{is_unknown_called, is_unknown_data, is_unknown_id, is_unknown_instance, names_unknown}
 use Rattle.block_layout.specs.Rule42.{operand_is_outside}
 use Rattle.block_layout.specs.Types.{Types}
@@ -142,7 +143,7 @@ and_false false b e = refl
 pub bare_inside : (y : Types) (c : Context) (o : Operand) → IsBare o → operand_is_outside y c.layouts c.block o ≡ false
 bare_inside y c (operand.Named (head.Local name) steps) h =
     ap (λ (p : List PathStep). operand_is_outside y c.layouts c.block (operand.Named (head.Local name) p)) h
-    ∙ and_false (is_checkable (walked_local c.layouts c.block (upper_case_name name) [])) (holds_where_reached (in_sections c.layouts c.block (upper_case_name name)) (λ component. false)) (no_further (in_sections c.layouts c.block (upper_case_name name)))
+    ∙ and_false (is_checkable (path_end_of_local c.layouts c.block (upper_case_name name) [])) (holds_where_reached (in_sections c.layouts c.block (upper_case_name name)) (λ component. false)) (no_further (in_sections c.layouts c.block (upper_case_name name)))
 bare_inside y c (operand.Named (head.InBlock name) steps) h = absurd h
 bare_inside y c (operand.Named (head.Symbol name) steps) h = absurd h
 bare_inside y c _ h = refl
@@ -175,7 +176,7 @@ unfolding operand_by plain_operand
 operand_bare formals starts opened w flat.Nothing = implied_bare w
 operand_bare formals starts opened w (flat.Literal value) = constant_bare w value
 operand_bare formals starts opened w (flat.Parameter index width) = refl
-operand_bare formals starts opened w (flat.Numbered kind number) = timer_bare (kind == 1) number
+operand_bare formals starts opened w (flat.Numbered kind number) = timer_bare (kind == timer_kind) number
 operand_bare formals starts opened w _ = tt
 
 -- the value of a listed actual parameter

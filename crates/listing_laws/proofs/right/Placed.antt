@@ -40,7 +40,7 @@ use Rattle.stl_list.specs.Signatures.{Signature}
 use Rattle.stl_list.specs.Statements.{ListingContext, body_of, label_at, label_of_end, listed_statement, statement_at, statements_from, listing_context}
 use Rattle.sem_kept.specs.Accepted.{IsAccepted, program_in}
 use Rattle.sem_kept.specs.Settled.{HasInstruction, HasLabel, HasOperand, IsResolvedStatement}
-use Rattle.sem_kept.proofs.accepted.Accepted.{IsSound, IsSoundStatement, right_tree, sound_at}
+use Rattle.sem_kept.proofs.accepted.Accepted.{IsSoundBlock, IsSoundStatement, right_tree, sound_at}
 use Rattle.sem_kept.proofs.accepted.OperandsInstr.{resolved_is}
 use Rattle.sem_kept.proofs.accepted.Settled.{statements_settle}
 use Rattle.sem_kept.proofs.accepted.Shared.{stated_count as source_count}
@@ -51,7 +51,7 @@ use Rattle.listing_laws.specs.Statements.{jumps_to, statement_offset, run_of}
 use Rattle.listing_laws.proofs.EndLemmas.{statements_free}
 use Rattle.listing_laws.proofs.RunLemmas.{numbers_found, runs_found, targets_found}
 use Rattle.listing_laws.proofs.right.Numbered.{ArePlaced, IsAgain, IsJumpAgain, IsNoLabel, IsPlaced, numbered_from}
-use Rattle.listing_laws.proofs.ruled.Instructions.{jumped, leap_operand}
+use Rattle.listing_laws.proofs.ruled.Instructions.{jump_instruction, leap_operand}
 use Rattle.listing_laws.proofs.ruled.Marks.{AreLinesAt, from_start, lines_length, run_all, word_is}
 use Rattle.listing_laws.proofs.ruled.Reached.{no_unknown, one}
 use Rattle.listing_laws.proofs.ruled.Within.{Stays, resolved_stays, stated_count, target_low}
@@ -146,7 +146,7 @@ jump_again signatures b c body k s how counted h label into = record {
     low = let low = target_low label.name body in let size = counted.size in omega (arith, low, size)
 
     is : instruction c body k s ≡ jump_instr how k n
-    is = jumped c body k s how h ∙ ap (λ (o : Operand). jump_instr how k (target_of body o)) label.is
+    is = jump_instruction c body k s how h ∙ ap (λ (o : Operand). jump_instr how k (target_of body o)) label.is
 
 other_instr : (c : Context) (body : List Statement) (k : ℕ) (s : Statement) → jump_operation_of s.code ≡ None → instruction c body k s ≡ resolved_instr c s (resolved_operand c s)
 unfolding instruction
@@ -250,8 +250,8 @@ numbered_all sur f c body n k (s ∷ ss) last size count free =
         next_one sur k (run_of f (instruction c body k s)) (statements_from sur (suc k) (run_all f (stated_from c body (suc k) ss ++ last ∷ []))) (omega (arith, at, size))
         ∙ ap (λ (rest : List Statement). listed_as sur f c body k s ∷ rest) (more (suc k) (omega (arith, at)))
 
-unmarked : (marks : List Bool) (n : ℕ) → unwrap_or (slice_get marks n) false ≡ false → label_at marks n ≡ None
-unmarked marks n e = ap (λ (b : Bool). if b then Some (label_of_number n) else None) e
+unmarked_label : (marks : List Bool) (n : ℕ) → unwrap_or (slice_get marks n) false ≡ false → label_at marks n ≡ None
+unmarked_label marks n e = ap (λ (b : Bool). if b then Some (label_of_number n) else None) e
 
 -- ---- of a block of an accepted source
 
@@ -283,7 +283,7 @@ body_by signatures stated y c b e settled sound free few = record {
       ap (λ (rs : List Run). statements_from sur 0 rs) (runs_found stated.statements)
       ∙ ap (λ (xs : List SourceInstruction). statements_from sur 0 (run_all f xs)) e
       ∙ numbered_all sur f c b.body (count_of_statements b.body) 0 b.body (return_statement b) (lines_length stated.statements ∙ size) (omega arith)
-      (unmarked sur.targets (count_of_statements b.body) (targets_found stated.statements (count_of_statements b.body) (omega (arith, size)) ∙ free (count_of_statements b.body) (sym size)));
+      (unmarked_label sur.targets (count_of_statements b.body) (targets_found stated.statements (count_of_statements b.body) (omega (arith, size)) ∙ free (count_of_statements b.body) (sym size)));
   placed =
       placed_from signatures stated y c b.body 0 b.body (return_statement b) (record { size = size; few = omega (arith, size, same, other, low) }) settled sound
       (λ j. ap (line_of_statement (lines_in stated.statements)) (from_start j) ∙ ap (λ (xs : List SourceInstruction). line_of_statement (lines_in xs) j) e)
@@ -325,7 +325,7 @@ few_stated c b few =
 
 -- the block of the source that a listed one was made of
 pub source_block : (source file : List ℕ) (symbols : List Symbol) (t : Tree) → IsAccepted source file symbols t → (again place : ℕ) (b : Block) (l : BlockLayout) (id : BlockId) → IsMadeOf symbols t again place b l id
-    → IsSound symbols t place b l
+    → IsSoundBlock symbols t place b l
 source_block source file symbols t accepted again place b l id made = sound_at symbols t (right_tree source file symbols t accepted) place b l made.source.block made.source.layout
 
 pub source_settled : (source file : List ℕ) (symbols : List Symbol) (t : Tree) → IsAccepted source file symbols t → AreBytes source → (again place : ℕ) (b : Block) (l : BlockLayout) (id : BlockId) → IsMadeOf symbols t again place b l id
@@ -333,12 +333,12 @@ pub source_settled : (source file : List ℕ) (symbols : List Symbol) (t : Tree)
 source_settled source file symbols t accepted bytes again place b l id made = statements_settle source file symbols t accepted bytes place b made.source.block
 
 -- the body of the listed block
-abbrev pub body_again : (symbols : List Symbol) (t : Tree) (again place : ℕ) (b : Block) (l : BlockLayout) (id : BlockId) → IsMadeOf symbols t again place b l id → List Statement
-body_again symbols t again place b l id made = (listed_block (signatures_in (program_in symbols t)) made.reached (compiled_block (code_block (context_at symbols t place) b l id))).body
+abbrev pub body_in_listing : (symbols : List Symbol) (t : Tree) (again place : ℕ) (b : Block) (l : BlockLayout) (id : BlockId) → IsMadeOf symbols t again place b l id → List Statement
+body_in_listing symbols t again place b l id made = (listed_block (signatures_in (program_in symbols t)) made.reached (compiled_block (code_block (context_at symbols t place) b l id))).body
 
 pub body_is : (source file : List ℕ) (symbols : List Symbol) (t : Tree) → IsAccepted source file symbols t → AreBytes source → (again place : ℕ) (b : Block) (l : BlockLayout) (id : BlockId)
     → (made : IsMadeOf symbols t again place b l id)
-    → IsBodyOf (context_at symbols t place) b (signatures_in (program_in symbols t)) (code_block (context_at symbols t place) b l id) (body_again symbols t again place b l id made)
+    → IsBodyOf (context_at symbols t place) b (signatures_in (program_in symbols t)) (code_block (context_at symbols t place) b l id) (body_in_listing symbols t again place b l id made)
 body_is source file symbols t accepted bytes again place b l id made =
     let c = context_at symbols t place in
     let stated = code_block c b l id in

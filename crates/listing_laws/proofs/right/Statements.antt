@@ -6,6 +6,7 @@ use Rattle.std.specs.Option.{is_none, option_and_then}
 use Rattle.std.proofs.lemmas.Option.{same_Some}
 use Rattle.plc_base.specs.Kinds.{is_callable, is_function, is_function_block, is_system_function}
 use Rattle.plc_base.specs.declared.blocks.BlockId.{BlockId}
+use Rattle.flat_code.specs.Kinds.{timer_kind}
 use Rattle.flat_code.specs.Instr.{Calls, Does, Instr, Jumps, JumpsByList, Passing, Returns}
 use Rattle.flat_code.specs.Ops.{OpData}
 use Rattle.flat_code.specs.declared.kinds.JumpOperation.{JumpOperation}
@@ -69,11 +70,11 @@ use Rattle.listing_laws.specs.Passings.{BreaksNone, FitsListed, IsListedCall}
 use Rattle.listing_laws.specs.CallsAgain.{IsCalledAgain, IsFoundAgain}
 use Rattle.listing_laws.specs.Statements.{run_of}
 use Rattle.listing_laws.proofs.called.Calls.{calls_listed, calls_whole, instances_right, statements_listed}
-use Rattle.listing_laws.proofs.called.Passings.{actuals_right, all_actuals, calls_complete, sees, undated}
+use Rattle.listing_laws.proofs.called.Passings.{actuals_right, all_actuals, calls_complete, sees, operand_undated}
 use Rattle.listing_laws.proofs.right.Named.{AreTypesOf, IsBare, bare_inside, operand_bare, passed_bare, seen_there}
 use Rattle.listing_laws.proofs.right.Placed.{labels_seen, listed_as, readable}
 use Rattle.listing_laws.proofs.ruled.Calling.{rule_called, same_kind}
-use Rattle.listing_laws.proofs.ruled.Instructions.{acting_word, comes_to, end_operand, end_taken, jump_taken, jumped, leap_operand, nothing_seen, rule_broken, what_seen}
+use Rattle.listing_laws.proofs.ruled.Instructions.{acting_word, comes_to, end_operand, end_taken, jump_taken, jump_instruction, leap_operand, nothing_seen, rule_broken, what_seen}
 use Rattle.listing_laws.proofs.ruled.Marks.{call_comes, calls_block, word_is}
 use Rattle.listing_laws.proofs.ruled.Operands.{operands_kept}
 use Rattle.listing_laws.proofs.ruled.Rules.{taken_view}
@@ -163,7 +164,7 @@ operand_none : (formals : List Formal) (starts : List ℕ) (opened : Option ℕ)
 unfolding operand_by plain_operand
 operand_none formals starts opened w flat.Nothing h = implied_none w
 operand_none formals starts opened w (flat.Literal value) h = constant_none w value
-operand_none formals starts opened w (flat.Numbered kind number) h = timer_none (kind == 1) number
+operand_none formals starts opened w (flat.Numbered kind number) h = timer_none (kind == timer_kind) number
 operand_none formals starts opened w (flat.Called kind number instance) h = absurd h
 operand_none formals starts opened w _ h = refl
 
@@ -215,7 +216,7 @@ jump_right y c listed sur f body k s how types h word =
     name = label_of_number (number_at sur.starts (f (target_of body s.operand)))
 
     is : instruction c body k s ≡ jump_instr how k n
-    is = jumped c body k s how h
+    is = jump_instruction c body k s how h
 
     shown : (listed_statement sur k (run_of f (jump_instr how k n))).operand ≡ operand.Label name
     shown = leap_operand sur k f how k n
@@ -239,7 +240,7 @@ does_right y c listed sur f k s v types has right some jumps calls ends e =
     let sees = what_seen c s v e in
     let both = stands c listed sur.formals s.operand v has right sees in
     let acted = operands_kept c listed sur.formals sur.starts f s.code s.operand v (record { some = some; jumps = jumps; calls = calls; ends = ends }) (rule_broken c s v e) sees both.1 both.0 in
-    right_instr y listed sur f k (operand_instruction s.code s.operand v) acted.found types (acting_none s.operand v) acted.sees
+    right_instr y listed sur f k (operand_instruction s.code s.operand v) acted.found types (acting_none s.operand v) acted.resolves
     (ap (λ (m : Mnemonic). operand_rule listed (form_of m) (listed_statement sur k (run_of f (operand_instruction s.code s.operand v))).operand) (acting_word f s.code s.operand v some jumps calls ends) ∙ acted.right)
 
 end_right : (y : Types) (listed : Context) (sur : ListingContext) (f : ℕ → ℕ) (k : ℕ) (m : Mnemonic) (how : EndOperation)
@@ -452,7 +453,7 @@ called_right y c listed sur f k s how id instance callee types has h e is_call s
     breaks = actuals_right listed sur.formals called q.found ps again is_listed
 
     undated_in : (p : Passing) (g : Formal) → slice_get called p.index ≡ Some g → FitsListed listed sur.formals g p.actual → is_resolved_date (resolution_of listed (passed_operand sur.formals g p.actual)) ≡ false
-    undated_in p g at fits = undated listed sur.formals g p.actual fits
+    undated_in p g at fits = operand_undated listed sur.formals g p.actual fits
 
     sound_call : IsSoundCall listed q.found again
     sound_call = record {

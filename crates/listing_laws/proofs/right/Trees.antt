@@ -35,7 +35,8 @@ use Rattle.stl_list.specs.DataBlocks.{listed_data, listed_data_blocks}
 use Rattle.stl_list.specs.Listing.{listed_tree}
 use Rattle.stl_list.specs.Signatures.{Signature, formals_of_block}
 use Rattle.sem_kept.specs.Accepted.{IsAccepted, program_in}
-use Rattle.sem_kept.proofs.accepted.Accepted.{AllFrom, context_at}
+use Rattle.sem_kept.specs.Settled.{context_at}
+use Rattle.sem_kept.proofs.accepted.Accepted.{AllFrom}
 use Rattle.block_layout.proofs.CommonLemmas.{all_there}
 use Rattle.block_layout.proofs.LayoutLemmas.{measured_symbols}
 use Rattle.sem_kept.proofs.accepted.OperandsViews.{ids_same}
@@ -51,7 +52,7 @@ use Rattle.listing_laws.proofs.remade.Parameters.{parameters_again}
 use Rattle.listing_laws.proofs.remade.Right.{operands_right}
 use Rattle.listing_laws.proofs.right.Bodies.{IsBodyReady, IsRightBody, by_calls, made_right, none_right}
 use Rattle.listing_laws.proofs.right.Named.{AreTypesOf}
-use Rattle.listing_laws.proofs.right.Words.{crossing, listed_is}
+use Rattle.listing_laws.proofs.right.Words.{crossing_in, listed_is}
 
 -- ---- rules over the blocks of a tree
 
@@ -88,9 +89,9 @@ places_empty broken k [] h = refl
 places_empty broken k (b ∷ bs) h =
     empty_both (broken k b) (by_place broken (k + 1) bs) h.0 (ap (λ (n : ℕ). by_place broken n bs) (add-one k) ∙ places_empty broken (suc k) bs h.1)
 
-mapped : (P Q : ℕ → Block → Type 0) → ((k : ℕ) (b : Block) → P k b → Q k b) → (k : ℕ) (bs : List Block) → AllFrom P k bs → AllFrom Q k bs
-mapped P Q f k [] h = tt
-mapped P Q f k (b ∷ bs) h = (f k b h.0, mapped P Q f (suc k) bs h.1)
+all_from_mapped : (P Q : ℕ → Block → Type 0) → ((k : ℕ) (b : Block) → P k b → Q k b) → (k : ℕ) (bs : List Block) → AllFrom P k bs → AllFrom Q k bs
+all_from_mapped P Q f k [] h = tt
+all_from_mapped P Q f k (b ∷ bs) h = (f k b h.0, all_from_mapped P Q f (suc k) bs h.1)
 
 -- each body breaks none
 abbrev AreAllRight : (symbols : List Symbol) → Tree → Type 0
@@ -101,7 +102,7 @@ module _ (symbols : List Symbol) (t : Tree) (h : AreAllRight symbols t) where
   y = types_of_source symbols t.blocks
 
   each : (Q : ℕ → Block → Type 0) → ((k : ℕ) (b : Block) → IsRightBody (types_of_source symbols t.blocks) (context_at symbols t k) b.body → Q k b) → AllFrom Q 0 t.blocks
-  each Q f = mapped (λ k b. IsRightBody (types_of_source symbols t.blocks) (context_at symbols t k) b.body) Q f 0 t.blocks h
+  each Q f = all_from_mapped (λ k b. IsRightBody (types_of_source symbols t.blocks) (context_at symbols t k) b.body) Q f 0 t.blocks h
 
   bodies : (broken : List Statement → List Refusal) → ((k : ℕ) (b : Block) → IsRightBody (types_of_source symbols t.blocks) (context_at symbols t k) b.body → broken b.body ≡ []) → in_bodies broken t.blocks ≡ []
   bodies broken f = bodies_empty broken 0 t.blocks (each (λ k b. broken b.body ≡ []) f)
@@ -123,7 +124,7 @@ module _ (symbols : List Symbol) (t : Tree) (h : AreAllRight symbols t) where
     by_30 = bodies brackets_left_open (λ k b r. r.by_30);
     by_31 = bodies (with_brackets (λ brackets s. broken_if (is_eighth_bracket brackets s) s.line 31) []) (λ k b r. r.by_31);
     by_32 = bodies (λ body. lists_from [] body) (λ k b r. r.by_32);
-    by_33 = bodies crossing (λ k b r. r.by_33);
+    by_33 = bodies crossing_in (λ k b r. r.by_33);
     by_34 = contexts (by_calls (λ c callee s. actuals_without_formal callee.formals s.actuals)) (λ k b r. r.by_34);
     by_35 = contexts (by_calls (λ c callee s. actuals_supplied_twice callee.formals [] s.actuals)) (λ k b r. r.by_35);
     by_36 = contexts (by_calls (λ c callee s. broken_if (lacks_actual callee s) s.line 36)) (λ k b r. r.by_36);

@@ -56,8 +56,8 @@ listed_lists source file symbols t accepted bytes file_bytes again place b l id 
     ∙ lists_kept b.body sur.targets (listed_as sur (statement_offset stated.statements) c b.body)
     (right_from b.body (source_block source file symbols t accepted again place b l id made).body) is.placed
 
-abbrev pub crossing : List Statement → List Refusal
-crossing body = crossing_jumps (labels_of body) (landings_at_labels empty_nesting body) body
+abbrev pub crossing_in : List Statement → List Refusal
+crossing_in body = crossing_jumps (labels_of body) (landings_at_labels empty_nesting body) body
 
 pub listed_landings : AreLandingsKept
 listed_landings source file symbols t accepted bytes file_bytes again place b l id made x e =
@@ -65,7 +65,7 @@ listed_landings source file symbols t accepted bytes file_bytes again place b l 
     let stated = code_block c b l id in
     let sur = listing_context (signatures_in (program_in symbols t)) (lines_in stated.statements) (compiled_block stated) in
     let is = body_is source file symbols t accepted bytes again place b l id made in
-    ap (λ (z : Block). crossing z.body) (sym (listed_is symbols t again place b l id made x e))
-    ∙ ap crossing is.is
+    ap (λ (z : Block). crossing_in z.body) (sym (listed_is symbols t again place b l id made x e))
+    ∙ ap crossing_in is.is
     ∙ landings_kept b.body sur.targets (listed_as sur (statement_offset stated.statements) c b.body) is.placed
     (source_block source file symbols t accepted again place b l id made).body.by_33

@@ -39,6 +39,7 @@ use Rattle.stl_list.specs.Operands.{name_of_data_block, instance_name, operand_b
 use Rattle.stl_list.specs.Statements.{ListingContext, listed_statement}
 use Rattle.listing_laws.specs.Calling.{AreCalledAgain, AreBareCallsKept}
 use Rattle.listing_laws.specs.Instructions.{HasAgain, IsInstructionKept}
+use Rattle.listing_laws.specs.Operands.{IsOpenedAgain}
 use Rattle.listing_laws.specs.Statements.{run_of}
 use Rattle.listing_laws.proofs.WordLemmas.{call_words_found}
 use Rattle.listing_laws.proofs.ruled.Instructions.{resolves, rule_broken, what_seen}
@@ -117,10 +118,6 @@ whole_id c (Some i) id e = ap (λ (y : BlockId). whole_called_block c (Some y)) 
 
 -- ---- its instance
 
-abbrev pub IsInstanceAgain : Context → Option ℕ → Type 0
-IsInstanceAgain listed None = Unit {0}
-IsInstanceAgain listed (Some number) = data_number listed (name_of_data_block number) ≡ Some number
-
 -- no data block has the number 0
 pub no_zero : (listed : Context) → data_number listed (name_of_data_block 0) ≡ Some 0 → ⊥
 no_zero listed e = no e
@@ -132,7 +129,7 @@ named_instance : (listed : Context) (number : ℕ) → data_number listed (name_
 named_instance listed zero e = absurd (no_zero listed e)
 named_instance listed (suc n) e = rw (ne_eqb (suc n) 0 (λ h. omega (arith, h))) refl
 
-pub called_again : (listed : Context) (id : BlockId) (instance : Option ℕ) → whole_called_block listed (Some id) ≡ Some id → IsInstanceAgain listed instance
+pub called_again : (listed : Context) (id : BlockId) (instance : Option ℕ) → whole_called_block listed (Some id) ≡ Some id → IsOpenedAgain listed instance
     → resolution_of listed (operand.Called (block.Number id) (instance_name (instance_of instance))) ≡ Resolved (view.Called id instance)
 unfolding resolution_of
 called_again listed id None h k = ap (λ (x : Option BlockId). resolution_of_call x None None) h
@@ -149,7 +146,7 @@ pub record StandsCalled (listed : Context) (v : ResolvedOperand) : Type 0 where
   pub instance : Option ℕ
   pub is : v ≡ view.Called id instance
   pub whole : is_data_type id.kind ≡ false → whole_called_block listed (Some id) ≡ Some id
-  pub again : IsInstanceAgain listed instance
+  pub again : IsOpenedAgain listed instance
 
 view_is : (y w : ResolvedOperand) → Resolved y ≡ Resolved w → w ≡ y
 view_is y w e = cc
@@ -184,7 +181,7 @@ unfolding actuals_by
 no_actuals sur k f how id instance = refl
 
 calls_again : (listed : Context) (sur : ListingContext) (f : ℕ → ℕ) (again : List Statement) (n k : ℕ) (m : Mnemonic) (how : CallOperation) (id : BlockId) (instance : Option ℕ)
-    → call_operation_of m ≡ Some how → rule_of_resolved_operand (form_of m) (view.Called id instance) ≡ None → whole_called_block listed (Some id) ≡ Some id → IsInstanceAgain listed instance
+    → call_operation_of m ≡ Some how → rule_of_resolved_operand (form_of m) (view.Called id instance) ≡ None → whole_called_block listed (Some id) ≡ Some id → IsOpenedAgain listed instance
     → IsInstructionKept listed again n m (Calls how id instance []) (listed_statement sur k (run_of f (Calls how id instance [])))
 calls_again listed sur f again n k m how id instance h rule whole stands = record {
   word = word;

@@ -29,15 +29,15 @@ use Rattle.stl_codegen.specs.Operands.{flat_operand_of, pointer_bits}
 use Rattle.stl_codegen.specs.Operations.{operation_for}
 use Rattle.stl_list.specs.Constants.{instruction_constant, pointer_area, pointer_constant, pointer_letters}
 use Rattle.listing_laws.specs.Operands.{IsActedAgain, IsConstantCoded, IsPointer}
-use Rattle.listing_laws.proofs.ruled.Rules.{unchanged}
+use Rattle.listing_laws.proofs.ruled.Rules.{operand_unchanged}
 
-acted : (c : Context) (m : Mnemonic) (value again : Literal) → takes_constant (form_of m) again ≡ true → bits_of again ≡ bits_of value
+constant_acted : (c : Context) (m : Mnemonic) (value again : Literal) → takes_constant (form_of m) again ≡ true → bits_of again ≡ bits_of value
     → operation_for m (operand.Constant again) view.Constant ≡ operation_for m (operand.Constant value) view.Constant
     → IsActedAgain c m (operand.Constant value) (operand.Constant again) view.Constant
 unfolding resolution_of flat_operand_of
-acted c m value again taken bits operation = record {
+constant_acted c m value again taken bits operation = record {
   found = view.Constant;
-  sees = refl;
+  resolves = refl;
   right = rw taken refl;
   opened = refl;
   operation = operation;
@@ -69,18 +69,18 @@ long_low (negsuc n) h = omega (arith, h)
 plus_one : (n : ℕ) → n + 1 ≡ suc n
 plus_one n = omega arith
 
-unsigned : (v : ℤ) → twos_complement_bits 32 v ≡ cast_unsigned w32 v
-unsigned (pos n) = refl
-unsigned (negsuc n) = ap (λ (k : ℕ). 4294967296 - k) (plus_one n)
+bits_unsigned : (v : ℤ) → twos_complement_bits 32 v ≡ cast_unsigned w32 v
+bits_unsigned (pos n) = refl
+bits_unsigned (negsuc n) = ap (λ (k : ℕ). 4294967296 - k) (plus_one n)
 
 long_again : (v : ℤ) → IsLong v → twos_complement_bits 32 (cast_signed w32 (twos_complement_bits 32 v)) ≡ twos_complement_bits 32 v
-long_again v h = unsigned (cast_signed w32 (twos_complement_bits 32 v)) ∙ of_z-to_z w32 (twos_complement_bits 32 v) (long_low v h)
+long_again v h = bits_unsigned (cast_signed w32 (twos_complement_bits 32 v)) ∙ of_z-to_z w32 (twos_complement_bits 32 v) (long_low v h)
 
 adds_again : (c : Context) (value : Literal) → IsConstantCoded value → takes_constant (form_of code.Add) value ≡ true
     → IsActedAgain c code.Add (operand.Constant value) (instruction_constant (operation_for code.Add (operand.Constant value) view.Constant) (bits_of value)) view.Constant
 unfolding takes_constant form_of operation_for bits_of
-adds_again c (literal.Number v) h e = acted c code.Add (literal.Number v) (literal.Number (pos (twos_complement_bits 16 v % 65536))) refl (decimal_low v h.literal) refl
-adds_again c (literal.Long v) h e = acted c code.Add (literal.Long v) (literal.Long (cast_signed w32 (twos_complement_bits 32 v))) refl (long_again v h.literal) refl
+adds_again c (literal.Number v) h e = constant_acted c code.Add (literal.Number v) (literal.Number (pos (twos_complement_bits 16 v % 65536))) refl (decimal_low v h.literal) refl
+adds_again c (literal.Long v) h e = constant_acted c code.Add (literal.Long v) (literal.Long (cast_signed w32 (twos_complement_bits 32 v))) refl (long_again v h.literal) refl
 adds_again c _ h e = absurd cc
 
 word_again : (value : Literal) → IsConstantCoded value → fits_elementary_type value simple.Word ≡ true → bits_of value % 65536 ≡ bits_of value
@@ -90,32 +90,32 @@ word_again value h e = low (bits_of value) 65535 (h.word e) (omega arith)
 pub constant_again : (c : Context) (m : Mnemonic) (value : Literal) → IsConstantCoded value → takes_constant (form_of m) value ≡ true
     → IsActedAgain c m (operand.Constant value) (instruction_constant (operation_for m (operand.Constant value) view.Constant) (bits_of value)) view.Constant
 unfolding takes_constant form_of operation_for fits_elementary_type bits_of
-constant_again c code.L value h e = acted c code.L value (literal.Dword (bits_of value)) refl refl refl
-constant_again c code.Nop value h e = let k = counted_again 1 value (omega arith) e in acted c code.Nop value (decimal value) k.0 k.1 refl
-constant_again c code.Bld value h e = let k = counted_again 255 value (omega arith) e in acted c code.Bld value (decimal value) k.0 k.1 refl
-constant_again c code.Inc value h e = let k = counted_again 255 value (omega arith) e in acted c code.Inc value (decimal value) k.0 k.1 refl
-constant_again c code.Dec value h e = let k = counted_again 255 value (omega arith) e in acted c code.Dec value (decimal value) k.0 k.1 refl
-constant_again c code.Ssi value h e = let k = counted_again 15 value (omega arith) e in acted c code.Ssi value (decimal value) k.0 k.1 refl
-constant_again c code.Slw value h e = let k = counted_again 15 value (omega arith) e in acted c code.Slw value (decimal value) k.0 k.1 refl
-constant_again c code.Srw value h e = let k = counted_again 15 value (omega arith) e in acted c code.Srw value (decimal value) k.0 k.1 refl
-constant_again c code.Ssd value h e = let k = counted_again 32 value (omega arith) e in acted c code.Ssd value (decimal value) k.0 k.1 refl
-constant_again c code.Sld value h e = let k = counted_again 32 value (omega arith) e in acted c code.Sld value (decimal value) k.0 k.1 refl
-constant_again c code.Srd value h e = let k = counted_again 32 value (omega arith) e in acted c code.Srd value (decimal value) k.0 k.1 refl
-constant_again c code.Rld value h e = let k = counted_again 32 value (omega arith) e in acted c code.Rld value (decimal value) k.0 k.1 refl
-constant_again c code.Rrd value h e = let k = counted_again 32 value (omega arith) e in acted c code.Rrd value (decimal value) k.0 k.1 refl
+constant_again c code.L value h e = constant_acted c code.L value (literal.Dword (bits_of value)) refl refl refl
+constant_again c code.Nop value h e = let k = counted_again 1 value (omega arith) e in constant_acted c code.Nop value (decimal value) k.0 k.1 refl
+constant_again c code.Bld value h e = let k = counted_again 255 value (omega arith) e in constant_acted c code.Bld value (decimal value) k.0 k.1 refl
+constant_again c code.Inc value h e = let k = counted_again 255 value (omega arith) e in constant_acted c code.Inc value (decimal value) k.0 k.1 refl
+constant_again c code.Dec value h e = let k = counted_again 255 value (omega arith) e in constant_acted c code.Dec value (decimal value) k.0 k.1 refl
+constant_again c code.Ssi value h e = let k = counted_again 15 value (omega arith) e in constant_acted c code.Ssi value (decimal value) k.0 k.1 refl
+constant_again c code.Slw value h e = let k = counted_again 15 value (omega arith) e in constant_acted c code.Slw value (decimal value) k.0 k.1 refl
+constant_again c code.Srw value h e = let k = counted_again 15 value (omega arith) e in constant_acted c code.Srw value (decimal value) k.0 k.1 refl
+constant_again c code.Ssd value h e = let k = counted_again 32 value (omega arith) e in constant_acted c code.Ssd value (decimal value) k.0 k.1 refl
+constant_again c code.Sld value h e = let k = counted_again 32 value (omega arith) e in constant_acted c code.Sld value (decimal value) k.0 k.1 refl
+constant_again c code.Srd value h e = let k = counted_again 32 value (omega arith) e in constant_acted c code.Srd value (decimal value) k.0 k.1 refl
+constant_again c code.Rld value h e = let k = counted_again 32 value (omega arith) e in constant_acted c code.Rld value (decimal value) k.0 k.1 refl
+constant_again c code.Rrd value h e = let k = counted_again 32 value (omega arith) e in constant_acted c code.Rrd value (decimal value) k.0 k.1 refl
 constant_again c code.Add value h e = adds_again c value h e
-constant_again c code.Aw value h e = acted c code.Aw value (literal.Word (bits_of value % 65536)) refl (word_again value h e) refl
-constant_again c code.Ow value h e = acted c code.Ow value (literal.Word (bits_of value % 65536)) refl (word_again value h e) refl
-constant_again c code.Xow value h e = acted c code.Xow value (literal.Word (bits_of value % 65536)) refl (word_again value h e) refl
-constant_again c code.Ad value h e = acted c code.Ad value (literal.Dword (bits_of value)) refl refl refl
-constant_again c code.Od value h e = acted c code.Od value (literal.Dword (bits_of value)) refl refl refl
-constant_again c code.Xod value h e = acted c code.Xod value (literal.Dword (bits_of value)) refl refl refl
+constant_again c code.Aw value h e = constant_acted c code.Aw value (literal.Word (bits_of value % 65536)) refl (word_again value h e) refl
+constant_again c code.Ow value h e = constant_acted c code.Ow value (literal.Word (bits_of value % 65536)) refl (word_again value h e) refl
+constant_again c code.Xow value h e = constant_acted c code.Xow value (literal.Word (bits_of value % 65536)) refl (word_again value h e) refl
+constant_again c code.Ad value h e = constant_acted c code.Ad value (literal.Dword (bits_of value)) refl refl refl
+constant_again c code.Od value h e = constant_acted c code.Od value (literal.Dword (bits_of value)) refl refl refl
+constant_again c code.Xod value h e = constant_acted c code.Xod value (literal.Dword (bits_of value)) refl refl refl
 constant_again c _ value h e = absurd cc
 
 -- ---- pointers
 
-abbrev crossing : (k byte bit : ℕ) → ℕ
-crossing k byte bit = 2147483648 + 16777216 * k + 8 * byte + bit
+abbrev crossing_pointer : (k byte bit : ℕ) → ℕ
+crossing_pointer k byte bit = 2147483648 + 16777216 * k + 8 * byte + bit
 
 letters_at : (b k : ℕ) → b / 2 ^ 31 % 2 ≡ 1 → b / 2 ^ 24 % 8 ≡ k → pointer_letters b ≡ pointer_area k
 letters_at b k e h = rw (e, h) refl
@@ -123,13 +123,13 @@ letters_at b k e h = rw (e, h) refl
 letters_none : (b : ℕ) → b / 2 ^ 31 % 2 ≡ 0 → pointer_letters b ≡ None
 letters_none b e = rw e refl
 
-crossing_area : (k byte bit : ℕ) → k < 8 → byte ≤ 65535 → bit ≤ 7 → pointer_letters (crossing k byte bit) ≡ pointer_area k
-crossing_area k byte bit e f g = letters_at (crossing k byte bit) k (omega (arith, e, f, g)) (omega (arith, e, f, g))
+crossing_area : (k byte bit : ℕ) → k < 8 → byte ≤ 65535 → bit ≤ 7 → pointer_letters (crossing_pointer k byte bit) ≡ pointer_area k
+crossing_area k byte bit e f g = letters_at (crossing_pointer k byte bit) k (omega (arith, e, f, g)) (omega (arith, e, f, g))
 
-crossing_byte : (k byte bit : ℕ) → byte ≤ 65535 → bit ≤ 7 → crossing k byte bit / 8 % 65536 ≡ byte
+crossing_byte : (k byte bit : ℕ) → byte ≤ 65535 → bit ≤ 7 → crossing_pointer k byte bit / 8 % 65536 ≡ byte
 crossing_byte k byte bit f g = omega (arith, f, g)
 
-crossing_bit : (k byte bit : ℕ) → bit ≤ 7 → crossing k byte bit % 8 ≡ bit
+crossing_bit : (k byte bit : ℕ) → bit ≤ 7 → crossing_pointer k byte bit % 8 ≡ bit
 crossing_bit k byte bit g = omega (arith, g)
 
 area_again : (a : Option Area) (byte bit : ℕ) → IsPointer a byte bit → area_left (pointer_letters (pointer_bits a byte bit)) ≡ a
@@ -163,7 +163,7 @@ pub pointer_loaded : (c : Context) (o : Operand) (a : Option Area) (byte bit : �
 unfolding resolution_of flat_operand_of operation_for form_of takes_constant bits_of
 pointer_loaded c o a byte bit = record {
   found = view.Constant;
-  sees = refl;
+  resolves = refl;
   right = refl;
   opened = refl;
   operation = refl;
@@ -175,8 +175,8 @@ pub pointer_acts : (c : Context) (m : Mnemonic) (o : Operand) (a : Option Area) 
     → IsActedAgain c m o (instruction_constant (operation_for m o (view.Pointer a byte bit)) (pointer_bits a byte bit)) (view.Pointer a byte bit)
 unfolding takes_operand form_of operation_for
 pointer_acts c code.L o a byte bit h e k = pointer_loaded c o a byte bit
-pointer_acts c code.Lar1 o a byte bit h e k = unchanged c code.Lar1 o (pointer_constant (pointer_bits a byte bit)) (view.Pointer a byte bit) tt e refl (pointer_seen c a byte bit h)
-pointer_acts c code.Lar2 o a byte bit h e k = unchanged c code.Lar2 o (pointer_constant (pointer_bits a byte bit)) (view.Pointer a byte bit) tt e refl (pointer_seen c a byte bit h)
-pointer_acts c code.AddAr1 o a byte bit h e k = unchanged c code.AddAr1 o (pointer_constant (pointer_bits a byte bit)) (view.Pointer a byte bit) tt e refl (pointer_seen c a byte bit h)
-pointer_acts c code.AddAr2 o a byte bit h e k = unchanged c code.AddAr2 o (pointer_constant (pointer_bits a byte bit)) (view.Pointer a byte bit) tt e refl (pointer_seen c a byte bit h)
+pointer_acts c code.Lar1 o a byte bit h e k = operand_unchanged c code.Lar1 o (pointer_constant (pointer_bits a byte bit)) (view.Pointer a byte bit) tt e refl (pointer_seen c a byte bit h)
+pointer_acts c code.Lar2 o a byte bit h e k = operand_unchanged c code.Lar2 o (pointer_constant (pointer_bits a byte bit)) (view.Pointer a byte bit) tt e refl (pointer_seen c a byte bit h)
+pointer_acts c code.AddAr1 o a byte bit h e k = operand_unchanged c code.AddAr1 o (pointer_constant (pointer_bits a byte bit)) (view.Pointer a byte bit) tt e refl (pointer_seen c a byte bit h)
+pointer_acts c code.AddAr2 o a byte bit h e k = operand_unchanged c code.AddAr2 o (pointer_constant (pointer_bits a byte bit)) (view.Pointer a byte bit) tt e refl (pointer_seen c a byte bit h)
 pointer_acts c _ o a byte bit h e k = absurd cc

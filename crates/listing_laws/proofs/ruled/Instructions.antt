@@ -37,7 +37,7 @@ use Rattle.listing_laws.specs.Instructions.{AreInstructionsKept, AreJumpsKept, H
 use Rattle.listing_laws.specs.Operands.{IsActedAgain, operand_instruction}
 use Rattle.listing_laws.specs.Statements.{run_of}
 use Rattle.listing_laws.proofs.LabelLemmas.{same_word}
-use Rattle.listing_laws.proofs.RunLemmas.{unaimed}
+use Rattle.listing_laws.proofs.RunLemmas.{same_target}
 use Rattle.listing_laws.proofs.WordLemmas.{end_words_found, jump_words_found, operand_plain, words_found}
 use Rattle.listing_laws.proofs.ruled.Operands.{operands_kept}
 use Rattle.listing_laws.proofs.ruled.Views.{stands}
@@ -85,7 +85,7 @@ pub acting_word : (f : ℕ → ℕ) (m : Mnemonic) (o : Operand) (v : ResolvedOp
     → mnemonic_of (run_of f (operand_instruction m o v)).op ≡ m
 acting_word f m o v some jumps calls ends =
     same_word f (operand_instruction m o v)
-    ∙ ap (word_by (op_code_of (operation_for m o v))) (unaimed (flat_operand_of o v))
+    ∙ ap (word_by (op_code_of (operation_for m o v))) (same_target (flat_operand_of o v))
     ∙ operand_plain o v (op_code_of (operation_for m o v))
     ∙ words_found m o v (record { some = some; jumps = jumps; calls = calls; ends = ends })
 
@@ -114,7 +114,7 @@ does_again c listed sur f again n k s v has right some jumps calls ends e =
           word = word;
           right = rule;
           instr =
-              comes_to listed again n listing acted.found None (ap jump_operation_of word ∙ jumps) (ap call_operation_of word ∙ calls) (ap end_operation_of word ∙ ends) (resolves listed listing acted.found rule acted.sees)
+              comes_to listed again n listing acted.found None (ap jump_operation_of word ∙ jumps) (ap call_operation_of word ∙ calls) (ap end_operation_of word ∙ ends) (resolves listed listing acted.found rule acted.resolves)
               ∙ ap (λ (m : Mnemonic). operand_instruction m listing.operand acted.found) word
               ∙ ap (λ (x : Option ℕ). Does x (operation_for s.code listing.operand acted.found) (flat_operand_of listing.operand acted.found)) acted.opened
               ∙ ap (λ (w : Operation). Does (block_opened_by_operand v) w (flat_operand_of listing.operand acted.found)) acted.operation
@@ -219,9 +219,9 @@ unfolding operand_by
 leap_operand sur k f jump.Jl n target = refl
 leap_operand sur k f _ n target = refl
 
-pub jumped : (c : Context) (body : List Statement) (n : ℕ) (s : Statement) (how : JumpOperation) → jump_operation_of s.code ≡ Some how → instruction c body n s ≡ jump_instr how n (target_of body s.operand)
+pub jump_instruction : (c : Context) (body : List Statement) (n : ℕ) (s : Statement) (how : JumpOperation) → jump_operation_of s.code ≡ Some how → instruction c body n s ≡ jump_instr how n (target_of body s.operand)
 unfolding instruction
-jumped c body n s how h = ap (instr_by c body n s) h
+jump_instruction c body n s how h = ap (instr_by c body n s) h
 
 leaps_again : (listed : Context) (sur : ListingContext) (f : ℕ → ℕ) (again : List Statement) (n k : ℕ) (m : Mnemonic) (how : JumpOperation) (target : ℕ)
     → jump_operation_of m ≡ Some how → number_at sur.starts (f target) ≡ target → target_in (label_of_number target) again ≡ target
@@ -229,7 +229,7 @@ leaps_again : (listed : Context) (sur : ListingContext) (f : ℕ → ℕ) (again
 leaps_again listed sur f again n k m how target h found reached = record {
   word = word;
   right = ap (λ (x : Mnemonic). operand_rule listed (form_of x) listing.operand) word ∙ ap (operand_rule listed (form_of m)) label ∙ jump_taken listed m how (label_of_number target) h;
-  instr = jumped listed again n listing how (ap jump_operation_of word ∙ h) ∙ ap (λ (o : Operand). jump_instr how n (target_of again o)) label ∙ ap (jump_instr how n) reached;
+  instr = jump_instruction listed again n listing how (ap jump_operation_of word ∙ h) ∙ ap (λ (o : Operand). jump_instr how n (target_of again o)) label ∙ ap (jump_instr how n) reached;
 }
   where
     listing : Statement
@@ -246,4 +246,4 @@ jumps_kept c listed sur f body again n k s jumps found reached = by (jump_operat
   where
     by : (how : Option JumpOperation) → jump_operation_of s.code ≡ how → IsInstructionKept listed again n s.code (instruction c body n s) (listed_statement sur k (run_of f (instruction c body n s)))
     by None e = absurd (jumps e)
-    by (Some how) e = rw (jumped c body n s how e) (leaps_again listed sur f again n k s.code how (target_of body s.operand) e found reached)
+    by (Some how) e = rw (jump_instruction c body n s how e) (leaps_again listed sur f again n k s.code how (target_of body s.operand) e found reached)

@@ -31,7 +31,7 @@ use Rattle.listing_laws.specs.Statements.{statement_offset, run_of}
 use Rattle.listing_laws.proofs.RunLemmas.{runs_found}
 use Rattle.listing_laws.proofs.WordLemmas.{call_words_found, end_words_found}
 use Rattle.listing_laws.proofs.ruled.Calling.{no_jump, rule_called, same_kind}
-use Rattle.listing_laws.proofs.ruled.Instructions.{acting_word, comes_to, jumped, leap_word, rule_broken, what_seen}
+use Rattle.listing_laws.proofs.ruled.Instructions.{acting_word, comes_to, jump_instruction, leap_word, rule_broken, what_seen}
 use Rattle.listing_laws.proofs.ruled.Nesting.{nestings_kept}
 use Rattle.listing_laws.proofs.ruled.Rules.{taken_view}
 
@@ -77,7 +77,7 @@ word_is c body n f s is some = by_jump (jump_operation_of s.code) refl
 
     by_jump : (how : Option JumpOperation) → jump_operation_of s.code ≡ how → IsWorded f s.code (instruction c body n s)
     by_jump None e = by_view (resolved_operand c s) e refl
-    by_jump (Some how) e = rw (jumped c body n s how e) (leap_word f s.code how n (target_of body s.operand) e)
+    by_jump (Some how) e = rw (jump_instruction c body n s how e) (leap_word f s.code how n (target_of body s.operand) e)
 
 -- ---- the marks of statements
 

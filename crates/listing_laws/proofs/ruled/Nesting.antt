@@ -38,10 +38,10 @@ record Sees {S : Type 0} (broken : S → Statement → List Refusal) (known : S 
   same : (x : S) (s : Statement) → broken x s ≡ broken x (stub_of s)
   next : (x : S) (s : Statement) → known x s ≡ known x (stub_of s)
 
-walked : {S : Type 0} (broken : S → Statement → List Refusal) (known : S → Statement → S) → Sees broken known → (x : S) (ss : List Statement)
+marks_walked : {S : Type 0} (broken : S → Statement → List Refusal) (known : S → Statement → S) → Sees broken known → (x : S) (ss : List Statement)
     → refusals_along (λ s. false) broken known x ss ≡ refusals_along (λ s. false) broken known x (stubs ss)
-walked broken known h x [] = refl
-walked {S} broken known h x (s ∷ ss) = by (is_empty_statement s.code) refl (λ y. walked broken known h y ss)
+marks_walked broken known h x [] = refl
+marks_walked {S} broken known h x (s ∷ ss) = by (is_empty_statement s.code) refl (λ y. marks_walked broken known h y ss)
   where
     by : (b : Bool) → is_empty_statement s.code ≡ b → ((y : S) → refusals_along (λ s. false) broken known y ss ≡ refusals_along (λ s. false) broken known y (stubs ss))
         → broken x s ++ refusals_along (λ s. false) broken known (known x s) ss
@@ -131,10 +131,10 @@ through of ss ts h e = h ss ∙ ap (λ (ms : List NestingMark). of (map stub ms)
 
 pub nestings_kept : AreNestingsKept
 nestings_kept ss ts e = record {
-  closing = through (λ us. with_brackets (λ brackets s. broken_if (closes_no_bracket brackets s) s.line 29) [] us) ss ts (λ us. walked (λ brackets s. broken_if (closes_no_bracket brackets s) s.line 29) brackets_behind closing_sees [] us) e;
-  left = through brackets_left_open ss ts (λ us. ap (λ (brackets : List SourceBracket). flat_map (λ b. broken_if true b.line 30) brackets) (brackets_left [] us)) e;
-  eighth = through (λ us. with_brackets (λ brackets s. broken_if (is_eighth_bracket brackets s) s.line 31) [] us) ss ts (λ us. walked (λ brackets s. broken_if (is_eighth_bracket brackets s) s.line 31) brackets_behind eighth_sees [] us) e;
-  ending = through (λ us. with_zones (λ zones s. broken_if (ends_no_zone zones s) s.line 47) [] us) ss ts (λ us. walked (λ zones s. broken_if (ends_no_zone zones s) s.line 47) zones_behind ending_sees [] us) e;
+  closing = through (λ us. with_brackets (λ brackets s. broken_if (closes_no_bracket brackets s) s.line 29) [] us) ss ts (λ us. marks_walked (λ brackets s. broken_if (closes_no_bracket brackets s) s.line 29) brackets_behind closing_sees [] us) e;
+  brackets_left = through brackets_left_open ss ts (λ us. ap (λ (brackets : List SourceBracket). flat_map (λ b. broken_if true b.line 30) brackets) (brackets_left [] us)) e;
+  eighth = through (λ us. with_brackets (λ brackets s. broken_if (is_eighth_bracket brackets s) s.line 31) [] us) ss ts (λ us. marks_walked (λ brackets s. broken_if (is_eighth_bracket brackets s) s.line 31) brackets_behind eighth_sees [] us) e;
+  ending = through (λ us. with_zones (λ zones s. broken_if (ends_no_zone zones s) s.line 47) [] us) ss ts (λ us. marks_walked (λ zones s. broken_if (ends_no_zone zones s) s.line 47) zones_behind ending_sees [] us) e;
   zones_left = through zones_left_open ss ts (λ us. ap (λ (zones : List ℕ). flat_map (λ line. broken_if true line 48) zones) (zones_left [] us)) e;
-  ninth = through (λ us. with_zones (λ zones s. broken_if (is_ninth_zone zones s) s.line 49) [] us) ss ts (λ us. walked (λ zones s. broken_if (is_ninth_zone zones s) s.line 49) zones_behind ninth_sees [] us) e;
+  ninth = through (λ us. with_zones (λ zones s. broken_if (is_ninth_zone zones s) s.line 49) [] us) ss ts (λ us. marks_walked (λ zones s. broken_if (is_ninth_zone zones s) s.line 49) zones_behind ninth_sees [] us) e;
 }

@@ -44,9 +44,9 @@ use Rattle.stl_codegen.specs.Operands.{is_db, numbered_operand, block_opened_by_
 use Rattle.stl_codegen.specs.Operations.{call_operation_of, jump_operation_of, operation_for}
 use Rattle.stl_list.specs.Constants.{instruction_constant}
 use Rattle.stl_list.specs.Operands.{name_of_data_block, direct_operand, implied_operand, letters_for_area, block_opened_by_ops as opened_first, operand_by, own_parameter, plain_operand, read_letters, operation_writes_operand}
-use Rattle.listing_laws.specs.Operands.{AreOperandsKept, IsActedAgain, IsConstantCoded, IsConstantSeen, IsOpenedAgain, IsParameterAgain, StandsAgain}
+use Rattle.listing_laws.specs.Operands.{AreOperandsKept, IsActedAgain, IsConstantCoded, IsConstantResolved, IsOpenedAgain, IsParameterAgain, StandsAgain}
 use Rattle.listing_laws.proofs.ruled.Constants.{constant_again, pointer_acts}
-use Rattle.listing_laws.proofs.ruled.Rules.{IsOther, is_taken, no_adding, none_broken, taken_view, unchanged}
+use Rattle.listing_laws.proofs.ruled.Rules.{IsOther, is_taken, no_adding, none_broken, taken_view, operand_unchanged}
 
 -- ---- areas
 
@@ -138,7 +138,7 @@ place_again c m o place width side declared h k w e = by (opened_by_place place)
     by : (found : Option ℕ) → opened_by_place place ≡ found → IsOpenedAgain c found → IsActedAgain c m o (direct_operand found w place.area width place.byte place.bit) (view.Direct place width side declared)
     by None g k = record {
       found = view.Direct (at (area_for_letters (letters_for_area w place.area)) 0 place) width (side_of (letters_for_area w place.area)) None;
-      sees = refl;
+      resolves = refl;
       right = place_right (form_of m) place (at (area_for_letters (letters_for_area w place.area)) 0 place) place.area w width side declared h e;
       opened = none_named (is_db (area_for_letters (letters_for_area w place.area))) ∙ sym g;
       operation = place_operation m o _ place (at (area_for_letters (letters_for_area w place.area)) 0 place) width side (side_of (letters_for_area w place.area)) declared None h;
@@ -149,7 +149,7 @@ place_again c m o place width side declared h k w e = by (opened_by_place place)
         ap (λ (x : Option ℕ). address_in_block x (letters_for_area w place.area) width place.byte place.bit) k in
         record {
           found = view.Direct (at (area_for_letters (letters_for_area w place.area)) n place) width (side_of (letters_for_area w place.area)) None;
-          sees = sees;
+          resolves = sees;
           right = ap (rule_of_resolution (form_of m)) sees ∙ place_right (form_of m) place (at (area_for_letters (letters_for_area w place.area)) n place) place.area w width side declared h e;
           opened = ap (λ (a : Area). opened_by_place (at a n place)) (area_again w place.area) ∙ is_named (is_db place.area) place.number n g ∙ sym g;
           operation = place_operation m o _ place (at (area_for_letters (letters_for_area w place.area)) n place) width side (side_of (letters_for_area w place.area)) declared None h;
@@ -182,7 +182,7 @@ parameter_again c m o formals index section kind h k =
     let sees : resolution_of c (own_parameter formals index) ≡ Resolved (view.Parameter index k.section_again k.kind_again) = k.named in
     record {
       found = view.Parameter index k.section_again k.kind_again;
-      sees = sees;
+      resolves = sees;
       right =
           ap (rule_of_resolution (form_of m)) sees
           ∙ none_broken (form_of m) (view.Parameter index k.section_again k.kind_again) refl
@@ -250,13 +250,13 @@ open_dino code.L o h = refl
 open_dino _ o h = absurd cc
 
 -- an operand that is another by an equation
-moved : (c : Context) (m : Mnemonic) (o again other : Operand) (v : ResolvedOperand) → again ≡ other → IsActedAgain c m o other v → IsActedAgain c m o again v
-moved c m o again other v e h = rw e h
+acted_moved : (c : Context) (m : Mnemonic) (o again other : Operand) (v : ResolvedOperand) → again ≡ other → IsActedAgain c m o other v → IsActedAgain c m o again v
+acted_moved c m o again other v e h = rw e h
 
 named_again : (c : Context) (m : Mnemonic) (o again : Operand) (name : List ℕ) (which : Register) → rule_of_resolved_operand (form_of m) (view.Register which) ≡ None → again ≡ operand.Other name → register_named name ≡ which
     → IsActedAgain c m o again (view.Register which)
 unfolding resolution_of
-named_again c m o again name which h e k = moved c m o again (operand.Other name) (view.Register which) e (unchanged c m o (operand.Other name) (view.Register which) tt h refl (ap (λ (r : Register). Resolved (view.Register r)) k))
+named_again c m o again name which h e k = acted_moved c m o again (operand.Other name) (view.Register which) e (operand_unchanged c m o (operand.Other name) (view.Register which) tt h refl (ap (λ (r : Register). Resolved (view.Register r)) k))
 
 register_again : (c : Context) (m : Mnemonic) (o : Operand) (formals : List Formal) (starts : List ℕ) (f : ℕ → ℕ) (which : Register) → rule_of_resolved_operand (form_of m) (view.Register which) ≡ None
     → takes_operand (form_of m) (view.Register which) ≡ true
@@ -276,15 +276,15 @@ number_seen c what from byte = ap (λ (a : Area). Resolved (view.NumberBy what a
 number_again : (c : Context) (m : Mnemonic) (o : Operand) (formals : List Formal) (starts : List ℕ) (f : ℕ → ℕ) (what : Numbered) (from : Area) (byte : ℕ) → rule_of_resolved_operand (form_of m) (view.NumberBy what from byte) ≡ None
     → IsActedAgain c m o (operand_by formals starts None (operation_for m o (view.NumberBy what from byte)) (operand_with_target f (numbered_operand what from byte))) (view.NumberBy what from byte)
 unfolding operand_by plain_operand
-number_again c m o formals starts f numbered.Timer from byte h = unchanged c m o (operand.NumberBy numbered.Timer (read_letters from) byte) (view.NumberBy numbered.Timer from byte) tt h refl (number_seen c numbered.Timer from byte)
-number_again c m o formals starts f numbered.Counter from byte h = unchanged c m o (operand.NumberBy numbered.Counter (read_letters from) byte) (view.NumberBy numbered.Counter from byte) tt h refl (number_seen c numbered.Counter from byte)
-number_again c m o formals starts f numbered.Db from byte h = unchanged c m o (operand.NumberBy numbered.Db (read_letters from) byte) (view.NumberBy numbered.Db from byte) tt h refl (number_seen c numbered.Db from byte)
-number_again c m o formals starts f numbered.Di from byte h = unchanged c m o (operand.NumberBy numbered.Di (read_letters from) byte) (view.NumberBy numbered.Di from byte) tt h refl (number_seen c numbered.Di from byte)
+number_again c m o formals starts f numbered.Timer from byte h = operand_unchanged c m o (operand.NumberBy numbered.Timer (read_letters from) byte) (view.NumberBy numbered.Timer from byte) tt h refl (number_seen c numbered.Timer from byte)
+number_again c m o formals starts f numbered.Counter from byte h = operand_unchanged c m o (operand.NumberBy numbered.Counter (read_letters from) byte) (view.NumberBy numbered.Counter from byte) tt h refl (number_seen c numbered.Counter from byte)
+number_again c m o formals starts f numbered.Db from byte h = operand_unchanged c m o (operand.NumberBy numbered.Db (read_letters from) byte) (view.NumberBy numbered.Db from byte) tt h refl (number_seen c numbered.Db from byte)
+number_again c m o formals starts f numbered.Di from byte h = operand_unchanged c m o (operand.NumberBy numbered.Di (read_letters from) byte) (view.NumberBy numbered.Di from byte) tt h refl (number_seen c numbered.Di from byte)
 
 opened_again : (c : Context) (m : Mnemonic) (o : Operand) (di : Bool) (number : ℕ) → rule_of_resolved_operand (form_of m) (view.OpenBlock di number) ≡ None → IsOpenedAgain c (Some number)
     → IsActedAgain c m o (operand.OpenBlock di (name_of_data_block number)) (view.OpenBlock di number)
 unfolding resolution_of
-opened_again c m o di number h k = unchanged c m o (operand.OpenBlock di (name_of_data_block number)) (view.OpenBlock di number) tt h refl (ap (resolution_of_opened_block di) k)
+opened_again c m o di number h k = operand_unchanged c m o (operand.OpenBlock di (name_of_data_block number)) (view.OpenBlock di number) tt h refl (ap (resolution_of_opened_block di) k)
 
 memory_seen : (c : Context) (a from : Area) (width : Width) (byte : ℕ) → resolution_of c (operand.ByMemory (read_letters a) width (read_letters from) byte) ≡ Resolved (view.ByMemory a width from byte)
 unfolding resolution_of
@@ -304,23 +304,23 @@ by_view : (c : Context) (formals : List Formal) (starts : List ℕ) (f : ℕ →
     → jump_operation_of m ≡ None → call_operation_of m ≡ None → rule_of_resolved_operand (form_of m) v ≡ None → IsOther v → StandsAgain c formals v
     → IsActedAgain c m o (operand_by formals starts (block_opened_by_operand v) (operation_for m o v) (operand_with_target f (flat_operand_of o v))) v
 unfolding operand_by plain_operand flat_operand_of resolution_of
-by_view c formals starts f m o view.Nothing jumps calls h other k = moved c m o _ operand.Nothing view.Nothing (implied_nothing m o h) (unchanged c m o operand.Nothing view.Nothing tt h refl refl)
+by_view c formals starts f m o view.Nothing jumps calls h other k = acted_moved c m o _ operand.Nothing view.Nothing (implied_nothing m o h) (operand_unchanged c m o operand.Nothing view.Nothing tt h refl refl)
 by_view c formals starts f m o (view.Direct place width side declared) jumps calls h other k =
     place_again c m o place width side declared h k (operation_writes_operand (operation_for m o (view.Direct place width side declared))) (writes_place m o place width side declared h)
 by_view c formals starts f m o (view.Parameter index section declared) jumps calls h other k = parameter_again c m o formals index section declared h k
 by_view c formals starts f m o view.Composite jumps calls h other k = let e = (is_taken (form_of m) view.Composite h).elementary in absurd cc
 by_view c formals starts f m o view.Date jumps calls h other k = let e = (is_taken (form_of m) view.Date h).elementary in absurd cc
 by_view c formals starts f m o (view.ByMemory a width from byte) jumps calls h other k =
-    unchanged c m o (operand.ByMemory (read_letters a) width (read_letters from) byte) (view.ByMemory a width from byte) tt h refl (memory_seen c a from width byte)
+    operand_unchanged c m o (operand.ByMemory (read_letters a) width (read_letters from) byte) (view.ByMemory a width from byte) tt h refl (memory_seen c a from width byte)
 by_view c formals starts f m o (view.ByRegister a width register bits) jumps calls h other k =
-    unchanged c m o (operand.ByRegister (option_map read_letters a) width register bits) (view.ByRegister a width register bits) tt h refl (resolution_of_register c a width register bits)
-by_view c formals starts f m o (view.Timer number) jumps calls h other k = unchanged c m o (operand.Timer number) (view.Timer number) tt h refl refl
-by_view c formals starts f m o (view.Counter number) jumps calls h other k = unchanged c m o (operand.Counter number) (view.Counter number) tt h refl refl
+    operand_unchanged c m o (operand.ByRegister (option_map read_letters a) width register bits) (view.ByRegister a width register bits) tt h refl (resolution_of_register c a width register bits)
+by_view c formals starts f m o (view.Timer number) jumps calls h other k = operand_unchanged c m o (operand.Timer number) (view.Timer number) tt h refl refl
+by_view c formals starts f m o (view.Counter number) jumps calls h other k = operand_unchanged c m o (operand.Counter number) (view.Counter number) tt h refl refl
 by_view c formals starts f m o (view.NumberBy what from byte) jumps calls h other k = number_again c m o formals starts f what from byte h
 by_view c formals starts f m o view.Constant jumps calls h other k = absurd other
 by_view c formals starts f m o (view.Pointer a byte bit) jumps calls h other k = pointer_acts c m o a byte bit k h (taken_view (form_of m) (view.Pointer a byte bit) h)
 by_view c formals starts f m o view.Label jumps calls h other k = absurd (no_label m jumps (taken_view (form_of m) view.Label h))
-by_view c formals starts f m o (view.OfStatus flag) jumps calls h other k = unchanged c m o (operand.OfStatus (flag_of (condition_number flag))) (view.OfStatus flag) tt h refl (status_seen c flag)
+by_view c formals starts f m o (view.OfStatus flag) jumps calls h other k = operand_unchanged c m o (operand.OfStatus (flag_of (condition_number flag))) (view.OfStatus flag) tt h refl (status_seen c flag)
 by_view c formals starts f m o (view.Register which) jumps calls h other k = register_again c m o formals starts f which h (taken_view (form_of m) (view.Register which) h)
 by_view c formals starts f m o (view.OpenBlock true number) jumps calls h other k = opened_again c m o true number h k
 by_view c formals starts f m o (view.OpenBlock false number) jumps calls h other k = opened_again c m o false number h k
@@ -337,7 +337,7 @@ pub rule_is : (c : Context) (f : OperandRule) (o : Operand) (v : ResolvedOperand
 rule_is c f (operand.Constant value) v n e h = absurd n
 rule_is c f _ v n e h = sym (ap (rule_of_resolution f) e) ∙ h
 
-is_other : (o : Operand) (v : ResolvedOperand) → IsNoConstant o → IsConstantSeen o v → IsOther v
+is_other : (o : Operand) (v : ResolvedOperand) → IsNoConstant o → IsConstantResolved o v → IsOther v
 is_other (operand.Constant value) v n h = absurd n
 is_other _ view.Constant n h = h
 is_other _ _ n h = tt
@@ -345,9 +345,9 @@ is_other _ _ n h = tt
 abbrev rule_if : Bool → ℕ → Option ℕ
 rule_if b rule = if b then None else Some rule
 
-allowed : (b : Bool) → rule_if b 25 ≡ None → b ≡ true
-allowed true h = refl
-allowed false h = absurd cc
+rule_allowed : (b : Bool) → rule_if b 25 ≡ None → b ≡ true
+rule_allowed true h = refl
+rule_allowed false h = absurd cc
 
 opened_back : (x : Option ℕ) → opened_first (use_db_ops x) ≡ x
 opened_back None = refl
@@ -357,16 +357,16 @@ constant_acts : (c listed : Context) (formals : List Formal) (starts : List ℕ)
     → operand_rule c (form_of m) (operand.Constant value) ≡ None → v ≡ view.Constant → IsConstantCoded value
     → IsActedAgain listed m (operand.Constant value) (operand_by formals starts (block_opened_by_operand v) (operation_for m (operand.Constant value) v) (operand_with_target f (flat_operand_of (operand.Constant value) v))) v
 unfolding operand_by flat_operand_of
-constant_acts c listed formals starts f m value v h e k = rw e (constant_again listed m value k (allowed (takes_constant (form_of m) value) h))
+constant_acts c listed formals starts f m value v h e k = rw e (constant_again listed m value k (rule_allowed (takes_constant (form_of m) value) h))
 
 no_constant_acts : (c listed : Context) (formals : List Formal) (starts : List ℕ) (f : ℕ → ℕ) (m : Mnemonic) (o : Operand) (v : ResolvedOperand) → IsNoConstant o
-    → jump_operation_of m ≡ None → call_operation_of m ≡ None → operand_rule c (form_of m) o ≡ None → resolution_of c o ≡ Resolved v → IsConstantSeen o v → StandsAgain listed formals v
+    → jump_operation_of m ≡ None → call_operation_of m ≡ None → operand_rule c (form_of m) o ≡ None → resolution_of c o ≡ Resolved v → IsConstantResolved o v → StandsAgain listed formals v
     → IsActedAgain listed m o (operand_by formals starts (block_opened_by_operand v) (operation_for m o v) (operand_with_target f (flat_operand_of o v))) v
 no_constant_acts c listed formals starts f m o v n jumps calls h sees k stands =
     by_view listed formals starts f m o v jumps calls (rule_is c (form_of m) o v n sees h) (is_other o v n k) stands
 
 by_operand : (c listed : Context) (formals : List Formal) (starts : List ℕ) (f : ℕ → ℕ) (m : Mnemonic) (o : Operand) (v : ResolvedOperand)
-    → jump_operation_of m ≡ None → call_operation_of m ≡ None → operand_rule c (form_of m) o ≡ None → resolution_of c o ≡ Resolved v → IsConstantSeen o v → StandsAgain listed formals v
+    → jump_operation_of m ≡ None → call_operation_of m ≡ None → operand_rule c (form_of m) o ≡ None → resolution_of c o ≡ Resolved v → IsConstantResolved o v → StandsAgain listed formals v
     → IsActedAgain listed m o (operand_by formals starts (block_opened_by_operand v) (operation_for m o v) (operand_with_target f (flat_operand_of o v))) v
 by_operand c listed formals starts f m (operand.Constant value) v jumps calls h sees k stands = constant_acts c listed formals starts f m value v h k.0 k.1
 by_operand c listed formals starts f m operand.Nothing v jumps calls h sees k stands = no_constant_acts c listed formals starts f m operand.Nothing v tt jumps calls h sees k stands
@@ -386,7 +386,7 @@ by_operand c listed formals starts f m (operand.Called name instance) v jumps ca
 
 pub operands_kept : AreOperandsKept
 operands_kept c listed formals starts f m o v goes h sees k stands =
-    moved listed m o _ (operand_by formals starts (block_opened_by_operand v) (operation_for m o v) (operand_with_target f (flat_operand_of o v))) v
+    acted_moved listed m o _ (operand_by formals starts (block_opened_by_operand v) (operation_for m o v) (operand_with_target f (flat_operand_of o v))) v
     (ap (λ (x : Option ℕ). operand_by formals starts x (operation_of (op_code_of (operation_for m o v))) (operand_with_target f (flat_operand_of o v))) (opened_back (block_opened_by_operand v))
     ∙ ap (λ (w : Operation). operand_by formals starts (block_opened_by_operand v) w (operand_with_target f (flat_operand_of o v))) (operation_again (operation_for m o v)))
     (by_operand c listed formals starts f m o v goes.jumps goes.calls h sees k stands)

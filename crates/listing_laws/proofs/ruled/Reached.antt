@@ -8,6 +8,7 @@ use Rattle.std.proofs.lemmas.Bool.Decides.{nat_tests}
 use Rattle.std.proofs.lemmas.Slice.Eq.{bytes_eq-Decides}
 use Rattle.plc_base.specs.Least.{broken_if}
 use Rattle.plc_base.specs.declared.refusals.Refusal.{Refusal}
+use Rattle.flat_code.specs.Kinds.{timer_kind}
 use Rattle.flat_code.specs.Instr.{Calls, Does, Instr, Jumps, JumpsByList, Returns}
 use Rattle.flat_code.specs.declared.operands.Operand.{Operand as FlatOperand}
 use Rattle.flat_code.specs.declared.operands.Operand.TheVariants as flat
@@ -35,9 +36,9 @@ use Rattle.listing_laws.proofs.RunLemmas.{numbers_found, runs_found, targets_fou
 
 -- ---- the labels of a listed body
 
-abbrev numbered : (targets : List Bool) → (k count : ℕ) → List (List ℕ)
-numbered targets k zero = []
-numbered targets k (suc count) = label_list (label_at targets k) ++ numbered targets (suc k) count
+abbrev numbered_labels : (targets : List Bool) → (k count : ℕ) → List (List ℕ)
+numbered_labels targets k zero = []
+numbered_labels targets k (suc count) = label_list (label_at targets k) ++ numbered_labels targets (suc k) count
 
 end_labels : (line : ℕ) (label : Option (List ℕ)) (rest : List Statement) → labels_of (label_of_end line label ++ rest) ≡ label_list label ++ labels_of rest
 end_labels line None rest = refl
@@ -51,7 +52,7 @@ here_labels sur k r rest = by (suc k == length sur.lines)
     by true = end_labels (line_of_statement sur.lines k) (label_at sur.targets k) rest
     by false = refl
 
-all_labels : (sur : ListingContext) (k : ℕ) (rs : List Run) → labels_of (statements_from sur k rs) ≡ numbered sur.targets k (length rs)
+all_labels : (sur : ListingContext) (k : ℕ) (rs : List Run) → labels_of (statements_from sur k rs) ≡ numbered_labels sur.targets k (length rs)
 all_labels sur k [] = refl
 all_labels sur k (r ∷ rs) = here_labels sur k r (statements_from sur (suc k) rs) ∙ ap (λ (ls : List (List ℕ)). label_list (label_at sur.targets k) ++ ls) (all_labels sur (suc k) rs)
 
@@ -78,17 +79,17 @@ some_behind name (Some other) rest h = some_later name other rest h
 some_here : (name : List ℕ) (rest : List (List ℕ)) → is_some (name_place name (name ∷ rest)) ≡ true
 some_here name rest = ap (λ (b : Bool). is_some (if b then Some 0 else option_map (λ (j : ℕ). suc j) (name_place name rest))) ((bytes_eq-Decides name name).1 refl)
 
-is_there : (targets : List Bool) (k count n : ℕ) → k ≤ n → n < k + count → unwrap_or (slice_get targets n) false ≡ true → is_some (name_place (label_of_number n) (numbered targets k count)) ≡ true
+is_there : (targets : List Bool) (k count n : ℕ) → k ≤ n → n < k + count → unwrap_or (slice_get targets n) false ≡ true → is_some (name_place (label_of_number n) (numbered_labels targets k count)) ≡ true
 is_there targets k zero n low high marked = absurd (omega (arith, low, high))
 is_there targets k (suc count) n low high marked = by (k == n) refl (λ more. is_there targets (suc k) count n more (omega (arith, high)) marked)
   where
     label_here : k ≡ n → label_at targets k ≡ Some (label_of_number n)
     label_here e = ap (label_at targets) e ∙ ap (λ (b : Bool). if b then Some (label_of_number n) else None) marked
 
-    by : (b : Bool) → (k == n) ≡ b → (suc k ≤ n → is_some (name_place (label_of_number n) (numbered targets (suc k) count)) ≡ true)
-        → is_some (name_place (label_of_number n) (label_list (label_at targets k) ++ numbered targets (suc k) count)) ≡ true
-    by true e later = ap (λ (l : Option (List ℕ)). is_some (name_place (label_of_number n) (label_list l ++ numbered targets (suc k) count))) (label_here (equal k n e)) ∙ some_here (label_of_number n) (numbered targets (suc k) count)
-    by false e later = some_behind (label_of_number n) (label_at targets k) (numbered targets (suc k) count) (later (below k n low e))
+    by : (b : Bool) → (k == n) ≡ b → (suc k ≤ n → is_some (name_place (label_of_number n) (numbered_labels targets (suc k) count)) ≡ true)
+        → is_some (name_place (label_of_number n) (label_list (label_at targets k) ++ numbered_labels targets (suc k) count)) ≡ true
+    by true e later = ap (λ (l : Option (List ℕ)). is_some (name_place (label_of_number n) (label_list l ++ numbered_labels targets (suc k) count))) (label_here (equal k n e)) ∙ some_here (label_of_number n) (numbered_labels targets (suc k) count)
+    by false e later = some_behind (label_of_number n) (label_at targets k) (numbered_labels targets (suc k) count) (later (below k n low e))
 
 -- ---- operands that are no labels
 
@@ -131,7 +132,7 @@ unfolding operand_by plain_operand
 no_unknown labels formals starts opened w flat.Nothing h = implied_no w labels
 no_unknown labels formals starts opened w (flat.Literal value) h = constant_no w value labels
 no_unknown labels formals starts opened w (flat.Jump kind target) h = none_is (name_place (label_of_number (number_at starts target)) labels) h
-no_unknown labels formals starts opened w (flat.Numbered kind number) h = timer_no (kind == 1) number labels
+no_unknown labels formals starts opened w (flat.Numbered kind number) h = timer_no (kind == timer_kind) number labels
 no_unknown labels formals starts opened w _ h = refl
 
 -- ---- all statements
@@ -218,7 +219,7 @@ labels_known signatures lines b within =
     rs = map (λ s. run_of f s.instr) b.statements
 
     labels : List (List ℕ)
-    labels = numbered sur.targets 0 (length rs)
+    labels = numbered_labels sur.targets 0 (length rs)
 
     met : (t : ℕ) → t < length b.statements → any_to t b.statements ≡ true → IsMet labels sur.starts f t
     met t h j =

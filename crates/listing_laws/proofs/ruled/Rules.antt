@@ -84,11 +84,11 @@ same_operand o again view.Constant h = absurd h
 same_operand o again _ h = refl
 
 -- where a listing's operand names the very same
-pub unchanged : (c : Context) (m : Mnemonic) (o again : Operand) (v : ResolvedOperand) → IsOther v → rule_of_resolved_operand (form_of m) v ≡ None
+pub operand_unchanged : (c : Context) (m : Mnemonic) (o again : Operand) (v : ResolvedOperand) → IsOther v → rule_of_resolved_operand (form_of m) v ≡ None
     → operand_rule c (form_of m) again ≡ rule_of_resolution (form_of m) (resolution_of c again) → resolution_of c again ≡ Resolved v → IsActedAgain c m o again v
-unchanged c m o again v other h e sees = record {
+operand_unchanged c m o again v other h e sees = record {
   found = v;
-  sees = sees;
+  resolves = sees;
   right = e ∙ ap (rule_of_resolution (form_of m)) sees ∙ h;
   opened = refl;
   operation = same_operation m o again v h;

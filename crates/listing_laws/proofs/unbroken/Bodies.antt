@@ -19,21 +19,21 @@ use Rattle.listing_laws.specs.Statements.{statement_offset, run_of}
 use Rattle.listing_laws.proofs.RunLemmas.{runs_found}
 
 -- how many statements aren't empty
-abbrev written : List Statement → ℕ
-written ss = count_by (λ s. not (is_empty_statement s.code)) ss
+abbrev written_count : List Statement → ℕ
+written_count ss = count_by (λ s. not (is_empty_statement s.code)) ss
 
-written_cons : (ss rest : List Statement) → written (ss ++ rest) ≡ written ss + written rest
+written_cons : (ss rest : List Statement) → written_count (ss ++ rest) ≡ written_count ss + written_count rest
 written_cons ss rest = sum_by-append (λ (s : Statement). cond (not (is_empty_statement s.code)) 1 0) ss rest
 
-end_unwritten : (line : ℕ) (label : Option (List ℕ)) → written (label_of_end line label) ≡ 0
+end_unwritten : (line : ℕ) (label : Option (List ℕ)) → written_count (label_of_end line label) ≡ 0
 end_unwritten line None = refl
 end_unwritten line (Some label) = refl
 
-one_written : (s : Statement) → written (s ∷ []) ≤ 1
+one_written : (s : Statement) → written_count (s ∷ []) ≤ 1
 one_written s = count_by-le-length (λ (s : Statement). not (is_empty_statement s.code)) (s ∷ [])
 
 -- the last one is the END clause
-few_from : (s : ListingContext) (n : ℕ) (rs : List Run) → n + length rs ≡ length s.lines → written (statements_from s n rs) ≤ length rs - 1
+few_from : (s : ListingContext) (n : ℕ) (rs : List Run) → n + length rs ≡ length s.lines → written_count (statements_from s n rs) ≤ length rs - 1
 unfolding statement_at
 few_from s n [] e = omega arith
 few_from s n (r ∷ rs) e = by (suc n == length s.lines) refl (few_from s (suc n) rs (omega (arith, e)))
@@ -54,8 +54,8 @@ few_from s n (r ∷ rs) e = by (suc n == length s.lines) refl (few_from s (suc n
     not_same : (m k : ℕ) → (m == k) ≡ false → m ≡ k → ⊥
     not_same m k is e = grind (arith, nat_tests)
 
-    by : (t : Bool) → (suc n == length s.lines) ≡ t → written rest ≤ length rs - 1
-        → written ((if t then label_of_end (line_of_statement s.lines n) (label_at s.targets n) else listed_statement s n r ∷ []) ++ rest) ≤ length (r ∷ rs) - 1
+    by : (t : Bool) → (suc n == length s.lines) ≡ t → written_count rest ≤ length rs - 1
+        → written_count ((if t then label_of_end (line_of_statement s.lines n) (label_at s.targets n) else listed_statement s n r ∷ []) ++ rest) ≤ length (r ∷ rs) - 1
     by true is more =
         let all = written_cons (label_of_end (line_of_statement s.lines n) (label_at s.targets n)) rest in
         let none = end_unwritten (line_of_statement s.lines n) (label_at s.targets n) in
@@ -73,7 +73,7 @@ lines_long reached (line ∷ lines) = ap suc (lines_long (max reached line) line
 not_above : (n : ℕ) → n < 65535 → nat_lt 65534 n ≡ false
 not_above n h = grind (arith, nat_tests)
 
-body_few : (ss : List Signature) (lines : List ℕ) (b : CodeBlock) → length (runs b.code) ≡ length lines → length lines < 65536 → written (body_of ss lines b) < 65535
+body_few : (ss : List Signature) (lines : List ℕ) (b : CodeBlock) → length (runs b.code) ≡ length lines → length lines < 65536 → written_count (body_of ss lines b) < 65535
 unfolding body_of
 body_few ss lines b same few =
     let most = few_from (listing_context ss lines b) 0 (runs b.code) (omega (arith, same)) in

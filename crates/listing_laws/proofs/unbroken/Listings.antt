@@ -60,7 +60,7 @@ use Rattle.listing_laws.proofs.unbroken.Bodies.{few_statements}
 use Rattle.listing_laws.proofs.unbroken.Heads.{blocks_right, heads_whole}
 use Rattle.listing_laws.proofs.unbroken.Instances.{HasFunctionBlock, IsStored, all_stored, data_long, structure_long}
 use Rattle.listing_laws.proofs.unbroken.Parameters.{few_formals, few_parameters}
-use Rattle.listing_laws.proofs.unbroken.Sums.{both_summed, counted, data_size, few_data, short_data, source_bytes}
+use Rattle.listing_laws.proofs.unbroken.Sums.{both_summed, data_block_count, data_size, few_data, short_data, source_bytes}
 
 -- ---- lists
 
@@ -97,8 +97,8 @@ at_back (z ∷ front) f xs n k x size e =
 
 -- ---- a listed block
 
--- what it owes whatever stands before it
-record IsFine (y : Types) (blocks : List Block) (b : Block) : Type 0 where
+-- a block breaks none of the rules of one block, whatever stands before it
+record IsBlockRight (y : Types) (blocks : List Block) (b : Block) : Type 0 where
   by_23 : has_unknown_head y b ≡ false
   by_43 : (before : List Block) → contains_itself y blocks before b ≡ false
   by_44 : has_wrong_number y.symbols b ≡ false
@@ -120,7 +120,7 @@ code_known : (y : Types) (ss : List Signature) (reached : ℕ) (b : CodeBlock) �
 code_known y ss reached b = ap (λ (t : Bool). is_none (if t then Some b.id else None) || false) (own_kind b.id.kind)
 
 abbrev IsFineCode : (y : Types) (blocks : List Block) (ss : List Signature) → CodeBlock → Type 0
-IsFineCode y blocks ss b = (line : ℕ) → IsFine y blocks (listed_block ss line b)
+IsFineCode y blocks ss b = (line : ℕ) → IsBlockRight y blocks (listed_block ss line b)
 
 codes_fine : (y : Types) (blocks : List Block) (ss : List Signature) → ((id : BlockId) → length (formals_of_block ss id) ≤ 60) → (bs : List CodeBlock)
     → AllByRecursion (λ b. (line : ℕ) → IsHeadRight y (listed_block ss line b)) bs → AllByRecursion (λ b. (line : ℕ) → is_too_long y blocks (listed_block ss line b) ≡ false) bs
@@ -147,7 +147,7 @@ bodies_fine ss [] h = tt
 bodies_fine ss (x ∷ xs) h = (λ line. few_statements ss line x h.0.lines, bodies_fine ss xs h.1)
 
 listed_fine : (y : Types) (blocks : List Block) (ss : List Signature) (reached : ℕ) (bs : List CodeBlock) → AllByRecursion (IsFineCode y blocks ss) bs
-    → AllByRecursion (IsFine y blocks) (listed_blocks ss reached bs)
+    → AllByRecursion (IsBlockRight y blocks) (listed_blocks ss reached bs)
 listed_fine y blocks ss reached [] h = tt
 listed_fine y blocks ss reached (b ∷ bs) h = (h.0 reached, listed_fine y blocks ss (line_behind_statements reached b.lines) bs h.1)
 
@@ -232,7 +232,7 @@ datas_fine : (y : Types) (blocks : List Block) (p : Program) (line : ℕ) (ds : 
     → AllByRecursion (λ d. IsHeadRight y (listed_data (signatures_in p) line d.number d.bytes d.instance_of)) ds
     → AllByRecursion (λ d. AreDeclarationsRight y (listed_data (signatures_in p) line d.number d.bytes d.instance_of)) ds
     → AllByRecursion (IsStored (in_lines p.code_blocks)) ds → AllByRecursion (IsLaidAgain y blocks p line) ds
-    → AllByRecursion (λ d. IsFine y blocks (listed_data (signatures_in p) line d.number d.bytes d.instance_of)) ds
+    → AllByRecursion (λ d. IsBlockRight y blocks (listed_data (signatures_in p) line d.number d.bytes d.instance_of)) ds
 datas_fine y blocks p line [] heads declared stored laid = tt
 datas_fine y blocks p line (d ∷ ds) heads declared stored laid =
     let bare = data_bare (signatures_in p) line d.number d.bytes d.instance_of in (
@@ -251,7 +251,7 @@ datas_fine y blocks p line (d ∷ ds) heads declared stored laid =
 
 -- ---- all heads
 
-sound_heads : (y : Types) (blocks before bs : List Block) → AllHeads (λ before b. is_block_twice y before b ≡ false) before bs → AllByRecursion (IsFine y blocks) bs
+sound_heads : (y : Types) (blocks before bs : List Block) → AllHeads (λ before b. is_block_twice y before b ≡ false) before bs → AllByRecursion (IsBlockRight y blocks) bs
     → AllHeads (λ before b. is_one_too_many before b ≡ false) before bs → AllHeads (λ before b. exceeds_total y blocks before b ≡ false) before bs → AllHeads (IsSoundHead y blocks) before bs
 sound_heads y blocks before [] once fine few short = tt
 sound_heads y blocks before (b ∷ bs) once fine few short = (
@@ -270,7 +270,7 @@ sound_heads y blocks before (b ∷ bs) once fine few short = (
   sound_heads y blocks (b ∷ before) bs once.1 fine.1 few.1 short.1,
 )
 
-all_declared : (y : Types) (blocks bs : List Block) → AllByRecursion (IsFine y blocks) bs → AllByRecursion (AreDeclarationsRight y) bs
+all_declared : (y : Types) (blocks bs : List Block) → AllByRecursion (IsBlockRight y blocks) bs → AllByRecursion (AreDeclarationsRight y) bs
 all_declared y blocks [] h = tt
 all_declared y blocks (b ∷ bs) h = (h.0.declared, all_declared y blocks bs h.1)
 
@@ -290,11 +290,11 @@ codes_no_data : (ss : List Signature) (reached : ℕ) (bs : List CodeBlock) → 
 codes_no_data ss reached [] h = tt
 codes_no_data ss reached (b ∷ bs) h = (no_data b.id.kind h.0, codes_no_data ss (line_behind_statements reached b.lines) bs h.1)
 
-data_counted : (ss : List Signature) (line : ℕ) (ds : List DataBlock) → AllByRecursion (λ d. counted (listed_data ss line d.number d.bytes d.instance_of) ≡ 1) ds
+data_counted : (ss : List Signature) (line : ℕ) (ds : List DataBlock) → AllByRecursion (λ d. data_block_count (listed_data ss line d.number d.bytes d.instance_of) ≡ 1) ds
 data_counted ss line [] = tt
 data_counted ss line (d ∷ ds) = (by d.instance_of, data_counted ss line ds)
   where
-    by : (o : Option ℕ) → counted (listed_data ss line d.number d.bytes o) ≡ 1
+    by : (o : Option ℕ) → data_block_count (listed_data ss line d.number d.bytes o) ≡ 1
     by None = refl
     by (Some of) = refl
 
@@ -345,7 +345,7 @@ tree_fine P p h k =
 tree_counted : (p : Program) → AllByRecursion (λ b. is_code b.id.kind ≡ true) (in_lines p.code_blocks) → data_blocks (listed_tree p).blocks ≡ length p.data_blocks
 unfolding listed_tree
 tree_counted p h =
-    both_summed counted (λ b e. ap (λ (t : Bool). cond {A = ℕ} t 1 0) e) (λ d. 1) (listed_in p)
+    both_summed data_block_count (λ b e. ap (λ (t : Bool). cond {A = ℕ} t 1 0) e) (λ d. 1) (listed_in p)
     (listed_blocks (signatures_in p) 1 (in_lines p.code_blocks)) p.data_blocks (codes_no_data (signatures_in p) 1 (in_lines p.code_blocks) h)
     (data_counted (signatures_in p) (data_line p) p.data_blocks)
     ∙ summed_ones p.data_blocks
@@ -364,7 +364,7 @@ few_counted codes datas names h = grind (arith, nat_tests)
 right_listing : (source file : List ℕ) (symbols : List Symbol) (t : Tree) → IsAccepted source file symbols t → AreBytes source → AreBytes file → (others : List Symbol) → IsRightListing symbols t others
 right_listing source file symbols t accepted bytes file_bytes others = record {
   heads = sound_heads y blocks [] blocks (heads_once y blocks (blocks_once t symbols others tree.by_layout.by_22)) fine
-      (few_data [] blocks (omega (arith, counted, most)))
+      (few_data [] blocks (omega (arith, data_count, most)))
       (short_data y blocks [] blocks (omega (arith, measured, long)));
   declared = all_declared y blocks blocks fine;
   laid = laid;
@@ -421,14 +421,14 @@ right_listing source file symbols t accepted bytes file_bytes others = record {
     laid : AllByRecursion (IsLaidAgain y blocks p (data_line p)) p.data_blocks
     laid = datas_laid y blocks p (data_line p) p.data_blocks ready stored (own_data source file symbols t accepted bytes file_bytes)
 
-    fine : AllByRecursion (IsFine y blocks) blocks
+    fine : AllByRecursion (IsBlockRight y blocks) blocks
     fine =
-        tree_fine (IsFine y blocks) p (listed_fine y blocks ss 1 (in_lines p.code_blocks) (lines_all (IsFineCode y blocks ss) p.code_blocks fine_codes))
+        tree_fine (IsBlockRight y blocks) p (listed_fine y blocks ss 1 (in_lines p.code_blocks) (lines_all (IsFineCode y blocks ss) p.code_blocks fine_codes))
         (datas_fine y blocks p (data_line p) p.data_blocks (listed_heads source file symbols t accepted bytes file_bytes y (data_line p)).1
         (listed_right source file symbols t accepted bytes file_bytes y (data_line p)).1 stored laid)
 
-    counted : data_blocks blocks ≡ length p.data_blocks
-    counted = tree_counted p codes
+    data_count : data_blocks blocks ≡ length p.data_blocks
+    data_count = tree_counted p codes
 
     most : length p.data_blocks ≤ 256
     most = few_counted (length p.code_blocks) (length p.data_blocks) (length p.names) small.counts
@@ -486,7 +486,7 @@ unfolding block_layout
 data_at y blocks before p ls place d there layout laid = record {
   layout = block_layout y blocks before (listed_in p d);
   block = there;
-  laid = layout;
+  layout_is = layout;
   id = data_named y.symbols (signatures_in p) (data_line p) d.number d.bytes d.instance_of;
   size = laid.size;
   shape = laid.shape;

@@ -23,7 +23,7 @@ use Rattle.stl_print.specs.Words.{type_word}
 use Rattle.stl_print.specs.declared.gaps.Gap.{Gap}
 use Rattle.stl_print.specs.declared.gaps.Gap.TheVariants as gap
 use Rattle.print_laws.specs.Standing.{IsNonTitleName, IsPrintableDeclaration, IsPrintableElement, IsPrintableInit, IsPrintableLiteral, IsPrintableSetting}
-use Rattle.print_laws.proofs.lexing.Operands.{block_rest, closing_rest, colon_rest, free_rest, joined, literal_rest, path_rest}
+use Rattle.print_laws.proofs.lexing.Operands.{block_rest, closing_rest, colon_rest, free_rest, rest_joined, literal_rest, path_rest}
 use Rattle.print_laws.proofs.lexing.Pieces.{Rest, number_rest, opens, signed_rest, word_rest}
 
 -- ---- types
@@ -45,7 +45,7 @@ array_rest b ps end h r =
     let inside = bounds_rest b (of_ ++ ps) end h (word_rest gap.Blank (codes "OF") ps end (refl, refl) r) in
     word_rest gap.Blank (codes "ARRAY") (mark_piece gap.Blank mark_of.OpenBracket ∷ ((signed_number_pieces gap.Nothing b.low ++ (mark_piece gap.Nothing mark_of.DotDot ∷ (signed_number_pieces gap.Nothing b.high ++ upper))) ++ ps)) end (refl, refl)
     (free_rest false gap.Blank mark_of.OpenBracket ((signed_number_pieces gap.Nothing b.low ++ (mark_piece gap.Nothing mark_of.DotDot ∷ (signed_number_pieces gap.Nothing b.high ++ upper))) ++ ps) end refl
-    (joined false (signed_number_pieces gap.Nothing b.low) (mark_piece gap.Nothing mark_of.DotDot ∷ (signed_number_pieces gap.Nothing b.high ++ upper)) ps end (moved upper inside)))
+    (rest_joined false (signed_number_pieces gap.Nothing b.low) (mark_piece gap.Nothing mark_of.DotDot ∷ (signed_number_pieces gap.Nothing b.high ++ upper)) ps end (moved upper inside)))
   where
     moved : (upper : List Piece) → Rest false (signed_number_pieces gap.Nothing b.low ++ (mark_piece gap.Nothing mark_of.DotDot ∷ (signed_number_pieces gap.Nothing b.high ++ (upper ++ ps)))) end
         → Rest false (signed_number_pieces gap.Nothing b.low ++ (mark_piece gap.Nothing mark_of.DotDot ∷ ((signed_number_pieces gap.Nothing b.high ++ upper) ++ ps))) end
@@ -54,7 +54,7 @@ array_rest b ps end h r =
 arrays_rest : (arrays : List Bounds) (ps : List Piece) (end : List ℕ) → AllByRecursion AreBounds arrays → Rest true ps end → Rest true (flat_map array_pieces arrays ++ ps) end
 arrays_rest [] ps end h r = r
 arrays_rest (b ∷ arrays) ps end (one, more) r =
-    joined true (array_pieces b) (flat_map array_pieces arrays) ps end (array_rest b (flat_map array_pieces arrays ++ ps) end one (arrays_rest arrays ps end more r))
+    rest_joined true (array_pieces b) (flat_map array_pieces arrays) ps end (array_rest b (flat_map array_pieces arrays ++ ps) end one (arrays_rest arrays ps end more r))
 
 pub type_name : (k : Simple) → IsNonTitleName (type_word k)
 unfolding type_word is_word_byte is_word_start
@@ -75,7 +75,7 @@ value_rest g None v ps end h k r = literal_rest g v ps end k r
 value_rest g (Some count) v ps end h k r =
     number_rest g count (mark_piece gap.Blank mark_of.OpenParen ∷ ((literal_pieces gap.Nothing v ++ mark_piece gap.Nothing mark_of.CloseParen ∷ []) ++ ps)) end h
     (free_rest false gap.Blank mark_of.OpenParen ((literal_pieces gap.Nothing v ++ mark_piece gap.Nothing mark_of.CloseParen ∷ []) ++ ps) end refl
-    (joined false (literal_pieces gap.Nothing v) (mark_piece gap.Nothing mark_of.CloseParen ∷ []) ps end
+    (rest_joined false (literal_pieces gap.Nothing v) (mark_piece gap.Nothing mark_of.CloseParen ∷ []) ps end
     (literal_rest gap.Nothing v (mark_piece gap.Nothing mark_of.CloseParen ∷ ps) end k (closing_rest true gap.Nothing mark_of.CloseParen ps end refl refl r))))
 
 init_rest : (g : Gap) (i : Init) (ps : List Piece) (end : List ℕ) → IsPrintableInit i → Rest true ps end → Rest (opens g) (init_pieces g i ++ ps) end
@@ -86,19 +86,19 @@ further_rest : (is : List Init) (ps : List Piece) (end : List ℕ) → AllByRecu
 further_rest [] ps end h r = r
 further_rest (i ∷ is) ps end (one, more) r =
     closing_rest true gap.Nothing mark_of.Comma ((init_pieces gap.Blank i ++ further_inits is) ++ ps) end refl refl
-    (joined true (init_pieces gap.Blank i) (further_inits is) ps end (init_rest gap.Blank i (further_inits is ++ ps) end one (further_rest is ps end more r)))
+    (rest_joined true (init_pieces gap.Blank i) (further_inits is) ps end (init_rest gap.Blank i (further_inits is ++ ps) end one (further_rest is ps end more r)))
 
 inits_rest : (is : List Init) (ps : List Piece) (end : List ℕ) → AllByRecursion IsPrintableInit is → Rest true ps end → Rest true (inits_pieces is ++ ps) end
 inits_rest [] ps end h r = r
 inits_rest (i ∷ is) ps end (one, more) r =
     free_rest true gap.Blank mark_of.Assign ((init_pieces gap.Blank i ++ further_inits is) ++ ps) end refl
-    (joined true (init_pieces gap.Blank i) (further_inits is) ps end (init_rest gap.Blank i (further_inits is ++ ps) end one (further_rest is ps end more r)))
+    (rest_joined true (init_pieces gap.Blank i) (further_inits is) ps end (init_rest gap.Blank i (further_inits is ++ ps) end one (further_rest is ps end more r)))
 
 -- ---- declarations and settings
 
 ended_rest : (is : List Init) (ps : List Piece) (end : List ℕ) → AllByRecursion IsPrintableInit is → Rest true ps end → Rest true ((inits_pieces is ++ mark_piece gap.Nothing mark_of.Semicolon ∷ []) ++ ps) end
 ended_rest is ps end h r =
-    joined true (inits_pieces is) (mark_piece gap.Nothing mark_of.Semicolon ∷ []) ps end
+    rest_joined true (inits_pieces is) (mark_piece gap.Nothing mark_of.Semicolon ∷ []) ps end
     (inits_rest is (mark_piece gap.Nothing mark_of.Semicolon ∷ ps) end h (closing_rest true gap.Nothing mark_of.Semicolon ps end refl refl r))
 
 behind_rest : (e : ElementType) (is : List Init) (ps : List Piece) (end : List ℕ) → AllByRecursion IsPrintableInit is → Rest true ps end → Rest true (behind_type e is ++ ps) end
@@ -112,8 +112,8 @@ pub declaration_rest : (g : Gap) (d : Declaration) (ps : List Piece) (end : List
 unfolding declaration_pieces
 declaration_rest g d ps end (name, arrays, element, init) r =
     let behind = behind_rest d.of.of d.init ps end init r in
-    let of_ = joined true (element_pieces gap.Blank d.of.of) (behind_type d.of.of d.init) ps end (element_rest gap.Blank d.of.of (behind_type d.of.of d.init ++ ps) end element behind) in
-    let whole = joined true (flat_map array_pieces d.of.arrays) (element_pieces gap.Blank d.of.of ++ behind_type d.of.of d.init) ps end
+    let of_ = rest_joined true (element_pieces gap.Blank d.of.of) (behind_type d.of.of d.init) ps end (element_rest gap.Blank d.of.of (behind_type d.of.of d.init ++ ps) end element behind) in
+    let whole = rest_joined true (flat_map array_pieces d.of.arrays) (element_pieces gap.Blank d.of.of ++ behind_type d.of.of d.init) ps end
     (arrays_rest d.of.arrays ((element_pieces gap.Blank d.of.of ++ behind_type d.of.of d.init) ++ ps) end arrays of_) in
     word_rest g d.name (mark_piece gap.Blank mark_of.Colon ∷ ((flat_map array_pieces d.of.arrays ++ (element_pieces gap.Blank d.of.of ++ behind_type d.of.of d.init)) ++ ps)) end name
     (colon_rest gap.Blank ((flat_map array_pieces d.of.arrays ++ (element_pieces gap.Blank d.of.of ++ behind_type d.of.of d.init)) ++ ps) end whole)
@@ -122,8 +122,8 @@ pub setting_rest : (g : Gap) (s : Setting) (ps : List Piece) (end : List ℕ) �
 unfolding setting_pieces
 setting_rest g s ps end (path, value) r =
     let close = mark_piece gap.Nothing mark_of.Semicolon ∷ [] in
-    joined (opens g) (path_pieces g s.path) (mark_piece gap.Blank mark_of.Assign ∷ (literal_pieces gap.Blank s.value ++ close)) ps end
+    rest_joined (opens g) (path_pieces g s.path) (mark_piece gap.Blank mark_of.Assign ∷ (literal_pieces gap.Blank s.value ++ close)) ps end
     (path_rest g s.path (mark_piece gap.Blank mark_of.Assign ∷ ((literal_pieces gap.Blank s.value ++ close) ++ ps)) end path
     (free_rest true gap.Blank mark_of.Assign ((literal_pieces gap.Blank s.value ++ close) ++ ps) end refl
-    (joined true (literal_pieces gap.Blank s.value) close ps end
+    (rest_joined true (literal_pieces gap.Blank s.value) close ps end
     (literal_rest gap.Blank s.value (close ++ ps) end value (closing_rest true gap.Nothing mark_of.Semicolon ps end refl refl r)))))

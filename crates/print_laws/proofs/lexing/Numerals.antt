@@ -218,9 +218,9 @@ hex_plain b e = (and_parts (is_word_byte b) (not (b == underscore)) (and_parts (
 hex_value : (b : ℕ) → is_hex b ≡ true → is_digit b 16 ≡ true
 hex_value b e = (and_parts (is_digit b 16) (is_word_byte b && not (b == underscore)) e).0
 
-grouped : (text : List ℕ) → list_all is_hex text ≡ true → 0 < length text → are_grouped_digits 16 text ≡ true
+hex_is_grouped : (text : List ℕ) → list_all is_hex text ≡ true → 0 < length text → are_grouped_digits 16 text ≡ true
 unfolding are_grouped_digits are_digits
-grouped text e some =
+hex_is_grouped text e some =
     let whole : slice_split (λ b. b == underscore) text ≡ text ∷ [] =
     slice_split_none (λ b. b == underscore) text (λ i d h. not-true (get_or text i d == underscore) (AllPass-from_list_all (λ b. not (b == underscore)) text (all_weaker is_hex (λ b. not (b == underscore)) hex_plain text e) i d h)) in
     rw (whole, lt-ltb 0 (length text) some, all_weaker is_hex (λ b. is_digit b 16) hex_value text e) refl
@@ -231,4 +231,4 @@ pub based_right : (prefix text : List ℕ) (most : ℕ) → list_all is_hex text
 unfolding based_rule digit_count
 based_right prefix text most e some short begun ends base limit =
     let behind = behind_known prefix text begun ends (words_no_hash text (all_weaker is_hex is_word_byte hex_word text e)) in
-    rw (behind, base, limit, grouped text e some, le-ltb most (count_by (λ b. not (b == underscore)) text) (omega (arith, count_by-le-length (λ b. not (b == underscore)) text, short))) refl
+    rw (behind, base, limit, hex_is_grouped text e some, le-ltb most (count_by (λ b. not (b == underscore)) text) (omega (arith, count_by-le-length (λ b. not (b == underscore)) text, short))) refl

@@ -50,8 +50,8 @@ soft_as s ps end r = record { stands = r.stands; soft = λ e. r.soft refl }
 pub as_soft : (s t : Bool) (ps : List Piece) (end : List ℕ) → (t ≡ true → s ≡ true) → Rest s ps end → Rest t ps end
 as_soft s t ps end h r = record { stands = r.stands; soft = λ e. r.soft (h e) }
 
-pub joined : (s : Bool) (a b c : List Piece) (end : List ℕ) → Rest s (a ++ (b ++ c)) end → Rest s ((a ++ b) ++ c) end
-joined s a b c end r = subst (λ (l : List Piece). Rest s l end) (sym (append_assoc a b c)) r
+pub rest_joined : (s : Bool) (a b c : List Piece) (end : List ℕ) → Rest s (a ++ (b ++ c)) end → Rest s ((a ++ b) ++ c) end
+rest_joined s a b c end r = subst (λ (l : List Piece). Rest s l end) (sym (append_assoc a b c)) r
 
 -- a mark before any bytes
 abbrev pub is_free : Mark → Bool
@@ -125,7 +125,7 @@ block_rest g (block.Quoted name) ps end h r = absurd h
 pub index_rest : (g : Gap) (at : ℤ) (ps : List Piece) (end : List ℕ) → IsDecimal at → Rest true ps end → Rest true (index_pieces g at ++ ps) end
 index_rest g at ps end h r =
     closing_rest false g mark_of.OpenBracket ((signed_number_pieces gap.Nothing at ++ mark_piece gap.Nothing mark_of.CloseBracket ∷ []) ++ ps) end refl refl
-    (joined false (signed_number_pieces gap.Nothing at) (mark_piece gap.Nothing mark_of.CloseBracket ∷ []) ps end
+    (rest_joined false (signed_number_pieces gap.Nothing at) (mark_piece gap.Nothing mark_of.CloseBracket ∷ []) ps end
     (signed_rest gap.Nothing at (mark_piece gap.Nothing mark_of.CloseBracket ∷ ps) end h (closing_rest true gap.Nothing mark_of.CloseBracket ps end refl refl r)))
 
 step_rest : (s : PathStep) (ps : List Piece) (end : List ℕ) → Rest true ps end → IsPrintableStep s → Rest true (step_pieces s ++ ps) end
@@ -136,7 +136,7 @@ step_rest (step.Index at) ps end r h = index_rest gap.Nothing at ps end h r
 pub steps_rest : (steps : List PathStep) (ps : List Piece) (end : List ℕ) → ArePrintableSteps steps → Rest true ps end → Rest true (steps_pieces steps ++ ps) end
 steps_rest [] ps end h r = r
 steps_rest (s ∷ steps) ps end (one, more) r =
-    joined true (step_pieces s) (steps_pieces steps) ps end (step_rest s (steps_pieces steps ++ ps) end (steps_rest steps ps end more r) one)
+    rest_joined true (step_pieces s) (steps_pieces steps) ps end (step_rest s (steps_pieces steps ++ ps) end (steps_rest steps ps end more r) one)
 
 first_rest : (g : Gap) (s : PathStep) (ps : List Piece) (end : List ℕ) → IsPrintableStep s → Rest true ps end → Rest (opens g) (first_step_pieces g s ++ ps) end
 unfolding first_step_pieces
@@ -146,7 +146,7 @@ first_rest g (step.Index at) ps end h r = soft_as (opens g) (index_pieces g at +
 pub path_rest : (g : Gap) (steps : List PathStep) (ps : List Piece) (end : List ℕ) → ArePrintableSteps steps → Rest true ps end → Rest (opens g) (path_pieces g steps ++ ps) end
 path_rest g [] ps end h r = soft_as (opens g) ps end r
 path_rest g (s ∷ steps) ps end (one, more) r =
-    joined (opens g) (first_step_pieces g s) (steps_pieces steps) ps end (first_rest g s (steps_pieces steps ++ ps) end one (steps_rest steps ps end more r))
+    rest_joined (opens g) (first_step_pieces g s) (steps_pieces steps) ps end (first_rest g s (steps_pieces steps ++ ps) end one (steps_rest steps ps end more r))
 
 -- ---- constants
 
@@ -222,7 +222,7 @@ direct_rest : (g : Gap) (name : Option BlockName) (area : Letters) (w : Width) (
 unfolding direct_pieces
 direct_rest g None area w byte bit ps end h k l r = address_rest g area w byte bit ps end k l r
 direct_rest g (Some name) area w byte bit ps end h k l r =
-    joined (opens g) (block_name_pieces g name) (mark_piece gap.Nothing mark_of.Dot ∷ address_pieces gap.Nothing area w byte bit) ps end
+    rest_joined (opens g) (block_name_pieces g name) (mark_piece gap.Nothing mark_of.Dot ∷ address_pieces gap.Nothing area w byte bit) ps end
     (block_rest g name (mark_piece gap.Nothing mark_of.Dot ∷ (address_pieces gap.Nothing area w byte bit ++ ps)) end h
     (dot_word (letters_of_address area w) (number_piece gap.Blank byte ∷ (bit_pieces w bit ++ ps)) end (address_name area w) (number_rest gap.Blank byte (bit_pieces w bit ++ ps) end k (bits_rest w bit ps end l r))))
 
@@ -272,7 +272,7 @@ pointer_rest : (g : Gap) (area : Option Letters) (byte bit : ℕ) (ps : List Pie
 pointer_rest g area byte bit ps end h k r =
     as_soft (opens g || false) (opens g) (pointer_pieces g area byte bit ++ ps) end (λ e. or_left (opens g) false e)
     (free_rest false g mark_of.Pointer ((pointer_byte_pieces area byte ++ (mark_piece gap.Nothing mark_of.Dot ∷ number_piece gap.Nothing bit ∷ [])) ++ ps) end refl
-    (joined false (pointer_byte_pieces area byte) (mark_piece gap.Nothing mark_of.Dot ∷ number_piece gap.Nothing bit ∷ []) ps end
+    (rest_joined false (pointer_byte_pieces area byte) (mark_piece gap.Nothing mark_of.Dot ∷ number_piece gap.Nothing bit ∷ []) ps end
     (pointed_rest area byte (mark_piece gap.Nothing mark_of.Dot ∷ number_piece gap.Nothing bit ∷ ps) end h (dot_number bit ps end k r))))
 
 opened_rest : (g : Gap) (di : Bool) (name : BlockName) (ps : List Piece) (end : List ℕ) → IsNumberedBlock name → Rest true ps end → Rest (opens g) (opened_block_pieces g di name ++ ps) end
@@ -306,7 +306,7 @@ operand_rest g (operand.Direct name area w byte bit) ps end (h, k, l) r = direct
 operand_rest g (operand.Timer n) ps end h r = letters_rest g (codes "T") n ps end (refl, refl) h r
 operand_rest g (operand.Counter n) ps end h r = letters_rest g (codes "C") n ps end (refl, refl) h r
 operand_rest g (operand.Named path steps) ps end (h, k) r =
-    joined (opens g) (path_head_pieces g path) (steps_pieces steps) ps end (head_rest g path (steps_pieces steps ++ ps) end h (steps_rest steps ps end k r))
+    rest_joined (opens g) (path_head_pieces g path) (steps_pieces steps) ps end (head_rest g path (steps_pieces steps ++ ps) end h (steps_rest steps ps end k r))
 operand_rest g (operand.ByMemory area w from byte) ps end h r =
     word_rest g (letters_of_address area w) (memory_pointer_pieces from width.Dword byte ++ ps) end (address_name area w) (memory_rest from width.Dword byte ps end h r)
 operand_rest g (operand.NumberBy what from byte) ps end h r =
@@ -319,4 +319,4 @@ operand_rest g (operand.OfStatus f) ps end h r = flag_rest g f ps end r
 operand_rest g (operand.Other name) ps end h r = word_rest g name ps end h r
 operand_rest g (operand.OpenBlock di name) ps end h r = opened_rest g di name ps end h r
 operand_rest g (operand.Called name instance) ps end (h, k) r =
-    joined (opens g) (block_name_pieces g name) (instance_pieces instance) ps end (block_rest g name (instance_pieces instance ++ ps) end h (instance_rest instance ps end k r))
+    rest_joined (opens g) (block_name_pieces g name) (instance_pieces instance) ps end (block_rest g name (instance_pieces instance ++ ps) end h (instance_rest instance ps end k r))

@@ -108,10 +108,10 @@ gap_soft (gap.LineEnds (suc n)) s e = refl
 abbrev pub is_opening : ℕ → Bool
 is_opening b = not (is_separator b) && not (b == slash)
 
-opening : (b : ℕ) (s : List ℕ) → is_opening b ≡ true → is_ahead (b ∷ s) ≡ true
+opening_is_ahead : (b : ℕ) (s : List ℕ) → is_opening b ≡ true → is_ahead (b ∷ s) ≡ true
 unfolding opens_comment
-opening b [] e = and_from (not (is_separator b)) true (and_parts (not (is_separator b)) (not (b == slash)) e).0 refl
-opening b (c ∷ s) e =
+opening_is_ahead b [] e = and_from (not (is_separator b)) true (and_parts (not (is_separator b)) (not (b == slash)) e).0 refl
+opening_is_ahead b (c ∷ s) e =
     let parts = and_parts (not (is_separator b)) (not (b == slash)) e in
     and_from (not (is_separator b)) (not (b == slash && c == slash)) parts.0 (rw (not-true (b == slash) parts.1) refl)
 
@@ -149,7 +149,7 @@ start_opening b e = grind (arith, nat_tests)
 
 word_ahead : (w after : List ℕ) → is_word w ≡ true → is_ahead (w ++ after) ≡ true
 word_ahead [] after e = absurd (false≢true e)
-word_ahead (b ∷ w) after e = opening b (w ++ after) (start_opening b (and_parts (is_word_start b) (list_all is_word_byte w) e).0)
+word_ahead (b ∷ w) after e = opening_is_ahead b (w ++ after) (start_opening b (and_parts (is_word_start b) (list_all is_word_byte w) e).0)
 
 pub word_rest : (g : Gap) (w : List ℕ) (ps : List Piece) (end : List ℕ) → IsNonTitleName w → Rest true ps end → Rest (opens g) (word_piece g w ∷ ps) end
 unfolding has_form rule_broken_by_token is_minus
@@ -161,7 +161,7 @@ word_rest g w ps end (is, title) r =
 pub local_rest : (g : Gap) (w : List ℕ) (ps : List Piece) (end : List ℕ) → is_word w ≡ true → Rest true ps end → Rest (opens g) (local_piece g w ∷ ps) end
 unfolding has_form rule_broken_by_token is_minus is_separator is_comment_byte is_source_byte
 local_rest g w ps end is r =
-    before g kind.Local (hash ∷ w) ps end refl (opening hash (w ++ text_of_pieces ps end) refl) (hashed.local_stands w (text_of_pieces ps end) is (soft_stops (text_of_pieces ps end) (r.soft refl)))
+    before g kind.Local (hash ∷ w) ps end refl (opening_is_ahead hash (w ++ text_of_pieces ps end) refl) (hashed.local_stands w (text_of_pieces ps end) is (soft_stops (text_of_pieces ps end) (r.soft refl)))
     (no_fault kind.Local (hash ∷ w) false refl (and_from (is_comment_byte hash) (list_all is_comment_byte w) refl (plain_word w [] is))) (hard true ps end r)
 
 -- ---- numbers
@@ -172,7 +172,7 @@ digit_opening b e = grind (arith, nat_tests)
 
 digits_ahead : (d after : List ℕ) → list_all is_ascii_digit d ≡ true → 0 < length d → is_ahead (d ++ after) ≡ true
 digits_ahead [] after e some = absurd (omega (arith, some))
-digits_ahead (b ∷ d) after e some = opening b (d ++ after) (digit_opening b (and_parts (is_ascii_digit b) (list_all is_ascii_digit d) e).0)
+digits_ahead (b ∷ d) after e some = opening_is_ahead b (d ++ after) (digit_opening b (and_parts (is_ascii_digit b) (list_all is_ascii_digit d) e).0)
 
 small_number : (n : ℕ) (minus : Bool) → n ≤ greatest_number minus → n < 2 ^ 64
 small_number n true h = omega (arith, h)
@@ -238,21 +238,21 @@ mark_longest mark_of.Bytes after p a = absurd (false≢true p)
 
 mark_opens : (m : Mark) (s : List ℕ) → is_ahead (mark_text m ++ s) ≡ true
 unfolding mark_text is_separator
-mark_opens mark_of.Assign s = opening 58 (61 ∷ s) refl
-mark_opens mark_of.Colon s = opening 58 s refl
-mark_opens mark_of.Semicolon s = opening 59 s refl
-mark_opens mark_of.Comma s = opening 44 s refl
-mark_opens mark_of.Dot s = opening 46 s refl
-mark_opens mark_of.DotDot s = opening 46 (46 ∷ s) refl
-mark_opens mark_of.OpenParen s = opening 40 s refl
-mark_opens mark_of.CloseParen s = opening 41 s refl
-mark_opens mark_of.OpenBracket s = opening 91 s refl
-mark_opens mark_of.CloseBracket s = opening 93 s refl
-mark_opens mark_of.Equals s = opening 61 s refl
-mark_opens mark_of.Plus s = opening 43 s refl
-mark_opens mark_of.Minus s = opening 45 s refl
-mark_opens mark_of.Pointer s = opening 80 (35 ∷ s) refl
-mark_opens mark_of.Bytes s = opening 66 (35 ∷ 40 ∷ s) refl
+mark_opens mark_of.Assign s = opening_is_ahead 58 (61 ∷ s) refl
+mark_opens mark_of.Colon s = opening_is_ahead 58 s refl
+mark_opens mark_of.Semicolon s = opening_is_ahead 59 s refl
+mark_opens mark_of.Comma s = opening_is_ahead 44 s refl
+mark_opens mark_of.Dot s = opening_is_ahead 46 s refl
+mark_opens mark_of.DotDot s = opening_is_ahead 46 (46 ∷ s) refl
+mark_opens mark_of.OpenParen s = opening_is_ahead 40 s refl
+mark_opens mark_of.CloseParen s = opening_is_ahead 41 s refl
+mark_opens mark_of.OpenBracket s = opening_is_ahead 91 s refl
+mark_opens mark_of.CloseBracket s = opening_is_ahead 93 s refl
+mark_opens mark_of.Equals s = opening_is_ahead 61 s refl
+mark_opens mark_of.Plus s = opening_is_ahead 43 s refl
+mark_opens mark_of.Minus s = opening_is_ahead 45 s refl
+mark_opens mark_of.Pointer s = opening_is_ahead 80 (35 ∷ s) refl
+mark_opens mark_of.Bytes s = opening_is_ahead 66 (35 ∷ 40 ∷ s) refl
 
 mark_soft : (m : Mark) (s : List ℕ) → is_soft_mark m ≡ true → soft (mark_text m ++ s) ≡ true
 unfolding mark_text is_word_byte is_word_start
@@ -401,7 +401,7 @@ pub byte_rest : (g : Gap) (n : ℕ) (ps : List Piece) (end : List ℕ) → Rest 
 unfolding rule_broken_by_token is_minus base_of most_digits first_letter is_separator is_comment_byte is_source_byte
 byte_rest g n ps end r =
     let hex = hex_digits 2 n in
-    before g kind.Based (codes "B#16#" ++ digits_in_base 16 2 n) ps end refl (opening 66 _ refl) (hashed.byte_stands (digits_in_base 16 2 n) (text_of_pieces ps end) (hex_words 2 n) (soft_stops (text_of_pieces ps end) (r.soft refl)))
+    before g kind.Based (codes "B#16#" ++ digits_in_base 16 2 n) ps end refl (opening_is_ahead 66 _ refl) (hashed.byte_stands (digits_in_base 16 2 n) (text_of_pieces ps end) (hex_words 2 n) (soft_stops (text_of_pieces ps end) (r.soft refl)))
     (no_fault kind.Based (codes "B#16#" ++ digits_in_base 16 2 n) false (based_right (codes "B#16#") (digits_in_base 16 2 n) 2 hex.0 (omega (arith, hex.1)) (omega (arith, hex.1)) (omega arith) refl refl refl)
     (both_pass is_comment_byte (codes "B#16#") (digits_in_base 16 2 n) refl (hex_plain 2 n))) (hard true ps end r)
 
@@ -409,7 +409,7 @@ pub word_constant_rest : (g : Gap) (n : ℕ) (ps : List Piece) (end : List ℕ) 
 unfolding rule_broken_by_token is_minus base_of most_digits first_letter is_separator is_comment_byte is_source_byte
 word_constant_rest g n ps end r =
     let hex = hex_digits 4 n in
-    before g kind.Based (codes "W#16#" ++ digits_in_base 16 4 n) ps end refl (opening 87 _ refl) (hashed.word_stands (digits_in_base 16 4 n) (text_of_pieces ps end) (hex_words 4 n) (soft_stops (text_of_pieces ps end) (r.soft refl)))
+    before g kind.Based (codes "W#16#" ++ digits_in_base 16 4 n) ps end refl (opening_is_ahead 87 _ refl) (hashed.word_stands (digits_in_base 16 4 n) (text_of_pieces ps end) (hex_words 4 n) (soft_stops (text_of_pieces ps end) (r.soft refl)))
     (no_fault kind.Based (codes "W#16#" ++ digits_in_base 16 4 n) false (based_right (codes "W#16#") (digits_in_base 16 4 n) 4 hex.0 (omega (arith, hex.1)) (omega (arith, hex.1)) (omega arith) refl refl refl)
     (both_pass is_comment_byte (codes "W#16#") (digits_in_base 16 4 n) refl (hex_plain 4 n))) (hard true ps end r)
 
@@ -417,17 +417,17 @@ pub dword_rest : (g : Gap) (n : ℕ) (ps : List Piece) (end : List ℕ) → Rest
 unfolding rule_broken_by_token is_minus base_of most_digits first_letter is_separator is_comment_byte is_source_byte
 dword_rest g n ps end r =
     let hex = hex_digits 8 n in
-    before g kind.Based (codes "DW#16#" ++ digits_in_base 16 8 n) ps end refl (opening 68 _ refl) (hashed.dword_stands (digits_in_base 16 8 n) (text_of_pieces ps end) (hex_words 8 n) (soft_stops (text_of_pieces ps end) (r.soft refl)))
+    before g kind.Based (codes "DW#16#" ++ digits_in_base 16 8 n) ps end refl (opening_is_ahead 68 _ refl) (hashed.dword_stands (digits_in_base 16 8 n) (text_of_pieces ps end) (hex_words 8 n) (soft_stops (text_of_pieces ps end) (r.soft refl)))
     (no_fault kind.Based (codes "DW#16#" ++ digits_in_base 16 8 n) false (based_right (codes "DW#16#") (digits_in_base 16 8 n) 8 hex.0 (omega (arith, hex.1)) (omega (arith, hex.1)) (omega arith) refl refl refl)
     (both_pass is_comment_byte (codes "DW#16#") (digits_in_base 16 8 n) refl (hex_plain 8 n))) (hard true ps end r)
 
 -- digits with a sign or none
-record Signed (text : List ℕ) : Type 0 where
+record IsSignedDigits (text : List ℕ) : Type 0 where
   some : 0 < length text
   words : list_all is_word_byte (behind_sign text) ≡ true
   plain : list_all is_comment_byte text ≡ true
 
-signed_digits : (v : ℤ) (unit : List ℕ) → IsLong v → list_all is_word_byte unit ≡ true → Signed (signed_decimal v ++ unit)
+signed_digits : (v : ℤ) (unit : List ℕ) → IsLong v → list_all is_word_byte unit ≡ true → IsSignedDigits (signed_decimal v ++ unit)
 unfolding behind_sign is_sign is_comment_byte is_source_byte is_separator
 signed_digits (pos n) unit h e =
     let d = numeral n (omega (arith, h)) in
@@ -446,19 +446,19 @@ signed_digits (negsuc n) unit h e =
       plain = and_from (is_comment_byte minus_sign) (list_all is_comment_byte (decimal (suc n) ++ unit)) refl (all_weaker is_word_byte is_comment_byte word_plain (decimal (suc n) ++ unit) words);
     }
 
-signed_alone : (v : ℤ) → IsLong v → Signed (signed_decimal v)
-signed_alone v h = subst Signed (append-nil (signed_decimal v)) (signed_digits v [] h refl)
+signed_alone : (v : ℤ) → IsLong v → IsSignedDigits (signed_decimal v)
+signed_alone v h = subst IsSignedDigits (append-nil (signed_decimal v)) (signed_digits v [] h refl)
 
 pub long_rest : (g : Gap) (v : ℤ) (ps : List Piece) (end : List ℕ) → IsLong v → Rest true ps end → Rest (opens g) (token_piece g kind.NumberLiteral (codes "L#" ++ signed_decimal v) ∷ ps) end
 unfolding rule_broken_by_token is_minus is_separator is_comment_byte is_source_byte
 long_rest g v ps end h r =
     let text = signed_alone v h in
-    before g kind.NumberLiteral (codes "L#" ++ signed_decimal v) ps end refl (opening 76 _ refl) (hashed.long_stands (signed_decimal v) (text_of_pieces ps end) text.some text.words (soft_stops (text_of_pieces ps end) (r.soft refl)))
+    before g kind.NumberLiteral (codes "L#" ++ signed_decimal v) ps end refl (opening_is_ahead 76 _ refl) (hashed.long_stands (signed_decimal v) (text_of_pieces ps end) text.some text.words (soft_stops (text_of_pieces ps end) (r.soft refl)))
     (no_fault kind.NumberLiteral (codes "L#" ++ signed_decimal v) false (long_right v h) (both_pass is_comment_byte (codes "L#") (signed_decimal v) refl text.plain)) (hard true ps end r)
 
 pub time_rest : (g : Gap) (v : ℤ) (ps : List Piece) (end : List ℕ) → IsLong v → Rest true ps end → Rest (opens g) (token_piece g kind.TimeLiteral (codes "T#" ++ (signed_decimal v ++ codes "MS")) ∷ ps) end
 unfolding rule_broken_by_token is_minus is_separator is_comment_byte is_source_byte is_word_byte is_word_start
 time_rest g v ps end h r =
     let text = signed_digits v (codes "MS") h refl in
-    before g kind.TimeLiteral (codes "T#" ++ (signed_decimal v ++ codes "MS")) ps end refl (opening 84 _ refl) (hashed.time_stands (signed_decimal v ++ codes "MS") (text_of_pieces ps end) text.some text.words (soft_stops (text_of_pieces ps end) (r.soft refl)))
+    before g kind.TimeLiteral (codes "T#" ++ (signed_decimal v ++ codes "MS")) ps end refl (opening_is_ahead 84 _ refl) (hashed.time_stands (signed_decimal v ++ codes "MS") (text_of_pieces ps end) text.some text.words (soft_stops (text_of_pieces ps end) (r.soft refl)))
     (no_fault kind.TimeLiteral (codes "T#" ++ (signed_decimal v ++ codes "MS")) false (time_right v h) (both_pass is_comment_byte (codes "T#") (signed_decimal v ++ codes "MS") refl text.plain)) (hard true ps end r)

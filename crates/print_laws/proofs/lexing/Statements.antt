@@ -19,7 +19,7 @@ use Rattle.stl_print.specs.Statements.{actual_pieces, actuals_pieces, further_ac
 use Rattle.stl_print.specs.declared.gaps.Gap.{Gap}
 use Rattle.stl_print.specs.declared.gaps.Gap.TheVariants as gap
 use Rattle.print_laws.specs.Standing.{IsNonTitleName, IsPrintableActual, IsPrintableLabel, IsPrintableOperand, IsPrintableStatement}
-use Rattle.print_laws.proofs.lexing.Operands.{closing_rest, colon_rest, equals_rest, free_rest, joined, operand_rest, plus_rest, soft_as}
+use Rattle.print_laws.proofs.lexing.Operands.{closing_rest, colon_rest, equals_rest, free_rest, rest_joined, operand_rest, plus_rest, soft_as}
 use Rattle.print_laws.proofs.lexing.Pieces.{Rest, opens, sign_rest, word_rest}
 
 -- ---- instruction words
@@ -84,13 +84,13 @@ further_rest : (more : List Actual) (ps : List Piece) (end : List ℕ) → AllBy
 further_rest [] ps end h r = closing_rest true gap.Nothing mark_of.CloseParen ps end refl refl r
 further_rest (a ∷ more) ps end (one, others) r =
     closing_rest true gap.Nothing mark_of.Comma ((actual_pieces gap.Blank a ++ further_actuals more) ++ ps) end refl refl
-    (joined true (actual_pieces gap.Blank a) (further_actuals more) ps end (actual_rest gap.Blank a (further_actuals more ++ ps) end one (further_rest more ps end others r)))
+    (rest_joined true (actual_pieces gap.Blank a) (further_actuals more) ps end (actual_rest gap.Blank a (further_actuals more ++ ps) end one (further_rest more ps end others r)))
 
 actuals_rest : (actuals : List Actual) (ps : List Piece) (end : List ℕ) → AllByRecursion IsPrintableActual actuals → Rest true ps end → Rest true (actuals_pieces actuals ++ ps) end
 actuals_rest [] ps end h r = r
 actuals_rest (a ∷ more) ps end (one, others) r =
     free_rest false gap.Blank mark_of.OpenParen ((actual_pieces gap.Nothing a ++ further_actuals more) ++ ps) end refl
-    (joined false (actual_pieces gap.Nothing a) (further_actuals more) ps end (actual_rest gap.Nothing a (further_actuals more ++ ps) end one (further_rest more ps end others r)))
+    (rest_joined false (actual_pieces gap.Nothing a) (further_actuals more) ps end (actual_rest gap.Nothing a (further_actuals more ++ ps) end one (further_rest more ps end others r)))
 
 -- ---- statements
 
@@ -103,9 +103,9 @@ instruction_rest g s ps end operand actuals r =
     let close = mark_piece gap.Nothing mark_of.Semicolon ∷ [] in
     let behind = actuals_rest s.actuals (close ++ ps) end actuals (semicolon_rest ps end r) in
     let value = operand_rest gap.Blank s.operand (actuals_pieces s.actuals ++ (close ++ ps)) end operand behind in
-    joined (opens g) (spelling_pieces g (mnemonic_spelling s.code)) (operand_pieces gap.Blank s.operand ++ (actuals_pieces s.actuals ++ close)) ps end
+    rest_joined (opens g) (spelling_pieces g (mnemonic_spelling s.code)) (operand_pieces gap.Blank s.operand ++ (actuals_pieces s.actuals ++ close)) ps end
     (spelling_rest g s.code ((operand_pieces gap.Blank s.operand ++ (actuals_pieces s.actuals ++ close)) ++ ps) end
-    (joined true (operand_pieces gap.Blank s.operand) (actuals_pieces s.actuals ++ close) ps end (moved value)))
+    (rest_joined true (operand_pieces gap.Blank s.operand) (actuals_pieces s.actuals ++ close) ps end (moved value)))
   where
     moved : Rest true (operand_pieces gap.Blank s.operand ++ (actuals_pieces s.actuals ++ ((mark_piece gap.Nothing mark_of.Semicolon ∷ []) ++ ps))) end
         → Rest true (operand_pieces gap.Blank s.operand ++ ((actuals_pieces s.actuals ++ mark_piece gap.Nothing mark_of.Semicolon ∷ []) ++ ps)) end

@@ -34,7 +34,7 @@ use Rattle.stl_print.specs.declared.gaps.Gap.{Gap}
 use Rattle.stl_print.specs.declared.gaps.Gap.TheVariants as gap
 use Rattle.print_laws.specs.Standing.{ArePrintedTokens, DoTokensStand, IsNonTitleName, IsNumberedBlock, IsNumberedOrNone, IsPrintableBlock, IsPrintableDeclaration, IsPrintableElement, IsPrintablePart, IsPrintableSetting, IsPrintableShape, IsPrintableStatement}
 use Rattle.print_laws.proofs.lexing.Declarations.{declaration_rest, setting_rest, type_name}
-use Rattle.print_laws.proofs.lexing.Operands.{as_soft, block_rest, closing_rest, colon_rest, joined, soft_as}
+use Rattle.print_laws.proofs.lexing.Operands.{as_soft, block_rest, closing_rest, colon_rest, rest_joined, soft_as}
 use Rattle.print_laws.proofs.lexing.Pieces.{Rest, opens, word_rest}
 use Rattle.print_laws.proofs.lexing.Statements.{statement_rest}
 
@@ -83,7 +83,7 @@ clause_rest : (g : Gap) (c : Clause) (ps : List Piece) (end : List ℕ) → IsPr
 unfolding clause_pieces is_word_byte is_word_start
 clause_rest g (clause.Head line k name result) ps end h r =
     word_rest g (head_word k) ((block_name_pieces gap.Blank name ++ result_pieces k result) ++ ps) end (head_name k)
-    (joined true (block_name_pieces gap.Blank name) (result_pieces k result) ps end (block_rest gap.Blank name (result_pieces k result ++ ps) end h (result_rest k result ps end r)))
+    (rest_joined true (block_name_pieces gap.Blank name) (result_pieces k result) ps end (block_rest gap.Blank name (result_pieces k result ++ ps) end h (result_rest k result ps end r)))
 clause_rest g (clause.Ends line k) ps end h r = word_rest g (end_word k) ps end (end_name k) r
 clause_rest g (clause.Section line p) ps end h r = word_rest g (section_word p) ps end (section_name p) r
 clause_rest g clause.EndSection ps end h r = word_rest g (codes "END_VAR") ps end (refl, refl) r

@@ -40,9 +40,9 @@ use Rattle.print_laws.proofs.parsing.Tame.{flat_ends, flat_word, tame_lacks}
 inside : Gap → Statement → List Piece
 inside g s = spelling_pieces g (mnemonic_spelling s.code) ++ (operand_pieces gap.Blank s.operand ++ actuals_pieces s.actuals)
 
-grouped : (g : Gap) (s : Statement) → instruction_pieces g s ≡ inside g s ++ semicolon ∷ []
+instruction_parts : (g : Gap) (s : Statement) → instruction_pieces g s ≡ inside g s ++ semicolon ∷ []
 unfolding instruction_pieces inside
-grouped g s =
+instruction_parts g s =
     ap (λ (ps : List Piece). spelling_pieces g (mnemonic_spelling s.code) ++ ps) (sym (append_assoc (operand_pieces gap.Blank s.operand) (actuals_pieces s.actuals) (semicolon ∷ [])))
     ∙ sym (append_assoc (spelling_pieces g (mnemonic_spelling s.code)) (operand_pieces gap.Blank s.operand ++ actuals_pieces s.actuals) (semicolon ∷ []))
 
@@ -88,7 +88,7 @@ whole_inside source from line g s rest fits here t =
 whole : (source : List ℕ) (from line : ℕ) (g : Gap) (s : Statement) (rest : List Token) → Fits s → line + sum_by newlines_of (gap_text g) ≡ s.line
     → Texts source from line (instruction_pieces g s) → IsWhole source s (tokens_of from line (instruction_pieces g s)) rest
 whole source from line g s rest fits here =
-    subst (λ (ps : List Piece). Texts source from line ps → IsWhole source s (tokens_of from line ps) rest) (sym (grouped g s))
+    subst (λ (ps : List Piece). Texts source from line ps → IsWhole source s (tokens_of from line ps) rest) (sym (instruction_parts g s))
     (whole_inside source from line g s rest fits here)
 
 not_empty : (m : Mnemonic) → (syntax_of m ≡ empty → ⊥) → is_empty_statement m ≡ false
@@ -220,16 +220,16 @@ not_empty mnemonic.Beu h = refl
 not_empty mnemonic.Opn h = refl
 not_empty mnemonic.Cdb h = refl
 
-filled : (s : Statement) → Fits s → is_empty_statement s.code ≡ false
-filled s fits = not_empty s.code (no_empty s.line (syntax_of s.code) s.operand s.actuals fits)
+fits_no_empty : (s : Statement) → Fits s → is_empty_statement s.code ≡ false
+fits_no_empty s fits = not_empty s.code (no_empty s.line (syntax_of s.code) s.operand s.actuals fits)
 
 plain_pieces : (g : Gap) (s : Statement) → Fits s → unlabelled_pieces g s ≡ instruction_pieces g s
 unfolding unlabelled_pieces
-plain_pieces g s fits = rw (filled s fits) refl
+plain_pieces g s fits = rw (fits_no_empty s fits) refl
 
 full_pieces : (s : Statement) → Fits s → labelled_pieces s ≡ instruction_pieces gap.Blank s
 unfolding labelled_pieces
-full_pieces s fits = rw (filled s fits) refl
+full_pieces s fits = rw (fits_no_empty s fits) refl
 
 abbrev labelled_as : Statement → Option (List ℕ) → Statement
 labelled_as s l = record { line = s.line; label = l; code = s.code; operand = s.operand; actuals = s.actuals }
@@ -312,7 +312,7 @@ inside_line : (g : Gap) (s : Statement) (line : ℕ) → Fits s → line_past li
 unfolding inside mark_text
 inside_line g s line fits =
     let fine = word_quiet s.code (no_empty s.line (syntax_of s.code) s.operand s.actuals fits) in
-    ap (line_past line) (grouped g s)
+    ap (line_past line) (instruction_parts g s)
     ∙ past_joined (inside g s) (semicolon ∷ []) line
     ∙ flat_line (semicolon ∷ []) (line_past line (inside g s)) refl
     ∙ past_joined (spelling_pieces g (mnemonic_spelling s.code)) (operand_pieces gap.Blank s.operand ++ actuals_pieces s.actuals) line

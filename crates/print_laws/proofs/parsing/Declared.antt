@@ -39,7 +39,7 @@ use Rattle.stl_print.specs.declared.gaps.Gap.TheVariants as gap
 use Rattle.print_laws.specs.Reading.{IsByteLiteral, IsCountOf, IsNonKeywordName, IsPrintedDeclaration, IsPrintedInit, IsPrintedType}
 use Rattle.print_laws.proofs.parsing.Lines.{first_line, flat_all_joined, semicolon, semicolon_behind, semicolon_is, semicolon_joined, tame_flat}
 use Rattle.print_laws.proofs.parsing.Operands.{Texts}
-use Rattle.print_laws.proofs.parsing.Runs.{begun, either_none, named, no_array_at, no_arrays, no_key}
+use Rattle.print_laws.proofs.parsing.Runs.{clause_begins, either_none, label_found, no_array_at, no_arrays, no_key}
 use Rattle.print_laws.proofs.parsing.Shown.{behind, lack_shown, line_past, shown_behind, shown_front, tokens_joined, until_read, without}
 use Rattle.print_laws.proofs.parsing.Tame.{all_tame, flat, flat_number, flat_word, literal_tame, tame_joined, tame_lacks}
 use Rattle.print_laws.proofs.parsing.Types.{IsTypeWord, array_found, array_read, inits_read, type_found}
@@ -64,7 +64,7 @@ pub declared_clause : (source : List ℕ) (p : ClausePlace) (d : Declaration) (w
 unfolding clause_at
 declared_clause source p d w us rest semi name word text free inner head structure is allowed all semi_is =
     ap (clause_by_kind source p w (us ++ semi ∷ rest) (w ∷ (us ++ semi ∷ rest))) word
-    ∙ begun source p w (us ++ semi ∷ rest) (w ∷ (us ++ semi ∷ rest)) kind.Word name refl free text inner
+    ∙ clause_begins source p w (us ++ semi ∷ rest) (w ∷ (us ++ semi ∷ rest)) kind.Word name refl free text inner
     ∙ outer source p d w.line (w ∷ us) rest semi head structure is allowed (until_read source (w ∷ us) rest semi all semi_is)
 
 pub typed_read : (source : List ℕ) (level : ℕ) (w colon t : Token) (us ts : List Token) (arrays : List Bounds) (k : Simple) (init : List Init)
@@ -133,11 +133,11 @@ pub inside : Gap → List ℕ → List Bounds → Simple → List Init → List 
 inside g name arrays k init =
     word_piece g name ∷ mark_piece gap.Blank mark.Colon ∷ (flat_map array_pieces arrays ++ (word_piece gap.Blank (type_word k) ∷ inits_pieces init))
 
-pub grouped : (g : Gap) (name : List ℕ) (arrays : List Bounds) (k : Simple) (init : List Init)
+pub declaration_parts : (g : Gap) (name : List ℕ) (arrays : List Bounds) (k : Simple) (init : List Init)
     → word_piece g name ∷ mark_piece gap.Blank mark.Colon ∷ (flat_map array_pieces arrays ++ (element_pieces gap.Blank (element.Plain k) ++ behind_type (element.Plain k) init))
     ≡ inside g name arrays k init ++ semicolon ∷ []
 unfolding inside element_pieces behind_type
-grouped g name arrays k init =
+declaration_parts g name arrays k init =
     ap (λ (ps : List Piece). word_piece g name ∷ mark_piece gap.Blank mark.Colon ∷ ps)
     (sym (append_assoc (flat_map array_pieces arrays) (word_piece gap.Blank (type_word k) ∷ inits_pieces init) (semicolon ∷ [])))
 
@@ -239,7 +239,7 @@ plain_read source from line g p name arrays k init at rest here is type inner he
     ∙ declared_clause source p made name_token (colon_token ∷ us) rest semi name refl front.1 is.free inner head
     (ap (λ (vs : List Token). structure_at source (level_at p) (name_token ∷ colon_token ∷ vs)) refl
     ∙ typed_structure source (level_at p) name_token colon_token ty.t (us ++ semi ∷ rest) (ty.ts ++ semi ∷ rest) arrays k
-    (named source name_token colon_token (us ++ semi ∷ rest) refl colon_is refl) (ty.found (semi ∷ rest)) ty.text)
+    (label_found source name_token colon_token (us ++ semi ∷ rest) refl colon_is refl) (ty.found (semi ∷ rest)) ty.text)
     declared_is allowed
     (lack_shown source from line mark.Semicolon (inside g name arrays k init) front
     (and_from _ _ refl (and_from _ _ refl (tame_lacks (flat_map array_pieces arrays ++ (word_piece gap.Blank (type_word k) ∷ inits_pieces init)) (type_tame arrays k init type)))))
@@ -286,7 +286,7 @@ plain_read source from line g p name arrays k init at rest here is type inner he
 
     declared_is : declaration_of source (level_at p) (name_token ∷ colon_token ∷ us) ≡ Some made
     declared_is =
-        typed_read source (level_at p) name_token colon_token ty.t us ty.ts arrays k init (named source name_token colon_token us refl colon_is refl) all_found ty.word_is ty.text ty.values
+        typed_read source (level_at p) name_token colon_token ty.t us ty.ts arrays k init (label_found source name_token colon_token us refl colon_is refl) all_found ty.word_is ty.text ty.values
         ∙ ap (λ (n : List ℕ). Some (record { line = line + sum_by newlines_of (gap_text g); name = n; level = level_at p; of = record { arrays = arrays; of = element.Plain k }; init = init })) front.1
         ∙ ap (λ (n : ℕ). Some (record { line = n; name = name; level = level_at p; of = record { arrays = arrays; of = element.Plain k }; init = init })) here
 
@@ -301,7 +301,7 @@ fields_read source from line g p name arrays (element.Plain k) init at rest here
     subst (λ (ps : List Piece). Texts source from line ps
     → clause_at source p (tokens_of from line ps ++ rest)
     ≡ Some (clause.Declares (record { line = at; name = name; level = level_at p; of = record { arrays = arrays; of = element.Plain k }; init = init }), rest, false))
-    (sym (grouped g name arrays k init))
+    (sym (declaration_parts g name arrays k init))
     (plain_read source from line g p name arrays k init at rest here is type inner head allowed) t
 fields_read source from line g p name [] element.Structure init at rest here is type inner head allowed t = absurd type
 fields_read source from line g p name (b ∷ []) element.Structure init at rest here is type inner head allowed t = absurd type
@@ -329,7 +329,7 @@ fields_line : (g : Gap) (name : List ℕ) (arrays : List Bounds) (e : ElementTyp
     ≡ line + sum_by newlines_of (gap_text g)
 unfolding inside mark_text
 fields_line g name arrays (element.Plain k) init line is type =
-    ap (line_past line) (grouped g name arrays k init)
+    ap (line_past line) (declaration_parts g name arrays k init)
     ∙ first_line (word_piece g name) (mark_piece gap.Blank mark.Colon ∷ ((flat_map array_pieces arrays ++ (word_piece gap.Blank (type_word k) ∷ inits_pieces init)) ++ semicolon ∷ [])) line
     (flat_word name is.word)
     (flat_all_joined (flat_map array_pieces arrays ++ (word_piece gap.Blank (type_word k) ∷ inits_pieces init)) (semicolon ∷ [])

@@ -26,7 +26,7 @@ use Rattle.stl_parser.specs.Statements.{actuals_of, behind_word, block_call_of, 
 use Rattle.stl_parser.specs.Tables.{addresses, look_up}
 use Rattle.stl_parser.specs.Terminals.{has_kind, is_key, is_mark, key_text}
 use Rattle.stl_parser.specs.declared.tables.OperandSyntax.{OperandSyntax}
-use Rattle.stl_parser.specs.declared.tables.OperandSyntax.TheVariants as form
+use Rattle.stl_parser.specs.declared.tables.OperandSyntax.TheVariants as operand_syntax
 use Rattle.stl_print.specs.Gaps.{gap_text}
 use Rattle.stl_print.specs.Names.{block_name_pieces}
 use Rattle.stl_print.specs.Operands.{instance_pieces, operand_pieces, opened_block_pieces}
@@ -56,7 +56,7 @@ nothing_behind source from line g f code o actuals none reads =
     (sym (append-nil (operand_pieces g o))) reads)
 
 pub plain_read : (source : List ℕ) (from line : ℕ) (g : _) (code : Mnemonic) (o : Operand) → IsPrintedOperand o → Texts source from line (operand_pieces g o)
-    → behind_word source form.Operand code (tokens_of from line (operand_pieces g o)) ≡ Some (bare code o)
+    → behind_word source operand_syntax.Operand code (tokens_of from line (operand_pieces g o)) ≡ Some (bare code o)
 unfolding behind_word statement_with_operand
 plain_read source from line g code o h t = rw (operand_read source from line g o h t) refl
 
@@ -64,7 +64,7 @@ short : (text : List ℕ) → length text ≤ 4 → nat_lt 4 (length text) ≡ f
 short text h = grind (arith, nat_tests)
 
 pub jump_read : (source : List ℕ) (from line : ℕ) (g : _) (code : Mnemonic) (o : Operand) → IsJumpOperand o → Texts source from line (operand_pieces g o)
-    → behind_word source form.Jump code (tokens_of from line (operand_pieces g o)) ≡ Some (bare code o)
+    → behind_word source operand_syntax.Jump code (tokens_of from line (operand_pieces g o)) ≡ Some (bare code o)
 unfolding behind_word jump_of is_long_label operand_pieces has_kind
 jump_read source from line g code (operand.Label name) h (_, x1, _) = rw (x1, short name h.1) refl
 jump_read source from line g code operand.Nothing h t = absurd h
@@ -111,12 +111,12 @@ opened_read source from line g di (block.Quoted name) h t = absurd h
 
 -- an operand of more tokens than one stands behind OPN as behind any other word
 more_tokens : (source : List ℕ) (code : Mnemonic) (t u : Token) (rest : List Token) (o : Operand) → operand_of source (t ∷ u ∷ rest) ≡ Some o
-    → behind_word source form.Open code (t ∷ u ∷ rest) ≡ Some (bare code o)
+    → behind_word source operand_syntax.Open code (t ∷ u ∷ rest) ≡ Some (bare code o)
 unfolding behind_word open_of statement_with_operand
 more_tokens source code t u rest o e = rw e refl
 
 pub open_read : (source : List ℕ) (from line : ℕ) (g : _) (code : Mnemonic) (o : Operand) → IsOpenOperand o → Texts source from line (operand_pieces g o)
-    → behind_word source form.Open code (tokens_of from line (operand_pieces g o)) ≡ Some (bare code o)
+    → behind_word source operand_syntax.Open code (tokens_of from line (operand_pieces g o)) ≡ Some (bare code o)
 unfolding operand_pieces opened_block_pieces block_name_pieces
 open_read source from line g code (operand.OpenBlock true (block.Number id)) h t =
     more_tokens source code _ _ _ (operand.OpenBlock true (block.Number id)) (opened_read source from line g true (block.Number id) h t)
@@ -147,10 +147,10 @@ block_whole source from line g id h t =
     ap (block_at source) (sym (append-nil (tokens_of from line (block_name_pieces g (block.Number id))))) ∙ block_read source from line g id [] h t
 
 pub block_call_read : (source : List ℕ) (from line : ℕ) (g : _) (code : Mnemonic) (o : Operand) → IsBlockCallOperand o → Texts source from line (operand_pieces g o)
-    → behind_word source form.BlockCall code (tokens_of from line (operand_pieces g o)) ≡ Some (bare code o)
+    → behind_word source operand_syntax.BlockCall code (tokens_of from line (operand_pieces g o)) ≡ Some (bare code o)
 unfolding behind_word block_call_of operand_pieces instance_pieces
 block_call_read source from line g code (operand.Called (block.Number id) None) h t =
-    subst (λ (ps : List Piece). Texts source from line ps → behind_word source form.BlockCall code (tokens_of from line ps)
+    subst (λ (ps : List Piece). Texts source from line ps → behind_word source operand_syntax.BlockCall code (tokens_of from line ps)
     ≡ Some (bare code (operand.Called (block.Number id) None))) (sym (append-nil (block_name_pieces g (block.Number id))))
     (λ u. rw (block_whole source from line g id h u) refl) t
 block_call_read source from line g code (operand.Called (block.Quoted name) None) h t = absurd h
@@ -193,7 +193,7 @@ actuals_apart source from line (a ∷ more) (_, x1, t) = rw x1 refl
 pub alone_call : (source : List ℕ) (from line at : ℕ) (g : _) (code : Mnemonic) (id : BlockId) (actuals : List Actual) → line ≡ at
     → id.number ≤ 65535 → AllByRecursion (IsPrintedActual at) actuals → all_tame (block_name_pieces g (block.Number id)) ≡ true
     → Texts source from line (block_name_pieces g (block.Number id) ++ actuals_pieces actuals)
-    → behind_word source form.Call code (tokens_of from line (block_name_pieces g (block.Number id) ++ actuals_pieces actuals))
+    → behind_word source operand_syntax.Call code (tokens_of from line (block_name_pieces g (block.Number id) ++ actuals_pieces actuals))
     ≡ Some (record { code = code; operand = operand.Called (block.Number id) None; actuals = actuals; long = false })
 unfolding behind_word call_of
 alone_call source from line at g code id actuals here h all one t =
@@ -227,7 +227,7 @@ is_function (block.Quoted name) h = absurd h
 -- what a call is, by its block, its instance and its actual parameters
 call_is : (source : List ℕ) (code : Mnemonic) (name : BlockName) (instance : Option BlockName) (actuals : List Actual) (ts us vs : List Token)
     → block_at source ts ≡ Some (name, us) → instance_at source name us ≡ Some (instance, vs) → actuals_of source vs ≡ Some actuals
-    → behind_word source form.Call code ts ≡ Some (record { code = code; operand = operand.Called name instance; actuals = actuals; long = false })
+    → behind_word source operand_syntax.Call code ts ≡ Some (record { code = code; operand = operand.Called name instance; actuals = actuals; long = false })
 unfolding behind_word call_of
 call_is source code name instance actuals ts us vs a b c = rw (a, b, c) refl
 
@@ -235,12 +235,12 @@ instance_call : (source : List ℕ) (from line at : ℕ) (g : Gap) (code : Mnemo
     → IsFunctionBlock name → IsDataBlock instance → AllByRecursion (IsPrintedActual at) actuals
     → all_tame (block_name_pieces g name ++ instance_pieces (Some instance)) ≡ true
     → Texts source from line ((block_name_pieces g name ++ instance_pieces (Some instance)) ++ actuals_pieces actuals)
-    → behind_word source form.Call code (tokens_of from line ((block_name_pieces g name ++ instance_pieces (Some instance)) ++ actuals_pieces actuals))
+    → behind_word source operand_syntax.Call code (tokens_of from line ((block_name_pieces g name ++ instance_pieces (Some instance)) ++ actuals_pieces actuals))
     ≡ Some (record { code = code; operand = operand.Called name (Some instance); actuals = actuals; long = false })
 unfolding instance_pieces is_mark has_kind mark_text
 instance_call source from line at g code (block.Quoted n) instance actuals here is db all one t = absurd is
 instance_call source from line at g code (block.Number id) instance actuals here is db all one t =
-    ap (behind_word source form.Call code) joined
+    ap (behind_word source operand_syntax.Call code) joined
     ∙ call_is source code (block.Number id) (Some instance) actuals (front ++ (middle ++ last)) (middle ++ last) last
     (block_read source from line g id (middle ++ last) is.1 (shown_front source from line first second both))
     (some_instance source (block.Number id) instance _ _ last (rw inner.1 refl) (is_function (block.Number id) is) (data_behind source _ _ gap.Blank instance last db inner.2))
@@ -276,47 +276,47 @@ instance_call source from line at g code (block.Number id) instance actuals here
 
 -- ---- what stands behind an instruction word that is one token
 
-called : (source : List ℕ) (from line at : ℕ) (g : Gap) (code : Mnemonic) (o : Operand) (actuals : List Actual) → line ≡ at
+call_read : (source : List ℕ) (from line at : ℕ) (g : Gap) (code : Mnemonic) (o : Operand) (actuals : List Actual) → line ≡ at
     → flat (gap_text g) ≡ true → IsCallOperand o → AllByRecursion (IsPrintedActual at) actuals → Texts source from line (operand_pieces g o ++ actuals_pieces actuals)
-    → behind_word source form.Call code (tokens_of from line (operand_pieces g o ++ actuals_pieces actuals))
+    → behind_word source operand_syntax.Call code (tokens_of from line (operand_pieces g o ++ actuals_pieces actuals))
     ≡ Some (record { code = code; operand = o; actuals = actuals; long = false })
 unfolding operand_pieces instance_pieces
-called source from line at g code (operand.Called (block.Number id) None) actuals here one h all t =
+call_read source from line at g code (operand.Called (block.Number id) None) actuals here one h all t =
     subst (λ (ps : List Piece). Texts source from line (ps ++ actuals_pieces actuals)
-    → behind_word source form.Call code (tokens_of from line (ps ++ actuals_pieces actuals))
+    → behind_word source operand_syntax.Call code (tokens_of from line (ps ++ actuals_pieces actuals))
     ≡ Some (record { code = code; operand = operand.Called (block.Number id) None; actuals = actuals; long = false }))
     (sym (append-nil (block_name_pieces g (block.Number id))))
     (λ u. alone_call source from line at g code id actuals here h all (numbered_tame g (block.Number id) one h) u) t
-called source from line at g code (operand.Called (block.Quoted n) None) actuals here one h all t = absurd h
-called source from line at g code (operand.Called name (Some instance)) actuals here one h all t =
+call_read source from line at g code (operand.Called (block.Quoted n) None) actuals here one h all t = absurd h
+call_read source from line at g code (operand.Called name (Some instance)) actuals here one h all t =
     instance_call source from line at g code name instance actuals here h.0 h.1 all (called_tame g (operand.Called name (Some instance)) one h) t
-called source from line at g code operand.Nothing actuals here one h all t = absurd h
-called source from line at g code (operand.Direct name area w byte bit) actuals here one h all t = absurd h
-called source from line at g code (operand.Timer n) actuals here one h all t = absurd h
-called source from line at g code (operand.Counter n) actuals here one h all t = absurd h
-called source from line at g code (operand.Named p steps) actuals here one h all t = absurd h
-called source from line at g code (operand.ByMemory area w place byte) actuals here one h all t = absurd h
-called source from line at g code (operand.NumberBy what place byte) actuals here one h all t = absurd h
-called source from line at g code (operand.ByRegister area w register bits) actuals here one h all t = absurd h
-called source from line at g code (operand.Pointer area byte bit) actuals here one h all t = absurd h
-called source from line at g code (operand.Constant l) actuals here one h all t = absurd h
-called source from line at g code (operand.Label name) actuals here one h all t = absurd h
-called source from line at g code (operand.OfStatus f) actuals here one h all t = absurd h
-called source from line at g code (operand.Other name) actuals here one h all t = absurd h
-called source from line at g code (operand.OpenBlock di name) actuals here one h all t = absurd h
+call_read source from line at g code operand.Nothing actuals here one h all t = absurd h
+call_read source from line at g code (operand.Direct name area w byte bit) actuals here one h all t = absurd h
+call_read source from line at g code (operand.Timer n) actuals here one h all t = absurd h
+call_read source from line at g code (operand.Counter n) actuals here one h all t = absurd h
+call_read source from line at g code (operand.Named p steps) actuals here one h all t = absurd h
+call_read source from line at g code (operand.ByMemory area w place byte) actuals here one h all t = absurd h
+call_read source from line at g code (operand.NumberBy what place byte) actuals here one h all t = absurd h
+call_read source from line at g code (operand.ByRegister area w register bits) actuals here one h all t = absurd h
+call_read source from line at g code (operand.Pointer area byte bit) actuals here one h all t = absurd h
+call_read source from line at g code (operand.Constant l) actuals here one h all t = absurd h
+call_read source from line at g code (operand.Label name) actuals here one h all t = absurd h
+call_read source from line at g code (operand.OfStatus f) actuals here one h all t = absurd h
+call_read source from line at g code (operand.Other name) actuals here one h all t = absurd h
+call_read source from line at g code (operand.OpenBlock di name) actuals here one h all t = absurd h
 
 pub behind_read : (source : List ℕ) (from line at : ℕ) (g : Gap) (s : PrintedSyntax) (code : Mnemonic) (o : Operand) (actuals : List Actual) → line ≡ at
     → flat (gap_text g) ≡ true → (s ≡ bracket → ⊥) → FitsSyntax at s o actuals → Texts source from line (operand_pieces g o ++ actuals_pieces actuals)
     → behind_word source (form_of s) code (tokens_of from line (operand_pieces g o ++ actuals_pieces actuals))
     ≡ Some (record { code = code; operand = o; actuals = actuals; long = false })
 behind_read source from line at g plain code o actuals here one apart h t =
-    nothing_behind source from line g form.Operand code o actuals h.1 (λ u. plain_read source from line g code o h.0 u) t
+    nothing_behind source from line g operand_syntax.Operand code o actuals h.1 (λ u. plain_read source from line g code o h.0 u) t
 behind_read source from line at g bracket code o actuals here one apart h t = absurd (apart refl)
 behind_read source from line at g jump code o actuals here one apart h t =
-    nothing_behind source from line g form.Jump code o actuals h.1 (λ u. jump_read source from line g code o h.0 u) t
+    nothing_behind source from line g operand_syntax.Jump code o actuals h.1 (λ u. jump_read source from line g code o h.0 u) t
 behind_read source from line at g opens code o actuals here one apart h t =
-    nothing_behind source from line g form.Open code o actuals h.1 (λ u. open_read source from line g code o h.0 u) t
+    nothing_behind source from line g operand_syntax.Open code o actuals h.1 (λ u. open_read source from line g code o h.0 u) t
 behind_read source from line at g block_call code o actuals here one apart h t =
-    nothing_behind source from line g form.BlockCall code o actuals h.1 (λ u. block_call_read source from line g code o h.0 u) t
-behind_read source from line at g call code o actuals here one apart h t = called source from line at g code o actuals here one h.0 h.1 t
+    nothing_behind source from line g operand_syntax.BlockCall code o actuals h.1 (λ u. block_call_read source from line g code o h.0 u) t
+behind_read source from line at g call code o actuals here one apart h t = call_read source from line at g code o actuals here one h.0 h.1 t
 behind_read source from line at g empty code o actuals here one apart h t = absurd h

@@ -41,7 +41,7 @@ use Rattle.stl_print.specs.Literals.{literal_pieces}
 use Rattle.stl_print.specs.Names.{block_name_pieces}
 use Rattle.stl_print.specs.Operands.{numbered_pieces, address_pieces, bit_pieces, direct_pieces, register_operand_pieces as register_pieces, operand_pieces, path_head_pieces, pointer_pieces, pointer_byte_pieces}
 use Rattle.stl_print.specs.Words.{letters_of_address, area_letters, size_letter, bit_letter, width_letter, block_letters, numbered_letters, flag_text, flag_kind, truth_word}
-use Rattle.print_laws.specs.Reading.{IsArea, IsAreaOf, IsPrintedLiteral, IsPrintedOperand, IsRegister}
+use Rattle.print_laws.specs.Reading.{IsAddressRegister, IsArea, IsAreaOf, IsPrintedLiteral, IsPrintedOperand, IsRegister}
 use Rattle.print_laws.proofs.parsing.Constants.{byte_value, word_value, dword_value, long_constant, time_constant}
 use Rattle.print_laws.proofs.parsing.Numbers.{minus, number_read}
 
@@ -369,7 +369,7 @@ second_register_read source from line g None width.Dword bits is h (_, x1, (_, x
     rw (x1, no_letter width.Dword, letter_unknown width.Dword, x2, x4, x9, x3 ∙ second_text, x5, x6, read_number (bits / 8) (omega (arith, h)), x7, x8, read_number (bits % 8) (omega arith), at_most (bits % 8) 7 (omega arith), eighths bits) refl
 
 pub register_read : (source : List ℕ) (from line : ℕ) (g : _) (area : Option Letters) (w : Width) (register bits : ℕ)
-    → IsAreaOf area w → (register ≡ 1) ⊎ (register ≡ 2) → bits < 8 * 65536
+    → IsAreaOf area w → IsAddressRegister register → bits < 8 * 65536
     → Texts source from line (register_pieces g area w register bits)
     → operand_of source (tokens_of from line (register_pieces g area w register bits)) ≡ Some (operand.ByRegister area w register bits)
 register_read source from line g area w register bits is (inl e) h t =

@@ -83,9 +83,9 @@ further_read source at (a ∷ more) read (suc n) from line here all (_, x1, t) f
     (shown_behind source _ (line + 0 + 0) (actual_pieces gap.Blank a) (further_actuals more) t) (omega (arith, fits))
     ∙ ap (λ (l : List Actual). Some (l, [])) (append_assoc read (a ∷ []) more))
 
-counted : (ps : List Piece) (from line : ℕ) → length (tokens_of from line ps) ≡ length ps
-counted [] from line = refl
-counted (p ∷ ps) from line = ap suc (counted ps _ _)
+tokens_length : (ps : List Piece) (from line : ℕ) → length (tokens_of from line ps) ≡ length ps
+tokens_length [] from line = refl
+tokens_length (p ∷ ps) from line = ap suc (tokens_length ps _ _)
 
 long_joined : (ps qs : List Piece) → length qs ≤ length (ps ++ qs)
 long_joined [] qs = omega arith
@@ -102,7 +102,7 @@ fewer [] = omega arith
 fewer (a ∷ more) = omega (arith, fewer more, one_more a more)
 
 enough : (from line : ℕ) (actuals : List Actual) → length actuals ≤ length (tokens_of from line (further_actuals actuals))
-enough from line actuals = omega (arith, fewer actuals, counted (further_actuals actuals) from line)
+enough from line actuals = omega (arith, fewer actuals, tokens_length (further_actuals actuals) from line)
 
 pub actuals_read : (source : List ℕ) (from line at : ℕ) (actuals : List Actual) → line ≡ at → AllByRecursion (IsPrintedActual at) actuals
     → Texts source from line (actuals_pieces actuals) → actuals_of source (tokens_of from line (actuals_pieces actuals)) ≡ Some actuals

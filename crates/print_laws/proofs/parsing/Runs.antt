@@ -39,22 +39,22 @@ unfolding free_word_clause
 free_other source p t rest tokens None inner = refl
 free_other source p t rest tokens (Some w) inner = rw inner refl
 
-pub begun : (source : List ℕ) (p : ClausePlace) (t : Token) (rest tokens : List Token) (k : TokenKind) (text : List ℕ) → begins k ≡ true
+pub clause_begins : (source : List ℕ) (p : ClausePlace) (t : Token) (rest tokens : List Token) (k : TokenKind) (text : List ℕ) → begins k ≡ true
     → look_up keywords text ≡ None → text_of source t ≡ text → is_outer p ≡ false
     → clause_by_kind source p t rest tokens k ≡ other_clause source p t.line tokens
 unfolding clause_by_kind word_clause
-begun source p t rest tokens kind.Word text b free is inner = rw (is, free) (free_other source p t rest tokens (look_up head_words (text_of source t)) inner)
-begun source p t rest tokens kind.SignWord text b free is inner = refl
-begun source p t rest tokens kind.Mark text b free is inner = refl
-begun source p t rest tokens kind.Number text b free is inner = absurd (false≢true b)
-begun source p t rest tokens kind.Quoted text b free is inner = absurd (false≢true b)
-begun source p t rest tokens kind.Local text b free is inner = absurd (false≢true b)
-begun source p t rest tokens kind.Characters text b free is inner = absurd (false≢true b)
-begun source p t rest tokens kind.Based text b free is inner = absurd (false≢true b)
-begun source p t rest tokens kind.NumberLiteral text b free is inner = absurd (false≢true b)
-begun source p t rest tokens kind.TimeLiteral text b free is inner = absurd (false≢true b)
-begun source p t rest tokens kind.Attribute text b free is inner = absurd (false≢true b)
-begun source p t rest tokens kind.Title text b free is inner = absurd (false≢true b)
+clause_begins source p t rest tokens kind.Word text b free is inner = rw (is, free) (free_other source p t rest tokens (look_up head_words (text_of source t)) inner)
+clause_begins source p t rest tokens kind.SignWord text b free is inner = refl
+clause_begins source p t rest tokens kind.Mark text b free is inner = refl
+clause_begins source p t rest tokens kind.Number text b free is inner = absurd (false≢true b)
+clause_begins source p t rest tokens kind.Quoted text b free is inner = absurd (false≢true b)
+clause_begins source p t rest tokens kind.Local text b free is inner = absurd (false≢true b)
+clause_begins source p t rest tokens kind.Characters text b free is inner = absurd (false≢true b)
+clause_begins source p t rest tokens kind.Based text b free is inner = absurd (false≢true b)
+clause_begins source p t rest tokens kind.NumberLiteral text b free is inner = absurd (false≢true b)
+clause_begins source p t rest tokens kind.TimeLiteral text b free is inner = absurd (false≢true b)
+clause_begins source p t rest tokens kind.Attribute text b free is inner = absurd (false≢true b)
+clause_begins source p t rest tokens kind.Title text b free is inner = absurd (false≢true b)
 
 -- ---- no declaration
 
@@ -121,7 +121,7 @@ pub runs_alone : (source : List ℕ) (k : BlockKind) (b : BareStatement) (ts res
 unfolding clause_at
 runs_alone source k b ts rest semi i all is calm =
     ap (λ (us : List Token). clause_at source (place.Body k) (us ++ semi ∷ rest)) i.is
-    ∙ begun source (place.Body k) i.first (i.rest ++ semi ∷ rest) (i.first ∷ (i.rest ++ semi ∷ rest)) i.first.kind i.text i.first_calm.begin i.first_calm.no_keyword i.text_is refl
+    ∙ clause_begins source (place.Body k) i.first (i.rest ++ semi ∷ rest) (i.first ∷ (i.rest ++ semi ∷ rest)) i.first.kind i.text i.first_calm.begin i.first_calm.no_keyword i.text_is refl
     ∙ body_read source k i.first.line (i.first ∷ i.rest) rest semi (statement_with_label i.first.line None b) b.long
     (no_structure source 0 i.first (i.rest ++ semi ∷ rest) (head_joined source i.rest rest semi i.head calm))
     (no_declaration source 0 i.first i.rest i.head)
@@ -194,10 +194,10 @@ no_element source t ts text h is =
     by false o e = refl
 
 -- a name before its colon, and the tokens behind it
-pub named : (source : List ℕ) (w colon : Token) (ts : List Token) → has_kind w kind.Word ≡ true → is_mark source colon mark.Colon ≡ true
+pub label_found : (source : List ℕ) (w colon : Token) (ts : List Token) → has_kind w kind.Word ≡ true → is_mark source colon mark.Colon ≡ true
     → has_kind colon kind.Attribute ≡ false → declared_name_at source (w ∷ colon ∷ ts) ≡ Some (w, ts)
 unfolding declared_name_at after_attribute after_colon
-named source w colon ts word is apart = rw (word, apart, is) refl
+label_found source w colon ts word is apart = rw (word, apart, is) refl
 
 labelled_no_structure : (source : List ℕ) (w colon t : Token) (ts : List Token) (text : List ℕ) → IsCalm t.kind text → text_of source t ≡ text
     → has_kind w kind.Word ≡ true → is_mark source colon mark.Colon ≡ true → has_kind colon kind.Attribute ≡ false
@@ -205,7 +205,7 @@ labelled_no_structure : (source : List ℕ) (w colon t : Token) (ts : List Token
 unfolding structure_at after_struct key_text
 labelled_no_structure source w colon t ts text h is word mark_is apart =
     rw (
-      named source w colon (t ∷ ts) word mark_is apart,
+      label_found source w colon (t ∷ ts) word mark_is apart,
       no_arrays source t ts (no_key source t text key.Array is h.no_array),
       no_key source t text key.Struct is h.no_struct,
     ) refl
@@ -216,7 +216,7 @@ labelled_no_declaration : (source : List ℕ) (w colon t : Token) (ts : List Tok
 unfolding declaration_of key_text
 labelled_no_declaration source w colon t ts text h is word mark_is apart =
     rw (
-      named source w colon (t ∷ ts) word mark_is apart,
+      label_found source w colon (t ∷ ts) word mark_is apart,
       no_arrays source t ts (no_key source t text key.Array is h.no_array),
       no_element source t ts text h is,
     ) refl
@@ -230,7 +230,7 @@ pub runs_labelled : (source : List ℕ) (k : BlockKind) (b : BareStatement) (w c
 unfolding clause_at has_kind statement_of labelled_statement
 runs_labelled source k b w colon label ts rest semi i word text_is free short b_short is apart all semi_is =
     ap (clause_by_kind source (place.Body k) w (colon ∷ (ts ++ semi ∷ rest)) (w ∷ colon ∷ (ts ++ semi ∷ rest))) word
-    ∙ begun source (place.Body k) w (colon ∷ (ts ++ semi ∷ rest)) (w ∷ colon ∷ (ts ++ semi ∷ rest)) kind.Word label refl free text_is refl
+    ∙ clause_begins source (place.Body k) w (colon ∷ (ts ++ semi ∷ rest)) (w ∷ colon ∷ (ts ++ semi ∷ rest)) kind.Word label refl free text_is refl
     ∙ body_read source k w.line (w ∷ colon ∷ ts) rest semi (statement_with_label w.line (Some label) b) false
     (ap (λ (us : List Token). structure_at source 0 (w ∷ colon ∷ (us ++ semi ∷ rest))) i.is
     ∙ labelled_no_structure source w colon i.first (i.rest ++ semi ∷ rest) i.text i.first_calm i.text_is is_word is apart)

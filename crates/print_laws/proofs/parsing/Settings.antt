@@ -29,7 +29,7 @@ use Rattle.stl_parser.specs.Terminals.{has_kind, is_mark, kind_rank}
 use Rattle.stl_parser.specs.declared.clauses.Clause.TheVariants as clause
 use Rattle.stl_parser.specs.declared.places.ClausePlace.TheVariants as place
 use Rattle.stl_parser.specs.declared.tables.OperandSyntax.{OperandSyntax}
-use Rattle.stl_parser.specs.declared.tables.OperandSyntax.TheVariants as form
+use Rattle.stl_parser.specs.declared.tables.OperandSyntax.TheVariants as operand_syntax
 use Rattle.stl_print.specs.Declarations.{setting_pieces}
 use Rattle.stl_print.specs.Gaps.{gap_text}
 use Rattle.stl_print.specs.Literals.{literal_pieces}
@@ -41,7 +41,7 @@ use Rattle.print_laws.specs.Reading.{IsNonKeywordName, IsPrintedLiteral, IsPrint
 use Rattle.print_laws.proofs.parsing.Lines.{all_flat, first_line, flat_all_joined, semicolon, semicolon_behind, semicolon_is, semicolon_joined, tame_flat}
 use Rattle.print_laws.proofs.parsing.Numbers.{minus, number_read}
 use Rattle.print_laws.proofs.parsing.Operands.{Texts, literal_read, read_number}
-use Rattle.print_laws.proofs.parsing.Runs.{apart_read, begun, no_declaration, no_structure}
+use Rattle.print_laws.proofs.parsing.Runs.{apart_read, clause_begins, no_declaration, no_structure}
 use Rattle.print_laws.proofs.parsing.Shown.{behind, lack_shown, line_past, mark_shown, shown_front, until_read, without}
 use Rattle.print_laws.proofs.parsing.Statements.{calm_head, none_chained}
 use Rattle.print_laws.proofs.parsing.Tame.{flat_number, flat_word, literal_tame, tame_lacks}
@@ -106,13 +106,13 @@ no_block_at source u us e = let no = no_word u e in rw (no.0, no.1) refl
 no_behind : (source : List ℕ) (f : OperandSyntax) (m : Mnemonic) (u : Token) (us : List Token) → u.kind ≡ kind.Mark → operand_of source (u ∷ us) ≡ None
     → behind_word source f m (u ∷ us) ≡ None
 unfolding behind_word statement_with_operand jump_of open_of block_call_of call_of
-no_behind source form.Operand m u us e none = rw none refl
-no_behind source form.Jump m u [] e none = rw ((no_word u e).0, none) refl
-no_behind source form.Jump m u (v ∷ us) e none = rw none refl
-no_behind source form.Open m u [] e none = rw ((no_word u e).1, none) refl
-no_behind source form.Open m u (v ∷ us) e none = rw none refl
-no_behind source form.BlockCall m u us e none = rw (no_block_at source u us e) refl
-no_behind source form.Call m u us e none = rw (no_block_at source u us e) refl
+no_behind source operand_syntax.Operand m u us e none = rw none refl
+no_behind source operand_syntax.Jump m u [] e none = rw ((no_word u e).0, none) refl
+no_behind source operand_syntax.Jump m u (v ∷ us) e none = rw none refl
+no_behind source operand_syntax.Open m u [] e none = rw ((no_word u e).1, none) refl
+no_behind source operand_syntax.Open m u (v ∷ us) e none = rw none refl
+no_behind source operand_syntax.BlockCall m u us e none = rw (no_block_at source u us e) refl
+no_behind source operand_syntax.Call m u us e none = rw (no_block_at source u us e) refl
 
 no_closed : (source : List ℕ) (w u : Token) (us : List Token) → u.kind ≡ kind.Mark → operand_of source (u ∷ us) ≡ None → one_token_instruction source w (u ∷ us) ≡ None
 unfolding one_token_instruction
@@ -138,11 +138,11 @@ no_statement source line w u us h apart few = apart_read source line w (u ∷ us
 
 -- ---- a setting by its tokens
 
-settled : (source : List ℕ) (line : ℕ) (s : Setting) (w u : Token) (us rest : List Token) (semi : Token) → IsIdle source u → is_mark source w mark.CloseParen ≡ false
+setting_read_by_path : (source : List ℕ) (line : ℕ) (s : Setting) (w u : Token) (us rest : List Token) (semi : Token) → IsIdle source u → is_mark source w mark.CloseParen ≡ false
     → length (u ∷ us) ≤ 7 → setting_of source line (w ∷ u ∷ us) ≡ Some s → until_semicolon source (w ∷ u ∷ (us ++ semi ∷ rest)) ≡ Some (w ∷ u ∷ us, rest)
     → other_clause source place.Settings line (w ∷ u ∷ (us ++ semi ∷ rest)) ≡ Some (clause.Sets s, rest, false)
 unfolding other_clause plain_clause structure_clause semicolon_clause inside_clause declaration_clause statement_clause setting_clause
-settled source line s w u us rest semi h apart few is cut =
+setting_read_by_path source line s w u us rest semi h apart few is cut =
     rw (
       no_structure source 0 w (u ∷ (us ++ semi ∷ rest)) (idle_calm source u (us ++ semi ∷ rest) h),
       cut,
@@ -158,8 +158,8 @@ pub sets_clause : (source : List ℕ) (s : Setting) (w u : Token) (us rest : Lis
 unfolding clause_at
 sets_clause source s w u us rest semi name word text free h apart few is all semi_is =
     ap (clause_by_kind source place.Settings w (u ∷ (us ++ semi ∷ rest)) (w ∷ u ∷ (us ++ semi ∷ rest))) word
-    ∙ begun source place.Settings w (u ∷ (us ++ semi ∷ rest)) (w ∷ u ∷ (us ++ semi ∷ rest)) kind.Word name refl free text refl
-    ∙ settled source w.line s w u us rest semi h apart few is (until_read source (w ∷ u ∷ us) rest semi all semi_is)
+    ∙ clause_begins source place.Settings w (u ∷ (us ++ semi ∷ rest)) (w ∷ u ∷ (us ++ semi ∷ rest)) kind.Word name refl free text refl
+    ∙ setting_read_by_path source w.line s w u us rest semi h apart few is (until_read source (w ∷ u ∷ us) rest semi all semi_is)
 
 -- ---- a setting by its pieces
 
@@ -209,8 +209,8 @@ unfolding setting_of value_behind
 set_is source line w u us vs name path value word text steps is reads =
     rw (first_is source w w.kind word, text, steps, is, reads) refl
 
-abbrev set : ℕ → List PathStep → Literal → Setting
-set line path value = record { line = line; path = path; value = value }
+abbrev setting_at_line : ℕ → List PathStep → Literal → Setting
+setting_at_line line path value = record { line = line; path = path; value = value }
 
 few_by : (ps : List Piece) (from line : ℕ) → length ps ≤ 7 → length (tokens_of from line ps) ≤ 7
 few_by ps from line h = omega (arith, h, counted_tokens ps from line)
@@ -246,7 +246,7 @@ inside g path value = path_pieces g path ++ (mark_piece gap.Blank mark.Assign �
 pub name_read : (source : List ℕ) (from line : ℕ) (g : Gap) (name : List ℕ) (value : Literal) (rest : List Token) → IsNonKeywordName name → IsPrintedLiteral value
     → Texts source from line (inside g (step.Named name ∷ []) value ++ semicolon ∷ [])
     → clause_at source place.Settings (tokens_of from line (inside g (step.Named name ∷ []) value ++ semicolon ∷ []) ++ rest)
-    ≡ Some (clause.Sets (set (line + sum_by newlines_of (gap_text g)) (step.Named name ∷ []) value), rest, false)
+    ≡ Some (clause.Sets (setting_at_line (line + sum_by newlines_of (gap_text g)) (step.Named name ∷ []) value), rest, false)
 unfolding inside first_step_pieces step_pieces is_mark has_kind mark_text steps_from parts_from path_end step_at index_end int_at signed_number_at number_of number_up_to
 name_read source from line g name value rest is h t =
     let front = shown_front source from line (inside g (step.Named name ∷ []) value) (semicolon ∷ []) t in
@@ -259,7 +259,7 @@ name_read source from line g name value rest is h t =
     let few : length us ≤ 7 = few_by (at ++ (mark_piece gap.Blank mark.Assign ∷ literal_pieces gap.Blank value)) F L (bound_name_read value h) in
     let is_assign : is_mark source u mark.Assign ≡ true = mark_shown source kind.Mark (mark_text mark.Assign) u mark.Assign refl front.2.1 in
     ap (clause_at source place.Settings) (semicolon_joined from line (inside g (step.Named name ∷ []) value) rest)
-    ∙ sets_clause source (set (line + sum_by newlines_of (gap_text g)) (step.Named name ∷ []) value) _ _ _ rest (semicolon_behind from line (inside g (step.Named name ∷ []) value)) name
+    ∙ sets_clause source (setting_at_line (line + sum_by newlines_of (gap_text g)) (step.Named name ∷ []) value) _ _ _ rest (semicolon_behind from line (inside g (step.Named name ∷ []) value)) name
     refl front.1 is.free (record { kind_is = refl; no_bytes = rw front.2.1 refl; no_minus = rw front.2.1 refl; no_plus = rw front.2.1 refl; no_pointer = rw front.2.1 refl; no_paren = rw front.2.1 refl; no_colon = rw front.2.1 refl }) refl
     few
     (set_is source _ (token_at from line (word_piece g name)) u us vs name (step.Named name ∷ []) value refl front.1 (steps_end source (step.Named name ∷ []) (length us) u vs is_assign) is_assign (literal_read source _ _ gap.Blank value h front.2.2))
@@ -269,7 +269,7 @@ name_read source from line g name value rest is h t =
 pub index_read : (source : List ℕ) (from line : ℕ) (g : Gap) (name : List ℕ) (n : ℕ) (value : Literal) (rest : List Token) → IsNonKeywordName name → n ≤ 65535 → IsPrintedLiteral value
     → Texts source from line (inside g (step.Named name ∷ step.Index (pos n) ∷ []) value ++ semicolon ∷ [])
     → clause_at source place.Settings (tokens_of from line (inside g (step.Named name ∷ step.Index (pos n) ∷ []) value ++ semicolon ∷ []) ++ rest)
-    ≡ Some (clause.Sets (set (line + sum_by newlines_of (gap_text g)) (step.Named name ∷ step.Index (pos n) ∷ []) value), rest, false)
+    ≡ Some (clause.Sets (setting_at_line (line + sum_by newlines_of (gap_text g)) (step.Named name ∷ step.Index (pos n) ∷ []) value), rest, false)
 unfolding inside first_step_pieces step_pieces is_mark has_kind mark_text steps_from parts_from path_end step_at index_end int_at signed_number_at number_of number_up_to
 index_read source from line g name n value rest is m h t =
     let front = shown_front source from line (inside g (step.Named name ∷ step.Index (pos n) ∷ []) value) (semicolon ∷ []) t in
@@ -282,7 +282,7 @@ index_read source from line g name n value rest is m h t =
     let few : length us ≤ 7 = few_by (at ++ (mark_piece gap.Blank mark.Assign ∷ literal_pieces gap.Blank value)) F L (bound_index_read n value h) in
     let is_assign : is_mark source u mark.Assign ≡ true = mark_shown source kind.Mark (mark_text mark.Assign) u mark.Assign refl front.2.2.2.2.1 in
     ap (clause_at source place.Settings) (semicolon_joined from line (inside g (step.Named name ∷ step.Index (pos n) ∷ []) value) rest)
-    ∙ sets_clause source (set (line + sum_by newlines_of (gap_text g)) (step.Named name ∷ step.Index (pos n) ∷ []) value) _ _ _ rest (semicolon_behind from line (inside g (step.Named name ∷ step.Index (pos n) ∷ []) value)) name
+    ∙ sets_clause source (setting_at_line (line + sum_by newlines_of (gap_text g)) (step.Named name ∷ step.Index (pos n) ∷ []) value) _ _ _ rest (semicolon_behind from line (inside g (step.Named name ∷ step.Index (pos n) ∷ []) value)) name
     refl front.1 is.free (record { kind_is = refl; no_bytes = rw front.2.1 refl; no_minus = rw front.2.1 refl; no_plus = rw front.2.1 refl; no_pointer = rw front.2.1 refl; no_paren = rw front.2.1 refl; no_colon = rw front.2.1 refl }) refl
     few
     (set_is source _ (token_at from line (word_piece g name)) u us vs name (step.Named name ∷ step.Index (pos n) ∷ []) value refl front.1 (rw (front.2.1, front.2.2.1, read_number n m, front.2.2.2.1) (steps_end source (step.Named name ∷ step.Index (pos n) ∷ []) (length (drop 1 us)) u vs is_assign)) is_assign (literal_read source _ _ gap.Blank value h front.2.2.2.2.2))
@@ -292,7 +292,7 @@ index_read source from line g name n value rest is m h t =
 pub below_read : (source : List ℕ) (from line : ℕ) (g : Gap) (name : List ℕ) (n : ℕ) (value : Literal) (rest : List Token) → IsNonKeywordName name → n < 32768 → IsPrintedLiteral value
     → Texts source from line (inside g (step.Named name ∷ step.Index (negsuc n) ∷ []) value ++ semicolon ∷ [])
     → clause_at source place.Settings (tokens_of from line (inside g (step.Named name ∷ step.Index (negsuc n) ∷ []) value ++ semicolon ∷ []) ++ rest)
-    ≡ Some (clause.Sets (set (line + sum_by newlines_of (gap_text g)) (step.Named name ∷ step.Index (negsuc n) ∷ []) value), rest, false)
+    ≡ Some (clause.Sets (setting_at_line (line + sum_by newlines_of (gap_text g)) (step.Named name ∷ step.Index (negsuc n) ∷ []) value), rest, false)
 unfolding inside first_step_pieces step_pieces is_mark has_kind mark_text steps_from parts_from path_end step_at index_end int_at signed_number_at number_of number_up_to
 below_read source from line g name n value rest is m h t =
     let front = shown_front source from line (inside g (step.Named name ∷ step.Index (negsuc n) ∷ []) value) (semicolon ∷ []) t in
@@ -305,22 +305,22 @@ below_read source from line g name n value rest is m h t =
     let few : length us ≤ 7 = few_by (at ++ (mark_piece gap.Blank mark.Assign ∷ literal_pieces gap.Blank value)) F L (bound_below_read n value h) in
     let is_assign : is_mark source u mark.Assign ≡ true = mark_shown source kind.Mark (mark_text mark.Assign) u mark.Assign refl front.2.2.2.2.2.1 in
     ap (clause_at source place.Settings) (semicolon_joined from line (inside g (step.Named name ∷ step.Index (negsuc n) ∷ []) value) rest)
-    ∙ sets_clause source (set (line + sum_by newlines_of (gap_text g)) (step.Named name ∷ step.Index (negsuc n) ∷ []) value) _ _ _ rest (semicolon_behind from line (inside g (step.Named name ∷ step.Index (negsuc n) ∷ []) value)) name
+    ∙ sets_clause source (setting_at_line (line + sum_by newlines_of (gap_text g)) (step.Named name ∷ step.Index (negsuc n) ∷ []) value) _ _ _ rest (semicolon_behind from line (inside g (step.Named name ∷ step.Index (negsuc n) ∷ []) value)) name
     refl front.1 is.free (record { kind_is = refl; no_bytes = rw front.2.1 refl; no_minus = rw front.2.1 refl; no_plus = rw front.2.1 refl; no_pointer = rw front.2.1 refl; no_paren = rw front.2.1 refl; no_colon = rw front.2.1 refl }) refl
     few
     (set_is source _ (token_at from line (word_piece g name)) u us vs name (step.Named name ∷ step.Index (negsuc n) ∷ []) value refl front.1 (rw (front.2.1, front.2.2.1, front.2.2.2.1, number_read 32768 (suc n) m (omega arith), minus n, front.2.2.2.2.1) (steps_end source (step.Named name ∷ step.Index (negsuc n) ∷ []) (length (drop 1 us)) u vs is_assign)) is_assign (literal_read source _ _ gap.Blank value h front.2.2.2.2.2.2))
     (lack_shown source from line mark.Semicolon (inside g (step.Named name ∷ step.Index (negsuc n) ∷ []) value) front (and_from _ _ refl (and_from _ _ refl (and_from _ _ refl (and_from _ _ refl (and_from _ _ refl (and_from _ _ refl (tame_lacks (literal_pieces gap.Blank value) (literal_tame gap.Blank value refl h)))))))))
     (semicolon_is source from line (inside g (step.Named name ∷ step.Index (negsuc n) ∷ []) value) t)
 
-grouped : (g : Gap) (path : List PathStep) (value : Literal)
+setting_parts : (g : Gap) (path : List PathStep) (value : Literal)
     → path_pieces g path ++ (mark_piece gap.Blank mark.Assign ∷ (literal_pieces gap.Blank value ++ semicolon ∷ [])) ≡ inside g path value ++ semicolon ∷ []
 unfolding inside
-grouped g path value = sym (append_assoc (path_pieces g path) (mark_piece gap.Blank mark.Assign ∷ literal_pieces gap.Blank value) (semicolon ∷ []))
+setting_parts g path value = sym (append_assoc (path_pieces g path) (mark_piece gap.Blank mark.Assign ∷ literal_pieces gap.Blank value) (semicolon ∷ []))
 
 inside_read : (source : List ℕ) (from line : ℕ) (g : Gap) (path : List PathStep) (value : Literal) (rest : List Token) → IsPrintedPath path → IsPrintedLiteral value
     → Texts source from line (inside g path value ++ semicolon ∷ [])
     → clause_at source place.Settings (tokens_of from line (inside g path value ++ semicolon ∷ []) ++ rest)
-    ≡ Some (clause.Sets (set (line + sum_by newlines_of (gap_text g)) path value), rest, false)
+    ≡ Some (clause.Sets (setting_at_line (line + sum_by newlines_of (gap_text g)) path value), rest, false)
 inside_read source from line g (step.Named name ∷ []) value rest is h t = name_read source from line g name value rest is h t
 inside_read source from line g (step.Named name ∷ step.Index (pos n) ∷ []) value rest is h t = index_read source from line g name n value rest is.0 is.1 h t
 inside_read source from line g (step.Named name ∷ step.Index (negsuc n) ∷ []) value rest is h t = below_read source from line g name n value rest is.0 is.1 h t
@@ -335,8 +335,8 @@ pub sets_read : (source : List ℕ) (from line : ℕ) (g : Gap) (s : Setting) (r
 unfolding setting_pieces
 sets_read source from line g s rest h here =
     subst (λ (ps : List Piece). Texts source from line ps → clause_at source place.Settings (tokens_of from line ps ++ rest) ≡ Some (clause.Sets s, rest, false))
-    (sym (grouped g s.path s.value))
-    (λ u. inside_read source from line g s.path s.value rest h.path h.value u ∙ ap (λ (n : ℕ). Some (clause.Sets (set n s.path s.value), rest, false)) here)
+    (sym (setting_parts g s.path s.value))
+    (λ u. inside_read source from line g s.path s.value rest h.path h.value u ∙ ap (λ (n : ℕ). Some (clause.Sets (setting_at_line n s.path s.value), rest, false)) here)
 
 -- ---- lines
 
@@ -365,4 +365,4 @@ path_line g (step.Named name ∷ step.Index n ∷ s ∷ steps) value line is h =
 
 pub sets_line : (g : Gap) (s : Setting) (line : ℕ) → IsPrintedSetting s → line_past line (setting_pieces g s) ≡ line + sum_by newlines_of (gap_text g)
 unfolding setting_pieces
-sets_line g s line h = ap (line_past line) (grouped g s.path s.value) ∙ path_line g s.path s.value line h.path h.value
+sets_line g s line h = ap (line_past line) (setting_parts g s.path s.value) ∙ path_line g s.path s.value line h.path h.value

@@ -94,12 +94,12 @@ lack_shown source from line m (p ∷ ps) t h =
 
 -- ---- up to a semicolon
 
-counted : (p : Token → Bool) (inside rest : List Token) (t : Token) → list_all p inside ≡ true → p t ≡ false
+inside_length : (p : Token → Bool) (inside rest : List Token) (t : Token) → list_all p inside ≡ true → p t ≡ false
     → prefix_len p (inside ++ t ∷ rest) ≡ length inside
-counted p [] rest t all is = rw is refl
-counted p (u ∷ inside) rest t all is =
+inside_length p [] rest t all is = rw is refl
+inside_length p (u ∷ inside) rest t all is =
     let parts : (p u ≡ true) × (list_all p inside ≡ true) = and_parts (p u) (list_all p inside) all in
-    rw parts.0 (omega (arith, counted p inside rest t parts.1 is))
+    rw parts.0 (omega (arith, inside_length p inside rest t parts.1 is))
 
 longer : (inside rest : List Token) (t : Token) → length inside < length (inside ++ t ∷ rest)
 longer [] rest t = omega arith
@@ -122,6 +122,6 @@ pub until_read : (source : List ℕ) (inside rest : List Token) (t : Token) → 
     → is_mark source t mark.Semicolon ≡ true → until_semicolon source (inside ++ t ∷ rest) ≡ Some (inside, rest)
 unfolding until_semicolon semicolon_place
 until_read source inside rest t all is =
-    let n : prefix_len (λ u. not (is_mark source u mark.Semicolon)) (inside ++ t ∷ rest) ≡ length inside = counted (λ u. not (is_mark source u mark.Semicolon)) inside rest t all (ap not is) in
+    let n : prefix_len (λ u. not (is_mark source u mark.Semicolon)) (inside ++ t ∷ rest) ≡ length inside = inside_length (λ u. not (is_mark source u mark.Semicolon)) inside rest t all (ap not is) in
     let less : nat_lt (length inside) (length (inside ++ t ∷ rest)) ≡ true = grind (arith, nat_tests, longer inside rest t) in
     rw (n, less, front_taken inside (t ∷ rest), rest_dropped inside rest t) refl

@@ -38,7 +38,8 @@ use Rattle.stl_print.specs.Names.{block_name_pieces}
 use Rattle.stl_print.specs.Operands.{bit_pieces, register_operand_pieces, direct_pieces, instance_pieces, operand_pieces, opened_block_pieces, path_head_pieces, pointer_byte_pieces}
 use Rattle.stl_print.specs.Statements.{actual_pieces, actuals_pieces, further_actuals}
 use Rattle.stl_print.specs.Words.{letters_of_address, area_letters, bit_letter, block_letters, flag_kind, flag_text, numbered_letters, size_letter, truth_word, width_letter}
-use Rattle.print_laws.specs.Reading.{IsCallOperand, IsDataBlock, IsFunctionBlock, IsBlockByNumber, IsOpenOperand, IsPrintedActual, IsPrintedLiteral, IsPrintedOperand, IsJumpOperand}
+use Rattle.print_laws.specs.Reading.{IsAddressRegister, IsCallOperand, IsDataBlock, IsFunctionBlock, IsOpenOperand, IsPrintedActual, IsPrintedLiteral, IsPrintedOperand, IsJumpOperand}
+use Rattle.print_laws.specs.Standing.{IsNumberedBlock}
 use Rattle.print_laws.proofs.parsing.Numbers.{numeral}
 use Rattle.print_laws.proofs.parsing.Actuals.{passed_printed}
 use Rattle.print_laws.proofs.parsing.Shown.{lacks, line_past, mark_is}
@@ -60,18 +61,18 @@ tame_joined (p ∷ ps) qs a b =
     let parts : (tame p ≡ true) × (all_tame ps ≡ true) = and_parts (tame p) (all_tame ps) a in
     and_from (tame p) (all_tame (ps ++ qs)) parts.0 (tame_joined ps qs parts.1 b)
 
-folded : (a : ℕ) (text : List ℕ) → flat text ≡ true → fold (λ n b. n + newlines_of b) a text ≡ a
-folded a [] h = refl
-folded a (b ∷ text) h =
+fold_flat : (a : ℕ) (text : List ℕ) → flat text ≡ true → fold (λ n b. n + newlines_of b) a text ≡ a
+fold_flat a [] h = refl
+fold_flat a (b ∷ text) h =
     let parts : (not (b == newline) ≡ true) × (flat text ≡ true) = and_parts (not (b == newline)) (flat text) h in
-    folded (a + newlines_of b) text parts.1 ∙ by (b == newline) parts.0
+    fold_flat (a + newlines_of b) text parts.1 ∙ by (b == newline) parts.0
   where
     by : (c : Bool) → not c ≡ true → a + (if c then 1 else 0) ≡ a
     by false e = omega arith
     by true e = absurd cc
 
 pub flat_ends : (text : List ℕ) → flat text ≡ true → sum_by newlines_of text ≡ 0
-flat_ends text h = folded 0 text h
+flat_ends text h = fold_flat 0 text h
 
 pub tame_lacks : (ps : List Piece) → all_tame ps ≡ true → lacks mark.Semicolon ps ≡ true
 tame_lacks [] h = refl
@@ -220,7 +221,7 @@ direct_tame g (Some (block.Number id)) area width.Dword byte bit h is =
     rw (h, flat_block id.kind, flat_number id.number is.0.0.1, flat_letters area width.Dword, flat_number byte is.2) refl
 direct_tame g (Some (block.Quoted n)) area w byte bit h is = absurd is.0.0
 
-flat_register : (register : ℕ) → (register ≡ 1) ⊎ (register ≡ 2) → flat (decimal register) ≡ true
+flat_register : (register : ℕ) → IsAddressRegister register → flat (decimal register) ≡ true
 flat_register register (inl e) = flat_number register (omega (arith, e))
 flat_register register (inr e) = flat_number register (omega (arith, e))
 
@@ -317,17 +318,17 @@ opened_tame g (operand.OfStatus f) h is = absurd is
 opened_tame g (operand.Other name) h is = absurd is
 opened_tame g (operand.Called name instance) h is = absurd is
 
-pub numbered_tame : (g : _) (name : BlockName) → flat (gap_text g) ≡ true → IsBlockByNumber name → all_tame (block_name_pieces g name) ≡ true
+pub numbered_tame : (g : _) (name : BlockName) → flat (gap_text g) ≡ true → IsNumberedBlock name → all_tame (block_name_pieces g name) ≡ true
 unfolding block_name_pieces
 numbered_tame g (block.Number id) h is = rw (h, flat_block id.kind, flat_number id.number is) refl
 numbered_tame g (block.Quoted name) h is = absurd is
 
 -- a block of a kind has a number
-pub of_data : (name : BlockName) → IsDataBlock name → IsBlockByNumber name
+pub of_data : (name : BlockName) → IsDataBlock name → IsNumberedBlock name
 of_data (block.Number id) h = h.1
 of_data (block.Quoted name) h = absurd h
 
-pub of_function : (name : BlockName) → IsFunctionBlock name → IsBlockByNumber name
+pub of_function : (name : BlockName) → IsFunctionBlock name → IsNumberedBlock name
 of_function (block.Number id) h = h.1
 of_function (block.Quoted name) h = absurd h
 

@@ -226,17 +226,17 @@ no_date [] element.DateAndTime init h = absurd h
 no_date (b ∷ []) element.DateAndTime init h = absurd h
 no_date (b ∷ c ∷ bs) element.DateAndTime init h = absurd h
 
-allowed : (a b : Bool) → (a ≡ true → b ≡ true) → (a && not b) ≡ false
-allowed false b h = refl
-allowed true true h = refl
-allowed true false h = absurd (false≢true (h refl))
+no_exception : (a b : Bool) → (a ≡ true → b ≡ true) → (a && not b) ≡ false
+no_exception false b h = refl
+no_exception true true h = refl
+no_exception true false h = absurd (false≢true (h refl))
 
 pub section_declares : (k : BlockKind) (p : PartKind) (d : Declaration) → IsPrintedDeclarationIn k p d → IsStep (place.Section k p 0) (clause.Declares d) (place.Section k p 0)
 unfolding next_place next_place_in_section clause_pieces
 section_declares k p d h =
     record {
       reads = λ source from n g rest here t.
-          declares_read source from n g (place.Section k p 0) d rest h.printed here refl refl refl (allowed (is_parameter p) (is_elementary d) h.elementary) t;
+          declares_read source from n g (place.Section k p 0) d rest h.printed here refl refl refl (no_exception (is_parameter p) (is_elementary d) h.elementary) t;
       lines = λ g n. declares_line g d n h.printed;
       goes = rw h.allowed (ap (λ (n : ℕ). Some (place.Section k p n)) (same_level d.of.arrays d.of.of d.init 0 h.printed.type));
     }

@@ -93,28 +93,28 @@ byte_at : (source : List ℕ) (from line : ℕ) (g : Gap) (v : ℕ) (rest : List
 unfolding literal_pieces literal_at literal_token
 byte_at source from line g v rest h (_, x1, _) = rw (x1, byte_value v h) refl
 
-uncounted : (source : List ℕ) (t : Token) (rest : List Token) → after_paren source rest ≡ None → counted_init_at source (t ∷ rest) ≡ None
+no_count_read : (source : List ℕ) (t : Token) (rest : List Token) → after_paren source rest ≡ None → counted_init_at source (t ∷ rest) ≡ None
 unfolding counted_init_at after_paren
-uncounted source t [] h = refl
-uncounted source t (u ∷ us) h = by (is_mark source u mark.OpenParen) us _ h
+no_count_read source t [] h = refl
+no_count_read source t (u ∷ us) h = by (is_mark source u mark.OpenParen) us _ h
   where
     by : (b : Bool) (us : List Token) (other : Option (Init × List Token)) → (if b then Some us else None) ≡ None → (if b then other else None) ≡ None
     by false us other e = refl
     by true us other e = absurd cc
 
-counted : (source : List ℕ) (from line : ℕ) (g : Gap) (n v : ℕ) (rest : List Token) → n ≤ 65535 → v ≤ 255
+count_read : (source : List ℕ) (from line : ℕ) (g : Gap) (n v : ℕ) (rest : List Token) → n ≤ 65535 → v ≤ 255
     → Texts source from line (value_pieces g (Some n) (literal.Byte v))
     → init_at source (tokens_of from line (value_pieces g (Some n) (literal.Byte v)) ++ rest) ≡ Some (record { count = Some n; value = literal.Byte v }, rest)
 unfolding init_at counted_init_at counted_init_end number_of number_up_to literal_pieces literal_at literal_token is_mark has_kind mark_text
-counted source from line g n v rest c h (_, x1, (_, x2, (_, x3, (_, x4, _)))) = rw (x2, x1, read_number n c, x3, byte_value v h, x4) refl
+count_read source from line g n v rest c h (_, x1, (_, x2, (_, x3, (_, x4, _)))) = rw (x2, x1, read_number n c, x3, byte_value v h, x4) refl
 
 value_read : (source : List ℕ) (from line : ℕ) (g : Gap) (count : Option ℕ) (value : Literal) (rest : List Token) → IsCountOf count → IsByteLiteral value
     → after_paren source rest ≡ None → Texts source from line (value_pieces g count value)
     → init_at source (tokens_of from line (value_pieces g count value) ++ rest) ≡ Some (record { count = count; value = value }, rest)
 unfolding init_at literal_pieces
 value_read source from line g None (literal.Byte v) rest c h none t =
-    rw (uncounted source _ rest none, byte_at source from line g v rest h t) refl
-value_read source from line g (Some n) (literal.Byte v) rest c h none t = counted source from line g n v rest c h t
+    rw (no_count_read source _ rest none, byte_at source from line g v rest h t) refl
+value_read source from line g (Some n) (literal.Byte v) rest c h none t = count_read source from line g n v rest c h t
 value_read source from line g count (literal.Truth v) rest c h none t = absurd h
 value_read source from line g count (literal.Number v) rest c h none t = absurd h
 value_read source from line g count (literal.Word v) rest c h none t = absurd h

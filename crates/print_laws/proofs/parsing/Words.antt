@@ -11,7 +11,7 @@ use Rattle.stl_ast.specs.declared.mnemonics.Mnemonic.TheVariants as mnemonic
 use Rattle.stl_parser.specs.Addresses.{letter_count}
 use Rattle.stl_parser.specs.Tables.{block_kinds, keywords, look_up, mnemonics, simple_types}
 use Rattle.stl_parser.specs.declared.tables.OperandSyntax.{OperandSyntax}
-use Rattle.stl_parser.specs.declared.tables.OperandSyntax.TheVariants as form
+use Rattle.stl_parser.specs.declared.tables.OperandSyntax.TheVariants as operand_syntax
 use Rattle.stl_print.specs.Mnemonics.{Spelling, one, mnemonic_spelling, two}
 use Rattle.print_laws.specs.Reading.{PrintedSyntax, block_call, bracket, call, empty, jump, opens, plain, syntax_of}
 use Rattle.print_laws.proofs.parsing.Shown.{mark_is}
@@ -176,13 +176,13 @@ calm mnemonic.Cdb h = record { begin = refl; no_keyword = refl; no_semicolon = r
 
 -- what stands behind an instruction word that is one token, as the parser has it
 abbrev pub form_of : PrintedSyntax → OperandSyntax
-form_of plain = form.Operand
-form_of bracket = form.Operand
-form_of jump = form.Jump
-form_of opens = form.Open
-form_of block_call = form.BlockCall
-form_of call = form.Call
-form_of empty = form.Operand
+form_of plain = operand_syntax.Operand
+form_of bracket = operand_syntax.Operand
+form_of jump = operand_syntax.Jump
+form_of opens = operand_syntax.Open
+form_of block_call = operand_syntax.BlockCall
+form_of call = operand_syntax.Call
+form_of empty = operand_syntax.Operand
 
 -- an instruction word that is one token and no bracket
 pub record IsSingle (m : Mnemonic) : Type 0 where

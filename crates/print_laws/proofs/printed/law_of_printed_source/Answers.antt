@@ -4,5 +4,5 @@ use Rattle.print_laws.proofs.printed.law_of_printed_source.Goals as goal
 
 pub returns : goal.returns
 returns c t h =
-    let text = c.law_of_printed_tokens.ensures.tokens t h.cut in
-    (tokens_of 0 1 (pieces_of_tree t), text.0, c.law_of_printed_tree.ensures (printed_text t) t h.read text.1)
+    let text = c.law_of_printed_tokens.ensures.tokens t h.tokens in
+    (tokens_of 0 1 (pieces_of_tree t), text.0, c.law_of_printed_tree.ensures (printed_text t) t h.forms text.1)

@@ -4,7 +4,7 @@ use Rattle.std.specs.List.{IsDistinct}
 use Rattle.plc_mem.specs.Blocks.{data_block_map, bytes_by_number, block_numbers}
 use Rattle.plc_mem.specs.Places.{AreByteValues}
 use Rattle.plc_mem.proofs.Kept.{no_blocks, block_more}
-use Rattle.plc_mem.proofs.BlockLemmas.{inserted, one_more, split_at_item, take_item}
+use Rattle.plc_mem.proofs.BlockLemmas.{inserted_bytes, one_more, split_at_item, take_item}
 use Rattle.plc_mem.proofs.data_blocks.DataBlocks.new.Goals as goal
 
 pub loop-number-init : goal.loop-number-init
@@ -23,7 +23,7 @@ loop-number-preserved c =
     record {
       entries = more ∙ ap (λ es. map.from_entries (bytes_by_number es)) (take_item xs i x c.loop-number-test.true c.loop-number-item.is);
       bytes =
-          rw (inserted c.loop-number.by_number c.insert.new.self x.0 c.in_ok-copied.field-0 c.in_ok-insert.ensures.updates)
+          rw (inserted_bytes c.loop-number.by_number c.insert.new.self x.0 c.in_ok-copied.field-0 c.in_ok-insert.ensures.updates)
           (block_more (data_block_map c.loop-number.by_number.entries) x.0 c.in_ok-copied.field-0.items c.loop-number.invariant.bytes small);
     }
 

@@ -4,8 +4,8 @@ use Rattle.ob_sched.proofs.CountdownLemmas.{ending_found, ending_passed, ending_
 use Rattle.std.specs.List.{list_all}
 use Rattle.std.proofs.lemmas.List.Sums.{AllPass-from_list_all}
 use Rattle.ob_sched.specs.OrganizationBlock.{is_delay}
-use Rattle.ob_sched.proofs.countdowns.Countdowns.ending.Goals as goal
-use Rattle.ob_sched.proofs.countdowns.Countdowns.ending.Goals.{then-is_ending, else-is_ending}
+use Rattle.ob_sched.proofs.countdowns.Countdowns.ending_delays.Goals as goal
+use Rattle.ob_sched.proofs.countdowns.Countdowns.ending_delays.Goals.{then-is_ending, else-is_ending}
 
 pub push-requires : goal.push-requires
 push-requires c = (omega arith, omega (arith, c.loop-i.invariant.0, c.loop-i-test.true))

@@ -1,7 +1,7 @@
 use Rattle.std.proofs.Common.{◌∙◌, ap, sym, arith}
 use Rattle.ob_sched.specs.StartRequest.{waiting_count}
 use Rattle.ob_sched.proofs.BinLemmas.{waiting-found}
-use Rattle.ob_sched.proofs.bins.Bins.waiting.Goals as goal
+use Rattle.ob_sched.proofs.bins.Bins.waiting_count.Goals as goal
 
 pub returns : goal.returns
 returns c =

@@ -1,6 +1,6 @@
 use Rattle.std.proofs.Common.{◌≡◌, ◌+◌, ◌≤◌, ◌++◌, drop, length}
 use Rattle.ob_sched.specs.Millisecond.{ending_from}
-use Rattle.ob_sched.proofs.countdowns.Countdowns.ending.Given as goal
+use Rattle.ob_sched.proofs.countdowns.Countdowns.ending_delays.Given as goal
 
 -- those found so far, and then what is left, are all
 abbrev pub invariant-loop-i : goal.invariant-loop-i
