@@ -8,7 +8,8 @@ use Rattle.frames.specs.Activations.{activation_begun, frame_begun}
 use Rattle.frames.specs.declared.Activation.{Activation}
 use Rattle.machine.specs.Code.{BlockHead}
 use Rattle.ob_sched.specs.declared.start_infos.StartInfo.{StartInfo}
-use Rattle.controller.specs.Beginning.{ob_begun, ob_block_id, ob_frame, with_start_bytes}
+use Rattle.machine.specs.Lasting.{ob_block}
+use Rattle.controller.specs.Beginning.{ob_begun, ob_frame, with_start_bytes}
 use Rattle.controller.specs.Leaves.{ObBegins}
 use Rattle.controller.specs.Ticking.{active_obs}
 use Rattle.controller.specs.Views.{activations_of}
@@ -54,7 +55,7 @@ running_last n all a h here =
 pub block_begins : (profile : Profile) (found : Option BlockHead) (class ob : ℕ) (info : StartInfo) (n : ℕ)
     (old : List Activation) → Some n ≡ option_map (λ (head : BlockHead). min head.local_len 1024) found
     → ObBegins (option_map (ob_begun profile class ob info) found) old
-    (with_start_bytes 0 info.bytes (activation_begun profile class ob (frame_begun (ob_block_id ob) n)) ∷ old) true
+    (with_start_bytes 0 info.bytes (activation_begun profile class ob (frame_begun (ob_block ob) n)) ∷ old) true
 unfolding ob_begun
 block_begins profile None class ob info n old h = absurd cc
 block_begins profile (Some head) class ob info n old h = search (rules, h)

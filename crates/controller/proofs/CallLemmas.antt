@@ -24,7 +24,7 @@ use Rattle.ob_sched.specs.Scheduler.{Scheduler, delay_of, delay_started, delay_c
 use Rattle.sys_funcs.specs.Disabling.{selection_error_code}
 use Rattle.sys_funcs.specs.Functions.{dis_airt, en_airt, disabled_or_error, dis_irt, en_irt, srt_dint, can_dint, time_tck, with_delay}
 use Rattle.sys_funcs.specs.Returned.{SystemFunctionResult, int_result, with_br_set}
-use Rattle.controller.specs.Leaves.{call_left, regs_called, running_of, ServesTo, ServesRunning}
+use Rattle.controller.specs.Leaves.{call_finished, regs_called, running_of, ServesTo, ServesRunning}
 use Rattle.controller.specs.Monitoring.{regs_served}
 use Rattle.controller.specs.Serving.{ServiceResult, Returns, Passes, Stops, result_given, after_service, system_function_served, in_parameter}
 use Rattle.controller.specs.Stack.{IsActivationStack}
@@ -155,7 +155,7 @@ goes_from : (code : Code) (number : ℕ) (inputs : List ℕ) (to : Option Bindin
     (old new : List Activation) (s : State) (m' : Areas) (sched : Scheduler)
     → s.activations ≡ old
     → ServesRunning number inputs to old new s.store.memory m' s.sched sched None
-    → call_left code number inputs to position old s
+    → call_finished code number inputs to position old s
     ≡ record s { store = with_memory m' s.store; activations = new; sched = sched }
 goes_from code number inputs to position [] new s m' sched were serves =
     ap (λ (acts : List Activation). record s { activations = acts }) were
@@ -167,7 +167,7 @@ goes_from code number inputs to position (a ∷ below) new s m' sched were serve
 pub call_goes : (code : Code) (number : ℕ) (inputs : List ℕ) (to : Option Binding)
     (position : At) (new : List Activation) (s : State) (m' : Areas) (sched : Scheduler)
     → ServesRunning number inputs to s.activations new s.store.memory m' s.sched sched None
-    → call_left code number inputs to position s.activations s
+    → call_finished code number inputs to position s.activations s
     ≡ record s { store = with_memory m' s.store; activations = new; sched = sched }
 call_goes code number inputs to position new s m' sched serves =
     goes_from code number inputs to position s.activations new s m' sched refl serves
@@ -185,7 +185,7 @@ halts_to at (Stops why a) to below new s m' sched cause serves =
 halts_from : (code : Code) (number : ℕ) (inputs : List ℕ) (to : Option Binding) (position : At)
     (old new : List Activation) (s : State) (m' : Areas) (sched : Scheduler) (cause : ℕ)
     → ServesRunning number inputs to old new s.store.memory m' s.sched sched (Some cause)
-    → call_left code number inputs to position old s
+    → call_finished code number inputs to position old s
     ≡ stop_entered_at (statement_spot code position.block position.at) cause
     (record s { store = with_memory m' s.store; activations = new; sched = sched })
 halts_from code number inputs to position [] new s m' sched cause serves = absurd serves
@@ -196,7 +196,7 @@ halts_from code number inputs to position (a ∷ below) new s m' sched cause ser
 pub call_halts : (code : Code) (number : ℕ) (inputs : List ℕ) (to : Option Binding)
     (position : At) (new : List Activation) (s : State) (m' : Areas) (sched : Scheduler) (cause : ℕ)
     → ServesRunning number inputs to s.activations new s.store.memory m' s.sched sched (Some cause)
-    → call_left code number inputs to position s.activations s
+    → call_finished code number inputs to position s.activations s
     ≡ stop_entered_at (statement_spot code position.block position.at) cause
     (record s { store = with_memory m' s.store; activations = new; sched = sched })
 call_halts code number inputs to position new s m' sched cause serves =

@@ -119,9 +119,9 @@ stopped_counts : (code : Code) (cause : Option ℕ) (s : State)
 stopped_counts code None s = refl
 stopped_counts code (Some cause) s = halted_counts code cause s
 
-course_counts : (code : Code) (c : TickState) (s : State)
+tick_state_counts : (code : Code) (c : TickState) (s : State)
     → (tick_state_taken code c s).entries ≡ s.entries
-course_counts code c s =
+tick_state_counts code c s =
     stopped_counts code c.passed.stop
     (each_diagnosed c.passed.records.items (record s { sched = c.sched }))
     ∙ diagnosed_counts c.passed.records.items (record s { sched = c.sched })
@@ -134,12 +134,12 @@ arrived_counts code ob value s =
     (tick_state_taken code
     (ob_requested s.mode ob (start_info (Arrival ob value) (priority_class_in s.mode ob)) (tick_begun s.sched)) s)
     s.entries refl
-    (course_counts code
+    (tick_state_counts code
     (ob_requested s.mode ob (start_info (Arrival ob value) (priority_class_in s.mode ob)) (tick_begun s.sched)) s)
 
 tick_counts : (code : Code) (c : TickState) (s : State) → (tick_taken code c s).entries ≡ s.entries
 tick_counts code c s =
-    course_counts code c (record s { store = timers_moved c.passed.ms s.store })
+    tick_state_counts code c (record s { store = timers_moved c.passed.ms s.store })
 
 passed_counts : (code : Code) (ms : ℕ) (s : State) → (time_passed code ms s).entries ≡ s.entries
 unfolding time_passed

@@ -25,11 +25,11 @@ use Rattle.machine.specs.Code.{BlockHead}
 use Rattle.machine.specs.Entering.{at_block}
 use Rattle.machine.specs.Fitting.{IsMemoryOf, SameSizes}
 use Rattle.machine.specs.Flat.{code_of}
-use Rattle.machine.specs.Lasting.{FitsProgram, GoesOnFitting, IsStatementReady as IsReadyIn, StepFitsAgain, first_frame}
+use Rattle.machine.specs.Lasting.{FitsProgram, GoesOnFitting, IsStatementReady as IsReadyIn, StepFitsAgain, first_frame, ob_block}
 use Rattle.machine.specs.Statement.{GlobalStore, StatementStep, Went, Ended, SyncError, SysCall, Stop as Stops, Stuck, statement_step}
 use Rattle.machine.proofs.Sizes.{same_sizes, sizes_then, same_parts}
 use Rattle.ob_sched.specs.TickState.{TickState, ob_requested}
-use Rattle.ob_sched.specs.Millisecond.{tick_begun as course_begun, after_tick}
+use Rattle.ob_sched.specs.Millisecond.{tick_begun, after_tick}
 use Rattle.ob_sched.specs.OrganizationBlock.{priority_class_in, is_delay}
 use Rattle.ob_sched.specs.StartRequest.{best_of}
 use Rattle.ob_sched.specs.Scheduler.{Scheduler, best_removed, delay_of, delay_started, delay_cancelled, cycle_retriggered}
@@ -47,7 +47,7 @@ use Rattle.var_access.specs.declared.What.{What}
 use Rattle.var_access.specs.declared.What.TheVariants as what
 use Rattle.var_access.specs.Entry.{IsInRange}
 use Rattle.controller.specs.Asking.{request_effect}
-use Rattle.controller.specs.Beginning.{ob_block_id, ob_frame, with_start_bytes, ob_begun, ob_activation, with_ob_begun}
+use Rattle.controller.specs.Beginning.{ob_frame, with_start_bytes, ob_begun, ob_activation, with_ob_begun}
 use Rattle.controller.specs.CyclePoint.{cycle_point, cycle_finished, cycle_info}
 use Rattle.controller.specs.Errors.{is_synchronous, cause_without, error_event, with_caller_registers, error_in, error_ob_started, error_raised}
 use Rattle.controller.specs.Event.{entry_counted, entry_effect, state_after}
@@ -67,7 +67,7 @@ use Rattle.controller.specs.Ticking.{active_obs, tick_taken, time_passed, timers
 use Rattle.controller.proofs.CallLemmas.{SameServed, served_same, given_same}
 use Rattle.controller.proofs.SameLemmas.{SameStep, statement_same}
 use Rattle.controller.proofs.ScheduleLemmas.{of_either, best_waits, rest_schedule, started_schedule, stopped_schedule, run_schedule, cycle_schedule, restarted_schedule, retriggered_schedule, delay_schedule, cancelled_schedule, all_schedule, requested_known, arrival_waits, ticked_known}
-use Rattle.controller.proofs.StandingLemmas.{IsOf, begun_stands, best_class, best_may_begin, cycle_may_begin, error_stands, first_stands, ob_is, stop_idle}
+use Rattle.controller.proofs.StandingLemmas.{IsObActivation, begun_stands, best_class, best_may_begin, cycle_may_begin, error_stands, first_stands, ob_is, stop_idle}
 use Rattle.controller.proofs.StepLemmas.{ended_by, same_stack}
 
 -- ---- where memory keeps its sizes
@@ -123,22 +123,22 @@ with_start_bytes_fits l p m (value ∷ rest) byte a fit =
     with_start_bytes_fits l p m rest (byte + 1) (unwrap_or (with_local_byte 0 byte value a) a)
     (with_start_byte_fits l p m byte value a (with_local_byte 0 byte value a) refl fit)
 
-uncut : (n : ℕ) → n ≤ 1024 → min n 1024 ≡ n
-uncut n few = omega arith
+local_len_uncut : (n : ℕ) → n ≤ 1024 → min n 1024 ≡ n
+local_len_uncut n few = omega arith
 
 begun_fits : (profile : Profile) (l : MachineLaws) (p : Program) (m : Areas) (class ob : ℕ) (info : StartInfo) (h : BlockHead)
-    → Verifies p → IsMemoryOf (code_of p) m → (code_of p).head (ob_block_id ob) ≡ Some h
+    → Verifies p → IsMemoryOf (code_of p) m → (code_of p).head (ob_block ob) ≡ Some h
     → FitsProgram p m (ob_begun profile class ob info h)
 unfolding ob_begun
 begun_fits profile l p m class ob info h verifies memory found =
     with_start_bytes_fits l p m info.bytes 0 (activation_begun profile class ob (ob_frame ob h))
     (subst (λ (n : ℕ). FitsProgram p m (activation_begun profile class ob (first_frame ob n)))
-    (sym (uncut h.local_len (l.room p ob h verifies found)))
+    (sym (local_len_uncut h.local_len (l.room p ob h verifies found)))
     (l.begins profile p m class ob h verifies memory found))
 
 ob_fits_by : (profile : Profile) (l : MachineLaws) (p : Program) (m : Areas) (class ob : ℕ) (info : StartInfo)
     (found : Option BlockHead) → Verifies p → IsMemoryOf (code_of p) m
-    → (code_of p).head (ob_block_id ob) ≡ found
+    → (code_of p).head (ob_block ob) ≡ found
     → FitsIf p m (option_map (ob_begun profile class ob info) found)
 unfolding FitsIf
 ob_fits_by profile l p m class ob info None verifies memory is = tt
@@ -148,12 +148,12 @@ ob_fits_by profile l p m class ob info (Some h) verifies memory is =
 ob_fits : (profile : Profile) (l : MachineLaws) (p : Program) (m : Areas) (class ob : ℕ) (info : StartInfo) → Verifies p
     → IsMemoryOf (code_of p) m → FitsIf p m (ob_activation profile (code_of p) class ob info)
 ob_fits profile l p m class ob info verifies memory =
-    ob_fits_by profile l p m class ob info ((code_of p).head (ob_block_id ob)) verifies memory refl
+    ob_fits_by profile l p m class ob info ((code_of p).head (ob_block ob)) verifies memory refl
 
 begins_above : (p : Program) (class ob : ℕ) (one : Option Activation) (s : State)
-    → FitsIf p s.store.memory one → IsOf class ob one → MayBegin s.mode class ob s.activations
+    → FitsIf p s.store.memory one → IsObActivation class ob one → MayBegin s.mode class ob s.activations
     → IsFit p s → IsFit p (with_ob_begun one s)
-unfolding FitsIf IsOf
+unfolding FitsIf IsObActivation
 begins_above p class ob None s one is may fit = fit
 begins_above p class ob (Some a) s one is may fit = record {
   memory = fit.memory;
@@ -205,19 +205,19 @@ copied_fits l p m a (Some fresh) fit =
     l.delay p m (record fresh { running = record fresh.running { regs = at_block a.running.regs } })
     a.delay (l.registers p m fresh (at_block a.running.regs) fit)
 
-copied_is : (class ob : ℕ) (a : Activation) (one : Option Activation) → IsOf class ob one
-    → IsOf class ob (option_map (with_caller_registers a) one)
-unfolding IsOf
+copied_is : (class ob : ℕ) (a : Activation) (one : Option Activation) → IsObActivation class ob one
+    → IsObActivation class ob (option_map (with_caller_registers a) one)
+unfolding IsObActivation
 copied_is class ob a None is = tt
 copied_is class ob a (Some fresh) is = is
 
 -- the activation in which the error came has gone on to `a`
 answers : (l : MachineLaws) (p : Program) (one : Option Activation) (error : ℕ) (at : Option Spot)
     (a : Activation) (below : List Activation) (s : State) → is_synchronous a.ob ≡ false
-    → FitsIf p s.store.memory one → IsOf a.class (ob_of_error error) one
+    → FitsIf p s.store.memory one → IsObActivation a.class (ob_of_error error) one
     → AllFit p s.store.memory (a ∷ below) → IsActivationStack s.mode (a ∷ below) → IsFit p s
     → IsFit p (error_ob_started one error at a below s)
-unfolding FitsIf IsOf
+unfolding FitsIf IsObActivation
 answers l p None error at a below s single one is all standing fit =
     halts l p at (cause_without (ob_of_error error)) s fit
 answers l p (Some fresh) error at a below s single one is all standing fit = record {
@@ -507,9 +507,9 @@ stopped_fits : (l : MachineLaws) (p : Program) (cause : Option ℕ) (s : State) 
 stopped_fits l p None s fit = fit
 stopped_fits l p (Some cause) s fit = halted_fits l p cause s fit
 
-course_fits : (l : MachineLaws) (p : Program) (c : TickState) (s : State) → HasWholeSchedule c.sched → IsFit p s
+tick_state_fits : (l : MachineLaws) (p : Program) (c : TickState) (s : State) → HasWholeSchedule c.sched → IsFit p s
     → IsFit p (tick_state_taken (code_of p) c s)
-course_fits l p c s is fit =
+tick_state_fits l p c s is fit =
     stopped_fits l p c.passed.stop
     (each_diagnosed c.passed.records.items (record s { sched = c.sched }))
     (each_fit p c.passed.records.items (record s { sched = c.sched })
@@ -520,17 +520,17 @@ arrived_fits : (l : MachineLaws) (p : Program) (ob value : ℕ) (s : State)
 unfolding arrival_served
 arrived_fits l p ob value s known fit =
     unless_stop p s _ fit
-    (λ running. course_fits l p
-    (ob_requested s.mode ob (start_info (Arrival ob value) (priority_class_in s.mode ob)) (course_begun s.sched))
+    (λ running. tick_state_fits l p
+    (ob_requested s.mode ob (start_info (Arrival ob value) (priority_class_in s.mode ob)) (tick_begun s.sched))
     s
     (requested_known s.mode ob (start_info (Arrival ob value) (priority_class_in s.mode ob))
-    (course_begun s.sched) (arrival_waits ob known) fit.sched)
+    (tick_begun s.sched) (arrival_waits ob known) fit.sched)
     fit)
 
 tick_fits : (l : MachineLaws) (p : Program) (c : TickState) (s : State) → HasWholeSchedule c.sched → IsFit p s
     → IsFit p (tick_taken (code_of p) c s)
 tick_fits l p c s is fit =
-    course_fits l p c (record s { store = timers_moved c.passed.ms s.store }) is
+    tick_state_fits l p c (record s { store = timers_moved c.passed.ms s.store }) is
     (moved_memory l p s (timers_moved c.passed.ms s.store) (same_sizes s.store.memory) fit)
 
 time_fits : (l : MachineLaws) (p : Program) (ms : ℕ) (s : State) → IsFit p s
@@ -550,9 +550,9 @@ input_fits l m byte value (Some n) is = l.inputs m n byte value is
 -- ---- a start
 
 started_up_fits : (p : Program) (one : Option Activation) (s : State)
-    → FitsIf p s.store.memory one → IsOf 27 100 one → s.activations ≡ [] → IsFit p s
+    → FitsIf p s.store.memory one → IsObActivation 27 100 one → s.activations ≡ [] → IsFit p s
     → IsFit p (state_in_startup one s)
-unfolding FitsIf IsOf
+unfolding FitsIf IsObActivation
 started_up_fits p None s one is idle fit =
     run_starts_fits p s
     (subst (λ (acts : List Activation). IsActivationStack Run acts) (sym idle)

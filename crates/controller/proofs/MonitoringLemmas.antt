@@ -24,12 +24,12 @@ regs_done s (SysCall number given b) a below new w w' (outcome.SysCall n inputs 
 regs_done s (Stop cause) a below new w w' (outcome.Stop why) steps = refl
 regs_done s step a below new w w' done steps = absurd steps
 
-recorded_on : (code : Code) (s : State) (old new : List Activation) (w' : GlobalStore)
+running_recorded : (code : Code) (s : State) (old new : List Activation) (w' : GlobalStore)
     (done : At × Outcome) → LeavesStatementStep code old new s.store w' (Some done)
     → record_of_statement code s.monitored done.0 (regs_finished done.1 s.sched new done.0.regs)
     ≡ step_record code s old
-recorded_on code s [] new w' done steps = absurd steps
-recorded_on code s (a ∷ below) new w' done steps =
+running_recorded code s [] new w' done steps = absurd steps
+running_recorded code s (a ∷ below) new w' done steps =
     ap
     (λ (position : At). record_of_statement code s.monitored position (regs_finished done.1 s.sched new position.regs))
     steps.0
@@ -42,7 +42,7 @@ pub step_recorded : (code : Code) (s : State) (new : List Activation) (w' : Glob
     (done : At × Outcome) → LeavesStatementStep code s.activations new s.store w' (Some done)
     → record_of_statement code s.monitored done.0 (regs_finished done.1 s.sched new done.0.regs)
     ≡ step_record code s s.activations
-step_recorded code s new w' done steps = recorded_on code s s.activations new w' done steps
+step_recorded code s new w' done steps = running_recorded code s s.activations new w' done steps
 
 -- a cycle point has none
 idle_on : (code : Code) (s : State) (old new : List Activation) (w' : GlobalStore)

@@ -19,7 +19,7 @@ use Rattle.monitor.specs.declared.MonRecord.{MonRecord}
 use Rattle.ob_sched.specs.TickState.{TickState, ob_requested}
 use Rattle.ob_sched.specs.Scheduler.{Scheduler, cycle_retriggered, delay_of, delay_started, delay_cancelled}
 use Rattle.ob_sched.specs.StartInformation.{ob_of_error, start_info}
-use Rattle.ob_sched.specs.Millisecond.{after_tick, tick_begun as course_begun}
+use Rattle.ob_sched.specs.Millisecond.{after_tick, tick_begun}
 use Rattle.ob_sched.specs.OrganizationBlock.{priority_class_in, is_delay}
 use Rattle.ob_sched.specs.StartRequest.{best_of}
 use Rattle.ob_sched.specs.declared.requests.Pending.{Pending}
@@ -34,7 +34,8 @@ use Rattle.var_access.specs.declared.Request.TheVariants as ask
 use Rattle.var_access.specs.declared.What.{What}
 use Rattle.var_access.specs.declared.What.TheVariants as what
 use Rattle.controller.specs.Asking.{request_reply, request_effect, done_or_no_such}
-use Rattle.controller.specs.Beginning.{ob_block_id, ob_frame, with_start_bytes, ob_begun, ob_activation, with_ob_begun}
+use Rattle.machine.specs.Lasting.{ob_block}
+use Rattle.controller.specs.Beginning.{ob_frame, with_start_bytes, ob_begun, ob_activation, with_ob_begun}
 use Rattle.controller.specs.CyclePoint.{cycle_point, cycle_info, cycle_finished}
 use Rattle.controller.specs.Errors.{with_caller_registers, error_in, error_ob_started, error_raised, error_event, is_synchronous}
 use Rattle.controller.specs.Event.{entry_counted, entry_effect, state_after}
@@ -72,13 +73,13 @@ with_start_bytes_moves f byte (value ∷ rest) a =
     ∙ with_start_bytes_moves f (byte + 1) rest (unwrap_or (with_local_byte 0 byte value a) a)
 
 begun_moves :
-    (profile : Profile) (f : Positions) (class ob : ℕ) (head : BlockHead) → f (ob_block_id ob) 0 ≡ 0
+    (profile : Profile) (f : Positions) (class ob : ℕ) (head : BlockHead) → f (ob_block ob) 0 ≡ 0
     → activation_begun profile class ob (ob_frame ob head) ≡ moved_activation f (activation_begun profile class ob (ob_frame ob head))
 begun_moves profile f class ob head start =
     ap (λ (at : ℕ). activation_begun profile class ob (record (ob_frame ob head) { at = at })) (sym start)
 
 ob_moves :
-    (profile : Profile) (f : Positions) (class ob : ℕ) (info : StartInfo) (head : BlockHead) → f (ob_block_id ob) 0 ≡ 0
+    (profile : Profile) (f : Positions) (class ob : ℕ) (info : StartInfo) (head : BlockHead) → f (ob_block ob) 0 ≡ 0
     → ob_begun profile class ob info head ≡ moved_activation f (ob_begun profile class ob info head)
 unfolding ob_begun
 ob_moves profile f class ob info head start =
@@ -86,7 +87,7 @@ ob_moves profile f class ob info head start =
     ∙ with_start_bytes_moves f 0 info.bytes (activation_begun profile class ob (ob_frame ob head))
 
 head_moves :
-    (profile : Profile) (f : Positions) (class ob : ℕ) (info : StartInfo) (o : Option BlockHead) → f (ob_block_id ob) 0 ≡ 0
+    (profile : Profile) (f : Positions) (class ob : ℕ) (info : StartInfo) (o : Option BlockHead) → f (ob_block ob) 0 ≡ 0
     → option_map (ob_begun profile class ob info) o ≡ option_map (moved_activation f) (option_map (ob_begun profile class ob info) o)
 head_moves profile f class ob info None start = refl
 head_moves profile f class ob info (Some head) start = ap (λ (a : Activation). Some a) (ob_moves profile f class ob info head start)
@@ -95,8 +96,8 @@ ob_in_moves :
     (profile : Profile) (f : Positions) (c d : Code) (class ob : ℕ) (info : StartInfo) → FollowsCode f c d
     → ob_activation profile d class ob info ≡ option_map (moved_activation f) (ob_activation profile c class ob info)
 ob_in_moves profile f c d class ob info follows =
-    ap (option_map (ob_begun profile class ob info)) (follows.head (ob_block_id ob))
-    ∙ head_moves profile f class ob info (c.head (ob_block_id ob)) (follows.start (ob_block_id ob))
+    ap (option_map (ob_begun profile class ob info)) (follows.head (ob_block ob))
+    ∙ head_moves profile f class ob info (c.head (ob_block ob)) (follows.start (ob_block ob))
 
 above_moves :
     (f : Positions) (o : Option Activation) (s : State)
@@ -141,12 +142,12 @@ stopped_moves :
 stopped_moves f c d None s follows = refl
 stopped_moves f c d (Some cause) s follows = halted_moves f c d cause s follows
 
-course_moves :
-    (f : Positions) (c d : Code) (course : TickState) (s : State) → FollowsCode f c d
-    → tick_state_taken d course (moved_state f s) ≡ moved_state f (tick_state_taken c course s)
-course_moves f c d course s follows =
-    ap (stopped_if d course.passed.stop) (diagnosed_moves f course.passed.records.items (record s { sched = course.sched }))
-    ∙ stopped_moves f c d course.passed.stop (each_diagnosed course.passed.records.items (record s { sched = course.sched })) follows
+tick_state_moves :
+    (f : Positions) (c d : Code) (tick : TickState) (s : State) → FollowsCode f c d
+    → tick_state_taken d tick (moved_state f s) ≡ moved_state f (tick_state_taken c tick s)
+tick_state_moves f c d tick s follows =
+    ap (stopped_if d tick.passed.stop) (diagnosed_moves f tick.passed.records.items (record s { sched = tick.sched }))
+    ∙ stopped_moves f c d tick.passed.stop (each_diagnosed tick.passed.records.items (record s { sched = tick.sched })) follows
 
 -- ---- system functions
 
@@ -221,8 +222,8 @@ time_moves f s a = refl
 returns_move : (f : Positions) (r r' : SystemFunctionResult) → r' ≡ moved_returned f r → Returns r' ≡ moved_served f (Returns r)
 returns_move f r r' h = ap (λ (z : SystemFunctionResult). Returns z) h
 
-abbrev chosen : (b32 b33 b39 b40 b41 b42 b43 b46 : Bool) → (inputs : List ℕ) → Scheduler → Activation → ServiceResult
-chosen b32 b33 b39 b40 b41 b42 b43 b46 inputs s a =
+abbrev function_chosen : (b32 b33 b39 b40 b41 b42 b43 b46 : Bool) → (inputs : List ℕ) → Scheduler → Activation → ServiceResult
+function_chosen b32 b33 b39 b40 b41 b42 b43 b46 inputs s a =
     if b32 then Returns (srt_dint s a (in_parameter 0 inputs) (in_parameter 1 inputs) (in_parameter 2 inputs))
     else if b33 then Returns (can_dint s a (in_parameter 0 inputs))
     else if b39 then Returns (dis_irt s a (in_parameter 0 inputs) (in_parameter 1 inputs))
@@ -235,7 +236,7 @@ chosen b32 b33 b39 b40 b41 b42 b43 b46 inputs s a =
 
 chosen_moves :
     (f : Positions) (b32 b33 b39 b40 b41 b42 b43 b46 : Bool) (inputs : List ℕ) (s : Scheduler) (a : Activation)
-    → chosen b32 b33 b39 b40 b41 b42 b43 b46 inputs s (moved_activation f a) ≡ moved_served f (chosen b32 b33 b39 b40 b41 b42 b43 b46 inputs s a)
+    → function_chosen b32 b33 b39 b40 b41 b42 b43 b46 inputs s (moved_activation f a) ≡ moved_served f (function_chosen b32 b33 b39 b40 b41 b42 b43 b46 inputs s a)
 chosen_moves f true b33 b39 b40 b41 b42 b43 b46 inputs s a = returns_move f _ _ (srt_moves f s a (in_parameter 0 inputs) (in_parameter 1 inputs) (in_parameter 2 inputs))
 chosen_moves f false true b39 b40 b41 b42 b43 b46 inputs s a = returns_move f _ _ (can_moves f s a (in_parameter 0 inputs))
 chosen_moves f false false true b40 b41 b42 b43 b46 inputs s a = returns_move f _ _ (dis_moves f s a (in_parameter 0 inputs) (in_parameter 1 inputs))
@@ -343,10 +344,10 @@ stepped_moves f c d s statements follows = stepped_on_moves f c d s.activations 
 arrived_moves :
     (f : Positions) (c d : Code) (ob value : ℕ) (s : State) → FollowsCode f c d → arrival_served d ob value (moved_state f s) ≡ moved_state f (arrival_served c ob value s)
 unfolding arrival_served
-arrived_moves f c d ob value s follows = either (moved_state f) (is_stop s.mode) s _ (tick_state_taken c (arrival_of s ob value) s) _ refl (course_moves f c d (arrival_of s ob value) s follows)
+arrived_moves f c d ob value s follows = either (moved_state f) (is_stop s.mode) s _ (tick_state_taken c (arrival_of s ob value) s) _ refl (tick_state_moves f c d (arrival_of s ob value) s follows)
   where
     arrival_of : State → (ob value : ℕ) → TickState
-    arrival_of s ob value = ob_requested s.mode ob (start_info (Arrival ob value) (priority_class_in s.mode ob)) (course_begun s.sched)
+    arrival_of s ob value = ob_requested s.mode ob (start_info (Arrival ob value) (priority_class_in s.mode ob)) (tick_begun s.sched)
 
 active_same : (f : Positions) (activations : List Activation) → active_obs (map (moved_activation f) activations) ≡ active_obs activations
 active_same f activations =
@@ -371,7 +372,7 @@ time_passes_moves :
 unfolding time_passed
 time_passes_moves f c d ms s follows =
     ap (λ (obs : List ℕ). tick_taken d (after_tick s.mode obs ms s.sched) (moved_state f s)) (active_same f s.activations)
-    ∙ course_moves f c d (after_tick s.mode (active_obs s.activations) ms s.sched)
+    ∙ tick_state_moves f c d (after_tick s.mode (active_obs s.activations) ms s.sched)
     (record s { store = timers_moved (after_tick s.mode (active_obs s.activations) ms s.sched).passed.ms s.store }) follows
 
 may_start_same : (f : Positions) (class : ℕ) (activations : List Activation) → may_start class (map (moved_activation f) activations) ≡ may_start class activations
@@ -532,9 +533,9 @@ run_moves f c d s (entry ∷ rest) statements follows =
     ap (λ (z : State). state_after_entries d z rest) (after_entry_moves f c d s entry statements follows)
     ∙ run_moves f c d (state_after c entry s) rest statements follows
 
-obs_same : (f : Positions) (c d : Code) (obs : List ℕ) → FollowsCode f c d → filter (λ ob. is_some (d.head (ob_block_id ob))) obs ≡ filter (λ ob. is_some (c.head (ob_block_id ob))) obs
+obs_same : (f : Positions) (c d : Code) (obs : List ℕ) → FollowsCode f c d → filter (λ ob. is_some (d.head (ob_block ob))) obs ≡ filter (λ ob. is_some (c.head (ob_block ob))) obs
 obs_same f c d [] follows = refl
-obs_same f c d (ob ∷ obs) follows = rw (follows.head (ob_block_id ob)) (rw (obs_same f c d obs follows) refl)
+obs_same f c d (ob ∷ obs) follows = rw (follows.head (ob_block ob)) (rw (obs_same f c d obs follows) refl)
 
 before_moves : (profile : Profile) (f : Positions) (c d : Code) → FollowsCode f c d → before_start profile d ≡ moved_state f (before_start profile c)
 before_moves profile f c d follows = rw (follows.blocks) (rw (obs_same f c d all_obs follows) refl)

@@ -20,14 +20,14 @@ unfolding changed_outputs
 all_changes before after = refl
 
 -- a byte that keeps its value
-kept : (byte : ℕ) (value : Option ℕ) → if_changed byte value value ≡ None
-kept byte None = refl
-kept byte (Some v) = grind (arith, nat_tests)
+kept_byte : (byte : ℕ) (value : Option ℕ) → if_changed byte value value ≡ None
+kept_byte byte None = refl
+kept_byte byte (Some v) = grind (arith, nat_tests)
 
 kept_output : (before after : PeripheralBytes) (byte : ℕ) → peripheral_byte after byte ≡ peripheral_byte before byte
     → changed_output before after byte ≡ None
 kept_output before after byte same =
-    ap (if_changed byte (peripheral_byte before byte)) same ∙ kept byte (peripheral_byte before byte)
+    ap (if_changed byte (peripheral_byte before byte)) same ∙ kept_byte byte (peripheral_byte before byte)
 
 -- a byte with another value
 other : (byte : ℕ) (old : Option ℕ) (new : ℕ) → Some new ≢ old → if_changed byte old (Some new) ≡ Some (byte, new)

@@ -119,9 +119,9 @@ stopped_stays : (code : Code) (cause : Option ℕ) (s : State)
 stopped_stays code None s = refl
 stopped_stays code (Some cause) s = halted_stays code cause s
 
-course_stays : (code : Code) (c : TickState) (s : State)
+tick_state_stays : (code : Code) (c : TickState) (s : State)
     → (tick_state_taken code c s).profile ≡ s.profile
-course_stays code c s =
+tick_state_stays code c s =
     stopped_stays code c.passed.stop
     (each_diagnosed c.passed.records.items (record s { sched = c.sched }))
     ∙ diagnosed_stays c.passed.records.items (record s { sched = c.sched })
@@ -134,12 +134,12 @@ arrived_stays code ob value s =
     (tick_state_taken code
     (ob_requested s.mode ob (start_info (Arrival ob value) (priority_class_in s.mode ob)) (tick_begun s.sched)) s)
     s.profile refl
-    (course_stays code
+    (tick_state_stays code
     (ob_requested s.mode ob (start_info (Arrival ob value) (priority_class_in s.mode ob)) (tick_begun s.sched)) s)
 
 tick_stays : (code : Code) (c : TickState) (s : State) → (tick_taken code c s).profile ≡ s.profile
 tick_stays code c s =
-    course_stays code c (record s { store = timers_moved c.passed.ms s.store })
+    tick_state_stays code c (record s { store = timers_moved c.passed.ms s.store })
 
 passed_stays : (code : Code) (ms : ℕ) (s : State) → (time_passed code ms s).profile ≡ s.profile
 unfolding time_passed

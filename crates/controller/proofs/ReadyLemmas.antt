@@ -61,7 +61,7 @@ pub spot_read : (p : Program) (block : BlockId) (at : ℕ) → HasStatement (cod
 unfolding HasStatement
 spot_read p block at there = block_spot block at (block_by_id block p.code_blocks) there
 
--- the same where the activation can go
+-- where an activation can execute, a statement stands at the position of its innermost frame
 pub can_go_there : (code : Code) (a : Activation) → CanExecute code a
     → HasStatement code a.running.frame.block a.running.frame.at
 can_go_there code a can =

@@ -112,12 +112,12 @@ SameReturn : Activation → Return → Type 0
 SameReturn a (GoesOn b m) = Same a b
 SameReturn a (Ends regs m) = Unit {0}
 
-left_same : (below : List Frame) (instance : Option ℕ) (params : List Param) (a : Activation)
+return_to_caller_same : (below : List Frame) (instance : Option ℕ) (params : List Param) (a : Activation)
     (m : Areas) → SameReturn a (return_to_caller below (outputs_copied_back instance params a m))
 unfolding SameReturn
-left_same [] instance params a m = tt
-left_same (f ∷ rest) None params a m = (refl, refl)
-left_same (f ∷ rest) (Some instance) params a m = (refl, refl)
+return_to_caller_same [] instance params a m = tt
+return_to_caller_same (f ∷ rest) None params a m = (refl, refl)
+return_to_caller_same (f ∷ rest) (Some instance) params a m = (refl, refl)
 
 after_return_same : (r : Return) (a : Activation) (w : GlobalStore) → SameReturn a r
     → SameStep a (after_return r w)
@@ -128,7 +128,7 @@ after_return_same (Ends regs m) a w same = tt
 returning_same : (params : List Param) (a : Activation) (m : Areas)
     → SameReturn a (block_return params a m)
 unfolding block_return
-returning_same params a m = left_same a.below a.running.frame.instance params a m
+returning_same params a m = return_to_caller_same a.below a.running.frame.instance params a m
 
 returned_same : (h : Option BlockHead) (a : Activation) (w : GlobalStore) → SameStep a (return_made h a w)
 returned_same None a w = tt

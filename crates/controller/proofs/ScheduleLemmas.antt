@@ -127,8 +127,8 @@ all_schedule disabled mode ob_nr s h = each_schedule disabled mode ob_nr 10 38 s
 
 -- ---- requests and what they lead to
 
-abbrev Known : TickState → Type 0
-Known c = HasWholeSchedule c.sched
+abbrev TickHasWholeSchedule : TickState → Type 0
+TickHasWholeSchedule c = HasWholeSchedule c.sched
 
 arrived_by : (a : Arrived) (ob : ℕ) (info : StartInfo) (s : Scheduler) → can_wait ob ≡ true
     → HasWholeSchedule s → HasWholeSchedule (after_arrival a ob info s)
@@ -145,22 +145,22 @@ arrived_schedule : (ob : ℕ) (info : StartInfo) (s : Scheduler) → can_wait ob
     → HasWholeSchedule s → HasWholeSchedule (request_arrived ob info s)
 arrived_schedule ob info s known h = arrived_by (arrival s ob) ob info s known h
 
-error_known : (ob cause : ℕ) (a : Arrived) (c : TickState) → Known c
-    → Known (after_error ob cause a c)
+error_known : (ob cause : ℕ) (a : Arrived) (c : TickState) → TickHasWholeSchedule c
+    → TickHasWholeSchedule (after_error ob cause a c)
 error_known ob cause Queued c h = h
 error_known ob cause Dropped c h = h
 error_known ob cause NotLoaded c h = h
 error_known ob cause Full c h = h
 
-time_error_known : (mode : Mode) (event : StartEvent) (ob : ℕ) (c : TickState) → Known c
-    → Known (time_error mode event ob c)
+time_error_known : (mode : Mode) (event : StartEvent) (ob : ℕ) (c : TickState) → TickHasWholeSchedule c
+    → TickHasWholeSchedule (time_error mode event ob c)
 unfolding time_error
 time_error_known mode event ob c h =
     error_known 80 9 (arrival c.sched 80)
     (record (record_made 1 ob c) { sched = request_arrived 80 (start_info event (priority_class_in mode 80)) c.sched })
     (arrived_schedule 80 (start_info event (priority_class_in mode 80)) c.sched refl h)
 
-not_loaded_known : (mode : Mode) (ob : ℕ) (c : TickState) → Known c → Known (ob_not_loaded mode ob c)
+not_loaded_known : (mode : Mode) (ob : ℕ) (c : TickState) → TickHasWholeSchedule c → TickHasWholeSchedule (ob_not_loaded mode ob c)
 unfolding ob_not_loaded
 not_loaded_known mode ob c h =
     error_known 85 8 (arrival c.sched 85)
@@ -169,8 +169,8 @@ not_loaded_known mode ob c h =
     })
     (arrived_schedule 85 (start_info (OfNotLoaded ob) (priority_class_in mode 85)) c.sched refl h)
 
-request_known : (mode : Mode) (ob : ℕ) (a : Arrived) (c : TickState) → Known c
-    → Known (after_request mode ob a c)
+request_known : (mode : Mode) (ob : ℕ) (a : Arrived) (c : TickState) → TickHasWholeSchedule c
+    → TickHasWholeSchedule (after_request mode ob a c)
 request_known mode ob Queued c h = h
 request_known mode ob Dropped c h = h
 request_known mode ob NotLoaded c h = not_loaded_known mode ob c h
@@ -195,20 +195,20 @@ period_waits ob h = grind (arith, nat_tests)
 
 -- ---- passing time
 
-unless_known : (next : TickState → TickState) (c : TickState) → Known (next c) → Known c
-    → Known (unless_stopped next c)
-unless_known next c h was = of_either Known (is_some c.passed.stop) c (next c) was h
+unless_known : (next : TickState → TickState) (c : TickState) → TickHasWholeSchedule (next c) → TickHasWholeSchedule c
+    → TickHasWholeSchedule (unless_stopped next c)
+unless_known next c h was = of_either TickHasWholeSchedule (is_some c.passed.stop) c (next c) was h
 
 each_known : (p : ℕ → Bool) (next : ℕ → TickState → TickState) (obs : List ℕ) (c : TickState)
-    → ((ob : ℕ) (d : TickState) → p ob ≡ true → Known d → Known (next ob d))
-    → list_all p obs ≡ true → Known c → Known (each_ob next obs c)
+    → ((ob : ℕ) (d : TickState) → p ob ≡ true → TickHasWholeSchedule d → TickHasWholeSchedule (next ob d))
+    → list_all p obs ≡ true → TickHasWholeSchedule c → TickHasWholeSchedule (each_ob next obs c)
 each_known p next [] c step all h = h
 each_known p next (ob ∷ rest) c step all h =
     let parts = and_parts (p ob) (list_all p rest) all in
     each_known p next rest (unless_stopped (next ob) c) step parts.1
     (unless_known (next ob) c (step ob c parts.0 h) h)
 
-delays_known : (mode : Mode) (c : TickState) → Known c → Known (delays_passed mode c)
+delays_known : (mode : Mode) (c : TickState) → TickHasWholeSchedule c → TickHasWholeSchedule (delays_passed mode c)
 delays_known mode c h =
     each_known is_delay (delay_ended mode) (ending_from 20 c.sched.countdowns.delays)
     (record c {
@@ -233,8 +233,8 @@ counted_length : (ob : ℕ) (periods : List ℕ)
 counted_length ob [] = refl
 counted_length ob (left ∷ rest) = omega (arith, counted_length (ob + 1) rest)
 
-queued_known : (mode : Mode) (ob : ℕ) (c : TickState) → can_wait ob ≡ true → Known c
-    → Known (period_queued mode ob c)
+queued_known : (mode : Mode) (ob : ℕ) (c : TickState) → can_wait ob ≡ true → TickHasWholeSchedule c
+    → TickHasWholeSchedule (period_queued mode ob c)
 queued_known mode ob c known h = record {
   pending =
       queued_wait (ob, start_info (Period ob) (priority_class_in mode ob)) c.sched.pending known h.pending;
@@ -243,18 +243,18 @@ queued_known mode ob c known h = record {
 }
 
 period_known : (mode : Mode) (active : List ℕ) (ob : ℕ) (c : TickState) → is_cyclic ob ≡ true
-    → Known c → Known (period_ended mode active ob c)
+    → TickHasWholeSchedule c → TickHasWholeSchedule (period_ended mode active ob c)
 unfolding period_ended
 period_known mode active ob c known h =
-    of_either Known (is_ob_disabled c.sched ob) c _ h
-    (of_either Known (not (is_ob_loaded c.sched ob)) c _ h
-    (of_either Known (is_waiting_or_active active ob c.sched) (time_error mode (Missed ob) ob c)
+    of_either TickHasWholeSchedule (is_ob_disabled c.sched ob) c _ h
+    (of_either TickHasWholeSchedule (not (is_ob_loaded c.sched ob)) c _ h
+    (of_either TickHasWholeSchedule (is_waiting_or_active active ob c.sched) (time_error mode (Missed ob) ob c)
     (period_queued mode ob c)
     (time_error_known mode (Missed ob) ob c h)
     (queued_known mode ob c (period_waits ob known) h)))
 
-periods_known : (mode : Mode) (active : List ℕ) (c : TickState) → Known c
-    → Known (periods_passed mode active c)
+periods_known : (mode : Mode) (active : List ℕ) (c : TickState) → TickHasWholeSchedule c
+    → TickHasWholeSchedule (periods_passed mode active c)
 periods_known mode active c h =
     each_known is_cyclic (period_ended mode active) (due_from 30 c.sched.countdowns.periods)
     (record c {
@@ -273,32 +273,32 @@ periods_known mode active c h =
       periods = counted_length 30 c.sched.countdowns.periods ∙ h.periods;
     })
 
-with_cycle_known : (counter : ℕ) (exceeded : Bool) (c : TickState) → Known c
-    → Known (with_cycle counter exceeded c)
+with_cycle_known : (counter : ℕ) (exceeded : Bool) (c : TickState) → TickHasWholeSchedule c
+    → TickHasWholeSchedule (with_cycle counter exceeded c)
 with_cycle_known counter exceeded c h =
     record { pending = h.pending; delays = h.delays; periods = h.periods }
 
-cycle_known : (mode : Mode) (c : TickState) → Known c → Known (cycle_counted mode c)
+cycle_known : (mode : Mode) (c : TickState) → TickHasWholeSchedule c → TickHasWholeSchedule (cycle_counted mode c)
 unfolding cycle_counted
 cycle_known mode c h =
-    of_either Known (nat_lt (c.sched.cycle.counter + 1) 151)
+    of_either TickHasWholeSchedule (nat_lt (c.sched.cycle.counter + 1) 151)
     (with_cycle (c.sched.cycle.counter + 1) c.sched.cycle.exceeded c) _
     (with_cycle_known (c.sched.cycle.counter + 1) c.sched.cycle.exceeded c h)
-    (of_either Known c.sched.cycle.exceeded (stopped_by 10 (with_cycle 0 true c))
+    (of_either TickHasWholeSchedule c.sched.cycle.exceeded (stopped_by 10 (with_cycle 0 true c))
     (time_error mode CycleTime 1 (with_cycle 0 true c))
     (with_cycle_known 0 true c h)
     (time_error_known mode CycleTime 1 (with_cycle 0 true c) (with_cycle_known 0 true c h)))
 
-run_known : (mode : Mode) (active : List ℕ) (c : TickState) → Known c
-    → Known (run_passed mode active c)
+run_known : (mode : Mode) (active : List ℕ) (c : TickState) → TickHasWholeSchedule c
+    → TickHasWholeSchedule (run_passed mode active c)
 run_known Run active c h =
     let one : TickState = unless_stopped (periods_passed Run active) c in
-    let known : Known one = unless_known (periods_passed Run active) c (periods_known Run active c h) h in
+    let known : TickHasWholeSchedule one = unless_known (periods_passed Run active) c (periods_known Run active c h) h in
     unless_known (cycle_counted Run) one (cycle_known Run one known) known
 run_known Startup active c h = h
 run_known (Stop cause at) active c h = h
 
-ms_known : (mode : Mode) (active : List ℕ) (c : TickState) → Known c → Known (after_ms mode active c)
+ms_known : (mode : Mode) (active : List ℕ) (c : TickState) → TickHasWholeSchedule c → TickHasWholeSchedule (after_ms mode active c)
 unfolding after_ms
 ms_known mode active c h =
     unless_known (λ (d : TickState). run_passed mode active (delays_passed mode (time_counted d))) c
@@ -307,8 +307,8 @@ ms_known mode active c h =
     (record { pending = h.pending; delays = h.delays; periods = h.periods })))
     h
 
-iterate_known : (mode : Mode) (active : List ℕ) (n : ℕ) (c : TickState) → Known c
-    → Known (iterate (after_ms mode active) n c)
+iterate_known : (mode : Mode) (active : List ℕ) (n : ℕ) (c : TickState) → TickHasWholeSchedule c
+    → TickHasWholeSchedule (iterate (after_ms mode active) n c)
 iterate_known mode active zero c h = h
 iterate_known mode active (suc n) c h =
     iterate_known mode active n (after_ms mode active c) (ms_known mode active c h)

@@ -79,8 +79,8 @@ outputs_kept : (p : PeripheralBytes) → changed_outputs p p ≡ []
 outputs_kept p = none_changed p p (λ n h. refl)
 
 -- a state with another global store and another running activation, so many entries later
-abbrev gone_on : State → GlobalStore → List Activation → (count : ℕ) → State
-gone_on s w activations count =
+abbrev state_gone_on : State → GlobalStore → List Activation → (count : ℕ) → State
+state_gone_on s w activations count =
     record s { store = w; activations = activations; entries = s.entries + count }
 
 -- outside STOP, where no block is monitored and no request waits
@@ -95,7 +95,7 @@ none_there (Some x) h = absurd cc
 
 step_after : (code : Code) (s : State) (a next : Activation) (below : List Activation) (then : GlobalStore)
     → IsSilent s → s.activations ≡ a ∷ below → statement_step code a s.store ≡ Went next then
-    → state_after code what.Step s ≡ gone_on s then (next ∷ below) 1
+    → state_after code what.Step s ≡ state_gone_on s then (next ∷ below) 1
 unfolding state_after after_step after_settling
 step_after code s a next below then silent were goes =
     rw (silent.running, were, goes, silent.running, silent.none) refl
@@ -117,7 +117,7 @@ shown_nothing code s after unwatched outputs mode =
 -- the entry of a step
 step_state : (code : Code) (s : State) (a next : Activation) (below : List Activation) (then : GlobalStore)
     → IsSilent s → s.activations ≡ a ∷ below → GoesSilently (statement_step code a s.store) s.store next then
-    → (entry_result code s what.Step).state ≡ gone_on s then (next ∷ below) 1
+    → (entry_result code s what.Step).state ≡ state_gone_on s then (next ∷ below) 1
 unfolding entry_result
 step_state code s a next below then silent were goes =
     step_after code s a next below then silent were goes.goes
@@ -128,7 +128,7 @@ step_seen : (code : Code) (s : State) (a next : Activation) (below : List Activa
 unfolding entry_result
 step_seen code s a next below then silent were goes =
     ap (entry_shown code s what.Step) (step_after code s a next below then silent were goes.goes)
-    ∙ shown_nothing code s (gone_on s then (next ∷ below) 1) (no_record code s a below silent were)
+    ∙ shown_nothing code s (state_gone_on s then (next ∷ below) 1) (no_record code s a below silent were)
     goes.outputs refl
 
 -- ---- silent statements one after another
@@ -149,18 +149,18 @@ nothing_done code s w activations are is =
       nothing = tt;
       state =
           ap (λ (n : ℕ). let t : State = record s { entries = n } in t) same
-          ∙ ap (λ (v : GlobalStore). gone_on s v s.activations 0) (sym is)
-          ∙ ap (λ (acts : List Activation). gone_on s w acts 0) (sym are);
+          ∙ ap (λ (v : GlobalStore). state_gone_on s v s.activations 0) (sym is)
+          ∙ ap (λ (acts : List Activation). state_gone_on s w acts 0) (sym are);
       outputs = ap (λ (v : GlobalStore). v.memory.peripheral_outputs) is;
     }
 
 one_more_step : (code : Code) (s : State) (a next : Activation) (below activations : List Activation)
     (then w : GlobalStore) (count : ℕ) → IsSilent s → s.activations ≡ a ∷ below
     → GoesSilently (statement_step code a s.store) s.store next then
-    → StepSilently code (gone_on s then (next ∷ below) 1) w activations count
+    → StepSilently code (state_gone_on s then (next ∷ below) 1) w activations count
     → StepSilently code s w activations (suc count)
 one_more_step code s a next below activations then w count silent were goes rest =
-    let on : (entry_result code s what.Step).state ≡ gone_on s then (next ∷ below) 1 =
+    let on : (entry_result code s what.Step).state ≡ state_gone_on s then (next ∷ below) 1 =
     step_state code s a next below then silent were goes in
     let all : s.entries + 1 + count ≡ s.entries + suc count = omega arith in
     record {
@@ -184,7 +184,7 @@ runs_on code zero s a b below activations w silent were are runs =
     (are ∙ ap (λ (c : Activation). c ∷ below) runs.0 ∙ sym were) runs.1
 runs_on code (suc count) s a b below activations w silent were are (next, then, goes, rest) =
     one_more_step code s a next below activations then w count silent were goes
-    (runs_on code count (gone_on s then (next ∷ below) 1) next b below activations w
+    (runs_on code count (state_gone_on s then (next ∷ below) 1) next b below activations w
     (record { running = silent.running; unwatched = silent.unwatched; none = silent.none }) refl are rest)
 
 goes_on : (code : Code) (count : ℕ) (s : State) (old new : List Activation) (w : GlobalStore) → IsSilent s

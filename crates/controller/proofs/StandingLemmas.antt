@@ -15,7 +15,8 @@ use Rattle.ob_sched.specs.StartRequest.{StartRequest, best_of}
 use Rattle.ob_sched.specs.StartInformation.{ob_of_error}
 use Rattle.ob_sched.specs.declared.requests.Pending.{Pending}
 use Rattle.ob_sched.specs.declared.start_infos.StartInfo.{StartInfo}
-use Rattle.controller.specs.Beginning.{ob_begun, ob_block_id, ob_frame, ob_activation}
+use Rattle.machine.specs.Lasting.{ob_block}
+use Rattle.controller.specs.Beginning.{ob_begun, ob_frame, ob_activation}
 use Rattle.controller.specs.Errors.{is_synchronous}
 use Rattle.controller.specs.Settling.{may_start}
 use Rattle.controller.specs.Stack.{IsAbove, IsStarted, StandsOn, IsStack, RunsInStartup, IsActivationStack, MayBegin}
@@ -154,13 +155,13 @@ error_stands mode error fresh a below class_is ob_is single standing = record {
 }
 
 -- an organization block as it begins, by its class and its number
-unfoldable pub IsOf : (class ob : ℕ) → Option Activation → Type 0
-IsOf class ob None = Unit {0}
-IsOf class ob (Some a) = (a.class ≡ class) × (a.ob ≡ ob)
+unfoldable pub IsObActivation : (class ob : ℕ) → Option Activation → Type 0
+IsObActivation class ob None = Unit {0}
+IsObActivation class ob (Some a) = (a.class ≡ class) × (a.ob ≡ ob)
 
 ob_is_by : (profile : Profile) (class ob : ℕ) (info : StartInfo) (found : Option BlockHead)
-    → IsOf class ob (option_map (ob_begun profile class ob info) found)
-unfolding IsOf ob_begun
+    → IsObActivation class ob (option_map (ob_begun profile class ob info) found)
+unfolding IsObActivation ob_begun
 ob_is_by profile class ob info None = tt
 ob_is_by profile class ob info (Some h) = (
   with_start_bytes_class info.bytes 0 (activation_begun profile class ob (ob_frame ob h)),
@@ -168,8 +169,8 @@ ob_is_by profile class ob info (Some h) = (
 )
 
 pub ob_is : (profile : Profile) (code : Code) (class ob : ℕ) (info : StartInfo)
-    → IsOf class ob (ob_activation profile code class ob info)
-ob_is profile code class ob info = ob_is_by profile class ob info (code.head (ob_block_id ob))
+    → IsObActivation class ob (ob_activation profile code class ob info)
+ob_is profile code class ob info = ob_is_by profile class ob info (code.head (ob_block ob))
 
 -- in STOP none stands
 pub stop_idle : (mode : Mode) (activations : List Activation) → is_stop mode ≡ true
@@ -189,9 +190,9 @@ first_stands a class_is ob_is = record {
 }
 
 -- so after a start of which none stood before OB 100 stands, or none
-started_stands : (one : Option Activation) (s : State) → IsOf 27 100 one → s.activations ≡ []
+started_stands : (one : Option Activation) (s : State) → IsObActivation 27 100 one → s.activations ≡ []
     → IsActivationStack (state_in_startup one s).mode (state_in_startup one s).activations
-unfolding IsOf
+unfolding IsObActivation
 started_stands None s is idle =
     subst (λ (acts : List Activation). IsActivationStack Run acts) (sym idle)
     (record { stack = tt; startup = tt })

@@ -43,11 +43,11 @@ idle_on code s [] new w' were steps =
     ∙ rw (steps.0, steps.1) refl
 idle_on code s (a ∷ below) new w' were steps = absurd steps
 
-pub stepped_idle : (code : Code) (s : State) (new : List Activation) (w' : GlobalStore)
+pub idle_step_finished : (code : Code) (s : State) (new : List Activation) (w' : GlobalStore)
     → LeavesStatementStep code s.activations new s.store w' None
     → after_step code s ≡ cycle_point code (record s { store = w'; activations = new })
 unfolding after_step
-stepped_idle code s new w' steps = idle_on code s s.activations new w' refl steps
+idle_step_finished code s new w' steps = idle_on code s s.activations new w' refl steps
 
 -- ---- where one runs
 
@@ -118,11 +118,11 @@ running_on code s (a ∷ below) new w' done were steps =
     ∙ ap (λ (position : At). statement_finished code position done.1 (record s { store = w'; activations = new }))
     (sym steps.0)
 
-pub stepped_from : (code : Code) (s : State) (new : List Activation) (w' : GlobalStore)
+pub running_step_finished : (code : Code) (s : State) (new : List Activation) (w' : GlobalStore)
     (done : At × Outcome) → LeavesStatementStep code s.activations new s.store w' (Some done)
     → after_step code s ≡ statement_finished code done.0 done.1 (record s { store = w'; activations = new })
 unfolding after_step
-stepped_from code s new w' done steps =
+running_step_finished code s new w' done steps =
     running_on code s s.activations new w' done refl steps
 
 pub step_there : (code : Code) (old new : List Activation) (w w' : GlobalStore)

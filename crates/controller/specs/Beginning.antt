@@ -2,23 +2,18 @@
 use Rattle.std.specs.Prelude.{ℕ, ◌+◌, min, List, [], ◌∷◌, Option, Some, None, unwrap_or}
 use Rattle.std.specs.Option.{option_map}
 use Rattle.plc_base.specs.declared.Profile.{Profile}
-use Rattle.plc_base.specs.declared.blocks.BlockKind.TheVariants.{Ob}
-use Rattle.plc_base.specs.declared.BlockId.{BlockId}
 use Rattle.frames.specs.Activations.{activation_begun, frame_begun, with_local_byte}
 use Rattle.frames.specs.declared.Activation.{Activation}
 use Rattle.frames.specs.declared.frame.Frame.{Frame}
 use Rattle.machine.specs.Code.{Code, BlockHead}
+use Rattle.machine.specs.Lasting.{ob_block}
 use Rattle.ob_sched.specs.declared.start_infos.StartInfo.{StartInfo}
 use Rattle.controller.specs.State.{State}
-
--- the block that is the organization block of a number
-abbrev pub ob_block_id : ℕ → BlockId
-ob_block_id ob = record { kind = Ob; number = ob }
 
 -- the frame of an organization block: at its first statement, nothing open, and its local bytes, 1,024
 -- at most (no program that is loaded has more)
 abbrev pub ob_frame : (ob : ℕ) → BlockHead → Frame
-ob_frame ob head = frame_begun (ob_block_id ob) (min head.local_len 1024)
+ob_frame ob head = frame_begun (ob_block ob) (min head.local_len 1024)
 
 -- an activation with some bytes written from a local byte of its outermost frame on, as far as
 -- there are such local bytes
@@ -36,7 +31,7 @@ ob_begun profile class ob info head =
 -- an organization block of a program as it begins; none where it isn't loaded
 abbrev pub ob_activation : Profile → Code → (class ob : ℕ) → StartInfo → Option Activation
 ob_activation profile code class ob info =
-    option_map (ob_begun profile class ob info) (code.head (ob_block_id ob))
+    option_map (ob_begun profile class ob info) (code.head (ob_block ob))
 
 -- the state in which an organization block begins above the activations that run or are
 -- interrupted; without it (None) all stays

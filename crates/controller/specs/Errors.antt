@@ -11,7 +11,7 @@ use Rattle.ob_sched.specs.StartInformation.{ob_of_error, start_info}
 use Rattle.ob_sched.specs.declared.start_infos.StartEvent.{StartEvent}
 use Rattle.ob_sched.specs.declared.start_infos.StartEvent.TheVariants.{Synchronous}
 use Rattle.controller.specs.Beginning.{ob_activation}
-use Rattle.controller.specs.State.{State, diagnosis_recorded}
+use Rattle.controller.specs.State.{State, diagnosis_recorded, synchronous_error_record}
 use Rattle.controller.specs.Stopping.{stop_entered_at}
 
 -- the OB is that of a synchronous error: OB 121, programming error, or OB 122, access error to
@@ -54,12 +54,14 @@ abbrev pub error_ob_started :
 error_ob_started None error at a below s = stop_entered_at at (cause_without (ob_of_error error)) s
 error_ob_started (Some fresh) error at a below s = record s { activations = fresh ∷ a ∷ below }
 
--- the state after a synchronous error of a statement at the spot `at`: the error is recorded by
--- code 4, and its OB starts; inside OB 121 or 122 the controller stops. The activation `a` has
+-- the state after a synchronous error of a statement at the spot `at`: the error is recorded,
+-- and its OB starts; inside OB 121 or 122 the controller stops. The activation `a` has
 -- gone on to the next statement
 unfoldable pub error_raised :
     Code → (error : ℕ) → (at : Option Spot) → (a : Activation) (below : List Activation)
     → State → State
 error_raised code error at a below s =
-    if is_synchronous a.ob then stop_entered_at at causes.in_error_ob (diagnosis_recorded 4 error s)
-    else error_ob_started (error_in code error at a) error at a below (diagnosis_recorded 4 error s)
+    if is_synchronous a.ob
+    then stop_entered_at at causes.in_error_ob (diagnosis_recorded synchronous_error_record error s)
+    else error_ob_started (error_in code error at a) error at a below
+    (diagnosis_recorded synchronous_error_record error s)

@@ -94,19 +94,19 @@ abbrev pub mode_after : Mode → (ob : ℕ) → Outcome → Mode
 mode_after mode ob outcome.Ended = if ob == 100 then Run else mode
 mode_after mode ob _ = mode
 
--- what is left to do after a statement with a synchronous error, which stood at `position`: its OB
--- begins, or it is a stop; nothing where nothing runs
-abbrev pub error_left : Code → (error : ℕ) → At → List Activation → State → State
-error_left code error position [] s = s
-error_left code error position (a ∷ below) s =
+-- the state after what is still to do for a statement with a synchronous error, which stood at
+-- `position`: the OB of the error begins, or it is a stop; nothing where nothing runs
+abbrev pub error_handled : Code → (error : ℕ) → At → List Activation → State → State
+error_handled code error position [] s = s
+error_handled code error position (a ∷ below) s =
     error_raised code error (statement_spot code position.block position.at) a below s
 
--- what is left to do after a call of a system function: it does its work, RET_VAL goes where it is
--- bound, and a stop has the spot of the call; nothing where nothing runs
-abbrev pub call_left :
+-- the state after what is still to do for a call of a system function: it does its work, RET_VAL goes
+-- where it is bound, and a stop has the spot of the call; nothing where nothing runs
+abbrev pub call_finished :
     Code → (number : ℕ) → List ℕ → Option Binding → At → List Activation → State → State
-call_left code number inputs to position [] s = s
-call_left code number inputs to position (a ∷ below) s =
+call_finished code number inputs to position [] s = s
+call_finished code number inputs to position (a ∷ below) s =
     after_service (statement_spot code position.block position.at)
     (system_function_served number inputs s.sched a) to below s
 
@@ -116,9 +116,9 @@ unfoldable pub statement_finished : Code → At → Outcome → State → State
 statement_finished code position outcome.Went s = s
 statement_finished code position outcome.Ended s = ob_ended position.ob s
 statement_finished code position (outcome.SyncError error) s =
-    error_left code error position s.activations s
+    error_handled code error position s.activations s
 statement_finished code position (outcome.SysCall number inputs to) s =
-    call_left code number inputs to position s.activations s
+    call_finished code number inputs to position s.activations s
 statement_finished code position (outcome.Stop cause) s =
     stop_entered_at (statement_spot code position.block position.at) cause s
 

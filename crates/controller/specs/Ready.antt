@@ -10,7 +10,8 @@ use Rattle.machine.specs.Statement.{GlobalStore, IsNotStuck, statement_step}
 unfoldable pub HasStatement : Code → BlockId → (at : ℕ) → Type 0
 HasStatement code block at = IsSome (code.fetch block at)
 
--- a frame stands, each frame has its local data, and nothing that its statement needs is missing
+-- an activation can execute its next statement in a code, which needn't be that of a program: a frame
+-- stands, each frame has its local data, and nothing that the statement needs is missing
 pub record CanExecute (code : Code) (a : Activation) : Type 0 where
   -- the outermost block hasn't returned yet
   pub stands : a.ended ≡ false

@@ -71,8 +71,8 @@ ContinuesReplay =
 
 -- law: what was seen last of a history with one entry more is what that entry shows in the replay
 -- of the others
-abbrev pub ContinuesSeen : Type 0
-ContinuesSeen =
+abbrev pub ContinuesLastObserved : Type 0
+ContinuesLastObserved =
     (profile : Profile) (code : Code) (history : List What) (what : What)
     → last_observed profile code (history ++ what ∷ [])
     ≡ (entry_result code (replay profile code history) what).seen
@@ -87,8 +87,8 @@ ContinuesByMore =
 
 -- law: what was seen last of a history with further entries is what the last of these shows;
 -- without further ones it is what was seen before
-abbrev pub SeenByMore : Type 0
-SeenByMore =
+abbrev pub LastObservedByMore : Type 0
+LastObservedByMore =
     (profile : Profile) (code : Code) (history more : List What)
     → last_observed profile code (history ++ more)
     ≡ last_observed_from code (replay profile code history)

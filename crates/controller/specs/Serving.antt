@@ -53,11 +53,11 @@ result_given (Some to) value a m =
 
 -- the running activation goes on behind a system function, with another scheduler and another memory
 abbrev pub resume_with : ReturnState → Scheduler → (below : List Activation) → State → State
-resume_with stage sched below s =
+resume_with r sched below s =
     record s {
-      store = with_memory stage.memory s.store;
+      store = with_memory r.memory s.store;
       sched = sched;
-      activations = stage.activation ∷ below;
+      activations = r.activation ∷ below;
     }
 
 -- after the system function: RET_VAL is given, if there is one, and the activation goes on; a stop

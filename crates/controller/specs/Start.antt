@@ -15,8 +15,9 @@ use Rattle.ob_sched.specs.Scheduler.{sched_at_rest, sched_restarted}
 use Rattle.ob_sched.specs.StartInformation.{start_info}
 use Rattle.ob_sched.specs.declared.start_infos.StartInfo.{StartInfo}
 use Rattle.ob_sched.specs.declared.start_infos.StartEvent.TheVariants.{Startup as OfStartup}
-use Rattle.controller.specs.Beginning.{ob_block_id, ob_activation, with_ob_begun}
-use Rattle.controller.specs.State.{State, diagnosis_recorded}
+use Rattle.machine.specs.Lasting.{ob_block}
+use Rattle.controller.specs.Beginning.{ob_activation, with_ob_begun}
+use Rattle.controller.specs.State.{State, diagnosis_recorded, restart_record}
 use Rattle.controller.specs.Stepping.{run_starts}
 
 -- the numbers of all organization blocks of the profile
@@ -28,7 +29,7 @@ all_obs =
 
 -- the numbers of the organization blocks that a program has, by rising number
 abbrev pub loaded_obs : Code → List ℕ
-loaded_obs code = filter (λ ob. is_some (code.head (ob_block_id ob))) all_obs
+loaded_obs code = filter (λ ob. is_some (code.head (ob_block ob))) all_obs
 
 -- the global store before the first start: data blocks have their first bytes, all other memory is
 -- 0, timers and counters are at rest
@@ -92,8 +93,8 @@ restart_cleared s =
       first_cycle = true;
     }
 
--- the state after a warm restart out of STOP, recorded by code 6: what isn't retained is cleared,
+-- the state after a warm restart out of STOP, which is recorded: what isn't retained is cleared,
 -- and OB 100 or RUN begins
 unfoldable pub warm_restarted : Code → State → State
 warm_restarted code s =
-    state_in_startup (startup_ob s.profile code) (restart_cleared (diagnosis_recorded 6 0 s))
+    state_in_startup (startup_ob s.profile code) (restart_cleared (diagnosis_recorded restart_record 0 s))

@@ -38,6 +38,18 @@ is_stop Run = false
 is_stop Startup = false
 is_stop (Stop cause at) = true
 
+-- the code of a record of diagnostics for a synchronous error; its detail is the error's code
+abbrev pub synchronous_error_record : ℕ
+synchronous_error_record = 4
+
+-- the code of a record of diagnostics for STOP; its detail is the cause
+abbrev pub stop_record : ℕ
+stop_record = 5
+
+-- the code of a record of diagnostics for a warm restart; its detail is 0
+abbrev pub restart_record : ℕ
+restart_record = 6
+
 -- the state with a record of diagnostics more, a code and its detail, under the number of the last
 -- entry
 abbrev pub diagnosis_recorded : (code info : ℕ) → State → State

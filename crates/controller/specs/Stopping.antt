@@ -10,7 +10,7 @@ use Rattle.frames.specs.declared.frame.Frame.{Frame}
 use Rattle.machine.specs.Code.{Code}
 use Rattle.machine.specs.Statement.{GlobalStore}
 use Rattle.ob_sched.specs.Scheduler.{sched_stopped}
-use Rattle.controller.specs.State.{State, diagnosis_recorded}
+use Rattle.controller.specs.State.{State, diagnosis_recorded, stop_record}
 
 -- the spot of a statement: its block and its source line, by its position; none where no statement
 -- stands there
@@ -32,11 +32,11 @@ running_spot code (a ∷ below) = spot_of_frame code a.running.frame
 abbrev pub outputs_off : GlobalStore → GlobalStore
 outputs_off w = record w { memory = outputs_cleared w.memory }
 
--- the state after STOP with its cause and its spot, recorded by code 5: activations, pending
+-- the state after STOP with its cause and its spot, which is recorded: activations, pending
 -- requests and delays end, peripheral outputs become 0, all else stays
 abbrev pub stop_entered_at : Option Spot → (cause : ℕ) → State → State
 stop_entered_at at cause s =
-    record (diagnosis_recorded 5 cause s) {
+    record (diagnosis_recorded stop_record cause s) {
       store = outputs_off s.store;
       mode = Stop cause at;
       activations = [];

@@ -3,10 +3,11 @@ ghost use Rattle.std.specs.Prelude.{◌≡◌, ◌<◌, ◌≤◌, false, [], �
 ghost use Rattle.std.specs.Option.{option_map};
 ghost use Rattle.frames.specs.Activations.{activation_begun, frame_begun};
 ghost use Rattle.machine.specs.Flat.{code_of};
+ghost use Rattle.machine.specs.Lasting.{ob_block as block_of_ob};
 ghost use Rattle.machine.specs.Statement.{global_store};
 ghost use Rattle.ob_sched.specs.StartInformation.{ob_of_error};
 ghost use Rattle.ob_sched.specs.Views.{scheduler_of};
-ghost use Rattle.controller.specs.Beginning.{ob_block_id as block_of_ob, ob_activation, with_start_bytes};
+ghost use Rattle.controller.specs.Beginning.{ob_activation, with_start_bytes};
 ghost use Rattle.controller.specs.Errors.{error_in};
 ghost use Rattle.controller.specs.Leaves.{ObBegins, ErrorBegins, HandsRegsOn, LeavesStatementStep, ServesRunning, running_of};
 ghost use Rattle.controller.specs.SilentSteps.{GoesOnSilently, GoesOnReady, goes_on_silently};

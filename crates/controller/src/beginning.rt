@@ -4,7 +4,8 @@ ghost use Rattle.std.specs.Option.{option_map};
 ghost use Rattle.frames.specs.Activations.{with_local_byte};
 ghost use Rattle.machine.specs.Entering.{at_block};
 ghost use Rattle.machine.specs.Flat.{code_of};
-ghost use Rattle.controller.specs.Beginning.{ob_block_id as block_of_ob, with_start_bytes};
+ghost use Rattle.machine.specs.Lasting.{ob_block as block_of_ob};
+ghost use Rattle.controller.specs.Beginning.{with_start_bytes};
 
 use frames::Activation;
 use image_file::Loaded;

@@ -4,7 +4,7 @@ ghost use Rattle.machine.specs.Flat.{code_of};
 ghost use Rattle.ob_sched.specs.StartInformation.{IsEvent, event_ob, ob_of_error};
 ghost use Rattle.controller.specs.Ready.{HasStatement};
 ghost use Rattle.controller.specs.Errors.{is_synchronous as is_error_ob, cause_without as cause_of_missing, error_event as failure_of};
-ghost use Rattle.controller.specs.Leaves.{error_left};
+ghost use Rattle.controller.specs.Leaves.{error_handled};
 ghost use Rattle.controller.specs.Stack.{IsActivationStack};
 ghost use Rattle.controller.specs.Views.{cpu_state};
 
@@ -61,10 +61,11 @@ impl Cpu {
     /// the controller stops.
     #[tactic(auto, unfolding(crate::specs::Errors::error_raised), using(crate::proofs::StandingLemmas::room_for_error, crate::proofs::StandingLemmas::error_stands))]
     pub(crate) fn fail(&mut self, program: &Loaded, position: &At, code: u8)
-        requires there { HasStatement (code_of program.now.program) position.now.block position.now.at }
+        requires there { HasStatement (code_of program.now.program)
+            position.now.block position.now.at }
         requires stack { IsActivationStack self.old.mode self.old.activations }
         ensures state { cpu_state self.new
-            ≡ error_left (code_of program.now.program) code position.now self.old.activations
+            ≡ error_handled (code_of program.now.program) code position.now self.old.activations
             (cpu_state self.old) }
         ensures stack { IsActivationStack self.new.mode self.new.activations }
     {

@@ -2,17 +2,17 @@
 ghost use Rattle.controller.specs.Fitting.{EntriesKeepFit, FitIsReady, HistoriesAreFit, StartIsFit};
 ghost use Rattle.controller.specs.MachineLaws.{MachineLaws};
 ghost use Rattle.controller.specs.Moved.{EntriesMove, HistoriesMove};
-ghost use Rattle.controller.specs.Replay.{ContinuesByMore, ContinuesReplay, ContinuesSeen, CountsEntries, CountsHistory, EntriesKeepProfile, HistoriesKeepProfile, SeenByMore};
+ghost use Rattle.controller.specs.Replay.{ContinuesByMore, ContinuesReplay, ContinuesLastObserved, CountsEntries, CountsHistory, EntriesKeepProfile, HistoriesKeepProfile, LastObservedByMore};
 ghost use Rattle.controller.specs.Stack.{AtMost48};
 
 /// A history with one entry more continues the replay: the entry happens in the state after the
 /// others, over any program, and what it shows is what was seen last. So do several.
-#[tactic(auto, using(crate::proofs::ReplayLemmas::continues, crate::proofs::ReplayLemmas::seen_continues, crate::proofs::ReplayLemmas::by_more, crate::proofs::ReplayLemmas::seen_by_more))]
+#[tactic(auto, using(crate::proofs::ReplayLemmas::continues, crate::proofs::ReplayLemmas::last_observed_continues, crate::proofs::ReplayLemmas::by_more, crate::proofs::ReplayLemmas::last_observed_by_more))]
 pub fn continues_replay()
     ensures state { ContinuesReplay }
-    ensures seen { ContinuesSeen }
+    ensures seen { ContinuesLastObserved }
     ensures more { ContinuesByMore }
-    ensures more_seen { SeenByMore }
+    ensures more_seen { LastObservedByMore }
 {}
 
 /// Each entry is counted, so the count is that of the history.

@@ -20,9 +20,10 @@ use plc_mem::Memory;
 use std::alloc::Global;
 use timers_counters::{Counters, Timers};
 
-/// The startup and its class.
-const STARTUP_OB: u16 = 100;
+/// The organization block of the startup.
+pub(crate) const STARTUP_OB: u16 = 100;
 
+/// The priority class of the startup.
 const STARTUP_CLASS: u8 = 27;
 
 /// Record of diagnostics: a warm restart.

@@ -2,7 +2,7 @@
 ghost use Rattle.std.specs.Prelude.{◌≡◌, false};
 ghost use Rattle.machine.specs.Flat.{code_of};
 ghost use Rattle.ob_sched.specs.Views.{scheduler_of};
-ghost use Rattle.controller.specs.Leaves.{call_left, statement_finished, mode_after, regs_called, regs_finished};
+ghost use Rattle.controller.specs.Leaves.{call_finished, statement_finished, mode_after, regs_called, regs_finished};
 ghost use Rattle.controller.specs.Monitoring.{step_record};
 ghost use Rattle.controller.specs.Ready.{HasStatement, IsReady};
 ghost use Rattle.controller.specs.Stack.{IsActivationStack};
@@ -14,15 +14,13 @@ use crate::activations::At;
 use crate::cpus::Cpu;
 use crate::monitoring::statement_record;
 use crate::spots::spot_at;
+use crate::starting::STARTUP_OB;
 use frames::Binding;
 use image_file::Loaded;
 use machine::{Inputs, Outcome};
 use monitor::MonRecord;
 use plc_base::Mode;
 use status_word::Regs;
-
-/// The startup.
-const STARTUP_OB: u16 = 100;
 
 impl Cpu {
     /// RUN begins.
@@ -52,10 +50,11 @@ impl Cpu {
         inputs: &Inputs,
         to: Option<Binding>,
     ) -> Regs
-        requires there { HasStatement (code_of program.now.program) position.now.block position.now.at }
+        requires there { HasStatement (code_of program.now.program)
+            position.now.block position.now.at }
         requires stack { IsActivationStack self.old.mode self.old.activations }
         ensures state { cpu_state self.new
-            ≡ call_left (code_of program.now.program) number inputs.now to position.now
+            ≡ call_finished (code_of program.now.program) number inputs.now to position.now
             self.old.activations (cpu_state self.old) }
         ensures regs { result ≡ regs_called number inputs.now (scheduler_of self.old.sched)
             self.old.activations position.now.regs }
@@ -75,7 +74,8 @@ impl Cpu {
     // all of it.
     #[tactic(auto, unfolding(crate::specs::Leaves::statement_finished))]
     fn finish(&mut self, program: &Loaded, position: &At, outcome: Outcome) -> Regs
-        requires there { HasStatement (code_of program.now.program) position.now.block position.now.at }
+        requires there { HasStatement (code_of program.now.program)
+            position.now.block position.now.at }
         requires stack { IsActivationStack (mode_after self.old.mode position.now.ob outcome)
             self.old.activations }
         ensures state { cpu_state self.new
@@ -103,7 +103,7 @@ impl Cpu {
     }
 
     /// A step outside STOP; the answer is the record of its statement, if its block is monitored.
-    #[tactic(auto, unfolding(crate::specs::Stepping::after_step), using(crate::proofs::StepLemmas::stepped_from, crate::proofs::StepLemmas::stepped_idle, crate::proofs::StepLemmas::idle, crate::proofs::StepLemmas::step_there, crate::proofs::StepLemmas::step_stands, crate::proofs::MonitoringLemmas::step_recorded, crate::proofs::MonitoringLemmas::idle_recorded))]
+    #[tactic(auto, unfolding(crate::specs::Stepping::after_step), using(crate::proofs::StepLemmas::running_step_finished, crate::proofs::StepLemmas::idle_step_finished, crate::proofs::StepLemmas::idle, crate::proofs::StepLemmas::step_there, crate::proofs::StepLemmas::step_stands, crate::proofs::MonitoringLemmas::step_recorded, crate::proofs::MonitoringLemmas::idle_recorded))]
     pub(crate) fn step(&mut self, program: &Loaded) -> Option<MonRecord>
         requires ready { IsReady (code_of program.now.program) self.old.activations }
         requires running { is_stop self.old.mode ≡ false }

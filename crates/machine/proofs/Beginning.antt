@@ -35,8 +35,8 @@ use Rattle.machine.proofs.Instructions.{kind_found}
 use Rattle.machine.proofs.Keeping.{KeepsLocalMemory, local_kept, same_local_memory}
 use Rattle.machine.proofs.Moving.{some_there, stands_of, fits_of}
 use Rattle.machine.proofs.Returned.{put_kept}
-use Rattle.machine.proofs.Sizes.{changed, same_sizes, region_sizes, same_parts}
-use Rattle.machine.proofs.Standing.{nothing_open, entry_stood, opens_there, statement_there}
+use Rattle.machine.proofs.Sizes.{areas_of_same_sizes, same_sizes, region_sizes, same_parts}
+use Rattle.machine.proofs.Standing.{nothing_open, entry_start, opens_there, statement_there}
 
 -- ---- an organization block begins
 
@@ -59,7 +59,7 @@ ob_begins l profile p m class ob h verifies memory found =
     let f = first_frame ob h.local_len in
     let one = block_found p block h (block_by_id block p.code_blocks) refl found in
     let b = one.0 in
-    let entry = entry_stood l p block b verifies one.1 in
+    let entry = entry_start l p block b verifies one.1 in
     let right = (l.blocks p b block verifies one.1).organization (kind_found p.code_blocks block b one.1) in
     let params : h.params ≡ [] = ap (λ (x : BlockHead). x.params) (sym one.2) ∙ right.0 in
     record {
@@ -172,11 +172,11 @@ input_sizes m n byte value done = region_sizes m n PeripheralInputs byte 0 width
 pub cleared_sizes : (p : Program) (m : Areas) → IsMemoryOf (code_of p) m → SameSizes m (outputs_cleared m)
 unfolding outputs_cleared initial_memory
 cleared_sizes p m is =
-    changed m m.inputs m.outputs m.bit_memory m.peripheral_inputs _ refl refl refl (same_parts m.peripheral_inputs)
+    areas_of_same_sizes m m.inputs m.outputs m.bit_memory m.peripheral_inputs _ refl refl refl (same_parts m.peripheral_inputs)
     (record { low = sym is.sizes.peripheral_outputs.low; high = sym is.sizes.peripheral_outputs.high })
 
 pub refreshed_sizes : (p : Program) (m : Areas) → IsMemoryOf (code_of p) m → SameSizes m (memory_refreshed m)
 unfolding memory_refreshed initial_memory
 refreshed_sizes p m is =
-    changed m m.peripheral_inputs.low m.outputs m.bit_memory m.peripheral_inputs _ (is.sizes.peripheral_inputs.low ∙ sym is.sizes.inputs) refl refl
+    areas_of_same_sizes m m.peripheral_inputs.low m.outputs m.bit_memory m.peripheral_inputs _ (is.sizes.peripheral_inputs.low ∙ sym is.sizes.inputs) refl refl
     (same_parts m.peripheral_inputs) (record { low = is.sizes.outputs ∙ sym is.sizes.peripheral_outputs.low; high = refl })

@@ -24,7 +24,7 @@ use Rattle.flat_code.specs.Instr.{Passing}
 use Rattle.flat_code.specs.Records.{section_in}
 use Rattle.machine.specs.declared.places.Access.{Access}
 use Rattle.machine.specs.declared.places.Location.{Location}
-use Rattle.machine.specs.Bindings.{param_access, bound_if, bound_place, bound_actual, bound_params, no_bindings, param_bindings}
+use Rattle.machine.specs.Bindings.{param_access, binding_if_there, bound_place, bound_actual, bound_params, no_bindings, param_bindings}
 use Rattle.machine.specs.DataBlocks.{is_block_loaded}
 use Rattle.machine.specs.Fitting.{local_len_at, LiesIn, ExistsIn, IsBound, AreBound, LocalsFit}
 use Rattle.machine.specs.ExecState.{Local}
@@ -91,7 +91,7 @@ place_bound :
 unfolding bound_place
 place_bound kind q frames access at s m fits width = by (location_number at s.locals m) refl
   where
-    by : (o : Option ℕ) → location_number at s.locals m ≡ o → IfDone (IsBound kind q frames m) (bound_if access at o)
+    by : (o : Option ℕ) → location_number at s.locals m ≡ o → IfDone (IsBound kind q frames m) (binding_if_there access at o)
     by None is = tt
     by (Some n) is = (width, place_exists frames s.locals m at fits (rw is refl))
 
@@ -180,10 +180,10 @@ actual_bound kind own q g below access (passed.InBlock number area width byte bi
 -- ---- one after another
 
 -- a function's bindings are supplied, so they are those of a function block too
-supplied : (q : Param) (frames : List Frame) (m : Areas) (b : Binding) → IsBound kinds.Fc q frames m b → IsBound kinds.Fb q frames m b
-supplied q frames m (binding.AtPlace at width frame) is = is
-supplied q frames m (binding.Constant value) is = is
-supplied q frames m binding.Unsupplied is = absurd is
+function_block_binding : (q : Param) (frames : List Frame) (m : Areas) (b : Binding) → IsBound kinds.Fc q frames m b → IsBound kinds.Fb q frames m b
+function_block_binding q frames m (binding.AtPlace at width frame) is = is
+function_block_binding q frames m (binding.Constant value) is = is
+function_block_binding q frames m binding.Unsupplied is = absurd is
 
 none_supplied : (ps : List Param) (frames : List Frame) (m : Areas) → AreBound kinds.Fb ps frames m (no_bindings ps)
 none_supplied [] frames m = tt
@@ -255,7 +255,7 @@ one_more ps frames m before bs i q b h found is =
     let within = get_within ps i q found in
     let there : i < length bs = omega (arith, len, within) in
     rw (set_is bs i b there) (record {
-      all = bound_set ps frames m bs i q b h.all found (supplied q frames m b is);
+      all = bound_set ps frames m bs i q b h.all found (function_block_binding q frames m b is);
       some = λ j r at was. by j r at (eqb i j) refl was there;
     })
   where
@@ -347,7 +347,7 @@ place_known : (access : Access) (at : Location) (s : Local) (m : Areas) → IfKn
 unfolding bound_place
 place_known access at s m = by (location_number at s.locals m)
   where
-    by : (o : Option ℕ) → IfKnownError (bound_if access at o)
+    by : (o : Option ℕ) → IfKnownError (binding_if_there access at o)
     by None = absent_known access at.place.area
     by (Some n) = tt
 

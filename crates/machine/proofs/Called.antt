@@ -35,15 +35,15 @@ use Rattle.machine.proofs.Keeping.{IfDone, KeepsLocalMemory, open_after}
 use Rattle.machine.proofs.Moving.{some_there, stands_of, fits_of, frames_are, frame_open, frame_follows, activation_follows}
 use Rattle.machine.proofs.Returned.{params_in_kept}
 use Rattle.machine.proofs.Sizes.{same_sizes}
-use Rattle.machine.proofs.Standing.{Stood, stood_there, nothing_open, entry_stood, opens_there, statement_there}
+use Rattle.machine.proofs.Standing.{StatementStart, statement_start_there, nothing_open, entry_start, opens_there, statement_there}
 
 -- ---- the innermost frame goes on
 
 -- at a position, with other registers
 pub going_fits :
     (l : ImageLaws) (p : Program) (m : Areas) (a : Activation) (next : ℕ) (r : Regs) → FitsProgram p m a
-    → Stood p a.running.frame.block next (frame_open a.running.frame) → FitsProgram p m (activation_continued_at next r a)
-going_fits l p m a next r h stood =
+    → StatementStart p a.running.frame.block next (frame_open a.running.frame) → FitsProgram p m (activation_continued_at next r a)
+going_fits l p m a next r h statement_start =
     let was = stands_of (code_of p) (open_codes p) m a h.fits in
     activation_follows l p m m a (record a.running { regs = r; frame = record a.running.frame { at = next } }) (same_sizes m) h
     (record {
@@ -54,7 +54,7 @@ going_fits l p m a next r h stood =
       db = was.frame.db;
       di = was.frame.di;
       held = frame_open a.running.frame;
-      stood = stood;
+      statement_start = statement_start;
       same = refl;
     }) refl refl
 
@@ -74,7 +74,7 @@ local_memory_fits l p m a c verifies h kept =
       db = open_after f.db c.local.inner.db m c.memory (ap (λ (i : FrameData). i.db) kept.inner) kept.memory was.frame.db;
       di = open_after f.di c.local.inner.di m c.memory (ap (λ (i : FrameData). i.di) kept.inner) kept.memory was.frame.di;
       held = frame_open f;
-      stood = stood_there p f.block f.at (frame_open f) verifies was.frame.open_brackets;
+      statement_start = statement_start_there p f.block f.at (frame_open f) verifies was.frame.open_brackets;
       same = ap (λ (i : FrameData). open_in_frame i.brackets i.relay) kept.inner;
     }) kept.starts kept.len
 
@@ -106,7 +106,7 @@ head_there p block b found = rw found refl
 pub record Caller (p : Program) (m : Areas) (a : Activation) (next : ℕ) : Type 0 where
   pub fits : FitsProgram p m a
   pub verifies : Verifies p
-  pub stood : Stood p a.running.frame.block next (frame_open a.running.frame)
+  pub statement_start : StatementStart p a.running.frame.block next (frame_open a.running.frame)
 
 -- the caller's frame behind the call
 abbrev pub caller : Activation → ℕ → Frame
@@ -124,7 +124,7 @@ entered_fits l p m a next block b o bs h found bound instance =
     let was = stands_of c brackets m a h.fits.fits in
     let g : Frame = caller a next in
     let new : Frame = fresh_frame (called_block block o (block_head_of b)) bs f in
-    let entry = entry_stood l p block b h.verifies found in
+    let entry = entry_start l p block b h.verifies found in
     let behind : FrameFits c brackets m a.below g = frame_follows l p m a.below f g (record {
       block = refl;
       local_len = refl;
@@ -133,7 +133,7 @@ entered_fits l p m a next block b o bs h found bound instance =
       db = was.frame.db;
       di = was.frame.di;
       held = frame_open f;
-      stood = h.stood;
+      statement_start = h.statement_start;
       same = refl;
     }) was.frame in
     let top : FrameFits c brackets m (g ∷ a.below) new = record {
@@ -172,7 +172,7 @@ called_lasts :
     → IfDone (AreBound block.kind b.params (caller a next ∷ a.below) w.memory) r → HasInstance block.kind (block_head_of b) w.memory o
     → StepFitsAgain p w (call_step (call_with_bindings r (called_block block o (block_head_of b)) next a w.memory) next a w)
 called_lasts l p a w next block b o (Err code) h found known bound instance =
-    (known, going_fits l p w.memory a next a.running.regs h.fits h.stood)
+    (known, going_fits l p w.memory a next a.running.regs h.fits h.statement_start)
 called_lasts l p a w next block b o (Ok bs) h found known bound instance = by (entry_fault b.local_len a)
   where
     by : (fault : Option FrameFault)

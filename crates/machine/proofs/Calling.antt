@@ -14,12 +14,12 @@ use Rattle.machine.specs.Code.{Code}
 use Rattle.machine.specs.Flat.{most_ops_of_statement, is_jl, jump_by_operation}
 use Rattle.machine.specs.Statement.{GlobalStore, instruction_step, jump_step}
 use Rattle.machine.specs.SystemCalls.{system_call, system_call_arguments}
-use Rattle.machine.specs.Walking.{bound_all, passings_at}
+use Rattle.machine.specs.Walking.{bindings_of_statement, passings_at}
 use Rattle.machine.proofs.FetchLemmas.{binds_along}
 
 pub call_unbound :
     (called : CalledBlock) (params : List Param) (next : ℕ) (a : Activation) (m : Areas) (ops : List OpData) (at code : ℕ)
-    → called.params ≡ params → bound_all ops at params (local_of a.running) m ≡ Err code
+    → called.params ≡ params → bindings_of_statement ops at params (local_of a.running) m ≡ Err code
     → block_call called (passings_at ops at) next a m ≡ Fails code
 unfolding block_call param_bindings
 call_unbound called params next a m ops at code is e =
@@ -36,7 +36,7 @@ bound_again called params passings next a m {bindings} is e =
 
 pub call_bound :
     (called : CalledBlock) (params : List Param) (next : ℕ) (a : Activation) (m : Areas) (ops : List OpData) (at : ℕ)
-    (bindings : List Binding) → called.params ≡ params → bound_all ops at params (local_of a.running) m ≡ Ok bindings
+    (bindings : List Binding) → called.params ≡ params → bindings_of_statement ops at params (local_of a.running) m ≡ Ok bindings
     → block_call called (passings_at ops at) next a m ≡ call_with_bindings (Ok bindings) called next a m
 unfolding block_call param_bindings
 call_bound called params next a m ops at bindings is e =
@@ -45,14 +45,14 @@ call_bound called params next a m ops at bindings is e =
 
 pub system_unbound :
     (params : List Param) (s : Local) (m : Areas) (ops : List OpData) (at code : ℕ)
-    → bound_all ops at params s m ≡ Err code → system_call params (passings_at ops at) s m ≡ Err code
+    → bindings_of_statement ops at params s m ≡ Err code → system_call params (passings_at ops at) s m ≡ Err code
 unfolding system_call param_bindings
 system_unbound params s m ops at code e =
     rw (sym (binds_along most_ops_of_statement ops at params (no_bindings params) s m)) (rw e refl)
 
 pub system_bound :
     (params : List Param) (s : Local) (m : Areas) (ops : List OpData) (at : ℕ) (bindings : List Binding)
-    → bound_all ops at params s m ≡ Ok bindings
+    → bindings_of_statement ops at params s m ≡ Ok bindings
     → system_call params (passings_at ops at) s m ≡ Ok (system_call_arguments params bindings s m)
 unfolding system_call param_bindings
 system_bound params s m ops at bindings e =

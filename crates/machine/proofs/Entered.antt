@@ -15,6 +15,7 @@ use Rattle.plc_base.specs.declared.Profile.{Profile}
 use Rattle.plc_mem.specs.Areas.{Areas}
 use Rattle.plc_mem.specs.Fresh.{initial_memory}
 use Rattle.plc_mem.proofs.Runs.{tests_agree}
+use Rattle.flat_code.specs.Records.{section_in}
 use Rattle.flat_code.specs.declared.image_fields.ParameterRecord.{ParameterRecord}
 use Rattle.flat_code.specs.declared.operands.Operand.{Operand}
 use Rattle.flat_code.specs.declared.operands.Operand.TheVariants as operand
@@ -136,8 +137,8 @@ pub actual_fits :
     → ((value : ℕ) → actual ≡ passed.Literal value → value < 4294967296)
     → FitsActual b.id.kind b.params q actual
 actual_fits p b q r (passed.Literal value) is by_itself fits small =
-    let parts = or_parts (not (eqb r.section 1)) (not (literal_fits r.width value)) fits in (
-      is.section ∙ eqb-true r.section 1 (not-false (eqb r.section 1) parts.0),
+    let parts = or_parts (not (eqb r.section section_in)) (not (literal_fits r.width value)) fits in (
+      is.section ∙ eqb-true r.section section_in (not-false (eqb r.section section_in) parts.0),
       literal_small q r value is (not-false (literal_fits r.width value) parts.1) (small value refl),
     )
 actual_fits p b q r (passed.Direct a w byte bit) is by_itself fits small =
@@ -145,9 +146,9 @@ actual_fits p b q r (passed.Direct a w byte bit) is by_itself fits small =
 actual_fits p b q r (passed.Parameter index w) is by_itself fits small =
     let own = by_itself.0 in
     let has = by_itself.1 in
-    let clear : (not (eqb r.width (width_number w)) || (not (eqb r.section 1) && eqb own.section 1)) ≡ false =
+    let clear : (not (eqb r.width (width_number w)) || (not (eqb r.section section_in) && eqb own.section section_in)) ≡ false =
     rw (own_there p b index w own has) at fits in
-    let wide = eqb-true r.width (width_number w) (not-false (eqb r.width (width_number w)) (or_parts (not (eqb r.width (width_number w))) (not (eqb r.section 1) && eqb own.section 1) clear).0) in (
+    let wide = eqb-true r.width (width_number w) (not-false (eqb r.width (width_number w)) (or_parts (not (eqb r.width (width_number w))) (not (eqb r.section section_in) && eqb own.section section_in) clear).0) in (
       has.kind,
       own,
       has.there,

@@ -17,6 +17,7 @@ use Rattle.timers_counters.specs.declared.faults.TimerFault.TheVariants.{NoNumbe
 use Rattle.frames.specs.declared.relay.Relay.{Relay}
 use Rattle.frames.specs.declared.bindings.Binding.{Binding}
 use Rattle.frames.specs.declared.bindings.Binding.TheVariants as binding
+use Rattle.flat_code.specs.Kinds.{counter_kind, timer_kind}
 use Rattle.flat_code.specs.declared.operands.Operand.{Operand}
 use Rattle.flat_code.specs.declared.operands.Operand.TheVariants as operand
 use Rattle.flat_code.specs.declared.table.OperandForms.{OperandForms}
@@ -285,8 +286,8 @@ bcd_loaded_known (operand.NumberedBy kind from byte) s m t n has =
     then_known (pointer_number from byte widths.Word s m) (λ number. bcd_of_numbered kind number t n) (pointer_known from byte widths.Word s m) (λ number. bcd_known kind number t n)
 bcd_loaded_known _ s m t n has = absurd has
 
-pub kind_none : (kind : ℕ) (t : OperandForms) → takes_timer t ≡ false → takes_counter t ≡ false → (kind == 1 && takes_timer t || kind == 2 && takes_counter t) ≡ true → ⊥
-kind_none kind t a b h = none (kind == 1) (kind == 2) (rw (a, b) at h)
+pub kind_none : (kind : ℕ) (t : OperandForms) → takes_timer t ≡ false → takes_counter t ≡ false → (kind == timer_kind && takes_timer t || kind == counter_kind && takes_counter t) ≡ true → ⊥
+kind_none kind t a b h = none (kind == timer_kind) (kind == counter_kind) (rw (a, b) at h)
   where
     none : (x y : Bool) → (x && false || y && false) ≡ true → ⊥
     none true true e = cc
@@ -521,7 +522,7 @@ HasRoom operation.Pass brackets r = ⊥
 HasRoom _ brackets r = Unit {0}
 
 pub record Suits (v : Operation) (o : Operand) (p : ExecState) : Type 0 where
-  pub admitted : admits (takes_of_operation v) o ≡ true
+  pub operand_admitted : admits (takes_of_operation v) o ≡ true
   pub has : ParamHas p.local (is_writing v) o
   pub other : goes_by_statement v o ≡ false
   pub room : HasRoom v p.local.inner.brackets p.local.inner.relay
@@ -584,44 +585,44 @@ pub effect_known : (v : Operation) (o : Operand) (p : ExecState) → Suits v o p
 unfolding operation_effect
 effect_known operation.Nop o p s = tt
 effect_known operation.Bld o p s = tt
-effect_known (operation.Check with) o p s = registers_known p _ (checking_known o p with s.admitted s.has)
+effect_known (operation.Check with) o p s = registers_known p _ (checking_known o p with s.operand_admitted s.has)
 effect_known operation.OrBare o p s = tt
 effect_known (operation.Nest with) o p s = own_known p _ (nest_done p with s.room)
 effect_known operation.Unnest o p s = own_known p _ (unnesting_done p.local s.room)
 effect_known (operation.Relay which) o p s = own_known p _ (relayed_done which p.local s.room)
-effect_known operation.Load o p s = registers_known p _ (loading_known o p s.admitted s.has)
+effect_known operation.Load o p s = registers_known p _ (loading_known o p s.operand_admitted s.has)
 effect_known operation.Transfer o p s =
-    local_memory_known p _ (transferred_known (if is_writing_off p.local then 0 else p.local.regs.a1) o p.local p.memory (written_place o takes.Transfer p.local (inl refl) s.admitted s.has))
+    local_memory_known p _ (transferred_known (if is_writing_off p.local then 0 else p.local.regs.a1) o p.local p.memory (written_place o takes.Transfer p.local (inl refl) s.operand_admitted s.has))
 effect_known operation.Assign o p s =
-    local_memory_known p _ (assigned_known o p.local p.memory (written_place o takes.Bit p.local (inr refl) s.admitted s.has))
-effect_known operation.Set o p s = set_known o p s.admitted s.has
-effect_known operation.Reset o p s = reset_known o p s.admitted s.has
+    local_memory_known p _ (assigned_known o p.local p.memory (written_place o takes.Bit p.local (inr refl) s.operand_admitted s.has))
+effect_known operation.Set o p s = set_known o p s.operand_admitted s.has
+effect_known operation.Reset o p s = reset_known o p s.operand_admitted s.has
 effect_known (operation.Edge rising) o p s =
-    local_memory_known p _ (edge_known rising o p.local p.memory (written_place o takes.Bit p.local (inr refl) s.admitted s.has))
+    local_memory_known p _ (edge_known rising o p.local p.memory (written_place o takes.Bit p.local (inr refl) s.operand_admitted s.has))
 effect_known operation.SetRlo o p s = tt
 effect_known operation.ClearRlo o p s = tt
 effect_known operation.NegateRlo o p s = tt
 effect_known operation.SaveRlo o p s = tt
-effect_known operation.LoadBcd o p s = registers_known p _ (loading_bcd_known o p (numbered_by o takes.Numbered (inl refl) s.admitted))
+effect_known operation.LoadBcd o p s = registers_known p _ (loading_bcd_known o p (numbered_by o takes.Numbered (inl refl) s.operand_admitted))
 effect_known operation.LoadStatus o p s = tt
 effect_known operation.TransferStatus o p s = tt
-effect_known operation.LoadOpenBlock o p s = registers_known p _ (open_fact_known o p.local p.memory s.admitted)
-effect_known (operation.Pointer what) o p s = local_memory_known p _ (pointed_known what o p.local p.memory s.admitted)
+effect_known operation.LoadOpenBlock o p s = registers_known p _ (open_fact_known o p.local p.memory s.operand_admitted)
+effect_known (operation.Pointer what) o p s = local_memory_known p _ (pointed_known what o p.local p.memory s.operand_admitted)
 effect_known (operation.Number what) o p s = registers_known p _ (counted_known what p.local.regs)
 effect_known (operation.Add what) o p s = tt
 effect_known (operation.CompareInt how) o p s = tt
 effect_known (operation.CompareDint how) o p s = tt
 effect_known (operation.Logic what) o p s = tt
 effect_known (operation.Shift what) o p s = tt
-effect_known (operation.Start how) o p s = timers_known p _ (starting_known how o p.local p.memory p.timers (numbered_by o takes.Timer (inr (inl refl)) s.admitted))
-effect_known operation.Free o p s = free_known o p (numbered_by o takes.Numbered (inl refl) s.admitted)
-effect_known operation.CountUp o p s = counters_known p _ (up_known o p.local p.memory p.counters (numbered_by o takes.Counter (inr (inr refl)) s.admitted))
-effect_known operation.CountDown o p s = counters_known p _ (down_known o p.local p.memory p.counters (numbered_by o takes.Counter (inr (inr refl)) s.admitted))
-effect_known operation.OpenBlock o p s = own_known p _ (opening_known o p.local p.memory s.admitted)
+effect_known (operation.Start how) o p s = timers_known p _ (starting_known how o p.local p.memory p.timers (numbered_by o takes.Timer (inr (inl refl)) s.operand_admitted))
+effect_known operation.Free o p s = free_known o p (numbered_by o takes.Numbered (inl refl) s.operand_admitted)
+effect_known operation.CountUp o p s = counters_known p _ (up_known o p.local p.memory p.counters (numbered_by o takes.Counter (inr (inr refl)) s.operand_admitted))
+effect_known operation.CountDown o p s = counters_known p _ (down_known o p.local p.memory p.counters (numbered_by o takes.Counter (inr (inr refl)) s.operand_admitted))
+effect_known operation.OpenBlock o p s = own_known p _ (opening_known o p.local p.memory s.operand_admitted)
 effect_known operation.Exchange o p s = tt
-effect_known operation.Jump o p s = absurd (no_jump o s.admitted s.other)
-effect_known (operation.Call how) o p s = absurd (no_call how o s.admitted s.other)
+effect_known operation.Jump o p s = absurd (no_jump o s.operand_admitted s.other)
+effect_known (operation.Call how) o p s = absurd (no_call how o s.operand_admitted s.other)
 effect_known (operation.End how) o p s = absurd (let e = s.other in cc)
 effect_known operation.UseDb o p s = absurd s.room
 effect_known operation.Pass o p s = absurd s.room
-effect_known operation.NoOperation o p s = absurd (no_code o s.admitted)
+effect_known operation.NoOperation o p s = absurd (no_code o s.operand_admitted)

@@ -16,10 +16,10 @@ use Rattle.flat_code.specs.Instr.{Passing}
 use Rattle.machine.specs.Code.{Code, Fetched}
 use Rattle.frames.specs.ParameterBindings.{binding_set}
 use Rattle.machine.specs.ExecState.{Local, then_ok}
-use Rattle.machine.specs.Bindings.{bound_params, bound_for}
+use Rattle.machine.specs.Bindings.{bound_params, binding_for_param}
 use Rattle.machine.specs.Flat.{OpRun, op_run_at, run_with, with_op, most_ops_of_statement, passings_of, use_db_of, with_passing, fetched_of, statement_fetched, instr_of}
 use Rattle.machine.specs.Statement.{GlobalStore, step_found, instruction_step, IsNotStuck}
-use Rattle.machine.specs.Walking.{StatementWalk, walk_with, bound_from, binding_by, bound_next, passings_up_to, passings_with, fetched_at}
+use Rattle.machine.specs.Walking.{StatementWalk, walk_with, bindings_by_ops, binding_by, bindings_after_op, passings_up_to, passings_with, statement_of_walk}
 
 -- a pass over the bindings that fails or goes on
 then_same :
@@ -40,7 +40,7 @@ passes_op :
     → then_ok (binding_by o params bindings s m) (λ bound. bound_params params rest bound s m)
     ≡ bound_params params (with_passing o rest) bindings s m
 passes_op params (operand.Pass index actual) rest bindings s m =
-    then_twice (bound_for (slice_get params index) actual s m) (λ b. binding_set bindings index b)
+    then_twice (binding_for_param (slice_get params index) actual s m) (λ b. binding_set bindings index b)
     (λ bound. bound_params params rest bound s m)
 passes_op params operand.Nothing rest bindings s m = refl
 passes_op params (operand.Literal value) rest bindings s m = refl
@@ -70,11 +70,11 @@ none_some x h = cc
 after_op :
     (most : ℕ) (ops : List OpData) (p : OpData × ℕ) (params : List Param) (bindings : List Binding) (s : Local) (m : Areas)
     → ((bound : List Binding)
-    → bound_from most ops p.1 params bound s m ≡ bound_params params (passings_up_to most ops p.1) bound s m)
-    → then_ok (binding_by p.0.operand params bindings s m) (λ next. bound_from most ops p.1 params next s m)
+    → bindings_by_ops most ops p.1 params bound s m ≡ bound_params params (passings_up_to most ops p.1) bound s m)
+    → then_ok (binding_by p.0.operand params bindings s m) (λ next. bindings_by_ops most ops p.1 params next s m)
     ≡ bound_params params (with_passing p.0.operand (passings_up_to most ops p.1)) bindings s m
 after_op most ops p params bindings s m along =
-    then_along (binding_by p.0.operand params bindings s m) (λ next. bound_from most ops p.1 params next s m)
+    then_along (binding_by p.0.operand params bindings s m) (λ next. bindings_by_ops most ops p.1 params next s m)
     (λ next. bound_params params (passings_up_to most ops p.1) next s m) along
     ∙ passes_op params p.0.operand (passings_up_to most ops p.1) bindings s m
 
@@ -82,8 +82,8 @@ by_last :
     (most : ℕ) (ops : List OpData) (last : Bool) (p : OpData × ℕ) (params : List Param) (bindings : List Binding) (s : Local)
     (m : Areas)
     → ((bound : List Binding)
-    → bound_from most ops p.1 params bound s m ≡ bound_params params (passings_up_to most ops p.1) bound s m)
-    → (if last then Ok bindings else then_ok (binding_by p.0.operand params bindings s m) (λ next. bound_from most ops p.1 params next s m))
+    → bindings_by_ops most ops p.1 params bound s m ≡ bound_params params (passings_up_to most ops p.1) bound s m)
+    → (if last then Ok bindings else then_ok (binding_by p.0.operand params bindings s m) (λ next. bindings_by_ops most ops p.1 params next s m))
     ≡ bound_params params (if last then [] else with_passing p.0.operand (passings_up_to most ops p.1)) bindings s m
 by_last most ops true p params bindings s m along = refl
 by_last most ops false p params bindings s m along = after_op most ops p params bindings s m along
@@ -92,8 +92,8 @@ at_op :
     (most : ℕ) (ops : List OpData) (p : Option (OpData × ℕ)) (params : List Param) (bindings : List Binding) (s : Local)
     (m : Areas)
     → ((at : ℕ) (bound : List Binding)
-    → bound_from most ops at params bound s m ≡ bound_params params (passings_up_to most ops at) bound s m)
-    → bound_next p params bindings s m (λ next bound. bound_from most ops next params bound s m)
+    → bindings_by_ops most ops at params bound s m ≡ bound_params params (passings_up_to most ops at) bound s m)
+    → bindings_after_op p params bindings s m (λ next bound. bindings_by_ops most ops next params bound s m)
     ≡ bound_params params (passings_with p (λ next. passings_up_to most ops next)) bindings s m
 at_op most ops None params bindings s m along = refl
 at_op most ops (Some p) params bindings s m along =
@@ -101,8 +101,8 @@ at_op most ops (Some p) params bindings s m along =
 
 pub binds_along :
     (most : ℕ) (ops : List OpData) (at : ℕ) (params : List Param) (bindings : List Binding) (s : Local) (m : Areas)
-    → bound_from most ops at params bindings s m ≡ bound_params params (passings_up_to most ops at) bindings s m
-unfolding bound_from passings_up_to
+    → bindings_by_ops most ops at params bindings s m ≡ bound_params params (passings_up_to most ops at) bindings s m
+unfolding bindings_by_ops passings_up_to
 binds_along zero ops at params bindings s m = refl
 binds_along (suc most) ops at params bindings s m =
     at_op most ops (op_placed 0 ops at) params bindings s m
@@ -147,7 +147,7 @@ run_passes (suc most) ops at r h =
 with_line :
     (b : CodeBlock) (at : ℕ) (line : Option ℕ) (found : Option OpRun) (walk : StatementWalk) → op_run_at most_ops_of_statement b.code at ≡ found
     → line_placed 0 true b.code b.lines at ≡ line → is_some line ≡ true → Some walk ≡ option_map (walk_with None) found
-    → option_and_then (λ line. option_map (fetched_of b.code line) found) line ≡ Some (fetched_at b at walk)
+    → option_and_then (λ line. option_map (fetched_of b.code line) found) line ≡ Some (statement_of_walk b at walk)
 with_line b at None found walk is placed there h = cc
 with_line b at (Some line) None walk is placed there h = absurd (none_some walk h)
 with_line b at (Some line) (Some r) walk is placed there h =
@@ -161,7 +161,7 @@ with_line b at (Some line) (Some r) walk is placed there h =
 pub found_at :
     (b : CodeBlock) (at : ℕ) (walk there : StatementWalk) → there ≡ walk → is_some (line_placed 0 true b.code b.lines at) ≡ true
     → Some walk ≡ option_map (walk_with None) (op_run_at most_ops_of_statement b.code at)
-    → statement_fetched b at ≡ Some (fetched_at b at there)
+    → statement_fetched b at ≡ Some (statement_of_walk b at there)
 unfolding statement_fetched
 found_at b at walk there same line h =
     rw same
@@ -188,7 +188,7 @@ no_walk (Some r) h some = none_some (walk_with None r) (sym h)
 pub found_there :
     (b : CodeBlock) (at : ℕ) (walk there : StatementWalk) → there ≡ walk → is_some (statement_fetched b at) ≡ true
     → Some walk ≡ option_map (walk_with None) (op_run_at most_ops_of_statement b.code at)
-    → statement_fetched b at ≡ Some (fetched_at b at there)
+    → statement_fetched b at ≡ Some (statement_of_walk b at there)
 unfolding statement_fetched
 found_there b at walk there same is h =
     found_at b at walk there same
@@ -211,7 +211,7 @@ goes_there c (Some f) a w there = refl
 pub found_is :
     (b : CodeBlock) (at : ℕ) (walk there : StatementWalk) (c : Code) (a : Activation) (w : GlobalStore) → there ≡ walk
     → Some walk ≡ option_map (walk_with None) (op_run_at most_ops_of_statement b.code at) → IsNotStuck (step_found c (statement_fetched b at) a w)
-    → step_found c (statement_fetched b at) a w ≡ instruction_step c (fetched_at b at there).instr (fetched_at b at there).next a w
+    → step_found c (statement_fetched b at) a w ≡ instruction_step c (statement_of_walk b at there).instr (statement_of_walk b at there).next a w
 found_is b at walk there c a w same h goes =
     ap (λ (f : Option Fetched). step_found c f a w)
     (found_there b at walk there same (goes_there c (statement_fetched b at) a w goes) h)

@@ -55,7 +55,7 @@ use Rattle.machine.specs.DataBlocks.{is_block_loaded}
 use Rattle.machine.specs.Effect.{on_local, operation_effect, with_db_opened, statement_effect}
 use Rattle.machine.specs.Entering.{activation_continued_at}
 use Rattle.machine.specs.Fitting.{HasInstance, IsBound, IsMemoryOf, OpenAt, codes_of}
-use Rattle.machine.specs.Flat.{call_by_number, code_of, block_head_of, instance_named, instr_of, is_jl, jump_by_operation, list_of, listed_with, most_listed, passings_of, use_db_of, use_db_first}
+use Rattle.machine.specs.Flat.{call_by_number, code_of, block_head_of, instance_named, instr_of, is_jl, jump_by_operation, list_of, list_with, most_listed, passings_of, use_db_of, use_db_first}
 use Rattle.machine.specs.Jumps.{regs_after_jump, jump_goal, is_jump_taken, list_goal, rlo_tested}
 use Rattle.machine.specs.ImageLaws.{ImageLaws}
 use Rattle.machine.specs.Lasting.{FitsProgram, StepFitsAgain}
@@ -70,14 +70,14 @@ use Rattle.machine.proofs.BindingLemmas.{PassingsFit, bound_of}
 use Rattle.machine.proofs.Called.{Caller, own_bound, function_lasts, function_block_lasts, going_fits, head_there}
 use Rattle.machine.proofs.Entered.{AreParams, of_blocks, of_functions, passings_fit, all_among, instance_long}
 use Rattle.machine.proofs.Errors.{IsKnownError, IfKnownError, IsSupplied, IsPlace, ParamHas, is_writing, goes_by_statement, HasRoom, Suits, effect_known, either_known, kind_none, zone_room, zone_there}
-use Rattle.machine.proofs.Keeping.{IfDone, Keeps, Quiet, codes_after, left_open, does_with_keeps}
+use Rattle.machine.proofs.Keeping.{IfDone, Keeps, KeepsOpen, codes_after, open_after_operation, does_with_keeps}
 use Rattle.machine.proofs.Moving.{stands_of, frame_open, activation_follows}
 use Rattle.machine.proofs.Ready.{IsCallable, callable_kind, kind_callable}
 use Rattle.machine.proofs.Returned.{returned_lasts}
 use Rattle.machine.proofs.Systems.{function_called_lasts}
 use Rattle.machine.proofs.Sizes.{same_sizes}
-use Rattle.machine.proofs.OpenBehind.{is_other, nest_opens, opening_operation, two_or_four, behind_op, left_behind, opening_code, ending_code}
-use Rattle.machine.proofs.Standing.{Stood, Statement, AllBefore, ends_here, none_before, stood_there, statement_there, next_stood, target_stood, next_op, op_here}
+use Rattle.machine.proofs.OpenBehind.{is_other, nest_opens, opening_operation, two_or_four, behind_op, open_behind_op, opening_code, ending_code}
+use Rattle.machine.proofs.Standing.{StatementStart, Statement, AllBefore, ends_here, none_before, statement_start_there, statement_there, next_start, target_start, next_op, op_here}
 
 -- an activation that fits a program that verifies, and the statement at which it stands
 pub record At (p : Program) (a : Activation) (w : GlobalStore) : Type 0 where
@@ -92,7 +92,7 @@ at_of l p a w verifies h =
     record {
       verifies = verifies;
       fits = h;
-      here = statement_there l p f.block f.at (frame_open f) (stood_there p f.block f.at (frame_open f) verifies was.frame.open_brackets);
+      here = statement_there l p f.block f.at (frame_open f) (statement_start_there p f.block f.at (frame_open f) verifies was.frame.open_brackets);
     }
 
 -- ---- operations that end no block
@@ -108,13 +108,13 @@ code_goes_on code h is = let e : true ≡ false = rw is at h in cc
 -- behind a statement that ends no block, and opens and closes nothing, the next one stands
 next_same :
     (l : ImageLaws) (p : Program) (a : Activation) (w : GlobalStore) (at : At p a w) (v : Operation)
-    → operation_of at.here.run.last.code ≡ v → is_be v ≡ false → Quiet v
-    → Stood p a.running.frame.block at.here.run.next (frame_open a.running.frame)
+    → operation_of at.here.run.last.code ≡ v → is_be v ≡ false → KeepsOpen v
+    → StatementStart p a.running.frame.block at.here.run.next (frame_open a.running.frame)
 next_same l p a w at v is goes quiet =
     let f = a.running.frame in
-    subst (λ (held : OpenAt). Stood p f.block at.here.run.next held)
-    (ap (λ (z : Operation). left_open z (frame_open f)) is ∙ quiet (frame_open f))
-    (next_stood l p f.block f.at (frame_open f) at.here (code_goes_on at.here.run.last.code (ap is_be is ∙ goes)))
+    subst (λ (held : OpenAt). StatementStart p f.block at.here.run.next held)
+    (ap (λ (z : Operation). open_after_operation z (frame_open f)) is ∙ quiet (frame_open f))
+    (next_start l p f.block f.at (frame_open f) at.here (code_goes_on at.here.run.last.code (ap is_be is ∙ goes)))
 
 -- ---- instructions that touch no position
 
@@ -135,16 +135,16 @@ went_fits l p a w at v q is goes kept =
       instance = kept.instance;
       db = kept.db was.frame.db was.frame.di;
       di = kept.di was.frame.db was.frame.di;
-      held = left_open v (frame_open f);
-      stood = subst (λ (z : Operation). Stood p f.block at.here.run.next (left_open z (frame_open f))) is
-          (next_stood l p f.block f.at (frame_open f) at.here (code_goes_on at.here.run.last.code (ap is_be is ∙ goes)));
+      held = open_after_operation v (frame_open f);
+      statement_start = subst (λ (z : Operation). StatementStart p f.block at.here.run.next (open_after_operation z (frame_open f))) is
+          (next_start l p f.block f.at (frame_open f) at.here (code_goes_on at.here.run.last.code (ap is_be is ∙ goes)));
       same = kept.held;
     }) kept.starts kept.len
 
 -- what an error of an instruction says: its code, and that brackets and zones are as they were
 pub record Erring (v : Operation) (code : ℕ) : Type 0 where
   -- the operation opens and closes no bracket and no zone
-  pub quiet : Quiet v
+  pub quiet : KeepsOpen v
   -- the code is one that an error may have
   pub known : IsKnownError code
 
@@ -157,9 +157,9 @@ does_lasts :
     → operation_of at.here.run.last.code ≡ v → is_be v ≡ false
     → IfDone (Keeps v (exec_state_of a.running w.memory w.timers w.counters)) r → IfErring v r
     → StepFitsAgain p w (continue_with r at.here.run.next a)
-does_lasts l p a w at v (Ok q) is goes kept erring = record { sizes = kept.memory; fits = went_fits l p a w at v q is goes kept }
-does_lasts l p a w at v (Err code) is goes kept erring =
-    (erring.known, going_fits l p w.memory a at.here.run.next a.running.regs at.fits (next_same l p a w at v is goes erring.quiet))
+does_lasts l p a w at v (Ok q) is goes kept effect_erring = record { sizes = kept.memory; fits = went_fits l p a w at v q is goes kept }
+does_lasts l p a w at v (Err code) is goes kept effect_erring =
+    (effect_erring.known, going_fits l p w.memory a at.here.run.next a.running.regs at.fits (next_same l p a w at v is goes effect_erring.quiet))
 
 -- ---- jumps
 
@@ -172,7 +172,7 @@ jump_lasts l p a w at how kind target is operand_is = record { sizes = same_size
     by : (taken : Bool) → FitsProgram p w.memory (activation_continued_at (jump_goal taken target at.here.run.next) (regs_after_jump how a.running.regs) a)
     by true =
         going_fits l p w.memory a target (regs_after_jump how a.running.regs) at.fits
-        (target_stood l p a.running.frame.block a.running.frame.at (frame_open a.running.frame) at.here kind target operand_is)
+        (target_start l p a.running.frame.block a.running.frame.at (frame_open a.running.frame) at.here kind target operand_is)
     by false =
         going_fits l p w.memory a at.here.run.next (regs_after_jump how a.running.regs) at.fits
         (next_same l p a w at operation.Jump is refl (λ held. refl))
@@ -203,19 +203,19 @@ unfolding jump_of_number
 jl_kind kind is = let e = jl_at 0 JUMPS kind jumps_known is in omega (arith, e)
 
 -- each target of a list is a statement with this open before it
-abbrev AllStood : Program → BlockId → OpenAt → List ℕ → Type 0
-AllStood p block held [] = Unit {0}
-AllStood p block held (at ∷ rest) = Stood p block at held × AllStood p block held rest
+abbrev AreStatementStarts : Program → BlockId → OpenAt → List ℕ → Type 0
+AreStatementStarts p block held [] = Unit {0}
+AreStatementStarts p block held (at ∷ rest) = StatementStart p block at held × AreStatementStarts p block held rest
 
-picked_stood :
-    (p : Program) (block : BlockId) (held : OpenAt) (list : List ℕ) (i otherwise : ℕ) → AllStood p block held list
-    → Stood p block otherwise held → Stood p block (unwrap_or (slice_get list i) otherwise) held
-picked_stood p block held [] i otherwise all other = other
-picked_stood p block held (at ∷ rest) zero otherwise all other = all.0
-picked_stood p block held (at ∷ rest) (suc i) otherwise all other = picked_stood p block held rest i otherwise all.1 other
+picked_start :
+    (p : Program) (block : BlockId) (held : OpenAt) (list : List ℕ) (i otherwise : ℕ) → AreStatementStarts p block held list
+    → StatementStart p block otherwise held → StatementStart p block (unwrap_or (slice_get list i) otherwise) held
+picked_start p block held [] i otherwise all other = other
+picked_start p block held (at ∷ rest) zero otherwise all other = all.0
+picked_start p block held (at ∷ rest) (suc i) otherwise all other = picked_start p block held rest i otherwise all.1 other
 
 -- what takes a jump opens and closes nothing, and prepares nothing
-jump_quiet : (v : Operation) → is_jump_form (takes_of_operation v) ≡ true → Quiet v
+jump_quiet : (v : Operation) → is_jump_form (takes_of_operation v) ≡ true → KeepsOpen v
 jump_quiet (operation.Nest with) h held = absurd cc
 jump_quiet operation.Unnest h held = absurd cc
 jump_quiet (operation.Relay which) h held = absurd cc
@@ -247,10 +247,10 @@ ju_is _ h = absurd cc
 abbrev AtRest : Program → BlockId → CodeBlock → OpenAt → (at : ℕ) → List OpData → Type 0
 AtRest p block b held at [] = Unit {0}
 AtRest p block b held at (op ∷ ops) =
-    (s : Stood p block at held) × (s.b ≡ b) × (s.q.op ≡ op) × (s.q.rest ≡ ops)
+    (s : StatementStart p block at held) × (s.b ≡ b) × (s.q.op ≡ op) × (s.q.rest ≡ ops)
 
 op_listed :
-    (p : Program) (block : BlockId) (b : CodeBlock) (at : ℕ) (held : OpenAt) (s : Stood p block at held) (op : OpData)
+    (p : Program) (block : BlockId) (b : CodeBlock) (at : ℕ) (held : OpenAt) (s : StatementStart p block at held) (op : OpData)
     → s.b ≡ b → s.q.op ≡ op → op_placed 0 b.code at ≡ Some (op, at + size_of_op op)
 op_listed p block b at held s op is same =
     ap (λ (z : CodeBlock). op_placed 0 z.code at) (sym is)
@@ -261,7 +261,7 @@ op_listed p block b at held s op is same =
 
 -- behind a jump the next statement stands
 behind_jump :
-    (l : ImageLaws) (p : Program) (block : BlockId) (b : CodeBlock) (at : ℕ) (held : OpenAt) (s : Stood p block at held)
+    (l : ImageLaws) (p : Program) (block : BlockId) (b : CodeBlock) (at : ℕ) (held : OpenAt) (s : StatementStart p block at held)
     (kind target : ℕ) (op : OpData) (rest : List OpData) → s.b ≡ b → s.q.op ≡ op → s.q.rest ≡ rest
     → op.operand ≡ operand.Jump kind target → AtRest p block b held (at + size_of_op op) rest
 behind_jump l p block b at held s kind target op [] is same split jumps = tt
@@ -277,7 +277,7 @@ behind_jump l p block b at held s kind target op (n ∷ ops) is same split jumps
         op = next_op l p s.b s.q n ops s.op split;
         offset = ap (λ (k : ℕ). k + size_of_op s.q.op) s.offset ∙ ap (λ (z : OpData). at + size_of_op z) same;
         begun = rw ended refl;
-        same = left_behind s.q n ops ∙ ap (left_open (operation_of s.q.op.code)) s.same ∙ jump_quiet (operation_of s.q.op.code) taken held;
+        same = open_behind_op s.q n ops ∙ ap (open_after_operation (operation_of s.q.op.code)) s.same ∙ jump_quiet (operation_of s.q.op.code) taken held;
       },
       is,
       refl,
@@ -285,23 +285,23 @@ behind_jump l p block b at held s kind target op (n ∷ ops) is same split jumps
     )
 
 -- each target of a list is the place of a JU
-list_stood :
+list_start :
     (l : ImageLaws) (p : Program) (block : BlockId) (b : CodeBlock) (held : OpenAt) (target most at : ℕ) (rest : List OpData)
     → leads_to_target most target at rest ≡ true → AtRest p block b held at rest
-    → AllStood p block held (list_of most b.code target at)
+    → AreStatementStarts p block held (list_of most b.code target at)
 unfolding list_of
-list_stood l p block b held target zero at rest leading s = tt
-list_stood l p block b held target (suc most) at [] leading s = by (eqb at target) leading
+list_start l p block b held target zero at rest leading s = tt
+list_start l p block b held target (suc most) at [] leading s = by (eqb at target) leading
   where
-    by : (t : Bool) → t ≡ true → AllStood p block held (cond t [] (listed_with (op_placed 0 b.code at) at (λ next. list_of most b.code target next)))
+    by : (t : Bool) → t ≡ true → AreStatementStarts p block held (cond t [] (list_with (op_placed 0 b.code at) at (λ next. list_of most b.code target next)))
     by true e = tt
     by false e = absurd cc
-list_stood l p block b held target (suc most) at (op ∷ ops) leading s =
-    by (eqb at target) leading (λ rest leads_on. list_stood l p block b held target most (at + size_of_op op) ops leads_on rest)
+list_start l p block b held target (suc most) at (op ∷ ops) leading s =
+    by (eqb at target) leading (λ rest leads_on. list_start l p block b held target most (at + size_of_op op) ops leads_on rest)
   where
     by : (t : Bool) → (t || (is_ju_operand op.operand && leads_to_target most target (at + size_of_op op) ops)) ≡ true
-        → (AtRest p block b held (at + size_of_op op) ops → leads_to_target most target (at + size_of_op op) ops ≡ true → AllStood p block held (list_of most b.code target (at + size_of_op op)))
-        → AllStood p block held (cond t [] (listed_with (op_placed 0 b.code at) at (λ next. list_of most b.code target next)))
+        → (AtRest p block b held (at + size_of_op op) ops → leads_to_target most target (at + size_of_op op) ops ≡ true → AreStatementStarts p block held (list_of most b.code target (at + size_of_op op)))
+        → AreStatementStarts p block held (cond t [] (list_with (op_placed 0 b.code at) at (λ next. list_of most b.code target next)))
     by true e more = tt
     by false e more =
         let parts = and_parts (is_ju_operand op.operand) (leads_to_target most target (at + size_of_op op) ops) e in
@@ -312,41 +312,41 @@ list_stood l p block b held target (suc most) at (op ∷ ops) leading s =
 jump_list_lasts :
     (l : ImageLaws) (p : Program) (a : Activation) (w : GlobalStore) (at : At p a w) (target : ℕ)
     → operation_of at.here.run.last.code ≡ operation.Jump → at.here.run.last.operand ≡ operand.Jump 1 target
-    → StepFitsAgain p w (instruction_step (code_of p) (JumpsByList (list_of most_listed at.here.stood.b.code target at.here.run.next) target) at.here.run.next a w)
+    → StepFitsAgain p w (instruction_step (code_of p) (JumpsByList (list_of most_listed at.here.statement_start.b.code target at.here.run.next) target) at.here.run.next a w)
 unfolding list_goal
 jump_list_lasts l p a w at target is operand_is =
     let f = a.running.frame in
     let held = frame_open f in
     let s = at.here in
-    let last_is : s.ran.last.op.operand ≡ operand.Jump 1 target = ap (λ (z : OpData). z.operand) s.ran.same ∙ operand_is in
-    let next_is : s.run.next ≡ s.ran.last.at + size_of_op s.ran.last.op = s.ran.next in
-    let here : Stood p f.block s.run.next held = next_same l p a w at operation.Jump is refl (λ held. refl) in
-    let list = list_stood l p f.block s.stood.b held target most_listed s.run.next s.ran.last.rest
-    (ap (λ (k : ℕ). leads_to_target 255 target k s.ran.last.rest) next_is ∙ l.lists p s.stood.b s.ran.last target s.ran.op last_is)
-    (behind_last s.ran.last.rest refl) in
+    let last_is : s.run_end.last.op.operand ≡ operand.Jump 1 target = ap (λ (z : OpData). z.operand) s.run_end.same ∙ operand_is in
+    let next_is : s.run.next ≡ s.run_end.last.at + size_of_op s.run_end.last.op = s.run_end.next in
+    let here : StatementStart p f.block s.run.next held = next_same l p a w at operation.Jump is refl (λ held. refl) in
+    let list = list_start l p f.block s.statement_start.b held target most_listed s.run.next s.run_end.last.rest
+    (ap (λ (k : ℕ). leads_to_target 255 target k s.run_end.last.rest) next_is ∙ l.lists p s.statement_start.b s.run_end.last target s.run_end.op last_is)
+    (behind_last s.run_end.last.rest refl) in
     record {
       sizes = same_sizes w.memory;
       fits = going_fits l p w.memory a _ a.running.regs at.fits
-          (picked_stood p f.block held (list_of most_listed s.stood.b.code target s.run.next) (a.running.regs.a1 % 2 ^ 8) target list
-          (target_stood l p f.block f.at held s 1 target operand_is));
+          (picked_start p f.block held (list_of most_listed s.statement_start.b.code target s.run.next) (a.running.regs.a1 % 2 ^ 8) target list
+          (target_start l p f.block f.at held s 1 target operand_is));
     }
   where
-    behind_last : (rest : List OpData) → at.here.ran.last.rest ≡ rest
-        → AtRest p a.running.frame.block at.here.stood.b (frame_open a.running.frame) at.here.run.next rest
+    behind_last : (rest : List OpData) → at.here.run_end.last.rest ≡ rest
+        → AtRest p a.running.frame.block at.here.statement_start.b (frame_open a.running.frame) at.here.run.next rest
     behind_last [] split = tt
     behind_last (n ∷ ops) split = (next_is_op n ops split, refl, refl, refl)
       where
-        next_is_op : (n : OpData) (ops : List OpData) → at.here.ran.last.rest ≡ n ∷ ops → Stood p a.running.frame.block at.here.run.next (frame_open a.running.frame)
+        next_is_op : (n : OpData) (ops : List OpData) → at.here.run_end.last.rest ≡ n ∷ ops → StatementStart p a.running.frame.block at.here.run.next (frame_open a.running.frame)
         next_is_op n ops split = record {
-          b = at.here.stood.b;
-          q = behind_op at.here.ran.last n ops;
-          found = at.here.stood.found;
-          op = next_op l p at.here.stood.b at.here.ran.last n ops at.here.ran.op split;
-          offset = sym at.here.ran.next;
-          begun = rw at.here.ran.ended refl;
-          same = left_behind at.here.ran.last n ops
-              ∙ ap (λ (z : OpData). left_open (operation_of z.code) (open_at at.here.ran.last)) at.here.ran.same
-              ∙ ap (λ (z : Operation). left_open z (open_at at.here.ran.last)) is ∙ at.here.ran.held ∙ at.here.stood.same;
+          b = at.here.statement_start.b;
+          q = behind_op at.here.run_end.last n ops;
+          found = at.here.statement_start.found;
+          op = next_op l p at.here.statement_start.b at.here.run_end.last n ops at.here.run_end.op split;
+          offset = sym at.here.run_end.next;
+          begun = rw at.here.run_end.ended refl;
+          same = open_behind_op at.here.run_end.last n ops
+              ∙ ap (λ (z : OpData). open_after_operation (operation_of z.code) (open_at at.here.run_end.last)) at.here.run_end.same
+              ∙ ap (λ (z : Operation). open_after_operation z (open_at at.here.run_end.last)) is ∙ at.here.run_end.held ∙ at.here.statement_start.same;
         }
 
 -- ---- ends
@@ -431,21 +431,21 @@ mapped_got f [] i y found = absurd cc
 mapped_got f (x ∷ xs) zero y found = (x, refl)
 mapped_got f (x ∷ xs) (suc i) y found = mapped_got f xs i y found
 
-fit_of : (l : ImageLaws) (p : Program) (a : Activation) (w : GlobalStore) (at : At p a w) (kind number instance : ℕ) → at.here.run.last.operand ≡ operand.Called kind number instance → FitsCall p at.here.ran.last kind number instance
+fit_of : (l : ImageLaws) (p : Program) (a : Activation) (w : GlobalStore) (at : At p a w) (kind number instance : ℕ) → at.here.run.last.operand ≡ operand.Called kind number instance → FitsCall p at.here.run_end.last kind number instance
 fit_of l p a w at kind number instance is =
-    l.calls p at.here.stood.b at.here.ran.last kind number instance at.here.ran.op (ap (λ (z : OpData). z.operand) at.here.ran.same ∙ is)
+    l.calls p at.here.statement_start.b at.here.run_end.last kind number instance at.here.run_end.op (ap (λ (z : OpData). z.operand) at.here.run_end.same ∙ is)
 
 -- what it passes fits
 call_passes :
     (l : ImageLaws) (p : Program) (a : Activation) (w : GlobalStore) (at : At p a w) (kind number instance : ℕ) (ps : List Param)
     (is : at.here.run.last.operand ≡ operand.Called kind number instance)
     → AreParams ps (fit_of l p a w at kind number instance is).called.2
-    → PassingsFit a.running.frame.block.kind at.here.stood.b.params ps (passings_of at.here.run.before)
+    → PassingsFit a.running.frame.block.kind at.here.statement_start.b.params ps (passings_of at.here.run.before)
 call_passes l p a w at kind number instance ps is params =
     let fit = fit_of l p a w at kind number instance is in
-    subst (λ (k : BlockKind). PassingsFit k at.here.stood.b.params ps (passings_of at.here.run.before))
-    (kind_found p.code_blocks a.running.frame.block at.here.stood.b at.here.stood.found)
-    (passings_fit l p at.here.stood.b ps kind number instance fit.called at.here.run.last at.here.run.before params fit.there is at.here.ran.passes)
+    subst (λ (k : BlockKind). PassingsFit k at.here.statement_start.b.params ps (passings_of at.here.run.before))
+    (kind_found p.code_blocks a.running.frame.block at.here.statement_start.b at.here.statement_start.found)
+    (passings_fit l p at.here.statement_start.b ps kind number instance fit.called at.here.run.last at.here.run.before params fit.there is at.here.run_end.passes)
 
 call_all :
     (l : ImageLaws) (p : Program) (a : Activation) (w : GlobalStore) (at : At p a w) (kind number instance : ℕ)
@@ -454,8 +454,8 @@ call_all :
     → are_all_passed 0 (fit_of l p a w at kind number instance is).called.2 at.here.run.before ≡ true
 call_all l p a w at kind number instance is other =
     let fit = fit_of l p a w at kind number instance is in
-    let before : at.here.ran.last.before ≡ at.here.run.before =
-    at.here.ran.before ∙ ap (λ (z : List OpData). z ++ at.here.run.before) (none_before at.here.stood.q.before at.here.stood.begun) in
+    let before : at.here.run_end.last.before ≡ at.here.run.before =
+    at.here.run_end.before ∙ ap (λ (z : List OpData). z ++ at.here.run.before) (none_before at.here.statement_start.q.before at.here.statement_start.begun) in
     ap (are_all_passed 0 fit.called.2) (sym before) ∙ fit.all other
 
 behind_call :
@@ -464,7 +464,7 @@ behind_call :
 behind_call l p a w at how is = record {
   fits = at.fits;
   verifies = at.verifies;
-  stood = next_same l p a w at (operation.Call how) is refl (λ held. refl);
+  statement_start = next_same l p a w at (operation.Call how) is refl (λ held. refl);
 }
 
 no_instance : (lens : List (ℕ × ℕ)) (called : CalleeSeen) (instance : ℕ) → (called.0 ≡ 3 → ⊥) → is_bad_instance lens called instance ≡ false → instance_named instance ≡ None
@@ -505,8 +505,8 @@ call_function l p a w at how number instance operation_is is =
     let all : are_all_passed 0 (map record_of_param b.params) at.here.run.before ≡ true =
     ap (λ (z : List ParameterRecord). are_all_passed 0 z at.here.run.before) (sym rs) ∙ call_all l p a w at 2 number instance is other in
     rw (no_instance (lens_of p.data_blocks) fit.called instance other fit.instance_fits, head_there p (record { kind = kinds.Fc; number = number }) b one.there)
-    (function_lasts l p a w at.here.run.next number at.here.stood.b b (passings_of at.here.run.before) (behind_call l p a w at how operation_is)
-    at.here.stood.found one.there (call_passes l p a w at 2 number instance b.params is params)
+    (function_lasts l p a w at.here.run.next number at.here.statement_start.b b (passings_of at.here.run.before) (behind_call l p a w at how operation_is)
+    at.here.statement_start.found one.there (call_passes l p a w at 2 number instance b.params is params)
     (λ i q found. all_among i (map record_of_param b.params) (record_of_param q) at.here.run.before all (get_mapped record_of_param b.params i q found)))
 
 call_function_block :
@@ -520,8 +520,8 @@ call_function_block l p a w at how number instance operation_is is =
     let rs : fit.called.2 ≡ map record_of_param b.params = ap (λ (z : CalleeSeen). z.2) one.same in
     let params : AreParams b.params fit.called.2 = subst (λ (z : List ParameterRecord). AreParams b.params z) (sym rs) (of_blocks b.params) in
     rw (head_there p (record { kind = kinds.Fb; number = number }) b one.there)
-    (function_block_lasts l p a w at.here.run.next number at.here.stood.b b (instance_named instance) (passings_of at.here.run.before)
-    (behind_call l p a w at how operation_is) at.here.stood.found one.there (call_passes l p a w at 3 number instance b.params is params)
+    (function_block_lasts l p a w at.here.run.next number at.here.statement_start.b b (instance_named instance) (passings_of at.here.run.before)
+    (behind_call l p a w at how operation_is) at.here.statement_start.found one.there (call_passes l p a w at 3 number instance b.params is params)
     (has_instance p w.memory b fit.called instance one.same at.fits.memory fit.instance_fits))
 
 -- the parameters of a system function
@@ -555,8 +555,8 @@ call_system_function l p a w at how number instance operation_is is =
     let all : are_all_passed 0 one.records at.here.run.before ≡ true =
     ap (λ (z : List ParameterRecord). are_all_passed 0 z at.here.run.before) (sym rs) ∙ call_all l p a w at 5 number instance is other in
     rw one.is
-    (function_called_lasts l p a w at.here.run.next number at.here.stood.b (map param_of_record one.records) (passings_of at.here.run.before)
-    (behind_call l p a w at how operation_is) (function_known number one.records one.is) at.here.stood.found
+    (function_called_lasts l p a w at.here.run.next number at.here.statement_start.b (map param_of_record one.records) (passings_of at.here.run.before)
+    (behind_call l p a w at how operation_is) (function_known number one.records one.is) at.here.statement_start.found
     (call_passes l p a w at 5 number instance (map param_of_record one.records) is params)
     (λ i q found. let r = mapped_got param_of_record one.records i q found in all_among i one.records r.0 at.here.run.before all r.1))
 
@@ -587,9 +587,9 @@ call_lasts l p a w at how kind number instance other is operand_is =
   where
     right : is_op at.here.run.last.code (operand.Called kind number instance) ≡ true
     right =
-        subst (λ (z : OpData). is_op z.code (operand.Called kind number instance) ≡ true) at.here.ran.same
-        (subst (λ (z : Operand). is_op at.here.ran.last.op.code z ≡ true) (ap (λ (z : OpData). z.operand) at.here.ran.same ∙ operand_is)
-        (l.table p at.here.stood.b at.here.ran.last at.here.ran.op))
+        subst (λ (z : OpData). is_op z.code (operand.Called kind number instance) ≡ true) at.here.run_end.same
+        (subst (λ (z : Operand). is_op at.here.run_end.last.op.code z ≡ true) (ap (λ (z : OpData). z.operand) at.here.run_end.same ∙ operand_is)
+        (l.table p at.here.statement_start.b at.here.run_end.last at.here.run_end.op))
 
     with_kind : (k : ℕ) → kind ≡ k → at.here.run.last.operand ≡ operand.Called k number instance
     with_kind k e = operand_is ∙ ap (λ (z : ℕ). operand.Called z number instance) e
@@ -613,11 +613,11 @@ call_lasts l p a w at how kind number instance other is operand_is =
 
 last_right : (l : ImageLaws) (p : Program) (a : Activation) (w : GlobalStore) (at : At p a w) → is_op at.here.run.last.code at.here.run.last.operand ≡ true
 last_right l p a w at =
-    subst (λ (z : OpData). is_op z.code z.operand ≡ true) at.here.ran.same (l.table p at.here.stood.b at.here.ran.last at.here.ran.op)
+    subst (λ (z : OpData). is_op z.code z.operand ≡ true) at.here.run_end.same (l.table p at.here.statement_start.b at.here.run_end.last at.here.run_end.op)
 
-admitted : (code : ℕ) (o : Operand) (v : Operation) → is_op code o ≡ true → operation_of code ≡ v → admits (takes_of_operation v) o ≡ true
+operand_admitted : (code : ℕ) (o : Operand) (v : Operation) → is_op code o ≡ true → operation_of code ≡ v → admits (takes_of_operation v) o ≡ true
 unfolding is_op takes_of
-admitted code o v right is =
+operand_admitted code o v right is =
     let taken = and_parts (ltb code 128 && admits (takes_of_operation (operation_of code)) o) (payload_fits o) right in
     rw (sym is) (and_parts (ltb code 128) (admits (takes_of_operation (operation_of code)) o) taken.0).1
 
@@ -661,17 +661,17 @@ param_has :
     → operation_of at.here.run.last.code ≡ v → at.here.run.last.operand ≡ o
     → ParamHas (local_of a.running) (is_writing v) o
 param_has l p a w at v (operand.Parameter index width) is o_is =
-    let b = at.here.stood.b in
-    let last = at.here.ran.last in
+    let b = at.here.statement_start.b in
+    let last = at.here.run_end.last in
     let fits : FitsOperand b last.op (operand.Parameter index width) =
-    subst (λ (z : Operand). FitsOperand b last.op z) (ap (λ (z : OpData). z.operand) at.here.ran.same ∙ o_is) (l.operands p b last at.here.ran.op) in
+    subst (λ (z : Operand). FitsOperand b last.op z) (ap (λ (z : OpData). z.operand) at.here.run_end.same ∙ o_is) (l.operands p b last at.here.run_end.op) in
     let q = fits.1 in
     let has = fits.2 in
-    let bound = own_bound p w.memory a b at.here.stood.found at.fits in
+    let bound = own_bound p w.memory a b at.here.statement_start.found at.fits in
     let one = bound_of a.running.frame.block.kind b.params a.below w.memory a.running.frame.bindings index q bound has.there in
-    let fc : a.running.frame.block.kind ≡ kinds.Fc = sym (kind_found p.code_blocks a.running.frame.block b at.here.stood.found) ∙ has.kind in
+    let fc : a.running.frame.block.kind ≡ kinds.Fc = sym (kind_found p.code_blocks a.running.frame.block b at.here.statement_start.found) ∙ has.kind in
     let bound_fc : IsBound kinds.Fc q a.below w.memory one.0 = subst (λ (k : BlockKind). IsBound k q a.below w.memory one.0) fc one.2 in
-    let last_code : operation_of last.op.code ≡ v = ap (λ (z : OpData). operation_of z.code) at.here.ran.same ∙ is in (
+    let last_code : operation_of last.op.code ≡ v = ap (λ (z : OpData). operation_of z.code) at.here.run_end.same ∙ is in (
       one.0,
       one.1,
       bound_has q a.below w.memory one.0 bound_fc,
@@ -684,11 +684,11 @@ length_codes : (bs : List OpenBracket) → length (bracket_codes bs) ≡ length 
 length_codes [] = refl
 length_codes (b ∷ bs) = ap suc (length_codes bs)
 
-as_many : (l : ImageLaws) (p : Program) (a : Activation) (w : GlobalStore) (at : At p a w) → length at.here.ran.last.brackets ≡ length a.running.frame.brackets
+as_many : (l : ImageLaws) (p : Program) (a : Activation) (w : GlobalStore) (at : At p a w) → length at.here.run_end.last.brackets ≡ length a.running.frame.brackets
 as_many l p a w at =
-    let bs = at.here.ran.last.brackets in
+    let bs = at.here.run_end.last.brackets in
     let own = a.running.frame.brackets in
-    let same : checks_of bs ≡ codes_of own = ap (λ (z : OpenAt). z.codes) (at.here.ran.held ∙ at.here.stood.same) in
+    let same : checks_of bs ≡ codes_of own = ap (λ (z : OpenAt). z.codes) (at.here.run_end.held ∙ at.here.statement_start.same) in
     sym (length_codes bs) ∙ sym (length-map (bracket_codes bs) check_named) ∙ sym (length-reverse (map check_named (bracket_codes bs)))
     ∙ ap length same ∙ length-map own (λ (b : Bracket). b.code)
 
@@ -697,9 +697,9 @@ nest_room :
     → operation_of at.here.run.last.code ≡ operation.Nest with → length a.running.frame.brackets ≡ 7 → ⊥
 unfolding operation_of
 nest_room l p a w at with is full =
-    let last = at.here.ran.last in
-    let last_is : operation_of last.op.code ≡ operation.Nest with = ap (λ (z : OpData). operation_of z.code) at.here.ran.same ∙ is in
-    let room = (l.brackets p at.here.stood.b last at.here.ran.op).room
+    let last = at.here.run_end.last in
+    let last_is : operation_of last.op.code ≡ operation.Nest with = ap (λ (z : OpData). operation_of z.code) at.here.run_end.same ∙ is in
+    let room = (l.brackets p at.here.statement_start.b last at.here.run_end.op).room
     (nest_opens last.op.code (ap is_other last_is) (λ e. other last.op.code last_is (eqb-true last.op.code (op_code operation.Unnest) e))) in
     let many = as_many l p a w at in
     omega (arith, room, many, full)
@@ -721,23 +721,23 @@ unnest_room :
     (l : ImageLaws) (p : Program) (a : Activation) (w : GlobalStore) (at : At p a w)
     → operation_of at.here.run.last.code ≡ operation.Unnest → a.running.frame.brackets ≡ [] → ⊥
 unnest_room l p a w at is none =
-    let last = at.here.ran.last in
-    let last_is : operation_of last.op.code ≡ operation.Unnest = ap (λ (z : OpData). operation_of z.code) at.here.ran.same ∙ is in
-    let there = (l.brackets p at.here.stood.b last at.here.ran.op).there (unnest_code last.op.code last_is) in
+    let last = at.here.run_end.last in
+    let last_is : operation_of last.op.code ≡ operation.Unnest = ap (λ (z : OpData). operation_of z.code) at.here.run_end.same ∙ is in
+    let there = (l.brackets p at.here.statement_start.b last at.here.run_end.op).there (unnest_code last.op.code last_is) in
     let many = as_many l p a w at in
     let zero : length a.running.frame.brackets ≡ 0 = ap length none in
     omega (arith, there, many, zero)
 
-zones_as_many : (l : ImageLaws) (p : Program) (a : Activation) (w : GlobalStore) (at : At p a w) → length at.here.ran.last.zones ≡ length a.running.frame.relay.zones
-zones_as_many l p a w at = ap (λ (z : OpenAt). z.zones) (at.here.ran.held ∙ at.here.stood.same)
+zones_as_many : (l : ImageLaws) (p : Program) (a : Activation) (w : GlobalStore) (at : At p a w) → length at.here.run_end.last.zones ≡ length a.running.frame.relay.zones
+zones_as_many l p a w at = ap (λ (z : OpenAt). z.zones) (at.here.run_end.held ∙ at.here.statement_start.same)
 
 zone_has_room :
     (l : ImageLaws) (p : Program) (a : Activation) (w : GlobalStore) (at : At p a w)
     → operation_of at.here.run.last.code ≡ operation.Relay relay.Open → length a.running.frame.relay.zones ≡ most_zones → ⊥
 zone_has_room l p a w at is full =
-    let last = at.here.ran.last in
-    let last_is : operation_of last.op.code ≡ operation.Relay relay.Open = ap (λ (z : OpData). operation_of z.code) at.here.ran.same ∙ is in
-    let room = (l.zones p at.here.stood.b last at.here.ran.op).room (opening_code last.op.code last_is) in
+    let last = at.here.run_end.last in
+    let last_is : operation_of last.op.code ≡ operation.Relay relay.Open = ap (λ (z : OpData). operation_of z.code) at.here.run_end.same ∙ is in
+    let room = (l.zones p at.here.statement_start.b last at.here.run_end.op).room (opening_code last.op.code last_is) in
     let many = zones_as_many l p a w at in
     omega (arith, room, many, full)
 
@@ -745,9 +745,9 @@ zone_is_there :
     (l : ImageLaws) (p : Program) (a : Activation) (w : GlobalStore) (at : At p a w)
     → operation_of at.here.run.last.code ≡ operation.Relay relay.Close → a.running.frame.relay.zones ≡ [] → ⊥
 zone_is_there l p a w at is none =
-    let last = at.here.ran.last in
-    let last_is : operation_of last.op.code ≡ operation.Relay relay.Close = ap (λ (z : OpData). operation_of z.code) at.here.ran.same ∙ is in
-    let there = (l.zones p at.here.stood.b last at.here.ran.op).there (ending_code last.op.code last_is) in
+    let last = at.here.run_end.last in
+    let last_is : operation_of last.op.code ≡ operation.Relay relay.Close = ap (λ (z : OpData). operation_of z.code) at.here.run_end.same ∙ is in
+    let there = (l.zones p at.here.statement_start.b last at.here.run_end.op).there (ending_code last.op.code last_is) in
     let many = zones_as_many l p a w at in
     let zero : length a.running.frame.relay.zones ≡ 0 = ap length none in
     omega (arith, there, many, zero)
@@ -755,13 +755,13 @@ zone_is_there l p a w at is none =
 -- what prepares ends no statement
 last_prepared :
     (l : ImageLaws) (p : Program) (a : Activation) (w : GlobalStore) (at : At p a w) (o : Operand) → at.here.run.last.operand ≡ o
-    → FitsPrepared at.here.stood.b at.here.ran.last o
+    → FitsPrepared at.here.statement_start.b at.here.run_end.last o
 last_prepared l p a w at o is =
-    subst (λ (z : Operand). FitsPrepared at.here.stood.b at.here.ran.last z) (ap (λ (z : OpData). z.operand) at.here.ran.same ∙ is)
-    (l.prepared p at.here.stood.b at.here.ran.last at.here.ran.op)
+    subst (λ (z : Operand). FitsPrepared at.here.statement_start.b at.here.run_end.last z) (ap (λ (z : OpData). z.operand) at.here.run_end.same ∙ is)
+    (l.prepared p at.here.statement_start.b at.here.run_end.last at.here.run_end.op)
 
-last_is_last : (p : Program) (a : Activation) (w : GlobalStore) (at : At p a w) → last_op at.here.ran.last ≡ at.here.run.last
-last_is_last p a w at = ends_here at.here.ran.last.op at.here.ran.last.rest at.here.ran.ended ∙ at.here.ran.same
+last_is_last : (p : Program) (a : Activation) (w : GlobalStore) (at : At p a w) → last_op at.here.run_end.last ≡ at.here.run.last
+last_is_last p a w at = ends_here at.here.run_end.last.op at.here.run_end.last.rest at.here.run_end.ended ∙ at.here.run_end.same
 
 no_use_db_last :
     (l : ImageLaws) (p : Program) (a : Activation) (w : GlobalStore) (at : At p a w) (o : Operand) → at.here.run.last.operand ≡ o
@@ -811,9 +811,9 @@ suits_here :
     → Suits v o (exec_state_of a.running w.memory w.timers w.counters)
 suits_here l p a w at v o is o_is other =
     let right : is_op at.here.run.last.code o ≡ true = subst (λ (z : Operand). is_op at.here.run.last.code z ≡ true) o_is (last_right l p a w at) in
-    let h = admitted at.here.run.last.code o v right is in
+    let h = operand_admitted at.here.run.last.code o v right is in
     record {
-      admitted = h;
+      operand_admitted = h;
       has = param_has l p a w at v o is o_is;
       other = other;
       room = has_room l p a w at v o is o_is h;
@@ -831,13 +831,13 @@ with_known None v o q s = effect_known v o q s
 with_known (Some number) v o q s =
     either_known (is_block_loaded number q.memory) (operation_effect v o (with_db_opened number q)) (Err 0x3A)
     (effect_known v o (with_db_opened number q) (record {
-      admitted = s.admitted;
+      operand_admitted = s.operand_admitted;
       has = param_moved q.local (with_db_opened number q).local (is_writing v) o refl s.has;
       other = s.other;
       room = s.room;
     })) refl
 
-quiet_erring : (v : Operation) (r : Result ExecState ℕ) → Quiet v → IfKnownError r → IfErring v r
+quiet_erring : (v : Operation) (r : Result ExecState ℕ) → KeepsOpen v → IfKnownError r → IfErring v r
 quiet_erring v (Ok q) quiet known = tt
 quiet_erring v (Err code) quiet known = record { quiet = quiet; known = known }
 
@@ -874,12 +874,12 @@ is_opening operation.Unnest = true
 is_opening (operation.Relay which) = true
 is_opening _ = false
 
-erring : (u : Option ℕ) (v : Operation) (o : Operand) (q : ExecState) → Suits v o q → (is_opening v ≡ true → u ≡ None) → IfErring v (statement_effect u v o q)
+effect_erring : (u : Option ℕ) (v : Operation) (o : Operand) (q : ExecState) → Suits v o q → (is_opening v ≡ true → u ≡ None) → IfErring v (statement_effect u v o q)
 unfolding statement_effect
-erring u (operation.Nest with) o q s none = rw (none refl) (nest_erring with o q s.room)
-erring u operation.Unnest o q s none = rw (none refl) (unnest_erring o q s.room)
-erring u (operation.Relay which) o q s none = rw (none refl) (relay_erring which o q s.room)
-erring u v o q s none = quiet_erring v (statement_effect u v o q) (λ held. refl) (with_known u v o q s)
+effect_erring u (operation.Nest with) o q s none = rw (none refl) (nest_erring with o q s.room)
+effect_erring u operation.Unnest o q s none = rw (none refl) (unnest_erring o q s.room)
+effect_erring u (operation.Relay which) o q s none = rw (none refl) (relay_erring which o q s.room)
+effect_erring u v o q s none = quiet_erring v (statement_effect u v o q) (λ held. refl) (with_known u v o q s)
 
 nothing_in_db : (o : Operand) → admits takes.Nothing o ≡ true → is_in_db o ≡ false
 unfolding admits
@@ -912,28 +912,28 @@ plain_lasts l p a w at v o is o_is goes other =
     let parts = exec_state_of a.running w.memory w.timers w.counters in
     let s = suits_here l p a w at v o is o_is other in
     does_lasts l p a w at v (statement_effect u v o parts) is goes (does_with_keeps u v o parts)
-    (erring u v o parts s (λ opening.
+    (effect_erring u v o parts s (λ opening.
     let none : is_in_db at.here.run.last.operand ≡ false =
-    ap is_in_db o_is ∙ nothing_in_db o (ap (λ (t : OperandForms). admits t o) (sym (opening_takes v opening)) ∙ s.admitted) in
-    no_use_db l p at.here.stood.b at.here.run.last at.here.run.before none at.here.ran.passes))
+    ap is_in_db o_is ∙ nothing_in_db o (ap (λ (t : OperandForms). admits t o) (sym (opening_takes v opening)) ∙ s.operand_admitted) in
+    no_use_db l p at.here.statement_start.b at.here.run.last at.here.run.before none at.here.run_end.passes))
 
 -- ---- all
 
 jump_or_list_lasts :
     (l : ImageLaws) (p : Program) (a : Activation) (w : GlobalStore) (at : At p a w) (kind target : ℕ)
     → operation_of at.here.run.last.code ≡ operation.Jump → at.here.run.last.operand ≡ operand.Jump kind target
-    → StepFitsAgain p w (instruction_step (code_of p) (jump_by_operation (jump_of_number kind) target at.here.run.next at.here.stood.b.code) at.here.run.next a w)
+    → StepFitsAgain p w (instruction_step (code_of p) (jump_by_operation (jump_of_number kind) target at.here.run.next at.here.statement_start.b.code) at.here.run.next a w)
 jump_or_list_lasts l p a w at kind target is o_is = by (is_jl (jump_of_number kind)) refl
   where
     by : (t : Bool) → is_jl (jump_of_number kind) ≡ t
-        → StepFitsAgain p w (instruction_step (code_of p) (cond t (JumpsByList (list_of most_listed at.here.stood.b.code target at.here.run.next) target) (Jumps (jump_of_number kind) target)) at.here.run.next a w)
+        → StepFitsAgain p w (instruction_step (code_of p) (cond t (JumpsByList (list_of most_listed at.here.statement_start.b.code target at.here.run.next) target) (Jumps (jump_of_number kind) target)) at.here.run.next a w)
     by true e = jump_list_lasts l p a w at target is (o_is ∙ ap (λ (k : ℕ). operand.Jump k target) (jl_kind kind e))
     by false e = jump_lasts l p a w at (jump_of_number kind) kind target is o_is
 
 instruction_lasts :
     (l : ImageLaws) (p : Program) (a : Activation) (w : GlobalStore) (at : At p a w) (v : Operation) (o : Operand)
     → operation_of at.here.run.last.code ≡ v → at.here.run.last.operand ≡ o
-    → StepFitsAgain p w (instruction_step (code_of p) (instr_of v o (use_db_of at.here.run.before) (passings_of at.here.run.before) at.here.run.next at.here.stood.b.code) at.here.run.next a w)
+    → StepFitsAgain p w (instruction_step (code_of p) (instr_of v o (use_db_of at.here.run.before) (passings_of at.here.run.before) at.here.run.next at.here.statement_start.b.code) at.here.run.next a w)
 instruction_lasts l p a w at operation.Jump (operand.Jump kind target) is o_is = jump_or_list_lasts l p a w at kind target is o_is
 instruction_lasts l p a w at (operation.Call how) (operand.Called kind number instance) is o_is = call_lasts l p a w at how kind number instance _ is o_is
 instruction_lasts l p a w at (operation.End how) o is o_is = end_lasts l p a w at how is

@@ -18,6 +18,7 @@ use Rattle.frames.specs.FrameData.{FrameData}
 use Rattle.frames.specs.Relay.{outer_zones, zone_opened, zone_ended}
 use Rattle.frames.specs.declared.relay.Relay.{Relay}
 use Rattle.frames.specs.Locals.{LocalData, local_written, local_operand_start}
+use Rattle.flat_code.specs.Kinds.{db_register_number}
 use Rattle.flat_code.specs.Placed.{is_empty_list, most_zones}
 use Rattle.flat_code.specs.declared.operands.Operand.{Operand}
 use Rattle.flat_code.specs.declared.operands.Operand.TheVariants as operand
@@ -200,8 +201,8 @@ zones_after (operation.Relay relay.Close) zones = zones - 1
 zones_after _ zones = zones
 
 -- what is open after an instruction
-abbrev pub left_open : Operation → OpenAt → OpenAt
-left_open w held = record { codes = codes_after w held.codes; zones = zones_after w held.zones }
+abbrev pub open_after_operation : Operation → OpenAt → OpenAt
+open_after_operation w held = record { codes = codes_after w held.codes; zones = zones_after w held.zones }
 
 pub record Keeps (w : Operation) (p q : ExecState) : Type 0 where
   pub memory : SameSizes p.memory q.memory
@@ -211,13 +212,13 @@ pub record Keeps (w : Operation) (p q : ExecState) : Type 0 where
   pub bindings : q.local.inner.bindings ≡ p.local.inner.bindings
   pub db : IsOpen p.local.inner.db p.memory → IsOpen p.local.inner.di p.memory → IsOpen q.local.inner.db q.memory
   pub di : IsOpen p.local.inner.db p.memory → IsOpen p.local.inner.di p.memory → IsOpen q.local.inner.di q.memory
-  pub held : open_in_frame q.local.inner.brackets q.local.inner.relay ≡ left_open w (open_in_frame p.local.inner.brackets p.local.inner.relay)
+  pub held : open_in_frame q.local.inner.brackets q.local.inner.relay ≡ open_after_operation w (open_in_frame p.local.inner.brackets p.local.inner.relay)
 
--- after it the same is open as before
-abbrev pub Quiet : Operation → Type 0
-Quiet w = (held : OpenAt) → left_open w held ≡ held
+-- an operation opens and closes no bracket and no zone
+abbrev pub KeepsOpen : Operation → Type 0
+KeepsOpen w = (held : OpenAt) → open_after_operation w held ≡ held
 
-pub same_keeps : (w : Operation) (p : ExecState) → Quiet w → Keeps w p p
+pub same_keeps : (w : Operation) (p : ExecState) → KeepsOpen w → Keeps w p p
 same_keeps w p quiet = record {
   memory = same_sizes p.memory;
   starts = refl;
@@ -230,7 +231,7 @@ same_keeps w p quiet = record {
 }
 
 -- other registers, timers or counters
-regs_kept : (w : Operation) (p : ExecState) (r : Result Regs ℕ) → Quiet w → IfDone (Keeps w p) (effect_on_regs p r)
+regs_kept : (w : Operation) (p : ExecState) (r : Result Regs ℕ) → KeepsOpen w → IfDone (Keeps w p) (effect_on_regs p r)
 regs_kept w p (Ok r) quiet = record {
   memory = same_sizes p.memory;
   starts = refl;
@@ -243,7 +244,7 @@ regs_kept w p (Ok r) quiet = record {
 }
 regs_kept w p (Err e) quiet = tt
 
-timers_kept : (w : Operation) (p : ExecState) (t : Result (List Timer) ℕ) → Quiet w → IfDone (Keeps w p) (on_timers p t)
+timers_kept : (w : Operation) (p : ExecState) (t : Result (List Timer) ℕ) → KeepsOpen w → IfDone (Keeps w p) (on_timers p t)
 timers_kept w p (Ok t) quiet = record {
   memory = same_sizes p.memory;
   starts = refl;
@@ -257,7 +258,7 @@ timers_kept w p (Ok t) quiet = record {
 timers_kept w p (Err e) quiet = tt
 
 counters_kept :
-    (w : Operation) (p : ExecState) (n : Result (List Counter) ℕ) → Quiet w → IfDone (Keeps w p) (on_counters p n)
+    (w : Operation) (p : ExecState) (n : Result (List Counter) ℕ) → KeepsOpen w → IfDone (Keeps w p) (on_counters p n)
 counters_kept w p (Ok n) quiet = record {
   memory = same_sizes p.memory;
   starts = refl;
@@ -276,7 +277,7 @@ open_after o r m n same sizes is = rw same (open_still o m n sizes is)
 
 -- bytes written
 local_memory_kept :
-    (w : Operation) (p : ExecState) (c : Result LocalMemory ℕ) → Quiet w → IfDone (KeepsLocalMemory p.local p.memory) c
+    (w : Operation) (p : ExecState) (c : Result LocalMemory ℕ) → KeepsOpen w → IfDone (KeepsLocalMemory p.local p.memory) c
     → IfDone (Keeps w p) (on_local_memory p c)
 local_memory_kept w p (Ok c) quiet kept = record {
   memory = kept.memory;
@@ -335,7 +336,7 @@ unnesting_keeps p = unnested_keeps p p.local.inner.brackets refl
 
 relay_keeps :
     (w : Operation) (r : Relay) (regs : Regs) (p : ExecState)
-    → open_in_frame p.local.inner.brackets r ≡ left_open w (open_in_frame p.local.inner.brackets p.local.inner.relay)
+    → open_in_frame p.local.inner.brackets r ≡ open_after_operation w (open_in_frame p.local.inner.brackets p.local.inner.relay)
     → Keeps w p (record p { local = with_frame_relay r (record p.local { regs = regs }) })
 relay_keeps w r regs p is = record {
   memory = same_sizes p.memory;
@@ -385,7 +386,7 @@ relayed_keeps relay.Close p = ending_zone_keeps p
 -- ---- data blocks
 
 opened_at :
-    (w : Operation) (number : ℕ) (p : ExecState) (first : Bool) → Quiet w → is_block_loaded number p.memory ≡ true
+    (w : Operation) (number : ℕ) (p : ExecState) (first : Bool) → KeepsOpen w → is_block_loaded number p.memory ≡ true
     → Keeps w p (record p {
       local = if first then record p.local { inner = record p.local.inner { db = Some number } }
           else record p.local { inner = record p.local.inner { di = Some number } };
@@ -412,19 +413,19 @@ opened_at w number p false quiet loaded = record {
 }
 
 opened_keeps :
-    (w : Operation) (register number : ℕ) (p : ExecState) (loaded : Bool) → Quiet w → is_block_loaded number p.memory ≡ loaded
+    (w : Operation) (register number : ℕ) (p : ExecState) (loaded : Bool) → KeepsOpen w → is_block_loaded number p.memory ≡ loaded
     → IfDone (Keeps w p) (on_local p (opened_if loaded register number p.local))
-opened_keeps w register number p true quiet is = opened_at w number p (register == 1) quiet is
+opened_keeps w register number p true quiet is = opened_at w number p (register == db_register_number) quiet is
 opened_keeps w register number p false quiet is = tt
 
 by_pointer_keeps :
-    (w : Operation) (register : ℕ) (p : ExecState) (found : Result ℕ ℕ) → Quiet w
+    (w : Operation) (register : ℕ) (p : ExecState) (found : Result ℕ ℕ) → KeepsOpen w
     → IfDone (Keeps w p) (on_local p (then_ok found (λ number. opened_if (is_block_loaded number p.memory) register number p.local)))
 by_pointer_keeps w register p (Ok number) quiet = opened_keeps w register number p (is_block_loaded number p.memory) quiet refl
 by_pointer_keeps w register p (Err e) quiet = tt
 
 opening_keeps :
-    (w : Operation) (o : Operand) (p : ExecState) → Quiet w → IfDone (Keeps w p) (on_local p (block_opened_by o p.local p.memory))
+    (w : Operation) (o : Operand) (p : ExecState) → KeepsOpen w → IfDone (Keeps w p) (on_local p (block_opened_by o p.local p.memory))
 unfolding block_opened_by
 opening_keeps w (operand.OpenBlock register number) p quiet =
     opened_keeps w register number p (is_block_loaded number p.memory) quiet refl
@@ -432,7 +433,7 @@ opening_keeps w (operand.OpenBy register from byte) p quiet =
     by_pointer_keeps w register p (pointer_number from byte widths.Word p.local p.memory) quiet
 opening_keeps w _ p quiet = tt
 
-exchanged_keeps : (w : Operation) (p : ExecState) → Quiet w → Keeps w p (record p { local = registers_exchanged p.local })
+exchanged_keeps : (w : Operation) (p : ExecState) → KeepsOpen w → Keeps w p (record p { local = registers_exchanged p.local })
 unfolding registers_exchanged
 exchanged_keeps w p quiet = record {
   memory = same_sizes p.memory;
@@ -448,12 +449,12 @@ exchanged_keeps w p quiet = record {
 -- ---- by kind of operand
 
 set_of_keeps :
-    (w : Operation) (kind : Option ℕ) (o : Operand) (p : ExecState) → Quiet w → IfDone (Keeps w p) (set_effect kind o p)
+    (w : Operation) (kind : Option ℕ) (o : Operand) (p : ExecState) → KeepsOpen w → IfDone (Keeps w p) (set_effect kind o p)
 set_of_keeps w None o p quiet = local_memory_kept w p (bit_set true o p.local p.memory) quiet (set_keeps true o p.local p.memory)
 set_of_keeps w (Some kind) o p quiet = counters_kept w p _ quiet
 
 reset_of_keeps :
-    (w : Operation) (kind : Option ℕ) (o : Operand) (p : ExecState) → Quiet w → IfDone (Keeps w p) (reset_effect kind o p)
+    (w : Operation) (kind : Option ℕ) (o : Operand) (p : ExecState) → KeepsOpen w → IfDone (Keeps w p) (reset_effect kind o p)
 reset_of_keeps w None o p quiet = local_memory_kept w p (bit_set false o p.local p.memory) quiet (set_keeps false o p.local p.memory)
 reset_of_keeps w (Some kind) o p quiet = by (is_timer_kind kind)
   where
@@ -463,7 +464,7 @@ reset_of_keeps w (Some kind) o p quiet = by (is_timer_kind kind)
     by false = counters_kept w p _ quiet
 
 free_of_keeps :
-    (w : Operation) (kind : Option ℕ) (o : Operand) (p : ExecState) → Quiet w → IfDone (Keeps w p) (enable_effect kind o p)
+    (w : Operation) (kind : Option ℕ) (o : Operand) (p : ExecState) → KeepsOpen w → IfDone (Keeps w p) (enable_effect kind o p)
 free_of_keeps w None o p quiet = tt
 free_of_keeps w (Some kind) o p quiet = by (is_timer_kind kind)
   where
@@ -521,10 +522,10 @@ effect_keeps operation.UseDb o p = tt
 effect_keeps operation.Pass o p = tt
 effect_keeps operation.NoOperation o p = tt
 
-opened_first :
+keeps_with_db_opened :
     (w : Operation) (number : ℕ) (p q : ExecState) → is_block_loaded number p.memory ≡ true → Keeps w (with_db_opened number p) q
     → Keeps w p q
-opened_first w number p q loaded kept = record {
+keeps_with_db_opened w number p q loaded kept = record {
   memory = kept.memory;
   starts = kept.starts;
   len = kept.len;
@@ -549,5 +550,5 @@ does_with_keeps (Some number) w o p = by (is_block_loaded number p.memory) refl
         → IfDone (Keeps w p) (if loaded then operation_effect w o (with_db_opened number p) else Err 0x3A)
     by true is =
         done_more (Keeps w (with_db_opened number p)) (Keeps w p) (operation_effect w o (with_db_opened number p))
-        (λ q kept. opened_first w number p q is kept) (effect_keeps w o (with_db_opened number p))
+        (λ q kept. keeps_with_db_opened w number p q is kept) (effect_keeps w o (with_db_opened number p))
     by false is = tt

@@ -24,9 +24,9 @@ ready_is l p m a verifies h = record {
   there = λ w. fits_goes p (open_codes p) m a w verifies l.placed l.table l.calls l.called h.fits;
 }
 
--- the same memory
-unchanged : (p : Program) (old new : GlobalStore) (a : Activation) (answer : Outcome) → new ≡ old → LeavesActivation p old.memory a answer → LeavesFit p old.memory new.memory a answer
-unchanged p old new a answer same leaves = rw same (record { sizes = same_sizes old.memory; leaves = leaves })
+-- what a statement leaves that changes no memory
+unchanged_memory_fits : (p : Program) (old new : GlobalStore) (a : Activation) (answer : Outcome) → new ≡ old → LeavesActivation p old.memory a answer → LeavesFit p old.memory new.memory a answer
+unchanged_memory_fits p old new a answer same leaves = rw same (record { sizes = same_sizes old.memory; leaves = leaves })
 
 step_leaves :
     (p : Program) (step : StatementStep) (old new : Activation) (w after : GlobalStore) (answer : Outcome) → FitsProgram p w.memory old

@@ -16,20 +16,20 @@ use Rattle.machine.specs.Lasting.{FitsProgram}
 use Rattle.machine.specs.OpenBrackets.{open_codes}
 use Rattle.machine.proofs.FrameBytes.{locals_kept, locals_moved}
 use Rattle.machine.proofs.Sizes.{memory_stays}
-use Rattle.machine.proofs.Standing.{Stood, statement_there, opens_there}
+use Rattle.machine.proofs.Standing.{StatementStart, statement_there, opens_there}
 use Rattle.machine.proofs.Staying.{frames_still}
 
 -- ---- an activation in which a frame stands
 
-standing : (ended : Bool) (P : List Frame → Type 0) (fs : List Frame) → ended ≡ false → P (if ended then [] else fs) → P fs
-standing true P fs e h = absurd cc
-standing false P fs e h = h
+of_standing_frames : (ended : Bool) (P : List Frame → Type 0) (fs : List Frame) → ended ≡ false → P (if ended then [] else fs) → P fs
+of_standing_frames true P fs e h = absurd cc
+of_standing_frames false P fs e h = h
 
-stood : (ended : Bool) (P : List Frame → Type 0) (fs : List Frame) → ended ≡ false → P fs → P (if ended then [] else fs)
-stood true P fs e h = absurd cc
-stood false P fs e h = h
+for_standing_frames : (ended : Bool) (P : List Frame → Type 0) (fs : List Frame) → ended ≡ false → P fs → P (if ended then [] else fs)
+for_standing_frames true P fs e h = absurd cc
+for_standing_frames false P fs e h = h
 
--- the same of its frame and those below
+-- an activation in which a frame stands: its innermost frame, those below and its local data fit
 pub record Stands (c : Code) (brackets : OpenCodes) (m : Areas) (a : Activation) : Type 0 where
   pub stands : a.ended ≡ false
   pub frame : FrameFits c brackets m a.below a.running.frame
@@ -39,20 +39,20 @@ pub record Stands (c : Code) (brackets : OpenCodes) (m : Areas) (a : Activation)
 pub stands_of :
     (c : Code) (brackets : OpenCodes) (m : Areas) (a : Activation) → ActivationFits c brackets m a → Stands c brackets m a
 stands_of c brackets m a fits =
-    let frames = standing a.ended (FramesFit c brackets m) (a.running.frame ∷ a.below) fits.stands fits.frames in
+    let frames = of_standing_frames a.ended (FramesFit c brackets m) (a.running.frame ∷ a.below) fits.stands fits.frames in
     record {
       stands = fits.stands;
       frame = frames.0;
       below = frames.1;
-      locals = standing a.ended (λ (fs : List Frame). LocalsFit fs a.running.locals) (a.running.frame ∷ a.below) fits.stands fits.locals;
+      locals = of_standing_frames a.ended (λ (fs : List Frame). LocalsFit fs a.running.locals) (a.running.frame ∷ a.below) fits.stands fits.locals;
     }
 
 pub fits_of :
     (c : Code) (brackets : OpenCodes) (m : Areas) (a : Activation) → Stands c brackets m a → ActivationFits c brackets m a
 fits_of c brackets m a s = record {
   stands = s.stands;
-  frames = stood a.ended (FramesFit c brackets m) (a.running.frame ∷ a.below) s.stands (s.frame, s.below);
-  locals = stood a.ended (λ (fs : List Frame). LocalsFit fs a.running.locals) (a.running.frame ∷ a.below) s.stands s.locals;
+  frames = for_standing_frames a.ended (FramesFit c brackets m) (a.running.frame ∷ a.below) s.stands (s.frame, s.below);
+  locals = for_standing_frames a.ended (λ (fs : List Frame). LocalsFit fs a.running.locals) (a.running.frame ∷ a.below) s.stands s.locals;
 }
 
 pub frames_are : (a : Activation) → a.ended ≡ false → frames_of a ≡ a.running.frame ∷ a.below
@@ -72,7 +72,7 @@ pub record Follows (p : Program) (n : Areas) (f g : Frame) : Type 0 where
   pub db : IsOpen g.db n
   pub di : IsOpen g.di n
   pub held : OpenAt
-  pub stood : Stood p g.block g.at held
+  pub statement_start : StatementStart p g.block g.at held
   pub same : frame_open g ≡ held
 
 same_block :
@@ -99,8 +99,8 @@ pub frame_follows :
     (l : ImageLaws) (p : Program) (n : Areas) (below : List Frame) (f g : Frame) → Follows p n f g
     → FrameFits (code_of p) (open_codes p) n below f → FrameFits (code_of p) (open_codes p) n below g
 frame_follows l p n below f g h fits = record {
-  statement = let s = statement_there l p g.block g.at h.held h.stood in some_there ((code_of p).fetch g.block g.at) _ s.fetched;
-  open_brackets = opens_there p g.block g.at h.held h.stood ∙ ap (λ (z : OpenAt). Some z) (sym h.same);
+  statement = let s = statement_there l p g.block g.at h.held h.statement_start in some_there ((code_of p).fetch g.block g.at) _ s.fetched;
+  open_brackets = opens_there p g.block g.at h.held h.statement_start ∙ ap (λ (z : OpenAt). Some z) (sym h.same);
   block = same_block (code_of p) f g below n h.block h.local_len h.bindings h.instance fits.block;
   db = h.db;
   di = h.di;

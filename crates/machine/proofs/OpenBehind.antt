@@ -18,7 +18,7 @@ use Rattle.flat_code.specs.Placed.{PlacedOp, bracket_codes, is_opening, brackets
 use Rattle.flat_code.specs.Operations.{operation_of}
 use Rattle.machine.specs.Fitting.{OpenAt}
 use Rattle.machine.specs.OpenBrackets.{check_named, checks_of, open_at}
-use Rattle.machine.proofs.Keeping.{codes_after, zones_after, left_open}
+use Rattle.machine.proofs.Keeping.{codes_after, zones_after, open_after_operation}
 
 -- ---- brackets
 
@@ -276,8 +276,8 @@ behind_op q op rest = record {
 }
 
 -- behind an op that stands behind these
-pub left_behind : (q : PlacedOp) (op : OpData) (rest : List OpData) → open_at (behind_op q op rest) ≡ left_open (operation_of q.op.code) (open_at q)
-left_behind q op rest =
+pub open_behind_op : (q : PlacedOp) (op : OpData) (rest : List OpData) → open_at (behind_op q op rest) ≡ open_after_operation (operation_of q.op.code) (open_at q)
+open_behind_op q op rest =
     same_open (checks_of (brackets_after q.at q.op.code q.brackets)) (codes_after (operation_of q.op.code) (checks_of q.brackets))
     (length (zones_behind_op q.at q.op.code q.zones)) (zones_after (operation_of q.op.code) (length q.zones))
     (checks_behind q.at q.op.code q.brackets) (count_behind q.at q.op.code q.zones)

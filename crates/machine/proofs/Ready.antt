@@ -80,8 +80,8 @@ some_below :
 some_below None f g y h = absurd (none_some y (sym h))
 some_below (Some x) f g y h = refl
 
-abbrev There : Program → (number : ℕ) → BlockKind → Type 0
-There p number kind = is_block_callable (code_of p) (record { kind = kind; number = number }) ≡ true
+abbrev IsNumberCallable : Program → (number : ℕ) → BlockKind → Type 0
+IsNumberCallable p number kind = is_block_callable (code_of p) (record { kind = kind; number = number }) ≡ true
 
 head_there :
     (p : Program) (number : ℕ) (found kind : BlockKind) (b : CodeBlock) → found ≡ kind
@@ -91,7 +91,7 @@ head_there p number found kind b e h = rw (sym e) (rw h refl)
 
 fc_there :
     (p : Program) (kind number : ℕ) (called : CalleeSeen) → CalledAreThere → kind ≡ 2
-    → callee_among (block_signatures p) kind number ≡ Some called → There p number kinds.Fc
+    → callee_among (block_signatures p) kind number ≡ Some called → IsNumberCallable p number kinds.Fc
 fc_there p kind number called law e h =
     let is : IsCalledBlock p kind number called = law p kind number called (inl e) h
     in let same : kind_of_number kind ≡ kinds.Fc = rw e refl
@@ -99,7 +99,7 @@ fc_there p kind number called law e h =
 
 fb_there :
     (p : Program) (kind number : ℕ) (called : CalleeSeen) → CalledAreThere → kind ≡ 3
-    → callee_among (block_signatures p) kind number ≡ Some called → There p number kinds.Fb
+    → callee_among (block_signatures p) kind number ≡ Some called → IsNumberCallable p number kinds.Fb
 fb_there p kind number called law e h =
     let is : IsCalledBlock p kind number called = law p kind number called (inr e) h
     in let same : kind_of_number kind ≡ kinds.Fb = rw e refl
@@ -107,7 +107,7 @@ fb_there p kind number called law e h =
 
 sfc_there :
     (p : Program) (kind number : ℕ) (called : CalleeSeen) → kind ≡ 5
-    → callee_among (block_signatures p) kind number ≡ Some called → There p number kinds.Sfc
+    → callee_among (block_signatures p) kind number ≡ Some called → IsNumberCallable p number kinds.Sfc
 unfolding callee_among
 sfc_there p kind number called e h =
     some_below (system_params number) (λ params. (5, 0, params)) (map param_of_record) called (rw e at h)
@@ -128,7 +128,7 @@ callable_kind kind h = grind (arith, nat_tests, h)
 
 called_there :
     (p : Program) (kind number : ℕ) (called : CalleeSeen) (k : BlockKind) → IsCallable kind → CalledAreThere
-    → callee_among (block_signatures p) kind number ≡ Some called → kind_of_code kind ≡ Some k → There p number k
+    → callee_among (block_signatures p) kind number ≡ Some called → kind_of_code kind ≡ Some k → IsNumberCallable p number k
 called_there p kind number called k (inl e) law h is =
     rw (sym (same_Some kinds.Fc k (sym (ap kind_of_code e) ∙ is))) (fc_there p kind number called law e h)
 called_there p kind number called k (inr (inl e)) law h is =
@@ -139,7 +139,7 @@ called_there p kind number called k (inr (inr e)) law h is =
 abbrev CallsThere : Program → CodeBlock → Operand → Type 0
 CallsThere p b o =
     (kind number instance : ℕ) (k : BlockKind) → o ≡ operand.Called kind number instance
-    → kind_of_code kind ≡ Some k → There p number k
+    → kind_of_code kind ≡ Some k → IsNumberCallable p number k
 
 last_calls :
     (p : Program) (own : BlockId) (b : CodeBlock) (from next : ℕ) (op : OpData) → Verifies p → OpsArePlaced → OpsAreOfTable → CallsFit
@@ -159,7 +159,7 @@ last_calls p own b from next op verifies placed_law table_law calls_law called_l
 call_by :
     (p : Program) (own : BlockId) (how : CallOperation) (k : Option BlockKind) (number instance : ℕ) (passings : List Passing)
     (use_db : Option ℕ) (w : Operation) (o : Operand)
-    → ((kind : BlockKind) → k ≡ Some kind → There p number kind)
+    → ((kind : BlockKind) → k ≡ Some kind → IsNumberCallable p number kind)
     → is_called_block_there (code_of p) (call_by_number k how number instance passings (Does use_db w o)) own ≡ true
 call_by p own how None number instance passings use_db w o needs = refl
 call_by p own how (Some kind) number instance passings use_db w o needs = needs kind refl

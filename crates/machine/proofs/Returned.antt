@@ -27,59 +27,59 @@ use Rattle.machine.proofs.Staying.{frames_still}
 
 -- ---- copies
 
-abbrev Kept : LocalMemory → LocalMemory → Type 0
-Kept c d = KeepsLocalMemory c.local c.memory d
+abbrev KeepsLocalMemoryOf : LocalMemory → LocalMemory → Type 0
+KeepsLocalMemoryOf c d = KeepsLocalMemory c.local c.memory d
 
-kept_then : (c d e : LocalMemory) → Kept c d → Kept d e → Kept c e
-kept_then c d e first second = record {
+keeps_local_memory_then : (c d e : LocalMemory) → KeepsLocalMemoryOf c d → KeepsLocalMemoryOf d e → KeepsLocalMemoryOf c e
+keeps_local_memory_then c d e first second = record {
   inner = second.inner ∙ first.inner;
   starts = second.starts ∙ first.starts;
   len = second.len ∙ first.len;
   memory = sizes_then c.memory d.memory e.memory first.memory second.memory;
 }
 
-local_memory_or_kept : (c : LocalMemory) (r : Result LocalMemory ℕ) → IfDone (KeepsLocalMemory c.local c.memory) r → Kept c (local_memory_or c r)
+local_memory_or_kept : (c : LocalMemory) (r : Result LocalMemory ℕ) → IfDone (KeepsLocalMemory c.local c.memory) r → KeepsLocalMemoryOf c (local_memory_or c r)
 local_memory_or_kept c (Ok d) kept = kept
 local_memory_or_kept c (Err e) kept = same_local_memory c.local c.memory
 
-pub put_kept : (to : Location) (n : ℕ) (c : LocalMemory) → Kept c (number_stored to n c)
+pub put_kept : (to : Location) (n : ℕ) (c : LocalMemory) → KeepsLocalMemoryOf c (number_stored to n c)
 put_kept to n c = local_memory_or_kept c (number_written_at to (n % 2 ^ bit_count to.width) c.local c.memory) (write_keeps to _ c.local c.memory)
 
-copied_kept : (from to : Location) (c : LocalMemory) → Kept c (number_copied from to c)
+copied_kept : (from to : Location) (c : LocalMemory) → KeepsLocalMemoryOf c (number_copied from to c)
 unfolding number_copied
 copied_kept from to c = put_kept to (unwrap_or (location_number from c.local.locals c.memory) 0) c
 
-passed_kept : (b : Option Binding) (to : Location) (c : LocalMemory) → Kept c (actual_copied_to b to c)
+passed_kept : (b : Option Binding) (to : Location) (c : LocalMemory) → KeepsLocalMemoryOf c (actual_copied_to b to c)
 unfolding actual_copied_to
 passed_kept (Some (binding.AtPlace place width frame)) to c = copied_kept (record { place = place; width = width; frame = frame }) to c
 passed_kept (Some (binding.Constant value)) to c = put_kept to value c
 passed_kept (Some binding.Unsupplied) to c = same_local_memory c.local c.memory
 passed_kept None to c = same_local_memory c.local c.memory
 
-given_kept : (from : Location) (b : Option Binding) (c : LocalMemory) → Kept c (copied_to_actual from b c)
+given_kept : (from : Location) (b : Option Binding) (c : LocalMemory) → KeepsLocalMemoryOf c (copied_to_actual from b c)
 unfolding copied_to_actual
 given_kept from (Some (binding.AtPlace place width frame)) c = copied_kept from (record { place = place; width = width; frame = frame }) c
 given_kept from (Some (binding.Constant value)) c = same_local_memory c.local c.memory
 given_kept from (Some binding.Unsupplied) c = same_local_memory c.local c.memory
 given_kept from None c = same_local_memory c.local c.memory
 
-either_kept : (test : Bool) (c d : LocalMemory) → Kept c d → Kept c (if test then d else c)
+either_kept : (test : Bool) (c d : LocalMemory) → KeepsLocalMemoryOf c d → KeepsLocalMemoryOf c (if test then d else c)
 either_kept true c d kept = kept
 either_kept false c d kept = same_local_memory c.local c.memory
 
-pub params_in_kept : (ps : List Param) (i : ℕ) (bs : List Binding) (instance : ℕ) (c : LocalMemory) → Kept c (params_copied_in ps i bs instance c)
+pub params_in_kept : (ps : List Param) (i : ℕ) (bs : List Binding) (instance : ℕ) (c : LocalMemory) → KeepsLocalMemoryOf c (params_copied_in ps i bs instance c)
 params_in_kept [] i bs instance c = same_local_memory c.local c.memory
 params_in_kept (p ∷ ps) i bs instance c =
     let d : LocalMemory = param_in p (slice_get bs i) instance c in
-    kept_then c d (params_copied_in ps (i + 1) bs instance d)
+    keeps_local_memory_then c d (params_copied_in ps (i + 1) bs instance d)
     (either_kept (is_copied_in p) c (actual_copied_to (slice_get bs i) (instance_parameter_location p instance) c) (passed_kept (slice_get bs i) (instance_parameter_location p instance) c))
     (params_in_kept ps (i + 1) bs instance d)
 
-pub params_out_kept : (ps : List Param) (i : ℕ) (bs : List Binding) (instance : ℕ) (c : LocalMemory) → Kept c (params_out ps i bs instance c)
+pub params_out_kept : (ps : List Param) (i : ℕ) (bs : List Binding) (instance : ℕ) (c : LocalMemory) → KeepsLocalMemoryOf c (params_out ps i bs instance c)
 params_out_kept [] i bs instance c = same_local_memory c.local c.memory
 params_out_kept (p ∷ ps) i bs instance c =
     let d : LocalMemory = param_out p (slice_get bs i) instance c in
-    kept_then c d (params_out ps (i + 1) bs instance d)
+    keeps_local_memory_then c d (params_out ps (i + 1) bs instance d)
     (either_kept (is_copied_out p) c (copied_to_actual (instance_parameter_location p instance) (slice_get bs i) c) (given_kept (instance_parameter_location p instance) (slice_get bs i) c))
     (params_out_kept ps (i + 1) bs instance d)
 

@@ -25,7 +25,7 @@ use Rattle.machine.specs.ExecState.{ExecState, local_of, exec_state_of, local_me
 use Rattle.machine.specs.Silent.{GoesSilently, GoesOrStays, RunsSilently, StaysReady, goes_on_by_kind, is_going_on, has_caller as has_caller_of, is_next_statement_of_kind, is_silent, keeps_outputs}
 use Rattle.machine.specs.Returning.{Return, GoesOn, Ends, outputs_copied_back, return_to_caller, block_return}
 use Rattle.machine.specs.Statement.{IsOutcomeOf, IsNotStuck, IsInstructionOutcome, StatementStep, Went, Ended, SyncError, SysCall, Stop, Stuck, GlobalStore, call_step, after_return, block_called, call_made, called_block, step_found, is_call_made, is_return_made, instruction_step, return_made, statement_step, continue_with}
-use Rattle.machine.specs.Walking.{StatementWalk, fetched_at, walk_with}
+use Rattle.machine.specs.Walking.{StatementWalk, statement_of_walk, walk_with}
 use Rattle.machine.proofs.FetchLemmas.{found_there, goes_there}
 use Rattle.machine.proofs.Keeping.{IfDone}
 use Rattle.machine.proofs.Outputs.{StateStays, Stay, effect_with_stays, params_in_stay}
@@ -233,7 +233,7 @@ pub found_passes :
     (p : Program) (b : CodeBlock) (a : Activation) (w : GlobalStore) (walk there : StatementWalk) → there ≡ walk
     → Some walk ≡ option_map (walk_with None) (op_run_at most_ops_of_statement b.code a.running.frame.at)
     → block_by_id a.running.frame.block p.code_blocks ≡ Some b → IsStatementReady p a
-    → statement_fetched b a.running.frame.at ≡ Some (fetched_at b a.running.frame.at there)
+    → statement_fetched b a.running.frame.at ≡ Some (statement_of_walk b a.running.frame.at there)
 found_passes p b a w walk there same h is ready =
     found_there b a.running.frame.at walk there same (there_of p b a w is ready) h
 

@@ -167,7 +167,7 @@ block_lens blocks new k at bit width value done number =
     (λ e. ap (finmap.get blocks) (nat_cmp-IsAntisymmetric number k (equal_is (nat_cmp number k) e)) ∙ was.2)
     (length-put was.0 was.1 at bit width value was.3)
 
-pub changed :
+pub areas_of_same_sizes :
     (m : Areas) (inputs outputs bit_memory : List ℕ) (pin pout : PeripheralBytes) → length inputs ≡ length m.inputs
     → length outputs ≡ length m.outputs → length bit_memory ≡ length m.bit_memory → SameParts m.peripheral_inputs pin
     → SameParts m.peripheral_outputs pout
@@ -178,7 +178,7 @@ pub changed :
       peripheral_inputs = pin;
       peripheral_outputs = pout;
     })
-changed m inputs outputs bit_memory pin pout i o b pi po = record {
+areas_of_same_sizes m inputs outputs bit_memory pin pout i o b pi po = record {
   inputs = i;
   outputs = o;
   bit_memory = b;
@@ -205,27 +205,27 @@ pub region_sizes :
     → number_written_in m region byte bit width value ≡ Some n → SameSizes m n
 region_sizes m n Inputs byte bit width value done =
     let was = mapped_value (λ (s : List ℕ). let r : Areas = record m { inputs = s } in r) (put_number m.inputs byte bit width value) n done in
-    rw (sym was.2) (changed m was.0 m.outputs m.bit_memory m.peripheral_inputs m.peripheral_outputs
+    rw (sym was.2) (areas_of_same_sizes m was.0 m.outputs m.bit_memory m.peripheral_inputs m.peripheral_outputs
     (length-put m.inputs was.0 byte bit width value was.1) refl refl (same_parts m.peripheral_inputs) (same_parts m.peripheral_outputs))
 region_sizes m n Outputs byte bit width value done =
     let was = mapped_value (λ (s : List ℕ). let r : Areas = record m { outputs = s } in r) (put_number m.outputs byte bit width value) n done in
-    rw (sym was.2) (changed m m.inputs was.0 m.bit_memory m.peripheral_inputs m.peripheral_outputs
+    rw (sym was.2) (areas_of_same_sizes m m.inputs was.0 m.bit_memory m.peripheral_inputs m.peripheral_outputs
     refl (length-put m.outputs was.0 byte bit width value was.1) refl (same_parts m.peripheral_inputs) (same_parts m.peripheral_outputs))
 region_sizes m n BitMemory byte bit width value done =
     let was = mapped_value (λ (s : List ℕ). let r : Areas = record m { bit_memory = s } in r) (put_number m.bit_memory byte bit width value) n done in
-    rw (sym was.2) (changed m m.inputs m.outputs was.0 m.peripheral_inputs m.peripheral_outputs
+    rw (sym was.2) (areas_of_same_sizes m m.inputs m.outputs was.0 m.peripheral_inputs m.peripheral_outputs
     refl refl (length-put m.bit_memory was.0 byte bit width value was.1) (same_parts m.peripheral_inputs) (same_parts m.peripheral_outputs))
 region_sizes m n PeripheralInputs byte bit width value done =
     let was = mapped_value (λ (p : PeripheralBytes). let r : Areas = record m { peripheral_inputs = p } in r)
     (put_peripheral m.peripheral_inputs byte bit width value) n done in
-    rw (sym was.2) (changed m m.inputs m.outputs m.bit_memory was.0 m.peripheral_outputs
+    rw (sym was.2) (areas_of_same_sizes m m.inputs m.outputs m.bit_memory was.0 m.peripheral_outputs
     refl refl refl (parts_put m.peripheral_inputs was.0 byte bit width value was.1) (same_parts m.peripheral_outputs))
 region_sizes m n PeripheralOutputs byte bit width value done =
     let was = mapped_value (λ (p : PeripheralBytes). let r : Areas = record m {
       outputs = unwrap_or (put_number m.outputs byte bit width value) m.outputs;
       peripheral_outputs = p;
     } in r) (put_peripheral m.peripheral_outputs byte bit width value) n done in
-    rw (sym was.2) (changed m m.inputs (unwrap_or (put_number m.outputs byte bit width value) m.outputs) m.bit_memory m.peripheral_inputs was.0
+    rw (sym was.2) (areas_of_same_sizes m m.inputs (unwrap_or (put_number m.outputs byte bit width value) m.outputs) m.bit_memory m.peripheral_inputs was.0
     refl (or_before (put_number m.outputs byte bit width value) m.outputs (λ s is. length-put m.outputs s byte bit width value is)) refl
     (same_parts m.peripheral_inputs) (parts_put m.peripheral_outputs was.0 byte bit width value was.1))
 region_sizes m n (DataBlock k) byte bit width value done =

@@ -23,8 +23,8 @@ use Rattle.machine.specs.Flat.{OpRun, op_run_at, with_op, most_ops_of_statement,
 use Rattle.machine.specs.ImageLaws.{ImageLaws}
 use Rattle.machine.specs.Fitting.{OpenAt}
 use Rattle.machine.specs.OpenBrackets.{check_named, checks_of, open_at, open_before, open_in, open_codes}
-use Rattle.machine.proofs.Keeping.{left_open}
-use Rattle.machine.proofs.OpenBehind.{same_open, prepared_same, prepared_zones, left_behind, behind_op}
+use Rattle.machine.proofs.Keeping.{open_after_operation}
+use Rattle.machine.proofs.OpenBehind.{same_open, prepared_same, prepared_zones, open_behind_op, behind_op}
 
 -- ---- ops in their places
 
@@ -90,7 +90,7 @@ AllBefore p b last [] = Unit {0}
 AllBefore p b last (op ∷ ops) =
     ((q : PlacedOp) × IsVerifiedOp p b q × (q.op ≡ op) × (last_op q ≡ last)) × AllBefore p b last ops
 
-pub record Ran (p : Program) (b : CodeBlock) (q : PlacedOp) (r : OpRun) : Type 0 where
+pub record RunEnd (p : Program) (b : CodeBlock) (q : PlacedOp) (r : OpRun) : Type 0 where
   pub last : PlacedOp
   pub op : IsVerifiedOp p b last
   pub same : last.op ≡ r.last
@@ -109,14 +109,14 @@ pub ends_here : (op : OpData) (rest : List OpData) → op.last ≡ true → endi
 ends_here op [] is = refl
 ends_here op (n ∷ rest) is = rw is refl
 
-pub run_is : (l : ImageLaws) (p : Program) (b : CodeBlock) (most : ℕ) (q : PlacedOp) (r : OpRun) → IsVerifiedOp p b q → op_run_at most b.code q.at ≡ Some r → Ran p b q r
+pub run_is : (l : ImageLaws) (p : Program) (b : CodeBlock) (most : ℕ) (q : PlacedOp) (r : OpRun) → IsVerifiedOp p b q → op_run_at most b.code q.at ≡ Some r → RunEnd p b q r
 unfolding op_run_at
 run_is l p b zero q r h e = absurd cc
 run_is l p b (suc most) q r h e =
     by q.op.last refl q.rest refl (rw (op_here 0 [] [] [] b.code q.at q h.place) at e)
     (λ op rest is s. run_is l p b most (behind_op q op rest) s (next_op l p b q op rest h is))
   where
-    only : q.op.last ≡ true → Ran p b q (record { before = []; last = q.op; next = q.at + size_of_op q.op })
+    only : q.op.last ≡ true → RunEnd p b q (record { before = []; last = q.op; next = q.at + size_of_op q.op })
     only is = record {
       last = q;
       op = h;
@@ -139,33 +139,33 @@ run_is l p b (suc most) q r h e =
     more_before : q.op.last ≡ false → before_next q.op q.before ≡ q.before ++ q.op ∷ []
     more_before is = ap (λ (t : Bool). cond t [] (q.before ++ q.op ∷ [])) is
 
-    longer : (op : OpData) (rest : List OpData) (s : OpRun) → q.op.last ≡ false → q.rest ≡ op ∷ rest → Ran p b (behind_op q op rest) s → Ran p b q (with_op q.op s)
-    longer op rest s is split ran =
-        let ends : last_op q ≡ s.last = ap (λ (z : List OpData). ending_op q.op z) split ∙ ap (λ (t : Bool). cond t q.op (ending_op op rest)) is ∙ ran.ends in
+    longer : (op : OpData) (rest : List OpData) (s : OpRun) → q.op.last ≡ false → q.rest ≡ op ∷ rest → RunEnd p b (behind_op q op rest) s → RunEnd p b q (with_op q.op s)
+    longer op rest s is split run_end =
+        let ends : last_op q ≡ s.last = ap (λ (z : List OpData). ending_op q.op z) split ∙ ap (λ (t : Bool). cond t q.op (ending_op op rest)) is ∙ run_end.ends in
         record {
-          last = ran.last;
-          op = ran.op;
-          same = ran.same;
-          next = ran.next;
-          ended = ran.ended;
-          held = ran.held
+          last = run_end.last;
+          op = run_end.op;
+          same = run_end.same;
+          next = run_end.next;
+          ended = run_end.ended;
+          held = run_end.held
               ∙ same_open (checks_of (brackets_after q.at q.op.code q.brackets)) (checks_of q.brackets) (length (zones_behind_op q.at q.op.code q.zones)) (length q.zones)
               (ap checks_of (prepared_same q.at q.op.code q.brackets (prepared is)))
               (ap length (prepared_zones q.at q.op.code q.zones (prepared is)));
-          before = ran.before ∙ ap (λ (z : List OpData). z ++ s.before) (more_before is) ∙ append_assoc q.before (q.op ∷ []) s.before;
+          before = run_end.before ∙ ap (λ (z : List OpData). z ++ s.before) (more_before is) ∙ append_assoc q.before (q.op ∷ []) s.before;
           ends = ends;
-          passes = ((q, h, refl, ends), ran.passes);
+          passes = ((q, h, refl, ends), run_end.passes);
         }
 
-    found : (o : Option OpRun) → option_map (with_op q.op) o ≡ Some r → ((s : OpRun) → o ≡ Some s → Ran p b q (with_op q.op s)) → Ran p b q r
+    found : (o : Option OpRun) → option_map (with_op q.op) o ≡ Some r → ((s : OpRun) → o ≡ Some s → RunEnd p b q (with_op q.op s)) → RunEnd p b q r
     found None e f = absurd cc
-    found (Some s) e f = subst (λ (z : OpRun). Ran p b q z) (same_Some (with_op q.op s) r e) (f s refl)
+    found (Some s) e f = subst (λ (z : OpRun). RunEnd p b q z) (same_Some (with_op q.op s) r e) (f s refl)
 
     by : (last : Bool) → q.op.last ≡ last → (rest : List OpData) → q.rest ≡ rest
         → cond last (Some (record { before = []; last = q.op; next = q.at + size_of_op q.op })) (option_map (with_op q.op) (op_run_at most b.code (q.at + size_of_op q.op))) ≡ Some r
-        → ((op : OpData) (rest : List OpData) → q.rest ≡ op ∷ rest → (s : OpRun) → op_run_at most b.code (q.at + size_of_op q.op) ≡ Some s → Ran p b (behind_op q op rest) s)
-        → Ran p b q r
-    by true is rest split e more = subst (λ (z : OpRun). Ran p b q z) (same_Some (record { before = []; last = q.op; next = q.at + size_of_op q.op }) r e) (only is)
+        → ((op : OpData) (rest : List OpData) → q.rest ≡ op ∷ rest → (s : OpRun) → op_run_at most b.code (q.at + size_of_op q.op) ≡ Some s → RunEnd p b (behind_op q op rest) s)
+        → RunEnd p b q r
+    by true is rest split e more = subst (λ (z : OpRun). RunEnd p b q z) (same_Some (record { before = []; last = q.op; next = q.at + size_of_op q.op }) r e) (only is)
     by false is [] split e more = absurd (true≢false (sym (last_ends l p b q h split).1 ∙ is))
     by false is (op ∷ rest) split e more =
         found (op_run_at most b.code (q.at + size_of_op q.op)) e (λ s s_is. longer op rest s is split (more op rest split s s_is))
@@ -173,7 +173,7 @@ run_is l p b (suc most) q r h e =
 -- ---- a statement begins
 
 -- a statement of a block begins at an offset, and this is open before it
-pub record Stood (p : Program) (block : BlockId) (at : ℕ) (held : OpenAt) : Type 0 where
+pub record StatementStart (p : Program) (block : BlockId) (at : ℕ) (held : OpenAt) : Type 0 where
   pub b : CodeBlock
   pub q : PlacedOp
   pub found : block_by_id block p.code_blocks ≡ Some b
@@ -186,13 +186,13 @@ pub none_before : (before : List OpData) → is_empty_list before ≡ true → b
 none_before [] e = refl
 none_before (op ∷ before) e = absurd cc
 
--- its ops
+-- a statement of a block at an offset: where it begins, its source line and its run of ops
 pub record Statement (p : Program) (block : BlockId) (at : ℕ) (held : OpenAt) : Type 0 where
-  pub stood : Stood p block at held
+  pub statement_start : StatementStart p block at held
   pub line : ℕ
   pub run : OpRun
-  pub fetched : (code_of p).fetch block at ≡ Some (fetched_of stood.b.code line run)
-  pub ran : Ran p stood.b stood.q run
+  pub fetched : (code_of p).fetch block at ≡ Some (fetched_of statement_start.b.code line run)
+  pub run_end : RunEnd p statement_start.b statement_start.q run
 
 run_found : (o : Option OpRun) → IsSome o → (r : OpRun) × (o ≡ Some r)
 run_found (Some r) there = (r, refl)
@@ -205,7 +205,7 @@ unfolding statement_fetched
 fetched_there b at line r has run = rw (has, run) refl
 
 pub statement_there :
-    (l : ImageLaws) (p : Program) (block : BlockId) (at : ℕ) (held : OpenAt) → Stood p block at held
+    (l : ImageLaws) (p : Program) (block : BlockId) (at : ℕ) (held : OpenAt) → StatementStart p block at held
     → Statement p block at held
 statement_there l p block at held s =
     let few : most_ops_of_statement + length s.q.before ≡ 64 = ap (λ (z : List OpData). 64 + length z) (none_before s.q.before s.begun) in
@@ -214,15 +214,15 @@ statement_there l p block at held s =
     let there : statement_fetched s.b at ≡ Some (fetched_of s.b.code line.line r.0) =
     ap (statement_fetched s.b) (sym s.offset) ∙ fetched_there s.b s.q.at line.line r.0 line.is r.1 in
     record {
-      stood = s;
+      statement_start = s;
       line = line.line;
       run = r.0;
       fetched = rw s.found there;
-      ran = run_is l p s.b most_ops_of_statement s.q r.0 s.op r.1;
+      run_end = run_is l p s.b most_ops_of_statement s.q r.0 s.op r.1;
     }
 
 pub opens_there :
-    (p : Program) (block : BlockId) (at : ℕ) (held : OpenAt) → Stood p block at held
+    (p : Program) (block : BlockId) (at : ℕ) (held : OpenAt) → StatementStart p block at held
     → open_codes p block at ≡ Some held
 opens_there p block at held s =
     let place : placed_at at (code_places s.b.code) ≡ Some s.q = ap (λ (k : ℕ). placed_at k (code_places s.b.code)) (sym s.offset) ∙ s.op.place in
@@ -236,13 +236,13 @@ place_offset (p ∷ qs) at q found = by (eqb p.at at) refl found (λ e. place_of
     by true is e more = sym (ap (λ (z : PlacedOp). z.at) (same_Some p q e)) ∙ eqb-true p.at at is
     by false is e more = more e
 
-pub stood_there :
+pub statement_start_there :
     (p : Program) (block : BlockId) (at : ℕ) (held : OpenAt) → Verifies p → open_codes p block at ≡ Some held
-    → Stood p block at held
-stood_there p block at held verifies h = by_block (block_by_id block p.code_blocks) refl h
+    → StatementStart p block at held
+statement_start_there p block at held verifies h = by_block (block_by_id block p.code_blocks) refl h
   where
     begun : (b : CodeBlock) (q : PlacedOp) (t : Bool) → block_by_id block p.code_blocks ≡ Some b → placed_at at (code_places b.code) ≡ Some q → begins_its_statement q ≡ t
-        → cond t (Some (open_at q)) None ≡ Some held → Stood p block at held
+        → cond t (Some (open_at q)) None ≡ Some held → StatementStart p block at held
     begun b q true found place is e =
         let offset = place_offset (code_places b.code) at q place in
         record {
@@ -261,65 +261,65 @@ stood_there p block at held verifies h = by_block (block_by_id block p.code_bloc
         }
     begun b q false found place is e = absurd cc
 
-    by_place : (b : CodeBlock) (o : Option PlacedOp) → block_by_id block p.code_blocks ≡ Some b → placed_at at (code_places b.code) ≡ o → open_before o ≡ Some held → Stood p block at held
+    by_place : (b : CodeBlock) (o : Option PlacedOp) → block_by_id block p.code_blocks ≡ Some b → placed_at at (code_places b.code) ≡ o → open_before o ≡ Some held → StatementStart p block at held
     by_place b None found place e = absurd cc
     by_place b (Some q) found place e = begun b q (begins_its_statement q) found place refl e
 
-    by_block : (o : Option CodeBlock) → block_by_id block p.code_blocks ≡ o → option_and_then (λ b. open_in b at) o ≡ Some held → Stood p block at held
+    by_block : (o : Option CodeBlock) → block_by_id block p.code_blocks ≡ o → option_and_then (λ b. open_in b at) o ≡ Some held → StatementStart p block at held
     by_block None found e = absurd cc
     by_block (Some b) found e = by_place b (placed_at at (code_places b.code)) found refl e
 
 -- ---- where a statement leads
 
-pub next_stood :
+pub next_start :
     (l : ImageLaws) (p : Program) (block : BlockId) (at : ℕ) (held : OpenAt) (s : Statement p block at held)
-    → (s.run.last.code ≡ op_code (operation.End ends.Be) → ⊥) → Stood p block s.run.next (left_open (operation_of s.run.last.code) held)
-next_stood l p block at held s more = by s.ran.last.rest refl
+    → (s.run.last.code ≡ op_code (operation.End ends.Be) → ⊥) → StatementStart p block s.run.next (open_after_operation (operation_of s.run.last.code) held)
+next_start l p block at held s more = by s.run_end.last.rest refl
   where
-    by : (rest : List OpData) → s.ran.last.rest ≡ rest → Stood p block s.run.next (left_open (operation_of s.run.last.code) held)
-    by [] is = absurd (more (ap (λ (z : OpData). z.code) (sym s.ran.same) ∙ (last_ends l p s.stood.b s.ran.last s.ran.op is).0))
+    by : (rest : List OpData) → s.run_end.last.rest ≡ rest → StatementStart p block s.run.next (open_after_operation (operation_of s.run.last.code) held)
+    by [] is = absurd (more (ap (λ (z : OpData). z.code) (sym s.run_end.same) ∙ (last_ends l p s.statement_start.b s.run_end.last s.run_end.op is).0))
     by (op ∷ rest) is = record {
-      b = s.stood.b;
-      q = behind_op s.ran.last op rest;
-      found = s.stood.found;
-      op = next_op l p s.stood.b s.ran.last op rest s.ran.op is;
-      offset = sym s.ran.next;
-      begun = rw s.ran.ended refl;
-      same = left_behind s.ran.last op rest
-          ∙ ap (λ (z : OpData). left_open (operation_of z.code) (open_at s.ran.last)) s.ran.same
-          ∙ ap (left_open (operation_of s.run.last.code)) (s.ran.held ∙ s.stood.same);
+      b = s.statement_start.b;
+      q = behind_op s.run_end.last op rest;
+      found = s.statement_start.found;
+      op = next_op l p s.statement_start.b s.run_end.last op rest s.run_end.op is;
+      offset = sym s.run_end.next;
+      begun = rw s.run_end.ended refl;
+      same = open_behind_op s.run_end.last op rest
+          ∙ ap (λ (z : OpData). open_after_operation (operation_of z.code) (open_at s.run_end.last)) s.run_end.same
+          ∙ ap (open_after_operation (operation_of s.run.last.code)) (s.run_end.held ∙ s.statement_start.same);
     }
 
-pub target_stood :
+pub target_start :
     (l : ImageLaws) (p : Program) (block : BlockId) (at : ℕ) (held : OpenAt) (s : Statement p block at held)
-    (kind target : ℕ) → s.run.last.operand ≡ operand.Jump kind target → Stood p block target held
-target_stood l p block at held s kind target is =
-    let lands = l.targets p s.stood.b s.ran.last kind target s.ran.op (ap (λ (z : OpData). z.operand) s.ran.same ∙ is) in
+    (kind target : ℕ) → s.run.last.operand ≡ operand.Jump kind target → StatementStart p block target held
+target_start l p block at held s kind target is =
+    let lands = l.targets p s.statement_start.b s.run_end.last kind target s.run_end.op (ap (λ (z : OpData). z.operand) s.run_end.same ∙ is) in
     record {
-      b = s.stood.b;
+      b = s.statement_start.b;
       q = lands.there;
-      found = s.stood.found;
+      found = s.statement_start.found;
       op = record {
-        verifies = s.ran.op.verifies;
-        id = s.ran.op.id;
-        block = s.ran.op.block;
-        place = ap (λ (k : ℕ). placed_at k (code_places s.stood.b.code)) lands.offset ∙ lands.place;
+        verifies = s.run_end.op.verifies;
+        id = s.run_end.op.id;
+        block = s.run_end.op.block;
+        place = ap (λ (k : ℕ). placed_at k (code_places s.statement_start.b.code)) lands.offset ∙ lands.place;
       };
       offset = lands.offset;
       begun = lands.statement;
-      same = same_open (checks_of lands.there.brackets) (checks_of s.ran.last.brackets) (length lands.there.zones) (length s.ran.last.zones)
+      same = same_open (checks_of lands.there.brackets) (checks_of s.run_end.last.brackets) (length lands.there.zones) (length s.run_end.last.zones)
           (ap (λ (z : List ℕ). reverse (map check_named z)) (sym lands.same)) (sym lands.same_zones)
-          ∙ s.ran.held ∙ s.stood.same;
+          ∙ s.run_end.held ∙ s.statement_start.same;
     }
 
 -- where a block begins nothing is open
 abbrev pub nothing_open : OpenAt
 nothing_open = record { codes = []; zones = 0 }
 
-pub entry_stood :
+pub entry_start :
     (l : ImageLaws) (p : Program) (block : BlockId) (b : CodeBlock) → Verifies p → block_by_id block p.code_blocks ≡ Some b
-    → Stood p block 0 nothing_open
-entry_stood l p block b verifies found =
+    → StatementStart p block 0 nothing_open
+entry_start l p block b verifies found =
     let begun = (l.blocks p b block verifies found).begins in
     record {
       b = b;

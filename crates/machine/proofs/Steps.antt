@@ -14,8 +14,8 @@ use Rattle.machine.specs.Entering.{Call, Fails, Stops, Enters, LeavesCall}
 use Rattle.machine.specs.Returning.{Return, GoesOn, Ends, IsReturnOf}
 use Rattle.machine.specs.Statement.{StatementStep, Went, Ended, SyncError, SysCall, Stop, Stuck, GlobalStore, global_store, activation_advanced_to, cause_of, continue_with, call_step, after_return, is_sync_error, IsNotStuck, IsOutcomeOf, IsInstructionOutcome}
 
-abbrev pub moved_to : ℕ → Activation → Running → Activation
-moved_to next a s =
+abbrev pub activation_moved_to : ℕ → Activation → Running → Activation
+activation_moved_to next a s =
     record a { running = record s { frame = record s.frame { at = next } } }
 
 global_stores_equal :
@@ -28,9 +28,9 @@ global_stores_equal a b c = cc
 pub continue_with_goes :
     (e : Result ExecState ℕ) (next : ℕ) (a : Activation) (s : Running) (m m' : Areas) (t t' : List Timer) (n n' : List Counter)
     (other : Outcome) → ChangesExecState e a.running s m m' t t' n n' (Ok tt)
-    → IsInstructionOutcome (continue_with e next a) next a (moved_to next a s) (global_store m t n) (global_store m' t' n') true other
+    → IsInstructionOutcome (continue_with e next a) next a (activation_moved_to next a s) (global_store m t n) (global_store m' t' n') true other
 continue_with_goes (Ok p) next a s m m' t t' n n' other h =
-    (ap (moved_to next a) h.0, global_stores_equal h.1 h.2 h.3)
+    (ap (activation_moved_to next a) h.0, global_stores_equal h.1 h.2 h.3)
 continue_with_goes (Err e) next a s m m' t t' n n' other h = absurd h
 
 pub continue_with_fails :

@@ -28,7 +28,7 @@ use Rattle.frames.specs.declared.frame.Frame.{Frame}
 use Rattle.flat_code.specs.declared.programs.Param.{Param}
 use Rattle.flat_code.specs.Instr.{Passing}
 use Rattle.flat_code.specs.Programs.{CodeBlock, Program}
-use Rattle.flat_code.specs.Records.{section_out}
+use Rattle.flat_code.specs.Records.{section_out, section_in}
 use Rattle.image_file.specs.Readers.{block_by_id}
 use Rattle.machine.specs.declared.places.Location.{Location}
 use Rattle.machine.specs.Bindings.{param_bindings}
@@ -169,7 +169,7 @@ inputs_fit :
     → FitWidths (input_widths ps) (inputs_from ps i bs s m)
 inputs_fit [] frames m bs i s each = tt
 inputs_fit (p ∷ ps) frames m bs i s each =
-    by (eqb p.section 1)
+    by (eqb p.section section_in)
     (inputs_fit ps frames m bs (i + 1) s (λ j q found.
     let one = each (suc j) q found in
     let at : i + 1 + j ≡ i + suc j = omega arith in
@@ -217,7 +217,7 @@ system_lasts :
     (l : ImageLaws) (p : Program) (a : Activation) (w : GlobalStore) (next number : ℕ) (ps : List Param) (r : Result (List Binding) ℕ)
     → Caller p w.memory a next → system_function number ≡ Some ps → IfKnownError r → IfDone (AreBound kinds.Fc ps (caller a next ∷ a.below) w.memory) r
     → StepFitsAgain p w (after_system_call (then_ok r (λ bs. Ok (system_call_arguments ps bs (local_of a.running) w.memory))) number next a)
-system_lasts l p a w next number ps (Err code) h function_is known bound = (known, going_fits l p w.memory a next a.running.regs h.fits h.stood)
+system_lasts l p a w next number ps (Err code) h function_is known bound = (known, going_fits l p w.memory a next a.running.regs h.fits h.statement_start)
 system_lasts l p a w next number ps (Ok bs) h function_is known bound =
     let was = stands_of (code_of p) (open_codes p) w.memory a h.fits.fits in (
       rw function_is (inputs_fit ps (caller a next ∷ a.below) w.memory bs 0 (local_of a.running) (λ j q found.
@@ -231,7 +231,7 @@ system_lasts l p a w next number ps (Ok bs) h function_is known bound =
           let one = bound_of kinds.Fc ps (caller a next ∷ a.below) w.memory bs j q bound found in
           let at : 0 + j ≡ j = omega arith in
           (one.0, ap (slice_get bs) at ∙ one.1, one.2)),
-      going_fits l p w.memory a next (at_block a.running.regs) h.fits h.stood,
+      going_fits l p w.memory a next (at_block a.running.regs) h.fits h.statement_start,
     )
 
 pub function_called_lasts :

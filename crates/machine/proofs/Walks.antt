@@ -10,8 +10,8 @@ use Rattle.flat_code.specs.declared.operands.Operand.{Operand}
 use Rattle.flat_code.specs.declared.operands.Operand.TheVariants as operand
 use Rattle.flat_code.specs.declared.programs.Param.{Param}
 use Rattle.machine.specs.ExecState.{Local, then_ok}
-use Rattle.machine.specs.Flat.{OpRun, op_run_at, run_with, use_db_of, use_db_first, list_of, listed_with, with_op}
-use Rattle.machine.specs.Walking.{StatementWalk, walk_by, walk_with, first_present, opens_after, list_jump, bound_from, binding_by, bound_next}
+use Rattle.machine.specs.Flat.{OpRun, op_run_at, run_with, use_db_of, use_db_first, list_of, list_with, with_op}
+use Rattle.machine.specs.Walking.{StatementWalk, walk_by, walk_with, first_present, opens_after, list_jump, bindings_by_ops, binding_by, bindings_after_op}
 
 -- what is behind a count of which some are done
 one_less : (k most : ℕ) → k < most → most - k ≡ suc (most - suc k)
@@ -20,8 +20,8 @@ one_less k most h = omega arith
 one_more : (k : ℕ) → k + 1 ≡ suc k
 one_more k = omega arith
 
-abbrev walked : Option ℕ → Option OpRun → Option StatementWalk
-walked opens r = option_map (walk_with opens) r
+abbrev walk_of_run : Option ℕ → Option OpRun → Option StatementWalk
+walk_of_run opens r = option_map (walk_with opens) r
 
 run_next :
     (most : ℕ) (ops : List OpData) (at : ℕ)
@@ -160,25 +160,25 @@ first_goes_on ops at next op walk h more is = is ∙ sym (first_leads_on (op, ne
 -- the bindings along the ops
 bound_none :
     (ops : List OpData) (at : ℕ) (params : List Param) (bindings : List Binding) (s : Local) (m : Areas)
-    → bound_from 0 ops at params bindings s m ≡ Ok bindings
-unfolding bound_from
+    → bindings_by_ops 0 ops at params bindings s m ≡ Ok bindings
+unfolding bindings_by_ops
 bound_none ops at params bindings s m = refl
 
 bound_step :
     (most : ℕ) (ops : List OpData) (at : ℕ) (params : List Param) (bindings : List Binding) (s : Local) (m : Areas)
-    → bound_from (suc most) ops at params bindings s m
-    ≡ bound_next (op_placed 0 ops at) params bindings s m (λ next bound. bound_from most ops next params bound s m)
-unfolding bound_from
+    → bindings_by_ops (suc most) ops at params bindings s m
+    ≡ bindings_after_op (op_placed 0 ops at) params bindings s m (λ next bound. bindings_by_ops most ops next params bound s m)
+unfolding bindings_by_ops
 bound_step most ops at params bindings s m = refl
 
 pub bound_stops :
     (k : ℕ) (ops : List OpData) (at : ℕ) (params : List Param) (bindings : List Binding) (s : Local) (m : Areas)
-    → k ≡ 64 → bound_from (64 - k) ops at params bindings s m ≡ Ok bindings
+    → k ≡ 64 → bindings_by_ops (64 - k) ops at params bindings s m ≡ Ok bindings
 bound_stops k ops at params bindings s m h = rw h (bound_none ops at params bindings s m)
 
 pub bound_nowhere :
     (most : ℕ) (ops : List OpData) (at : ℕ) (params : List Param) (bindings : List Binding) (s : Local) (m : Areas)
-    → None ≡ op_placed 0 ops at → bound_from most ops at params bindings s m ≡ Ok bindings
+    → None ≡ op_placed 0 ops at → bindings_by_ops most ops at params bindings s m ≡ Ok bindings
 bound_nowhere zero ops at params bindings s m h = bound_none ops at params bindings s m
 bound_nowhere (suc most) ops at params bindings s m h =
     rw (bound_step most ops at params bindings s m) (rw (sym h) refl)
@@ -186,7 +186,7 @@ bound_nowhere (suc most) ops at params bindings s m h =
 bound_last :
     (most : ℕ) (ops : List OpData) (at next : ℕ) (op : OpData) (params : List Param) (bindings : List Binding) (s : Local) (m : Areas)
     → Some (op, next) ≡ op_placed 0 ops at → op.last ≡ true
-    → bound_from most ops at params bindings s m ≡ Ok bindings
+    → bindings_by_ops most ops at params bindings s m ≡ Ok bindings
 bound_last zero ops at next op params bindings s m h last = bound_none ops at params bindings s m
 bound_last (suc most) ops at next op params bindings s m h last =
     rw (bound_step most ops at params bindings s m) (rw (sym h) (rw last refl))
@@ -194,15 +194,15 @@ bound_last (suc most) ops at next op params bindings s m h last =
 pub bound_ends :
     (k : ℕ) (ops : List OpData) (at next : ℕ) (op : OpData) (params : List Param) (bindings : List Binding) (s : Local) (m : Areas)
     → Some (op, next) ≡ op_placed 0 ops at → op.last ≡ true
-    → bound_from (64 - k) ops at params bindings s m ≡ Ok bindings
+    → bindings_by_ops (64 - k) ops at params bindings s m ≡ Ok bindings
 bound_ends k ops at next op params bindings s m h last =
     bound_last (64 - k) ops at next op params bindings s m h last
 
 bound_more :
     (most : ℕ) (ops : List OpData) (at next : ℕ) (op : OpData) (params : List Param) (bindings : List Binding) (s : Local) (m : Areas)
     → Some (op, next) ≡ op_placed 0 ops at → op.last ≡ false
-    → bound_from (suc most) ops at params bindings s m
-    ≡ then_ok (binding_by op.operand params bindings s m) (λ bound. bound_from most ops next params bound s m)
+    → bindings_by_ops (suc most) ops at params bindings s m
+    ≡ then_ok (binding_by op.operand params bindings s m) (λ bound. bindings_by_ops most ops next params bound s m)
 bound_more most ops at next op params bindings s m h more =
     rw (bound_step most ops at params bindings s m) (rw (sym h) (rw more refl))
 
@@ -210,7 +210,7 @@ pub bound_goes_on :
     (k : ℕ) (ops : List OpData) (at next : ℕ) (op : OpData) (params : List Param) (bindings bound : List Binding) (s : Local) (m : Areas)
     → k < 64 → Some (op, next) ≡ op_placed 0 ops at → op.last ≡ false
     → binding_by op.operand params bindings s m ≡ Ok bound
-    → bound_from (64 - k) ops at params bindings s m ≡ bound_from (64 - (k + 1)) ops next params bound s m
+    → bindings_by_ops (64 - k) ops at params bindings s m ≡ bindings_by_ops (64 - (k + 1)) ops next params bound s m
 bound_goes_on k ops at next op params bindings bound s m less h more b =
     rw (one_more k) (rw (one_less k 64 less)
     (rw (bound_more (64 - suc k) ops at next op params bindings s m h more) (rw b refl)))
@@ -219,7 +219,7 @@ pub bound_fails :
     (k : ℕ) (ops : List OpData) (at next : ℕ) (op : OpData) (params : List Param) (bindings : List Binding) (s : Local) (m : Areas) (code : ℕ)
     → k < 64 → Some (op, next) ≡ op_placed 0 ops at → op.last ≡ false
     → binding_by op.operand params bindings s m ≡ Err code
-    → bound_from (64 - k) ops at params bindings s m ≡ Err code
+    → bindings_by_ops (64 - k) ops at params bindings s m ≡ Err code
 bound_fails k ops at next op params bindings s m code less h more b =
     rw (one_less k 64 less)
     (rw (bound_more (64 - suc k) ops at next op params bindings s m h more) (rw b refl))
@@ -228,7 +228,7 @@ bound_fails k ops at next op params bindings s m code less h more b =
 list_step :
     (most : ℕ) (ops : List OpData) (target at : ℕ)
     → list_of (suc most) ops target at
-    ≡ (if at == target then [] else listed_with (op_placed 0 ops at) at (λ next. list_of most ops target next))
+    ≡ (if at == target then [] else list_with (op_placed 0 ops at) at (λ next. list_of most ops target next))
 unfolding list_of
 list_step most ops target at = refl
 

@@ -24,14 +24,14 @@ abbrev pub param_access : Param → Access
 param_access p = if p.section == section_out then Writing else Reading
 
 -- a parameter bound to a place if the place exists; else the error of the place
-abbrev pub bound_if : Access → Location → Option ℕ → Result Binding ℕ
-bound_if access at None = Err (error_of_absent_place access at.place.area)
-bound_if access at (Some n) = Ok (binding.AtPlace at.place at.width at.frame)
+abbrev pub binding_if_there : Access → Location → Option ℕ → Result Binding ℕ
+binding_if_there access at None = Err (error_of_absent_place access at.place.area)
+binding_if_there access at (Some n) = Ok (binding.AtPlace at.place at.width at.frame)
 
 -- a parameter bound to a place, tested as one that is read, for OUT too; error 22 or 23 where it
 -- doesn't exist, in the peripheral area 42 or 43
 unfoldable pub bound_place : Access → Location → Local → Areas → Result Binding ℕ
-bound_place access at s m = bound_if access at (location_number at s.locals m)
+bound_place access at s m = binding_if_there access at (location_number at s.locals m)
 
 -- a parameter that is passed on stands for what it stands for in the caller
 abbrev pub binding_of_caller : Option Binding → Result Binding ℕ
@@ -53,16 +53,16 @@ bound_actual access (passed.InBlock number area width byte bit) s m =
 
 -- what is passed, bound for a parameter of the called block; one that the block lacks is passed in
 -- no program that is loaded
-abbrev pub bound_for : Option Param → Passed → Local → Areas → Result Binding ℕ
-bound_for (Some p) actual s m = bound_actual (param_access p) actual s m
-bound_for None actual s m = Err no_operand
+abbrev pub binding_for_param : Option Param → Passed → Local → Areas → Result Binding ℕ
+binding_for_param (Some p) actual s m = bound_actual (param_access p) actual s m
+binding_for_param None actual s m = Err no_operand
 
 -- the bindings after each passing, one after another, has set what its parameter stands for
 abbrev pub bound_params :
     List Param → List Passing → List Binding → Local → Areas → Result (List Binding) ℕ
 bound_params params [] bindings s m = Ok bindings
 bound_params params (passing ∷ rest) bindings s m =
-    then_ok (bound_for (slice_get params passing.index) passing.actual s m) (λ b.
+    then_ok (binding_for_param (slice_get params passing.index) passing.actual s m) (λ b.
     bound_params params rest (binding_set bindings passing.index b) s m)
 
 -- the parameters of a block before any is supplied

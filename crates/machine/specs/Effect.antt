@@ -7,6 +7,7 @@ use Rattle.status_word.specs.SetClear.{rlo_set_to_1, clr, rlo_negated, rlo_saved
 use Rattle.alu.specs.Comparison.{accumulators_compared}
 use Rattle.timers_counters.specs.Timer.{Timer}
 use Rattle.timers_counters.specs.Counter.{Counter}
+use Rattle.flat_code.specs.Kinds.{db_register_number}
 use Rattle.flat_code.specs.declared.operands.Operand.{Operand}
 use Rattle.flat_code.specs.declared.operands.Operand.TheVariants as operand
 use Rattle.flat_code.specs.declared.operations.Operation.{Operation}
@@ -146,7 +147,7 @@ operation_effect operation.NoOperation o p = Err no_operand
 
 -- all that an instruction works on after a data block was opened in the DB register
 abbrev pub with_db_opened : ℕ → ExecState → ExecState
-with_db_opened number p = record p { local = block_opened 1 number p.local }
+with_db_opened number p = record p { local = block_opened db_register_number number p.local }
 
 -- USEDB: 3A comes before every error of the operand; without USEDB the instruction alone
 unfoldable pub statement_effect : Option ℕ → Operation → Operand → ExecState → Result ExecState ℕ

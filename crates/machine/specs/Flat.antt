@@ -75,10 +75,10 @@ passings_of (op ∷ ops) = with_passing op.operand (passings_of ops)
 
 -- the list of a JL from one of its ops on: the offset of the op, then the list from the offset
 -- behind it; empty where no op is there
-abbrev pub listed_with :
+abbrev pub list_with :
     Option (OpData × ℕ) → (at : ℕ) → (ℕ → List ℕ) → List ℕ
-listed_with None at more = []
-listed_with (Some r) at more = at ∷ more r.1
+list_with None at more = []
+list_with (Some r) at more = at ∷ more r.1
 
 -- the list of a JL: the offsets of the ops from an offset on up to the target, at most so many; it
 -- ends early where no op begins at an offset
@@ -86,7 +86,7 @@ unfoldable pub list_of : (most : ℕ) → List OpData → (target at : ℕ) → 
 list_of zero ops target at = []
 list_of (suc most) ops target at =
     if at == target then []
-    else listed_with (op_placed 0 ops at) at (λ next. list_of most ops target next)
+    else list_with (op_placed 0 ops at) at (λ next. list_of most ops target next)
 
 -- a JL has at most 255 jumps in its list
 abbrev pub most_listed : ℕ

@@ -32,8 +32,8 @@ pub record FitsProgram (p : Program) (m : Areas) (a : Activation) : Type 0 where
   -- the activation fits the code and the memory
   pub fits : ActivationFits (code_of p) (open_codes p) m a
 
--- what a call of a statement asks for: a frame stands, as many frames have local data as stand, and
--- nothing that the statement needs is missing
+-- what a call of a statement of a program asks for: a frame stands, as many frames have local data as
+-- stand, and nothing that the statement needs is missing
 pub record IsStatementReady (p : Program) (a : Activation) : Type 0 where
   -- a frame stands
   pub stands : a.ended ≡ false

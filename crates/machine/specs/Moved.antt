@@ -56,7 +56,8 @@ moved_step f (SysCall number given a) = SysCall number given (moved_activation f
 moved_step f (Stop cause) = Stop cause
 moved_step f Stuck = Stuck
 
--- a statement does the same in a code that follows, at the position there
+-- law: in a code that follows another at other positions a statement does the same, at the position
+-- there
 abbrev pub StatementsMove : Type 0
 StatementsMove =
     (f : BlockId → ℕ → ℕ) (c d : Code) (a : Activation) (w : GlobalStore) → FollowsCode f c d

@@ -2,6 +2,7 @@
 -- Siemens, Statement List (STL): Bit Logic Instructions, "Nesting Open" and "Nesting Closed".
 use Rattle.std.specs.Prelude.{ℕ, ◌==◌, length, if◌then◌else◌, List, [], ◌∷◌, Result, Ok, Err}
 use Rattle.plc_base.specs.declared.Check.{Check}
+use Rattle.flat_code.specs.Placed.{most_brackets}
 use Rattle.status_word.specs.Brackets.{entry_of, bracket_begun, bracket_ended}
 use Rattle.status_word.specs.declared.Bracket.{Bracket}
 use Rattle.machine.specs.ExecState.{Local}
@@ -15,7 +16,7 @@ with_open_brackets brackets s = record s { inner = record s.inner { brackets = b
 -- no program that is loaded
 unfoldable pub nesting_opened : Check → Local → Result Local ℕ
 nesting_opened with s =
-    if length s.inner.brackets == 7 then Err no_operand
+    if length s.inner.brackets == most_brackets then Err no_operand
     else Ok (with_open_brackets (entry_of with s.regs ∷ s.inner.brackets)
     (record s { regs = bracket_begun s.regs }))
 

@@ -13,7 +13,7 @@ use Rattle.flat_code.specs.Instr.{Passing}
 use Rattle.flat_code.specs.Operations.{operation_of}
 use Rattle.machine.specs.Code.{Fetched}
 use Rattle.machine.specs.ExecState.{Local, then_ok}
-use Rattle.machine.specs.Bindings.{bound_for, no_bindings}
+use Rattle.machine.specs.Bindings.{binding_for_param, no_bindings}
 use Rattle.machine.specs.Flat.{OpRun, use_db_of, use_db_first, list_of, most_ops_of_statement, with_passing, instr_of}
 
 -- what going along the ops of a statement finds: the data block that the statement opens first, its
@@ -58,33 +58,33 @@ list_jump most ops target at number =
 abbrev pub binding_by :
     Operand → List Param → List Binding → Local → Areas → Result (List Binding) ℕ
 binding_by (operand.Pass index actual) params bindings s m =
-    then_ok (bound_for (slice_get params index) actual s m) (λ b. Ok (binding_set bindings index b))
+    then_ok (binding_for_param (slice_get params index) actual s m) (λ b. Ok (binding_set bindings index b))
 binding_by _ params bindings s m = Ok bindings
 
 -- the parameters bound by the ops of a statement from one op on: each op that passes one binds it,
 -- and the last op of the statement ends the walk; None: no op, and nothing more is bound
-abbrev pub bound_next :
+abbrev pub bindings_after_op :
     Option (OpData × ℕ) → List Param → List Binding → Local → Areas
     → (ℕ → List Binding → Result (List Binding) ℕ) → Result (List Binding) ℕ
-bound_next None params bindings s m more = Ok bindings
-bound_next (Some r) params bindings s m more =
+bindings_after_op None params bindings s m more = Ok bindings
+bindings_after_op (Some r) params bindings s m more =
     if r.0.last then Ok bindings
     else then_ok (binding_by r.0.operand params bindings s m) (λ next. more r.1 next)
 
 -- the bindings after at most so many ops from an offset on; they end at the last op of the
 -- statement, which passes none
-unfoldable pub bound_from :
+unfoldable pub bindings_by_ops :
     (most : ℕ) → List OpData → ℕ → List Param → List Binding → Local → Areas
     → Result (List Binding) ℕ
-bound_from zero ops at params bindings s m = Ok bindings
-bound_from (suc most) ops at params bindings s m =
-    bound_next (op_placed 0 ops at) params bindings s m (λ next bound.
-    bound_from most ops next params bound s m)
+bindings_by_ops zero ops at params bindings s m = Ok bindings
+bindings_by_ops (suc most) ops at params bindings s m =
+    bindings_after_op (op_placed 0 ops at) params bindings s m (λ next bound.
+    bindings_by_ops most ops next params bound s m)
 
 -- what all parameters stand for, by the ops of the statement at an offset
-abbrev pub bound_all : List OpData → ℕ → List Param → Local → Areas → Result (List Binding) ℕ
-bound_all ops at params s m =
-    bound_from most_ops_of_statement ops at params (no_bindings params) s m
+abbrev pub bindings_of_statement : List OpData → ℕ → List Param → Local → Areas → Result (List Binding) ℕ
+bindings_of_statement ops at params s m =
+    bindings_by_ops most_ops_of_statement ops at params (no_bindings params) s m
 
 -- what a further op and the ops behind it pass; the last op of a statement passes nothing
 abbrev pub passings_with : Option (OpData × ℕ) → (ℕ → List Passing) → List Passing
@@ -102,8 +102,8 @@ abbrev pub passings_at : List OpData → ℕ → List Passing
 passings_at ops at = passings_up_to most_ops_of_statement ops at
 
 -- the statement at an offset of a block, by what was found along its ops
-abbrev pub fetched_at : CodeBlock → ℕ → StatementWalk → Fetched
-fetched_at b at walk = record {
+abbrev pub statement_of_walk : CodeBlock → ℕ → StatementWalk → Fetched
+statement_of_walk b at walk = record {
   instr =
       instr_of (operation_of walk.last.code) walk.last.operand walk.opens (passings_at b.code at)
       walk.next b.code;

@@ -1,10 +1,10 @@
 //! CALL: what each parameter of the called block stands for.
 ghost use Rattle.std.specs.Prelude.{◌≡◌, ◌≤◌, ◌<◌, length, slice_get, Ok, Err};
 ghost use Rattle.machine.specs.ExecState.{local_of};
-ghost use Rattle.machine.specs.Bindings.{param_access as access_of_param, bound_place as bound_place_of, binding_of_caller as passed_on_of, bound_actual as bound_actual_of, bound_for as bound_for_of, no_bindings as unsupplied_of};
+ghost use Rattle.machine.specs.Bindings.{param_access as access_of_param, bound_place as bound_place_of, binding_of_caller as passed_on_of, bound_actual as bound_actual_of, binding_for_param as binding_for_param_of, no_bindings as unsupplied_of};
 
 use crate::data_blocks::is_loaded;
-use crate::places::{Access, Location, number_at, placed};
+use crate::places::{Access, Location, area_location, number_at};
 use flat_code::{Param, Passed, SECTION_OUT};
 use frames::{Binding, Bindings, Running};
 use plc_base::{Area, Place, error_codes};
@@ -34,7 +34,7 @@ fn bound_place(access: Access, at: &Location, s: &Running, m: &Memory) -> Result
     }
 }
 
-fn passed_on(binding: Option<Binding>) -> Result<Binding, u8>
+fn binding_of_caller(binding: Option<Binding>) -> Result<Binding, u8>
     ensures { result ≡ passed_on_of binding }
 {
     match binding {
@@ -55,10 +55,10 @@ fn bound_actual(access: Access, actual: Passed, s: &Running, m: &Memory) -> Resu
             byte,
             bit,
         } => {
-            let at = placed(access, area, byte, bit, width, s)?;
+            let at = area_location(access, area, byte, bit, width, s)?;
             bound_place(access, &at, s, m)
         }
-        Passed::Parameter { index, .. } => passed_on(s.frame.bindings.get(index)),
+        Passed::Parameter { index, .. } => binding_of_caller(s.frame.bindings.get(index)),
         Passed::InBlock {
             number,
             width,
@@ -85,14 +85,15 @@ fn bound_actual(access: Access, actual: Passed, s: &Running, m: &Memory) -> Resu
 }
 
 /// What the parameter of an index stands for where this is passed for it.
-pub(crate) fn bound_for(
+pub(crate) fn binding_for_param(
     params: &[Param],
     index: u8,
     actual: Passed,
     s: &Running,
     m: &Memory,
 ) -> Result<Binding, u8>
-    ensures { result ≡ bound_for_of (slice_get params.now index) actual (local_of s.now) m.now }
+    ensures { result
+        ≡ binding_for_param_of (slice_get params.now index) actual (local_of s.now) m.now }
 {
     match params.get(usize::from(index)) {
         Some(param) => bound_actual(access_of(param), actual, s, m),

@@ -4,9 +4,9 @@ ghost use Rattle.machine.specs.ExecState.{local_of, then_ok};
 ghost use Rattle.machine.specs.Outcomes.{ChangesLocalMemory, ChangesRunningRegs};
 ghost use Rattle.machine.specs.BitLogic.{regs_after_bit_check, put_bit as put_bit_of, bit_before as bit_before_of, bit_after_set as bit_after_of, bit_as_number as number_of_bit, bit_assigned, assigned_at, bit_set_at as set_at_of, bit_set as bit_set_of, local_memory_after_edge as edge_of};
 
-use crate::places::{Access, Location, located, number_at, placed};
+use crate::places::{Access, Location, area_location, number_at, operand_location};
 use crate::relay::power_flow;
-use crate::values::{tested, write};
+use crate::values::{checked_bit, write};
 use flat_code::Operand;
 use frames::Running;
 use plc_base::{Area, Check, Width};
@@ -29,7 +29,7 @@ pub(crate) fn check(
         m.now t.now n.now)
         s.old s.new result }
 {
-    let bit = tested(operand, s, m, t, n)?;
+    let bit = checked_bit(operand, s, m, t, n)?;
     s.regs.check(with, bit);
     Ok(())
 }
@@ -104,7 +104,7 @@ fn assign_in(area: Area, byte: u16, bit: u8, s: &mut Running, m: &mut Memory) ->
         (local_of s.old) m.old)
         s.old s.new m.old m.new result }
 {
-    let at = placed(Access::Writing, area, byte, bit, Width::Bit, s)?;
+    let at = area_location(Access::Writing, area, byte, bit, Width::Bit, s)?;
     assign_at(&at, s, m)
 }
 
@@ -115,7 +115,7 @@ fn assign_elsewhere(operand: &Operand, s: &mut Running, m: &mut Memory) -> Resul
     ensures { ChangesLocalMemory (bit_assigned operand.now (local_of s.old) m.old)
         s.old s.new m.old m.new result }
 {
-    let at = located(Access::Writing, operand, s, m)?;
+    let at = operand_location(Access::Writing, operand, s, m)?;
     assign_at(&at, s, m)
 }
 
@@ -172,7 +172,7 @@ fn set_direct(
         (local_of s.old) m.old)
         s.old s.new m.old m.new result }
 {
-    let at = placed(Access::Writing, area, byte, bit, Width::Bit, s)?;
+    let at = area_location(Access::Writing, area, byte, bit, Width::Bit, s)?;
     set_at(value, &at, s, m)
 }
 
@@ -183,7 +183,7 @@ fn set_elsewhere(value: bool, operand: &Operand, s: &mut Running, m: &mut Memory
     ensures { ChangesLocalMemory (bit_set_of value operand.now (local_of s.old) m.old)
         s.old s.new m.old m.new result }
 {
-    let at = located(Access::Writing, operand, s, m)?;
+    let at = operand_location(Access::Writing, operand, s, m)?;
     set_at(value, &at, s, m)
 }
 
@@ -221,7 +221,7 @@ pub(crate) fn edge(
     ensures { ChangesLocalMemory (edge_of rising operand.now (local_of s.old) m.old)
         s.old s.new m.old m.new result }
 {
-    let at = located(Access::Writing, operand, s, m)?;
+    let at = operand_location(Access::Writing, operand, s, m)?;
     let before = bit_before(&at, s, m)?;
     let mut regs = s.regs;
     let bit = regs.edge(rising, before);

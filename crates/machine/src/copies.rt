@@ -64,7 +64,7 @@ fn copy(from: &Location, to: &Location, s: &mut Running, m: &mut Memory)
 }
 
 #[tactic(auto, unfolding(crate::specs::Copies::actual_copied_to))]
-fn passed_to(binding: Option<Binding>, to: &Location, s: &mut Running, m: &mut Memory)
+fn copy_actual_to(binding: Option<Binding>, to: &Location, s: &mut Running, m: &mut Memory)
     ensures { BecomesLocalMemory (passed_to_of binding to.now (local_memory_of s.old m.old))
         s.old s.new m.new }
 {
@@ -89,7 +89,7 @@ fn passed_to(binding: Option<Binding>, to: &Location, s: &mut Running, m: &mut M
 }
 
 #[tactic(auto, unfolding(crate::specs::Copies::copied_to_actual))]
-fn given_to(from: &Location, binding: Option<Binding>, s: &mut Running, m: &mut Memory)
+fn copy_to_actual(from: &Location, binding: Option<Binding>, s: &mut Running, m: &mut Memory)
     ensures { BecomesLocalMemory (given_to_of from.now binding (local_memory_of s.old m.old))
         s.old s.new m.new }
 {
@@ -118,7 +118,7 @@ fn param_in(param: &Param, binding: Option<Binding>, instance: u16, s: &mut Runn
         s.old s.new m.new }
 {
     if comes_in(param) {
-        passed_to(binding, &in_instance(param, instance), s, m);
+        copy_actual_to(binding, &in_instance(param, instance), s, m);
     }
 }
 
@@ -134,7 +134,7 @@ fn param_out(
         s.old s.new m.new }
 {
     if goes_out(param) {
-        given_to(&in_instance(param, instance), binding, s, m);
+        copy_to_actual(&in_instance(param, instance), binding, s, m);
     }
 }
 

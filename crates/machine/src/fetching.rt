@@ -17,10 +17,10 @@ pub(crate) struct Fetched<'a> {
 
 impl<'a> Model for Fetched<'a> {
     ghost use Rattle.machine.specs.Code.{Fetched as FetchedData};
-    ghost use Rattle.machine.specs.Walking.{fetched_at};
+    ghost use Rattle.machine.specs.Walking.{statement_of_walk};
 
     ghost Value = { FetchedData };
 
-    ghost view = { λ f. fetched_at f.code.now f.at
+    ghost view = { λ f. statement_of_walk f.code.now f.at
         (record { opens = f.opens; last = f.last.now; next = f.next }) };
 }

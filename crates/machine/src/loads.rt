@@ -5,8 +5,8 @@ ghost use Rattle.machine.specs.ExecState.{local_of};
 ghost use Rattle.machine.specs.Outcomes.{ChangesLocalMemory, ChangesRunningRegs};
 ghost use Rattle.machine.specs.Loads.{regs_after_load, regs_after_bcd_load, number_transferred, local_memory_after_transfer, with_accu_loaded as with_loaded_of, status_loaded, status_transferred};
 
-use crate::places::{Access, located, placed};
-use crate::values::{bcd_loaded, loaded, write};
+use crate::places::{Access, area_location, operand_location};
+use crate::values::{bcd_loaded, load_value, write};
 use flat_code::Operand;
 use frames::Running;
 use plc_base::{Area, Width};
@@ -35,7 +35,7 @@ pub(crate) fn load(
     ensures { ChangesRunningRegs (regs_after_load operand.now (local_of s.old) m.now t.now n.now)
         s.old s.new result }
 {
-    let number = loaded(operand, s, m, t, n)?;
+    let number = load_value(operand, s, m, t, n)?;
     put_loaded(&mut s.regs, number);
     Ok(())
 }
@@ -84,7 +84,7 @@ pub(crate) fn put_number(
     ensures { ChangesLocalMemory (number_transferred number operand.now (local_of s.old) m.old)
         s.old s.new m.old m.new result }
 {
-    let at = located(Access::Writing, operand, s, m)?;
+    let at = operand_location(Access::Writing, operand, s, m)?;
     write(&at, low(at.width, number), s, m)
 }
 
@@ -104,7 +104,7 @@ fn put_direct(
         (local_of s.old) m.old)
         s.old s.new m.old m.new result }
 {
-    let at = placed(Access::Writing, area, byte, bit, width, s)?;
+    let at = area_location(Access::Writing, area, byte, bit, width, s)?;
     write(&at, low(at.width, number), s, m)
 }
 

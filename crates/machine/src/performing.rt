@@ -9,7 +9,7 @@ ghost use Rattle.timers_counters.specs.Counter.{Counter};
 ghost use Rattle.frames.specs.Activations.{frames_of};
 ghost use Rattle.flat_code.specs.Instr.{Calls, Returns};
 ghost use Rattle.machine.specs.Code.{Code};
-ghost use Rattle.machine.specs.Effect.{statement_effect as does_with_of};
+ghost use Rattle.machine.specs.Effect.{statement_effect as statement_effect_of};
 ghost use Rattle.machine.specs.Entering.{block_call as call_of, call_with_bindings, activation_continued_at};
 ghost use Rattle.machine.specs.Flat.{code_of, jump_by_operation, is_jl as is_jl_of, instance_named as instance_named_of, instr_of, block_head_of};
 ghost use Rattle.machine.specs.Jumps.{regs_after_jump, jump_goal as goes_to_of, is_jump_taken as is_taken_of, rlo_tested};
@@ -51,7 +51,7 @@ fn perform_plain(
     n: &mut Counters,
     other: &mut Outcome,
 ) -> bool
-    ensures { IsInstructionOutcome (continue_with (does_with_of opens operation operand.now
+    ensures { IsInstructionOutcome (continue_with (statement_effect_of opens operation operand.now
         (exec_state_of a.old.running m.old t.old n.old)) next a.old) next a.old a.new
         (global_store m.old t.old n.old) (global_store m.new t.new n.new) result other.new }
 {
@@ -67,7 +67,7 @@ fn perform_plain(
     }
 }
 
-// The same of an operand that the operation doesn't take.
+// An instruction whose operand its operation doesn't take; it touches no position.
 #[inline(never)]
 fn perform_other(
     opens: Option<u16>,
@@ -80,7 +80,7 @@ fn perform_other(
     n: &mut Counters,
     other: &mut Outcome,
 ) -> bool
-    ensures { IsInstructionOutcome (continue_with (does_with_of opens operation operand.now
+    ensures { IsInstructionOutcome (continue_with (statement_effect_of opens operation operand.now
         (exec_state_of a.old.running m.old t.old n.old)) next a.old) next a.old a.new
         (global_store m.old t.old n.old) (global_store m.new t.new n.new) result other.new }
 {
@@ -108,7 +108,8 @@ fn jump_to(operation: JumpOperation, target: u32, next: u32, a: &mut Activation)
 #[inline(never)]
 fn jump(code: &LoadedCode<'_>, operation: JumpOperation, target: u32, next: u32, a: &mut Activation)
     ensures { (c : Code) (w : GlobalStore) (other : OutcomeOf) →
-        IsInstructionOutcome (instruction_step c (jump_by_operation operation target next code.now.code)
+        IsInstructionOutcome (instruction_step c
+        (jump_by_operation operation target next code.now.code)
         next a.old w) next
         a.old a.new w w true other }
 {
@@ -184,7 +185,8 @@ fn call_block(
     requires depth { length a.old.running.locals.starts ≡ length (frames_of a.old) }
     requires params { length called.now.params ≤ 60 }
     ensures { (t : List Timer) (n : List Counter) →
-        IsInstructionOutcome (call_step (call_with_bindings (Ok bindings.now) called.now next a.old m.old)
+        IsInstructionOutcome (call_step
+        (call_with_bindings (Ok bindings.now) called.now next a.old m.old)
         next a.old (global_store m.old t n))
         next a.old a.new (global_store m.old t n) (global_store m.new t n) result other.new }
 {
@@ -213,7 +215,8 @@ fn call_with(
     requires depth { length a.old.running.locals.starts ≡ length (frames_of a.old) }
     requires params { length called.now.params ≤ 60 }
     ensures { (t : List Timer) (n : List Counter) →
-        IsInstructionOutcome (call_step (call_of called.now (passings_at code.now.code at) next a.old m.old)
+        IsInstructionOutcome (call_step
+        (call_of called.now (passings_at code.now.code at) next a.old m.old)
         next a.old (global_store m.old t n))
         next a.old a.new (global_store m.old t n) (global_store m.new t n) result other.new }
 {
@@ -241,7 +244,8 @@ fn call_loaded(
 ) -> bool
     requires depth { length a.old.running.locals.starts ≡ length (frames_of a.old) }
     ensures { (t : List Timer) (n : List Counter) →
-        IsInstructionOutcome (call_step (call_of (called_block block instance (block_head_of callee.now))
+        IsInstructionOutcome (call_step
+        (call_of (called_block block instance (block_head_of callee.now))
         (passings_at code.now.code at) next a.old m.old) next a.old (global_store m.old t n))
         next a.old a.new (global_store m.old t n) (global_store m.new t n) result other.new }
 {
@@ -321,7 +325,8 @@ fn call_system_with(
     requires few { length params.now ≤ 4 }
     requires inputs { count_inputs params.now ≤ 3 }
     ensures { (w : GlobalStore) →
-        IsInstructionOutcome (after_system_call (system_call params.now (passings_at code.now.code at)
+        IsInstructionOutcome (after_system_call
+        (system_call params.now (passings_at code.now.code at)
         (local_of a.old.running) m.now) number next a.old) next a.old a.new w w false other.new }
 {
     match bind_all(code, at, params, &a.running, m, spare) {
@@ -378,7 +383,8 @@ fn call_any(
 ) -> bool
     requires depth { length a.old.running.locals.starts ≡ length (frames_of a.old) }
     ensures { (t : List Timer) (n : List Counter) →
-        IsInstructionOutcome (call_made (code_of c.now.program) block instance (passings_at code.now.code at)
+        IsInstructionOutcome (call_made (code_of c.now.program) block instance
+        (passings_at code.now.code at)
         next a.old (global_store m.old t n))
         next a.old a.new (global_store m.old t n) (global_store m.new t n) result other.new }
 {
@@ -430,7 +436,8 @@ fn end_loaded(
 ) -> bool
     requires stands { a.old.ended ≡ false }
     ensures { (next : ℕ) (t : List Timer) (n : List Counter) →
-        IsInstructionOutcome (return_made (Some (block_head_of code.now)) a.old (global_store m.old t n))
+        IsInstructionOutcome (return_made (Some (block_head_of code.now)) a.old
+        (global_store m.old t n))
         next
         a.old a.new (global_store m.old t n) (global_store m.new t n) result other.new }
 {
@@ -446,7 +453,8 @@ fn end_loaded(
 fn end_any(c: &Loaded, a: &mut Activation, m: &mut Memory, other: &mut Outcome) -> bool
     requires stands { a.old.ended ≡ false }
     ensures { (next : ℕ) (t : List Timer) (n : List Counter) →
-        IsInstructionOutcome (return_made ((code_of c.now.program).head a.old.running.frame.block) a.old
+        IsInstructionOutcome (return_made
+        ((code_of c.now.program).head a.old.running.frame.block) a.old
         (global_store m.old t n))
         next a.old a.new (global_store m.old t n) (global_store m.new t n) result other.new }
 {
@@ -533,7 +541,8 @@ fn perform_op(
     }
 }
 
-// The same, where nothing is inlined.
+// The last op of the statement that begins at `at`, as `perform_op` performs it, but where nothing is
+// inlined.
 #[inline(never)]
 fn perform_op_apart(
     c: &Loaded,
@@ -578,7 +587,8 @@ pub(crate) fn perform(
 ) -> bool
     requires stands { a.old.ended ≡ false }
     requires depth { length a.old.running.locals.starts ≡ length (frames_of a.old) }
-    ensures { IsInstructionOutcome (instruction_step (code_of c.now.program) f.now.instr f.now.next a.old
+    ensures { IsInstructionOutcome (instruction_step (code_of c.now.program)
+        f.now.instr f.now.next a.old
         (global_store m.old t.old n.old)) f.now.next a.old a.new (global_store m.old t.old n.old)
         (global_store m.new t.new n.new) result other.new }
 {
@@ -600,7 +610,8 @@ pub(crate) fn perform(
     )
 }
 
-/// The same, so that the way of those around it stays short.
+/// Performs the instruction of a statement that was found, as `perform` does, but where nothing is
+/// inlined, so that the code around it stays short.
 #[inline(always)]
 pub(crate) fn perform_apart(
     c: &Loaded,
@@ -614,7 +625,8 @@ pub(crate) fn perform_apart(
 ) -> bool
     requires stands { a.old.ended ≡ false }
     requires depth { length a.old.running.locals.starts ≡ length (frames_of a.old) }
-    ensures { IsInstructionOutcome (instruction_step (code_of c.now.program) f.now.instr f.now.next a.old
+    ensures { IsInstructionOutcome (instruction_step (code_of c.now.program)
+        f.now.instr f.now.next a.old
         (global_store m.old t.old n.old)) f.now.next a.old a.new (global_store m.old t.old n.old)
         (global_store m.new t.new n.new) result other.new }
 {

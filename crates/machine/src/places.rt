@@ -122,7 +122,7 @@ pub(crate) fn in_area(
 
 /// The place in an area that an operand names. No bit is read or written in the peripheral area.
 #[inline(always)]
-pub(crate) fn placed(
+pub(crate) fn area_location(
     access: Access,
     area: Area,
     byte: u16,
@@ -166,7 +166,7 @@ pub(crate) fn read(at: &Location, s: &Running, m: &Memory) -> Result<u32, u8>
 /// The number at a place of an area.
 #[inline(never)]
 #[tactic(auto, unfolding(crate::specs::Places::direct_number, crate::specs::Places::open_area_location))]
-pub(crate) fn direct(
+pub(crate) fn number_in_area(
     area: Area,
     byte: u16,
     bit: u8,
@@ -186,14 +186,14 @@ pub(crate) fn direct(
 fn pointer(from: Area, byte: u16, s: &Running, m: &Memory) -> Result<u32, u8>
     ensures { result ≡ pointer_of from byte Width.Dword (local_of s.now) m.now }
 {
-    direct(from, byte, 0, Width::Dword, s, m)
+    number_in_area(from, byte, 0, Width::Dword, s, m)
 }
 
 /// The word at the own place of the number of a timer, counter or data block.
 pub(crate) fn number_from(from: Area, byte: u16, s: &Running, m: &Memory) -> Result<u16, u8>
     ensures { result ≡ pointer_of from byte Width.Word (local_of s.now) m.now }
 {
-    let number = direct(from, byte, 0, Width::Word, s, m)?;
+    let number = number_in_area(from, byte, 0, Width::Word, s, m)?;
     Ok(number as u16)
 }
 
@@ -226,7 +226,7 @@ fn in_named(access: Access, area: Area, width: Width, n: u32, s: &Running) -> Re
     ensures { (named : Place) → named.area ≡ area →
         result ≡ in_named_of access (Some named) width n (local_of s.now) }
 {
-    placed(
+    area_location(
         access,
         area,
         ((n >> 3) % 0x1_0000) as u16,
@@ -256,7 +256,7 @@ fn by_crossing(
 }
 
 #[inline(always)]
-fn moved(address: u32, bits: u32) -> u32
+fn address_moved_by(address: u32, bits: u32) -> u32
     ensures { result ≡ moved_of address bits }
 {
     (address % 0x8_0000 + bits % 0x8_0000) % 0x8_0000
@@ -283,8 +283,8 @@ fn by_register(
     ensures { result ≡ by_register_of access area width address bits (local_of s.now) }
 {
     match area {
-        Some(area) => by_pointer(access, area, width, moved(address, bits), s),
-        None => by_crossing(access, width, address, moved(address, bits), s),
+        Some(area) => by_pointer(access, area, width, address_moved_by(address, bits), s),
+        None => by_crossing(access, width, address, address_moved_by(address, bits), s),
     }
 }
 
@@ -310,7 +310,7 @@ fn of_binding(binding: Option<Binding>) -> Result<Location, u8>
 /// The place of an operand that is to be read or written.
 #[tactic(auto, unfolding(crate::specs::Places::operand_location))]
 #[inline(never)]
-pub(crate) fn located(
+pub(crate) fn operand_location(
     access: Access,
     operand: &Operand,
     s: &Running,
@@ -324,7 +324,7 @@ pub(crate) fn located(
             width,
             byte,
             bit,
-        } => placed(access, area, byte, bit, width, s),
+        } => area_location(access, area, byte, bit, width, s),
         Operand::ByMemory {
             area,
             width,

@@ -46,7 +46,7 @@ fn is_op_there(c: &Loaded, own: BlockId, operation: Operation, operand: &Operand
     }
 }
 
-// The same of a statement that was found.
+// Whether what the instruction of a statement that was found needs is there.
 fn is_found_there(c: &Loaded, own: BlockId, f: &Fetched<'_>) -> bool
     requires { is_some ((code_of c.now.program).head own) ≡ true }
     ensures { result ≡ is_called_block_there (code_of c.now.program) f.now.instr own }

@@ -23,12 +23,15 @@ use plc_base::Area;
 use plc_mem::Memory;
 use timers_counters::{Counters, Timers};
 
-/// Of a statement whether it is sure to show nothing, and then whether its block stays the running
-/// one; and of one that was tried the same, or that nothing was done.
+/// Whether a statement is sure to show nothing, and where it leads then; or, of one that was tried,
+/// whether it was executed.
 #[derive(Clone, Copy)]
 pub(crate) enum Silent {
+    /// It shows nothing, and its block stays the running one.
     Inside,
+    /// It shows nothing, and another block may run after it.
     Across,
+    /// It isn't sure to show nothing; or it was tried, and nothing was done.
     Not,
 }
 
@@ -147,7 +150,7 @@ fn inside(silent: bool) -> Silent
 
 #[inline(always)]
 fn across(silent: bool) -> Silent
-    ensures passed { shows_nothing result ≡ silent }
+    ensures silent { shows_nothing result ≡ silent }
     ensures across { is_still_inside result ≡ false }
 {
     if silent { Silent::Across } else { Silent::Not }
@@ -172,7 +175,7 @@ fn kind_of_op(operation: Operation, operand: &Operand, a: &Activation) -> Silent
     }
 }
 
-// The same of a statement that was found.
+// Whether a statement that was found is sure to show nothing.
 #[inline(always)]
 fn kind_of(f: &Fetched<'_>, a: &Activation) -> Silent
     requires { a.now.ended ≡ false }
@@ -215,7 +218,7 @@ fn pass(
 }
 
 // The statement of a block at which the innermost frame stands, from its second op on, with what
-// the first one opens, under the same conditions.
+// the first one opens, if it is sure to show nothing and doesn't fail.
 #[inline(never)]
 fn pass_further(
     c: &Loaded,
@@ -258,7 +261,8 @@ fn pass_further(
     }
 }
 
-// The statement of a block at which the innermost frame stands, under the same conditions.
+// The statement of a block at which the innermost frame stands, if it is sure to show nothing and
+// doesn't fail.
 #[inline(always)]
 fn pass_statement(
     c: &Loaded,

@@ -6,7 +6,7 @@ ghost use Rattle.machine.specs.ExecState.{local_of};
 ghost use Rattle.machine.specs.Outcomes.{ChangesLocalMemory};
 ghost use Rattle.machine.specs.Values.{number_of_binding as number_of_binding_of, operand_number as number_of, bit_of_numbered as bit_of_numbered_of, value_of_numbered as value_of_numbered_of, bcd_of_numbered as bcd_of_numbered_of, number_named as number_named_of, bcd_loaded as bcd_loaded_of, with_timer_error, checked_bit as tested_of, load_value as loaded_of, bit_of_number, number_written_at as write_of};
 
-use crate::places::{Access, Location, located, number_from, placed, read};
+use crate::places::{Access, Location, area_location, number_from, operand_location, read};
 use flat_code::{CONDITIONS, Operand, TIMER_KIND};
 use frames::{Binding, Running};
 use plc_base::{Area, Flag, Width, error_codes};
@@ -46,7 +46,7 @@ pub(crate) fn number(operand: &Operand, s: &Running, m: &Memory) -> Result<u32, 
         Operand::Literal { value } => Ok(value),
         Operand::Parameter { index, .. } => number_of_binding(s.frame.bindings.get(index), s, m),
         _ => {
-            let at = located(Access::Reading, operand, s, m)?;
+            let at = operand_location(Access::Reading, operand, s, m)?;
             read(&at, s, m)
         }
     }
@@ -65,7 +65,7 @@ fn direct_number(
 ) -> Result<u32, u8>
     ensures { result ≡ number_of (Operand.Direct area width byte bit) (local_of s.now) m.now }
 {
-    let at = placed(Access::Reading, area, byte, bit, width, s)?;
+    let at = area_location(Access::Reading, area, byte, bit, width, s)?;
     let number = read(&at, s, m)?;
     Ok(number)
 }
@@ -162,7 +162,7 @@ fn bit(operand: &Operand, s: &Running, m: &Memory) -> Result<bool, u8>
 // The bit that a check reads where its operand has no fixed place.
 #[tactic(auto, unfolding(crate::specs::Values::checked_bit))]
 #[inline(never)]
-fn tested_elsewhere(
+fn checked_bit_elsewhere(
     operand: &Operand,
     s: &Running,
     m: &Memory,
@@ -204,7 +204,7 @@ fn direct_bit(area: Area, byte: u16, bit: u8, s: &Running, m: &Memory) -> Result
 /// The bit that a check reads.
 #[tactic(auto, unfolding(crate::specs::Values::checked_bit))]
 #[inline(always)]
-pub(crate) fn tested(
+pub(crate) fn checked_bit(
     operand: &Operand,
     s: &Running,
     m: &Memory,
@@ -220,14 +220,14 @@ pub(crate) fn tested(
             byte,
             bit,
         } => direct_bit(area, byte, bit, s, m),
-        _ => tested_elsewhere(operand, s, m, t, n),
+        _ => checked_bit_elsewhere(operand, s, m, t, n),
     }
 }
 
 // The number that L reads where its operand has no fixed place.
 #[tactic(auto, unfolding(crate::specs::Values::load_value))]
 #[inline(never)]
-fn loaded_elsewhere(
+fn load_value_elsewhere(
     operand: &Operand,
     s: &Running,
     m: &Memory,
@@ -249,7 +249,7 @@ fn loaded_elsewhere(
 /// The number that L reads.
 #[tactic(auto, unfolding(crate::specs::Values::load_value))]
 #[inline(always)]
-pub(crate) fn loaded(
+pub(crate) fn load_value(
     operand: &Operand,
     s: &Running,
     m: &Memory,
@@ -265,7 +265,7 @@ pub(crate) fn loaded(
             byte,
             bit,
         } => direct_number(area, width, byte, bit, s, m),
-        _ => loaded_elsewhere(operand, s, m, t, n),
+        _ => load_value_elsewhere(operand, s, m, t, n),
     }
 }
 

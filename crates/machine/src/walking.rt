@@ -6,9 +6,9 @@ ghost use Rattle.flat_code.specs.Placed.{op_placed};
 ghost use Rattle.machine.specs.ExecState.{local_of};
 ghost use Rattle.machine.specs.Flat.{op_run_at, most_ops_of_statement, list_of, most_listed};
 ghost use Rattle.machine.specs.Jumps.{list_goal};
-ghost use Rattle.machine.specs.Walking.{walk_with, walk_by, opens_after as opens_after_op, bound_all, binding_by};
+ghost use Rattle.machine.specs.Walking.{walk_with, walk_by, opens_after as opens_after_op, bindings_of_statement, binding_by};
 
-use crate::bindings::{bind_none, bound_for};
+use crate::bindings::{bind_none, binding_for_param};
 use flat_code::{JUMPS, JumpOperation, Op, Operand, Param};
 use frames::{Bindings, Running};
 use image_file::LoadedCode;
@@ -168,7 +168,7 @@ fn bind(
 {
     match *operand {
         Operand::Pass { index, actual } => {
-            let binding = bound_for(params, index, actual, s, m)?;
+            let binding = binding_for_param(params, index, actual, s, m)?;
             bindings.set(index, binding);
             Ok(())
         }
@@ -188,8 +188,10 @@ pub(crate) fn bind_all(
 ) -> Result<(), u8>
     requires { length params.now ≤ 60 }
     ensures { MatchResult result
-        (λ _. bound_all code.now.code at params.now (local_of s.now) m.now ≡ Ok bindings.new)
-        (λ error. bound_all code.now.code at params.now (local_of s.now) m.now ≡ Err error) }
+        (λ _. bindings_of_statement code.now.code at params.now (local_of s.now) m.now
+        ≡ Ok bindings.new)
+        (λ error. bindings_of_statement code.now.code at params.now (local_of s.now) m.now
+        ≡ Err error) }
 {
     bind_none(params, bindings);
     let mut at = at;

@@ -2,7 +2,7 @@
 ghost use Rattle.std.specs.Prelude.{◌≡◌};
 ghost use Rattle.machine.specs.ExecState.{exec_state_of};
 ghost use Rattle.machine.specs.Outcomes.{ChangesExecState};
-ghost use Rattle.machine.specs.Effect.{operation_effect as does_of, statement_effect as does_with_of, kind_of_numbered_operand as kind_named_of, set_effect, reset_effect, enable_effect, with_db_opened};
+ghost use Rattle.machine.specs.Effect.{operation_effect as operation_effect_of, statement_effect as statement_effect_of, kind_of_numbered_operand as kind_named_of, set_effect, reset_effect, enable_effect, with_db_opened};
 
 use crate::bit_logic::{assign, check, edge, set_bit};
 use crate::data_blocks::{exchange, is_loaded, load_open_block, open};
@@ -14,7 +14,7 @@ use crate::relay::relay;
 use crate::timing::{
     count_down, count_up, free_counter, free_timer, reset_counter, reset_timer, set_counter, start,
 };
-use flat_code::{Operand, Operation};
+use flat_code::{Operand, Operation, TIMER_KIND};
 use frames::Running;
 use plc_base::error_codes;
 use plc_mem::Memory;
@@ -67,7 +67,7 @@ fn reset(
 {
     match kind_named(operand) {
         None => set_bit(false, operand, s, m),
-        Some(1) => reset_timer(operand, s, m, t),
+        Some(TIMER_KIND) => reset_timer(operand, s, m, t),
         Some(_) => reset_counter(operand, s, m, n),
     }
 }
@@ -88,7 +88,7 @@ fn free(
 {
     match kind_named(operand) {
         None => Err(0),
-        Some(1) => free_timer(operand, s, m, t),
+        Some(TIMER_KIND) => free_timer(operand, s, m, t),
         Some(_) => free_counter(operand, s, m, n),
     }
 }
@@ -104,7 +104,7 @@ pub(crate) fn effect(
     t: &mut Timers,
     n: &mut Counters,
 ) -> Result<(), u8>
-    ensures { ChangesExecState (does_of operation operand.now
+    ensures { ChangesExecState (operation_effect_of operation operand.now
         (exec_state_of s.old m.old t.old n.old))
         s.old s.new m.old m.new t.old t.new n.old n.new result }
 {
@@ -201,7 +201,7 @@ fn effect_opened(
     t: &mut Timers,
     n: &mut Counters,
 ) -> Result<(), u8>
-    ensures { ChangesExecState (does_of operation operand.now
+    ensures { ChangesExecState (operation_effect_of operation operand.now
         (with_db_opened number (exec_state_of s.old m.old t.old n.old)))
         s.old s.new m.old m.new t.old t.new n.old n.new result }
 {
@@ -228,7 +228,7 @@ pub(crate) fn effect_with(
     t: &mut Timers,
     n: &mut Counters,
 ) -> Result<(), u8>
-    ensures { ChangesExecState (does_with_of opens operation operand.now
+    ensures { ChangesExecState (statement_effect_of opens operation operand.now
         (exec_state_of s.old m.old t.old n.old))
         s.old s.new m.old m.new t.old t.new n.old n.new result }
 {

@@ -145,14 +145,14 @@ number_itself Depth e b own = own.0
 number_itself Bytes e b own = own.1
 
 -- no layer says more of a block than a certificate that holds
-abbrev IsAbove : Profile → Program → List Bound → Measure → ℕ → Type 0
-IsAbove z p c m k =
+abbrev IsAboveLayer : Profile → Program → List Bound → Measure → ℕ → Type 0
+IsAboveLayer z p c m k =
     (x : BlockId) (e : Bound) → bound_of x c ≡ Some e → measure_in_layer m (layer_of_height k p) (Some x) ≤ measure_of_bound m e
 
-unloaded : (m : Measure) (p : Program) (k : ℕ) (x : BlockId) → block_by_id x p.code_blocks ≡ None
+unloaded_block_has_none : (m : Measure) (p : Program) (k : ℕ) (x : BlockId) → block_by_id x p.code_blocks ≡ None
     → measure_in_layer m (layer_of_height k p) (Some x) ≡ 0
-unloaded m p zero x is = refl
-unloaded m p (suc k) x is = above_none m p (layer_of_height k p) x is
+unloaded_block_has_none m p zero x is = refl
+unloaded_block_has_none m p (suc k) x is = above_none m p (layer_of_height k p) x is
 
 within_of : (w n r f : ℕ) → w + f ≤ n → r ≤ f → w + r ≤ n
 within_of w n r f one other = omega (arith, one, other)
@@ -161,7 +161,7 @@ within_none : (w n r : ℕ) → w ≤ n → r ≡ 0 → w + r ≤ n
 within_none w n r own is = omega (arith, own, is)
 
 called_within : (z : Profile) (p : Program) (c : List Bound) (m : Measure) (k : ℕ) (x called : BlockId) (e : Bound)
-    (b : CodeBlock) → IsCertificateOf z p c → IsAbove z p c m k → bound_of x c ≡ Some e
+    (b : CodeBlock) → IsCertificateOf z p c → IsAboveLayer z p c m k → bound_of x c ≡ Some e
     → block_by_id x p.code_blocks ≡ Some b → CallsIn b.code called
     → measure_of_block m b + measure_in_layer m (layer_of_height k p) (Some called) ≤ measure_of_bound m e
 called_within z p c m k x called e b holds is_above found there calls = by (block_by_id called p.code_blocks) refl
@@ -178,7 +178,7 @@ called_within z p c m k x called e b holds is_above found there calls = by (bloc
         → measure_of_block m b + measure_in_layer m (layer_of_height k p) (Some called) ≤ measure_of_bound m e
     by None is =
         within_none (measure_of_block m b) (measure_of_bound m e) (measure_in_layer m (layer_of_height k p) (Some called))
-        (number_itself m e b (itself z p c x e b holds found there)) (unloaded m p k called is)
+        (number_itself m e b (itself z p c x e b holds found there)) (unloaded_block_has_none m p k called is)
     by (Some d) is =
         counted d is (bound_of called c) refl
         (subst (λ (o : Option Bound). CountsCalled b.local_len o (bound_of called c)) found
@@ -188,12 +188,12 @@ none_within : (r n : ℕ) → r ≡ 0 → r ≤ n
 none_within r n is = omega (arith, is)
 
 pub is_above : (z : Profile) (p : Program) (c : List Bound) (m : Measure) (k : ℕ) → IsCertificateOf z p c
-    → IsAbove z p c m k
+    → IsAboveLayer z p c m k
 is_above z p c m zero holds x e found = omega arith
 is_above z p c m (suc k) holds x e found =
     by (block_by_id x p.code_blocks) refl (is_above z p c m k holds)
   where
-    by : (o : Option CodeBlock) → block_by_id x p.code_blocks ≡ o → IsAbove z p c m k
+    by : (o : Option CodeBlock) → block_by_id x p.code_blocks ≡ o → IsAboveLayer z p c m k
         → measure_in_layer m (layer_of_height (suc k) p) (Some x) ≤ measure_of_bound m e
     by None is below =
         none_within (measure_in_layer m (layer_of_height (suc k) p) (Some x)) (measure_of_bound m e) (above_none m p (layer_of_height k p) x is)

@@ -23,9 +23,9 @@ use Rattle.machine.specs.Flat.{OpRun, with_op, run_with, op_run_at, most_ops_of_
 use Rattle.stack_bound.specs.Calls.{block_named, callee_in, CallsIn}
 
 -- the op of an offset is one of the ops
-abbrev IsIn : OpData → List OpData → Type 0
-IsIn op [] = ⊥
-IsIn op (one ∷ ops) = (one ≡ op) ⊎ IsIn op ops
+abbrev IsOneOfOps : OpData → List OpData → Type 0
+IsOneOfOps op [] = ⊥
+IsOneOfOps op (one ∷ ops) = (one ≡ op) ⊎ IsOneOfOps op ops
 
 pair_first : (x y : OpData × ℕ) → Some x ≡ Some y → x.0 ≡ y.0
 pair_first x y is = ap (λ (o : Option (OpData × ℕ)). first_or x.0 o) is
@@ -35,14 +35,14 @@ pair_first x y is = ap (λ (o : Option (OpData × ℕ)). first_or x.0 o) is
     first_or d (Some z) = z.0
 
 placed_in : (from : ℕ) (ops : List OpData) (at : ℕ) (r : OpData × ℕ) → op_placed from ops at ≡ Some r
-    → IsIn r.0 ops
+    → IsOneOfOps r.0 ops
 placed_in from [] at r is = absurd cc
 placed_in from (op ∷ ops) at r is =
     by (λ same. placed_in (from + size_of_op op) ops at r same) (from == at) is
   where
-    by : (op_placed (from + size_of_op op) ops at ≡ Some r → IsIn r.0 ops) → (test : Bool)
+    by : (op_placed (from + size_of_op op) ops at ≡ Some r → IsOneOfOps r.0 ops) → (test : Bool)
         → (if test then Some (op, from + size_of_op op) else op_placed (from + size_of_op op) ops at) ≡ Some r
-        → (op ≡ r.0) ⊎ IsIn r.0 ops
+        → (op ≡ r.0) ⊎ IsOneOfOps r.0 ops
     by next true same = inl (pair_first (op, from + size_of_op op) r same)
     by next false same = inr (next same)
 
@@ -51,9 +51,9 @@ last_of r = r.last
 
 -- the last op of a run is one of the ops
 last_in_with : (ops : List OpData) (found : Option (OpData × ℕ)) (more : ℕ → Option OpRun) (run : OpRun)
-    → ((r : OpData × ℕ) → found ≡ Some r → IsIn r.0 ops)
-    → ((next : ℕ) (later : OpRun) → more next ≡ Some later → IsIn later.last ops)
-    → run_with found more ≡ Some run → IsIn run.last ops
+    → ((r : OpData × ℕ) → found ≡ Some r → IsOneOfOps r.0 ops)
+    → ((next : ℕ) (later : OpRun) → more next ≡ Some later → IsOneOfOps later.last ops)
+    → run_with found more ≡ Some run → IsOneOfOps run.last ops
 last_in_with ops None more run here later is = absurd cc
 last_in_with ops (Some r) more run here later is = by r.0.last is
   where
@@ -62,21 +62,21 @@ last_in_with ops (Some r) more run here later is = by r.0.last is
     some_last d (Some x) = x.last
 
     mapped : (rest : Option OpRun) → more r.1 ≡ rest → option_map (with_op r.0) rest ≡ Some run
-        → IsIn run.last ops
+        → IsOneOfOps run.last ops
     mapped None same none = absurd cc
     mapped (Some x) same some =
-        subst (λ (o : OpData). IsIn o ops) (ap (λ (o : Option OpRun). some_last run o) some)
+        subst (λ (o : OpData). IsOneOfOps o ops) (ap (λ (o : Option OpRun). some_last run o) some)
         (later r.1 x same)
 
     by : (test : Bool)
         → (if test then Some (record { before = []; last = r.0; next = r.1 })
-        else option_map (with_op r.0) (more r.1)) ≡ Some run → IsIn run.last ops
+        else option_map (with_op r.0) (more r.1)) ≡ Some run → IsOneOfOps run.last ops
     by true same =
-        subst (λ (o : OpData). IsIn o ops) (ap (λ (o : Option OpRun). some_last run o) same) (here r refl)
+        subst (λ (o : OpData). IsOneOfOps o ops) (ap (λ (o : Option OpRun). some_last run o) same) (here r refl)
     by false same = mapped (more r.1) refl same
 
 last_in : (most : ℕ) (ops : List OpData) (at : ℕ) (run : OpRun) → op_run_at most ops at ≡ Some run
-    → IsIn run.last ops
+    → IsOneOfOps run.last ops
 unfolding op_run_at
 last_in zero ops at run is = absurd cc
 last_in (suc most) ops at run is =
@@ -97,13 +97,13 @@ NeverCalls _ = Unit {0}
 never : (i j : Instr) → NeverCalls i → i ≡ j → NeverCalls j
 never i j calm is = subst (λ (k : Instr). NeverCalls k) is calm
 
-named_by : (found : Option BlockKind) (how made : CallOperation) (number instance : ℕ)
+callee_named : (found : Option BlockKind) (how made : CallOperation) (number instance : ℕ)
     (passings given : List Passing) (block : BlockId) (named : Option ℕ) (other : Instr)
     → NeverCalls other → call_by_number found how number instance passings other ≡ Calls made block named given
     → option_map (block_named number) found ≡ Some block
-named_by None how made number instance passings given block named other calm is =
+callee_named None how made number instance passings given block named other calm is =
     absurd (never other (Calls made block named given) calm is)
-named_by (Some kind) how made number instance passings given block named other calm is =
+callee_named (Some kind) how made number instance passings given block named other calm is =
     ap (λ (i : Instr). Some (block_of_calls block i)) is
 
 jump_never : (w : JumpOperation) (target next : ℕ) (ops : List OpData) → NeverCalls (jump_by_operation w target next ops)
@@ -246,7 +246,7 @@ called_is (operation.Call a) (operand.Pass x0 x1) use_db passings next ops call 
 called_is operation.Jump (operand.Called x0 x1 x2) use_db passings next ops call block named given is =
     absurd (never (Does use_db operation.Jump (operand.Called x0 x1 x2)) (Calls call block named given) tt is)
 called_is (operation.Call a) (operand.Called x0 x1 x2) use_db passings next ops call block named given is =
-    named_by (kind_of_code x0) a call x1 x2 passings given block named
+    callee_named (kind_of_code x0) a call x1 x2 passings given block named
     (Does use_db (operation.Call a) (operand.Called x0 x1 x2)) tt is
 called_is operation.Jump (operand.OpenBlock x0 x1) use_db passings next ops call block named given is =
     absurd (never (Does use_db operation.Jump (operand.OpenBlock x0 x1)) (Calls call block named given) tt is)
@@ -259,7 +259,7 @@ called_is (operation.Call a) (operand.OpenBy x0 x1 x2) use_db passings next ops 
 
 -- ---- in the code of a block
 
-calls_in : (op : OpData) (ops : List OpData) (block : BlockId) → IsIn op ops
+calls_in : (op : OpData) (ops : List OpData) (block : BlockId) → IsOneOfOps op ops
     → callee_in (operation_of op.code) op.operand ≡ Some block → CallsIn ops block
 calls_in op [] block here is = absurd here
 calls_in op (one ∷ ops) block (inl same) is =

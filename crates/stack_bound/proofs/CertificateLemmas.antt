@@ -300,12 +300,12 @@ abbrev loaded_highest : (z : Profile) (p : Program) → HasLoadedBlocksOnly p (h
 loaded_highest z p = are_loaded p (layer_of_height (most_frames z) p) (block_ids p)
 
 -- what it says of a block is what the layer says, and the block stands on a chain
-Said : Profile → Program → BlockId → Bound → Type 0
-Said z p x e = (bound_of x (highest z p) ≡ Some e) × IsOnChain p x
+IsSaidByLayer : Profile → Program → BlockId → Bound → Type 0
+IsSaidByLayer z p x e = (bound_of x (highest z p) ≡ Some e) × IsOnChain p x
 
-said : (z : Profile) (p : Program) (x : BlockId) (e : Bound) → bound_of x (certificate z p) ≡ Some e
+said_by_layer : (z : Profile) (p : Program) (x : BlockId) (e : Bound) → bound_of x (certificate z p) ≡ Some e
     → (bound_of x (highest z p) ≡ Some e) × IsOnChain p x
-said z p x e is =
+said_by_layer z p x e is =
     let fact = marked_of (λ (b : Bound). IsOnChain p b.block) (highest z p) [] (marks_of_round (most_frames z) p (highest z p))
     (highest z p) x e (marks_sound p (highest z p) (most_frames z) (loaded_highest z p))
     (entries_are p (layer_of_height (most_frames z) p) (block_ids p)) is in
@@ -335,7 +335,7 @@ holds_own z p x b (Some e) there is = (
 )
   where
     counted : (m : Measure) → measure_of_bound m e ≡ measure_of_block m b + most_called m (layer_of_height (most_frames z) p) b.code
-    counted m = sym (of_number m z p x e (said z p x e is).0) ∙ above m p (layer_of_height (most_frames z) p) x b there
+    counted m = sym (of_number m z p x e (said_by_layer z p x e is).0) ∙ above m p (layer_of_height (most_frames z) p) x b there
 
 one_more : (a b : ℕ) → 1 + a ≤ b → a + 1 ≤ b
 one_more a b is = omega (arith, is)
@@ -353,7 +353,7 @@ holds_calls z p x called b d (Some e) none there to calls is =
     )
   where
     on : IsOnChain p x
-    on = (said z p x e is).1
+    on = (said_by_layer z p x e is).1
 
     call : Calls p x called
     call = record { from = b; to = d; is_loaded = there; called_is_loaded = to; calls = calls }
@@ -362,7 +362,7 @@ holds_calls z p x called b d (Some e) none there to calls is =
         → measure_of_block m b + measure_of_bound m (bound_above (layer_of_height (most_frames z) p) called d) ≤ measure_of_bound m e
     counted m =
         subst (λ (n : ℕ). measure_of_block m b + measure_of_bound m (bound_above (layer_of_height (most_frames z) p) called d) ≤ n)
-        (of_number m z p x e (said z p x e is).0)
+        (of_number m z p x e (said_by_layer z p x e is).0)
         (subst (λ (n : ℕ). measure_of_block m b + n ≤ measure_in_layer m (highest z p) (Some x))
         (of_number m z p called (bound_above (layer_of_height (most_frames z) p) called d)
         (layer_has p (layer_of_height (most_frames z) p) called d to))

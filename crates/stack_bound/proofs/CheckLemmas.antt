@@ -51,9 +51,9 @@ AreFound c [] = Unit {0}
 AreFound c (b ∷ rest) = (bound_of b.block c ≡ Some b) × AreFound c rest
 
 -- a bound of another block in front changes nothing
-apart : (b d : Bound) (rest : List Bound) → bound_of b.block (d ∷ rest) ≡ None
+front_is_other : (b d : Bound) (rest : List Bound) → bound_of b.block (d ∷ rest) ≡ None
     → is_same_id b.block d.block ≡ false
-apart b d rest is = by (is_same_id b.block d.block) refl
+front_is_other b d rest is = by (is_same_id b.block d.block) refl
   where
     absent : (other : Bool) → other ≡ true
         → (if other then Some d else bound_of b.block rest) ≡ None → ⊥
@@ -79,7 +79,7 @@ found_behind : (b : Bound) (c some : List Bound) → bound_of b.block some ≡ N
     → AreFound (b ∷ c) some
 found_behind b c [] none found = tt
 found_behind b c (d ∷ rest) none found =
-    (rw (apart b d rest none) found.0, found_behind b c rest (later b d rest none) found.1)
+    (rw (front_is_other b d rest none) found.0, found_behind b c rest (later b d rest none) found.1)
 
 are_found : (c : List Bound) → HasEachBlockOnce c → AreFound c c
 are_found [] once = tt

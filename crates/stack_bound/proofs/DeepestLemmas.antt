@@ -12,8 +12,8 @@ use Rattle.stack_bound.specs.declared.deepest.Best.{Best}
 use Rattle.stack_bound.specs.declared.measures.Measure.{Measure}
 
 -- what is best is called by ops, or none is
-abbrev IsBest : Measure → List Bound → List OpData → Best → Type 0
-IsBest m layer ops best =
+abbrev IsBestOfOps : Measure → List Bound → List OpData → Best → Type 0
+IsBestOfOps m layer ops best =
     ((called : BlockId) → best.block ≡ Some called
     → CallsIn ops called × (measure_in_layer m layer (Some called) ≡ best.most) × (0 < best.most))
     × (best.block ≡ None → best.most ≡ 0)
@@ -58,27 +58,27 @@ most_so m layer best (op ∷ ops) =
         (more_of best.most (measure_in_layer m layer (callee_of_op op)) is)
 
 -- the best of ops is called by one of them, or it is the one from before
-abbrev IsOf : Measure → List Bound → Best → List OpData → Best → Type 0
-IsOf m layer before ops best =
+abbrev IsBestCallee : Measure → List Bound → Best → List OpData → Best → Type 0
+IsBestCallee m layer before ops best =
     (best ≡ before)
     ⊎ ((called : BlockId) × (best.block ≡ Some called) × CallsIn ops called
     × (measure_in_layer m layer (Some called) ≡ best.most) × (0 < best.most))
 
 best_is : (m : Measure) (layer : List Bound) (best : Best) (ops : List OpData)
-    → IsOf m layer best ops (best_callee_from m layer best ops)
+    → IsBestCallee m layer best ops (best_callee_from m layer best ops)
 best_is m layer best [] = inl refl
 best_is m layer best (op ∷ ops) =
     by (nat_lt best.most (measure_in_layer m layer (callee_of_op op))) refl
     (best_is m layer (better_callee m layer best op) ops)
   where
     later : (before r : Best) → (r ≡ before) ⊎ ((called : BlockId) × (r.block ≡ Some called) × CallsIn ops called × (measure_in_layer m layer (Some called) ≡ r.most) × (0 < r.most))
-        → IsOf m layer before (op ∷ ops) r
+        → IsBestCallee m layer before (op ∷ ops) r
     later before r (inl same) = inl same
     later before r (inr found) = inr (found.0, found.1, inr found.2, found.3, found.4)
 
     here : (called : Option BlockId) → callee_of_op op ≡ called → best.most < measure_in_layer m layer called
         → (r : Best) → r ≡ record { block = callee_of_op op; most = measure_in_layer m layer (callee_of_op op) }
-        → IsOf m layer best (op ∷ ops) r
+        → IsBestCallee m layer best (op ∷ ops) r
     here None is less r same = absurd (omega (arith, less))
     here (Some called) is less r same =
         inr (
@@ -92,16 +92,16 @@ best_is m layer best (op ∷ ops) =
         )
 
     from : (r : Best) → nat_lt best.most (measure_in_layer m layer (callee_of_op op)) ≡ true
-        → IsOf m layer (record { block = callee_of_op op; most = measure_in_layer m layer (callee_of_op op) }) ops r
-        → IsOf m layer best (op ∷ ops) r
+        → IsBestCallee m layer (record { block = callee_of_op op; most = measure_in_layer m layer (callee_of_op op) }) ops r
+        → IsBestCallee m layer best (op ∷ ops) r
     from r is (inl same) =
         here (callee_of_op op) refl (less_of best.most (measure_in_layer m layer (callee_of_op op)) is) r same
     from r is (inr found) = inr (found.0, found.1, inr found.2, found.3, found.4)
 
     by : (test : Bool) → nat_lt best.most (measure_in_layer m layer (callee_of_op op)) ≡ test
-        → IsOf m layer (if test then record { block = callee_of_op op; most = measure_in_layer m layer (callee_of_op op) } else best) ops
+        → IsBestCallee m layer (if test then record { block = callee_of_op op; most = measure_in_layer m layer (callee_of_op op) } else best) ops
         (best_callee_from m layer (better_callee m layer best op) ops)
-        → IsOf m layer best (op ∷ ops) (best_callee_from m layer (better_callee m layer best op) ops)
+        → IsBestCallee m layer best (op ∷ ops) (best_callee_from m layer (better_callee m layer best op) ops)
     by true is of = from (best_callee_from m layer (better_callee m layer best op) ops) is of
     by false is of = later best (best_callee_from m layer (better_callee m layer best op) ops) of
 
@@ -114,7 +114,7 @@ best_called m layer ops =
     by (best_callee_from m layer (record { block = None; most = 0 }) ops) (best_is m layer (record { block = None; most = 0 }) ops)
     (most_so m layer (record { block = None; most = 0 }) ops)
   where
-    by : (r : Best) → IsOf m layer (record { block = None; most = 0 }) ops r
+    by : (r : Best) → IsBestCallee m layer (record { block = None; most = 0 }) ops r
         → r.most ≡ max 0 (most_called m layer ops) → IsMostCalled m layer ops r.block
     by r (inl same) most =
         subst (λ (o : Option BlockId). IsMostCalled m layer ops o) (sym (ap (λ (b : Best). b.block) same))

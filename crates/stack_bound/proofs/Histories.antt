@@ -15,7 +15,7 @@ use Rattle.machine.specs.Code.{Code, BlockHead}
 use Rattle.machine.specs.Flat.{code_of}
 use Rattle.machine.specs.Statement.{StatementStep, Went, Ended, SyncError, SysCall, Stop as StopsBy, Stuck, statement_step}
 use Rattle.ob_sched.specs.TickState.{TickState, ob_requested}
-use Rattle.ob_sched.specs.Millisecond.{tick_begun as course_begun, after_tick}
+use Rattle.ob_sched.specs.Millisecond.{tick_begun, after_tick}
 use Rattle.ob_sched.specs.OrganizationBlock.{priority_class_in, is_delay}
 use Rattle.ob_sched.specs.StartRequest.{best_of}
 use Rattle.ob_sched.specs.Scheduler.{Scheduler, delay_of, delay_started, delay_cancelled, cycle_retriggered}
@@ -31,7 +31,8 @@ use Rattle.var_access.specs.declared.What.TheVariants as what
 use Rattle.var_access.specs.declared.Request.{Request}
 use Rattle.var_access.specs.declared.Request.TheVariants as request
 use Rattle.controller.specs.Asking.{request_effect}
-use Rattle.controller.specs.Beginning.{ob_block_id, ob_frame, with_start_bytes, ob_begun, ob_activation, with_ob_begun}
+use Rattle.machine.specs.Lasting.{ob_block}
+use Rattle.controller.specs.Beginning.{ob_frame, with_start_bytes, ob_begun, ob_activation, with_ob_begun}
 use Rattle.controller.specs.CyclePoint.{cycle_point, cycle_finished, cycle_info}
 use Rattle.controller.specs.Errors.{is_synchronous, cause_without, error_event, with_caller_registers, error_in, error_ob_started, error_raised}
 use Rattle.controller.specs.Event.{entry_counted, entry_effect, state_after}
@@ -83,7 +84,7 @@ with_start_bytes_stack (value ∷ rest) byte a =
     ∙ byte_stack byte value a
 
 begun_room : (z : Profile) (c : List Bound) (class ob : ℕ) (info : StartInfo) (h : BlockHead)
-    → RoomFor z (bound_of (ob_block_id ob) c) [] → Roomy z c (ob_begun z class ob info h)
+    → RoomFor z (bound_of (ob_block ob) c) [] → Roomy z c (ob_begun z class ob info h)
 unfolding ob_begun
 begun_room z c class ob info h room = (
   with_start_bytes_profile info.bytes 0 (activation_begun z class ob (ob_frame ob h)),
@@ -92,7 +93,7 @@ begun_room z c class ob info h room = (
 )
 
 ob_room_by : (z : Profile) (code : Code) (c : List Bound) (class ob : ℕ) (info : StartInfo) (found : Option BlockHead)
-    → Certifies z code c → code.head (ob_block_id ob) ≡ found
+    → Certifies z code c → code.head (ob_block ob) ≡ found
     → RoomIf z c (option_map (ob_begun z class ob info) found)
 ob_room_by z code c class ob info None holds is = tt
 ob_room_by z code c class ob info (Some h) holds is =
@@ -101,7 +102,7 @@ ob_room_by z code c class ob info (Some h) holds is =
 ob_room : (z : Profile) (code : Code) (c : List Bound) (class ob : ℕ) (info : StartInfo) → Certifies z code c
     → RoomIf z c (ob_activation z code class ob info)
 ob_room z code c class ob info holds =
-    ob_room_by z code c class ob info (code.head (ob_block_id ob)) holds refl
+    ob_room_by z code c class ob info (code.head (ob_block ob)) holds refl
 
 begins_room : (z : Profile) (c : List Bound) (one : Option Activation) (s : State) → RoomIf z c one → Bounded z c s
     → Bounded z c (with_ob_begun one s)
@@ -349,12 +350,12 @@ stopped_bounded : (z : Profile) (code : Code) (c : List Bound) (cause : Option �
 stopped_bounded z code c None s fine b = b
 stopped_bounded z code c (Some cause) s fine b = halted_bounded z code c cause s b.profile fine
 
-course_bounded : (z : Profile) (code : Code) (c : List Bound) (course : TickState) (s : State)
-    → NoOverflow course.passed.stop → Bounded z c s → Bounded z c (tick_state_taken code course s)
-course_bounded z code c course s fine b =
-    stopped_bounded z code c course.passed.stop
-    (each_diagnosed course.passed.records.items (record s { sched = course.sched })) fine
-    (each_bounded z c course.passed.records.items (record s { sched = course.sched })
+tick_state_bounded : (z : Profile) (code : Code) (c : List Bound) (tick : TickState) (s : State)
+    → NoOverflow tick.passed.stop → Bounded z c s → Bounded z c (tick_state_taken code tick s)
+tick_state_bounded z code c tick s fine b =
+    stopped_bounded z code c tick.passed.stop
+    (each_diagnosed tick.passed.records.items (record s { sched = tick.sched })) fine
+    (each_bounded z c tick.passed.records.items (record s { sched = tick.sched })
     (record { profile = b.profile; room = b.room; mode = b.mode }))
 
 arrived_bounded : (z : Profile) (code : Code) (c : List Bound) (ob value : ℕ) (s : State) → Bounded z c s
@@ -362,16 +363,16 @@ arrived_bounded : (z : Profile) (code : Code) (c : List Bound) (ob value : ℕ) 
 unfolding arrival_served
 arrived_bounded z code c ob value s b =
     either_bounded z c (is_stop s.mode) s _ b
-    (course_bounded z code c
-    (ob_requested s.mode ob (start_info (Arrival ob value) (priority_class_in s.mode ob)) (course_begun s.sched)) s
+    (tick_state_bounded z code c
+    (ob_requested s.mode ob (start_info (Arrival ob value) (priority_class_in s.mode ob)) (tick_begun s.sched)) s
     (requested_fine s.mode ob (start_info (Arrival ob value) (priority_class_in s.mode ob))
-    (course_begun s.sched) tt) b)
+    (tick_begun s.sched) tt) b)
 
 time_bounded : (z : Profile) (code : Code) (c : List Bound) (ms : ℕ) (s : State) → Bounded z c s
     → Bounded z c (time_passed code ms s)
 unfolding time_passed
 time_bounded z code c ms s b =
-    course_bounded z code c (after_tick s.mode (active_obs s.activations) ms s.sched)
+    tick_state_bounded z code c (after_tick s.mode (active_obs s.activations) ms s.sched)
     (record s { store = timers_moved (after_tick s.mode (active_obs s.activations) ms s.sched).passed.ms s.store })
     (ticked_fine s.mode (active_obs s.activations) ms s.sched) (record { profile = b.profile; room = b.room; mode = b.mode })
 

@@ -11,7 +11,7 @@ use Rattle.flat_code.specs.declared.operations.CallOperation.{CallOperation}
 use Rattle.image_file.specs.Readers.{block_by_id}
 use Rattle.machine.specs.Code.{Fetched, BlockHead}
 use Rattle.machine.specs.Flat.{code_of, block_head_of, statement_fetched}
-use Rattle.controller.specs.Beginning.{ob_block_id}
+use Rattle.machine.specs.Lasting.{ob_block}
 use Rattle.controller.specs.Fitting.{EntriesKeepFit, StartIsFit}
 use Rattle.stack_bound.specs.Certificates.{bound_of, CountsItself, CountsCalled, IsCertificateOf, IsBoundWithinLimits}
 use Rattle.stack_bound.specs.Overflow.{NeverOverflows}
@@ -30,20 +30,20 @@ first_room : (z : Profile) (b : Option Bound) → IsBoundWithinLimits z b → Ro
 first_room z None within = absurd within
 first_room z (Some b) within = (omega (arith, within.0), omega (arith, within.1))
 
-pub certified : (z : Profile) (p : Program) (c : List Bound) → IsCertificateOf z p c → Certifies z (code_of p) c
-certified z p c holds = record {
-  obs = λ ob there. ob_by ob (block_by_id (ob_block_id ob) p.code_blocks) refl there;
+pub certificate_certifies : (z : Profile) (p : Program) (c : List Bound) → IsCertificateOf z p c → Certifies z (code_of p) c
+certificate_certifies z p c holds = record {
+  obs = λ ob there. ob_by ob (block_by_id (ob_block ob) p.code_blocks) refl there;
   own = λ block h found. own_by block h (block_by_id block p.code_blocks) refl found;
   calls = λ block at f how called instance passings h d fetched is user found there.
       calls_by block at f how called instance passings h d (block_by_id block p.code_blocks) refl
       (block_by_id called p.code_blocks) refl fetched is found there;
 }
   where
-    ob_by : (ob : ℕ) (found : Option CodeBlock) → block_by_id (ob_block_id ob) p.code_blocks ≡ found
-        → IsSome (option_map block_head_of found) → RoomFor z (bound_of (ob_block_id ob) c) []
+    ob_by : (ob : ℕ) (found : Option CodeBlock) → block_by_id (ob_block ob) p.code_blocks ≡ found
+        → IsSome (option_map block_head_of found) → RoomFor z (bound_of (ob_block ob) c) []
     ob_by ob None is there = absurd cc
     ob_by ob (Some b) is there =
-        let same : b.id ≡ ob_block_id ob = found_id (ob_block_id ob) p.code_blocks b is in
+        let same : b.id ≡ ob_block ob = found_id (ob_block ob) p.code_blocks b is in
         subst (λ (id : BlockId). RoomFor z (bound_of id c) []) same
         (first_room z (bound_of b.id c) (holds.obs b (subst (λ (id : BlockId). block_by_id id p.code_blocks ≡ Some b) (sym same) is)
         (ap (λ (id : BlockId). id.kind) same)))
@@ -75,4 +75,4 @@ certified z p c holds = record {
 -- so no valid history of the program overflows
 pub never : (z : Profile) (p : Program) (c : List Bound) → StartIsFit → EntriesKeepFit → Verifies p
     → IsCertificateOf z p c → NeverOverflows z p
-never z p c first keep verifies holds = never_overflows z p c first keep verifies (certified z p c holds)
+never z p c first keep verifies holds = never_overflows z p c first keep verifies (certificate_certifies z p c holds)

@@ -24,7 +24,7 @@ use Rattle.stack_bound.specs.declared.measures.Measure.{Measure}
 use Rattle.stack_bound.specs.declared.measures.Measure.TheVariants.{Depth, Bytes}
 use Rattle.stack_bound.proofs.BlockLemmas.{same_is}
 use Rattle.stack_bound.proofs.MarkLemmas.{mark_len}
-use Rattle.stack_bound.proofs.RankLemmas.{IsIn, called_most, layer_has, layer_lacks, loaded_in, settled}
+use Rattle.stack_bound.proofs.RankLemmas.{IsOneOfBlocks, called_most, layer_has, layer_lacks, loaded_in, layer_counts_block}
 
 -- ---- organization blocks above the limits
 
@@ -120,14 +120,14 @@ first_is_over profile p k (id ∷ ids) over is =
         (ap (λ (o : Option Over). over_in over o) same) (over_is profile p k id m some)
 
 none_over : (profile : Profile) (layer : List Bound) (ids : List BlockId) (id : BlockId)
-    → first_over profile layer ids ≡ None → IsIn id ids → ob_over profile layer id ≡ None
+    → first_over profile layer ids ≡ None → IsOneOfBlocks id ids → ob_over profile layer id ≡ None
 none_over profile layer [] id is there = absurd there
 none_over profile layer (one ∷ ids) id is there =
     by (ob_over profile layer one) refl is there (λ none later. none_over profile layer ids id none later)
   where
     by : (found : Option Measure) → ob_over profile layer one ≡ found
-        → over_or one found (first_over profile layer ids) ≡ None → (one ≡ id) ⊎ IsIn id ids
-        → (first_over profile layer ids ≡ None → IsIn id ids → ob_over profile layer id ≡ None)
+        → over_or one found (first_over profile layer ids) ≡ None → (one ≡ id) ⊎ IsOneOfBlocks id ids
+        → (first_over profile layer ids ≡ None → IsOneOfBlocks id ids → ob_over profile layer id ≡ None)
         → ob_over profile layer id ≡ None
     by None none rest (inl here) next =
         subst (λ (x : BlockId). ob_over profile layer x ≡ None) here none
@@ -184,7 +184,7 @@ pub counts_down : (profile : Profile) (p : Program) (m : Measure) (x called : Bl
 counts_down profile p m x called b there calls few =
     counts_in (measure_in_layer m (highest profile p) (Some x)) (measure_of_block m b)
     (most_called m (highest profile p) b.code) (measure_in_layer m (highest profile p) (Some called))
-    (settled m p (suc (most_frames profile)) x b there
+    (layer_counts_block m p (suc (most_frames profile)) x b there
     (below_top (measure_in_layer Depth (highest profile p) (Some x)) (most_frames profile) few))
     (called_most m (highest profile p) b.code called calls)
 

@@ -13,19 +13,19 @@ use Rattle.stack_bound.specs.Order.{IsHalved, bound_at, stands_before_bounds, is
 use Rattle.stack_bound.specs.declared.certificates.Bound.{Bound}
 
 -- a block stands before another one, by two pairs of numbers
-abbrev pub before : (a m b n : ℕ) → Bool
-before a m b n = nat_lt a b || a == b && nat_lt m n
+abbrev pub is_pair_before : (a m b n : ℕ) → Bool
+is_pair_before a m b n = nat_lt a b || a == b && nat_lt m n
 
-trans : (a m b n c o : ℕ) → before a m b n ≡ true → before b n c o ≡ true → before a m c o ≡ true
+trans : (a m b n c o : ℕ) → is_pair_before a m b n ≡ true → is_pair_before b n c o ≡ true → is_pair_before a m c o ≡ true
 trans a m b n c o one two = grind (arith, nat_tests)
 
-pub not_same : (a m b n : ℕ) → before a m b n ≡ true → (a == b && m == n) ≡ false
+pub not_same : (a m b n : ℕ) → is_pair_before a m b n ≡ true → (a == b && m == n) ≡ false
 not_same a m b n is = grind (arith, nat_tests)
 
-pub not_after : (a m b n : ℕ) → before b n a m ≡ true → (a == b && m == n) ≡ false
+pub not_after : (a m b n : ℕ) → is_pair_before b n a m ≡ true → (a == b && m == n) ≡ false
 not_after a m b n is = grind (arith, nat_tests)
 
-pub one_way : (a m b n : ℕ) → before a m b n ≡ false → (a == b && m == n) ≡ false → before b n a m ≡ true
+pub one_way : (a m b n : ℕ) → is_pair_before a m b n ≡ false → (a == b && m == n) ≡ false → is_pair_before b n a m ≡ true
 one_way a m b n not apart = grind (arith, nat_tests)
 
 abbrev pub key : BlockId → ℕ
@@ -74,17 +74,17 @@ at_of a [] j d all less = absurd (omega (arith, less))
 at_of a (b ∷ rest) zero d all less = all.0
 at_of a (b ∷ rest) (suc j) d all less = at_of a rest j d all.1 (omega (arith, less))
 
-pub parted : (block : BlockId) (list : List Bound) → are_blocks_rising list ≡ true
+pub blocks_partitioned : (block : BlockId) (list : List Bound) → are_blocks_rising list ≡ true
     → IsPartitionedBy (λ (b : Bound). is_before b.block block) list
-parted block [] is i j d le less passes = absurd (omega (arith, less))
-parted block (b ∷ rest) is zero zero d le less passes = passes
-parted block (b ∷ rest) is zero (suc j) d le less passes =
+blocks_partitioned block [] is i j d le less passes = absurd (omega (arith, less))
+blocks_partitioned block (b ∷ rest) is zero zero d le less passes = passes
+blocks_partitioned block (b ∷ rest) is zero (suc j) d le less passes =
     trans (key b.block) b.block.number (key (slice_index_or rest j d).block)
     (slice_index_or rest j d).block.number (key block) block.number
     (at_of b.block rest j d (rises b rest is) (omega (arith, less))) passes
-parted block (b ∷ rest) is (suc i) zero d le less passes = absurd (omega (arith, le))
-parted block (b ∷ rest) is (suc i) (suc j) d le less passes =
-    parted block rest (rest_rises b rest is) i j d (omega (arith, le)) (omega (arith, less)) passes
+blocks_partitioned block (b ∷ rest) is (suc i) zero d le less passes = absurd (omega (arith, le))
+blocks_partitioned block (b ∷ rest) is (suc i) (suc j) d le less passes =
+    blocks_partitioned block rest (rest_rises b rest is) i j d (omega (arith, le)) (omega (arith, less)) passes
 
 pub later_point : (block : BlockId) (b : Bound) (rest : List Bound) (k : ℕ)
     → IsHalved (b ∷ rest) block (suc k)
@@ -94,12 +94,12 @@ later_point block b rest k point = (
   λ i d low high. point.1 (suc i) d (omega (arith, low)) (omega (arith, high)),
 )
 
-pub halved : (block : BlockId) (list : List Bound) (place : ℕ) → are_blocks_rising list ≡ true
+pub halving_finds : (block : BlockId) (list : List Bound) (place : ℕ) → are_blocks_rising list ≡ true
     → IsHalved list block place
     → bound_at list place block ≡ bound_of block list
-halved block [] zero is point = refl
-halved block [] (suc place) is point = refl
-halved block (b ∷ rest) zero is point = by (is_same_id b.block block) refl
+halving_finds block [] zero is point = refl
+halving_finds block [] (suc place) is point = refl
+halving_finds block (b ∷ rest) zero is point = by (is_same_id b.block block) refl
   where
     by : (test : Bool) → is_same_id b.block block ≡ test
         → (if test then Some b else None) ≡ (if test then Some b else bound_of block rest)
@@ -109,8 +109,8 @@ halved block (b ∷ rest) zero is point = by (is_same_id b.block block) refl
         (before_all block b rest
         (one_way (key b.block) b.block.number (key block) block.number
         (point.1 zero b (omega arith) (omega arith)) apart) (rises b rest is)))
-halved block (b ∷ rest) (suc place) is point =
-    halved block rest place (rest_rises b rest is) (later_point block b rest place point)
+halving_finds block (b ∷ rest) (suc place) is point =
+    halving_finds block rest place (rest_rises b rest is) (later_point block b rest place point)
     ∙ sym (passed (not_same (key b.block) b.block.number (key block) block.number
     (point.0 zero b (omega arith) (omega arith))))
   where

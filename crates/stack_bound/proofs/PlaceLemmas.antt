@@ -19,7 +19,7 @@ use Rattle.stack_bound.specs.declared.certificates.Bound.{Bound}
 use Rattle.stack_bound.specs.declared.measures.Measure.{Measure}
 use Rattle.stack_bound.specs.declared.measures.Measure.TheVariants.{Depth, Bytes}
 use Rattle.stack_bound.proofs.OrderLemmas.{IsBeforeAll, before_all, key, later_point, not_after, not_same, one_way, rises, rest_rises}
-use Rattle.stack_bound.proofs.WalkLemmas.{walked, walks}
+use Rattle.stack_bound.proofs.WalkLemmas.{walk_ends, walk_goes_on}
 
 -- ---- a place is found by halving
 
@@ -84,10 +84,10 @@ plus_zero i = omega arith
 plus_more : (i n : ℕ) → i + 1 + n ≡ i + suc n
 plus_more i n = omega arith
 
-shifted : (i : ℕ) (o : Option ℕ)
+place_shifted : (i : ℕ) (o : Option ℕ)
     → option_map (λ n. i + 1 + n) o ≡ option_map (λ n. i + n) (option_map suc o)
-shifted i None = refl
-shifted i (Some n) = ap (λ (k : ℕ). Some k) (plus_more i n)
+place_shifted i None = refl
+place_shifted i (Some n) = ap (λ (k : ℕ). Some k) (plus_more i n)
 
 place_from : (block : BlockId) (i : ℕ) (list : List Bound)
     → position_from (λ (b : Bound). is_same_id b.block block) i list
@@ -101,7 +101,7 @@ place_from block i (b ∷ rest) = by (is_same_id b.block block) (place_from bloc
         → (if test then Some i else position_from (λ (d : Bound). is_same_id d.block block) (i + 1) rest)
         ≡ option_map (λ n. i + n) (if test then Some 0 else option_map suc (place_of_bound block rest))
     by true later = ap (λ (k : ℕ). Some k) (plus_zero i)
-    by false later = later ∙ shifted i (place_of_bound block rest)
+    by false later = later ∙ place_shifted i (place_of_bound block rest)
 
 from_zero : (o : Option ℕ) → option_map (λ n. 0 + n) o ≡ o
 from_zero None = refl
@@ -114,9 +114,9 @@ walked_from : (block : BlockId) (list : List Bound)
     → position_from (λ (b : Bound). is_same_id b.block block) 0 list ≡ place_of_bound block list
 walked_from block list = place_from block 0 list ∙ from_zero (place_of_bound block list)
 
-pub walked_to : (block : BlockId) (list : List Bound) (place : Option ℕ)
+pub walk_finds_place : (block : BlockId) (list : List Bound) (place : Option ℕ)
     → place ≡ position_from (λ (b : Bound). is_same_id b.block block) 0 list → place ≡ place_of_bound block list
-walked_to block list place is = is ∙ walked_from block list
+walk_finds_place block list place is = is ∙ walked_from block list
 
 -- ---- lists of the same blocks
 
@@ -439,7 +439,7 @@ pub place_added : (list : List Bound) (code : List OpData) (at : ℕ) (op : OpDa
     → places_called list code ≡ added ++ places_called list (ops_after_offset 0 code next)
 place_added list code at op next called added place there is adds so_far =
     so_far
-    ∙ ap (λ (ops : List OpData). called ++ places_called list ops) (walks 0 code at op next there)
+    ∙ ap (λ (ops : List OpData). called ++ places_called list ops) (walk_goes_on 0 code at op next there)
     ∙ one_more_place called (place_in list (callee_of_op op)) (places_called list (ops_after_offset 0 code next))
     ∙ ap (λ (o : Option ℕ). (called ++ with_place o []) ++ places_called list (ops_after_offset 0 code next)) (sym is)
     ∙ ap (λ (xs : List ℕ). xs ++ places_called list (ops_after_offset 0 code next)) (sym adds)
@@ -449,4 +449,4 @@ pub all_added : (list : List Bound) (code : List OpData) (at : ℕ) (called : Li
     → places_called list code ≡ called ++ places_called list (ops_after_offset 0 code at)
     → called ≡ places_called list code
 all_added list code at called there so_far =
-    sym (so_far ∙ ap (λ (ops : List OpData). called ++ places_called list ops) (walked 0 code at there) ∙ none_behind called)
+    sym (so_far ∙ ap (λ (ops : List OpData). called ++ places_called list ops) (walk_ends 0 code at there) ∙ none_behind called)

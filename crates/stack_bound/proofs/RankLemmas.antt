@@ -15,30 +15,30 @@ use Rattle.stack_bound.specs.declared.measures.Measure.TheVariants.{Depth, Bytes
 use Rattle.stack_bound.proofs.BlockLemmas.{same_is, same_self}
 
 -- a block stands among others
-abbrev pub IsIn : BlockId → List BlockId → Type 0
-IsIn block [] = ⊥
-IsIn block (id ∷ ids) = (id ≡ block) ⊎ IsIn block ids
+abbrev pub IsOneOfBlocks : BlockId → List BlockId → Type 0
+IsOneOfBlocks block [] = ⊥
+IsOneOfBlocks block (id ∷ ids) = (id ≡ block) ⊎ IsOneOfBlocks block ids
 
-in_front : (block : BlockId) (ids more : List BlockId) → IsIn block ids → IsIn block (ids ++ more)
+in_front : (block : BlockId) (ids more : List BlockId) → IsOneOfBlocks block ids → IsOneOfBlocks block (ids ++ more)
 in_front block [] more is = absurd is
 in_front block (id ∷ ids) more (inl here) = inl here
 in_front block (id ∷ ids) more (inr later) = inr (in_front block ids more later)
 
 code_in : (block : BlockId) (blocks : List CodeBlock) (b : CodeBlock) → block_by_id block blocks ≡ Some b
-    → IsIn block (map (λ (x : CodeBlock). x.id) blocks)
+    → IsOneOfBlocks block (map (λ (x : CodeBlock). x.id) blocks)
 code_in block [] b is = absurd cc
 code_in block (one ∷ blocks) b is = by (λ later. code_in block blocks b later) (is_same_id one.id block) refl is
   where
-    by : (block_by_id block blocks ≡ Some b → IsIn block (map (λ (x : CodeBlock). x.id) blocks))
+    by : (block_by_id block blocks ≡ Some b → IsOneOfBlocks block (map (λ (x : CodeBlock). x.id) blocks))
         → (test : Bool) → is_same_id one.id block ≡ test
         → (if test then Some one else block_by_id block blocks) ≡ Some b
-        → (one.id ≡ block) ⊎ IsIn block (map (λ (x : CodeBlock). x.id) blocks)
+        → (one.id ≡ block) ⊎ IsOneOfBlocks block (map (λ (x : CodeBlock). x.id) blocks)
     by next true same here = inl (same_is one.id block same)
     by next false same later = inr (next later)
 
 -- a code block is one of the blocks of the program
 pub loaded_in : (p : Program) (block : BlockId) (b : CodeBlock) → block_by_id block p.code_blocks ≡ Some b
-    → IsIn block (block_ids p)
+    → IsOneOfBlocks block (block_ids p)
 loaded_in p block b is =
     in_front block (map (λ (x : CodeBlock). x.id) p.code_blocks) (map data_block_id p.data_blocks)
     (code_in block p.code_blocks b is)
@@ -50,7 +50,7 @@ bound_for p layer block = option_map (bound_above layer block) (block_by_id bloc
 
 -- of each block that is among them the bounds above a layer have the bound of that block
 bounds_have : (p : Program) (layer : List Bound) (ids : List BlockId) (block : BlockId) (b : CodeBlock)
-    → block_by_id block p.code_blocks ≡ Some b → IsIn block ids
+    → block_by_id block p.code_blocks ≡ Some b → IsOneOfBlocks block ids
     → bound_of block (bounds_above p layer ids) ≡ Some (bound_above layer block b)
 bounds_have p layer [] block b is there = absurd there
 bounds_have p layer (id ∷ ids) block b is there =
@@ -69,7 +69,7 @@ bounds_have p layer (id ∷ ids) block b is there =
     skip None apart = refl
     skip (Some x) apart = rw apart refl
 
-    not_here : (test : Bool) → is_same_id id block ≡ test → test ≡ false → (id ≡ block) ⊎ IsIn block ids → IsIn block ids
+    not_here : (test : Bool) → is_same_id id block ≡ test → test ≡ false → (id ≡ block) ⊎ IsOneOfBlocks block ids → IsOneOfBlocks block ids
     not_here test is_test fails (inl here) =
         absurd (wrong (subst (λ (x : BlockId). is_same_id x block ≡ true) (sym here) (same_self block)))
       where
@@ -77,14 +77,14 @@ bounds_have p layer (id ∷ ids) block b is there =
         wrong passes = cc
     not_here test is_test fails (inr later) = later
 
-    by : (test : Bool) → is_same_id id block ≡ test → (id ≡ block) ⊎ IsIn block ids
-        → (IsIn block ids → bound_of block rest ≡ Some (bound_above layer block b))
+    by : (test : Bool) → is_same_id id block ≡ test → (id ≡ block) ⊎ IsOneOfBlocks block ids
+        → (IsOneOfBlocks block ids → bound_of block rest ≡ Some (bound_above layer block b))
         → bound_of block (with_bound (bound_for p layer id) rest) ≡ Some (bound_above layer block b)
     by true same among next = first (same_is id block same)
     by false apart among next =
         skip (block_by_id id p.code_blocks) apart ∙ next (not_here false apart refl among)
 
--- and of a block that isn't loaded none
+-- the bounds above a layer have none of a block that isn't loaded
 bounds_lack : (p : Program) (layer : List Bound) (ids : List BlockId) (block : BlockId)
     → block_by_id block p.code_blocks ≡ None → bound_of block (bounds_above p layer ids) ≡ None
 bounds_lack p layer [] block is = refl
@@ -201,8 +201,8 @@ same_most m low high (op ∷ ops) same =
     ∙ ap (λ (n : ℕ). max (measure_in_layer m low (callee_of_op op)) n) (same_most m low high ops same.1)
 
 -- in the layer of a number a block from which no longer chain goes out stays as it is
-abbrev Stays : Program → ℕ → Type 0
-Stays p k =
+abbrev LayerStays : Program → ℕ → Type 0
+LayerStays p k =
     (m : Measure) (callee : Option BlockId) → measure_in_layer Depth (layer_of_height k p) callee < k
     → measure_in_layer m (layer_of_height (suc k) p) callee ≡ measure_in_layer m (layer_of_height k p) callee
 
@@ -212,7 +212,7 @@ first_less a b k less = omega (arith, less)
 rest_less : (a b k : ℕ) → max a b < k → b < k
 rest_less a b k less = omega (arith, less)
 
-all_stay : (p : Program) (k : ℕ) (m : Measure) (ops : List OpData) → Stays p k
+all_stay : (p : Program) (k : ℕ) (m : Measure) (ops : List OpData) → LayerStays p k
     → most_called Depth (layer_of_height k p) ops < k → SayTheSame m (layer_of_height k p) (layer_of_height (suc k) p) ops
 all_stay p k m [] stays less = tt
 all_stay p k m (op ∷ ops) stays less = (
@@ -225,12 +225,12 @@ all_stay p k m (op ∷ ops) stays less = (
 one_less : (x a k : ℕ) → x ≡ 1 + a → x < suc k → a < k
 one_less x a k is less = omega (arith, is, less)
 
-pub stays : (p : Program) (k : ℕ) → Stays p k
+pub stays : (p : Program) (k : ℕ) → LayerStays p k
 stays p zero m callee less = absurd (omega (arith, less))
 stays p (suc k) m None less = refl
 stays p (suc k) m (Some block) less = by (block_by_id block p.code_blocks) refl (stays p k)
   where
-    by : (found : Option CodeBlock) → block_by_id block p.code_blocks ≡ found → Stays p k
+    by : (found : Option CodeBlock) → block_by_id block p.code_blocks ≡ found → LayerStays p k
         → measure_in_layer m (layer_of_height (suc (suc k)) p) (Some block) ≡ measure_in_layer m (layer_of_height (suc k) p) (Some block)
     by None is before =
         above_none m p (layer_of_height (suc k) p) block is ∙ sym (above_none m p (layer_of_height k p) block is)
@@ -244,10 +244,10 @@ stays p (suc k) m (Some block) less = by (block_by_id block p.code_blocks) refl 
         ∙ sym (above m p (layer_of_height k p) block b is)
 
 -- so a layer counts each block as itself and what it calls, where its depth is below the layer's number
-pub settled : (m : Measure) (p : Program) (k : ℕ) (block : BlockId) (b : CodeBlock)
+pub layer_counts_block : (m : Measure) (p : Program) (k : ℕ) (block : BlockId) (b : CodeBlock)
     → block_by_id block p.code_blocks ≡ Some b → measure_in_layer Depth (layer_of_height k p) (Some block) < k
     → measure_in_layer m (layer_of_height k p) (Some block) ≡ measure_of_block m b + most_called m (layer_of_height k p) b.code
-settled m p k block b is less =
+layer_counts_block m p k block b is less =
     sym (stays p k m (Some block) less) ∙ above m p (layer_of_height k p) block b is
 
 -- ---- what is called

@@ -88,11 +88,11 @@ not_refused z (Some d) local_len stack a same room own depth bytes =
 
 -- ---- what stands
 
-standing : (a : Activation) → a.ended ≡ false → frames_of a ≡ a.running.frame ∷ a.below
-standing a is = rw is refl
+standing_frames : (a : Activation) → a.ended ≡ false → frames_of a ≡ a.running.frame ∷ a.below
+standing_frames a is = rw is refl
 
 stack_is : (a : Activation) → a.ended ≡ false → map counted_frame (frames_of a) ≡ stack_of a
-stack_is a is = ap (λ (frames : List Frame). map counted_frame frames) (standing a is)
+stack_is a is = ap (λ (frames : List Frame). map counted_frame frames) (standing_frames a is)
 
 bytes_same : (frames : List Frame) → bytes_below (map counted_frame frames) ≡ bytes_together frames
 bytes_same [] = refl
@@ -113,7 +113,7 @@ own_len : (p : Program) (m : Areas) (a : Activation) → FitsProgram p m a → (
 own_len p m a fits h is =
     let frames : FramesFit (code_of p) (open_codes p) m (a.running.frame ∷ a.below) =
     subst (λ (fs : List Frame). FramesFit (code_of p) (open_codes p) m fs)
-    (standing a fits.fits.stands) fits.fits.frames in
+    (standing_frames a fits.fits.stands) fits.fits.frames in
     len_by ((code_of p).head a.running.frame.block) a.running.frame a.below m frames.0.block h is
 
 -- ---- what a statement leaves
@@ -213,7 +213,7 @@ block_room z p c (Some d) block instance passings next a w holds fits room is us
     frames : FramesFit (code_of p) (open_codes p) w.memory (a.running.frame ∷ a.below)
     frames =
         subst (λ (fs : List Frame). FramesFit (code_of p) (open_codes p) w.memory fs)
-        (standing a stands) fits.fits.frames
+        (standing_frames a stands) fits.fits.frames
 
     more : RoomFor z (bound_of block c) (stack_of a)
     more = head_of_running ((code_of p).head a.running.frame.block) refl frames.0.block

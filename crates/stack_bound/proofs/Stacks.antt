@@ -10,7 +10,7 @@ use Rattle.frames.specs.declared.frame.Frame.{Frame}
 use Rattle.flat_code.specs.Instr.{Calls, Passing}
 use Rattle.flat_code.specs.declared.operations.CallOperation.{CallOperation}
 use Rattle.machine.specs.Code.{Code, Fetched, BlockHead}
-use Rattle.controller.specs.Beginning.{ob_block_id}
+use Rattle.machine.specs.Lasting.{ob_block}
 use Rattle.stack_bound.specs.Certificates.{bound_of, CountsItself, CountsCalled}
 use Rattle.stack_bound.specs.Chains.{most_local_bytes}
 use Rattle.stack_bound.specs.declared.certificates.Bound.{Bound}
@@ -34,7 +34,7 @@ RoomFor z None below = ⊥
 RoomFor z (Some b) below =
     (length below + b.depth ≤ most_frames z) × (bytes_below below + b.bytes ≤ most_local_bytes)
 
--- so it is for each frame above those below it
+-- each frame has room above those below it
 abbrev pub HasRoom : Profile → List Bound → List (BlockId × ℕ) → Type 0
 HasRoom z c [] = Unit {0}
 HasRoom z c (f ∷ below) = RoomFor z (bound_of f.0 c) below × HasRoom z c below
@@ -46,7 +46,7 @@ Roomy z c a = (a.profile ≡ z) × HasRoom z c (stack_of a)
 -- what a certificate that holds of a program says of the program's code: each organization block has
 -- room in an activation, and each block counts itself and each block that it calls
 pub record Certifies (z : Profile) (code : Code) (c : List Bound) : Type 0 where
-  pub obs : (ob : ℕ) → IsSome (code.head (ob_block_id ob)) → RoomFor z (bound_of (ob_block_id ob) c) []
+  pub obs : (ob : ℕ) → IsSome (code.head (ob_block ob)) → RoomFor z (bound_of (ob_block ob) c) []
   pub own : (block : BlockId) (h : BlockHead) → code.head block ≡ Some h
       → CountsItself h.local_len (bound_of block c)
   pub calls : (block : BlockId) (at : ℕ) (f : Fetched) (how : CallOperation) (called : BlockId)

@@ -55,12 +55,12 @@ skips from op ops at over = rw apart refl
     apart = grind (arith, nat_tests)
 
 -- an op that is found is the first of those from there on, and the others stand behind it
-pub walks : (from : ℕ) (ops : List OpData) (at : ℕ) (op : OpData) (next : ℕ)
+pub walk_goes_on : (from : ℕ) (ops : List OpData) (at : ℕ) (op : OpData) (next : ℕ)
     → op_placed from ops at ≡ Some (op, next)
     → ops_after_offset from ops at ≡ op ∷ ops_after_offset from ops next
-walks from [] at op next is = absurd cc
-walks from (one ∷ ops) at op next is =
-    by (λ same. walks (from + size_of_op one) ops at op next same) (from == at) refl is
+walk_goes_on from [] at op next is = absurd cc
+walk_goes_on from (one ∷ ops) at op next is =
+    by (λ same. walk_goes_on (from + size_of_op one) ops at op next same) (from == at) refl is
   where
     by : (op_placed (from + size_of_op one) ops at ≡ Some (op, next)
         → ops_after_offset (from + size_of_op one) ops at ≡ op ∷ ops_after_offset (from + size_of_op one) ops next)
@@ -83,11 +83,11 @@ walks from (one ∷ ops) at op next is =
         (sym (skips from one ops next (omega (arith, ends_behind (from + size_of_op one) ops at (op, next) same))))
 
 -- where none is found, none is left
-pub walked : (from : ℕ) (ops : List OpData) (at : ℕ) → op_placed from ops at ≡ None
+pub walk_ends : (from : ℕ) (ops : List OpData) (at : ℕ) → op_placed from ops at ≡ None
     → ops_after_offset from ops at ≡ []
-walked from [] at is = refl
-walked from (op ∷ ops) at is =
-    by (λ same. walked (from + size_of_op op) ops at same) (from == at) is
+walk_ends from [] at is = refl
+walk_ends from (op ∷ ops) at is =
+    by (λ same. walk_ends (from + size_of_op op) ops at same) (from == at) is
   where
     by : (op_placed (from + size_of_op op) ops at ≡ None → ops_after_offset (from + size_of_op op) ops at ≡ [])
         → (test : Bool)

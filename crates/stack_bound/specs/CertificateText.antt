@@ -4,12 +4,12 @@ use Rattle.std.specs.List.{flat_map, starts_with}
 use Rattle.std.specs.Str.Lines.{lines}
 use Rattle.plc_base.specs.declared.blocks.BlockId.{BlockId}
 use Rattle.plc_base.specs.declared.blocks.BlockKind.{BlockKind}
-use Rattle.plc_base.specs.declared.blocks.BlockKind.TheVariants.{Ob, Fc, Fb}
 use Rattle.plc_base.specs.declared.refusals.Refusal.{Refusal}
 use Rattle.flat_code.specs.Programs.{Program}
 use Rattle.image_file.specs.Readers.{block_by_id}
 use Rattle.monitor.specs.LineText.{kind_text}
 use Rattle.var_access.specs.Readings.{Reading, address_number, both_readings, no_line, reading_map, words_of}
+use Rattle.var_access.specs.Requests.{kind_of_word}
 use Rattle.stack_bound.specs.Order.{is_before}
 use Rattle.stack_bound.specs.declared.certificates.Bound.{Bound}
 use Rattle.stack_bound.specs.declared.texts.CertificateFault.{CertificateFault}
@@ -29,14 +29,6 @@ certificate_text list = flat_map bound_text list
 
 -- ---- read
 
--- the kind of a code block; another word isn't in the grammar
-abbrev pub block_kind_of_word : List ℕ → Reading BlockKind
-block_kind_of_word word =
-    if bytes_eq word (codes "OB") then Ok Ob
-    else if bytes_eq word (codes "FC") then Ok Fc
-    else if bytes_eq word (codes "FB") then Ok Fb
-    else no_line
-
 -- a bound of its kind, number, depth and bytes
 abbrev pub bound_of_parts : (BlockKind × ℕ) × (ℕ × ℕ) → Bound
 bound_of_parts p = record {
@@ -45,10 +37,11 @@ bound_of_parts p = record {
   bytes = p.1.1;
 }
 
--- a block, and its two numbers; each number is one of 0 to 65,535, else rule 2
+-- a block, and its two numbers; each number is one of 0 to 65,535, else it is out of
+-- range
 abbrev pub parts_read : (kind number depth bytes : List ℕ) → Reading ((BlockKind × ℕ) × (ℕ × ℕ))
 parts_read kind number depth bytes =
-    both_readings (both_readings (block_kind_of_word kind) (address_number number))
+    both_readings (both_readings (kind_of_word kind) (address_number number))
     (both_readings (address_number depth) (address_number bytes))
 
 -- the bound of the four words that aren't fixed
@@ -68,12 +61,18 @@ abbrev pub comes_behind : Option BlockId → BlockId → Bool
 comes_behind None block = true
 comes_behind (Some before) block = is_before before block
 
--- rule 3: the block isn't loaded, or doesn't come behind the one before
+-- the number of the rule that a line breaks whose block isn't loaded, or doesn't come behind that of
+-- the line before
+abbrev pub not_in_order : ℕ
+not_in_order = 3
+
+-- the bound of a line behind one of a block; it is out of order where its block isn't loaded, or
+-- doesn't come behind the one before
 abbrev pub bound_in_order : Program → Option BlockId → Reading Bound → Reading Bound
 bound_in_order p before (Err rule) = Err rule
 bound_in_order p before (Ok b) =
     if is_some (block_by_id b.block p.code_blocks) && comes_behind before b.block then Ok b
-    else Err 3
+    else Err not_in_order
 
 -- the bound of a line behind one of a block
 abbrev pub bound_line : Program → Option BlockId → (line : List ℕ) → Reading Bound

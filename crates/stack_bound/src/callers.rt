@@ -62,7 +62,7 @@ fn add_place(place: Option<usize>, called: &mut Vec<usize>) -> Result<(), NoMemo
 }
 
 /// The places of the blocks that a block calls.
-#[tactic(auto, using(crate::proofs::WalkLemmas::walks, crate::proofs::WalkLemmas::walked, crate::proofs::WalkLemmas::all_behind))]
+#[tactic(auto, using(crate::proofs::WalkLemmas::walk_goes_on, crate::proofs::WalkLemmas::walk_ends, crate::proofs::WalkLemmas::all_behind))]
 fn places_called(
     alloc: Global,
     blocks: &Bounds<'_>,

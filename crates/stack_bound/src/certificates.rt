@@ -57,7 +57,7 @@ fn rise(list: &[Bound]) -> bool
 }
 
 /// What a list says first of a block, by a walk.
-pub(crate) fn walked_to(list: &[Bound], block: BlockId) -> Option<Bound>
+pub(crate) fn bound_by_walk(list: &[Bound], block: BlockId) -> Option<Bound>
     ensures { result ≡ bound_of block list.now }
 {
     let mut left = list;
@@ -91,8 +91,8 @@ fn place_in(list: &[Bound], block: BlockId) -> usize
 }
 
 /// What a list whose blocks rise says of a block, by halving it.
-#[tactic(auto, using(crate::proofs::OrderLemmas::halved))]
-fn searched(list: &[Bound], block: BlockId) -> Option<Bound>
+#[tactic(auto, using(crate::proofs::OrderLemmas::halving_finds))]
+fn bound_by_halving(list: &[Bound], block: BlockId) -> Option<Bound>
     requires { are_blocks_rising list.now ≡ true }
     ensures { result ≡ bound_of block list.now }
 {
@@ -101,7 +101,7 @@ fn searched(list: &[Bound], block: BlockId) -> Option<Bound>
 
 /// The place of a block in a list whose blocks rise, by halving it.
 #[tactic(auto, using(crate::proofs::PlaceLemmas::found_here, crate::proofs::PlaceLemmas::found_nowhere))]
-fn place_searched(list: &[Bound], block: BlockId) -> Option<usize>
+fn place_by_halving(list: &[Bound], block: BlockId) -> Option<usize>
     requires { are_blocks_rising list.now ≡ true }
     ensures { result ≡ place_of_bound block list.now }
 {
@@ -114,7 +114,7 @@ fn place_searched(list: &[Bound], block: BlockId) -> Option<usize>
 }
 
 /// The place where a block stands first in a list, by a walk.
-fn place_walked(list: &[Bound], block: BlockId) -> Option<usize>
+fn place_by_walk(list: &[Bound], block: BlockId) -> Option<usize>
     ensures { result ≡ position_from (λ b. is_same_id b.block block) 0 list.now }
 {
     list.iter().position(|b| is_same(b.block, block))
@@ -160,21 +160,21 @@ impl<'a> Bounds<'a> {
         ensures { result ≡ bound_of block self.now }
     {
         if self.rise {
-            searched(self.list, block)
+            bound_by_halving(self.list, block)
         } else {
-            walked_to(self.list, block)
+            bound_by_walk(self.list, block)
         }
     }
 
     /// The place where a block stands first among them.
-    #[tactic(auto, using(crate::proofs::PlaceLemmas::walked_to))]
+    #[tactic(auto, using(crate::proofs::PlaceLemmas::walk_finds_place))]
     pub(crate) fn place_of(&self, block: BlockId) -> Option<usize>
         ensures { result ≡ place_of_bound block self.now }
     {
         if self.rise {
-            place_searched(self.list, block)
+            place_by_halving(self.list, block)
         } else {
-            place_walked(self.list, block)
+            place_by_walk(self.list, block)
         }
     }
 
@@ -192,7 +192,7 @@ fn are_once(list: &[Bound]) -> bool
 {
     let mut left = list;
     while let [b, rest @ ..] = left {
-        if walked_to(rest, b.block).is_some() {
+        if bound_by_walk(rest, b.block).is_some() {
             return false;
         }
         left = rest;

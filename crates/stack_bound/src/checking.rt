@@ -41,7 +41,7 @@ fn counts_callee(
 }
 
 /// Whether a bound counts what the ops of its block call.
-#[tactic(auto, using(crate::proofs::WalkLemmas::walks, crate::proofs::WalkLemmas::walked, crate::proofs::WalkLemmas::all_behind))]
+#[tactic(auto, using(crate::proofs::WalkLemmas::walk_goes_on, crate::proofs::WalkLemmas::walk_ends, crate::proofs::WalkLemmas::all_behind))]
 fn counts_ops(l: &Loaded, c: &Bounds<'_>, b: &Bound, code: &LoadedCode<'_>) -> bool
     ensures { result ≡ counts_ops l.now.program c.now code.now.local_len b.now code.now.code }
 {

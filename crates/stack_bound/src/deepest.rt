@@ -44,7 +44,7 @@ fn better(measure: Measure, layer: &Bounds<'_>, best: &Best, op: &Op) -> Best
 }
 
 /// A called block of which a layer says most; `None` where it says nothing of any.
-#[tactic(auto, using(crate::proofs::WalkLemmas::walks, crate::proofs::WalkLemmas::walked, crate::proofs::WalkLemmas::all_behind, crate::proofs::DeepestLemmas::best_called))]
+#[tactic(auto, using(crate::proofs::WalkLemmas::walk_goes_on, crate::proofs::WalkLemmas::walk_ends, crate::proofs::WalkLemmas::all_behind, crate::proofs::DeepestLemmas::best_called))]
 fn most_called(measure: Measure, layer: &Bounds<'_>, code: &LoadedCode<'_>) -> Option<BlockId>
     ensures { IsMostCalled measure layer.now code.now.code result }
 {
@@ -74,7 +74,7 @@ fn measure_over(profile: Profile, b: Option<Bound>) -> Option<Measure>
     None
 }
 
-/// The same of a block, if it is an organization block.
+/// In which measure the bound of a block is above the limits, if the block is an organization block.
 fn ob_over(profile: Profile, layer: &Bounds<'_>, block: BlockId) -> Option<Measure>
     ensures { result ≡ ob_over profile layer.now block }
 {

@@ -6,7 +6,7 @@ use crate::callers::callers;
 use crate::certificates::{Bound, Bounds};
 use crate::deepest::{chain_from, first_over};
 use crate::layers::{first_layer, highest_layer};
-use crate::marks::{marked, marks};
+use crate::marks::{marked_bounds, marks};
 use image_file::Loaded;
 use plc_base::{BlockId, NoMemory};
 use std::alloc::Global;
@@ -36,6 +36,6 @@ pub fn find(alloc: Global, l: &Loaded) -> Result<Found, NoMemory>
         return Ok(Found::Deep { chain });
     }
     let marks = marks(alloc, callers.as_slice(), layer.as_slice(), most)?;
-    let list = marked(alloc, layer.as_slice(), marks.as_slice())?;
+    let list = marked_bounds(alloc, layer.as_slice(), marks.as_slice())?;
     Ok(Found::Fits { list })
 }

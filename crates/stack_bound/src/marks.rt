@@ -4,7 +4,7 @@ ghost use Rattle.stack_bound.specs.Marks.{marked_behind, ob_marks};
 ghost use Rattle.stack_bound.specs.Places.{mark_callers, mark_if, mark_places, marks_by};
 
 use crate::callers::Caller;
-use crate::certificates::{Bound, walked_to};
+use crate::certificates::{Bound, bound_by_walk};
 use plc_base::{BlockKind, NoMemory};
 use std::alloc::Global;
 
@@ -95,7 +95,11 @@ pub(crate) fn marks(
 }
 
 /// The bounds that are marked, each block once.
-pub(crate) fn marked(alloc: Global, list: &[Bound], marks: &[bool]) -> Result<Vec<Bound>, NoMemory>
+pub(crate) fn marked_bounds(
+    alloc: Global,
+    list: &[Bound],
+    marks: &[bool],
+) -> Result<Vec<Bound>, NoMemory>
     ensures { IfOk result (λ v. v.items ≡ marked_behind [] marks.now list.now) }
 {
     let mut kept = Vec::new(alloc);
@@ -105,7 +109,7 @@ pub(crate) fn marked(alloc: Global, list: &[Bound], marks: &[bool]) -> Result<Ve
         let [m, more @ ..] = marked else {
             return Ok(kept);
         };
-        if *m && walked_to(kept.as_slice(), b.block).is_none() {
+        if *m && bound_by_walk(kept.as_slice(), b.block).is_none() {
             kept.push(*b)?;
         }
         left = rest;

@@ -1,15 +1,15 @@
 //! The text of a certificate, both ways.
 ghost use Rattle.std.specs.Prelude.{◌≡◌, ◌≤◌, ◌++◌, length, IfErr, IfOk, OnOk};
 ghost use Rattle.var_access.specs.Readings.{words_of};
-ghost use Rattle.stack_bound.specs.CertificateText.{IsCertificateTextFault, IsCertificateLineFault, TakesBoundLine, SpellsCertificate, bound_line, bound_read, bound_text, bound_words, certificate_of, certificate_text, comes_behind as comes_behind_of, is_line_skipped as is_skipped_line, block_kind_of_word};
+ghost use Rattle.stack_bound.specs.CertificateText.{IsCertificateTextFault, IsCertificateLineFault, TakesBoundLine, SpellsCertificate, bound_line, bound_read, bound_text, bound_words, certificate_of, certificate_text, comes_behind as comes_behind_of, is_line_skipped as is_skipped_line};
 
 use crate::certificates::{Bound, is_before};
 use image_file::Loaded;
 use monitor::{Line, kind_text};
-use plc_base::{BlockId, BlockKind, NoMemory, first_line};
+use plc_base::{BlockId, NoMemory, first_line};
 use std::alloc::{AllocError, Global};
 use var_access::text_rules::NOT_IN_GRAMMAR;
-use var_access::{address_number, both, first_word};
+use var_access::{address_number, both, first_word, kind_of_word};
 
 /// A block isn't loaded, or doesn't come behind the one of the line before.
 const NOT_IN_ORDER: u16 = 3;
@@ -62,21 +62,6 @@ pub fn write_certificate(list: &[Bound], out: &mut Vec<u8>) -> Result<(), NoMemo
         left = rest;
     }
     Ok(())
-}
-
-fn kind_of_word(word: &[u8]) -> Result<BlockKind, u16>
-    ensures { result ≡ block_kind_of_word word.now }
-{
-    if word == b"OB".as_slice() {
-        return Ok(BlockKind::Ob);
-    }
-    if word == b"FC".as_slice() {
-        return Ok(BlockKind::Fc);
-    }
-    if word == b"FB".as_slice() {
-        return Ok(BlockKind::Fb);
-    }
-    Err(NOT_IN_GRAMMAR)
 }
 
 /// What the four words say that aren't fixed.

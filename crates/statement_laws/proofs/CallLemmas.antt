@@ -76,7 +76,7 @@ use Rattle.statement_laws.proofs.VariableLemmas.{view_same}
 -- ---- what a parameter stands for
 
 if_bound_same : (access : Access) (b : Location) (o : Option ℕ)
-    → bindings.bound_if access b o ≡ own.binding_if access b o
+    → bindings.binding_if_there access b o ≡ own.binding_if access b o
 if_bound_same access b None = ap Err (absent_same access b.place.area)
 if_bound_same access b (Some n) = refl
 
@@ -84,7 +84,7 @@ bound_at_same : (access : Access) (b : Location) (p : ExecState)
     → bindings.bound_place access b p.local p.memory ≡ own.binding_at access b p
 unfolding bindings.bound_place
 bound_at_same access b p =
-    ap (bindings.bound_if access b) (of_area b.place.area b p)
+    ap (bindings.binding_if_there access b) (of_area b.place.area b p)
     ∙ if_bound_same access b (reading.number_at_bound b.place.area b p)
 
 passed_on_same : (o : Option Binding) → bindings.binding_of_caller o ≡ own.binding_passed_on o
@@ -126,7 +126,7 @@ access_same param = refl
 -- for a parameter by its index
 for_same : (o : Option Param) (actual : Passed) (x : NamedItem) (p : ExecState)
     → ((access : Access) → bindings.bound_actual access actual p.local p.memory ≡ own.binding_of access x p)
-    → bindings.bound_for o actual p.local p.memory ≡ own.binding_for o x p
+    → bindings.binding_for_param o actual p.local p.memory ≡ own.binding_for o x p
 for_same None actual x p h = refl
 for_same (Some param) actual x p h = h (own.access_of param)
 

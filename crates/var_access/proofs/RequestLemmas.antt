@@ -36,19 +36,19 @@ all_read-more {A} (s ∷ rs) r = ap (λ x. reading_map (λ p. p.0 ∷ p.1) (both
 next : (i : ℕ) → suc i ≡ i + 1
 next i = omega arith
 
-taken : {A : Type 0} (xs : List A) (i : ℕ) (x : A) (more : List A) → drop i xs ≡ x ∷ more
+take_one_more : {A : Type 0} (xs : List A) (i : ℕ) (x : A) (more : List A) → drop i xs ≡ x ∷ more
     → take (suc i) xs ≡ take i xs ++ x ∷ []
-taken [] zero x more is = absurd cc
-taken [] (suc i) x more is = absurd cc
-taken {A = A} (y ∷ ys) zero x more is = ap (λ (zs : List A). take 1 zs) is
-taken {A = A} (y ∷ ys) (suc i) x more is = ap (λ (zs : List A). y ∷ zs) (taken ys i x more is)
+take_one_more [] zero x more is = absurd cc
+take_one_more [] (suc i) x more is = absurd cc
+take_one_more {A = A} (y ∷ ys) zero x more is = ap (λ (zs : List A). take 1 zs) is
+take_one_more {A = A} (y ∷ ys) (suc i) x more is = ap (λ (zs : List A). y ∷ zs) (take_one_more ys i x more is)
 
-left_behind : {A : Type 0} (xs : List A) (i : ℕ) (x : A) (more : List A) → drop i xs ≡ x ∷ more
+drop_one_more : {A : Type 0} (xs : List A) (i : ℕ) (x : A) (more : List A) → drop i xs ≡ x ∷ more
     → drop (suc i) xs ≡ more
-left_behind [] zero x more is = absurd cc
-left_behind [] (suc i) x more is = absurd cc
-left_behind {A = A} (y ∷ ys) zero x more is = ap (λ (zs : List A). drop 1 zs) is
-left_behind {A = A} (y ∷ ys) (suc i) x more is = left_behind ys i x more is
+drop_one_more [] zero x more is = absurd cc
+drop_one_more [] (suc i) x more is = absurd cc
+drop_one_more {A = A} (y ∷ ys) zero x more is = ap (λ (zs : List A). drop 1 zs) is
+drop_one_more {A = A} (y ∷ ys) (suc i) x more is = drop_one_more ys i x more is
 
 all_taken : {A : Type 0} (xs : List A) (i : ℕ) (x : A) → drop i xs ≡ x ∷ []
     → (xs ≡ take (suc i) xs) × (length xs ≡ suc i)
@@ -72,13 +72,13 @@ read_more f parts i part more all at is =
     ap (λ r. with_more r (f part)) is
     ∙ sym (all_read-more (map f (take i parts)) (f part))
     ∙ ap all_readings (sym (map-append f (take i parts) (part ∷ [])))
-    ∙ ap (λ ps. all_readings (map f ps)) (sym (taken parts i part more at))
+    ∙ ap (λ ps. all_readings (map f ps)) (sym (take_one_more parts i part more at))
     ∙ ap (λ (n : ℕ). all_readings (map f (take n parts))) (next i)
 
 -- the parts that are left then
 pub read_rest : (parts : List (List ℕ)) (i : ℕ) (part : List ℕ) (more : List (List ℕ))
     → drop i parts ≡ part ∷ more → drop (i + 1) parts ≡ more
-read_rest parts i part more at = ap (λ (n : ℕ). drop n parts) (sym (next i)) ∙ left_behind parts i part more at
+read_rest parts i part more at = ap (λ (n : ℕ). drop n parts) (sym (next i)) ∙ drop_one_more parts i part more at
 
 -- what was read is a list of so many
 pub read_length : {A : Type 0} (n : ℕ) (all : Reading (List A)) (r : Reading A) → IfOk all (λ xs. length xs ≡ n)

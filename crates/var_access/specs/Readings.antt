@@ -5,6 +5,7 @@ use Rattle.std.specs.List.{list_all, prefix_len, position_or_len, slice_split}
 use Rattle.std.specs.Str.Parse.{digits_value}
 use Rattle.plc_base.specs.Decimal.{decimal_value, is_decimal}
 use Rattle.plc_base.specs.Texts.{is_blank}
+use Rattle.var_access.specs.TextRules as rules
 
 -- a part of a line: what it spells, or the number of the least text rule that it breaks
 abbrev pub Reading : Type 0 → Type 0
@@ -27,9 +28,9 @@ abbrev pub all_readings : {A : Type 0} → List (Reading A) → Reading (List A)
 all_readings [] = Ok []
 all_readings (r ∷ rs) = reading_map (λ p. p.0 ∷ p.1) (both_readings r (all_readings rs))
 
--- a part of a line that breaks rule 1: it isn't in the grammar
+-- a part of a line that isn't in the grammar
 abbrev pub no_line : {A : Type 0} → Reading A
-no_line = Err 1
+no_line = Err rules.not_in_grammar
 
 -- a number in decimal digits, from `low` to `high`; a number outside this range breaks `rule`
 unfoldable pub number_in : (low high rule : ℕ) → List ℕ → Reading ℕ
@@ -41,20 +42,21 @@ number_in low high rule word =
     else Err rule)
     else no_line
 
--- the number of a byte or a block in decimal digits: 0 to 65,535, else it breaks rule 2
+-- the number of a byte or a block in decimal digits: 0 to 65,535, else it is out of range
 abbrev pub address_number : List ℕ → Reading ℕ
-address_number word = number_in 0 65535 2 word
+address_number word = number_in 0 65535 rules.out_of_range word
 
 -- whether a word is one or more hexadecimal digits
 abbrev pub is_hex : List ℕ → Bool
 is_hex [] = false
 is_hex (b ∷ t) = list_all is_ascii_hexdigit (b ∷ t)
 
--- a value in `digits` hexadecimal digits; fewer or more of them break rule 2
+-- a value in `digits` hexadecimal digits; fewer or more of them are out of range
 unfoldable pub hex_of : (digits : ℕ) → List ℕ → Reading ℕ
 hex_of digits word =
     if is_hex word
-    then (if length word == digits then Ok (digits_value 16 word) else Err 2)
+    then
+    (if length word == digits then Ok (digits_value 16 word) else Err rules.out_of_range)
     else no_line
 
 -- a text without the blanks and tabs at its front

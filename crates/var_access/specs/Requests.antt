@@ -58,7 +58,7 @@ write_in names backwards =
 unfoldable pub write_request : Names → List ℕ → Reading Request
 write_request names rest = write_in names (reverse (trim rest))
 
--- the kind of a block that can be monitored
+-- the kind of a code block, by its word: OB, FC or FB; another word isn't in the grammar
 unfoldable pub kind_of_word : List ℕ → Reading BlockKind
 kind_of_word word =
     if bytes_eq word (codes "OB") then Ok Ob

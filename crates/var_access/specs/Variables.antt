@@ -9,6 +9,7 @@ use Rattle.plc_base.specs.declared.places.Width.{Width}
 use Rattle.plc_base.specs.declared.places.Width.TheVariants.{Bit, Byte, Word, Dword}
 use Rattle.var_access.specs.Entry.{is_var}
 use Rattle.var_access.specs.Readings.{Reading, both_readings, reading_map, no_line, number_in, address_number, hex_of, is_hex, behind_blanks}
+use Rattle.var_access.specs.TextRules as rules
 use Rattle.var_access.specs.declared.requests.Var.{Var}
 
 -- names of variables: what each of them stands for
@@ -63,9 +64,9 @@ var_at area number byte bit width =
       width = width;
     }
 
--- the number of a bit in its byte: 0 to 7, else rule 2
+-- the number of a bit in its byte: 0 to 7, else it is out of range
 abbrev pub bit_number : List ℕ → Reading ℕ
-bit_number word = number_in 0 7 2 word
+bit_number word = number_in 0 7 rules.out_of_range word
 
 -- a byte, word or double word of an area, as `MW n`
 abbrev pub wide_var : Option (Area × Width) → List ℕ → Reading Var
@@ -121,14 +122,14 @@ is_point b = b == 46
 abbrev pub is_quote : ℕ → Bool
 is_quote b = b == 34
 
--- a variable, where an operator may read and write it; else it breaks rule 3
+-- a variable, where an operator may read and write it; else its name is unknown
 abbrev pub var_or_unknown : Var → Reading Var
-var_or_unknown v = if is_var v then Ok v else Err 3
+var_or_unknown v = if is_var v then Ok v else Err rules.unknown_name
 
 -- the variable that a name stands for; a name that stands for none, or for one elsewhere than in I, Q,
--- M or a data block, breaks rule 3
+-- M or a data block, is unknown
 abbrev pub named_var : Option (Place × Width) → Reading Var
-named_var None = Err 3
+named_var None = Err rules.unknown_name
 named_var (Some at) = var_or_unknown (record { place = at.0; width = at.1 })
 
 -- a name and the quote that closes it, with nothing behind
@@ -148,14 +149,14 @@ var_of names [] = no_line
 var_of names (b ∷ t) =
     if is_quote b then symbol_var names t else var_of_parts (slice_split is_point (b ∷ t))
 
--- the value of a bit: one digit, 0 or 1, else rule 2
+-- the value of a bit: one digit, 0 or 1, else it is out of range
 abbrev pub bit_value : List ℕ → Reading ℕ
 bit_value word =
     if is_hex word
     then
     (if bytes_eq word (codes "0") then Ok 0
     else if bytes_eq word (codes "1") then Ok 1
-    else Err 2)
+    else Err rules.out_of_range)
     else no_line
 
 -- a value at a width: two hexadecimal digits a byte, one for a bit

@@ -6,6 +6,7 @@ ghost use Rattle.std.specs.Str.Parse.{digits_value};
 ghost use Rattle.plc_base.specs.Decimal.{is_decimal};
 ghost use Rattle.plc_base.specs.Texts.{is_blank};
 ghost use Rattle.var_access.specs.Readings.{address_number, before_blanks, behind_blanks, both_readings, first_word, hex_of, is_hex, number_in, trim, words_of};
+ghost use Rattle.var_access.specs.TextRules.{not_in_grammar};
 
 use crate::text_rules::{NOT_IN_GRAMMAR, OUT_OF_RANGE};
 use plc_base::{are_digits, decimal_up_to, is_blank};
@@ -47,7 +48,7 @@ pub fn number_in(word: &[u8], low: u32, high: u32, rule: u16) -> Result<u32, u16
 
 /// The rule that a word breaks which is no number in its range.
 fn rule_of_other(word: &[u8], rule: u16) -> u16
-    ensures { result ≡ (if is_decimal word.now then rule else 1) }
+    ensures { result ≡ (if is_decimal word.now then rule else not_in_grammar) }
 {
     match word {
         [] => NOT_IN_GRAMMAR,

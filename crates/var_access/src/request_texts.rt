@@ -120,9 +120,13 @@ fn write_of(names: &Names, text: &[u8]) -> Result<Request, u16>
     write_to(var_of(names, trim(var)), value)
 }
 
-/// The kind of a block that can be monitored.
+/// The kind of a code block, by its word: `OB`, `FC` or `FB`.
+///
+/// # Errors
+///
+/// `NOT_IN_GRAMMAR` where it is another word.
 #[tactic(auto, unfolding(crate::specs::Requests::kind_of_word))]
-fn kind_of_word(word: &[u8]) -> Result<BlockKind, u16>
+pub fn kind_of_word(word: &[u8]) -> Result<BlockKind, u16>
     ensures { result ≡ kind_of_word word.now }
 {
     if word == b"OB".as_slice() {
@@ -197,7 +201,7 @@ pub fn request_of(names: &Names, word: &[u8], text: &[u8]) -> Result<Request, u1
     request_by_word(names, word, text)
 }
 
-/// The same, of which `request_of` says besides that it is valid.
+/// The request that its first word and what follows it spell; `request_of` says besides that it is valid.
 #[tactic(auto, unfolding(crate::specs::Requests::request_of))]
 fn request_by_word(names: &Names, word: &[u8], text: &[u8]) -> Result<Request, u16>
     ensures { result ≡ request_of (find names.now) word.now text.now }

@@ -29,7 +29,7 @@ fn letters_len(text: &[u8]) -> usize
 }
 
 /// The letters at the front, and what stands behind them and blanks.
-fn lettered(part: &[u8]) -> (&[u8], &[u8])
+fn split_letters(part: &[u8]) -> (&[u8], &[u8])
     ensures letters { result.0.now ≡ leading_letters part.now }
     ensures behind { result.1.now ≡ behind_letters part.now }
 {
@@ -110,7 +110,7 @@ fn bit_number(word: &[u8]) -> Result<u8, u16>
 fn wide_var(part: &[u8]) -> Result<Var, u16>
     ensures { result ≡ wide_var (wide_of (leading_letters part.now)) (behind_letters part.now) }
 {
-    let (letters, byte) = lettered(part);
+    let (letters, byte) = split_letters(part);
     let Some((area, width)) = wide_of(letters) else {
         return Err(NOT_IN_GRAMMAR);
     };
@@ -153,14 +153,14 @@ fn two_parts(first: &[u8], second: &[u8]) -> Result<Var, u16>
     ensures { result
         ≡ two_parts (area_of_letters (leading_letters first.now)) first.now second.now }
 {
-    let (letters, number) = lettered(first);
+    let (letters, number) = split_letters(first);
     if let Some(area) = area_of_letters(letters) {
         return bit_var(area, number, second);
     }
     if letters != b"DB".as_slice() {
         return Err(NOT_IN_GRAMMAR);
     }
-    let (letters, byte) = lettered(second);
+    let (letters, byte) = split_letters(second);
     block_var(db_width_of(letters), number, byte)
 }
 
@@ -168,8 +168,8 @@ fn two_parts(first: &[u8], second: &[u8]) -> Result<Var, u16>
 fn three_parts(first: &[u8], second: &[u8], third: &[u8]) -> Result<Var, u16>
     ensures { result ≡ var_of_parts (first.now ∷ second.now ∷ third.now ∷ []) }
 {
-    let (block, number) = lettered(first);
-    let (width, byte) = lettered(second);
+    let (block, number) = split_letters(first);
+    let (width, byte) = split_letters(second);
     if block == b"DB".as_slice() && width == b"DBX".as_slice() {
         block_bit(number, byte, third)
     } else {

@@ -10,7 +10,7 @@ use Rattle.var_access.specs.declared.Entry.{Entry}
 use Rattle.var_access.specs.declared.What.{What}
 use Rattle.var_access.specs.Entry.{IsInRange}
 use Rattle.controller.specs.Fitting.{EntriesKeepFit, IsFit, StartIsFit}
-use Rattle.controller.specs.Replay.{ContinuesReplay, ContinuesSeen, entry_result, last_observed, replay}
+use Rattle.controller.specs.Replay.{ContinuesReplay, ContinuesLastObserved, entry_result, last_observed, replay}
 use Rattle.controller.specs.Shown.{WatchedState, observed_changes, nothing_shown, entry_shown, watched_state, watched_next}
 use Rattle.controller.specs.Start.{initial_state}
 use Rattle.controller.specs.State.{State}
@@ -45,7 +45,7 @@ state_next profile code history e s t continues before after =
     ∙ sym (continues profile code (entry_events history) e.what)
     ∙ ap (λ (es : List What). replay profile code es) (sym (events_next history e))
 
-pub seen_next : (profile : Profile) (code : Code) (history : List Entry) (e : Entry) (s : State) → ContinuesSeen
+pub seen_next : (profile : Profile) (code : Code) (history : List Entry) (e : Entry) (s : State) → ContinuesLastObserved
     → s ≡ replay profile code (entry_events history)
     → (entry_result code s e.what).seen ≡ last_observed profile code (entry_events (history ++ e ∷ []))
 seen_next profile code history e s continues before =

@@ -11,7 +11,7 @@ use Rattle.var_access.specs.declared.What.{What}
 use Rattle.var_access.specs.declared.What.TheVariants.{Step}
 use Rattle.controller.specs.Fitting.{EntriesKeepFit, IsFit}
 use Rattle.controller.specs.SilentSteps.{ShowNothing}
-use Rattle.controller.specs.Replay.{ContinuesByMore, SeenByMore, entry_result, last_observed, replay, state_after_entries, last_observed_from}
+use Rattle.controller.specs.Replay.{ContinuesByMore, LastObservedByMore, entry_result, last_observed, replay, state_after_entries, last_observed_from}
 use Rattle.controller.specs.Shown.{WatchedState, nothing_shown, watched_state}
 use Rattle.controller.specs.State.{State}
 use Rattle.controller.specs.declared.observing.Observed.{Observed}
@@ -78,7 +78,7 @@ state-behind continues profile code history more s t n before steps after =
     ∙ ap (λ (whats : List What). state_after_entries code (replay profile code (entry_events history)) whats) (sym steps)
     ∙ sym (replay-more continues profile code history more)
 
-pub seen-behind : SeenByMore → (profile : Profile) (code : Code) (history more : List Entry) (s : State) (n : ℕ) → s ≡ replay profile code (entry_events history)
+pub seen-behind : LastObservedByMore → (profile : Profile) (code : Code) (history more : List Entry) (s : State) (n : ℕ) → s ≡ replay profile code (entry_events history)
     → entry_events more ≡ replicate n Step → ShowNothing code s (replicate n Step) → 1 ≤ n
     → nothing_shown ≡ last_observed profile code (entry_events (history ++ more))
 seen-behind continues profile code history more s n before steps silent some = sym (

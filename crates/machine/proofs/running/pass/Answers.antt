@@ -11,7 +11,7 @@ returns-in-Across-clause-goes c =
     (global_store c.args.m.now c.args.t.now c.args.n.now) (global_store c.perform_apart.new.m c.perform_apart.new.t c.perform_apart.new.n)
     c.perform_apart.result (shows_nothing c.across.result) c.perform_apart.new.other
     (sym c.kind_of.ensures.silent ∙ ap shows_nothing c.in-Across.is) c.requires.there c.perform_apart.ensures
-    c.across.ensures.passed
+    c.across.ensures.silent
 
 pub returns-in-Inside-clause-goes : goal.returns-in-Inside-clause-goes
 returns-in-Inside-clause-goes c =

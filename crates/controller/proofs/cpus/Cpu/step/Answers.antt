@@ -7,7 +7,7 @@ use Rattle.controller.specs.Leaves.{record_of_statement}
 use Rattle.controller.specs.State.{State}
 use Rattle.controller.specs.Views.{cpu_state}
 use Rattle.controller.proofs.MonitoringLemmas.{step_recorded}
-use Rattle.controller.proofs.StepLemmas.{step_stands, stepped_from}
+use Rattle.controller.proofs.StepLemmas.{step_stands, running_step_finished}
 use Rattle.controller.proofs.cpus.Cpu.step.Goals as goal
 
 pub finish-regs-requires-clause-stack : goal.finish-regs-requires-clause-stack
@@ -20,7 +20,7 @@ finish-regs-requires-clause-stack c =
 pub returns-in-Some-clause-state : goal.returns-in-Some-clause-state
 returns-in-Some-clause-state c =
     c.finish-regs.ensures.state
-    ∙ sym (stepped_from (code_of c.args.program.now.program) (cpu_state c.args.self.now)
+    ∙ sym (running_step_finished (code_of c.args.program.now.program) (cpu_state c.args.self.now)
     c.step-done.new.self (global_store c.step-done.new.m c.step-done.new.t c.step-done.new.n)
     c.in-Some.done c.in-Some.ensures)
 

@@ -1,6 +1,6 @@
 use Rattle.std.proofs.Common.{◌≡◌, ◌++◌, [], length}
 use Rattle.stack_bound.specs.Marks.{marked_behind}
-use Rattle.stack_bound.proofs.marks.marked.Given as goal
+use Rattle.stack_bound.proofs.marks.marked_bounds.Given as goal
 
 -- those so far, and those of what is left
 abbrev pub invariant-loop-left : goal.invariant-loop-left

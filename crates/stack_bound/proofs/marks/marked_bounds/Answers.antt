@@ -1,6 +1,6 @@
 use Rattle.std.proofs.Common.{◌∙◌, sym}
 use Rattle.stack_bound.proofs.MarkLemmas.{none_kept}
-use Rattle.stack_bound.proofs.marks.marked.Goals as goal
+use Rattle.stack_bound.proofs.marks.marked_bounds.Goals as goal
 
 pub returns : goal.returns
 returns c =

@@ -1,6 +1,6 @@
 use Rattle.std.proofs.Common.{◌≡◌, length}
 use Rattle.stack_bound.specs.Certificates.{bound_of}
-use Rattle.stack_bound.proofs.certificates.walked_to.Given as goal
+use Rattle.stack_bound.proofs.certificates.bound_by_walk.Given as goal
 
 -- what is left says the same of the block
 abbrev pub invariant-loop-left : goal.invariant-loop-left
