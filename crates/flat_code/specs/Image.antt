@@ -843,7 +843,8 @@ pub record Front : Type 0 where
   pub magic : ℕ
   -- the version of the image: 1 or 2; another number is fault 2
   pub version : ℕ
-  -- the profile with which the image is run: in version 2 1 for Small or 2 for Large, in version 1 0
+  -- the profile with which the image is run: in version 2 1 for Small or 2 for Large, in version 1
+  -- 0
   pub profile : ℕ
   -- how many bytes the whole image has
   pub total_length : ℕ

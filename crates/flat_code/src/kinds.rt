@@ -14,14 +14,17 @@ pub const AR1_NUMBER: u8 = 1;
 /// The number of the data block register DB in the operand of OPN.
 pub const DB_REGISTER_NUMBER: u8 = 1;
 
-/// The kind of functions (FC) in the operand of a call.
-pub(crate) const FUNCTION: u8 = 2;
+/// The number of the data block register DI in the operand of OPN.
+pub const DI_REGISTER_NUMBER: u8 = 2;
 
-/// The kind of function blocks (FB) in the operand of a call.
-pub(crate) const FUNCTION_BLOCK: u8 = 3;
+/// The number of the kind FC in images and in the operand of a call.
+pub const FUNCTION: u8 = 2;
 
-/// The kind of system functions (SFC) in the operand of a call.
-pub(crate) const SYSTEM_FUNCTION: u8 = 5;
+/// The number of the kind FB in images and in the operand of a call.
+pub const FUNCTION_BLOCK: u8 = 3;
+
+/// The number of the kind SFC in the operand of a call; no block of an image has it.
+pub const SYSTEM_FUNCTION: u8 = 5;
 
 /// The jump instructions (manual: logic control instructions).
 #[derive(Clone, Copy, Debug, PartialEq, Eq)]

@@ -105,7 +105,8 @@ fn params_of(records: &[ParameterRecord]) -> ArrayVec<Param, 4>
 /// The parameters of a system function as those of a program's block: `None` exactly where there is
 /// none of the number.
 pub fn system_function_params(number: u16) -> Option<ArrayVec<Param, 4>>
-    ensures { option_map (λ p. p.items) result ≡ option_map (map param_of_record) (system_params number) }
+    ensures { option_map (λ p. p.items) result
+        ≡ option_map (map param_of_record) (system_params number) }
 {
     Some(params_of(system_function_records(number)?))
 }

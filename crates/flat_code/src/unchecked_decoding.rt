@@ -286,7 +286,8 @@ fn first_part(bytes: &[u8]) -> (Op, u32)
 pub fn decode_op_unchecked(bytes: &[u8], at: u32) -> (Op, u32)
     requires known { is_some (op_at (drop at bytes.now)) ≡ true }
     requires short { length bytes.now < 2 ^ 32 }
-    ensures { Some result ≡ option_map (λ r. (r.0, at + size_of_op r.0)) (op_at (drop at bytes.now)) }
+    ensures { Some result
+        ≡ option_map (λ r. (r.0, at + size_of_op r.0)) (op_at (drop at bytes.now)) }
 {
     let (op, size) = first_op(behind(bytes, at as usize));
     (op, at + size)
@@ -298,7 +299,8 @@ pub fn decode_op_unchecked(bytes: &[u8], at: u32) -> (Op, u32)
 pub fn decode_part_unchecked(bytes: &[u8], at: u32) -> (Op, u32)
     requires known { is_some (op_at (drop at bytes.now)) ≡ true }
     requires short { length bytes.now < 2 ^ 32 }
-    ensures { Some result ≡ option_map (λ r. (r.0, at + size_of_op r.0)) (op_at (drop at bytes.now)) }
+    ensures { Some result
+        ≡ option_map (λ r. (r.0, at + size_of_op r.0)) (op_at (drop at bytes.now)) }
 {
     let (op, size) = first_part(behind(bytes, at as usize));
     (op, at + size)

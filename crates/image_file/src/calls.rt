@@ -5,9 +5,8 @@ ghost use Rattle.flat_code.specs.Blocks.{CalleeSeen, is_short_instance, is_bad_i
 ghost use Rattle.image_file.specs.OpChecking.{environment_of};
 
 use crate::environments::{BlockEnvironment, DataLens, callee};
-use crate::numbers::FUNCTION_BLOCK;
 use crate::operands::{is_passed, misfits_parameter};
-use flat_code::{Op, Operand, ParameterRecord, Passed};
+use flat_code::{FUNCTION_BLOCK, Op, Operand, ParameterRecord, Passed};
 
 /// Whether an instance is absent or shorter than the function block's.
 fn is_short(needed: u16, len: Option<usize>) -> bool

@@ -5,9 +5,10 @@ ghost use Rattle.flat_code.specs.Blocks.{block_with, callee_among};
 ghost use Rattle.image_file.specs.OpChecking.{callee_values};
 ghost use Rattle.image_file.specs.Tables.{call_key, signature_callee, found_callee};
 
-use crate::numbers::{FUNCTION, FUNCTION_BLOCK, SYSTEM_FUNCTION};
 use crate::tables::{place_at, table_of};
-use flat_code::{ParameterRecord, system_function_records};
+use flat_code::{
+    FUNCTION, FUNCTION_BLOCK, ParameterRecord, SYSTEM_FUNCTION, system_function_records,
+};
 use plc_base::NoMemory;
 use std::alloc::Global;
 use std::marker::Model;

@@ -1,4 +1,4 @@
-//! Numbers of an image that the checks name: op codes and kinds.
+//! Numbers of an image that the checks name: op codes and kinds of jumps.
 
 pub(crate) const USE_DB: u8 = 0x02;
 
@@ -26,9 +26,3 @@ pub(crate) const BLOCK_END: u8 = 0x7B;
 pub(crate) const JUMP: u8 = 0;
 /// The kind of JL.
 pub(crate) const JUMP_LIST: u8 = 1;
-
-pub(crate) const FUNCTION: u8 = 2;
-
-pub(crate) const FUNCTION_BLOCK: u8 = 3;
-
-pub(crate) const SYSTEM_FUNCTION: u8 = 5;

@@ -10,7 +10,7 @@ ghost use Rattle.flat_code.specs.Blocks.{is_odd_bit, is_past_locals, is_bad_plac
 ghost use Rattle.image_file.specs.OpChecking.{environment_of};
 
 use crate::environments::BlockEnvironment;
-use crate::numbers::{CALL, EDGE_NEGATIVE, FUNCTION, JUMP, TRANSFER};
+use crate::numbers::{CALL, EDGE_NEGATIVE, JUMP, TRANSFER};
 use flat_code::{Op, Operand, ParameterRecord, Passed, SECTION_IN, taken_by};
 use plc_base::{Area, Width};
 

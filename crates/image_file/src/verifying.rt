@@ -245,7 +245,7 @@ fn check_open_zones(
     least
 }
 
-/// The same of all that stands open at the end.
+/// The lesser of the fault so far and those of brackets and zones that are open at the end.
 fn check_nesting(
     start: u32,
     nesting: &OpenInCode,

@@ -29,20 +29,14 @@ use crate::labels::label_of;
 use crate::links::called_id;
 use crate::parameters::parameter_name;
 use crate::runs::number_at;
-use flat_code::{Op, Operand as FlatOperand, Operation, PointerOperation, flag_of};
+use flat_code::{
+    DB_REGISTER_NUMBER, DI_REGISTER_NUMBER, Op, Operand as FlatOperand, Operation,
+    PointerOperation, TIMER_KIND, flag_of,
+};
 use plc_base::{Area, BlockId, BlockKind, NoMemory, Width};
 use std::alloc::Global;
 use stl_ast::{BlockName, Letters, Name, Numbered, Operand, PathHead, Sequence};
 use stl_types::Formal;
-
-/// The kind of timers in the operand of a timer or counter.
-const TIMER_KIND: u8 = 1;
-
-/// The number of the register DB in the operand of OPN.
-const DB_REGISTER: u8 = 1;
-
-/// The number of the register DI in the operand of OPN.
-const DI_REGISTER: u8 = 2;
 
 /// The letters of an area; those of peripherals say which way they are used.
 pub(crate) fn letters_of(writes: bool, area: Area) -> Letters
@@ -187,7 +181,7 @@ fn numbered_by(kind: u8) -> Numbered
 fn register_of(register: u8) -> Numbered
     ensures { result ≡ data_block_register register }
 {
-    if register == DB_REGISTER {
+    if register == DB_REGISTER_NUMBER {
         Numbered::Db
     } else {
         Numbered::Di
@@ -307,7 +301,7 @@ fn plain_operand(opened: Option<u16>, op: &Op) -> Operand
             instance: instance_name(instance),
         },
         FlatOperand::OpenBlock { register, number } => Operand::OpenBlock {
-            di: register == DI_REGISTER,
+            di: register == DI_REGISTER_NUMBER,
             name: data_block_name(number),
         },
         FlatOperand::OpenBy {
