@@ -8,6 +8,9 @@ use plc_base::Flag;
 /// The kind of timers in the operand of a timer or counter.
 pub const TIMER_KIND: u8 = 1;
 
+/// The kind of counters in the operand of a timer or counter.
+pub const COUNTER_KIND: u8 = 2;
+
 /// The number of address register 1 in a register-indirect operand.
 pub const AR1_NUMBER: u8 = 1;
 

@@ -5,7 +5,7 @@ use Rattle.plc_base.specs.declared.places.Area.{Area}
 use Rattle.plc_base.specs.declared.places.Area.TheVariants as area
 use Rattle.plc_base.specs.declared.places.Place.{Place}
 use Rattle.plc_base.specs.declared.places.Width.{Width}
-use Rattle.flat_code.specs.Kinds.{condition_number}
+use Rattle.flat_code.specs.Kinds.{condition_number, timer_kind, counter_kind, db_register_number, di_register_number}
 use Rattle.flat_code.specs.declared.operands.Operand.{Operand as FlatOperand}
 use Rattle.flat_code.specs.declared.operands.Operand.TheVariants as flat
 use Rattle.stl_ast.specs.declared.literals.Literal.{Literal}
@@ -61,13 +61,13 @@ register_operand register.Dilg = flat.Literal 2
 register_operand register.Dino = flat.Literal 3
 register_operand _ = flat.Nothing
 
--- the operand of what has a number that memory gives: timers and counters are 1 and 2, and so are
--- the two registers of open data blocks
+-- the operand of what has a number that memory gives: a timer or a counter, or a data block that is
+-- opened in one of the two registers
 abbrev pub numbered_operand : Numbered → Area → (byte : ℕ) → FlatOperand
-numbered_operand numbered.Timer from byte = flat.NumberedBy 1 from byte
-numbered_operand numbered.Counter from byte = flat.NumberedBy 2 from byte
-numbered_operand numbered.Db from byte = flat.OpenBy 1 from byte
-numbered_operand numbered.Di from byte = flat.OpenBy 2 from byte
+numbered_operand numbered.Timer from byte = flat.NumberedBy timer_kind from byte
+numbered_operand numbered.Counter from byte = flat.NumberedBy counter_kind from byte
+numbered_operand numbered.Db from byte = flat.OpenBy db_register_number from byte
+numbered_operand numbered.Di from byte = flat.OpenBy di_register_number from byte
 
 -- the operand of an instruction that goes on; what names a block, a label or no elementary variable
 -- comes to no such instruction
@@ -76,12 +76,12 @@ flat_operand_of o (view.Direct place width side declared) = direct_flat_operand 
 flat_operand_of o (view.Parameter index section declared) = flat.Parameter index (width_of declared)
 flat_operand_of o (view.ByMemory a width from byte) = flat.ByMemory a width from byte
 flat_operand_of o (view.ByRegister a width r bits) = flat.ByRegister a width r bits
-flat_operand_of o (view.Timer number) = flat.Numbered 1 number
-flat_operand_of o (view.Counter number) = flat.Numbered 2 number
+flat_operand_of o (view.Timer number) = flat.Numbered timer_kind number
+flat_operand_of o (view.Counter number) = flat.Numbered counter_kind number
 flat_operand_of o (view.NumberBy what from byte) = numbered_operand what from byte
 flat_operand_of o view.Constant = flat.Literal (constant_bits o)
 flat_operand_of o (view.Pointer a byte bit) = flat.Literal (pointer_bits a byte bit)
 flat_operand_of o (view.OfStatus flag) = flat.OfStatus (condition_number flag)
 flat_operand_of o (view.Register which) = register_operand which
-flat_operand_of o (view.OpenBlock di number) = flat.OpenBlock (if di then 2 else 1) number
+flat_operand_of o (view.OpenBlock di number) = flat.OpenBlock (if di then di_register_number else db_register_number) number
 flat_operand_of o _ = flat.Nothing
