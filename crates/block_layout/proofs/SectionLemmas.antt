@@ -21,7 +21,7 @@ use Rattle.block_layout.specs.DeclarationFacts.{IsDeclaredByBlock, AreOpen, IsDe
 use Rattle.block_layout.specs.Measures.{capped_depth}
 use Rattle.block_layout.specs.declared.declaration_facts.DeclarationFacts.{DeclarationFacts}
 use Rattle.stl_ast.specs.declared.blocks.PartKind.TheVariants as part
-use Rattle.block_layout.proofs.CellLemmas.{cells_begun, twice_same, deep_same}
+use Rattle.block_layout.proofs.CellLemmas.{cells_begun, twice_refusals_same, deep_refusals_same}
 
 rest_append : (broken : List Declaration → Declaration → List Refusal) (before xs ys : List Declaration) → refusals_in_rest broken before (xs ++ ys) ≡ refusals_in_rest broken before xs ++ refusals_in_rest broken (declarations_before_next before xs) ys
 rest_append broken before [] ys = refl
@@ -119,11 +119,11 @@ declared_all y b made new vs sections are components temps twice deep_ = record 
   temps = ap (λ v. v.items) temps ∙ sections.temps;
   twice = twice ∙ ap (λ (o : Option Refusal). lesser o (least (refusals_by_facts twice_by vs b.components))) sections.twice
       ∙ ap (λ (l : List Refusal). lesser (least (refusals_in_list (broken_21 (of_sections b)) (section_declarations b))) (least l))
-      (ap (λ (l : List DeclarationFacts). refusals_by_facts twice_by l b.components) are ∙ twice_same y of_structure [] b.components)
+      (ap (λ (l : List DeclarationFacts). refusals_by_facts twice_by l b.components) are ∙ twice_refusals_same y of_structure [] b.components)
       ∙ sym (least-append (refusals_in_list (broken_21 (of_sections b)) (section_declarations b)) (refusals_in_list (broken_21 of_structure) b.components));
   deep = deep_ ∙ ap (λ (o : Option Refusal). lesser o (least (refusals_by_facts deep_by vs b.components))) sections.deep
       ∙ ap (λ (l : List Refusal). lesser (least (refusals_in_list (broken_56 y (of_sections b)) (section_declarations b))) (least l))
-      (ap (λ (l : List DeclarationFacts). refusals_by_facts deep_by l b.components) are ∙ deep_same y of_structure [] b.components)
+      (ap (λ (l : List DeclarationFacts). refusals_by_facts deep_by l b.components) are ∙ deep_refusals_same y of_structure [] b.components)
       ∙ sym (least-append (refusals_in_list (broken_56 y (of_sections b)) (section_declarations b)) (refusals_in_list (broken_56 y of_structure) b.components));
 }
 

@@ -94,14 +94,14 @@ end_instr s v None =
 end_instr s v (Some how) = Returns how
 
 -- CALL, UC and CC call a block; every other instruction returns or goes on
-abbrev pub view_instr : Context → Statement → ResolvedOperand → Option CallOperation → Instr
-view_instr c s v None = end_instr s v (end_operation_of s.code)
-view_instr c s v (Some how) = call_instr c s how v
+abbrev pub operand_instr : Context → Statement → ResolvedOperand → Option CallOperation → Instr
+operand_instr c s v None = end_instr s v (end_operation_of s.code)
+operand_instr c s v (Some how) = call_instr c s how v
 
 -- the instruction by what its operand names; NOP 0 where the operand names nothing that it takes
 abbrev pub resolved_instr : Context → Statement → Option ResolvedOperand → Instr
 resolved_instr c s None = filler_instruction
-resolved_instr c s (Some v) = view_instr c s v (call_operation_of s.code)
+resolved_instr c s (Some v) = operand_instr c s v (call_operation_of s.code)
 
 -- a jump goes to the statement of its label; every other instruction acts on what its operand names
 abbrev pub instr_by : Context → List Statement → (n : ℕ) → Statement → Option JumpOperation → Instr

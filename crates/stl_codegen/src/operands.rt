@@ -192,7 +192,11 @@ pub(crate) fn operand_of(operand: &Operand, view: ResolvedOperand) -> Option<Fla
         }),
         ResolvedOperand::Register { which } => Some(register_operand(which)),
         ResolvedOperand::OpenBlock { di, number } => Some(FlatOperand::OpenBlock {
-            register: if di { DI_REGISTER_NUMBER } else { DB_REGISTER_NUMBER },
+            register: if di {
+                DI_REGISTER_NUMBER
+            } else {
+                DB_REGISTER_NUMBER
+            },
             number,
         }),
         _ => Some(FlatOperand::Nothing),

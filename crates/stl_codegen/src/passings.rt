@@ -9,7 +9,7 @@ ghost use Rattle.stl_codegen.specs.Passed.{
   passed_actual,
   passed_place,
   passed_resolution,
-  passed_view,
+  passed_by_operand,
   passings_from,
   actual_of_formal,
   with_index,
@@ -53,7 +53,7 @@ fn append_view(
     view: ResolvedOperand,
 ) -> Result<Option<()>, AllocError>
     ensures { IfOk result (λ done. AreOpsAppended ops.old.items ops.new.items
-        (pass_ops (with_index index (passed_view operand.now view))) done) }
+        (pass_ops (with_index index (passed_by_operand operand.now view))) done) }
 {
     match view {
         ResolvedOperand::Direct { place, width, .. } => {

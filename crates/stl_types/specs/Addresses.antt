@@ -31,9 +31,9 @@ side_of letters.Pi = side.Inputs
 side_of letters.Pq = side.Outputs
 side_of _ = side.Both
 
--- the area of a pointer, where it has one
-abbrev pub area_left : Option Letters → Option Area
-area_left a = option_map area_for_letters a
+-- the area that a pointer names by its letters; none where it names none
+abbrev pub area_of_pointer : Option Letters → Option Area
+area_of_pointer a = option_map area_for_letters a
 
 -- what an address names; `number` is that of the data block before it, else 0
 abbrev pub resolved_address : (number : ℕ) → Letters → Width → (byte bit : ℕ) → ResolvedOperand

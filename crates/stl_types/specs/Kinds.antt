@@ -99,7 +99,7 @@ abbrev pub is_date : ResolvedOperand → Bool
 is_date view.Date = true
 is_date _ = false
 
--- the width of a place in memory
+-- the width of an operand that is a place in memory; no other has one
 abbrev pub width_in : ResolvedOperand → Option Width
 width_in (view.Direct place width side declared) = Some width
 width_in (view.Parameter index section declared) = Some (width_of declared)

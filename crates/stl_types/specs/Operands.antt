@@ -100,7 +100,7 @@ form_writes_operand form.StoresAr1 = true
 form_writes_operand form.StoresAr2 = true
 form_writes_operand _ = false
 
--- an operand that lies in the peripheral area where it can't be: there are inputs to read and
+-- an operand lies in the peripheral area where the form can't take it: there are inputs to read and
 -- outputs to write, and no pointer leads there by an area of its own
 abbrev pub is_on_wrong_side : OperandRule → ResolvedOperand → Bool
 is_on_wrong_side f (view.Direct place width side.Inputs declared) = form_writes_operand f
@@ -109,7 +109,7 @@ is_on_wrong_side f (view.ByMemory a width from byte) = is_peripheral a
 is_on_wrong_side f (view.ByRegister a width register bits) = is_peripheral_area a
 is_on_wrong_side f _ = false
 
--- an input parameter of a function
+-- an operand is an input parameter of the function that has the body
 abbrev pub is_input : ResolvedOperand → Bool
 is_input (view.Parameter index part.Input declared) = true
 is_input _ = false
@@ -154,6 +154,7 @@ statement_rule c s = operand_rule c (form_of s.code) s.operand
 abbrev pub operands_24 : Context → List Statement → List Refusal
 operands_24 c body = flat_map (λ s. at_line s.line (statement_rule c s)) body
 
--- rules 24, 25 and 39, in all bodies
+-- rules 24, 25 and 39, in all bodies: a width, a form or a constant that isn't allowed, and a
+-- written input
 unfoldable pub rules_24_25_39 : Context → List Block → List Refusal
 rules_24_25_39 c blocks = in_contexts operands_24 c blocks

@@ -17,7 +17,7 @@ use Rattle.stl_symbols.specs.declared.targets.Target.TheVariants as target
 use Rattle.block_layout.specs.Blocks.{named_block}
 use Rattle.block_layout.specs.Paths.{folded_path}
 use Rattle.plc_base.specs.declared.places.Width.{Width}
-use Rattle.stl_types.specs.Addresses.{resolved_address, address_in_block, area_left, area_for_letters}
+use Rattle.stl_types.specs.Addresses.{resolved_address, address_in_block, area_of_pointer, area_for_letters}
 use Rattle.stl_types.specs.Context.{Context, data_number, whole_place}
 use Rattle.stl_types.specs.Variables.{data_variable, own_variable}
 use Rattle.stl_types.specs.declared.views.Register.{Register}
@@ -29,16 +29,16 @@ use Rattle.stl_types.specs.declared.views.ResolvedOperand.{ResolvedOperand}
 use Rattle.stl_types.specs.declared.views.ResolvedOperand.TheVariants as view
 
 -- what a symbol stands for
-abbrev pub target_view : Target → ResolvedOperand
-target_view (target.Variable place width) = view.Direct place width side.Both None
-target_view (target.Timer number) = view.Timer number
-target_view (target.Counter number) = view.Counter number
-target_view (target.Block id) = view.Block
+abbrev pub resolved_target : Target → ResolvedOperand
+resolved_target (target.Variable place width) = view.Direct place width side.Both None
+resolved_target (target.Timer number) = view.Timer number
+resolved_target (target.Counter number) = view.Counter number
+resolved_target (target.Block id) = view.Block
 
 -- what a quoted name that is the whole operand names; unknown without a symbol
 abbrev pub resolution_of_symbol : Option Symbol → Resolution
 resolution_of_symbol None = Unknown
-resolution_of_symbol (Some s) = Resolved (target_view s.target)
+resolution_of_symbol (Some s) = Resolved (resolved_target s.target)
 
 -- what a path names: one into the block's own variables, into a data block, or a symbol
 abbrev pub resolution_of_path : Context → PathHead → List PathStep → Resolution
@@ -76,7 +76,7 @@ resolution_of_call (Some id) None instance = Resolved (view.Called id None)
 resolution_of_call (Some id) (Some name) None = Unjudged
 resolution_of_call (Some id) (Some name) (Some number) = Resolved (view.Called id (Some number))
 
--- the id of a block; none where no place of it is given
+-- kind and number of a block; none where no place of it is given
 abbrev pub id_at : BlockId → Option ℕ → Option BlockId
 id_at id place = option_map (λ p. id) place
 
@@ -104,8 +104,8 @@ resolution_of c (operand.ByMemory a width from byte) =
 resolution_of c (operand.NumberBy what from byte) =
     Resolved (view.NumberBy what (area_for_letters from) byte)
 resolution_of c (operand.ByRegister a width register bits) =
-    Resolved (view.ByRegister (area_left a) width register bits)
-resolution_of c (operand.Pointer a byte bit) = Resolved (view.Pointer (area_left a) byte bit)
+    Resolved (view.ByRegister (area_of_pointer a) width register bits)
+resolution_of c (operand.Pointer a byte bit) = Resolved (view.Pointer (area_of_pointer a) byte bit)
 resolution_of c (operand.Constant value) = Resolved view.Constant
 resolution_of c (operand.Label name) = Resolved view.Label
 resolution_of c (operand.OfStatus flag) = Resolved (view.OfStatus flag)
