@@ -9,7 +9,7 @@ use Rattle.block_layout.specs.Types.{Types}
 abbrev pub uses_of_all : Types → List Block → List (List ℕ)
 uses_of_all y blocks = map (λ b. uses_of y (Some b)) blocks
 
--- of each block whether it is marked, and the places of the marked blocks in the order of the search
+-- of each block whether it is marked, and the places of the marked blocks, the first found first
 abbrev pub Marks : Type 0
 Marks = List Bool × List ℕ
 
