@@ -15,7 +15,7 @@ use Rattle.block_layout.specs.Rule21.{broken_21}
 use Rattle.block_layout.specs.Rule56.{broken_56}
 use Rattle.block_layout.specs.Types.{Types}
 use Rattle.stl_ast.specs.declared.blocks.Part.{Part}
-use Rattle.block_layout.specs.declared.sections.Declared.{Declared}
+use Rattle.block_layout.specs.declared.sections.BlockCells.{BlockCells}
 use Rattle.block_layout.specs.declared.declaration_facts.OpenList.{OpenList}
 use Rattle.block_layout.specs.DeclarationFacts.{AreOpen, CheckedOnto, SectionAdded, refusals_by_facts, twice_by, deep_by, cell_with, cells_by, facts_of_declarations}
 
@@ -97,7 +97,7 @@ pub deep_refusals_same : (y : Types) (o : Outside) (before ds : List Declaration
 deep_refusals_same y o before [] = refl
 deep_refusals_same y o before (d ∷ ds) = ap (λ (l : List Refusal). broken_56 y o before d ++ l) (deep_refusals_same y o (d ∷ before) ds)
 
-pub section_added : (y : Types) (o : Outside) (before : List Declaration) (p : Part) (old new : Declared) (open_ : List OpenList) (vs us : List DeclarationFacts) (ds : List Declaration) →
+pub section_added : (y : Types) (o : Outside) (before : List Declaration) (p : Part) (old new : BlockCells) (open_ : List OpenList) (vs us : List DeclarationFacts) (ds : List Declaration) →
     ds ≡ p.items → us ≡ vs → CheckedOnto y o before ds vs open_ →
     new.components.items ≡ old.components.items ++ (if is_temp p.kind then [] else cells_by y p.kind false us p.items) →
     new.temps.items ≡ old.temps.items ++ (if is_temp p.kind then cells_by y p.kind false us p.items else []) →

@@ -10,7 +10,7 @@ use Rattle.stl_ast.specs.declared.declarations.Declaration.{Declaration}
 use Rattle.plc_base.specs.Least.{least, lesser}
 use Rattle.plc_base.proofs.LeastLemmas.{least-append, lesser_assoc, lesser_first, lesser_nothing}
 use Rattle.block_layout.specs.declared.cells.Cell.{Cell}
-use Rattle.block_layout.specs.declared.sections.Declared.{Declared}
+use Rattle.block_layout.specs.declared.sections.BlockCells.{BlockCells}
 use Rattle.block_layout.specs.declared.declaration_facts.OpenList.{OpenList}
 use Rattle.block_layout.specs.Around.{Outside, refusals_in_list, refusals_in_rest, declarations_before_next, of_sections, of_structure, returned_names, section_declarations}
 use Rattle.block_layout.specs.Cells.{cells_of, is_temp, with_first_cell_opening, section_cells, returned_cells, temps_of}
@@ -30,7 +30,7 @@ rest_append broken before (x ∷ xs) ys =
     ∙ sym (append_assoc (broken before x) (refusals_in_rest broken (x ∷ before) xs) (refusals_in_rest broken (declarations_before_next (x ∷ before) xs) ys))
 
 -- what is left of the sections of a block
-pub record Left (y : Types) (b : Block) (ps : List Part) (made : Declared) (open_ : List OpenList) : Type 0 where
+pub record Left (y : Types) (b : Block) (ps : List Part) (made : BlockCells) (open_ : List OpenList) : Type 0 where
   pub now : List Declaration
   pub lists : AreOpen y (of_sections b) now open_
   pub components : made.components.items ++ section_cells y (of_sections b) (λ k. not (is_temp k)) now ps
@@ -48,7 +48,7 @@ rest_next broken now items more found next whole is_next so_far =
     ∙ ap (λ (o : Option Refusal). lesser found o) (sym (least-append (refusals_in_rest broken now items) (refusals_in_rest broken (declarations_before_next now items) more)) ∙ ap (λ (l : List Refusal). least l) (sym (rest_append broken now items more)))
     ∙ so_far
 
-pub left_next : (y : Types) (b : Block) (p : Part) (ps : List Part) (made new : Declared) (open_ now_open : List OpenList) → Left y b (p ∷ ps) made open_ →
+pub left_next : (y : Types) (b : Block) (p : Part) (ps : List Part) (made new : BlockCells) (open_ now_open : List OpenList) → Left y b (p ∷ ps) made open_ →
     ((o : Outside) (before : List Declaration) → AreOpen y o before open_ → SectionAdded y o before p made new now_open) → Left y b ps new now_open
 left_next y b p ps made new open_ now_open left added =
     let one = added (of_sections b) left.now left.lists in
@@ -70,7 +70,7 @@ left_next y b p ps made new open_ now_open left added =
     turned true l = refl
     turned false l = refl
 
-pub left_done : (y : Types) (b : Block) (made : Declared) (open_ : List OpenList) → Left y b [] made open_ → IsDeclaredBySections y b made
+pub left_done : (y : Types) (b : Block) (made : BlockCells) (open_ : List OpenList) → Left y b [] made open_ → IsDeclaredBySections y b made
 left_done y b made open_ left = record {
   components = sym (append-nil made.components.items) ∙ left.components;
   temps = sym (append-nil made.temps.items) ∙ left.temps;
@@ -98,7 +98,7 @@ first_open y o f names depth sound = record { lists = λ level g below. at level
             ∙ ap (λ (b : Bool). record { names = o.names; depth = capped_depth (o.depth + 0); sound = b }) s
     at (suc level) g below = absurd (let never : ⊥ = omega arith in never)
 
-pub first_left : (y : Types) (b : Block) (made : Declared) (f : OpenList) (open_ : List OpenList) → open_ ≡ f ∷ [] → f.names ≡ returned_names b.result → f.depth ≡ 0 → f.sound ≡ true →
+pub first_left : (y : Types) (b : Block) (made : BlockCells) (f : OpenList) (open_ : List OpenList) → open_ ≡ f ∷ [] → f.names ≡ returned_names b.result → f.depth ≡ 0 → f.sound ≡ true →
     made.components.items ≡ returned_cells b.result → made.temps.items ≡ [] → made.twice ≡ None → made.deep ≡ None → Left y b b.parts made open_
 first_left y b made f open_ is_open names depth sound components temps twice deep_ = record {
   now = [];
@@ -109,7 +109,7 @@ first_left y b made f open_ is_open names depth sound components temps twice dee
   deep = ap (λ (o : Option Refusal). lesser o (least (refusals_in_list (broken_56 y (of_sections b)) (section_declarations b)))) deep_ ∙ lesser_first _;
 }
 
-pub declared_all : (y : Types) (b : Block) (made new : Declared) (vs : List DeclarationFacts) → IsDeclaredBySections y b made → vs ≡ facts_of_declarations y of_structure [] b.components →
+pub declared_all : (y : Types) (b : Block) (made new : BlockCells) (vs : List DeclarationFacts) → IsDeclaredBySections y b made → vs ≡ facts_of_declarations y of_structure [] b.components →
     new.components.items ≡ made.components.items ++ cells_by y part.Static true vs b.components → new.temps ≡ made.temps →
     new.twice ≡ lesser made.twice (least (refusals_by_facts twice_by vs b.components)) → new.deep ≡ lesser made.deep (least (refusals_by_facts deep_by vs b.components)) → IsDeclaredByBlock y b new
 declared_all y b made new vs sections are components temps twice deep_ = record {
@@ -127,5 +127,5 @@ declared_all y b made new vs sections are components temps twice deep_ = record 
       ∙ sym (least-append (refusals_in_list (broken_56 y (of_sections b)) (section_declarations b)) (refusals_in_list (broken_56 y of_structure) b.components));
 }
 
-pub left_at : (y : Types) (b : Block) (made : Declared) (open_ : List OpenList) (ps qs : List Part) → ps ≡ qs → Left y b ps made open_ → Left y b qs made open_
+pub left_at : (y : Types) (b : Block) (made : BlockCells) (open_ : List OpenList) (ps qs : List Part) → ps ≡ qs → Left y b ps made open_ → Left y b qs made open_
 left_at y b made open_ ps qs same left = subst (λ (l : List Part). Left y b l made open_) same left

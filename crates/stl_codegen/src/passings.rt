@@ -105,7 +105,7 @@ fn is_for(actual: &Actual, formal: &Formal) -> bool
 }
 
 /// The actual parameter that is supplied for a parameter.
-fn supplied<'s>(actuals: &'s [Actual], formal: &Formal) -> Option<&'s Actual>
+fn actual_of_formal<'s>(actuals: &'s [Actual], formal: &Formal) -> Option<&'s Actual>
     ensures { option_copied result ≡ actual_of_formal actuals.now formal.now }
 {
     actuals.iter().find(|a| is_for(a, formal))
@@ -142,7 +142,7 @@ pub(crate) fn append_passings(
         (pass_ops (passings_from context.now actuals.now 0 formals.now)) done) }
 {
     for index in 0..formals.len() {
-        let actual = supplied(actuals, &formals[index]);
+        let actual = actual_of_formal(actuals, &formals[index]);
         let Some(_) = append_actual(alloc, ops, context, index, actual)? else {
             return Ok(None);
         };
