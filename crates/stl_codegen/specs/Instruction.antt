@@ -21,7 +21,7 @@ use Rattle.stl_types.specs.Lists.{has_label}
 use Rattle.stl_types.specs.Parameters.{Callee, callee_of}
 use Rattle.stl_types.specs.Resolved.{resolved_operand}
 use Rattle.stl_types.specs.declared.views.ResolvedOperand.{ResolvedOperand}
-use Rattle.stl_types.specs.declared.views.ResolvedOperand.TheVariants as view
+use Rattle.stl_types.specs.declared.views.ResolvedOperand.TheVariants as resolved
 use Rattle.stl_codegen.specs.Operands.{block_opened_by_operand, flat_operand_of}
 use Rattle.stl_codegen.specs.Passed.{passings_from}
 use Rattle.stl_codegen.specs.Operations.{jump_operation_of, call_operation_of, end_operation_of, operation_for}
@@ -82,7 +82,7 @@ filler_instruction = Does None operation.Nop (flat.Literal 0)
 
 -- the instruction of CALL, UC or CC, by the block that its operand names
 abbrev pub call_instr : Context → Statement → CallOperation → ResolvedOperand → Instr
-call_instr c s how (view.Called id instance) =
+call_instr c s how (resolved.Called id instance) =
     Calls how id instance (passings_to c s (callee_of c s.operand))
 call_instr c s how _ = filler_instruction
 

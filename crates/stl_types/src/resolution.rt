@@ -18,7 +18,7 @@ ghost use Rattle.stl_types.specs.Resolution.{
   whole_called_block,
 };
 ghost use Rattle.stl_types.specs.declared.views.Resolution.TheVariants.{Resolved};
-ghost use Rattle.stl_types.specs.declared.views.ResolvedOperand.TheVariants as view;
+ghost use Rattle.stl_types.specs.declared.views.ResolvedOperand.TheVariants as resolved;
 
 use crate::contexts::Context;
 use crate::views::{Register, Resolution, ResolvedOperand, Side};
@@ -144,7 +144,7 @@ fn resolved_to(view: ResolvedOperand) -> Resolution
 }
 
 fn resolution_of_register(alloc: Global, name: &Name) -> Result<Resolution, AllocError>
-    ensures { IfOk result (λ s. s ≡ Resolved (view.Register (register_for_word name.now))) }
+    ensures { IfOk result (λ s. s ≡ Resolved (resolved.Register (register_for_word name.now))) }
 {
     let which = register_of(alloc, name)?;
     Ok(resolved_to(ResolvedOperand::Register { which }))
