@@ -11,7 +11,7 @@ use Rattle.stl_list.specs.Runs.{runs}
 use Rattle.stl_list.specs.Signatures.{Signature}
 use Rattle.stl_list.specs.Statements.{body_of}
 
--- in the listed body of a code block, however its ops came to be, no label stands twice
+-- in a listed body no label stands twice
 abbrev pub AreLabelsOnce : Type 0
 AreLabelsOnce =
     (signatures : List Signature) (lines : List ℕ) (b : CodeBlock) → length (runs b.code) ≤ 93312
@@ -30,8 +30,7 @@ LandsWithin count (JumpsByList targets otherwise) = otherwise < count
 LandsWithin count (Calls how block instance passings) = Unit {0}
 LandsWithin count (Returns how) = Unit {0}
 
--- in the listed body of a block each label that is named stands, where the target that each jump
--- has is one of its statements
+-- in the listed body of a block whose jumps lead to its statements each label that is named stands
 abbrev pub AreLabelsKnown : Type 0
 AreLabelsKnown =
     (signatures : List Signature) (lines : List ℕ) (b : StatedBlock)

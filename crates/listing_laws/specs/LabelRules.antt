@@ -11,7 +11,7 @@ use Rattle.stl_list.specs.Signatures.{Signature}
 use Rattle.stl_list.specs.Statements.{body_of}
 use Rattle.listing_laws.specs.Statements.{jumps_to}
 
--- no two statements of the listed body of a block that is compiled from statements have one label
+-- no two statements of the listed body of a block have one label
 abbrev pub AreStatementLabelsOnce : Type 0
 AreStatementLabelsOnce =
     (signatures : List Signature) (lines : List ℕ) (b : StatedBlock)
@@ -22,8 +22,8 @@ AreStatementLabelsOnce =
 abbrev pub LeadsWithin : (count : ℕ) → Instr → Type 0
 LeadsWithin count i = (n : ℕ) → jumps_to n i ≡ true → n < count
 
--- where each statement to which a jump of a block can lead is one of its own, each jump of its
--- listed body is to a label that stands in that body
+-- where the jumps of a block lead to its statements, each jump of its listed body is to a label
+-- that stands in that body
 abbrev pub AreJumpLabelsKnown : Type 0
 AreJumpLabelsKnown =
     (signatures : List Signature) (lines : List ℕ) (b : StatedBlock)
