@@ -7,7 +7,7 @@ use Rattle.stl_ast.specs.declared.declarations.Bounds.{Bounds}
 use Rattle.stl_ast.specs.declared.declarations.Simple.{Simple}
 use Rattle.block_layout.specs.Declarations.{element_count, is_upside_down}
 use Rattle.block_layout.specs.Members.{component_of_name}
-use Rattle.block_layout.specs.Paths.{cells_at, path_end_at_cell, path_end_at_member, holds_where_reached, path_end_and_then, in_sections, path_end_by_index, indexed_behind, is_beyond, is_beyond_in, is_beyond_left, is_checkable, leaves_array, leaves_from, leaves_structure, leaves_local, leaves_sections, path_end_by_name, named_behind, named_in, outermost_path_end, step_is_beyond, path_end_by_step, structure_of, path_end_behind, path_end_in_data_block, path_end_in_block, walked_local, path_end_or_unjudged, whole_at, path_end_in_bounds}
+use Rattle.block_layout.specs.Paths.{cells_at, path_end_at_cell, path_end_at_member, holds_where_reached, path_end_and_then, in_sections, path_end_by_index, indexed_behind, is_beyond, is_beyond_in, is_beyond_left, is_checkable, leaves_array, leaves_from, leaves_structure, leaves_local, leaves_sections, path_end_by_name, named_behind, named_in, outermost_path_end, step_is_beyond, path_end_by_step, structure_of, path_end_behind, path_end_in_data_block, path_end_in_block, path_end_of_local, path_end_or_unjudged, whole_at, path_end_in_bounds}
 use Rattle.block_layout.specs.Sizes.{array_bits, capped_size, element_bits, element_of, components_end, plain_bits, structure_bits, next_multiple}
 use Rattle.block_layout.specs.declared.blocks.BlockLayout.{BlockLayout}
 use Rattle.block_layout.specs.declared.cells.Cell.{Cell}
@@ -137,8 +137,8 @@ sections_moves l right block name = by (is_some (component_of_name 0 0 0 name (c
     by false = outermost_moves l right block true 0 name
 
 pub local_moves : (l : List BlockLayout) → AreRight l → (block : ℕ) (name : List ℕ)
-    (ps : List PathStep) → is_some (whole_at l block) ≡ true → Moves (walked_local l block name ps)
-unfolding walked_local
+    (ps : List PathStep) → is_some (whole_at l block) ≡ true → Moves (path_end_of_local l block name ps)
+unfolding path_end_of_local
 local_moves l right block name ps whole =
     by (is_some (whole_at l block)) whole
   where
@@ -404,15 +404,15 @@ pub local_goes : (l : List BlockLayout) (limit : ℕ) → AreRight l → limit <
     → is_some (component_of_name 0 0 0 name (cells_at l block false)) ≡ own
     → structure_bits (cells_at l block (not own)) ≤ limit
     → is_some (whole_at l block) ≡ true → leaves_local l block name ps ≡ false
-    → Goes l limit (walked_local l block name ps)
-unfolding walked_local
+    → Goes l limit (path_end_of_local l block name ps)
+unfolding path_end_of_local
 local_goes l limit right near block name ps own is fits whole stays =
     subst (λ (t : Bool). Goes l limit (if t then path_end_and_then (in_sections l block name) (λ s. path_end_behind l s ps)
     else path_end.Unjudged)) (sym whole) (by own is fits inside)
   where
     inside : holds_where_reached (in_sections l block name) (λ s. leaves_array l s ps) ≡ false
-    inside = checkable_stays (is_checkable (walked_local l block name ps)) (leaves_sections l block name ps)
-        (moves_checkable (walked_local l block name ps) (local_moves l right block name ps whole)) stays
+    inside = checkable_stays (is_checkable (path_end_of_local l block name ps)) (leaves_sections l block name ps)
+        (moves_checkable (path_end_of_local l block name ps) (local_moves l right block name ps whole)) stays
 
     by : (t : Bool) → is_some (component_of_name 0 0 0 name (cells_at l block false)) ≡ t
         → structure_bits (cells_at l block (not t)) ≤ limit

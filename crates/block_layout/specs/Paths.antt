@@ -257,8 +257,8 @@ in_sections l block name =
     else outermost_path_end l block true 0 name
 
 -- where a path in the body of a block leads, into its own variables, with a name before the steps
-unfoldable pub walked_local : List BlockLayout → (block : ℕ) → List ℕ → List PathStep → PathEnd
-walked_local l block name path =
+unfoldable pub path_end_of_local : List BlockLayout → (block : ℕ) → List ℕ → List PathStep → PathEnd
+path_end_of_local l block name path =
     if is_some (whole_at l block)
     then path_end_and_then (in_sections l block name)
     (λ component. path_end_behind l component path)
@@ -273,7 +273,7 @@ leaves_sections l block name path =
 -- itself
 abbrev pub leaves_local : List BlockLayout → (block : ℕ) → List ℕ → List PathStep → Bool
 leaves_local l block name path =
-    is_checkable (walked_local l block name path) && leaves_sections l block name path
+    is_checkable (path_end_of_local l block name path) && leaves_sections l block name path
 
 -- the elementary type of a component that a path reaches
 abbrev pub plain_kind : Element → Option Simple

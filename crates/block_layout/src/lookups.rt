@@ -10,7 +10,7 @@ ghost use Rattle.block_layout.specs.Paths.{
   elementary_at,
   if_whole,
   path_end_in_data_block,
-  walked_local,
+  path_end_of_local,
   whole_at,
 };
 
@@ -101,7 +101,7 @@ impl Layouts {
     /// Where a path in the body of a block leads, into its own variables: a name in upper case, and
     /// the steps behind it.
     pub fn walk_local(&self, block: usize, name: &[u8], path: &Path) -> PathEnd
-        ensures { result ≡ walked_local self.now block name.now path.now }
+        ensures { result ≡ path_end_of_local self.now block name.now path.now }
     {
         walk_local(self.list(), block, name, path.steps())
     }

@@ -15,7 +15,7 @@ ghost use Rattle.block_layout.specs.Paths.{
   shape_block,
   structure_of,
   path_end_in_data_block,
-  walked_local,
+  path_end_of_local,
   path_end_or_unjudged,
   path_end_of_setting,
   whole_at,
@@ -123,14 +123,14 @@ pub(crate) fn in_sections(layouts: &[BlockLayout], block: usize, name: &[u8]) ->
 }
 
 /// Where a path in the body of a block leads, into its own variables.
-#[tactic(auto, unfolding(crate::specs::Paths::walked_local))]
+#[tactic(auto, unfolding(crate::specs::Paths::path_end_of_local))]
 pub(crate) fn walk_local(
     layouts: &[BlockLayout],
     block: usize,
     name: &[u8],
     path: &[PathStep],
 ) -> PathEnd
-    ensures value { result ≡ walked_local layouts.now block name.now path.now }
+    ensures value { result ≡ path_end_of_local layouts.now block name.now path.now }
     ensures near { OffsetIsNear result }
 {
     if whole_at(layouts, block).is_none() {

@@ -16,7 +16,8 @@ use Rattle.block_layout.specs.Rule44.{has_wrong_number, is_number_beyond_limits,
 use Rattle.block_layout.specs.Types.{Types}
 use Rattle.stl_list.specs.Listing.{listed_tree}
 use Rattle.listing_laws.specs.Heads.{AreBlocksOnce, AreNumbersRight}
-use Rattle.listing_laws.specs.Ids.{program_ids, source_program}
+use Rattle.listing_laws.specs.Ids.{program_ids}
+use Rattle.sem_kept.specs.Accepted.{program_in}
 use Rattle.listing_laws.proofs.IdLemmas.{IsRight, NotSame, ids_listed, place_of, program_apart, program_right, source_apart, source_ids, source_right, source_symbols}
 use Rattle.listing_laws.proofs.OrderLemmas.{Pairs}
 
@@ -50,7 +51,7 @@ once_from y front (id ∷ ids) before (b ∷ bs) whole same size apart =
 pub blocks_once : AreBlocksOnce
 unfolding rule_22
 blocks_once t symbols listed h =
-    let p = source_program t symbols in
+    let p = program_in symbols t in
     let blocks : List Block = (listed_tree p).blocks in
     let y = types_of_source listed blocks in
     once_from y [] (program_ids p) [] blocks (source_ids listed blocks ∙ ids_listed listed p) (ap (λ (z : List Symbol). ids_of z blocks) (source_symbols listed blocks) ∙ ids_listed listed p) refl
@@ -70,5 +71,5 @@ right_from symbols (id ∷ ids) before (b ∷ bs) same right =
 pub numbers_right : AreNumbersRight
 unfolding rule_44
 numbers_right t symbols listed h =
-    let p = source_program t symbols in
+    let p = program_in symbols t in
     right_from listed (program_ids p) [] (listed_tree p).blocks (ids_listed listed p) (program_right t symbols (source_right symbols t.blocks h))

@@ -33,7 +33,8 @@ use Rattle.stl_list.specs.Joined.{chains_of}
 use Rattle.stl_list.specs.Lines.{line_behind_statements, stands_before}
 use Rattle.stl_list.specs.Listing.{listed_tree}
 use Rattle.stl_list.specs.Signatures.{Signature, signatures}
-use Rattle.listing_laws.specs.Ids.{AreBlocksFound, AreBlocksKept, AreIdsListed, HasNoTypes, data_id, program_ids, source_program}
+use Rattle.listing_laws.specs.Ids.{AreBlocksFound, AreBlocksKept, AreIdsListed, HasNoTypes, data_id, program_ids}
+use Rattle.sem_kept.specs.Accepted.{program_in}
 use Rattle.listing_laws.proofs.OrderLemmas.{Pairs, all_sorted, pairs_sorted}
 
 -- ---- kinds
@@ -318,7 +319,7 @@ codes_of t symbols = codes_in (first_context symbols (layouts_of t symbols) t.bl
 abbrev stored_of : Tree → List Symbol → List DataBlock
 stored_of t symbols = data_in (first_context symbols (layouts_of t symbols) t.blocks) t.blocks (types_of_source symbols t.blocks) [] t.blocks
 
-ids_are : (t : Tree) (symbols : List Symbol) → program_ids (source_program t symbols)
+ids_are : (t : Tree) (symbols : List Symbol) → program_ids (program_in symbols t)
     ≡ map (λ b. b.id) (in_lines (map compiled_block (sorted_list is_code_before (codes_of t symbols)))) ++ map (λ d. data_id d.number) (sorted_list is_data_before (stored_of t symbols))
 unfolding code_blocks_of data_blocks_of layouts_of layouts_by
 ids_are t symbols = refl
@@ -342,10 +343,10 @@ numbered kinds.Sfc n h = absurd cc
 numbered kinds.Udt n h = refl
 
 same_there : (t : Tree) (symbols : List Symbol) (id : BlockId) → is_data_type id.kind ≡ false → is_system_function id.kind ≡ false
-    → is_some (place_of_block id (map (λ i. Some i) (program_ids (source_program t symbols)))) ≡ is_some (place_of_block id (ids_of symbols t.blocks))
+    → is_some (place_of_block id (map (λ i. Some i) (program_ids (program_in symbols t)))) ≡ is_some (place_of_block id (ids_of symbols t.blocks))
 same_there t symbols id plain system =
-    place_there id (map (λ i. Some i) (program_ids (source_program t symbols)))
-    ∙ any_mapped (is_id id) (λ (i : BlockId). Some i) (program_ids (source_program t symbols))
+    place_there id (map (λ i. Some i) (program_ids (program_in symbols t)))
+    ∙ any_mapped (is_id id) (λ (i : BlockId). Some i) (program_ids (program_in symbols t))
     ∙ ap (list_any (is_same_block id)) (ids_are t symbols)
     ∙ program_any (is_same_block id) (codes_of t symbols) (stored_of t symbols)
     ∙ ap (λ (z : List BlockId). list_any (is_same_block id) z || list_any (is_same_block id) (map (λ d. data_id d.number) (stored_of t symbols))) (source_codes t symbols)
@@ -355,11 +356,11 @@ same_there t symbols id plain system =
 
 pub blocks_kept : AreBlocksKept
 blocks_kept t symbols listed id plain =
-    ap (λ (is : List (Option BlockId)). is_some (known_block id is)) (ids_listed listed (source_program t symbols))
+    ap (λ (is : List (Option BlockId)). is_some (known_block id is)) (ids_listed listed (program_in symbols t))
     ∙ by (is_block_number id.kind id.number) refl
   where
     by : (b : Bool) → is_block_number id.kind id.number ≡ b
-        → is_some (if b then place_of_block id (map (λ i. Some i) (program_ids (source_program t symbols))) else None)
+        → is_some (if b then place_of_block id (map (λ i. Some i) (program_ids (program_in symbols t))) else None)
         ≡ is_some (if b then place_of_block id (ids_of symbols t.blocks) else None)
     by true e = same_there t symbols id plain (numbered id.kind id.number e)
     by false e = refl
@@ -578,7 +579,7 @@ crossed ds (id ∷ ids) h = (
 source_have_code : (t : Tree) (symbols : List Symbol) → AllByRecursion HasCode (map (λ x. x.id) (codes_of t symbols))
 source_have_code t symbols = subst (AllByRecursion HasCode) (sym (source_codes t symbols)) (codes_code (ids_of symbols t.blocks))
 
-pub program_apart : (t : Tree) (symbols : List Symbol) → Pairs Far (ids_of symbols t.blocks) → Pairs NotSame (program_ids (source_program t symbols))
+pub program_apart : (t : Tree) (symbols : List Symbol) → Pairs Far (ids_of symbols t.blocks) → Pairs NotSame (program_ids (program_in symbols t))
 program_apart t symbols h =
     subst (Pairs NotSame) (sym (ids_are t symbols))
     (pairs_joined NotSame (map (λ b. b.id) (in_lines (map compiled_block (sorted_list is_code_before (codes_of t symbols))))) (map (λ d. data_id d.number) (sorted_list is_data_before (stored_of t symbols)))
@@ -598,7 +599,7 @@ all_weaken : {A : Type 0} (P Q : A → Type 0) (xs : List A) → ((x : A) → P 
 all_weaken P Q [] f h = tt
 all_weaken P Q (x ∷ xs) f h = (f x h.0, all_weaken P Q xs f h.1)
 
-pub program_right : (t : Tree) (symbols : List Symbol) → AllByRecursion (λ i. is_number_beyond_limits i ≡ false) (ids_of symbols t.blocks) → AllByRecursion IsRight (program_ids (source_program t symbols))
+pub program_right : (t : Tree) (symbols : List Symbol) → AllByRecursion (λ i. is_number_beyond_limits i ≡ false) (ids_of symbols t.blocks) → AllByRecursion IsRight (program_ids (program_in symbols t))
 program_right t symbols h =
     let is : List (Option BlockId) = ids_of symbols t.blocks in
     subst (AllByRecursion IsRight) (sym (ids_are t symbols))
@@ -626,9 +627,9 @@ place_of (i ∷ ids) (suc k) id apart e =
 
 pub blocks_found : AreBlocksFound
 blocks_found t symbols listed k id none_22 none_44 e =
-    let ids : List BlockId = program_ids (source_program t symbols) in
+    let ids : List BlockId = program_ids (program_in symbols t) in
     let right = got IsRight ids k id (program_right t symbols (source_right symbols t.blocks none_44)) e in
-    ap (known_block id) (ids_listed listed (source_program t symbols))
+    ap (known_block id) (ids_listed listed (program_in symbols t))
     ∙ ap (λ (b : Bool). if b then place_of_block id (map (λ i. Some i) ids) else None) right
     ∙ place_of ids k id (program_apart t symbols (source_apart symbols t.blocks none_22)) e
 
@@ -682,12 +683,12 @@ tree_plain p h =
     all_append IsPlain (listed_blocks ss 1 (in_lines p.code_blocks)) (listed_data_blocks ss (line_reached 1 (in_lines p.code_blocks)) p.data_blocks)
     (code_plain ss 1 (in_lines p.code_blocks) h) (data_plain ss (line_reached 1 (in_lines p.code_blocks)) p.data_blocks)
 
-source_code : (t : Tree) (symbols : List Symbol) → AllByRecursion HasCode (map (λ b. b.id) (in_lines (source_program t symbols).code_blocks))
+source_code : (t : Tree) (symbols : List Symbol) → AllByRecursion HasCode (map (λ b. b.id) (in_lines (program_in symbols t).code_blocks))
 unfolding code_blocks_of layouts_of layouts_by
 source_code t symbols = code_program HasCode (codes_of t symbols) (source_have_code t symbols)
 
 pub no_types : HasNoTypes
 no_types t symbols listed =
-    let p = source_program t symbols in
+    let p = program_in symbols t in
     types_plain listed (listed_tree p).blocks (tree_plain p (source_code t symbols))
     ∙ ap (λ (z : List (Option BlockId)). record { symbols = listed; ids = z; depths = map (λ b. 0) (listed_tree p).blocks; bits = map (λ b. 0) (listed_tree p).blocks }) (ids_listed listed p)

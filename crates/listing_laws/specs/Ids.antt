@@ -7,13 +7,12 @@ use Rattle.flat_code.specs.Programs.{Program}
 use Rattle.stl_ast.specs.declared.blocks.Tree.{Tree}
 use Rattle.stl_symbols.specs.Symbol.{Symbol}
 use Rattle.block_layout.specs.Blocks.{ids_of, known_block}
-use Rattle.block_layout.specs.Layouts.{layouts_of}
 use Rattle.block_layout.specs.Measures.{types_of_source}
 use Rattle.block_layout.specs.Rule22.{rule_22}
 use Rattle.block_layout.specs.Rule44.{rule_44}
-use Rattle.stl_codegen.specs.Generated.{program_of}
 use Rattle.stl_list.specs.CodeBlocks.{in_lines}
 use Rattle.stl_list.specs.Listing.{listed_tree}
+use Rattle.sem_kept.specs.Accepted.{program_in}
 
 -- a data block by its number
 abbrev pub data_id : ℕ → BlockId
@@ -30,15 +29,11 @@ AreIdsListed =
     (symbols : List Symbol) (p : Program)
     → ids_of symbols (listed_tree p).blocks ≡ map (λ id. Some id) (program_ids p)
 
--- the program that the tree of a source comes to with its symbols, by the layouts of its blocks
-abbrev pub source_program : Tree → List Symbol → Program
-source_program t symbols = program_of t symbols (layouts_of t symbols)
-
 -- a block that the source has, the listing has, and no other; but user-defined data types
 abbrev pub AreBlocksKept : Type 0
 AreBlocksKept =
     (t : Tree) (symbols listed : List Symbol) (id : BlockId) → is_data_type id.kind ≡ false
-    → is_some (known_block id (ids_of listed (listed_tree (source_program t symbols)).blocks))
+    → is_some (known_block id (ids_of listed (listed_tree (program_in symbols t)).blocks))
     ≡ is_some (known_block id (ids_of symbols t.blocks))
 
 -- where the source has no block twice, and no number beyond the limits, each block of its program
@@ -47,17 +42,17 @@ abbrev pub AreBlocksFound : Type 0
 AreBlocksFound =
     (t : Tree) (symbols listed : List Symbol) (k : ℕ) (id : BlockId)
     → rule_22 (types_of_source symbols t.blocks) t.blocks ≡ [] → rule_44 symbols t.blocks ≡ []
-    → slice_get (program_ids (source_program t symbols)) k ≡ Some id
-    → known_block id (ids_of listed (listed_tree (source_program t symbols)).blocks) ≡ Some k
+    → slice_get (program_ids (program_in symbols t)) k ≡ Some id
+    → known_block id (ids_of listed (listed_tree (program_in symbols t)).blocks) ≡ Some k
 
 -- a listing has no user-defined data types to measure
 abbrev pub HasNoTypes : Type 0
 HasNoTypes =
     (t : Tree) (symbols listed : List Symbol)
-    → types_of_source listed (listed_tree (source_program t symbols)).blocks
+    → types_of_source listed (listed_tree (program_in symbols t)).blocks
     ≡ record {
       symbols = listed;
-      ids = map (λ id. Some id) (program_ids (source_program t symbols));
-      depths = map (λ b. 0) (listed_tree (source_program t symbols)).blocks;
-      bits = map (λ b. 0) (listed_tree (source_program t symbols)).blocks;
+      ids = map (λ id. Some id) (program_ids (program_in symbols t));
+      depths = map (λ b. 0) (listed_tree (program_in symbols t)).blocks;
+      bits = map (λ b. 0) (listed_tree (program_in symbols t)).blocks;
     }

@@ -25,20 +25,20 @@ use Rattle.block_layout.specs.declared.walks.PathEnd.TheVariants as path_end
 use Rattle.stl_types.specs.Addresses.{address_in_block}
 use Rattle.stl_types.specs.Context.{Context, data_number, in_function}
 use Rattle.stl_types.specs.Resolution.{resolution_of_address, resolution_of_path, resolution_of_symbol, resolved_target}
-use Rattle.stl_types.specs.Variables.{composite_operand, data_at, data_path, data_walked, date_or_composite, own_at, own_walked, parameter_at, parameter_resolution, variable_in_area}
+use Rattle.stl_types.specs.Variables.{composite_operand, data_at, data_path, data_at_path_end, date_or_composite, own_at, own_at_path_end, parameter_at, parameter_resolution, variable_in_area}
 use Rattle.stl_types.specs.declared.views.Resolution.{Resolution}
 use Rattle.stl_types.specs.declared.views.Resolution.TheVariants.{Resolved}
-use Rattle.stl_types.specs.declared.views.ResolvedOperand.TheVariants as view
+use Rattle.stl_types.specs.declared.views.ResolvedOperand.TheVariants as resolved
 
 -- one of these, or nothing that is seen; the data block of a place has such a number
 abbrev pub IsReached : (ℕ → Type 0) → Resolution → Type 0
-IsReached P (Resolved (view.Direct place width side declared)) = P place.number
-IsReached P (Resolved (view.Parameter index section declared)) = Unit {0}
-IsReached P (Resolved view.Composite) = Unit {0}
-IsReached P (Resolved view.Date) = Unit {0}
-IsReached P (Resolved (view.Timer number)) = Unit {0}
-IsReached P (Resolved (view.Counter number)) = Unit {0}
-IsReached P (Resolved view.Block) = Unit {0}
+IsReached P (Resolved (resolved.Direct place width side declared)) = P place.number
+IsReached P (Resolved (resolved.Parameter index section declared)) = Unit {0}
+IsReached P (Resolved resolved.Composite) = Unit {0}
+IsReached P (Resolved resolved.Date) = Unit {0}
+IsReached P (Resolved (resolved.Timer number)) = Unit {0}
+IsReached P (Resolved (resolved.Counter number)) = Unit {0}
+IsReached P (Resolved resolved.Block) = Unit {0}
 IsReached P (Resolved _) = ⊥
 IsReached P _ = Unit {0}
 
@@ -69,7 +69,7 @@ parameter_reached P index kind None = tt
 parameter_reached P index kind (Some c) = tt
 
 pub own_reached : (P : ℕ → Type 0) → P 0 → (c : Context) (temporary : Bool) (w : PathEnd)
-    → IsReached P (own_walked c temporary w)
+    → IsReached P (own_at_path_end c temporary w)
 own_reached P h c temporary path_end.Unknown = tt
 own_reached P h c temporary path_end.Unjudged = tt
 own_reached P h c temporary (path_end.Reaches component) = by (elementary_at c.layouts component)
@@ -87,7 +87,7 @@ own_reached P h c temporary (path_end.Reaches component) = by (elementary_at c.l
     by (Some kind) = elementary temporary (in_function c) kind
 
 data_reached : (P : ℕ → Type 0) (c : Context) (number : ℕ) → P number → (w : PathEnd)
-    → IsReached P (data_walked c number w)
+    → IsReached P (data_at_path_end c number w)
 data_reached P c number h path_end.Unknown = tt
 data_reached P c number h path_end.Unjudged = tt
 data_reached P c number h (path_end.Reaches component) = by (elementary_at c.layouts component)

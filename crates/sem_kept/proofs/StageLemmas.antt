@@ -31,9 +31,9 @@ one_by_parts stage makes_one excludes refuses_one a (Err r) (Ok b) at_r at_b = a
 one_by_parts stage makes_one excludes refuses_one a (Err r) (Err s) at_r at_s = ap Err (refuses_one a r s at_r at_s)
 
 -- what the second stage says of what the first one makes, of the one thing that it makes
-made : {A B C E : Type 0} (first : A → Result B E → Type 0) (second : B → Result C E → Type 0) → HasOneOutcome first
+one_outcome_of_first : {A B C E : Type 0} (first : A → Result B E → Type 0) (second : B → Result C E → Type 0) → HasOneOutcome first
     → (a : A) (b c : B) (x : Result C E) → first a (Ok b) → first a (Ok c) → second b x → second c x
-made {B = B} {C = C} first second one a b c x at_b at_c after =
+one_outcome_of_first {B = B} {C = C} first second one a b c x at_b at_c after =
     let At : B → Type 0 = λ d. second d x in
     subst At (ok_same b c (one a (Ok b) (Ok c) at_b at_c)) after
 
@@ -41,24 +41,24 @@ made {B = B} {C = C} first second one a b c x at_b at_c after =
 pub in_turn_one : {A B C E : Type 0} (first : A → Result B E → Type 0) (second : B → Result C E → Type 0)
     → HasOneOutcome first → HasOneOutcome second → HasOneOutcome (HaveOutcomeInTurn first second)
 in_turn_one first second one_first one_second a (Ok x) (Ok y) (b, at_b, x_after) (c, at_c, y_after) =
-    one_second c (Ok x) (Ok y) (made first second one_first a b c (Ok x) at_b at_c x_after) y_after
+    one_second c (Ok x) (Ok y) (one_outcome_of_first first second one_first a b c (Ok x) at_b at_c x_after) y_after
 in_turn_one first second one_first one_second a (Ok x) (Err r) (b, at_b, x_after) (inl at_r) =
     absurd (ok_no_err b r (one_first a (Ok b) (Err r) at_b at_r))
 in_turn_one first second one_first one_second a (Ok x) (Err r) (b, at_b, x_after) (inr (c, at_c, r_after)) =
-    one_second c (Ok x) (Err r) (made first second one_first a b c (Ok x) at_b at_c x_after) r_after
+    one_second c (Ok x) (Err r) (one_outcome_of_first first second one_first a b c (Ok x) at_b at_c x_after) r_after
 in_turn_one first second one_first one_second a (Err r) (Ok y) (inl at_r) (c, at_c, y_after) =
     absurd (ok_no_err c r (one_first a (Ok c) (Err r) at_c at_r))
 in_turn_one first second one_first one_second a (Err r) (Ok y) (inr (b, at_b, r_after)) (c, at_c, y_after) =
-    one_second c (Err r) (Ok y) (made first second one_first a b c (Err r) at_b at_c r_after) y_after
+    one_second c (Err r) (Ok y) (one_outcome_of_first first second one_first a b c (Err r) at_b at_c r_after) y_after
 in_turn_one first second one_first one_second a (Err r) (Err s) (inl at_r) (inl at_s) = ap Err (err_same r s (one_first a (Err r) (Err s) at_r at_s))
 in_turn_one first second one_first one_second a (Err r) (Err s) (inl at_r) (inr (c, at_c, s_after)) =
     absurd (ok_no_err c r (one_first a (Ok c) (Err r) at_c at_r))
 in_turn_one first second one_first one_second a (Err r) (Err s) (inr (b, at_b, r_after)) (inl at_s) =
     absurd (ok_no_err b s (one_first a (Ok b) (Err s) at_b at_s))
 in_turn_one first second one_first one_second a (Err r) (Err s) (inr (b, at_b, r_after)) (inr (c, at_c, s_after)) =
-    one_second c (Err r) (Err s) (made first second one_first a b c (Err r) at_b at_c r_after) s_after
+    one_second c (Err r) (Err s) (one_outcome_of_first first second one_first a b c (Err r) at_b at_c r_after) s_after
 
--- an outcome of the second stage for what the first has made
+-- an outcome of the second stage for what the first has one_outcome_of_first
 after_first : {A B C E : Type 0} (first : A → Result B E → Type 0) (second : B → Result C E → Type 0) (a : A) (b : B)
     → first a (Ok b) → (x : Result C E) × second b x → (x : Result C E) × HaveOutcomeInTurn first second a x
 after_first first second a b at_b (Ok c, after) = (Ok c, (b, at_b, after))

@@ -51,18 +51,18 @@ activation_at_place-∷ a acts place below =
 stays : (acts : List Activation) (place : ℕ) → place < length acts → Keeps acts acts place
 stays acts place there = record { there = there; same = refl }
 
-pushed : (a : Activation) (acts : List Activation) (place : ℕ) → place < length acts
+place_under_new : (a : Activation) (acts : List Activation) (place : ℕ) → place < length acts
     → Keeps acts (a ∷ acts) place
-pushed a acts place there = record { there = omega arith; same = activation_at_place-∷ a acts place there }
+place_under_new a acts place there = record { there = omega arith; same = activation_at_place-∷ a acts place there }
 
-fallen : (a : Activation) (below : List Activation) (place : ℕ) → place < length below
+place_without_top : (a : Activation) (below : List Activation) (place : ℕ) → place < length below
     → Keeps (a ∷ below) below place
-fallen a below place there =
+place_without_top a below place there =
     record { there = there; same = sym (activation_at_place-∷ a below place there) }
 
-replaced : (a b : Activation) (below : List Activation) (place : ℕ) → place < length below
+place_under_other : (a b : Activation) (below : List Activation) (place : ℕ) → place < length below
     → Keeps (a ∷ below) (b ∷ below) place
-replaced a b below place there = record {
+place_under_other a b below place there = record {
   there = omega arith;
   same = activation_at_place-∷ b below place there ∙ sym (activation_at_place-∷ a below place there);
 }
@@ -76,7 +76,7 @@ then_keeps first second third place h k = record { there = k.there; same = k.sam
 begun_keeps : (o : Option Activation) (s : State) (place : ℕ) → place < length s.activations
     → Keeps s.activations (with_ob_begun o s).activations place
 begun_keeps None s place there = stays s.activations place there
-begun_keeps (Some a) s place there = pushed a s.activations place there
+begun_keeps (Some a) s place there = place_under_new a s.activations place there
 
 begun_mode : (o : Option Activation) (s : State) → (with_ob_begun o s).mode ≡ s.mode
 begun_mode None s = refl
@@ -129,7 +129,7 @@ answered_keeps : (old : Activation) (o : Option Activation) (error : ℕ) (at : 
 answered_keeps old None error at a below s place there on = absurd cc
 answered_keeps old (Some fresh) error at a below s place there on =
     then_keeps (old ∷ below) (a ∷ below) (fresh ∷ a ∷ below) place
-    (replaced old a below place there) (pushed fresh (a ∷ below) place (omega (arith, there)))
+    (place_under_other old a below place there) (place_under_new fresh (a ∷ below) place (omega (arith, there)))
 
 failed_keeps : (code : Code) (old : Activation) (error : ℕ) (at : Option Spot) (a : Activation)
     (below : List Activation) (s : State) (place : ℕ)
@@ -156,8 +156,8 @@ serves_keeps : (old : Activation) (at : Option Spot) (r : ServiceResult) (to : O
     → place < length below → is_stop (after_service at r to below s).mode ≡ false
     → Keeps (old ∷ below) (after_service at r to below s).activations place
 serves_keeps old at (Returns r) to below s place there on =
-    replaced old (result_given to r.value r.activation s.store.memory).activation below place there
-serves_keeps old at (Passes sched a) to below s place there on = replaced old a below place there
+    place_under_other old (result_given to r.value r.activation s.store.memory).activation below place there
+serves_keeps old at (Passes sched a) to below s place there on = place_under_other old a below place there
 serves_keeps old at (Stops cause a) to below s place there on = absurd cc
 
 ended_same : (ob : ℕ) (s : State) → (ob_ended ob s).activations ≡ s.activations
@@ -173,10 +173,10 @@ statement_keeps : (code : Code) (old : Activation) (step : StatementStep) (ob : 
     → is_stop (after_statement code step ob at below s).mode ≡ false
     → Keeps (old ∷ below) (after_statement code step ob at below s).activations place
 statement_keeps code old (Went a w) ob at below s place were there on =
-    replaced old a below place there
+    place_under_other old a below place there
 statement_keeps code old (Ended regs w) ob at below s place were there on =
     subst (λ (acts : List Activation). Keeps (old ∷ below) acts place)
-    (sym (ended_same ob (with_activations w below s))) (fallen old below place there)
+    (sym (ended_same ob (with_activations w below s))) (place_without_top old below place there)
 statement_keeps code old (SyncError error a) ob at below s place were there on =
     failed_keeps code old error at a below s place there on
 statement_keeps code old (SysCall number given a) ob at below s place were there on =

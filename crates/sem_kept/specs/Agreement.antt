@@ -93,11 +93,11 @@ ImageKeepsSource bytes source symbols = ImageKeepsSourceIn English bytes source 
 pub record AreFiles (source symbols : List ℕ) : Type 0 where
   -- the source has no more bytes than it may
   pub source_short : length source ≤ source_limit
-  -- its elements are bytes
+  -- the elements of the source are bytes
   pub source_bytes : AreBytes source
   -- the symbols file has no more bytes than it may
   pub symbols_short : length symbols ≤ symbols_limit
-  -- its elements are bytes
+  -- the elements of the symbols file are bytes
   pub symbols_bytes : AreBytes symbols
 
 -- the program of a source that breaks no rule keeps it at each profile, in each language

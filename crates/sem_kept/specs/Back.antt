@@ -54,7 +54,7 @@ IsJu s = is_ju s.instr ≡ true
 pub record IsList
     (n : ℕ) (targets : List ℕ) (otherwise : ℕ) (behind : List SourceInstruction)
     : Type 0 where
-  -- there are at most 255
+  -- there are at most 255 targets
   pub few : length targets ≤ 255
   -- the targets are the statements right behind the JL, in their order
   pub numbers : targets ≡ numbers_from (suc n) (length targets)
@@ -62,7 +62,7 @@ pub record IsList
   pub ends : otherwise ≡ suc n + length targets
   -- as many statements stand behind the JL as there are targets
   pub there : length targets ≤ length behind
-  -- each of them is a JU
+  -- each of these statements is a JU
   pub jumps : AllByRecursion IsJu (take (length targets) behind)
 
 -- code can be generated for an instruction: that of the statement of number n, with the

@@ -39,7 +39,7 @@ ActualHasBytes a = OperandHasBytes a.value
 pub record StatementHasBytes (s : Statement) : Type 0 where
   -- the characters of its operand are bytes
   pub operand : OperandHasBytes s.operand
-  -- those of each actual parameter are bytes
+  -- the characters of each of its actual parameters are bytes
   pub actuals : AllByRecursion ActualHasBytes s.actuals
 
 -- the characters of an initial value are bytes
@@ -61,13 +61,13 @@ SettingHasBytes s = HasBytes s.value
 -- the characters of all constants of a block are bytes: those in its declarations, its settings
 -- and its statements
 pub record BlockHasBytes (b : Block) : Type 0 where
-  -- those of its sections
+  -- the characters of the initial values in its sections are bytes
   pub parts : AllByRecursion PartHasBytes b.parts
-  -- those of its components
+  -- the characters of the initial values of its components are bytes
   pub components : AllByRecursion DeclarationHasBytes b.components
-  -- those of its settings
+  -- the characters of the values of its settings are bytes
   pub settings : AllByRecursion SettingHasBytes b.settings
-  -- those of its statements
+  -- the characters of the constants in its statements are bytes
   pub body : AllByRecursion StatementHasBytes b.body
 
 -- the characters of all constants in the statements of a source are bytes
@@ -77,7 +77,7 @@ TreeHasBytes t = AllByRecursion (λ b. AllByRecursion StatementHasBytes b.body) 
 -- the code of a block has no fault by its ops: each is an op of the table, a statement has at
 -- most 64, and the last one is BE
 pub record IsBlockCoded (b : CodeBlock) : Type 0 where
-  -- each is an op of the table
+  -- each op of the code is one of the table
   pub ops : are_ops b.code ≡ true
   -- no statement has a 65th op, and the last op is BE
   pub right : code_fault b.code ≡ None

@@ -30,7 +30,7 @@ pub record BehavesAlike (profile : Profile) (c d : Code) : Type 0 where
   pub reply : (history : List What) (entry : What)
       → (entry_result d (replay profile d history) entry).reply
       ≡ (entry_result c (replay profile c history) entry).reply
-  -- what an entry shows
+  -- an entry shows the same behind a history
   pub seen : (history : List What) (entry : What)
       → (entry_result d (replay profile d history) entry).seen
       ≡ (entry_result c (replay profile c history) entry).seen

@@ -12,7 +12,7 @@ use Rattle.sem_kept.specs.Accepted.{IsAccepted, program_in}
 
 -- the code of a block has no fault, and its statements and bytes are few enough for their fields
 pub record HasFaultlessCode (b : CodeBlock) : Type 0 where
-  -- each is an op of the table
+  -- each op of the code is one of the table
   pub ops : are_ops b.code ≡ true
   -- no statement has a 65th op, and the last op is BE
   pub ends : code_fault b.code ≡ None

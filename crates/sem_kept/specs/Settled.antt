@@ -22,7 +22,7 @@ use Rattle.stl_types.specs.Parameters.{Callee, callee_of}
 use Rattle.stl_types.specs.Resolution.{resolution_of}
 use Rattle.stl_types.specs.Resolved.{resolved_operand}
 use Rattle.stl_types.specs.declared.views.ResolvedOperand.{ResolvedOperand}
-use Rattle.stl_types.specs.declared.views.ResolvedOperand.TheVariants as view
+use Rattle.stl_types.specs.declared.views.ResolvedOperand.TheVariants as resolved
 use Rattle.stl_codegen.specs.Operations.{call_operation_of, jump_operation_of}
 use Rattle.stl_codegen.specs.Passed.{passed_resolution}
 use Rattle.sem_kept.specs.Accepted.{IsAccepted}
@@ -46,7 +46,7 @@ pub record HasCalled (c : Context) (s : Statement) : Type 0 where
   -- the number of the data block that is its instance, where the call names one
   pub instance : Option ℕ
   -- the operand names this block, with this instance
-  pub called : resolved_operand c s ≡ Some (view.Called id instance)
+  pub called : resolved_operand c s ≡ Some (resolved.Called id instance)
   -- the block that is called, with its parameters
   pub callee : Callee
   -- it is the block that is found by the operand
@@ -82,8 +82,8 @@ pub record IsResolvedStatement (c : Context) (body : List Statement) (s : Statem
   pub actuals : AllByRecursion (NamesWhatIsPassed c) s.actuals
 
 -- what the block at a place is checked and compiled by
-abbrev pub context_of : List Symbol → Tree → ℕ → Context
-context_of symbols t k = record {
+abbrev pub context_at : List Symbol → Tree → ℕ → Context
+context_at symbols t k = record {
   symbols = symbols;
   blocks = t.blocks;
   layouts = layouts_of t symbols;
@@ -96,4 +96,4 @@ abbrev pub StatementsSettle : Type 0
 StatementsSettle =
     (source file : List ℕ) (symbols : List Symbol) (t : Tree) → IsAccepted source file symbols t
     → AreBytes source → (k : ℕ) (b : Block) → slice_get t.blocks k ≡ Some b
-    → AllByRecursion (IsResolvedStatement (context_of symbols t k) b.body) b.body
+    → AllByRecursion (IsResolvedStatement (context_at symbols t k) b.body) b.body

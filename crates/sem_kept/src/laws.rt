@@ -108,8 +108,9 @@ pub fn compiled_is_kept()
     programs_run();
 }
 
-/// The same of a source in English whose symbols have German addresses, as the translation of a
-/// German source with its symbols file.
+/// Each image of the program of a source that breaks no rule, whose symbols have German addresses,
+/// keeps the source with its symbols, as `compiled_is_kept` says of English addresses: so it is of
+/// the translation of a German source with its symbols file.
 pub fn compiled_is_kept_german()
     ensures { ImagesKeepGermanSources }
 {
@@ -125,7 +126,9 @@ pub fn resumes_source()
     controller::laws::continues_replay();
 }
 
-/// The same over a loaded program.
+/// Law of resumption over a loaded program: an activation that is suspended has the same class,
+/// registers, delay count and frames after each further entry, up to the one after which it runs
+/// again, whatever the entries are, unless STOP ends it.
 pub fn resumes_image()
     ensures { ImagesResume }
 {

@@ -3,10 +3,8 @@ use Rattle.std.proofs.Common.{ℕ, ◌≡◌, nat_eq, Bool, true, false, not, �
 use Rattle.std.specs.List.{AllByRecursion}
 use Rattle.std.specs.Option.{option_map, option_and_then}
 use Rattle.std.proofs.lemmas.Bool.{false≢true}
-use Rattle.plc_base.specs.Kinds.{is_data_block, is_function, is_system_function}
+use Rattle.plc_base.specs.Kinds.{is_data_block, is_system_function}
 use Rattle.plc_base.specs.declared.blocks.BlockId.{BlockId}
-use Rattle.plc_base.specs.declared.blocks.BlockKind.{BlockKind}
-use Rattle.plc_base.specs.declared.blocks.BlockKind.TheVariants as kinds
 use Rattle.stl_ast.specs.Literals.{AreBytes}
 use Rattle.stl_ast.specs.Statements.{is_empty_statement}
 use Rattle.stl_ast.specs.declared.blocks.Block.{Block}
@@ -38,7 +36,7 @@ use Rattle.stl_types.specs.Resolved.{resolved_operand}
 use Rattle.stl_types.specs.declared.views.Resolution.{Resolution}
 use Rattle.stl_types.specs.declared.views.Resolution.TheVariants.{Resolved, Unknown, Unjudged}
 use Rattle.stl_types.specs.declared.views.ResolvedOperand.{ResolvedOperand}
-use Rattle.stl_types.specs.declared.views.ResolvedOperand.TheVariants as view
+use Rattle.stl_types.specs.declared.views.ResolvedOperand.TheVariants as resolved
 use Rattle.stl_codegen.specs.Instruction.{instruction}
 use Rattle.stl_codegen.specs.Operations.{call_operation_of, jump_operation_of}
 use Rattle.stl_codegen.specs.Passed.{passed_resolution, passed_by_operand}
@@ -48,13 +46,13 @@ use Rattle.flat_code.specs.declared.operands.Passed.{Passed}
 use Rattle.flat_code.specs.declared.operations.CallOperation.{CallOperation}
 use Rattle.flat_code.specs.declared.operations.CallOperation.TheVariants as how_called
 use Rattle.sem_kept.specs.Accepted.{IsAccepted}
-use Rattle.sem_kept.specs.Settled.{HasCalled, HasInstruction, HasLabel, HasOperand, NamesWhatIsPassed, IsResolvedStatement, context_of}
-use Rattle.sem_kept.proofs.accepted.Accepted.{IsSound, IsSoundActual, IsSoundStatement, all_mapped, right_tree}
+use Rattle.sem_kept.specs.Settled.{HasCalled, HasInstruction, HasLabel, HasOperand, NamesWhatIsPassed, IsResolvedStatement, context_at}
+use Rattle.sem_kept.proofs.accepted.Accepted.{IsSoundBlock, IsSoundActual, IsSoundStatement, all_mapped, right_tree}
 use Rattle.block_layout.proofs.CommonLemmas.{all_there}
 use Rattle.sem_kept.proofs.accepted.OperandsCells.{cells_are, layout_of_block}
 use Rattle.block_layout.proofs.LayoutLemmas.{measured_symbols}
 use Rattle.sem_kept.proofs.accepted.OperandsPlaces.{IsParameterCell, function_components}
-use Rattle.sem_kept.proofs.accepted.OperandsViews.{ids_same}
+use Rattle.sem_kept.proofs.accepted.OperandsViews.{function_kind, ids_same}
 use Rattle.sem_kept.proofs.accepted.Settled.{statements_settle}
 use Rattle.statement_laws.specs.Accepted.{AcceptedOperandsAreNamed, AcceptedStatementsAct, ActsOnItsOperand, CallsNamed, DoesAsWritten, IsNamed, IsNamedStatement, JumpsByList, JumpsToLabel, NamesCalled, is_no_branch}
 use Rattle.statement_laws.specs.Effects.{effect_of_statement}
@@ -67,24 +65,20 @@ use Rattle.statement_laws.proofs.CoverLemmas.{has_no_name, named_there, operands
 use Rattle.statement_laws.proofs.FamilyLemmas as families
 use Rattle.statement_laws.proofs.JumpLemmas.{ends_act, jump_lists_act, plain_jumps_act}
 use Rattle.statement_laws.proofs.NumberLemmas.{families_are_all}
-use Rattle.statement_laws.proofs.SeenLemmas.{block_same, number_known, resolved_parts, resolved_same}
+use Rattle.statement_laws.proofs.ResolutionLemmas.{block_same, number_known, resolved_parts, resolved_same}
 use Rattle.statement_laws.proofs.VariableCover.{path_there, variables_are_named}
-use Rattle.statement_laws.proofs.WordLemmas.{Has, StatementHas, words_known}
+use Rattle.statement_laws.proofs.WordLemmas.{HasKnownWord, StatementHasKnownWord, words_known}
 
 -- ---- variables
 
 -- the parameters of a function are of elementary type
-
-function_kind : (k : BlockKind) → is_function k ≡ true → k ≡ kinds.Fc
-function_kind kinds.Fc e = refl
-function_kind _ e = absurd (false≢true e)
 
 plain_cell : (cell : Cell) → IsParameterCell cell → is_elementary_component cell ≡ true
 plain_cell cell h =
     ap₂ (λ (bounds : List Bounds) (of : Element). nat_eq 0 (length bounds) && is_some (plain_kind of)) h.single h.plain
 
 plain_parameters : (symbols : List Symbol) (t : Tree) (k : ℕ) (b : Block) (l : BlockLayout)
-    → IsSound symbols t k b l → HasElementaryParameters (context_of symbols t k)
+    → IsSoundBlock symbols t k b l → HasElementaryParameters (context_at symbols t k)
 plain_parameters symbols t k b l block fc =
     subst (AllByRecursion (λ (cell : Cell). is_elementary_component cell ≡ true))
     (sym (cells_are symbols t k b l block false))
@@ -96,7 +90,7 @@ plain_parameters symbols t k b l block fc =
 -- no index of a path lies outside its array
 
 found_same : (symbols : List Symbol) (t : Tree) (k : ℕ) (name : BlockName)
-    → data_place (context_of symbols t k) name
+    → data_place (context_at symbols t k) name
     ≡ found_block (types_of_source symbols t.blocks).symbols (types_of_source symbols t.blocks).ids is_data_block name
 found_same symbols t k name =
     ap (λ (is : List (Option BlockId)). found_block symbols is is_data_block name) (ids_same symbols t)
@@ -110,7 +104,7 @@ leaves_same l (Some place) steps = refl
 
 stays : (symbols : List Symbol) (t : Tree) (k : ℕ) (o : Operand)
     → operand_is_outside (types_of_source symbols t.blocks) (layouts_of t symbols) k o ≡ false
-    → stays_inside (context_of symbols t k) o ≡ true
+    → stays_inside (context_at symbols t k) o ≡ true
 stays symbols t k (operand.Named (head.Local name) steps) e = ap not e
 stays symbols t k (operand.Named (head.InBlock name) steps) e =
     ap not (ap (λ (o : Option ℕ). leaves_structure (layouts_of t symbols)
@@ -128,7 +122,7 @@ stays symbols t k _ e = refl
 record NamesBlock (c : Context) (name : BlockName) (db : Option BlockName) (v : ResolvedOperand) : Type 0 where
   id : BlockId
   instance : Option ℕ
-  seen : v ≡ view.Called id instance
+  resolves : v ≡ resolved.Called id instance
   names : named_by c (operand.Called name db) ≡ Some (named.Called id instance)
 
 placed_same : (id other : BlockId) (place : Option ℕ) → id_at id place ≡ Some other → Some id ≡ Some other
@@ -155,7 +149,7 @@ block_named c name None v e = bare (whole_called_block c (named_block c.symbols 
     bare (Some id) is h = record {
       id = id;
       instance = None;
-      seen = sym (resolved_same (view.Called id None) v h);
+      resolves = sym (resolved_same (resolved.Called id None) v h);
       names = ap (option_map (λ (id : BlockId). named.Called id None))
           (sym (block_same c name) ∙ whole_same c (named_block c.symbols name) id is);
     }
@@ -169,7 +163,7 @@ block_named c name (Some db) v e =
     both (Some id) (Some number) is d h = record {
       id = id;
       instance = Some number;
-      seen = sym (resolved_same (view.Called id (Some number)) v h);
+      resolves = sym (resolved_same (resolved.Called id (Some number)) v h);
       names = ap₂ with_instance
           (sym (block_same c name) ∙ whole_same c (named_block c.symbols name) id is)
           (number_known c db number d);
@@ -183,15 +177,15 @@ call_named c name db v e = block_named c name db v e
 -- ---- operands of statements
 
 operand_named : (c : Context) (s : Statement) (v : ResolvedOperand) → HasElementaryParameters c
-    → stays_inside c s.operand ≡ true → StatementHas s → resolved_operand c s ≡ Some v → IsNamed c s.operand
+    → stays_inside c s.operand ≡ true → StatementHasKnownWord s → resolved_operand c s ≡ Some v → IsNamed c s.operand
 operand_named c s v plain inside word r = by s.operand refl word
   where
-    seen : resolution_of c s.operand ≡ Resolved v
-    seen = (resolved_parts c s v r).1
+    resolves : resolution_of c s.operand ≡ Resolved v
+    resolves = (resolved_parts c s v r).1
 
-    by : (o : Operand) → s.operand ≡ o → Has o → IsNamed c s.operand
+    by : (o : Operand) → s.operand ≡ o → HasKnownWord o → IsNamed c s.operand
     by (operand.Called name db) e h =
-        let called = call_named c name db v (sym (ap (resolution_of c) e) ∙ seen) in
+        let called = call_named c name db v (sym (ap (resolution_of c) e) ∙ resolves) in
         (named.Called called.id called.instance, ap (named_by c) e ∙ called.names)
     by (operand.Named (head.Local name) steps) e h =
         variables_are_named c s v plain (ap is_variable e) inside r
@@ -209,9 +203,9 @@ label_named c body s h = (named.Label, ap (named_by c) h.is)
 
 -- what is passed is named
 passed_named : (o : Operand) (v : ResolvedOperand) (p : Passed) → passed_by_operand o v ≡ Some p → has_no_name v ≡ false
-passed_named o (view.Direct place width side declared) p e = refl
-passed_named o (view.Parameter index section declared) p e = refl
-passed_named o view.Constant p e = refl
+passed_named o (resolved.Direct place width side declared) p e = refl
+passed_named o (resolved.Parameter index section declared) p e = refl
+passed_named o resolved.Constant p e = refl
 passed_named o _ p e = absurd cc
 
 -- it is no register
@@ -246,7 +240,7 @@ actual_named c a plain inside passed = by (resolution_of c a.value) refl passed.
     by : (r : Resolution) → resolution_of c a.value ≡ r → passed_resolution a.value r ≡ Some passed.0 → IsNamedActual c a
     by (Resolved v) e h =
         let there = value_named c a.value v passed.0 plain inside e h in
-        record { view = v; seen = e; named = there.0; names = there.1 }
+        record { resolved_value = v; resolves = e; item = there.0; names = there.1 }
     by Unknown e h = absurd cc
     by Unjudged e h = absurd cc
 
@@ -255,7 +249,7 @@ actual_named c a plain inside passed = by (resolution_of c a.value) refl passed.
 -- what is known of a statement of an accepted source
 record IsKnown (c : Context) (body : List Statement) (s : Statement) : Type 0 where
   inside : stays_inside c s.operand ≡ true
-  word : StatementHas s
+  word : StatementHasKnownWord s
   settled : IsResolvedStatement c body s
   passed : AllByRecursion (λ (a : Actual). stays_inside c a.value ≡ true) s.actuals
 
@@ -272,7 +266,7 @@ actuals_named c (a ∷ actuals) plain inside passed = (
 found_operand : (c : Context) (s : Statement) (o : Option CallOperation) → HasOperand c s o
     → (v : ResolvedOperand) × (resolved_operand c s ≡ Some v)
 found_operand c s None h = h
-found_operand c s (Some how) h = (view.Called h.id h.instance, h.called)
+found_operand c s (Some how) h = (resolved.Called h.id h.instance, h.called)
 
 statement_operand : (c : Context) (body : List Statement) (s : Statement) → HasElementaryParameters c
     → IsKnown c body s → (o : Option JumpOperation) → HasInstruction c body s o → IsNamed c s.operand
@@ -300,7 +294,7 @@ call_settled c body s is settled =
     let call = call_is s.code is in
     subst (HasOperand c s) call.is (subst (HasInstruction c body s) call.no_jump settled.instruction)
 
-same_id : (a b : BlockId) (m n : Option ℕ) → view.Called a m ≡ view.Called b n → a ≡ b
+same_id : (a b : BlockId) (m n : Option ℕ) → resolved.Called a m ≡ resolved.Called b n → a ≡ b
 same_id a b m n e = cc
 
 called_named : (c : Context) (s : Statement) → HasCalled c s → NamesCalled c s
@@ -309,8 +303,8 @@ called_named c s h = by s.operand refl (h.found)
   where
     by : (o : Operand) → s.operand ≡ o → callee_of c o ≡ Some h.callee → NamesCalled c s
     by (operand.Called name db) e f =
-        let block = call_named c name db (view.Called h.id h.instance)
-        (sym (ap (resolution_of c) e) ∙ (resolved_parts c s (view.Called h.id h.instance) h.called).1) in
+        let block = call_named c name db (resolved.Called h.id h.instance)
+        (sym (ap (resolution_of c) e) ∙ (resolved_parts c s (resolved.Called h.id h.instance) h.called).1) in
         record {
           name = name;
           db = db;
@@ -320,7 +314,7 @@ called_named c s h = by s.operand refl (h.found)
           names = block.names;
           callee = h.callee;
           found = f;
-          same = h.same ∙ same_id h.id block.id h.instance block.instance block.seen;
+          same = h.same ∙ same_id h.id block.id h.instance block.instance block.resolves;
         }
     by _ e f = absurd cc
 
@@ -453,7 +447,7 @@ called_on c body n s plain h is =
     record {
       called = called;
       actuals = actuals;
-      acts = calls_act c body n s (view.Called has.id has.instance) called.name called.db called.id called.instance
+      acts = calls_act c body n s (resolved.Called has.id has.instance) called.name called.db called.id called.instance
           called.callee is called.is has.called called.names called.found actuals;
     }
 
@@ -474,15 +468,15 @@ does_as_written c body plain s h some n = record {
 
 module _ (symbols : List Symbol) (t : Tree) (k : ℕ) where
   actuals_inside : (actuals : List Actual)
-      → AllByRecursion (IsSoundActual (types_of_source symbols t.blocks) (context_of symbols t k)) actuals
-      → AllByRecursion (λ (a : Actual). stays_inside (context_of symbols t k) a.value ≡ true) actuals
+      → AllByRecursion (IsSoundActual (types_of_source symbols t.blocks) (context_at symbols t k)) actuals
+      → AllByRecursion (λ (a : Actual). stays_inside (context_at symbols t k) a.value ≡ true) actuals
   actuals_inside [] h = tt
   actuals_inside (a ∷ actuals) h = (stays symbols t k a.value h.0.inside, actuals_inside actuals h.1)
 
   all_known : (body ss : List Statement)
-      → AllByRecursion (IsSoundStatement (types_of_source symbols t.blocks) (context_of symbols t k)) ss
-      → AllByRecursion StatementHas ss → AllByRecursion (IsResolvedStatement (context_of symbols t k) body) ss
-      → AllByRecursion (IsKnown (context_of symbols t k) body) ss
+      → AllByRecursion (IsSoundStatement (types_of_source symbols t.blocks) (context_at symbols t k)) ss
+      → AllByRecursion StatementHasKnownWord ss → AllByRecursion (IsResolvedStatement (context_at symbols t k) body) ss
+      → AllByRecursion (IsKnown (context_at symbols t k) body) ss
   all_known body [] sound words settled = tt
   all_known body (s ∷ ss) sound words settled = (
     record {
@@ -501,13 +495,13 @@ record IsKnownBlock (c : Context) (b : Block) : Type 0 where
 
 block_known : (source file : List ℕ) (symbols : List Symbol) (t : Tree) → IsAccepted source file symbols t
     → AreBytes source → (k : ℕ) (b : Block) → slice_get t.blocks k ≡ Some b
-    → IsKnownBlock (context_of symbols t k) b
+    → IsKnownBlock (context_at symbols t k) b
 block_known source file symbols t accepted bytes k b there =
     let laid = layout_of_block symbols t (right_tree source file symbols t accepted) k b there in
     record {
       plain = plain_parameters symbols t k b laid.0 laid.2;
       statements = all_known symbols t k b.body b.body laid.2.statements
-          (all_there (λ (b : Block). AllByRecursion StatementHas b.body) t.blocks k b
+          (all_there (λ (b : Block). AllByRecursion StatementHasKnownWord b.body) t.blocks k b
           (words_known source accepted.tokens t accepted.parsed) there)
           (statements_settle source file symbols t accepted bytes k b there);
     }
@@ -515,12 +509,12 @@ block_known source file symbols t accepted bytes k b there =
 pub accepted_operands_are_named : AcceptedOperandsAreNamed
 accepted_operands_are_named source file symbols t accepted bytes k b there =
     let known = block_known source file symbols t accepted bytes k b there in
-    all_mapped (IsKnown (context_of symbols t k) b.body) (IsNamedStatement (context_of symbols t k))
-    (statement_named (context_of symbols t k) b.body known.plain) b.body known.statements
+    all_mapped (IsKnown (context_at symbols t k) b.body) (IsNamedStatement (context_at symbols t k))
+    (statement_named (context_at symbols t k) b.body known.plain) b.body known.statements
 
 pub accepted_statements_act : AcceptedStatementsAct
 accepted_statements_act source file symbols t accepted bytes k b there =
     let known = block_known source file symbols t accepted bytes k b there in
-    all_mapped (IsKnown (context_of symbols t k) b.body)
-    (λ (s : Statement). is_empty_statement s.code ≡ false → (n : ℕ) → DoesAsWritten (context_of symbols t k) b.body n s)
-    (does_as_written (context_of symbols t k) b.body known.plain) b.body known.statements
+    all_mapped (IsKnown (context_at symbols t k) b.body)
+    (λ (s : Statement). is_empty_statement s.code ≡ false → (n : ℕ) → DoesAsWritten (context_at symbols t k) b.body n s)
+    (does_as_written (context_at symbols t k) b.body known.plain) b.body known.statements

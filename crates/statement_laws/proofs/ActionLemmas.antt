@@ -2,6 +2,7 @@
 use Rattle.std.proofs.Common.{ℕ, ◌≡◌, ◌==◌, ◌%◌, ◌^◌, Bool, true, false, List, [], ◌∷◌, length, Option, Some, None, unwrap_or, Result, Ok, Err, ok_or, if◌then◌else◌, refl, ◌∙◌, ap}
 use Rattle.std.specs.FinMap as map
 use Rattle.std.proofs.lemmas.Bool.{false≢true}
+use Rattle.plc_base.specs.ErrorCodes as errors
 use Rattle.plc_base.specs.declared.instructions.Check.{Check}
 use Rattle.plc_base.specs.declared.instructions.Check.TheVariants as check
 use Rattle.plc_base.specs.declared.instructions.TimerKind.{TimerKind}
@@ -51,7 +52,7 @@ use Rattle.statement_laws.specs.Effects as own
 use Rattle.statement_laws.specs.Named.{NamedItem, ItemNumber, OpenBlock, OperandPlace}
 use Rattle.statement_laws.specs.Named as named
 use Rattle.statement_laws.specs.Reading as reading
-use Rattle.statement_laws.proofs.FlatLemmas.{bcd_same, flat_number, flat_of, flat_spot, is_read, loaded_same, number_same, numbered_same, place_same, tested_same}
+use Rattle.statement_laws.proofs.FlatLemmas.{bcd_same, flat_number, flat_of, flat_place, is_read, loaded_same, number_same, numbered_same, place_same, tested_same}
 use Rattle.statement_laws.proofs.PlaceLemmas.{standing_same, then_same, there_same, written_same}
 
 -- ---- results
@@ -84,12 +85,12 @@ checks_same with x p e =
     (tested_same x p e)
 
 -- O by whether it has an operand
-abbrev pub or_operation : NamedItem → Operation
-or_operation named.Nothing = operation.OrBare
-or_operation _ = operation.Check check.O
+abbrev pub or_operation_for : NamedItem → Operation
+or_operation_for named.Nothing = operation.OrBare
+or_operation_for _ = operation.Check check.O
 
 pub or_same : (x : NamedItem) (p : ExecState) → is_read x ≡ true
-    → effect.operation_effect (or_operation x) (flat_of x) p ≡ own.checks_or x p
+    → effect.operation_effect (or_operation_for x) (flat_of x) p ≡ own.checks_or x p
 unfolding effect.operation_effect
 or_same named.Nothing p e = refl
 or_same x p e = checks_same check.O x p e
@@ -113,14 +114,14 @@ unnest_same o p = by p.local.inner.brackets
     by (bracket ∷ rest) = refl
 
 -- what writes a bit, or transfers
-abbrev pub is_written : NamedItem → Bool
-is_written (named.Place spot) = true
-is_written (named.Parameter index w) = true
-is_written _ = false
+abbrev pub is_place_to_write : NamedItem → Bool
+is_place_to_write (named.Place place) = true
+is_place_to_write (named.Parameter index w) = true
+is_place_to_write _ = false
 
-written_place : (x : NamedItem) (p : ExecState) → is_written x ≡ true
+written_place : (x : NamedItem) (p : ExecState) → is_place_to_write x ≡ true
     → places.operand_location Writing (flat_of x) p.local p.memory ≡ reading.place_of_operand Writing x p
-written_place (named.Place spot) p e = place_same Writing (named.Place spot) p refl
+written_place (named.Place place) p e = place_same Writing (named.Place place) p refl
 written_place (named.Parameter index w) p e = place_same Writing (named.Parameter index w) p refl
 written_place _ p e = absurd (false≢true e)
 
@@ -140,7 +141,7 @@ put_same b value r p =
 
 -- an instruction that seeks a place to write to
 seek_same : (x : NamedItem) (p : ExecState) (f : Location → Result LocalMemory ℕ) (g : Location → Result ExecState ℕ)
-    → is_written x ≡ true → ((b : Location) → effect.on_local_memory p (f b) ≡ g b)
+    → is_place_to_write x ≡ true → ((b : Location) → effect.on_local_memory p (f b) ≡ g b)
     → effect.on_local_memory p (then_ok (places.operand_location Writing (flat_of x) p.local p.memory) f)
     ≡ then_ok (reading.place_of_operand Writing x p) g
 seek_same x p f g e h =
@@ -160,7 +161,7 @@ before_same b p f g h =
     (λ before. effect.on_local_memory p (f before)) g
     (ap (λ r. then_ok r (λ n. Ok (n == 1))) (there_same Writing b p)) h
 
-pub assign_same : (x : NamedItem) (p : ExecState) → is_written x ≡ true
+pub assign_same : (x : NamedItem) (p : ExecState) → is_place_to_write x ≡ true
     → effect.operation_effect operation.Assign (flat_of x) p ≡ own.assigns_power_flow x p
 unfolding effect.operation_effect bit_logic.bit_assigned
 assign_same x p e =
@@ -173,7 +174,7 @@ after_same : (flow value before : Bool)
 after_same true value before = refl
 after_same false value before = refl
 
-bit_set_same : (value : Bool) (x : NamedItem) (p : ExecState) → is_written x ≡ true
+bit_set_same : (value : Bool) (x : NamedItem) (p : ExecState) → is_place_to_write x ≡ true
     → effect.on_local_memory p (bit_logic.bit_set value (flat_of x) p.local p.memory) ≡ own.sets_bit value x p
 unfolding bit_logic.bit_set
 bit_set_same value x p e =
@@ -190,7 +191,7 @@ bit_set_same value x p e =
     (after_store (bit_logic.bit_after_set (own.power_flow_of p) value before) p.local.regs) p
     ∙ ap (writes b) (after_same (own.power_flow_of p) value before)))
 
-pub edge_same : (rising : Bool) (x : NamedItem) (p : ExecState) → is_written x ≡ true
+pub edge_same : (rising : Bool) (x : NamedItem) (p : ExecState) → is_place_to_write x ≡ true
     → effect.operation_effect (operation.Edge rising) (flat_of x) p ≡ own.tells_edge rising x p
 unfolding effect.operation_effect bit_logic.local_memory_after_edge
 edge_same rising x p e =
@@ -213,55 +214,55 @@ error_same code (Err BadBcd) = refl
 
 timer_same : (f : Timer → Option Timer) (n : ItemNumber) (p : ExecState)
     → effect.on_timers p (then_ok (values.number_named (flat_number 1 n) p.local p.memory)
-    (λ which. values.with_timer_error 0x26 (change_at_number f p.timers which)))
+    (λ which. values.with_timer_error errors.no_timer (change_at_number f p.timers which)))
     ≡ own.on_timer f n p
 timer_same f n p =
-    ap (λ z. effect.on_timers p (then_ok z (λ which. values.with_timer_error 0x26 (change_at_number f p.timers which))))
+    ap (λ z. effect.on_timers p (then_ok z (λ which. values.with_timer_error errors.no_timer (change_at_number f p.timers which))))
     (numbered_same 1 n p)
     ∙ by (reading.number_of_item n p)
   where
     changed : (r : Result (List Timer) TimerFault)
-        → effect.on_timers p (values.with_timer_error 0x26 r)
-        ≡ then_ok (own.or_error 0x26 r) (λ all. own.on_regs own.with_logic_string_ended (record p { timers = all }))
+        → effect.on_timers p (values.with_timer_error errors.no_timer r)
+        ≡ then_ok (own.or_error errors.no_timer r) (λ all. own.on_regs own.with_logic_string_ended (record p { timers = all }))
     changed (Ok all) = refl
     changed (Err NoNumber) = refl
     changed (Err BadBcd) = refl
 
     by : (z : Result ℕ ℕ)
-        → effect.on_timers p (then_ok z (λ which. values.with_timer_error 0x26 (change_at_number f p.timers which)))
-        ≡ then_ok z (λ which. then_ok (own.or_error 0x26 (change_at_number f p.timers which))
+        → effect.on_timers p (then_ok z (λ which. values.with_timer_error errors.no_timer (change_at_number f p.timers which)))
+        ≡ then_ok z (λ which. then_ok (own.or_error errors.no_timer (change_at_number f p.timers which))
         (λ all. own.on_regs own.with_logic_string_ended (record p { timers = all })))
     by (Ok which) = changed (change_at_number f p.timers which)
     by (Err e) = refl
 
 counter_same : (f : Counter → Option Counter) (n : ItemNumber) (p : ExecState)
     → effect.on_counters p (then_ok (values.number_named (flat_number 2 n) p.local p.memory)
-    (λ which. values.with_timer_error 0x27 (change_at_number f p.counters which)))
+    (λ which. values.with_timer_error errors.no_counter (change_at_number f p.counters which)))
     ≡ own.on_counter f n p
 counter_same f n p =
-    ap (λ z. effect.on_counters p (then_ok z (λ which. values.with_timer_error 0x27 (change_at_number f p.counters which))))
+    ap (λ z. effect.on_counters p (then_ok z (λ which. values.with_timer_error errors.no_counter (change_at_number f p.counters which))))
     (numbered_same 2 n p)
     ∙ by (reading.number_of_item n p)
   where
     changed : (r : Result (List Counter) TimerFault)
-        → effect.on_counters p (values.with_timer_error 0x27 r)
-        ≡ then_ok (own.or_error 0x27 r) (λ all. own.on_regs own.with_logic_string_ended (record p { counters = all }))
+        → effect.on_counters p (values.with_timer_error errors.no_counter r)
+        ≡ then_ok (own.or_error errors.no_counter r) (λ all. own.on_regs own.with_logic_string_ended (record p { counters = all }))
     changed (Ok all) = refl
     changed (Err NoNumber) = refl
     changed (Err BadBcd) = refl
 
     by : (z : Result ℕ ℕ)
-        → effect.on_counters p (then_ok z (λ which. values.with_timer_error 0x27 (change_at_number f p.counters which)))
-        ≡ then_ok z (λ which. then_ok (own.or_error 0x27 (change_at_number f p.counters which))
+        → effect.on_counters p (then_ok z (λ which. values.with_timer_error errors.no_counter (change_at_number f p.counters which)))
+        ≡ then_ok z (λ which. then_ok (own.or_error errors.no_counter (change_at_number f p.counters which))
         (λ all. own.on_regs own.with_logic_string_ended (record p { counters = all })))
     by (Ok which) = changed (change_at_number f p.counters which)
     by (Err e) = refl
 
 -- by the kind in the operand
-spot_kind : (spot : OperandPlace) → effect.kind_of_numbered_operand (flat_spot spot) ≡ None
-spot_kind (named.Fixed a w byte bit) = refl
-spot_kind (named.ByMemory a w from byte) = refl
-spot_kind (named.ByRegister a w register count) = refl
+place_kind : (place : OperandPlace) → effect.kind_of_numbered_operand (flat_place place) ≡ None
+place_kind (named.Fixed a w byte bit) = refl
+place_kind (named.ByMemory a w from byte) = refl
+place_kind (named.ByRegister a w register count) = refl
 
 number_kind : (kind : ℕ) (n : ItemNumber) → effect.kind_of_numbered_operand (flat_number kind n) ≡ Some kind
 number_kind kind (named.Written n) = refl
@@ -270,23 +271,23 @@ number_kind kind (named.InWord from byte) = refl
 -- what S, R, FR, start instructions and CU and CD take
 abbrev pub is_set : NamedItem → Bool
 is_set (named.Counter n) = true
-is_set x = is_written x
+is_set x = is_place_to_write x
 
 abbrev pub is_reset : NamedItem → Bool
 is_reset (named.Timer n) = true
 is_reset x = is_set x
 
-abbrev pub is_timer : NamedItem → Bool
-is_timer (named.Timer n) = true
-is_timer _ = false
+abbrev pub names_timer : NamedItem → Bool
+names_timer (named.Timer n) = true
+names_timer _ = false
 
-abbrev pub is_counter : NamedItem → Bool
-is_counter (named.Counter n) = true
-is_counter _ = false
+abbrev pub names_counter : NamedItem → Bool
+names_counter (named.Counter n) = true
+names_counter _ = false
 
 abbrev pub is_freed : NamedItem → Bool
 is_freed (named.Timer n) = true
-is_freed x = is_counter x
+is_freed x = names_counter x
 
 pub set_same : (x : NamedItem) (p : ExecState) → is_set x ≡ true
     → effect.operation_effect operation.Set (flat_of x) p ≡ own.sets_operand x p
@@ -294,9 +295,9 @@ unfolding effect.operation_effect timing.counter_set
 set_same (named.Counter n) p e =
     ap (λ k. effect.set_effect k (flat_number 2 n) p) (number_kind 2 n)
     ∙ counter_same (counters.set_counter (own.rlo_of p) (own.low_word p)) n p
-set_same (named.Place spot) p e =
-    ap (λ k. effect.set_effect k (flat_spot spot) p) (spot_kind spot)
-    ∙ bit_set_same true (named.Place spot) p refl
+set_same (named.Place place) p e =
+    ap (λ k. effect.set_effect k (flat_place place) p) (place_kind place)
+    ∙ bit_set_same true (named.Place place) p refl
 set_same (named.Parameter index w) p e = bit_set_same true (named.Parameter index w) p refl
 set_same _ p e = absurd (false≢true e)
 
@@ -309,9 +310,9 @@ reset_same (named.Timer n) p e =
 reset_same (named.Counter n) p e =
     ap (λ k. effect.reset_effect k (flat_number 2 n) p) (number_kind 2 n)
     ∙ counter_same (λ k. Some (counters.reset_counter (own.rlo_of p) k)) n p
-reset_same (named.Place spot) p e =
-    ap (λ k. effect.reset_effect k (flat_spot spot) p) (spot_kind spot)
-    ∙ bit_set_same false (named.Place spot) p refl
+reset_same (named.Place place) p e =
+    ap (λ k. effect.reset_effect k (flat_place place) p) (place_kind place)
+    ∙ bit_set_same false (named.Place place) p refl
 reset_same (named.Parameter index w) p e = bit_set_same false (named.Parameter index w) p refl
 reset_same _ p e = absurd (false≢true e)
 
@@ -326,21 +327,21 @@ free_same (named.Counter n) p e =
     ∙ counter_same (λ k. Some (counters.free_counter (own.rlo_of p) k)) n p
 free_same _ p e = absurd (false≢true e)
 
-pub start_same : (how : TimerKind) (x : NamedItem) (p : ExecState) → is_timer x ≡ true
+pub start_same : (how : TimerKind) (x : NamedItem) (p : ExecState) → names_timer x ≡ true
     → effect.operation_effect (operation.Start how) (flat_of x) p ≡ own.starts_timer how x p
 unfolding effect.operation_effect timing.timer_start
 start_same how (named.Timer n) p e =
     timer_same (timers.start_timer how (own.rlo_of p) (own.low_word p)) n p
 start_same how _ p e = absurd (false≢true e)
 
-pub up_same : (x : NamedItem) (p : ExecState) → is_counter x ≡ true
+pub up_same : (x : NamedItem) (p : ExecState) → names_counter x ≡ true
     → effect.operation_effect operation.CountUp (flat_of x) p ≡ own.counts_counter counters.count_up x p
 unfolding effect.operation_effect timing.counting_up
 up_same (named.Counter n) p e =
     counter_same (λ k. Some (counters.count_up (own.rlo_of p) k)) n p
 up_same _ p e = absurd (false≢true e)
 
-pub down_same : (x : NamedItem) (p : ExecState) → is_counter x ≡ true
+pub down_same : (x : NamedItem) (p : ExecState) → names_counter x ≡ true
     → effect.operation_effect operation.CountDown (flat_of x) p ≡ own.counts_counter counters.count_down x p
 unfolding effect.operation_effect timing.counting_down
 down_same (named.Counter n) p e =
@@ -371,11 +372,11 @@ end_zone_same o p = by p.local.inner.relay.zones
 -- ---- loading and transferring
 
 -- the operation of L
-abbrev pub load_operation : NamedItem → Operation
-load_operation named.StatusWord = operation.LoadStatus
-load_operation (named.Opened what) = operation.LoadOpenBlock
-load_operation named.SecondRegister = operation.LoadOpenBlock
-load_operation _ = operation.Load
+abbrev pub load_operation_for : NamedItem → Operation
+load_operation_for named.StatusWord = operation.LoadStatus
+load_operation_for (named.Opened what) = operation.LoadOpenBlock
+load_operation_for named.SecondRegister = operation.LoadOpenBlock
+load_operation_for _ = operation.Load
 
 length_same : (o : Option (List ℕ)) → data_blocks.len_of o ≡ own.length_of_data_block o
 length_same None = refl
@@ -401,7 +402,7 @@ is_loaded (named.Opened what) = true
 is_loaded x = is_read x
 
 pub load_same : (x : NamedItem) (p : ExecState) → is_loaded x ≡ true
-    → effect.operation_effect (load_operation x) (flat_of x) p ≡ own.loads_operand x p
+    → effect.operation_effect (load_operation_for x) (flat_of x) p ≡ own.loads_operand x p
 unfolding effect.operation_effect loads.status_loaded data_blocks.loading_open_block data_blocks.open_block_fact
     reading.number_to_load reading.number_of_operand
 load_same named.StatusWord p e = refl
@@ -425,7 +426,7 @@ load_bcd_same x p =
     ∙ ap (λ r. then_ok r (λ n. Ok (own.with_regs (own.with_loaded n p.local.regs) p)))
     (bcd_same x p)
 
-puts_same : (n : ℕ) (x : NamedItem) (p : ExecState) → is_written x ≡ true
+puts_same : (n : ℕ) (x : NamedItem) (p : ExecState) → is_place_to_write x ≡ true
     → effect.on_local_memory p (loads.number_transferred n (flat_of x) p.local p.memory) ≡ own.puts_number n x p
 unfolding loads.number_transferred
 puts_same n x p e =
@@ -434,22 +435,22 @@ puts_same n x p e =
     (λ b. written_same b (n % 2 ^ bit_count b.width) p)
 
 -- the operation of T, and what it takes
-abbrev pub transfer_operation : NamedItem → Operation
-transfer_operation named.StatusWord = operation.TransferStatus
-transfer_operation (named.Opened what) = operation.TransferStatus
-transfer_operation named.SecondRegister = operation.TransferStatus
-transfer_operation _ = operation.Transfer
+abbrev pub transfer_operation_for : NamedItem → Operation
+transfer_operation_for named.StatusWord = operation.TransferStatus
+transfer_operation_for (named.Opened what) = operation.TransferStatus
+transfer_operation_for named.SecondRegister = operation.TransferStatus
+transfer_operation_for _ = operation.Transfer
 
 abbrev pub is_transferred : NamedItem → Bool
 is_transferred named.StatusWord = true
-is_transferred x = is_written x
+is_transferred x = is_place_to_write x
 
 pub transfer_same : (x : NamedItem) (p : ExecState) → is_transferred x ≡ true
-    → effect.operation_effect (transfer_operation x) (flat_of x) p ≡ own.transfers_accumulator x p
+    → effect.operation_effect (transfer_operation_for x) (flat_of x) p ≡ own.transfers_accumulator x p
 unfolding effect.operation_effect loads.status_transferred
 transfer_same named.StatusWord p e = refl
-transfer_same (named.Place spot) p e =
-    puts_same (if own.is_relay_closed p then 0 else p.local.regs.a1) (named.Place spot) p refl
+transfer_same (named.Place place) p e =
+    puts_same (if own.is_relay_closed p then 0 else p.local.regs.a1) (named.Place place) p refl
 transfer_same (named.Parameter index w) p e =
     puts_same (if own.is_relay_closed p then 0 else p.local.regs.a1) (named.Parameter index w) p refl
 transfer_same _ p e = absurd (false≢true e)
@@ -460,7 +461,7 @@ transfer_same _ p e = absurd (false≢true e)
 abbrev pub is_address : NamedItem → Bool
 is_address named.Nothing = true
 is_address (named.Pointer value) = true
-is_address (named.Place spot) = true
+is_address (named.Place place) = true
 is_address _ = false
 
 address_same : (x : NamedItem) (p : ExecState) → is_address x ≡ true
@@ -502,8 +503,8 @@ lar1_same named.SecondRegister p e = refl
 lar1_same named.Nothing p e = address_to (λ n. record p.local.regs { ar1 = n }) named.Nothing p e
 lar1_same (named.Pointer value) p e =
     address_to (λ n. record p.local.regs { ar1 = n }) (named.Pointer value) p e
-lar1_same (named.Place spot) p e =
-    address_to (λ n. record p.local.regs { ar1 = n }) (named.Place spot) p e
+lar1_same (named.Place place) p e =
+    address_to (λ n. record p.local.regs { ar1 = n }) (named.Place place) p e
 lar1_same _ p e = absurd (false≢true e)
 
 pub lar2_same : (x : NamedItem) (p : ExecState) → is_address x ≡ true
@@ -514,7 +515,7 @@ lar2_same x p e = address_to (λ n. record p.local.regs { ar2 = n }) x p e
 -- TAR1 and TAR2
 abbrev pub is_address_place : NamedItem → Bool
 is_address_place named.Nothing = true
-is_address_place (named.Place spot) = true
+is_address_place (named.Place place) = true
 is_address_place _ = false
 
 puts_address_same : (n : ℕ) (x : NamedItem) (p : ExecState) → is_address_place x ≡ true
@@ -544,7 +545,7 @@ pub tar1_same : (x : NamedItem) (p : ExecState) → is_first_address_place x ≡
 unfolding effect.operation_effect pointer.pointer_effect
 tar1_same named.SecondRegister p e = refl
 tar1_same named.Nothing p e = puts_address_same p.local.regs.ar1 named.Nothing p e
-tar1_same (named.Place spot) p e = puts_address_same p.local.regs.ar1 (named.Place spot) p e
+tar1_same (named.Place place) p e = puts_address_same p.local.regs.ar1 (named.Place place) p e
 tar1_same _ p e = absurd (false≢true e)
 
 pub tar2_same : (x : NamedItem) (p : ExecState) → is_address_place x ≡ true
@@ -576,9 +577,9 @@ add_ar2_same _ p e = absurd (false≢true e)
 
 -- ---- data blocks
 
-abbrev pub is_data_block : NamedItem → Bool
-is_data_block (named.DataBlock di n) = true
-is_data_block _ = false
+abbrev pub names_data_block : NamedItem → Bool
+names_data_block (named.DataBlock di n) = true
+names_data_block _ = false
 
 opened_same : (di : Bool) (n : ℕ) (p : ExecState)
     → effect.on_local p (data_blocks.opened_if (data_blocks.is_block_loaded n p.memory) (if di then 2 else 1) n p.local)
@@ -586,13 +587,13 @@ opened_same : (di : Bool) (n : ℕ) (p : ExecState)
 opened_same true n p = by (data_blocks.is_block_loaded n p.memory)
   where
     by : (b : Bool) → effect.on_local p (data_blocks.opened_if b 2 n p.local)
-        ≡ (if b then Ok (own.with_open true n p) else Err 0x3A)
+        ≡ (if b then Ok (own.with_open true n p) else Err errors.no_data_block)
     by true = refl
     by false = refl
 opened_same false n p = by (data_blocks.is_block_loaded n p.memory)
   where
     by : (b : Bool) → effect.on_local p (data_blocks.opened_if b 1 n p.local)
-        ≡ (if b then Ok (own.with_open false n p) else Err 0x3A)
+        ≡ (if b then Ok (own.with_open false n p) else Err errors.no_data_block)
     by true = refl
     by false = refl
 
@@ -601,7 +602,7 @@ own_then : {A : Type 0} (p : ExecState) (r : Result A ℕ) (f : A → Result Loc
 own_then p (Ok x) f = refl
 own_then p (Err e) f = refl
 
-pub open_same : (x : NamedItem) (p : ExecState) → is_data_block x ≡ true
+pub open_same : (x : NamedItem) (p : ExecState) → names_data_block x ≡ true
     → effect.operation_effect operation.OpenBlock (flat_of x) p ≡ own.opens_data_block x p
 unfolding effect.operation_effect data_blocks.block_opened_by reading.number_of_item
 open_same (named.DataBlock di (named.Written n)) p e = opened_same di n p
@@ -618,8 +619,8 @@ open_same _ p e = absurd (false≢true e)
 -- ---- number instructions
 
 pub bcd_number_same : (f : Regs → Option Regs) (p : ExecState)
-    → effect.effect_on_regs p (ok_or (f p.local.regs) 0x21) ≡ own.on_bcd f p
-bcd_number_same f p = by (ok_or (f p.local.regs) 0x21)
+    → effect.effect_on_regs p (ok_or (f p.local.regs) errors.bad_bcd) ≡ own.on_bcd f p
+bcd_number_same f p = by (ok_or (f p.local.regs) errors.bad_bcd)
   where
     by : (r : Result Regs ℕ) → effect.effect_on_regs p r ≡ then_ok r (λ z. Ok (own.with_regs z p))
     by (Ok z) = refl
@@ -630,14 +631,14 @@ abbrev pub is_constant : NamedItem → Bool
 is_constant (named.Constant value) = true
 is_constant _ = false
 
-abbrev pub is_count : NamedItem → Bool
-is_count named.Nothing = true
-is_count x = is_constant x
+abbrev pub is_shift_count : NamedItem → Bool
+is_shift_count named.Nothing = true
+is_shift_count x = is_constant x
 
 -- + by its constant
-abbrev pub add_operation : NamedItem → Operation
-add_operation (named.Constant (literal.Long value)) = operation.Add adding.Dword
-add_operation _ = operation.Add adding.Word
+abbrev pub add_operation_for : NamedItem → Operation
+add_operation_for (named.Constant (literal.Long value)) = operation.Add adding.Dword
+add_operation_for _ = operation.Add adding.Word
 
 pub inc_same : (x : NamedItem) (p : ExecState) → is_constant x ≡ true
     → effect.operation_effect (operation.Add adding.Inc) (flat_of x) p
@@ -654,21 +655,21 @@ dec_same (named.Constant value) p e = refl
 dec_same _ p e = absurd (false≢true e)
 
 pub add_same : (x : NamedItem) (p : ExecState) → is_constant x ≡ true
-    → effect.operation_effect (add_operation x) (flat_of x) p ≡ own.on_regs (own.adds_by x) p
+    → effect.operation_effect (add_operation_for x) (flat_of x) p ≡ own.on_regs (own.adds_by x) p
 unfolding effect.operation_effect numbers.with_constant
 add_same (named.Constant (literal.Long value)) p e = refl
 add_same (named.Constant _) p e = refl
 add_same _ p e = absurd (false≢true e)
 
 -- word logic and shifts by the constant that is there
-constant_same : (w : ℕ) (x : NamedItem) → is_count x ≡ true
+constant_same : (w : ℕ) (x : NamedItem) → is_shift_count x ≡ true
     → numbers.constant_in w (flat_of x) ≡ own.constant_of_width w x
 constant_same w named.Nothing e = refl
 constant_same w (named.Constant value) e = refl
 constant_same w _ e = absurd (false≢true e)
 
 pub logic_same : (what : Logic) (w : ℕ) (f : Option ℕ → Regs → Regs) (x : NamedItem) (p : ExecState)
-    → is_count x ≡ true
+    → is_shift_count x ≡ true
     → ((o : Operand) → numbers.word_logic_effect what o p.local.regs ≡ f (numbers.constant_in w o) p.local.regs)
     → effect.operation_effect (operation.Logic what) (flat_of x) p ≡ own.on_regs (f (own.constant_of_width w x)) p
 unfolding effect.operation_effect
@@ -677,7 +678,7 @@ logic_same what w f x p e h =
     (h (flat_of x) ∙ ap (λ k. f k p.local.regs) (constant_same w x e))
 
 pub shift_same : (what : Shift) (f : ℕ → Regs → Regs) (x : NamedItem) (p : ExecState)
-    → is_count x ≡ true
+    → is_shift_count x ≡ true
     → ((o : Operand) → numbers.shift_effect what o p.local.regs
     ≡ f (unwrap_or (numbers.constant_in 8 o) (p.local.regs.a2 % 2 ^ 8)) p.local.regs)
     → effect.operation_effect (operation.Shift what) (flat_of x) p ≡ own.on_regs (f (own.shift_count x p)) p

@@ -5,6 +5,7 @@ use Rattle.std.specs.Option.{option_map, option_and_then}
 use Rattle.std.proofs.lemmas.Bool.{false≢true}
 use Rattle.std.proofs.lemmas.List.{map-append}
 use Rattle.std.proofs.lemmas.Option.{same_Some}
+use Rattle.plc_base.specs.ErrorCodes as errors
 use Rattle.plc_base.specs.Folding.{upper_case_name}
 use Rattle.plc_base.specs.Kinds.{is_function, is_function_block, is_system_function}
 use Rattle.plc_base.specs.declared.blocks.BlockId.{BlockId}
@@ -46,7 +47,7 @@ use Rattle.stl_types.specs.Resolution.{resolution_of}
 use Rattle.stl_types.specs.declared.parameters.Formal.{Formal}
 use Rattle.stl_types.specs.declared.views.Register.TheVariants as register
 use Rattle.stl_types.specs.declared.views.ResolvedOperand.{ResolvedOperand}
-use Rattle.stl_types.specs.declared.views.ResolvedOperand.TheVariants as view
+use Rattle.stl_types.specs.declared.views.ResolvedOperand.TheVariants as resolved
 use Rattle.stl_codegen.specs.Instruction.{source_block_at, call_instr, in_parameter_order, instr_by, instruction, passings_to, resolved_instr, return_last, operand_instr}
 use Rattle.stl_codegen.specs.Operations.{call_operation_of, jump_operation_of}
 use Rattle.stl_codegen.specs.Passed.{passed_actual, passed_place, passed_resolution, passed_by_operand, passings_from, with_index}
@@ -69,7 +70,7 @@ use Rattle.statement_laws.specs.Named as named
 use Rattle.statement_laws.specs.Operands.{block_id_of_name, block_number, named_fixed_place, has_result, named_by, place_by, with_instance}
 use Rattle.statement_laws.specs.Reading as reading
 use Rattle.statement_laws.proofs.PlaceLemmas.{absent_same, fixed_same, of_area, then_same}
-use Rattle.statement_laws.proofs.SeenLemmas.{about, bits_same, block_same, resolved_parts, view_named}
+use Rattle.statement_laws.proofs.ResolutionLemmas.{about, bits_same, block_same, resolved_parts, view_named}
 use Rattle.statement_laws.proofs.VariableLemmas.{view_same}
 
 -- ---- what a parameter stands for
@@ -116,7 +117,7 @@ in_block_bound : (access : Access) (n : ℕ) (w : Width) (byte bit : ℕ) (p : E
     ≡ own.binding_of access (named.PlaceIn n w byte bit) p
 unfolding bindings.bound_actual own.binding_of
 in_block_bound access n w byte bit p =
-    ap (λ r. if data_blocks.is_block_loaded n p.memory then r else Err 0x3A)
+    ap (λ r. if data_blocks.is_block_loaded n p.memory then r else Err errors.no_data_block)
     (bound_at_same access (reading.location_of_parts area.Db n byte bit w 0) p)
 
 access_same : (param : Param) → bindings.param_access param ≡ own.access_of param
@@ -191,24 +192,24 @@ passed_or other (Some x) = flat_passed x
 
 plain_passed : (o : Operand) (v : ResolvedOperand)
     → passed_by_operand o v ≡ passed_or (passed_by_operand o v) (view_named None v)
-plain_passed o (view.Direct place w side declared) =
+plain_passed o (resolved.Direct place w side declared) =
     place_passed place.area place.number w place.byte place.bit
-plain_passed o (view.NumberBy numbered.Timer from byte) = refl
-plain_passed o (view.NumberBy numbered.Counter from byte) = refl
-plain_passed o (view.NumberBy numbered.Db from byte) = refl
-plain_passed o (view.NumberBy numbered.Di from byte) = refl
-plain_passed o (view.Register register.Stw) = refl
-plain_passed o (view.Register register.Dblg) = refl
-plain_passed o (view.Register register.Dbno) = refl
-plain_passed o (view.Register register.Dilg) = refl
-plain_passed o (view.Register register.Dino) = refl
-plain_passed o (view.Register register.Ar2) = refl
+plain_passed o (resolved.NumberBy numbered.Timer from byte) = refl
+plain_passed o (resolved.NumberBy numbered.Counter from byte) = refl
+plain_passed o (resolved.NumberBy numbered.Db from byte) = refl
+plain_passed o (resolved.NumberBy numbered.Di from byte) = refl
+plain_passed o (resolved.Register register.Stw) = refl
+plain_passed o (resolved.Register register.Dblg) = refl
+plain_passed o (resolved.Register register.Dbno) = refl
+plain_passed o (resolved.Register register.Dilg) = refl
+plain_passed o (resolved.Register register.Dino) = refl
+plain_passed o (resolved.Register register.Ar2) = refl
 plain_passed o _ = refl
 
 constant_passed : (value : Literal) (v : ResolvedOperand)
     → passed_by_operand (operand.Constant value) v
     ≡ passed_or (passed_by_operand (operand.Constant value) v) (view_named (Some value) v)
-constant_passed value view.Constant = ap (λ b. Some (passed.Literal b)) (bits_same value)
+constant_passed value resolved.Constant = ap (λ b. Some (passed.Literal b)) (bits_same value)
 constant_passed value _ = refl
 
 view_passed : (o : Operand) (v : ResolvedOperand)
@@ -218,36 +219,36 @@ view_passed o v = plain_passed o v
 
 -- an actual parameter that resolves and is named
 actual_passed : (c : Context) (a : Actual) → (h : IsNamedActual c a)
-    → passed_resolution a.value (resolution_of c a.value) ≡ flat_passed h.named
+    → passed_resolution a.value (resolution_of c a.value) ≡ flat_passed h.item
 actual_passed c a h =
-    ap (passed_resolution a.value) h.seen ∙ view_passed a.value h.view
-    ∙ ap (passed_or (passed_by_operand a.value h.view)) (view_same c a.value h.view h.named h.seen h.names)
+    ap (passed_resolution a.value) h.resolves ∙ view_passed a.value h.resolved_value
+    ∙ ap (passed_or (passed_by_operand a.value h.resolved_value)) (view_same c a.value h.resolved_value h.item h.resolves h.names)
 
 -- ---- the parameters in their order
 
-abbrev Known : Context → Option Actual → Type 0
-Known c None = Unit {0}
-Known c (Some a) = IsNamedActual c a
+abbrev IsKnownActual : Context → Option Actual → Type 0
+IsKnownActual c None = Unit {0}
+IsKnownActual c (Some a) = IsNamedActual c a
 
 found_same : (c : Context) (name : List ℕ) (actuals : List Actual)
     → AllByRecursion (IsNamedActual c) actuals
     → (find (λ (a : Actual). bytes_eq (upper_case_name a.name) name) actuals ≡ own.actual_named name actuals)
-    × Known c (own.actual_named name actuals)
+    × IsKnownActual c (own.actual_named name actuals)
 found_same c name [] h = (refl, tt)
 found_same c name (a ∷ actuals) h =
     by (bytes_eq (upper_case_name a.name) name) (found_same c name actuals h.1)
   where
     by : (b : Bool)
         → (find (λ (a : Actual). bytes_eq (upper_case_name a.name) name) actuals ≡ own.actual_named name actuals)
-        × Known c (own.actual_named name actuals)
+        × IsKnownActual c (own.actual_named name actuals)
         → ((if b then Some a else find (λ (a : Actual). bytes_eq (upper_case_name a.name) name) actuals)
         ≡ (if b then Some a else own.actual_named name actuals))
-        × Known c (if b then Some a else own.actual_named name actuals)
+        × IsKnownActual c (if b then Some a else own.actual_named name actuals)
     by true more = (refl, h.0)
     by false more = more
 
 one_same : (c : Context) (params : List Param) (index : ℕ) (o : Option Actual) (rest : List Passing)
-    (before : List Binding) (p : ExecState) → Known c o
+    (before : List Binding) (p : ExecState) → IsKnownActual c o
     → bindings.bound_params params (passed_actual c index o ++ rest) before p.local p.memory
     ≡ own.binds_parameter (own.named_in_call c o) (slice_get params index) index before p
     (λ more. bindings.bound_params params rest more p.local p.memory)
@@ -255,7 +256,7 @@ one_same c params index None rest before p known = refl
 one_same c params index (Some a) rest before p known =
     ap (λ z. bindings.bound_params params (with_index index z ++ rest) before p.local p.memory)
     (actual_passed c a known)
-    ∙ passing_same params index known.named rest before p
+    ∙ passing_same params index known.item rest before p
     ∙ ap (λ z. own.binds_parameter (option_and_then own.if_passable z) (slice_get params index) index before p
     (λ more. bindings.bound_params params rest more p.local p.memory)) (sym known.names)
 
@@ -468,21 +469,21 @@ called_or None = false
 called_or (Some x) = is_called_name x
 
 called_view : (v : ResolvedOperand) (id : BlockId) (instance : Option ℕ)
-    → view_named None v ≡ Some (named.Called id instance) → v ≡ view.Called id instance
-called_view (view.Called other number) id instance e = cc
-called_view (view.Direct place w side declared) id instance e =
+    → view_named None v ≡ Some (named.Called id instance) → v ≡ resolved.Called id instance
+called_view (resolved.Called other number) id instance e = cc
+called_view (resolved.Direct place w side declared) id instance e =
     absurd (false≢true (sym (place_not_called place.area place.number w place.byte place.bit)
     ∙ ap called_or e))
-called_view (view.NumberBy numbered.Timer from byte) id instance e = absurd cc
-called_view (view.NumberBy numbered.Counter from byte) id instance e = absurd cc
-called_view (view.NumberBy numbered.Db from byte) id instance e = absurd cc
-called_view (view.NumberBy numbered.Di from byte) id instance e = absurd cc
-called_view (view.Register register.Stw) id instance e = absurd cc
-called_view (view.Register register.Dblg) id instance e = absurd cc
-called_view (view.Register register.Dbno) id instance e = absurd cc
-called_view (view.Register register.Dilg) id instance e = absurd cc
-called_view (view.Register register.Dino) id instance e = absurd cc
-called_view (view.Register register.Ar2) id instance e = absurd cc
+called_view (resolved.NumberBy numbered.Timer from byte) id instance e = absurd cc
+called_view (resolved.NumberBy numbered.Counter from byte) id instance e = absurd cc
+called_view (resolved.NumberBy numbered.Db from byte) id instance e = absurd cc
+called_view (resolved.NumberBy numbered.Di from byte) id instance e = absurd cc
+called_view (resolved.Register register.Stw) id instance e = absurd cc
+called_view (resolved.Register register.Dblg) id instance e = absurd cc
+called_view (resolved.Register register.Dbno) id instance e = absurd cc
+called_view (resolved.Register register.Dilg) id instance e = absurd cc
+called_view (resolved.Register register.Dino) id instance e = absurd cc
+called_view (resolved.Register register.Ar2) id instance e = absurd cc
 called_view _ id instance e = absurd cc
 
 -- ---- the call
@@ -570,7 +571,7 @@ calls_act c body n s v name db id instance callee is o e names known actuals pro
     same : SameCall s.code how
     same = (call_same s.code is).1
 
-    viewed : v ≡ view.Called id instance
+    viewed : v ≡ resolved.Called id instance
     viewed =
         called_view v id instance
         (view_same c (operand.Called name db) v (named.Called id instance)

@@ -17,92 +17,92 @@ use Rattle.stl_types.specs.Forms.{form_of}
 use Rattle.stl_types.specs.Operands.{rule_of_resolved_operand, takes_operand}
 use Rattle.stl_types.specs.Resolution.{resolution_of_opened_block, resolution_of, resolution_of_symbol, resolved_target}
 use Rattle.stl_types.specs.declared.forms.OperandRule.{OperandRule}
-use Rattle.stl_types.specs.declared.forms.OperandRule.TheVariants as form
+use Rattle.stl_types.specs.declared.forms.OperandRule.TheVariants as operand_rules
 use Rattle.stl_types.specs.declared.views.Resolution.TheVariants.{Resolved}
 use Rattle.stl_types.specs.declared.views.ResolvedOperand.{ResolvedOperand}
-use Rattle.stl_types.specs.declared.views.ResolvedOperand.TheVariants as view
+use Rattle.stl_types.specs.declared.views.ResolvedOperand.TheVariants as resolved
 use Rattle.statement_laws.specs.Laws.{OperandsAreNamed, has_fixed_name}
 use Rattle.statement_laws.specs.Named.{NamedItem}
 use Rattle.statement_laws.specs.Named as named
 use Rattle.statement_laws.specs.Operands.{block_number, named_by, place_by, register_named, target_named}
 use Rattle.statement_laws.specs.Operands as own
-use Rattle.statement_laws.proofs.RuleLemmas.{refused}
-use Rattle.statement_laws.proofs.SeenLemmas.{about, number_known, resolved_parts, resolved_same, rule_by}
+use Rattle.statement_laws.proofs.RuleLemmas.{some_is_not_none}
+use Rattle.statement_laws.proofs.ResolutionLemmas.{about, number_known, resolved_parts, resolved_same, rule_with_constant}
 
--- something is there
-abbrev There : Option NamedItem → Type 0
-There o = (x : NamedItem) × (o ≡ Some x)
+-- something is named
+abbrev pub IsSomeItem : Option NamedItem → Type 0
+IsSomeItem o = (x : NamedItem) × (o ≡ Some x)
 
-there : (o : Option NamedItem) → is_some o ≡ true → There o
+there : (o : Option NamedItem) → is_some o ≡ true → IsSomeItem o
 there None e = absurd cc
 there (Some x) e = (x, refl)
 
 -- no instruction acts on the symbol of a block
-block_refused : (f : OperandRule) → rule_of_resolved_operand f view.Block ≡ Some 25
+block_refused : (f : OperandRule) → rule_of_resolved_operand f resolved.Block ≡ Some 25
 unfolding rule_of_resolved_operand takes_operand
-block_refused form.Bare = refl
-block_refused form.ReadsBit = refl
-block_refused form.ReadsBitOrBare = refl
-block_refused form.WritesBit = refl
-block_refused form.Sets = refl
-block_refused form.Resets = refl
-block_refused form.Loads = refl
-block_refused form.Transfers = refl
-block_refused form.LoadsBcd = refl
-block_refused form.LoadsAr1 = refl
-block_refused form.LoadsAr2 = refl
-block_refused form.StoresAr1 = refl
-block_refused form.StoresAr2 = refl
-block_refused form.AddsToAr = refl
-block_refused (form.Counts most) = refl
-block_refused (form.Shifts most) = refl
-block_refused form.Adds = refl
-block_refused (form.Combines kind) = refl
-block_refused form.Jumps = refl
-block_refused form.StartsTimer = refl
-block_refused form.Enables = refl
-block_refused form.StepsCounter = refl
-block_refused form.Calls = refl
-block_refused form.Opens = refl
+block_refused operand_rules.Bare = refl
+block_refused operand_rules.ReadsBit = refl
+block_refused operand_rules.ReadsBitOrBare = refl
+block_refused operand_rules.WritesBit = refl
+block_refused operand_rules.Sets = refl
+block_refused operand_rules.Resets = refl
+block_refused operand_rules.Loads = refl
+block_refused operand_rules.Transfers = refl
+block_refused operand_rules.LoadsBcd = refl
+block_refused operand_rules.LoadsAr1 = refl
+block_refused operand_rules.LoadsAr2 = refl
+block_refused operand_rules.StoresAr1 = refl
+block_refused operand_rules.StoresAr2 = refl
+block_refused operand_rules.AddsToAr = refl
+block_refused (operand_rules.Counts most) = refl
+block_refused (operand_rules.Shifts most) = refl
+block_refused operand_rules.Adds = refl
+block_refused (operand_rules.Combines kind) = refl
+block_refused operand_rules.Jumps = refl
+block_refused operand_rules.StartsTimer = refl
+block_refused operand_rules.Enables = refl
+block_refused operand_rules.StepsCounter = refl
+block_refused operand_rules.Calls = refl
+block_refused operand_rules.Opens = refl
 
 -- what names nothing: a block's symbol, and what isn't elementary
 abbrev pub has_no_name : ResolvedOperand → Bool
-has_no_name view.Block = true
-has_no_name view.Composite = true
-has_no_name view.Date = true
+has_no_name resolved.Block = true
+has_no_name resolved.Composite = true
+has_no_name resolved.Date = true
 has_no_name _ = false
 
 taken_named : (f : OperandRule) (v : ResolvedOperand) → rule_of_resolved_operand f v ≡ None → has_no_name v ≡ false
 unfolding rule_of_resolved_operand
-taken_named f view.Block e = absurd (refused (sym (block_refused f) ∙ e))
-taken_named f view.Composite e = absurd (refused e)
-taken_named f view.Date e = absurd (refused e)
+taken_named f resolved.Block e = absurd (some_is_not_none (sym (block_refused f) ∙ e))
+taken_named f resolved.Composite e = absurd (some_is_not_none e)
+taken_named f resolved.Date e = absurd (some_is_not_none e)
 taken_named f _ e = refl
 
 -- what an instruction takes is none of them
 pub name_left : (c : Context) (f : OperandRule) (o : Operand) (v : ResolvedOperand)
-    → rule_by f (about o) v ≡ None → resolution_of c o ≡ Resolved v → has_no_name v ≡ false
+    → rule_with_constant f (about o) v ≡ None → resolution_of c o ≡ Resolved v → has_no_name v ≡ false
 unfolding resolution_of
-name_left c f (operand.Constant value) v r e = ap has_no_name (sym (resolved_same view.Constant v e))
+name_left c f (operand.Constant value) v r e = ap has_no_name (sym (resolved_same resolved.Constant v e))
 name_left c f _ v r e = taken_named f v r
 
 target_there : (t : Target) (v : ResolvedOperand) → has_no_name v ≡ false
-    → Resolved (resolved_target t) ≡ Resolved v → There (target_named t)
+    → Resolved (resolved_target t) ≡ Resolved v → IsSomeItem (target_named t)
 target_there (target.Variable place width) v r e = (own.named_place place width, refl)
 target_there (target.Timer number) v r e = (named.Timer (named.Written number), refl)
 target_there (target.Counter number) v r e = (named.Counter (named.Written number), refl)
-target_there (target.Block id) v r e = absurd (false≢true (sym (ap has_no_name (resolved_same view.Block v e) ∙ r)))
+target_there (target.Block id) v r e = absurd (false≢true (sym (ap has_no_name (resolved_same resolved.Block v e) ∙ r)))
 
 symbol_there : (o : Option Symbol) (v : ResolvedOperand) → has_no_name v ≡ false
     → resolution_of_symbol o ≡ Resolved v
-    → There (option_and_then target_named (option_map (λ s. s.target) o))
+    → IsSomeItem (option_and_then target_named (option_map (λ s. s.target) o))
 symbol_there None v r e = absurd cc
 symbol_there (Some s) v r e = target_there s.target v r e
 
 in_block_there : (c : Context) (name : BlockName) (a : Letters) (w : Width) (byte bit : ℕ)
     (v : ResolvedOperand) (o : Option ℕ) → data_number c name ≡ o
     → address_in_block o a w byte bit ≡ Resolved v
-    → There (option_map (λ number. place_by (own.area_by_letters a) number w byte bit) (block_number c name))
+    → IsSomeItem (option_map (λ number. place_by (own.area_by_letters a) number w byte bit) (block_number c name))
 in_block_there c name a w byte bit v None d e = absurd cc
 in_block_there c name a w byte bit v (Some number) d e = (
   place_by (own.area_by_letters a) number w byte bit,
@@ -111,7 +111,7 @@ in_block_there c name a w byte bit v (Some number) d e = (
 
 opened_there : (c : Context) (di : Bool) (name : BlockName) (v : ResolvedOperand) (o : Option ℕ)
     → data_number c name ≡ o → resolution_of_opened_block di o ≡ Resolved v
-    → There (option_map (λ number. named.DataBlock di (named.Written number)) (block_number c name))
+    → IsSomeItem (option_map (λ number. named.DataBlock di (named.Written number)) (block_number c name))
 opened_there c di name v None d e = absurd cc
 opened_there c di name v (Some number) d e = (
   named.DataBlock di (named.Written number),
@@ -120,7 +120,7 @@ opened_there c di name v (Some number) d e = (
 
 pub named_there : (c : Context) (o : Operand) (v : ResolvedOperand)
     → has_fixed_name o ≡ true → has_no_name v ≡ false → resolution_of c o ≡ Resolved v
-    → There (named_by c o)
+    → IsSomeItem (named_by c o)
 unfolding resolution_of named_by
 named_there c operand.Nothing v h r e = there _ refl
 named_there c (operand.Direct None a w byte bit) v h r e = there _ refl

@@ -1,6 +1,7 @@
 -- What an operand of the code reads as, where it stands for what is named.
 use Rattle.std.proofs.Common.{ℕ, ◌≡◌, ◌==◌, Bool, true, false, List, slice_get, Option, Some, None, Result, Ok, Err, ok_or, option_map, if◌then◌else◌, refl, ◌∙◌, ap}
 use Rattle.std.proofs.lemmas.Bool.{false≢true}
+use Rattle.plc_base.specs.ErrorCodes as errors
 use Rattle.plc_base.specs.declared.flags.Flag.{Flag}
 use Rattle.plc_base.specs.declared.flags.Flag.TheVariants as flag
 use Rattle.plc_base.specs.declared.places.Area.{Area}
@@ -28,10 +29,10 @@ use Rattle.statement_laws.proofs.PlaceLemmas.{crossing_same, fixed_same, pointed
 
 -- ---- operands of the code
 
-abbrev pub flat_spot : OperandPlace → Operand
-flat_spot (named.Fixed a w byte bit) = flat.Direct a w byte bit
-flat_spot (named.ByMemory a w from byte) = flat.ByMemory a w from byte
-flat_spot (named.ByRegister a w register count) = flat.ByRegister a w register count
+abbrev pub flat_place : OperandPlace → Operand
+flat_place (named.Fixed a w byte bit) = flat.Direct a w byte bit
+flat_place (named.ByMemory a w from byte) = flat.ByMemory a w from byte
+flat_place (named.ByRegister a w register count) = flat.ByRegister a w register count
 
 -- timers are of kind 1, counters of kind 2
 abbrev pub flat_number : (kind : ℕ) → ItemNumber → Operand
@@ -50,7 +51,7 @@ flat_fact named.DiNumber = flat.Literal 3
 
 -- the operand of the code for what is named
 abbrev pub flat_of : NamedItem → Operand
-flat_of (named.Place spot) = flat_spot spot
+flat_of (named.Place place) = flat_place place
 flat_of (named.PlaceIn block w byte bit) = flat.Direct area.Db w byte bit
 flat_of (named.Parameter index w) = flat.Parameter index w
 flat_of (named.Constant value) = flat.Literal (own.bits_of_literal value)
@@ -64,9 +65,9 @@ flat_of _ = flat.Nothing
 
 -- ---- places
 
-found_same : (access : Access) (spot : OperandPlace) (p : ExecState)
-    → places.operand_location access (flat_spot spot) p.local p.memory ≡ own.place_of_spot access spot p
-unfolding places.operand_location own.place_of_spot
+found_same : (access : Access) (place : OperandPlace) (p : ExecState)
+    → places.operand_location access (flat_place place) p.local p.memory ≡ own.place_of_operand_place access place p
+unfolding places.operand_location own.place_of_operand_place
 found_same access (named.Fixed a w byte bit) p = fixed_same access a w byte bit p
 found_same access (named.ByMemory a w from byte) p =
     then_same (places.pointer_number from byte widths.Dword p.local p.memory)
@@ -85,14 +86,14 @@ bound_same (Some (binding.AtPlace place w frame)) = refl
 bound_same (Some _) = refl
 
 -- what is named isn't in a data block that the statement opens first
-abbrev pub is_open : NamedItem → Bool
-is_open (named.PlaceIn block w byte bit) = false
-is_open _ = true
+abbrev pub opens_no_block : NamedItem → Bool
+opens_no_block (named.PlaceIn block w byte bit) = false
+opens_no_block _ = true
 
-pub place_same : (access : Access) (x : NamedItem) (p : ExecState) → is_open x ≡ true
+pub place_same : (access : Access) (x : NamedItem) (p : ExecState) → opens_no_block x ≡ true
     → places.operand_location access (flat_of x) p.local p.memory ≡ own.place_of_operand access x p
 unfolding places.operand_location own.place_of_operand
-place_same access (named.Place spot) p e = found_same access spot p
+place_same access (named.Place place) p e = found_same access place p
 place_same access (named.PlaceIn block w byte bit) p e = absurd (false≢true e)
 place_same access (named.Parameter index w) p e = bound_same (slice_get p.local.inner.bindings index)
 place_same access (named.Timer (named.Written n)) p e = refl
@@ -123,28 +124,28 @@ is_read (named.PlaceIn block w byte bit) = false
 is_read (named.Opened what) = false
 is_read _ = true
 
-spot_read : (spot : OperandPlace) (p : ExecState)
-    → then_ok (places.operand_location Reading (flat_spot spot) p.local p.memory)
+place_read : (place : OperandPlace) (p : ExecState)
+    → then_ok (places.operand_location Reading (flat_place place) p.local p.memory)
     (λ b. places.number_read_at b p.local p.memory)
-    ≡ then_ok (own.place_of_spot Reading spot p) (λ b. own.number_or_error Reading b p)
-spot_read spot p =
-    then_same (places.operand_location Reading (flat_spot spot) p.local p.memory) (own.place_of_spot Reading spot p)
+    ≡ then_ok (own.place_of_operand_place Reading place p) (λ b. own.number_or_error Reading b p)
+place_read place p =
+    then_same (places.operand_location Reading (flat_place place) p.local p.memory) (own.place_of_operand_place Reading place p)
     (λ b. places.number_read_at b p.local p.memory) (λ b. own.number_or_error Reading b p)
-    (found_same Reading spot p) (λ b. read_same b p)
+    (found_same Reading place p) (λ b. read_same b p)
 
-spot_number : (spot : OperandPlace) (p : ExecState)
-    → values.operand_number (flat_spot spot) p.local p.memory
-    ≡ then_ok (places.operand_location Reading (flat_spot spot) p.local p.memory)
+place_number : (place : OperandPlace) (p : ExecState)
+    → values.operand_number (flat_place place) p.local p.memory
+    ≡ then_ok (places.operand_location Reading (flat_place place) p.local p.memory)
     (λ b. places.number_read_at b p.local p.memory)
 unfolding values.operand_number
-spot_number (named.Fixed a w byte bit) p = refl
-spot_number (named.ByMemory a w from byte) p = refl
-spot_number (named.ByRegister a w register count) p = refl
+place_number (named.Fixed a w byte bit) p = refl
+place_number (named.ByMemory a w from byte) p = refl
+place_number (named.ByRegister a w register count) p = refl
 
 pub number_same : (x : NamedItem) (p : ExecState) → is_read x ≡ true
     → values.operand_number (flat_of x) p.local p.memory ≡ own.number_of_operand x p
 unfolding values.operand_number own.number_of_operand places.operand_location
-number_same (named.Place spot) p e = spot_number spot p ∙ spot_read spot p
+number_same (named.Place place) p e = place_number place p ∙ place_read place p
 number_same (named.PlaceIn block w byte bit) p e = absurd (false≢true e)
 number_same (named.Opened what) p e = absurd (false≢true e)
 number_same (named.Parameter index w) p e =
@@ -205,29 +206,29 @@ in_word code read all from byte p =
     (λ n. ok_or (option_map read (slice_get all n)) code)
     (standing_same from byte widths.Word p) (λ n. faulty_same code read all n)
 
-spot_tested : (spot : OperandPlace) (p : ExecState)
-    → values.checked_bit (flat_spot spot) p.local p.memory p.timers p.counters
-    ≡ values.bit_of_number (values.operand_number (flat_spot spot) p.local p.memory)
+place_tested : (place : OperandPlace) (p : ExecState)
+    → values.checked_bit (flat_place place) p.local p.memory p.timers p.counters
+    ≡ values.bit_of_number (values.operand_number (flat_place place) p.local p.memory)
 unfolding values.checked_bit
-spot_tested (named.Fixed a w byte bit) p = refl
-spot_tested (named.ByMemory a w from byte) p = refl
-spot_tested (named.ByRegister a w register count) p = refl
+place_tested (named.Fixed a w byte bit) p = refl
+place_tested (named.ByMemory a w from byte) p = refl
+place_tested (named.ByRegister a w register count) p = refl
 
 pub tested_same : (x : NamedItem) (p : ExecState) → is_read x ≡ true
     → values.checked_bit (flat_of x) p.local p.memory p.timers p.counters ≡ own.bit_of_operand x p
 unfolding values.checked_bit values.bit_of_numbered own.bit_of_operand own.number_of_item
-tested_same (named.Place spot) p e =
-    spot_tested spot p
-    ∙ ap values.bit_of_number (number_same (named.Place spot) p e)
-    ∙ one_same (own.number_of_operand (named.Place spot) p)
+tested_same (named.Place place) p e =
+    place_tested place p
+    ∙ ap values.bit_of_number (number_same (named.Place place) p e)
+    ∙ one_same (own.number_of_operand (named.Place place) p)
 tested_same (named.PlaceIn block w byte bit) p e = absurd (false≢true e)
 tested_same (named.Opened what) p e = absurd (false≢true e)
 tested_same (named.Timer (named.Written n)) p e =
-    faulty_same 0x26 (λ (timer : Timer). timer.output) p.timers n
+    faulty_same errors.no_timer (λ (timer : Timer). timer.output) p.timers n
 tested_same (named.Timer (named.InWord from byte)) p e =
-    in_word 0x26 (λ (timer : Timer). timer.output) p.timers from byte p
-tested_same (named.Counter (named.Written n)) p e = faulty_same 0x27 is_counting p.counters n
-tested_same (named.Counter (named.InWord from byte)) p e = in_word 0x27 is_counting p.counters from byte p
+    in_word errors.no_timer (λ (timer : Timer). timer.output) p.timers from byte p
+tested_same (named.Counter (named.Written n)) p e = faulty_same errors.no_counter is_counting p.counters n
+tested_same (named.Counter (named.InWord from byte)) p e = in_word errors.no_counter is_counting p.counters from byte p
 tested_same (named.Condition f) p e = ap (λ g. Ok (flag_value g p.local.regs.status)) (flag_same f)
 tested_same (named.DataBlock di (named.Written n)) p e =
     ap values.bit_of_number (number_same (named.DataBlock di (named.Written n)) p e)
@@ -237,27 +238,27 @@ tested_same (named.DataBlock di (named.InWord from byte)) p e =
     ∙ one_same (own.number_of_operand (named.DataBlock di (named.InWord from byte)) p)
 tested_same x p e = ap values.bit_of_number (number_same x p e) ∙ one_same (own.number_of_operand x p)
 
-spot_loaded : (spot : OperandPlace) (p : ExecState)
-    → values.load_value (flat_spot spot) p.local p.memory p.timers p.counters
-    ≡ values.operand_number (flat_spot spot) p.local p.memory
+place_loaded : (place : OperandPlace) (p : ExecState)
+    → values.load_value (flat_place place) p.local p.memory p.timers p.counters
+    ≡ values.operand_number (flat_place place) p.local p.memory
 unfolding values.load_value
-spot_loaded (named.Fixed a w byte bit) p = refl
-spot_loaded (named.ByMemory a w from byte) p = refl
-spot_loaded (named.ByRegister a w register count) p = refl
+place_loaded (named.Fixed a w byte bit) p = refl
+place_loaded (named.ByMemory a w from byte) p = refl
+place_loaded (named.ByRegister a w register count) p = refl
 
 pub loaded_same : (x : NamedItem) (p : ExecState) → is_read x ≡ true
     → values.load_value (flat_of x) p.local p.memory p.timers p.counters ≡ own.number_to_load x p
 unfolding values.load_value values.value_of_numbered own.number_to_load own.number_of_item
-loaded_same (named.Place spot) p e = spot_loaded spot p ∙ number_same (named.Place spot) p e
+loaded_same (named.Place place) p e = place_loaded place p ∙ number_same (named.Place place) p e
 loaded_same (named.PlaceIn block w byte bit) p e = absurd (false≢true e)
 loaded_same (named.Opened what) p e = absurd (false≢true e)
-loaded_same (named.Timer (named.Written n)) p e = faulty_same 0x26 units_left p.timers n
+loaded_same (named.Timer (named.Written n)) p e = faulty_same errors.no_timer units_left p.timers n
 loaded_same (named.Timer (named.InWord from byte)) p e =
-    in_word 0x26 units_left p.timers from byte p
+    in_word errors.no_timer units_left p.timers from byte p
 loaded_same (named.Counter (named.Written n)) p e =
-    faulty_same 0x27 (λ (counter : Counter). counter.value) p.counters n
+    faulty_same errors.no_counter (λ (counter : Counter). counter.value) p.counters n
 loaded_same (named.Counter (named.InWord from byte)) p e =
-    in_word 0x27 (λ (counter : Counter). counter.value) p.counters from byte p
+    in_word errors.no_counter (λ (counter : Counter). counter.value) p.counters from byte p
 loaded_same (named.DataBlock di (named.Written n)) p e =
     number_same (named.DataBlock di (named.Written n)) p e
 loaded_same (named.DataBlock di (named.InWord from byte)) p e =
@@ -267,10 +268,10 @@ loaded_same x p e = number_same x p e
 pub bcd_same : (x : NamedItem) (p : ExecState)
     → values.bcd_loaded (flat_of x) p.local p.memory p.timers p.counters ≡ own.bcd_to_load x p
 unfolding values.bcd_loaded values.bcd_of_numbered own.bcd_to_load own.number_of_item
-bcd_same (named.Timer (named.Written n)) p = faulty_same 0x26 time_left p.timers n
-bcd_same (named.Timer (named.InWord from byte)) p = in_word 0x26 time_left p.timers from byte p
-bcd_same (named.Counter (named.Written n)) p = faulty_same 0x27 count_bcd p.counters n
-bcd_same (named.Counter (named.InWord from byte)) p = in_word 0x27 count_bcd p.counters from byte p
+bcd_same (named.Timer (named.Written n)) p = faulty_same errors.no_timer time_left p.timers n
+bcd_same (named.Timer (named.InWord from byte)) p = in_word errors.no_timer time_left p.timers from byte p
+bcd_same (named.Counter (named.Written n)) p = faulty_same errors.no_counter count_bcd p.counters n
+bcd_same (named.Counter (named.InWord from byte)) p = in_word errors.no_counter count_bcd p.counters from byte p
 bcd_same (named.Place (named.Fixed a w byte bit)) p = refl
 bcd_same (named.Place (named.ByMemory a w from byte)) p = refl
 bcd_same (named.Place (named.ByRegister a w register count)) p = refl

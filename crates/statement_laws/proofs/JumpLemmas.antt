@@ -47,13 +47,13 @@ target_same body o name e = ap (target_of body) e ∙ label_same name body
 -- ---- jumps
 
 -- a jump of the code that does what a mnemonic says
-record Same (m : Mnemonic) (how : JumpOperation) : Type 0 where
+record IsSameJump (m : Mnemonic) (how : JumpOperation) : Type 0 where
   is : jump_operation_of m ≡ Some how
   goes : (n target : ℕ) → jump_instr how n target ≡ Jumps how target
   taken : (r : Regs) → machine.is_jump_taken how r ≡ own.takes_jump m r
   after : (r : Regs) → machine.regs_after_jump how r ≡ own.after_jump m r
 
-jump_same : (m : Mnemonic) → is_plain_jump m ≡ true → (how : JumpOperation) × Same m how
+jump_same : (m : Mnemonic) → is_plain_jump m ≡ true → (how : JumpOperation) × IsSameJump m how
 unfolding machine.is_jump_taken machine.regs_after_jump own.takes_jump own.after_jump
 jump_same code.Ju e =
     (jump.Ju, record { is = refl; goes = λ n target. refl; taken = λ r. refl; after = λ r. refl })
@@ -108,7 +108,7 @@ plain_jumps_act c body n s name is o program next a w =
     how : JumpOperation
     how = (jump_same s.code is).0
 
-    same : Same s.code how
+    same : IsSameJump s.code how
     same = (jump_same s.code is).1
 
 -- ---- JL

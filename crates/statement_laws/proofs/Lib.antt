@@ -1,7 +1,7 @@
 pub mod PlaceLemmas
 pub mod FlatLemmas
 pub mod ActionLemmas
-pub mod SeenLemmas
+pub mod ResolutionLemmas
 pub mod VariableLemmas
 pub mod RuleLemmas
 pub mod FamilyLemmas

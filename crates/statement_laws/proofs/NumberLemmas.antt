@@ -11,38 +11,38 @@ use Rattle.statement_laws.specs.Jumps.{numbered_statement_count}
 use Rattle.statement_laws.specs.Laws.{FamiliesAreAll, StatementsAreNumbered}
 
 -- a statement with its number
-abbrev stated : Context → List Statement → ℕ → Statement → SourceInstruction
-stated c body n s = record { instr = instruction c body n s; line = s.line }
+abbrev statement_of_number : Context → List Statement → ℕ → Statement → SourceInstruction
+statement_of_number c body n s = record { instr = instruction c body n s; line = s.line }
 
-numbered : (c : Context) (body : List Statement) (n : ℕ) (front : List Statement) (s : Statement)
+number_of_statement_at : (c : Context) (body : List Statement) (n : ℕ) (front : List Statement) (s : Statement)
     (rest : List Statement) (tail : List SourceInstruction) → is_empty_statement s.code ≡ false
     → slice_get (stated_from c body n (front ++ s ∷ rest) ++ tail) (numbered_statement_count front)
-    ≡ Some (stated c body (n + numbered_statement_count front) s)
-numbered c body n [] s rest tail e =
+    ≡ Some (statement_of_number c body (n + numbered_statement_count front) s)
+number_of_statement_at c body n [] s rest tail e =
     ap (λ b. slice_get ((if b then stated_from c body n rest
-    else stated c body n s ∷ stated_from c body (suc n) rest) ++ tail) 0) e
-    ∙ ap (λ k. Some (stated c body k s)) (sym (add-zero n))
-numbered c body n (t ∷ ts) s rest tail e =
-    by (is_empty_statement t.code) (numbered c body n ts s rest tail e) (numbered c body (suc n) ts s rest tail e)
+    else statement_of_number c body n s ∷ stated_from c body (suc n) rest) ++ tail) 0) e
+    ∙ ap (λ k. Some (statement_of_number c body k s)) (sym (add-zero n))
+number_of_statement_at c body n (t ∷ ts) s rest tail e =
+    by (is_empty_statement t.code) (number_of_statement_at c body n ts s rest tail e) (number_of_statement_at c body (suc n) ts s rest tail e)
   where
     by : (b : Bool)
         → slice_get (stated_from c body n (ts ++ s ∷ rest) ++ tail) (numbered_statement_count ts)
-        ≡ Some (stated c body (n + numbered_statement_count ts) s)
+        ≡ Some (statement_of_number c body (n + numbered_statement_count ts) s)
         → slice_get (stated_from c body (suc n) (ts ++ s ∷ rest) ++ tail) (numbered_statement_count ts)
-        ≡ Some (stated c body (suc n + numbered_statement_count ts) s)
+        ≡ Some (statement_of_number c body (suc n + numbered_statement_count ts) s)
         → slice_get ((if b then stated_from c body n (ts ++ s ∷ rest)
-        else stated c body n t ∷ stated_from c body (suc n) (ts ++ s ∷ rest)) ++ tail)
+        else statement_of_number c body n t ∷ stated_from c body (suc n) (ts ++ s ∷ rest)) ++ tail)
         ((if b then 0 else 1) + numbered_statement_count ts)
-        ≡ Some (stated c body (n + ((if b then 0 else 1) + numbered_statement_count ts)) s)
+        ≡ Some (statement_of_number c body (n + ((if b then 0 else 1) + numbered_statement_count ts)) s)
     by true here more =
         let same : 0 + numbered_statement_count ts ≡ numbered_statement_count ts = zero-add (numbered_statement_count ts) in
         ap (slice_get (stated_from c body n (ts ++ s ∷ rest) ++ tail)) same ∙ here
-        ∙ ap (λ k. Some (stated c body (n + k) s)) (sym same)
+        ∙ ap (λ k. Some (statement_of_number c body (n + k) s)) (sym same)
     by false here more =
         let one : 1 + numbered_statement_count ts ≡ suc (numbered_statement_count ts) = omega arith in
         let sum : suc n + numbered_statement_count ts ≡ n + (1 + numbered_statement_count ts) = omega arith in
-        ap (slice_get ((stated c body n t ∷ stated_from c body (suc n) (ts ++ s ∷ rest)) ++ tail)) one
-        ∙ more ∙ ap (λ k. Some (stated c body k s)) sum
+        ap (slice_get ((statement_of_number c body n t ∷ stated_from c body (suc n) (ts ++ s ∷ rest)) ++ tail)) one
+        ∙ more ∙ ap (λ k. Some (statement_of_number c body k s)) sum
 
 length_same : (c : Context) (body : List Statement) (n : ℕ) (ss : List Statement)
     → length (stated_from c body n ss) ≡ numbered_statement_count ss
@@ -52,7 +52,7 @@ length_same c body n (s ∷ ss) =
   where
     by : (b : Bool) → length (stated_from c body n ss) ≡ numbered_statement_count ss
         → length (stated_from c body (suc n) ss) ≡ numbered_statement_count ss
-        → length (if b then stated_from c body n ss else stated c body n s ∷ stated_from c body (suc n) ss)
+        → length (if b then stated_from c body n ss else statement_of_number c body n s ∷ stated_from c body (suc n) ss)
         ≡ (if b then 0 else 1) + numbered_statement_count ss
     by true here more = here ∙ sym (zero-add (numbered_statement_count ss))
     by false here more =
@@ -67,8 +67,8 @@ unfolding statements_of
 statements_are_numbered c b = record {
   each = λ front s rest is e.
       ap (λ ss. slice_get (stated_from c b.body 0 ss ++ return_statement b ∷ []) (numbered_statement_count front)) is
-      ∙ numbered c b.body 0 front s rest (return_statement b ∷ []) e
-      ∙ ap (λ k. Some (stated c b.body k s)) (zero-add (numbered_statement_count front));
+      ∙ number_of_statement_at c b.body 0 front s rest (return_statement b ∷ []) e
+      ∙ ap (λ k. Some (statement_of_number c b.body k s)) (zero-add (numbered_statement_count front));
   last = ap (slice_get (statements_of c b)) (sym (length_same c b.body 0 b.body))
       ∙ behind (stated_from c b.body 0 b.body) (return_statement b);
   count = length-append (stated_from c b.body 0 b.body) (return_statement b ∷ [])

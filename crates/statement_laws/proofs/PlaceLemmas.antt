@@ -1,5 +1,6 @@
 -- The machine's places, numbers and writing are those of the laws.
 use Rattle.std.proofs.Common.{ℕ, ◌≡◌, Bool, ◌&&◌, Option, Some, None, Result, Ok, Err, ok_or, option_map, if◌then◌else◌, refl, ◌∙◌, ap, ap₂}
+use Rattle.plc_base.specs.ErrorCodes as errors
 use Rattle.plc_base.specs.Pointer.{place_at_pointer}
 use Rattle.plc_base.specs.declared.places.Area.{Area}
 use Rattle.plc_base.specs.declared.places.Area.TheVariants as area
@@ -36,8 +37,8 @@ open_same (Some number) e byte bit w = refl
 pub lying_same : (a : Area) (byte bit : ℕ) (w : Width) (p : ExecState)
     → places.open_area_location a byte bit w p.local ≡ own.place_in_area a byte bit w p
 unfolding places.open_area_location own.place_in_area
-lying_same area.Db byte bit w p = open_same p.local.inner.db 0x32 byte bit w
-lying_same area.Di byte bit w p = open_same p.local.inner.di 0x33 byte bit w
+lying_same area.Db byte bit w p = open_same p.local.inner.db errors.no_db_open byte bit w
+lying_same area.Di byte bit w p = open_same p.local.inner.di errors.no_di_open byte bit w
 lying_same area.L byte bit w p = refl
 lying_same area.I byte bit w p = refl
 lying_same area.Q byte bit w p = refl
@@ -79,15 +80,15 @@ standing_same from byte w p =
 
 -- ---- pointers
 
-whole_same : (w : Width) (n : ℕ) → places.is_aligned w n ≡ own.is_whole w n
-whole_same widths.Bit n = refl
-whole_same _ n = refl
+suits_same : (w : Width) (n : ℕ) → places.is_aligned w n ≡ own.suits_width w n
+suits_same widths.Bit n = refl
+suits_same _ n = refl
 
-bit_error : (access : Access) → places.error_of access 0x28 ≡ own.pointer_bit_error access
+bit_error : (access : Access) → places.error_of access errors.alignment_error ≡ own.pointer_bit_error access
 bit_error Reading = refl
 bit_error Writing = refl
 
-area_error : (access : Access) → places.error_of access 0x24 ≡ own.pointer_area_error access
+area_error : (access : Access) → places.error_of access errors.bad_area ≡ own.pointer_area_error access
 area_error Reading = refl
 area_error Writing = refl
 
@@ -101,10 +102,10 @@ pub pointed_same : (access : Access) (a : Area) (w : Width) (n : ℕ) (p : ExecS
     → places.pointer_location access a w n p.local ≡ own.place_of_pointer access a w n p
 unfolding places.pointer_location own.place_of_pointer
 pointed_same access a w n p =
-    if_same (places.is_aligned w n) (own.is_whole w n)
+    if_same (places.is_aligned w n) (own.suits_width w n)
     (places.location_at_pointer a w n p.local) (own.place_in_area a (own.byte_of_pointer n) (own.bit_of_pointer n) w p)
-    (Err (places.error_of access 0x28)) (Err (own.pointer_bit_error access))
-    (whole_same w n) (lying_same a (own.byte_of_pointer n) (own.bit_of_pointer n) w p) (ap Err (bit_error access))
+    (Err (places.error_of access errors.alignment_error)) (Err (own.pointer_bit_error access))
+    (suits_same w n) (lying_same a (own.byte_of_pointer n) (own.bit_of_pointer n) w p) (ap Err (bit_error access))
 
 peripheral_same : (a : Area) (w : Width)
     → (places.is_area_p a && places.is_bit_width w) ≡ own.is_peripheral_bit a w
@@ -117,7 +118,7 @@ pub fixed_same : (access : Access) (a : Area) (w : Width) (byte bit : ℕ) (p : 
 unfolding own.fixed_place
 fixed_same access a w byte bit p =
     if_same (places.is_area_p a && places.is_bit_width w) (own.is_peripheral_bit a w)
-    (Err (places.error_of access 0x24)) (Err (own.pointer_area_error access))
+    (Err (places.error_of access errors.bad_area)) (Err (own.pointer_area_error access))
     (places.open_area_location a byte bit w p.local) (own.place_in_area a byte bit w p)
     (peripheral_same a w) (ap Err (area_error access)) (lying_same a byte bit w p)
 
@@ -132,11 +133,11 @@ pub crossing_same : (access : Access) (w : Width) (address n : ℕ) (p : ExecSta
     → places.area_crossing_location access w address n p.local ≡ own.place_of_crossing access w address n p
 unfolding places.area_crossing_location own.place_of_crossing
 crossing_same access w address n p =
-    if_same (places.is_aligned w n) (own.is_whole w n)
+    if_same (places.is_aligned w n) (own.suits_width w n)
     (places.location_in_named_area access (place_at_pointer address) w n p.local)
     (own.in_area_of access (own.area_of_address address) w n p)
-    (Err (places.error_of access 0x28)) (Err (own.pointer_bit_error access))
-    (whole_same w n) (named_same access (place_at_pointer address) w n p) (ap Err (bit_error access))
+    (Err (places.error_of access errors.alignment_error)) (Err (own.pointer_bit_error access))
+    (suits_same w n) (named_same access (place_at_pointer address) w n p) (ap Err (bit_error access))
 
 -- ---- writing
 

@@ -24,7 +24,7 @@ use Rattle.block_layout.specs.Members.{component_of_name}
 use Rattle.block_layout.specs.Offsets as offsets
 use Rattle.block_layout.specs.Offsets.{place_of_path, elementary_place, place_at_path_end, variable_place, width_of}
 use Rattle.block_layout.specs.Paths as paths
-use Rattle.block_layout.specs.Paths.{cells_at, elementary_at, folded_path, if_whole, path_end_by_index, is_checkable, kind_of, leaves_array, leaves_from, leaves_structure, leaves_local, path_end_by_name, outermost_path_end, plain_kind, path_end_by_step, structure_of, path_end_behind, path_end_in_data_block, path_end_in_block, walked_local, whole_at}
+use Rattle.block_layout.specs.Paths.{cells_at, elementary_at, folded_path, if_whole, path_end_by_index, is_checkable, kind_of, leaves_array, leaves_from, leaves_structure, leaves_local, path_end_by_name, outermost_path_end, plain_kind, path_end_by_step, structure_of, path_end_behind, path_end_in_data_block, path_end_in_block, path_end_of_local, whole_at}
 use Rattle.block_layout.specs.declared.blocks.BlockLayout.{BlockLayout}
 use Rattle.block_layout.specs.declared.blocks.Section.TheVariants as section
 use Rattle.block_layout.specs.declared.cells.Cell.{Cell}
@@ -37,37 +37,34 @@ use Rattle.block_layout.specs.declared.walks.PathEnd.TheVariants as path_end
 use Rattle.stl_types.specs.Context.{Context, data_number, data_place, in_function, number_of_block}
 use Rattle.stl_types.specs.Forms.{form_of}
 use Rattle.stl_types.specs.Resolution.{resolution_of}
-use Rattle.stl_types.specs.Variables.{data_at, data_path, data_variable, data_walked, variable_in_area, own_at, own_variable, own_walked, parameter_at}
+use Rattle.stl_types.specs.Variables.{data_at, data_path, data_variable, data_at_path_end, variable_in_area, own_at, own_variable, own_at_path_end, parameter_at}
 use Rattle.stl_types.specs.Variables as variables
 use Rattle.stl_types.specs.declared.views.Resolution.TheVariants.{Resolved, Unknown}
 use Rattle.stl_types.specs.declared.views.ResolvedOperand.{ResolvedOperand}
-use Rattle.stl_types.specs.declared.views.ResolvedOperand.TheVariants as view
+use Rattle.stl_types.specs.declared.views.ResolvedOperand.TheVariants as resolved
 use Rattle.statement_laws.specs.Laws.{HasElementaryParameters, VariablesAreNamed, is_elementary_component, is_variable, stays_inside}
 use Rattle.statement_laws.specs.Named.{NamedItem}
 use Rattle.statement_laws.specs.Named as named_as
 use Rattle.statement_laws.specs.Operands.{block_id_of_name, cell_width, component_named, components_of_block, has_result, is_fc, named_by, parameter_named, named_place, place_in_layout, variable_by, variable_named}
 use Rattle.statement_laws.specs.Operands as own
-use Rattle.statement_laws.proofs.CoverLemmas.{has_no_name, name_left}
-use Rattle.statement_laws.proofs.SeenLemmas.{block_same, number_known, resolved_parts, resolved_same}
-use Rattle.statement_laws.proofs.VariableLemmas.{function_same, walked_in_whole}
-
-abbrev There : Option NamedItem → Type 0
-There o = (x : NamedItem) × (o ≡ Some x)
+use Rattle.statement_laws.proofs.CoverLemmas.{IsSomeItem, has_no_name, name_left}
+use Rattle.statement_laws.proofs.ResolutionLemmas.{block_same, number_known, resolved_parts, resolved_same}
+use Rattle.statement_laws.proofs.VariableLemmas.{function_same, path_in_whole_block}
 
 -- ---- what isn't elementary is refused
 
 composite_refused : (v : ResolvedOperand) (o : Option Cell) → has_no_name v ≡ false
     → Resolved (variables.composite_operand o) ≡ Resolved v → ⊥
 composite_refused v None r e =
-    false≢true (sym (ap has_no_name (resolved_same view.Composite v e) ∙ r))
+    false≢true (sym (ap has_no_name (resolved_same resolved.Composite v e) ∙ r))
 composite_refused v (Some cell) r e = by cell.of e
   where
     by : (of : Element) → Resolved (variables.date_or_composite of) ≡ Resolved v → ⊥
-    by element.DateAndTime h = false≢true (sym (ap has_no_name (resolved_same view.Date v h) ∙ r))
-    by _ h = false≢true (sym (ap has_no_name (resolved_same view.Composite v h) ∙ r))
+    by element.DateAndTime h = false≢true (sym (ap has_no_name (resolved_same resolved.Date v h) ∙ r))
+    by _ h = false≢true (sym (ap has_no_name (resolved_same resolved.Composite v h) ∙ r))
 
 area_there : (kind : Simple) (o : Option (Place × Width)) (v : ResolvedOperand)
-    → variable_in_area kind o ≡ Resolved v → There (place_in_layout o)
+    → variable_in_area kind o ≡ Resolved v → IsSomeItem (place_in_layout o)
 area_there kind None v e = absurd cc
 area_there kind (Some p) v e = (named_place p.0 p.1, refl)
 
@@ -75,15 +72,15 @@ area_there kind (Some p) v e = (named_place p.0 p.1, refl)
 
 temporary_component : (c : Context) (component : ComponentAt) (o : Option Simple)
     (v : ResolvedOperand) → has_no_name v ≡ false → own_at c true component o ≡ Resolved v
-    → There (place_in_layout (elementary_place area.L 0 component.offset o))
+    → IsSomeItem (place_in_layout (elementary_place area.L 0 component.offset o))
 temporary_component c component None v r e =
     absurd (composite_refused v (slice_get (cells_at c.layouts component.block component.temporary) component.place) r e)
 temporary_component c component (Some kind) v r e =
     area_there kind (elementary_place area.L 0 component.offset (Some kind)) v e
 
 temporary_end : (c : Context) (end : PathEnd) (v : ResolvedOperand)
-    → has_no_name v ≡ false → own_walked c true end ≡ Resolved v
-    → There (place_in_layout (place_at_path_end c.layouts area.L 0 end))
+    → has_no_name v ≡ false → own_at_path_end c true end ≡ Resolved v
+    → IsSomeItem (place_in_layout (place_at_path_end c.layouts area.L 0 end))
 temporary_end c (path_end.Reaches component) v r e =
     temporary_component c component (elementary_at c.layouts component) v r e
 temporary_end c path_end.Unknown v r e = absurd cc
@@ -91,7 +88,7 @@ temporary_end c path_end.Unjudged v r e = absurd cc
 
 static_component : (c : Context) (component : ComponentAt) (o : Option Simple)
     (v : ResolvedOperand) → has_no_name v ≡ false → in_function c ≡ false
-    → own_at c false component o ≡ Resolved v → There (place_in_layout (elementary_place area.Di 0 component.offset o))
+    → own_at c false component o ≡ Resolved v → IsSomeItem (place_in_layout (elementary_place area.Di 0 component.offset o))
 static_component c component None v r fc e =
     absurd (composite_refused v (slice_get (cells_at c.layouts component.block component.temporary) component.place) r e)
 static_component c component (Some kind) v r fc e =
@@ -100,15 +97,15 @@ static_component c component (Some kind) v r fc e =
     else variable_in_area kind (elementary_place area.Di 0 component.offset (Some kind))) fc) ∙ e)
 
 static_end : (c : Context) (end : PathEnd) (v : ResolvedOperand)
-    → has_no_name v ≡ false → in_function c ≡ false → own_walked c false end ≡ Resolved v
-    → There (place_in_layout (place_at_path_end c.layouts area.Di 0 end))
+    → has_no_name v ≡ false → in_function c ≡ false → own_at_path_end c false end ≡ Resolved v
+    → IsSomeItem (place_in_layout (place_at_path_end c.layouts area.Di 0 end))
 static_end c (path_end.Reaches component) v r fc e =
     static_component c component (elementary_at c.layouts component) v r fc e
 static_end c path_end.Unknown v r fc e = absurd cc
 static_end c path_end.Unjudged v r fc e = absurd cc
 
 end_is_checkable : (c : Context) (temporary : Bool) (end : PathEnd) (v : ResolvedOperand)
-    → own_walked c temporary end ≡ Resolved v → is_checkable end ≡ true
+    → own_at_path_end c temporary end ≡ Resolved v → is_checkable end ≡ true
 end_is_checkable c temporary (path_end.Reaches component) v e = refl
 end_is_checkable c temporary path_end.Unknown v e = absurd cc
 end_is_checkable c temporary path_end.Unjudged v e = absurd cc
@@ -119,10 +116,10 @@ stays true true j h = absurd (false≢true h)
 stays true false j h = refl
 stays false left j h = absurd (false≢true j)
 
-kept : (left : Bool) (o : Option (Place × Width)) → left ≡ false → There (place_in_layout o)
-    → There (place_in_layout (if left then None else o))
-kept true o e h = absurd cc
-kept false o e h = h
+item_inside : (left : Bool) (o : Option (Place × Width)) → left ≡ false → IsSomeItem (place_in_layout o)
+    → IsSomeItem (place_in_layout (if left then None else o))
+item_inside true o e h = absurd cc
+item_inside false o e h = h
 
 -- ---- parameters of a function
 
@@ -180,7 +177,7 @@ parameter_width false kind e = absurd (false≢true e)
 
 cell_named : (c : Context) (place : ℕ) (cell : Cell)
     → slice_get (components_of_block c) place ≡ Some cell → is_elementary_component cell ≡ true
-    → There (parameter_named c place [])
+    → IsSomeItem (parameter_named c place [])
 cell_named c place cell there e =
     let found = parameter_width (nat_eq 0 (length cell.bounds)) (plain_kind cell.of) e in (
       named_as.Parameter
@@ -196,19 +193,19 @@ cell_named c place cell there e =
 reached_cell : (c : Context) (m : Member) (offset : ℕ) (sound : Bool) (cell : Cell)
     (steps : List PathStep) (v : ResolvedOperand)
     → slice_get (components_of_block c) (0 + m.place) ≡ Some cell → is_elementary_component cell ≡ true
-    → own_walked c false (paths.path_end_and_then (if sound then path_end.Reaches (record {
+    → own_at_path_end c false (paths.path_end_and_then (if sound then path_end.Reaches (record {
       block = c.block;
       temporary = false;
       place = 0 + m.place;
       depth = 0;
       offset = offset;
     }) else path_end.Unjudged) (λ component. path_end_behind c.layouts component steps)) ≡ Resolved v
-    → There (parameter_named c m.place steps)
+    → IsSomeItem (parameter_named c m.place steps)
 reached_cell c m offset false cell steps v there plain e = absurd cc
 reached_cell c m offset true cell [] v there plain e =
     cell_named c m.place cell (ap (slice_get (components_of_block c)) (sym (zero-add m.place)) ∙ there) plain
 reached_cell c m offset true cell (s ∷ ss) v there plain e =
-    absurd (unknown (sym (ap (λ end. own_walked c false
+    absurd (unknown (sym (ap (λ end. own_at_path_end c false
     (paths.path_end_and_then end (λ next. path_end_behind c.layouts next ss)))
     (step_none c.layouts (record {
       block = c.block;
@@ -224,9 +221,9 @@ reached_cell c m offset true cell (s ∷ ss) v there plain e =
 reached_parameter : (c : Context) (m : Member) (offset : ℕ) (o : Option Cell) (steps : List PathStep)
     (v : ResolvedOperand) → AllByRecursion (λ cell. is_elementary_component cell ≡ true) (components_of_block c)
     → slice_get (components_of_block c) (0 + m.place) ≡ o
-    → own_walked c false (paths.path_end_and_then (paths.path_end_at_cell c.block false (0 + m.place) offset o)
+    → own_at_path_end c false (paths.path_end_and_then (paths.path_end_at_cell c.block false (0 + m.place) offset o)
     (λ component. path_end_behind c.layouts component steps)) ≡ Resolved v
-    → There (parameter_named c m.place steps)
+    → IsSomeItem (parameter_named c m.place steps)
 reached_parameter c m offset None steps v plain there e = absurd cc
 reached_parameter c m offset (Some cell) steps v plain there e =
     reached_cell c m offset cell.sound cell steps v there
@@ -235,13 +232,13 @@ reached_parameter c m offset (Some cell) steps v plain there e =
 parameter_there : (c : Context) (name : List ℕ) (steps : List PathStep) (m : Member)
     (v : ResolvedOperand) → AllByRecursion (λ cell. is_elementary_component cell ≡ true) (components_of_block c)
     → component_of_name 0 0 0 name (components_of_block c) ≡ Some m
-    → own_walked c false (paths.path_end_and_then (outermost_path_end c.layouts c.block false 0 name)
+    → own_at_path_end c false (paths.path_end_and_then (outermost_path_end c.layouts c.block false 0 name)
     (λ component. path_end_behind c.layouts component steps)) ≡ Resolved v
-    → There (parameter_named c m.place steps)
+    → IsSomeItem (parameter_named c m.place steps)
 unfolding outermost_path_end
 parameter_there c name steps m v plain there e =
     reached_parameter c m _ (slice_get (components_of_block c) (0 + m.place)) steps v plain refl
-    (sym (ap (λ o. own_walked c false
+    (sym (ap (λ o. own_at_path_end c false
     (paths.path_end_and_then (paths.path_end_at_member (components_of_block c) c.block false 0 0 o)
     (λ component. path_end_behind c.layouts component steps)))
     there) ∙ e)
@@ -251,7 +248,7 @@ parameter_there c name steps m v plain there e =
 local_there : (c : Context) (name : List ℕ) (steps : List PathStep)
     (m : Option Member) (v : ResolvedOperand) → has_no_name v ≡ false → HasElementaryParameters c
     → component_of_name 0 0 0 name (components_of_block c) ≡ m
-    → own_walked c (not (is_some m))
+    → own_at_path_end c (not (is_some m))
     (if is_some (whole_at c.layouts c.block)
     then paths.path_end_and_then
     (if is_some m then outermost_path_end c.layouts c.block false 0 name
@@ -268,38 +265,38 @@ local_there : (c : Context) (name : List ℕ) (steps : List PathStep)
     (if is_some m then outermost_path_end c.layouts c.block false 0 name
     else outermost_path_end c.layouts c.block true 0 name)
     (λ component. leaves_array c.layouts component steps)) ≡ true
-    → There (variable_by c name steps m)
+    → IsSomeItem (variable_by c name steps m)
 local_there c name steps None v r plain there e inside =
-    kept (leaves_from c.layouts c.block true (step.Named name ∷ steps))
+    item_inside (leaves_from c.layouts c.block true (step.Named name ∷ steps))
     (place_at_path_end c.layouts area.L 0 (path_end_in_block c.layouts c.block true (step.Named name ∷ steps)))
     (stays _ _ (end_is_checkable c true _ v e) inside)
     (temporary_end c (path_end_in_block c.layouts c.block true (step.Named name ∷ steps)) v r
-    (walked_in_whole c true (is_some (whole_at c.layouts c.block))
+    (path_in_whole_block c true (is_some (whole_at c.layouts c.block))
     (path_end_in_block c.layouts c.block true (step.Named name ∷ steps)) v e))
 local_there c name steps (Some m) v r plain there e inside =
     by (is_fc (slice_get c.blocks c.block)) refl
   where
     by : (fc : Bool) → is_fc (slice_get c.blocks c.block) ≡ fc
-        → There (if fc then parameter_named c m.place steps
+        → IsSomeItem (if fc then parameter_named c m.place steps
         else place_in_layout (variable_place c.layouts area.Di c.block false (step.Named name ∷ steps)))
     by true fc =
         parameter_there c name steps m v (plain fc) there
-        (walked_in_whole c false (is_some (whole_at c.layouts c.block))
+        (path_in_whole_block c false (is_some (whole_at c.layouts c.block))
         (path_end_in_block c.layouts c.block false (step.Named name ∷ steps)) v e)
     by false fc =
-        kept (leaves_from c.layouts c.block false (step.Named name ∷ steps))
+        item_inside (leaves_from c.layouts c.block false (step.Named name ∷ steps))
         (place_at_path_end c.layouts area.Di 0 (path_end_in_block c.layouts c.block false (step.Named name ∷ steps)))
         (stays _ _ (end_is_checkable c false _ v e) inside)
         (static_end c (path_end_in_block c.layouts c.block false (step.Named name ∷ steps)) v r
         (sym (function_same (slice_get c.blocks c.block)) ∙ fc)
-        (walked_in_whole c false (is_some (whole_at c.layouts c.block))
+        (path_in_whole_block c false (is_some (whole_at c.layouts c.block))
         (path_end_in_block c.layouts c.block false (step.Named name ∷ steps)) v e))
 
 variable_there : (c : Context) (name : List ℕ) (steps : List PathStep)
     (v : ResolvedOperand) → has_no_name v ≡ false → HasElementaryParameters c
     → own_variable c name steps ≡ Resolved v
-    → not (leaves_local c.layouts c.block name steps) ≡ true → There (variable_named c name steps)
-unfolding walked_local
+    → not (leaves_local c.layouts c.block name steps) ≡ true → IsSomeItem (variable_named c name steps)
+unfolding path_end_of_local
 variable_there c name steps v r plain e inside =
     local_there c name steps (component_of_name 0 0 0 name (components_of_block c)) v r plain refl e inside
 
@@ -307,15 +304,15 @@ variable_there c name steps v r plain e inside =
 
 data_component_there : (c : Context) (n : ℕ) (component : ComponentAt) (o : Option Simple)
     (v : ResolvedOperand) → has_no_name v ≡ false → data_at c n component o ≡ Resolved v
-    → There (place_in_layout (elementary_place area.Db n component.offset o))
+    → IsSomeItem (place_in_layout (elementary_place area.Db n component.offset o))
 data_component_there c n component None v r e =
     absurd (composite_refused v (slice_get (cells_at c.layouts component.block component.temporary) component.place) r e)
 data_component_there c n component (Some kind) v r e =
     area_there kind (elementary_place area.Db n component.offset (Some kind)) v e
 
 data_end_there : (c : Context) (n : ℕ) (end : PathEnd) (v : ResolvedOperand)
-    → has_no_name v ≡ false → data_walked c n end ≡ Resolved v
-    → There (place_in_layout (place_at_path_end c.layouts area.Db n end))
+    → has_no_name v ≡ false → data_at_path_end c n end ≡ Resolved v
+    → IsSomeItem (place_in_layout (place_at_path_end c.layouts area.Db n end))
 data_end_there c n (path_end.Reaches component) v r e =
     data_component_there c n component (elementary_at c.layouts component) v r e
 data_end_there c n path_end.Unknown v r e = absurd cc
@@ -335,15 +332,15 @@ data_whole : (c : Context) (id : BlockId) (steps : List PathStep) (place n : ℕ
     (block : Option BlockLayout) (v : ResolvedOperand) → has_no_name v ≡ false
     → is_data_block id.kind ≡ true
     → option_and_then (λ (b : BlockLayout). number_of_block b.id) block ≡ Some n
-    → data_walked c id.number (path_end_in_data_block c.layouts place steps) ≡ Resolved v
+    → data_at_path_end c id.number (path_end_in_data_block c.layouts place steps) ≡ Resolved v
     → not (leaves_structure c.layouts (structure_of c.layouts place) steps) ≡ true
-    → There (place_in_layout (option_and_then (offsets.place_in_section c.layouts id section.Global steps)
+    → IsSomeItem (place_in_layout (option_and_then (offsets.place_in_section c.layouts id section.Global steps)
     (if is_some block then Some place else None)))
 data_whole c id steps place n None v r db d e inside = absurd cc
 data_whole c id steps place n (Some b) v r db d e inside =
-    subst (λ (k : Bool). There (place_in_layout
+    subst (λ (k : Bool). IsSomeItem (place_in_layout
     (if k then offsets.component_place c.layouts id.number place steps else None))) (sym db)
-    (kept (leaves_structure c.layouts (structure_of c.layouts place) steps)
+    (item_inside (leaves_structure c.layouts (structure_of c.layouts place) steps)
     (place_at_path_end c.layouts area.Db id.number (path_end_in_data_block c.layouts place steps))
     (left_structure c.layouts (structure_of c.layouts place) steps inside)
     (data_end_there c id.number (path_end_in_data_block c.layouts place steps) v r e))
@@ -356,11 +353,11 @@ data_known_there : (c : Context) (id : BlockId) (steps : List PathStep)
     (option_and_then (whole_at c.layouts) place)
     → data_path c steps number place ≡ Resolved v
     → not (leaves_structure c.layouts (option_and_then (structure_of c.layouts) place) steps) ≡ true
-    → There (place_in_layout (option_and_then (offsets.place_in_section c.layouts id section.Global steps)
+    → IsSomeItem (place_in_layout (option_and_then (offsets.place_in_section c.layouts id section.Global steps)
     (option_and_then (if_whole c.layouts) place)))
 data_known_there c id steps (Some number) (Some place) v r db is d e inside =
     data_whole c id steps place number (whole_at c.layouts place) v r db (sym d)
-    (ap (λ k. data_walked c k (path_end_in_data_block c.layouts place steps)) (sym (is number refl)) ∙ e) inside
+    (ap (λ k. data_at_path_end c k (path_end_in_data_block c.layouts place steps)) (sym (is number refl)) ∙ e) inside
 data_known_there c id steps (Some number) None v r db is d e inside = absurd cc
 data_known_there c id steps None (Some place) v r db is d e inside = absurd cc
 data_known_there c id steps None None v r db is d e inside = absurd cc
@@ -382,7 +379,7 @@ data_named_there : (c : Context) (o : Option BlockId) (steps : List PathStep)
     → not (leaves_structure c.layouts (option_and_then (structure_of c.layouts)
     (option_and_then (λ id. known_block id (map (λ b. b.id) c.layouts)) (of_kind is_data_block o)))
     steps) ≡ true
-    → There (place_in_layout (option_and_then (λ id. place_of_path c.layouts id section.Global steps) o))
+    → IsSomeItem (place_in_layout (option_and_then (λ id. place_of_path c.layouts id section.Global steps) o))
 unfolding place_of_path
 data_named_there c None steps (Some number) v r is d e inside = absurd cc
 data_named_there c None steps None v r is d e inside = absurd cc
@@ -402,7 +399,7 @@ data_named_there c (Some id) steps number v r is d e inside =
         (option_and_then (λ (id : BlockId). known_block id (map (λ (b : BlockLayout). b.id) c.layouts))
         (if db then Some id else None)))
         steps) ≡ true
-        → There (place_in_layout (option_and_then (offsets.place_in_section c.layouts id section.Global steps)
+        → IsSomeItem (place_in_layout (option_and_then (offsets.place_in_section c.layouts id section.Global steps)
         (option_and_then (if_whole c.layouts)
         (known_block id (map (λ (b : BlockLayout). b.id) c.layouts)))))
     by true db d e inside =
@@ -414,9 +411,9 @@ component_there : (c : Context) (name : BlockName) (steps : List PathStep)
     (v : ResolvedOperand) → has_no_name v ≡ false → data_variable c name steps ≡ Resolved v
     → not (leaves_structure c.layouts (option_and_then (structure_of c.layouts) (data_place c name)) steps)
     ≡ true
-    → There (component_named c name steps)
+    → IsSomeItem (component_named c name steps)
 component_there c name steps v r e inside =
-    subst (λ o. There (place_in_layout
+    subst (λ o. IsSomeItem (place_in_layout
     (option_and_then (λ id. place_of_path c.layouts id section.Global steps) o)))
     (block_same c name)
     (data_named_there c (named_block c.symbols name) steps (data_number c name) v r
@@ -428,7 +425,7 @@ component_there c name steps v r e inside =
 
 pub path_there : (c : Context) (o : Operand) (v : ResolvedOperand)
     → HasElementaryParameters c → is_variable o ≡ true → stays_inside c o ≡ true
-    → has_no_name v ≡ false → resolution_of c o ≡ Resolved v → There (named_by c o)
+    → has_no_name v ≡ false → resolution_of c o ≡ Resolved v → IsSomeItem (named_by c o)
 unfolding resolution_of named_by
 path_there c (operand.Named (head.Local name) steps) v plain is inside r e =
     variable_there c (upper_case_name name) (folded_path steps) v r plain e inside

@@ -23,7 +23,7 @@ use Rattle.block_layout.specs.Blocks.{known_block, named_block, of_kind}
 use Rattle.block_layout.specs.Members.{component_of_name}
 use Rattle.block_layout.specs.Offsets as offsets
 use Rattle.block_layout.specs.Offsets.{place_of_path, elementary_place, place_at_path_end, variable_place, width_of}
-use Rattle.block_layout.specs.Paths.{cells_at, elementary_at, folded_path, if_whole, kind_of, leaves_from, leaves_structure, outermost_path_end, plain_kind, structure_of, path_end_behind, path_end_in_data_block, path_end_in_block, walked_local, whole_at}
+use Rattle.block_layout.specs.Paths.{cells_at, elementary_at, folded_path, if_whole, kind_of, leaves_from, leaves_structure, outermost_path_end, plain_kind, structure_of, path_end_behind, path_end_in_data_block, path_end_in_block, path_end_of_local, whole_at}
 use Rattle.block_layout.specs.declared.blocks.Section.TheVariants as section
 use Rattle.block_layout.specs.declared.cells.Cell.{Cell}
 use Rattle.block_layout.specs.declared.members.Member.{Member}
@@ -34,17 +34,17 @@ use Rattle.block_layout.specs.Paths as paths
 use Rattle.stl_types.specs.Addresses.{resolved_address, area_of_pointer, area_for_letters}
 use Rattle.stl_types.specs.Context.{Context, data_number, in_function, is_of_function, whole_place}
 use Rattle.stl_types.specs.Resolution.{resolution_of_call, id_at, register_for_word, resolution_of, whole_called_block}
-use Rattle.stl_types.specs.Variables.{behind_others, data_at, data_path, data_variable, data_walked, variable_in_area, own_at, own_elementary, own_variable, own_walked, parameter_at}
+use Rattle.stl_types.specs.Variables.{behind_others, data_at, data_path, data_variable, data_at_path_end, variable_in_area, own_at, own_elementary, own_variable, own_at_path_end, parameter_at}
 use Rattle.stl_types.specs.Variables as variables
 use Rattle.stl_types.specs.declared.views.Resolution.TheVariants.{Resolved, Unjudged}
 use Rattle.stl_types.specs.declared.views.Side.TheVariants as side
 use Rattle.stl_types.specs.declared.views.ResolvedOperand.{ResolvedOperand}
-use Rattle.stl_types.specs.declared.views.ResolvedOperand.TheVariants as view
+use Rattle.stl_types.specs.declared.views.ResolvedOperand.TheVariants as resolved
 use Rattle.statement_laws.specs.Named.{NamedItem}
 use Rattle.statement_laws.specs.Named as named
 use Rattle.statement_laws.specs.Operands.{block_id_of_name, block_number, cell_width, component_named, components_of_block, named_fixed_place, has_result, is_fc, place_in_layout, named_by, numbered_item, parameter_named, named_place, pointer_constant_bits, variable_by, variable_named, with_instance}
 use Rattle.statement_laws.specs.Operands as own
-use Rattle.statement_laws.proofs.SeenLemmas.{about, block_same, carry, direct_named, in_block_same, left_same, letters_same, number_in_same, number_known, opened_named, pointer_same, register_same, resolved_same, symbol_same, view_named}
+use Rattle.statement_laws.proofs.ResolutionLemmas.{about, block_same, carry, direct_named, in_block_same, left_same, letters_same, number_in_same, number_known, opened_named, pointer_same, register_same, resolved_same, symbol_same, view_named}
 
 -- ---- places
 
@@ -52,7 +52,7 @@ area_same : (kind : Simple) (o : Option (Place × Width)) (v : ResolvedOperand) 
     → variable_in_area kind o ≡ Resolved v → place_in_layout o ≡ Some x → view_named None v ≡ Some x
 area_same kind None v x e n = absurd cc
 area_same kind (Some p) v x e n =
-    carry None (view.Direct p.0 p.1 side.Both (Some kind)) v (named_place p.0 p.1) x refl e n
+    carry None (resolved.Direct p.0 p.1 side.Both (Some kind)) v (named_place p.0 p.1) x refl e n
 
 -- a place that lies within its arrays
 inside : (b : Bool) (o : Option (Place × Width)) (x : NamedItem)
@@ -61,11 +61,11 @@ inside true o x n = absurd cc
 inside false o x n = n
 
 -- a path that resolves was walked in a block that breaks no rule as a whole, to this end
-pub walked_in_whole : (c : Context) (temporary b : Bool) (end : PathEnd) (v : ResolvedOperand)
-    → own_walked c temporary (if b then end else path_end.Unjudged) ≡ Resolved v
-    → own_walked c temporary end ≡ Resolved v
-walked_in_whole c temporary true end v e = e
-walked_in_whole c temporary false end v e = absurd cc
+pub path_in_whole_block : (c : Context) (temporary b : Bool) (end : PathEnd) (v : ResolvedOperand)
+    → own_at_path_end c temporary (if b then end else path_end.Unjudged) ≡ Resolved v
+    → own_at_path_end c temporary end ≡ Resolved v
+path_in_whole_block c temporary true end v e = e
+path_in_whole_block c temporary false end v e = absurd cc
 
 -- ---- temporary variables
 
@@ -76,13 +76,13 @@ temporary_at c component None v x e n = absurd cc
 temporary_at c component (Some kind) v x e n =
     area_same kind (elementary_place area.L 0 component.offset (Some kind)) v x e n
 
-temporary_walked : (c : Context) (end : PathEnd) (v : ResolvedOperand) (x : NamedItem)
-    → own_walked c true end ≡ Resolved v → place_in_layout (place_at_path_end c.layouts area.L 0 end) ≡ Some x
+temporary_at_path_end : (c : Context) (end : PathEnd) (v : ResolvedOperand) (x : NamedItem)
+    → own_at_path_end c true end ≡ Resolved v → place_in_layout (place_at_path_end c.layouts area.L 0 end) ≡ Some x
     → view_named None v ≡ Some x
-temporary_walked c (path_end.Reaches component) v x e n =
+temporary_at_path_end c (path_end.Reaches component) v x e n =
     temporary_at c component (elementary_at c.layouts component) v x e n
-temporary_walked c path_end.Unknown v x e n = absurd cc
-temporary_walked c path_end.Unjudged v x e n = absurd cc
+temporary_at_path_end c path_end.Unknown v x e n = absurd cc
+temporary_at_path_end c path_end.Unjudged v x e n = absurd cc
 
 -- ---- variables of a function block
 
@@ -95,13 +95,13 @@ static_at c component (Some kind) v x f e n =
     (sym (ap (λ (b : Bool). if b then parameter_at c component kind
     else variable_in_area kind (elementary_place area.Di 0 component.offset (Some kind))) f) ∙ e) n
 
-static_walked : (c : Context) (end : PathEnd) (v : ResolvedOperand) (x : NamedItem)
-    → in_function c ≡ false → own_walked c false end ≡ Resolved v
+static_at_path_end : (c : Context) (end : PathEnd) (v : ResolvedOperand) (x : NamedItem)
+    → in_function c ≡ false → own_at_path_end c false end ≡ Resolved v
     → place_in_layout (place_at_path_end c.layouts area.Di 0 end) ≡ Some x → view_named None v ≡ Some x
-static_walked c (path_end.Reaches component) v x f e n =
+static_at_path_end c (path_end.Reaches component) v x f e n =
     static_at c component (elementary_at c.layouts component) v x f e n
-static_walked c path_end.Unknown v x f e n = absurd cc
-static_walked c path_end.Unjudged v x f e n = absurd cc
+static_at_path_end c path_end.Unknown v x f e n = absurd cc
+static_at_path_end c path_end.Unjudged v x f e n = absurd cc
 
 -- ---- parameters of a function
 
@@ -128,7 +128,7 @@ parameter_kind : (c : Context) (at : ℕ) (cell : Cell) (kind : Option Simple) (
     → view_named None v ≡ Some x
 parameter_kind c at cell None v x component p f there e n = absurd cc
 parameter_kind c at cell (Some kind) v x component p f there e n =
-    carry None (view.Parameter (variables.parameter_index (length (components_of_block c)) at (slice_get c.blocks c.block)) cell.section kind)
+    carry None (resolved.Parameter (variables.parameter_index (length (components_of_block c)) at (slice_get c.blocks c.block)) cell.section kind)
     v
     (named.Parameter
     (own.parameter_index_in_call (has_result (slice_get c.blocks c.block)) (length (components_of_block c)) at)
@@ -150,7 +150,7 @@ width_same false kind = refl
 -- the cell at the place of a parameter
 cell_found : (c : Context) (m : Member) (offset : ℕ) (sound : Bool) (cell : Cell) (v : ResolvedOperand)
     (x : NamedItem) → in_function c ≡ true → slice_get (components_of_block c) (0 + m.place) ≡ Some cell
-    → own_walked c false (if sound then path_end.Reaches (record {
+    → own_at_path_end c false (if sound then path_end.Reaches (record {
       block = c.block;
       temporary = false;
       place = 0 + m.place;
@@ -189,14 +189,14 @@ cell_found c m offset true cell v x f there e n =
 
 parameter_found : (c : Context) (m : Member) (offset : ℕ) (o : Option Cell) (v : ResolvedOperand)
     (x : NamedItem) → in_function c ≡ true → slice_get (components_of_block c) (0 + m.place) ≡ o
-    → own_walked c false
+    → own_at_path_end c false
     (paths.path_end_and_then (paths.path_end_at_cell c.block false (0 + m.place) offset o) (λ component. path_end.Reaches component))
     ≡ Resolved v
     → parameter_named c m.place [] ≡ Some x → view_named None v ≡ Some x
 parameter_found c m offset None v x f there e n = absurd cc
 parameter_found c m offset (Some cell) v x f there e n =
     cell_found c m offset cell.sound cell v x f there
-    (sym (ap (own_walked c false) (by cell.sound _)) ∙ e) n
+    (sym (ap (own_at_path_end c false) (by cell.sound _)) ∙ e) n
   where
     by : (sound : Bool) (component : ComponentAt)
         → paths.path_end_and_then (if sound then path_end.Reaches component else path_end.Unjudged) (λ component. path_end.Reaches component)
@@ -207,7 +207,7 @@ parameter_found c m offset (Some cell) v x f there e n =
 parameter_same : (c : Context) (name : List ℕ) (steps : List PathStep) (m : Member)
     (v : ResolvedOperand) (x : NamedItem) → in_function c ≡ true
     → component_of_name 0 0 0 name (components_of_block c) ≡ Some m
-    → own_walked c false
+    → own_at_path_end c false
     (paths.path_end_and_then (outermost_path_end c.layouts c.block false 0 name) (λ component. path_end_behind c.layouts component steps))
     ≡ Resolved v
     → parameter_named c m.place steps ≡ Some x → view_named None v ≡ Some x
@@ -215,7 +215,7 @@ unfolding outermost_path_end
 parameter_same c name (s ∷ ss) m v x f there e n = absurd cc
 parameter_same c name [] m v x f there e n =
     parameter_found c m _ (slice_get (components_of_block c) (0 + m.place)) v x f refl
-    (sym (ap (λ o. own_walked c false
+    (sym (ap (λ o. own_at_path_end c false
     (paths.path_end_and_then (paths.path_end_at_member (components_of_block c) c.block false 0 0 o) (λ component. path_end.Reaches component)))
     there) ∙ e)
     n
@@ -228,7 +228,7 @@ function_same (Some b) = refl
 
 local_found : (c : Context) (name : List ℕ) (steps : List PathStep) (m : Option Member)
     (v : ResolvedOperand) (x : NamedItem) → component_of_name 0 0 0 name (components_of_block c) ≡ m
-    → own_walked c (not (is_some m))
+    → own_at_path_end c (not (is_some m))
     (if is_some (whole_at c.layouts c.block)
     then paths.path_end_and_then
     (if is_some m then outermost_path_end c.layouts c.block false 0 name
@@ -237,9 +237,9 @@ local_found : (c : Context) (name : List ℕ) (steps : List PathStep) (m : Optio
     else path_end.Unjudged) ≡ Resolved v
     → variable_by c name steps m ≡ Some x → view_named None v ≡ Some x
 local_found c name steps None v x there e n =
-    temporary_walked c
+    temporary_at_path_end c
     (path_end_in_block c.layouts c.block true (step.Named name ∷ steps)) v x
-    (walked_in_whole c true (is_some (whole_at c.layouts c.block))
+    (path_in_whole_block c true (is_some (whole_at c.layouts c.block))
     (path_end_in_block c.layouts c.block true (step.Named name ∷ steps)) v e)
     (inside (leaves_from c.layouts c.block true (step.Named name ∷ steps))
     (place_at_path_end c.layouts area.L 0 (path_end_in_block c.layouts c.block true (step.Named name ∷ steps))) x n)
@@ -248,9 +248,9 @@ local_found c name steps (Some m) v x there e n = by (is_fc (slice_get c.blocks 
     path : List PathStep
     path = step.Named name ∷ steps
 
-    sound : own_walked c false (path_end_in_block c.layouts c.block false (step.Named name ∷ steps))
+    sound : own_at_path_end c false (path_end_in_block c.layouts c.block false (step.Named name ∷ steps))
         ≡ Resolved v
-    sound = walked_in_whole c false (is_some (whole_at c.layouts c.block))
+    sound = path_in_whole_block c false (is_some (whole_at c.layouts c.block))
         (path_end_in_block c.layouts c.block false (step.Named name ∷ steps)) v e
 
     by : (fc : Bool) → is_fc (slice_get c.blocks c.block) ≡ fc
@@ -261,7 +261,7 @@ local_found c name steps (Some m) v x there e n = by (is_fc (slice_get c.blocks 
         parameter_same c name steps m v x
         (sym (function_same (slice_get c.blocks c.block)) ∙ f) there sound h
     by false f h =
-        static_walked c (path_end_in_block c.layouts c.block false (step.Named name ∷ steps)) v x
+        static_at_path_end c (path_end_in_block c.layouts c.block false (step.Named name ∷ steps)) v x
         (sym (function_same (slice_get c.blocks c.block)) ∙ f) sound
         (inside (leaves_from c.layouts c.block false (step.Named name ∷ steps))
         (place_at_path_end c.layouts area.Di 0 (path_end_in_block c.layouts c.block false (step.Named name ∷ steps)))
@@ -270,7 +270,7 @@ local_found c name steps (Some m) v x there e n = by (is_fc (slice_get c.blocks 
 local_same : (c : Context) (name : List ℕ) (steps : List PathStep) (v : ResolvedOperand) (x : NamedItem)
     → own_variable c name steps ≡ Resolved v → variable_named c name steps ≡ Some x
     → view_named None v ≡ Some x
-unfolding walked_local
+unfolding path_end_of_local
 local_same c name steps v x e n =
     local_found c name steps (component_of_name 0 0 0 name (components_of_block c)) v x refl e n
 
@@ -284,7 +284,7 @@ data_component c number component (Some kind) v x e n =
     area_same kind (elementary_place area.Db number component.offset (Some kind)) v x e n
 
 data_end : (c : Context) (number : ℕ) (end : PathEnd) (v : ResolvedOperand) (x : NamedItem)
-    → data_walked c number end ≡ Resolved v
+    → data_at_path_end c number end ≡ Resolved v
     → place_in_layout (place_at_path_end c.layouts area.Db number end) ≡ Some x → view_named None v ≡ Some x
 data_end c number (path_end.Reaches component) v x e n =
     data_component c number component (elementary_at c.layouts component) v x e n
@@ -294,7 +294,7 @@ data_end c number path_end.Unjudged v x e n = absurd cc
 -- the data block at a place of the source
 data_placed : (c : Context) (id : BlockId) (steps : List PathStep) (number place : ℕ)
     (v : ResolvedOperand) (x : NamedItem) → number ≡ id.number
-    → data_walked c number (path_end_in_data_block c.layouts place steps) ≡ Resolved v
+    → data_at_path_end c number (path_end_in_data_block c.layouts place steps) ≡ Resolved v
     → place_in_layout (option_and_then (offsets.place_in_section c.layouts id section.Global steps)
     (if_whole c.layouts place)) ≡ Some x
     → view_named None v ≡ Some x
@@ -305,7 +305,7 @@ data_placed c id steps number place v x is e n = by (is_some (whole_at c.layouts
         → view_named None v ≡ Some x
     in_db true h =
         data_end c id.number (path_end_in_data_block c.layouts place steps) v x
-        (ap (λ k. data_walked c k (path_end_in_data_block c.layouts place steps)) (sym is) ∙ e)
+        (ap (λ k. data_at_path_end c k (path_end_in_data_block c.layouts place steps)) (sym is) ∙ e)
         (inside (leaves_structure c.layouts (structure_of c.layouts place) steps)
         (place_at_path_end c.layouts area.Db id.number (path_end_in_data_block c.layouts place steps)) x h)
     in_db false h = absurd cc
@@ -389,7 +389,7 @@ plain_call : (c : Context) (o : Option BlockId) (v : ResolvedOperand) (x : Named
     → option_map (λ id. named.Called id None) o ≡ Some x → view_named None v ≡ Some x
 plain_call c None v x e n = absurd cc
 plain_call c (Some id) v x e n =
-    carry None (view.Called id None) v (named.Called id None) x refl
+    carry None (resolved.Called id None) v (named.Called id None) x refl
     (whole_called c id None None v e) n
 
 instance_call : (c : Context) (o : Option BlockId) (db : BlockName) (number : Option ℕ)
@@ -403,7 +403,7 @@ instance_call c (Some id) db None v x d e n =
     unjudged : Unjudged ≡ Resolved v → ⊥
     unjudged h = cc
 instance_call c (Some id) db (Some number) v x d e n =
-    carry None (view.Called id (Some number)) v (named.Called id (Some number)) x refl
+    carry None (resolved.Called id (Some number)) v (named.Called id (Some number)) x refl
     (whole_called c id (Some db) (Some number) v e)
     (ap (with_instance (Some id)) (sym (number_known c db number d)) ∙ n)
 
@@ -412,16 +412,16 @@ instance_call c (Some id) db (Some number) v x d e n =
 pub view_same : (c : Context) (o : Operand) (v : ResolvedOperand) (x : NamedItem)
     → resolution_of c o ≡ Resolved v → named_by c o ≡ Some x → view_named (about o) v ≡ Some x
 unfolding resolution_of named_by
-view_same c operand.Nothing v x e n = carry None view.Nothing v named.Nothing x refl e n
+view_same c operand.Nothing v x e n = carry None resolved.Nothing v named.Nothing x refl e n
 view_same c (operand.Direct None a w byte bit) v x e n =
     carry None (resolved_address 0 a w byte bit) v (named_fixed_place (own.area_by_letters a) w byte bit) x
     (direct_named a w byte bit) e n
 view_same c (operand.Direct (Some name) a w byte bit) v x e n =
     in_block_same c name a w byte bit v x (data_number c name) refl e n
 view_same c (operand.Timer number) v x e n =
-    carry None (view.Timer number) v (named.Timer (named.Written number)) x refl e n
+    carry None (resolved.Timer number) v (named.Timer (named.Written number)) x refl e n
 view_same c (operand.Counter number) v x e n =
-    carry None (view.Counter number) v (named.Counter (named.Written number)) x refl e n
+    carry None (resolved.Counter number) v (named.Counter (named.Written number)) x refl e n
 view_same c (operand.Named (head.Symbol name) steps) v x e n =
     symbol_same (symbol_named name c.symbols) v x e n
 view_same c (operand.Named (head.Local name) steps) v x e n =
@@ -429,28 +429,28 @@ view_same c (operand.Named (head.Local name) steps) v x e n =
 view_same c (operand.Named (head.InBlock name) steps) v x e n =
     component_same c name (folded_path steps) v x e n
 view_same c (operand.ByMemory a w from byte) v x e n =
-    carry None (view.ByMemory (area_for_letters a) w (area_for_letters from) byte) v
+    carry None (resolved.ByMemory (area_for_letters a) w (area_for_letters from) byte) v
     (named.Place (named.ByMemory (own.area_by_letters a) w (own.area_by_letters from) byte)) x
     (ap₂ (λ a from. Some (named.Place (named.ByMemory a w from byte))) (letters_same a) (letters_same from))
     e n
 view_same c (operand.NumberBy what from byte) v x e n =
-    carry None (view.NumberBy what (area_for_letters from) byte) v
+    carry None (resolved.NumberBy what (area_for_letters from) byte) v
     (numbered_item what (named.InWord (own.area_by_letters from) byte)) x
     (ap Some (number_in_same what from byte)) e n
 view_same c (operand.ByRegister a w r count) v x e n =
-    carry None (view.ByRegister (area_of_pointer a) w r count) v
+    carry None (resolved.ByRegister (area_of_pointer a) w r count) v
     (named.Place (named.ByRegister (option_map own.area_by_letters a) w r count)) x
     (ap (λ a. Some (named.Place (named.ByRegister a w r count))) (left_same a)) e n
 view_same c (operand.Pointer a byte bit) v x e n =
-    carry None (view.Pointer (area_of_pointer a) byte bit) v (named.Pointer (pointer_constant_bits a byte bit)) x
+    carry None (resolved.Pointer (area_of_pointer a) byte bit) v (named.Pointer (pointer_constant_bits a byte bit)) x
     (ap (λ b. Some (named.Pointer b)) (pointer_same a byte bit)) e n
 view_same c (operand.Constant value) v x e n =
-    carry (Some value) view.Constant v (named.Constant value) x refl e n
-view_same c (operand.Label name) v x e n = carry None view.Label v named.Label x refl e n
+    carry (Some value) resolved.Constant v (named.Constant value) x refl e n
+view_same c (operand.Label name) v x e n = carry None resolved.Label v named.Label x refl e n
 view_same c (operand.OfStatus flag) v x e n =
-    carry None (view.OfStatus flag) v (named.Condition flag) x refl e n
+    carry None (resolved.OfStatus flag) v (named.Condition flag) x refl e n
 view_same c (operand.Other name) v x e n =
-    ap (view_named None) (sym (resolved_same (view.Register (register_for_word name)) v e))
+    ap (view_named None) (sym (resolved_same (resolved.Register (register_for_word name)) v e))
     ∙ register_same (is_same_name name (codes "STW")) (is_same_name name (codes "DBLG"))
     (is_same_name name (codes "DBNO")) (is_same_name name (codes "DILG"))
     (is_same_name name (codes "DINO")) (is_same_name name (codes "AR2")) x n

@@ -53,7 +53,7 @@ use Rattle.stl_parser.specs.declared.statements.BareStatement.{BareStatement}
 use Rattle.stl_parser.specs.declared.tables.AddressKind.{AddressKind}
 use Rattle.stl_parser.specs.declared.tables.AddressKind.TheVariants as address
 use Rattle.stl_parser.specs.declared.tables.OperandSyntax.{OperandSyntax}
-use Rattle.stl_parser.specs.declared.tables.OperandSyntax.TheVariants as form
+use Rattle.stl_parser.specs.declared.tables.OperandSyntax.TheVariants as operand_syntax
 use Rattle.stl_parser.specs.declared.tables.HeadWord.{HeadWord}
 use Rattle.stl_parser.specs.declared.tables.Keyword.{Keyword}
 use Rattle.stl_parser.specs.declared.tables.Keyword.TheVariants as keyword
@@ -65,12 +65,12 @@ use Rattle.statement_laws.specs.Operands.{register_named}
 
 -- ---- letters of either case
 
-raised : (c : ℕ) → to_ascii_uppercase (to_ascii_lowercase c) ≡ to_ascii_uppercase c
-raised c = grind (arith, nat_tests)
+upper_of_lower : (c : ℕ) → to_ascii_uppercase (to_ascii_lowercase c) ≡ to_ascii_uppercase c
+upper_of_lower c = grind (arith, nat_tests)
 
 all_raised : (bytes : List ℕ) → str_to_ascii_uppercase (str_to_ascii_lowercase bytes) ≡ str_to_ascii_uppercase bytes
 all_raised [] = refl
-all_raised (c ∷ cs) = ap₂ (λ (d : ℕ) (ds : List ℕ). d ∷ ds) (raised c) (all_raised cs)
+all_raised (c ∷ cs) = ap₂ (λ (d : ℕ) (ds : List ℕ). d ∷ ds) (upper_of_lower c) (all_raised cs)
 
 -- a word that is an entry's but for case has its name
 same_word : (a b : List ℕ) → str_eq_ignore_ascii_case a b ≡ true → is_same_name a b ≡ true
@@ -81,11 +81,11 @@ same_word a b e =
     upper : str_to_ascii_uppercase a ≡ str_to_ascii_uppercase b
     upper = sym (all_raised a) ∙ ap str_to_ascii_uppercase ((bytes_eq-Decides (str_to_ascii_lowercase a) (str_to_ascii_lowercase b)).0 e) ∙ all_raised b
 
--- what is made of whatever was read
-made : {A B : Type 0} (o : Option A) (f : A → B) (P : B → Type 0) → ((x : A) → P (f x))
+-- what is mapped_holds of whatever was read
+mapped_holds : {A B : Type 0} (o : Option A) (f : A → B) (P : B → Type 0) → ((x : A) → P (f x))
     → IfSome (option_map f o) P
-made None f P h = tt
-made (Some x) f P h = h x
+mapped_holds None f P h = tt
+mapped_holds (Some x) f P h = h x
 
 then_made : {A B : Type 0} (o : Option A) (f : A → Option B) (P : B → Type 0)
     → ((x : A) → IfSome (f x) P) → IfSome (option_and_then f o) P
@@ -95,56 +95,56 @@ then_made (Some x) f P h = h x
 -- ---- operands
 
 -- a word that stands alone as an operand is one of the registers
-abbrev pub Has : Operand → Type 0
-Has (operand.Other name) = is_some (register_named name) ≡ true
-Has _ = Unit {0}
+abbrev pub HasKnownWord : Operand → Type 0
+HasKnownWord (operand.Other name) = is_some (register_named name) ≡ true
+HasKnownWord _ = Unit {0}
 
 register_has : (source : List ℕ) (a : Option Letters) (w : Width) (tokens : List Token)
-    → IfSome (reads.operand_by_register source a w tokens) Has
+    → IfSome (reads.operand_by_register source a w tokens) HasKnownWord
 unfolding reads.operand_by_register
-register_has source a w tokens = made (reads.register_pointer source tokens) _ Has (λ p. tt)
+register_has source a w tokens = mapped_holds (reads.register_pointer source tokens) _ HasKnownWord (λ p. tt)
 
 path_has : (source : List ℕ) (h : PathHead) (tokens : List Token)
-    → IfSome (reads.path_of source h tokens) Has
+    → IfSome (reads.path_of source h tokens) HasKnownWord
 unfolding reads.path_of
-path_has source h tokens = made (complete_reading (reads.steps_from source [] tokens)) _ Has (λ steps. tt)
+path_has source h tokens = mapped_holds (complete_reading (reads.steps_from source [] tokens)) _ HasKnownWord (λ steps. tt)
 
 block_path_has : (source : List ℕ) (name : BlockName) (tokens : List Token)
-    → IfSome (reads.block_path source name tokens) Has
+    → IfSome (reads.block_path source name tokens) HasKnownWord
 unfolding reads.block_path
 block_path_has source name [] = tt
 block_path_has source name (w ∷ rest) =
-    passed (has_kind w kind.Word) _ Has
-    (λ test. made (complete_reading (reads.steps_from source _ rest)) _ Has (λ steps. tt))
+    passed (has_kind w kind.Word) _ HasKnownWord
+    (λ test. mapped_holds (complete_reading (reads.steps_from source _ rest)) _ HasKnownWord (λ steps. tt))
 
 in_block_has : (source : List ℕ) (name : BlockName) (tokens : List Token)
-    → IfSome (reads.operand_in_block source name tokens) Has
+    → IfSome (reads.operand_in_block source name tokens) HasKnownWord
 unfolding reads.operand_in_block
 in_block_has source name tokens =
-    either _ (reads.block_path source name tokens) Has
-    (made (reads.block_place source tokens) _ Has (λ p. tt)) (block_path_has source name tokens)
+    either _ (reads.block_path source name tokens) HasKnownWord
+    (mapped_holds (reads.block_place source tokens) _ HasKnownWord (λ p. tt)) (block_path_has source name tokens)
 
 behind_block_has : (source : List ℕ) (name : BlockName) (tokens : List Token)
-    → IfSome (reads.operand_behind_block source name tokens) Has
+    → IfSome (reads.operand_behind_block source name tokens) HasKnownWord
 unfolding reads.operand_behind_block
 behind_block_has source name [] = tt
 behind_block_has source name (dot ∷ rest) =
-    passed (is_mark source dot mark.Dot) _ Has (λ test. in_block_has source name rest)
+    passed (is_mark source dot mark.Dot) _ HasKnownWord (λ test. in_block_has source name rest)
 
 data_block_has : (source : List ℕ) (n : ℕ) (tokens : List Token)
-    → IfSome (reads.data_block_operand source n tokens) Has
+    → IfSome (reads.data_block_operand source n tokens) HasKnownWord
 unfolding reads.data_block_operand
 data_block_has source n [] = tt
 data_block_has source n (t ∷ rest) =
     behind_block_has source (reads.data_block_name n) (t ∷ rest)
 
 area_has : (source : List ℕ) (a : Letters) (w : Width) (byte : ℕ) (rest : List Token)
-    → IfSome (reads.area_operand source a w byte rest) Has
+    → IfSome (reads.area_operand source a w byte rest) HasKnownWord
 unfolding reads.area_operand
-area_has source a w byte rest = made (reads.place_bit source w rest) _ Has (λ bit. tt)
+area_has source a w byte rest = mapped_holds (reads.place_bit source w rest) _ HasKnownWord (λ bit. tt)
 
 direct_has : (source : List ℕ) (a : AddressKind) (n : ℕ) (rest : List Token)
-    → IfSome (reads.direct_address_operand source a n rest) Has
+    → IfSome (reads.direct_address_operand source a n rest) HasKnownWord
 unfolding reads.direct_address_operand
 direct_has source (address.Area a w) n rest = area_has source a w n rest
 direct_has source address.Timer n [] = tt
@@ -156,20 +156,20 @@ direct_has source (address.Block true) n [] = tt
 direct_has source (address.Block true) n (t ∷ rest) = tt
 
 number_has : (source : List ℕ) (what : Numbered) (tokens : List Token)
-    → IfSome (reads.operand_by_memory_number source what tokens) Has
+    → IfSome (reads.operand_by_memory_number source what tokens) HasKnownWord
 unfolding reads.operand_by_memory_number
-number_has source what tokens = made (reads.memory_pointer source false tokens) _ Has (λ p. tt)
+number_has source what tokens = mapped_holds (reads.memory_pointer source false tokens) _ HasKnownWord (λ p. tt)
 
 area_by_has : (source : List ℕ) (a : Letters) (w : Width) (tokens : List Token)
-    → IfSome (reads.operand_by_pointer source a w tokens) Has
+    → IfSome (reads.operand_by_pointer source a w tokens) HasKnownWord
 unfolding reads.operand_by_pointer
 area_by_has source a w tokens =
-    either _ (reads.operand_by_register source (Some a) w tokens) Has
-    (made (reads.memory_pointer source true tokens) _ Has (λ p. tt))
+    either _ (reads.operand_by_register source (Some a) w tokens) HasKnownWord
+    (mapped_holds (reads.memory_pointer source true tokens) _ HasKnownWord (λ p. tt))
     (register_has source (Some a) w tokens)
 
 indirect_has : (source : List ℕ) (a : AddressKind) (tokens : List Token)
-    → IfSome (reads.indirect_operand source a tokens) Has
+    → IfSome (reads.indirect_operand source a tokens) HasKnownWord
 unfolding reads.indirect_operand
 indirect_has source (address.Area a w) tokens = area_by_has source a w tokens
 indirect_has source address.Timer tokens = number_has source numbered.Timer tokens
@@ -178,10 +178,10 @@ indirect_has source (address.Block false) tokens = number_has source numbered.Db
 indirect_has source (address.Block true) tokens = number_has source numbered.Di tokens
 
 area_pointer_has : (source : List ℕ) (a : AddressKind) (byte : ℕ) (rest : List Token)
-    → IfSome (reads.area_pointer source a byte rest) Has
+    → IfSome (reads.area_pointer source a byte rest) HasKnownWord
 unfolding reads.area_pointer
 area_pointer_has source (address.Area a width.Bit) byte rest =
-    made (bit_of source rest) _ Has (λ bit. tt)
+    mapped_holds (bit_of source rest) _ HasKnownWord (λ bit. tt)
 area_pointer_has source (address.Area a width.Byte) byte rest = tt
 area_pointer_has source (address.Area a width.Word) byte rest = tt
 area_pointer_has source (address.Area a width.Dword) byte rest = tt
@@ -190,21 +190,21 @@ area_pointer_has source address.Counter byte rest = tt
 area_pointer_has source (address.Block di) byte rest = tt
 
 plain_pointer_has : (source : List ℕ) (tokens : List Token)
-    → IfSome (reads.plain_pointer source tokens) Has
+    → IfSome (reads.plain_pointer source tokens) HasKnownWord
 unfolding reads.plain_pointer
 plain_pointer_has source [] = tt
 plain_pointer_has source (n ∷ rest) =
-    then_made (number_of source n) _ Has (λ byte. made (bit_of source rest) _ Has (λ bit. tt))
+    then_made (number_of source n) _ HasKnownWord (λ byte. mapped_holds (bit_of source rest) _ HasKnownWord (λ bit. tt))
 
-pointer_has : (source : List ℕ) (tokens : List Token) → IfSome (reads.pointer_constant_operand source tokens) Has
+pointer_has : (source : List ℕ) (tokens : List Token) → IfSome (reads.pointer_constant_operand source tokens) HasKnownWord
 unfolding reads.pointer_constant_operand
 pointer_has source tokens =
-    either (reads.plain_pointer source tokens) _ Has (plain_pointer_has source tokens)
-    (then_made (address_at source tokens) _ Has (λ r. area_pointer_has source r.0 r.1 r.2))
+    either (reads.plain_pointer source tokens) _ HasKnownWord (plain_pointer_has source tokens)
+    (then_made (address_at source tokens) _ HasKnownWord (λ r. area_pointer_has source r.0 r.1 r.2))
 
-condition_has : (source : List ℕ) (t : Token) → IfSome (reads.condition_of source t) Has
+condition_has : (source : List ℕ) (t : Token) → IfSome (reads.condition_of source t) HasKnownWord
 unfolding reads.condition_of
-condition_has source t = made (look_up flags (text_of source t)) _ Has (λ flag. tt)
+condition_has source t = mapped_holds (look_up flags (text_of source t)) _ HasKnownWord (λ flag. tt)
 
 -- ---- registers
 
@@ -256,88 +256,88 @@ register_known name e =
     (entry name (codes "AR2") named.SecondRegister _ _ (no_other name (codes "AR1")))))))
     e
 
-other_has : (source : List ℕ) (t : Token) → IfSome (reads.register_name_operand source t) Has
+other_has : (source : List ℕ) (t : Token) → IfSome (reads.register_name_operand source t) HasKnownWord
 unfolding reads.register_name_operand
 other_has source t = by (look_up registers (text_of source t)) refl
   where
     by : (found : Option Bool) → look_up registers (text_of source t) ≡ found
-        → IfSome (reads.register_name_operand_if (text_of source t) found) Has
+        → IfSome (reads.register_name_operand_if (text_of source t) found) HasKnownWord
     by (Some true) e = register_known (text_of source t) e
     by (Some false) e = tt
     by None e = tt
 
 alone_has : (source : List ℕ) (t : Token) (rest : List Token)
-    → IfSome (reads.lone_word_operand source t rest) Has
+    → IfSome (reads.lone_word_operand source t rest) HasKnownWord
 unfolding reads.lone_word_operand
 alone_has source t [] =
-    either (reads.condition_of source t) (reads.register_name_operand source t) Has (condition_has source t)
+    either (reads.condition_of source t) (reads.register_name_operand source t) HasKnownWord (condition_has source t)
     (other_has source t)
 alone_has source t (u ∷ rest) = tt
 
 plain_path_has : (source : List ℕ) (t : Token) (rest : List Token)
-    → IfSome (reads.plain_path source t rest) Has
+    → IfSome (reads.plain_path source t rest) HasKnownWord
 unfolding reads.plain_path
 plain_path_has source t rest =
-    both (reads.is_operand_word source t) None _ Has tt
+    both (reads.is_operand_word source t) None _ HasKnownWord tt
     (path_has source (head.Local (text_of source t)) rest)
 
 sized_has : (source : List ℕ) (t : Token) (rest : List Token)
-    → IfSome (reads.sized_by_register source t rest) Has
+    → IfSome (reads.sized_by_register source t rest) HasKnownWord
 unfolding reads.sized_by_register
 sized_has source t rest =
-    both (is_key source t key.B) _ _ Has (register_has source None width.Byte rest)
-    (both (is_key source t key.W) _ _ Has (register_has source None width.Word rest)
-    (passed (is_key source t key.D) _ Has (λ test. register_has source None width.Dword rest)))
+    both (is_key source t key.B) _ _ HasKnownWord (register_has source None width.Byte rest)
+    (both (is_key source t key.W) _ _ HasKnownWord (register_has source None width.Word rest)
+    (passed (is_key source t key.D) _ HasKnownWord (λ test. register_has source None width.Dword rest)))
 
 with_number_has : (source : List ℕ) (tokens : List Token)
-    → IfSome (reads.operand_with_number source tokens) Has
+    → IfSome (reads.operand_with_number source tokens) HasKnownWord
 unfolding reads.operand_with_number
 with_number_has source tokens =
-    then_made (address_at source tokens) _ Has (λ r. direct_has source r.0 r.1 r.2)
+    then_made (address_at source tokens) _ HasKnownWord (λ r. direct_has source r.0 r.1 r.2)
 
 with_pointer_has : (source : List ℕ) (t : Token) (rest : List Token)
-    → IfSome (reads.operand_with_pointer source t rest) Has
+    → IfSome (reads.operand_with_pointer source t rest) HasKnownWord
 unfolding reads.operand_with_pointer
 with_pointer_has source t rest =
-    then_made (look_up addresses (text_of source t)) _ Has (λ a. indirect_has source a rest)
+    then_made (look_up addresses (text_of source t)) _ HasKnownWord (λ a. indirect_has source a rest)
 
 word_has : (source : List ℕ) (t : Token) (rest tokens : List Token)
-    → IfSome (reads.word_operand source t rest tokens) Has
+    → IfSome (reads.word_operand source t rest tokens) HasKnownWord
 unfolding reads.word_operand
 word_has source t rest tokens =
-    either (reads.lone_word_operand source t rest) _ Has (alone_has source t rest)
-    (either (reads.operand_with_number source tokens) _ Has (with_number_has source tokens)
-    (either (reads.operand_with_pointer source t rest) _ Has (with_pointer_has source t rest)
-    (either (reads.sized_by_register source t rest) _ Has (sized_has source t rest)
+    either (reads.lone_word_operand source t rest) _ HasKnownWord (alone_has source t rest)
+    (either (reads.operand_with_number source tokens) _ HasKnownWord (with_number_has source tokens)
+    (either (reads.operand_with_pointer source t rest) _ HasKnownWord (with_pointer_has source t rest)
+    (either (reads.sized_by_register source t rest) _ HasKnownWord (sized_has source t rest)
     (plain_path_has source t rest))))
 
 quoted_has : (source : List ℕ) (t : Token) (rest : List Token)
-    → IfSome (reads.quoted_operand source t rest) Has
+    → IfSome (reads.quoted_operand source t rest) HasKnownWord
 unfolding reads.quoted_operand
 quoted_has source t [] = tt
 quoted_has source t (u ∷ rest) =
     behind_block_has source (block.Quoted (text_between_quotes (text_of source t))) (u ∷ rest)
 
 mark_has : (source : List ℕ) (t : Token) (rest tokens : List Token)
-    → IfSome (reads.mark_operand source t rest tokens) Has
+    → IfSome (reads.mark_operand source t rest tokens) HasKnownWord
 unfolding reads.mark_operand
 mark_has source t rest tokens =
-    both (is_mark source t mark.Pointer) _ _ Has (pointer_has source rest)
+    both (is_mark source t mark.Pointer) _ _ HasKnownWord (pointer_has source rest)
     (register_has source None width.Bit tokens)
 
 sign_has : (source : List ℕ) (t : Token) (rest : List Token)
-    → IfSome (reads.sign_operand source t rest) Has
+    → IfSome (reads.sign_operand source t rest) HasKnownWord
 unfolding reads.sign_operand
 sign_has source t [] = condition_has source t
 sign_has source t (u ∷ rest) = tt
 
 local_has : (source : List ℕ) (t : Token) (rest : List Token)
-    → IfSome (reads.local_path source t rest) Has
+    → IfSome (reads.local_path source t rest) HasKnownWord
 unfolding reads.local_path
 local_has source t rest = path_has source (head.Local (drop 1 (text_of source t))) rest
 
 kind_has : (source : List ℕ) (t : Token) (rest tokens : List Token) (k : TokenKind)
-    → IfSome (reads.operand_by_kind source t rest tokens k) Has
+    → IfSome (reads.operand_by_kind source t rest tokens k) HasKnownWord
 unfolding reads.operand_by_kind
 kind_has source t rest tokens kind.Word = word_has source t rest tokens
 kind_has source t rest tokens kind.Quoted = quoted_has source t rest
@@ -346,113 +346,113 @@ kind_has source t rest tokens kind.Mark = mark_has source t rest tokens
 kind_has source t rest tokens kind.SignWord = sign_has source t rest
 kind_has source t rest tokens _ = tt
 
-operand_has : (source : List ℕ) (tokens : List Token) → IfSome (reads.operand_of source tokens) Has
+operand_has : (source : List ℕ) (tokens : List Token) → IfSome (reads.operand_of source tokens) HasKnownWord
 unfolding reads.operand_of
 operand_has source [] = tt
 operand_has source (t ∷ rest) =
-    either (option_map operand.Constant (literal_of source (t ∷ rest))) _ Has
-    (made (literal_of source (t ∷ rest)) _ Has (λ l. tt))
+    either (option_map operand.Constant (literal_of source (t ∷ rest))) _ HasKnownWord
+    (mapped_holds (literal_of source (t ∷ rest)) _ HasKnownWord (λ l. tt))
     (kind_has source t rest (t ∷ rest) t.kind)
 
 -- ---- statements
 
-abbrev BareHas : BareStatement → Type 0
-BareHas i = Has i.operand
+abbrev BareHasKnownWord : BareStatement → Type 0
+BareHasKnownWord i = HasKnownWord i.operand
 
 with_operand_has : (source : List ℕ) (code : Mnemonic) (tokens : List Token)
-    → IfSome (states.statement_with_operand source code tokens) BareHas
+    → IfSome (states.statement_with_operand source code tokens) BareHasKnownWord
 unfolding states.statement_with_operand
 with_operand_has source code tokens =
-    mapped (reads.operand_of source tokens) _ Has BareHas (operand_has source tokens) (λ o k. k)
+    mapped (reads.operand_of source tokens) _ HasKnownWord BareHasKnownWord (operand_has source tokens) (λ o k. k)
 
 jump_has : (source : List ℕ) (code : Mnemonic) (tokens : List Token)
-    → IfSome (states.jump_of source code tokens) BareHas
+    → IfSome (states.jump_of source code tokens) BareHasKnownWord
 unfolding states.jump_of
 jump_has source code [] = with_operand_has source code []
 jump_has source code (t ∷ []) =
-    both (has_kind t kind.Word) _ _ BareHas tt (with_operand_has source code (t ∷ []))
+    both (has_kind t kind.Word) _ _ BareHasKnownWord tt (with_operand_has source code (t ∷ []))
 jump_has source code (t ∷ u ∷ rest) = with_operand_has source code (t ∷ u ∷ rest)
 
 open_has : (source : List ℕ) (code : Mnemonic) (tokens : List Token)
-    → IfSome (states.open_of source code tokens) BareHas
+    → IfSome (states.open_of source code tokens) BareHasKnownWord
 unfolding states.open_of
 open_has source code [] = with_operand_has source code []
 open_has source code (t ∷ []) =
-    both (has_kind t kind.Quoted) _ _ BareHas tt (with_operand_has source code (t ∷ []))
+    both (has_kind t kind.Quoted) _ _ BareHasKnownWord tt (with_operand_has source code (t ∷ []))
 open_has source code (t ∷ u ∷ rest) = with_operand_has source code (t ∷ u ∷ rest)
 
 block_call_has : (source : List ℕ) (code : Mnemonic) (tokens : List Token)
-    → IfSome (states.block_call_of source code tokens) BareHas
+    → IfSome (states.block_call_of source code tokens) BareHasKnownWord
 unfolding states.block_call_of
 block_call_has source code tokens =
-    made (complete_reading (block_at source tokens)) _ BareHas (λ name. tt)
+    mapped_holds (complete_reading (block_at source tokens)) _ BareHasKnownWord (λ name. tt)
 
 call_has : (source : List ℕ) (code : Mnemonic) (tokens : List Token)
-    → IfSome (states.call_of source code tokens) BareHas
+    → IfSome (states.call_of source code tokens) BareHasKnownWord
 unfolding states.call_of
 call_has source code tokens =
-    then_made (block_at source tokens) _ BareHas
-    (λ b. then_made (states.instance_at source b.0 b.1) _ BareHas
-    (λ i. made (states.actuals_of source i.1) _ BareHas (λ actuals. tt)))
+    then_made (block_at source tokens) _ BareHasKnownWord
+    (λ b. then_made (states.instance_at source b.0 b.1) _ BareHasKnownWord
+    (λ i. mapped_holds (states.actuals_of source i.1) _ BareHasKnownWord (λ actuals. tt)))
 
 behind_word_has : (source : List ℕ) (f : OperandSyntax) (code : Mnemonic) (tokens : List Token)
-    → IfSome (states.behind_word source f code tokens) BareHas
+    → IfSome (states.behind_word source f code tokens) BareHasKnownWord
 unfolding states.behind_word
-behind_word_has source form.Operand code tokens = with_operand_has source code tokens
-behind_word_has source form.Jump code tokens = jump_has source code tokens
-behind_word_has source form.Open code tokens = open_has source code tokens
-behind_word_has source form.BlockCall code tokens = block_call_has source code tokens
-behind_word_has source form.Call code tokens = call_has source code tokens
+behind_word_has source operand_syntax.Operand code tokens = with_operand_has source code tokens
+behind_word_has source operand_syntax.Jump code tokens = jump_has source code tokens
+behind_word_has source operand_syntax.Open code tokens = open_has source code tokens
+behind_word_has source operand_syntax.BlockCall code tokens = block_call_has source code tokens
+behind_word_has source operand_syntax.Call code tokens = call_has source code tokens
 
 opening_has : (source : List ℕ) (t : Token) (rest : List Token)
-    → IfSome (states.opening_instruction source t rest) BareHas
+    → IfSome (states.opening_instruction source t rest) BareHasKnownWord
 unfolding states.opening_instruction
 opening_has source t rest =
-    then_made (look_up opening_mnemonics (text_of source t)) _ BareHas
-    (λ m. then_made (states.after_paren source rest) _ BareHas
+    then_made (look_up opening_mnemonics (text_of source t)) _ BareHasKnownWord
+    (λ m. then_made (states.after_paren source rest) _ BareHasKnownWord
     (λ behind. with_operand_has source m behind))
 
 zone_end_has : (source : List ℕ) (t : Token) (rest : List Token)
-    → IfSome (states.zone_end_of source t rest) BareHas
+    → IfSome (states.zone_end_of source t rest) BareHasKnownWord
 unfolding states.zone_end_of
 zone_end_has source t [] = tt
 zone_end_has source t (w ∷ rest) =
-    passed (is_mark source t mark.CloseParen && is_key source w key.Mcr) _ BareHas
+    passed (is_mark source t mark.CloseParen && is_key source w key.Mcr) _ BareHasKnownWord
     (λ test. with_operand_has source mnemonic.McrClose rest)
 
 closed_has : (source : List ℕ) (t : Token) (rest : List Token)
-    → IfSome (states.one_token_instruction source t rest) BareHas
+    → IfSome (states.one_token_instruction source t rest) BareHasKnownWord
 unfolding states.one_token_instruction
 closed_has source t rest =
-    then_made (look_up mnemonics (text_of source t)) _ BareHas
+    then_made (look_up mnemonics (text_of source t)) _ BareHasKnownWord
     (λ m. behind_word_has source m.1 m.0 rest)
 
 instruction_has : (source : List ℕ) (tokens : List Token)
-    → IfSome (states.instruction_of source tokens) BareHas
+    → IfSome (states.instruction_of source tokens) BareHasKnownWord
 unfolding states.instruction_of
 instruction_has source [] = tt
 instruction_has source (t ∷ rest) =
-    either (states.opening_instruction source t rest) _ BareHas (opening_has source t rest)
-    (either (states.zone_end_of source t rest) _ BareHas (zone_end_has source t rest)
+    either (states.opening_instruction source t rest) _ BareHasKnownWord (opening_has source t rest)
+    (either (states.zone_end_of source t rest) _ BareHasKnownWord (zone_end_has source t rest)
     (closed_has source t rest))
 
-abbrev pub StatementHas : Statement → Type 0
-StatementHas s = Has s.operand
+abbrev pub StatementHasKnownWord : Statement → Type 0
+StatementHasKnownWord s = HasKnownWord s.operand
 
 abbrev ReadHas : Statement × Bool → Type 0
-ReadHas r = StatementHas r.0
+ReadHas r = StatementHasKnownWord r.0
 
 labelled_has : (source : List ℕ) (line : ℕ) (w : Token) (rest : List Token)
     → IfSome (states.labelled_statement source line w rest) ReadHas
 unfolding states.labelled_statement
 labelled_has source line w rest =
-    mapped (states.instruction_of source rest) _ BareHas ReadHas (instruction_has source rest) (λ i k. k)
+    mapped (states.instruction_of source rest) _ BareHasKnownWord ReadHas (instruction_has source rest) (λ i k. k)
 
 unlabelled_has : (source : List ℕ) (line : ℕ) (tokens : List Token)
     → IfSome (states.unlabelled_statement source line tokens) ReadHas
 unfolding states.unlabelled_statement
 unlabelled_has source line tokens =
-    mapped (states.instruction_of source tokens) _ BareHas ReadHas (instruction_has source tokens) (λ i k. k)
+    mapped (states.instruction_of source tokens) _ BareHasKnownWord ReadHas (instruction_has source tokens) (λ i k. k)
 
 statement_has : (source : List ℕ) (line : ℕ) (tokens : List Token)
     → IfSome (states.statement_of source line tokens) ReadHas
@@ -465,15 +465,15 @@ statement_has source line (w ∷ colon ∷ rest) =
 
 -- ---- clauses
 
-abbrev ClauseHas : Clause → Type 0
-ClauseHas (clause.Runs s) = StatementHas s
-ClauseHas _ = Unit {0}
+abbrev ClauseHasKnownWord : Clause → Type 0
+ClauseHasKnownWord (clause.Runs s) = StatementHasKnownWord s
+ClauseHasKnownWord _ = Unit {0}
 
 abbrev FirstClauseHas : Clause × List Token × Bool → Type 0
-FirstClauseHas r = ClauseHas r.0
+FirstClauseHas r = ClauseHasKnownWord r.0
 
 abbrev InsideHas : Clause × Bool → Type 0
-InsideHas r = ClauseHas r.0
+InsideHas r = ClauseHasKnownWord r.0
 
 inside_has : (source : List ℕ) (p : ClausePlace) (line : ℕ) (inside : List Token)
     → IfSome (clauses.inside_clause source p line inside) InsideHas
@@ -485,7 +485,7 @@ inside_has source p line inside =
     (either (clauses.statement_clause source line inside) _ InsideHas
     (mapped (states.statement_of source line inside) _ ReadHas InsideHas
     (statement_has source line inside) (λ r k. k))
-    (made (clauses.setting_of source line inside) _ InsideHas (λ s. tt)))
+    (mapped_holds (clauses.setting_of source line inside) _ InsideHas (λ s. tt)))
 
 plain_has : (source : List ℕ) (p : ClausePlace) (line : ℕ) (tokens : List Token)
     → IfSome (clauses.plain_clause source p line tokens) FirstClauseHas
@@ -493,7 +493,7 @@ unfolding clauses.plain_clause clauses.structure_clause clauses.semicolon_clause
 plain_has source p line tokens =
     either (clauses.structure_clause source p tokens) _ FirstClauseHas
     (both (clauses.takes_parameters p) None _ FirstClauseHas tt
-    (made (structure_at source (clauses.level_at p) tokens) _ FirstClauseHas (λ r. tt)))
+    (mapped_holds (structure_at source (clauses.level_at p) tokens) _ FirstClauseHas (λ r. tt)))
     (then_made (clauses.until_semicolon source tokens) _ FirstClauseHas
     (λ cut.
     mapped (clauses.inside_clause source p line cut.0) _ InsideHas FirstClauseHas
@@ -515,7 +515,7 @@ keyword_has : (source : List ℕ) (p : ClausePlace) (line : ℕ) (k : Keyword) (
 unfolding clauses.keyword_clause clauses.head_clause clauses.structure_end clauses.inner_end
 keyword_has source p line (keyword.Opens k) rest =
     then_made (clauses.block_of_kind_at source k rest) _ FirstClauseHas
-    (λ b. made (clauses.result_at source k b.1) _ FirstClauseHas (λ r. tt))
+    (λ b. mapped_holds (clauses.result_at source k b.1) _ FirstClauseHas (λ r. tt))
 keyword_has source p line (keyword.Ends k) rest = tt
 keyword_has source p line (keyword.Section k) rest = tt
 keyword_has source p line keyword.EndSection rest = tt
@@ -535,7 +535,7 @@ free_word_has : (source : List ℕ) (p : ClausePlace) (t : Token) (rest tokens :
 unfolding clauses.free_word_clause clauses.head_word_clause
 free_word_has source p t rest tokens (Some w) =
     both (clauses.is_outer p) _ _ FirstClauseHas
-    (made (clauses.head_word_at source w rest) _ FirstClauseHas (λ behind. tt))
+    (mapped_holds (clauses.head_word_at source w rest) _ FirstClauseHas (λ behind. tt))
     (other_clause_has source p t.line tokens)
 free_word_has source p t rest tokens None = other_clause_has source p t.line tokens
 
@@ -567,7 +567,7 @@ clause_has source p (t ∷ rest) = clause_kind_has source p t rest (t ∷ rest) 
 
 reads_has : (source : List ℕ) (p : ClausePlace) (ts : List Token) (cs : List Clause)
     (q : ClausePlace) (rest : List Token) → ReadsClauses source p ts cs q rest
-    → AllByRecursion ClauseHas cs
+    → AllByRecursion ClauseHasKnownWord cs
 reads_has source p ts [] q rest reads = tt
 reads_has source p ts (c ∷ cs) q rest reads =
     let right = right_clause source p ts c reads.0 reads.1 reads.2 in (
@@ -576,44 +576,44 @@ reads_has source p ts (c ∷ cs) q rest reads =
       reads_has source reads.1 reads.0 cs q rest reads.3,
     )
 
-kept_has : (cs : List Clause) → AllByRecursion ClauseHas cs
-    → AllByRecursion ClauseHas (filter is_kept_by_tree cs)
+kept_has : (cs : List Clause) → AllByRecursion ClauseHasKnownWord cs
+    → AllByRecursion ClauseHasKnownWord (filter is_kept_by_tree cs)
 kept_has [] h = tt
 kept_has (c ∷ cs) h = by (is_kept_by_tree c) (kept_has cs h.1)
   where
-    by : (b : Bool) → AllByRecursion ClauseHas (filter is_kept_by_tree cs)
-        → AllByRecursion ClauseHas (cond b (c ∷ filter is_kept_by_tree cs) (filter is_kept_by_tree cs))
+    by : (b : Bool) → AllByRecursion ClauseHasKnownWord (filter is_kept_by_tree cs)
+        → AllByRecursion ClauseHasKnownWord (cond b (c ∷ filter is_kept_by_tree cs) (filter is_kept_by_tree cs))
     by true more = (h.0, more)
     by false more = more
 
-body_has : (body : List Statement) → AllByRecursion ClauseHas (map clause.Runs body)
-    → AllByRecursion StatementHas body
+body_has : (body : List Statement) → AllByRecursion ClauseHasKnownWord (map clause.Runs body)
+    → AllByRecursion StatementHasKnownWord body
 body_has [] h = tt
 body_has (s ∷ body) h = (h.0, body_has body h.1)
 
-block_has : (b : Block) → AllByRecursion ClauseHas (spelled_block b)
-    → AllByRecursion StatementHas b.body
+block_has : (b : Block) → AllByRecursion ClauseHasKnownWord (spelled_block b)
+    → AllByRecursion StatementHasKnownWord b.body
 block_has b h =
     let ends = clause.Ends b.end_line b.kind ∷ [] in
     let runs = map clause.Runs b.body in
-    let shaped = all_back ClauseHas (flat_map spelled_part b.parts) _ h.1 in
-    let set = all_back ClauseHas (spelled_shape b.shape b.instance_of b.components) _ shaped in
-    let body = all_back ClauseHas (map clause.Sets b.settings) (runs ++ ends) set in
-    body_has b.body (all_front ClauseHas runs ends body)
+    let shaped = all_back ClauseHasKnownWord (flat_map spelled_part b.parts) _ h.1 in
+    let set = all_back ClauseHasKnownWord (spelled_shape b.shape b.instance_of b.components) _ shaped in
+    let body = all_back ClauseHasKnownWord (map clause.Sets b.settings) (runs ++ ends) set in
+    body_has b.body (all_front ClauseHasKnownWord runs ends body)
 
-blocks_have : (bs : List Block) → AllByRecursion ClauseHas (flat_map spelled_block bs)
-    → AllByRecursion (λ b. AllByRecursion StatementHas b.body) bs
+blocks_have : (bs : List Block) → AllByRecursion ClauseHasKnownWord (flat_map spelled_block bs)
+    → AllByRecursion (λ b. AllByRecursion StatementHasKnownWord b.body) bs
 blocks_have [] h = tt
 blocks_have (b ∷ bs) h = (
-  block_has b (all_front ClauseHas (spelled_block b) (flat_map spelled_block bs) h),
-  blocks_have bs (all_back ClauseHas (spelled_block b) (flat_map spelled_block bs) h),
+  block_has b (all_front ClauseHasKnownWord (spelled_block b) (flat_map spelled_block bs) h),
+  blocks_have bs (all_back ClauseHasKnownWord (spelled_block b) (flat_map spelled_block bs) h),
 )
 
 -- in the tree of a source a word that stands alone as an operand is one of the registers
 pub words_known : (source : List ℕ) (tokens : List Token) (t : Tree) → IsTree source tokens t
-    → AllByRecursion (λ (b : Block). AllByRecursion StatementHas b.body) t.blocks
+    → AllByRecursion (λ (b : Block). AllByRecursion StatementHasKnownWord b.body) t.blocks
 words_known source tokens t is =
     blocks_have t.blocks
-    (subst (AllByRecursion ClauseHas) (sym is.those)
+    (subst (AllByRecursion ClauseHasKnownWord) (sym is.those)
     (kept_has is.clauses
     (reads_has source place.Outside tokens is.clauses place.Outside [] is.reads)))

@@ -20,7 +20,7 @@ use Rattle.frames.specs.declared.Activation.{Activation}
 use Rattle.machine.specs.Code.{Code}
 use Rattle.machine.specs.Statement.{GlobalStore, StatementStep, instruction_step}
 use Rattle.sem_kept.specs.Accepted.{IsAccepted}
-use Rattle.sem_kept.specs.Settled.{HasLabel, context_of}
+use Rattle.sem_kept.specs.Settled.{HasLabel, context_at}
 use Rattle.statement_laws.specs.Calls.{bindings_of, calls_block, parameter_names}
 use Rattle.statement_laws.specs.Effects.{effect_of_statement}
 use Rattle.statement_laws.specs.Jumps.{ends_block, jumps_by_list, jumps_to_target, number_of_label}
@@ -72,7 +72,7 @@ abbrev pub AcceptedOperandsAreNamed : Type 0
 AcceptedOperandsAreNamed =
     (source file : List ℕ) (symbols : List Symbol) (t : Tree) → IsAccepted source file symbols t
     → AreBytes source → (k : ℕ) (b : Block) → slice_get t.blocks k ≡ Some b
-    → AllByRecursion (IsNamedStatement (context_of symbols t k)) b.body
+    → AllByRecursion (IsNamedStatement (context_at symbols t k)) b.body
 
 -- ---- what is done
 
@@ -158,5 +158,5 @@ AcceptedStatementsAct =
     → AreBytes source → (k : ℕ) (b : Block) → slice_get t.blocks k ≡ Some b
     → AllByRecursion
     (λ s. is_empty_statement s.code ≡ false → (n : ℕ)
-    → DoesAsWritten (context_of symbols t k) b.body n s)
+    → DoesAsWritten (context_at symbols t k) b.body n s)
     b.body

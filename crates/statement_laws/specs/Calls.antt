@@ -4,6 +4,7 @@
 use Rattle.std.specs.Prelude.{ℕ, suc, nat_eq, Bool, true, false, List, [], ◌∷◌, ◌++◌, map, length, replicate, codes, slice_get, Option, Some, None, Result, Ok, Err, bytes_eq, if◌then◌else◌}
 use Rattle.std.specs.List.{flat_map}
 use Rattle.std.specs.Option.{option_and_then}
+use Rattle.plc_base.specs.ErrorCodes as errors
 use Rattle.plc_base.specs.Folding.{upper_case_name}
 use Rattle.plc_base.specs.Kinds.{is_system_function}
 use Rattle.plc_base.specs.declared.blocks.BlockId.{BlockId}
@@ -29,6 +30,7 @@ use Rattle.flat_code.specs.declared.programs.Param.{Param}
 use Rattle.machine.specs.Code.{Code, BlockHead}
 use Rattle.machine.specs.Entering.{call_with_bindings}
 use Rattle.machine.specs.ExecState.{ExecState, exec_state_of, then_ok}
+use Rattle.machine.specs.Places.{no_operand}
 use Rattle.machine.specs.Statement.{StatementStep, Stuck, Went, GlobalStore, call_step, after_system_call, called_block}
 use Rattle.machine.specs.SystemCalls.{arguments_of_activation, system_function}
 use Rattle.machine.specs.declared.places.Access.{Access}
@@ -124,7 +126,7 @@ named_in_call c (Some a) = option_and_then if_passable (named_by c a.value)
 -- ---- what it stands for
 
 -- a parameter stands for a place where there is such a place; else the error of a missing one,
--- 22 or 23, in the peripheral area 42 or 43
+-- 16#22 or 16#23, in the peripheral area 16#42 or 16#43
 abbrev pub binding_if : Access → Location → Option ℕ → Result Binding ℕ
 binding_if access b None = Err (missing_place_error access b.place.area)
 binding_if access b (Some n) = Ok (binding.AtPlace b.place b.width b.frame)
@@ -136,10 +138,10 @@ binding_at access b p = binding_if access b (number_at_bound b.place.area b p)
 -- what a parameter of the caller that is passed on stands for
 abbrev pub binding_passed_on : Option Binding → Result Binding ℕ
 binding_passed_on (Some b) = Ok b
-binding_passed_on None = Err 0
+binding_passed_on None = Err no_operand
 
 -- what a parameter stands for by what is passed: a constant by its value, a place as it is at
--- the call; a place in a data block that is named opens nothing, and is error 3A where the block
+-- the call; a place in a data block that is named opens nothing, and is error 16#3A where the block
 -- isn't loaded
 unfoldable pub binding_of : Access → NamedItem → ExecState → Result Binding ℕ
 binding_of access (named.Constant value) p = Ok (binding.Constant (bits_of_literal value))
@@ -147,10 +149,11 @@ binding_of access (named.Place (named.Fixed a w byte bit)) p =
     then_ok (fixed_place access a w byte bit p) (λ b. binding_at access b p)
 binding_of access (named.PlaceIn block w byte bit) p =
     if is_data_block_loaded block p
-    then binding_at access (location_of_parts area.Db block byte bit w 0) p else Err 0x3A
+    then binding_at access (location_of_parts area.Db block byte bit w 0) p
+    else Err errors.no_data_block
 binding_of access (named.Parameter index w) p =
     binding_passed_on (slice_get p.local.inner.bindings index)
-binding_of access _ p = Err 0
+binding_of access _ p = Err no_operand
 
 -- how the place for a parameter is tested: as one that is written for OUT, as one that is read
 -- for IN and IN_OUT
@@ -161,7 +164,7 @@ access_of param = if nat_eq param.section section_out then Writing else Reading
 -- block has
 abbrev pub binding_for : Option Param → NamedItem → ExecState → Result Binding ℕ
 binding_for (Some param) x p = binding_of (access_of param) x p
-binding_for None x p = Err 0
+binding_for None x p = Err no_operand
 
 -- the parameter of an index is bound to what is passed for it, if something is, and then goes on
 -- with `next`

@@ -3,6 +3,7 @@
 -- to what the block holds.
 use Rattle.std.specs.Prelude.{ℕ, ◌+◌, ◌-◌, ◌%◌, ◌^◌, ◌==◌, nat_lt, Bool, true, false, ◌&&◌, not, is_some, List, [], ◌∷◌, length, Option, Some, None, Result, Ok, Err, ok_or, unwrap_or, if◌then◌else◌}
 use Rattle.std.specs.FinMap as map
+use Rattle.plc_base.specs.ErrorCodes as errors
 use Rattle.plc_base.specs.Widths.{bit_count}
 use Rattle.plc_base.specs.declared.instructions.Check.{Check}
 use Rattle.plc_base.specs.declared.instructions.Check.TheVariants as check
@@ -34,6 +35,7 @@ use Rattle.timers_counters.specs.Numbered.{change_at_number}
 use Rattle.timers_counters.specs.Timer as timers
 use Rattle.timers_counters.specs.declared.faults.TimerFault.{TimerFault}
 use Rattle.timers_counters.specs.declared.faults.TimerFault.TheVariants.{BadBcd, NoNumber}
+use Rattle.flat_code.specs.Placed.{most_brackets, most_zones}
 use Rattle.frames.specs.FrameData.{FrameData}
 use Rattle.frames.specs.Relay.{is_zone_closed, zone_ended, zone_opened}
 use Rattle.frames.specs.declared.relay.Relay.{Relay}
@@ -41,6 +43,7 @@ use Rattle.stl_ast.specs.declared.literals.Literal.TheVariants as literal
 use Rattle.stl_ast.specs.declared.mnemonics.Mnemonic.{Mnemonic}
 use Rattle.stl_ast.specs.declared.mnemonics.Mnemonic.TheVariants as code
 use Rattle.machine.specs.ExecState.{ExecState, then_ok}
+use Rattle.machine.specs.Places.{no_operand}
 use Rattle.machine.specs.declared.places.Access.TheVariants.{Writing}
 use Rattle.machine.specs.declared.places.Location.{Location}
 use Rattle.statement_laws.specs.Named.{NamedItem, ItemNumber, OpenBlock}
@@ -101,13 +104,13 @@ with_bracket_list brackets p = with_inner (record p.local.inner { brackets = bra
 -- A( to XN(: a bracket opens; none is an eighth
 abbrev pub opens_bracket : Check → ExecState → Result ExecState ℕ
 opens_bracket with p =
-    if length p.local.inner.brackets == 7 then Err 0
+    if length p.local.inner.brackets == most_brackets then Err no_operand
     else on_regs bracket_begun
     (with_bracket_list (entry_of with (registers_of p) ∷ p.local.inner.brackets) p)
 
 -- ): the first bracket of the list, the innermost one, closes; an error where none is open
 abbrev pub closes_one : List Bracket → ExecState → Result ExecState ℕ
-closes_one [] p = Err 0
+closes_one [] p = Err no_operand
 closes_one (bracket ∷ rest) p = on_regs (bracket_ended bracket) (with_bracket_list rest p)
 
 -- ): the innermost bracket closes
@@ -166,12 +169,12 @@ activates_relay active p = Ok (with_relay (record p.local.inner.relay { active =
 -- MCR(: at most eight zones are open
 abbrev pub opens_relay_zone : ExecState → Result ExecState ℕ
 opens_relay_zone p =
-    if length p.local.inner.relay.zones == 8 then Err 0
+    if length p.local.inner.relay.zones == most_zones then Err no_operand
     else on_regs (after_store true) (with_relay (zone_opened (rlo_of p) p.local.inner.relay) p)
 
 -- )MCR: the last of these zones ends; an error where none is open
 abbrev pub ends_zone_of : List Bool → ExecState → Result ExecState ℕ
-ends_zone_of [] p = Err 0
+ends_zone_of [] p = Err no_operand
 ends_zone_of (value ∷ around) p =
     on_regs (after_store true) (with_relay (zone_ended p.local.inner.relay) p)
 
@@ -277,9 +280,9 @@ address_after address count = accumulators.with_low 24 address ((address + count
 
 -- ---- number instructions
 
--- an instruction on the registers that reads a BCD number; error 21 where there is none
+-- an instruction on the registers that reads a BCD number; error 16#21 where there is none
 abbrev pub on_bcd : (Regs → Option Regs) → ExecState → Result ExecState ℕ
-on_bcd f p = then_ok (ok_or (f (registers_of p)) 0x21) (λ r. Ok (with_regs r p))
+on_bcd f p = then_ok (ok_or (f (registers_of p)) errors.bad_bcd) (λ r. Ok (with_regs r p))
 
 -- the constant of an operand in so many bits, where there is one
 abbrev pub constant_of_width : (w : ℕ) → NamedItem → Option ℕ
@@ -306,42 +309,42 @@ shift_count x p = unwrap_or (constant_of_width 8 x) ((registers_of p).a2 % 2 ^ 8
 abbrev pub with_logic_string_ended : Regs → Regs
 with_logic_string_ended r = record r { status = record r.status { or = false; fc = false } }
 
--- what a timer or counter gives, or an error: 21 for a digit above 9 in BCD, `code` where there
+-- what a timer or counter gives, or an error: 16#21 for a digit above 9 in BCD, `code` where there
 -- is no timer or counter of the number
 abbrev pub or_error : {A : Type 0} → (code : ℕ) → Result A TimerFault → Result A ℕ
 or_error code (Ok x) = Ok x
 or_error code (Err NoNumber) = Err code
-or_error code (Err BadBcd) = Err 0x21
+or_error code (Err BadBcd) = Err errors.bad_bcd
 
--- an instruction on the timer of a number; error 26 where there is none, 21 where it finds a
--- digit above 9
+-- an instruction on the timer of a number; error 16#26 where there is none, 16#21 where it finds
+-- a digit above 9
 abbrev pub on_timer :
     (timers.Timer → Option timers.Timer) → ItemNumber → ExecState → Result ExecState ℕ
 on_timer f n p =
     then_ok (number_of_item n p) (λ which.
-    then_ok (or_error 0x26 (change_at_number f p.timers which)) (λ all.
+    then_ok (or_error errors.no_timer (change_at_number f p.timers which)) (λ all.
     on_regs with_logic_string_ended (record p { timers = all })))
 
--- an instruction on the counter of a number; error 27 where there is none, 21 where it finds a
--- digit above 9
+-- an instruction on the counter of a number; error 16#27 where there is none, 16#21 where it finds
+-- a digit above 9
 abbrev pub on_counter :
     (counters.Counter → Option counters.Counter) → ItemNumber → ExecState → Result ExecState ℕ
 on_counter f n p =
     then_ok (number_of_item n p) (λ which.
-    then_ok (or_error 0x27 (change_at_number f p.counters which)) (λ all.
+    then_ok (or_error errors.no_counter (change_at_number f p.counters which)) (λ all.
     on_regs with_logic_string_ended (record p { counters = all })))
 
 -- SP, SE, SD, SS or SF: a timer is started by the RLO, with the time in the low word of
 -- accumulator 1
 abbrev pub starts_timer : TimerKind → NamedItem → ExecState → Result ExecState ℕ
 starts_timer how (named.Timer n) p = on_timer (timers.start_timer how (rlo_of p) (low_word p)) n p
-starts_timer how x p = Err 0
+starts_timer how x p = Err no_operand
 
 -- CU or CD: a counter counts by the RLO
 abbrev pub counts_counter :
     (Bool → counters.Counter → counters.Counter) → NamedItem → ExecState → Result ExecState ℕ
 counts_counter f (named.Counter n) p = on_counter (λ k. Some (f (rlo_of p) k)) n p
-counts_counter f x p = Err 0
+counts_counter f x p = Err no_operand
 
 -- S of a counter, and of a bit
 abbrev pub sets_operand : NamedItem → ExecState → Result ExecState ℕ
@@ -359,7 +362,7 @@ resets_operand x p = sets_bit false x p
 abbrev pub frees_operand : NamedItem → ExecState → Result ExecState ℕ
 frees_operand (named.Timer n) p = on_timer (λ t. Some (timers.free_timer (rlo_of p) t)) n p
 frees_operand (named.Counter n) p = on_counter (λ k. Some (counters.free_counter (rlo_of p) k)) n p
-frees_operand x p = Err 0
+frees_operand x p = Err no_operand
 
 -- ---- data blocks
 
@@ -374,15 +377,16 @@ with_open true n p = with_inner (record p.local.inner { di = Some n }) p
 with_open false n p = with_inner (record p.local.inner { db = Some n }) p
 
 -- the data block of this number is opened in the DI register (true) or in the DB register; error
--- 3A where it isn't loaded
+-- 16#3A where it isn't loaded
 abbrev pub opens_block_number : (di : Bool) → ℕ → ExecState → Result ExecState ℕ
-opens_block_number di n p = if is_data_block_loaded n p then Ok (with_open di n p) else Err 0x3A
+opens_block_number di n p =
+    if is_data_block_loaded n p then Ok (with_open di n p) else Err errors.no_data_block
 
 -- OPN: a data block is opened by its number
 abbrev pub opens_data_block : NamedItem → ExecState → Result ExecState ℕ
 opens_data_block (named.DataBlock di n) p =
     then_ok (number_of_item n p) (λ which. opens_block_number di which p)
-opens_data_block x p = Err 0
+opens_data_block x p = Err no_operand
 
 -- CDB: the DB register and the DI register are exchanged
 abbrev pub exchanges_blocks : ExecState → Result ExecState ℕ
@@ -506,10 +510,10 @@ effect_of_operation code.Cu x p = counts_counter counters.count_up x p
 effect_of_operation code.Cd x p = counts_counter counters.count_down x p
 effect_of_operation code.Opn x p = opens_data_block x p
 effect_of_operation code.Cdb x p = exchanges_blocks p
-effect_of_operation _ x p = Err 0
+effect_of_operation _ x p = Err no_operand
 
 -- what a statement does by its mnemonic and what its operand names: for a place in a data block
--- that is named, that block is opened first, error 3A where it isn't loaded, and the place is
+-- that is named, that block is opened first, error 16#3A where it isn't loaded, and the place is
 -- that in the DB register
 unfoldable pub effect_of_statement : Mnemonic → NamedItem → ExecState → Result ExecState ℕ
 effect_of_statement m (named.PlaceIn block width byte bit) p =

@@ -351,13 +351,13 @@ is_call_instruction _ = false
 -- what an actual parameter resolves to is named
 pub record IsNamedActual (c : Context) (a : Actual) : Type 0 where
   -- what the value of the actual parameter resolves to
-  pub view : ResolvedOperand
-  -- the value of the actual parameter resolves to `view`
-  pub seen : resolution_of c a.value ≡ Resolved view
+  pub resolved_value : ResolvedOperand
+  -- the value of the actual parameter resolves to `resolved_value`
+  pub resolves : resolution_of c a.value ≡ Resolved resolved_value
   -- what the value of the actual parameter names
-  pub named : NamedItem
-  -- the value of the actual parameter names `named`
-  pub names : named_by c a.value ≡ Some named
+  pub item : NamedItem
+  -- the value of the actual parameter names `item`
+  pub names : named_by c a.value ≡ Some item
 
 -- each call of a block whose parameters are known does what its mnemonic says, where what is
 -- passed is named
@@ -380,7 +380,7 @@ CallsAct =
 
 -- the code of a block by its statements
 pub record HasNumberedStatements (c : Context) (b : Block) : Type 0 where
-  -- each that isn't empty has the number that counts those before it
+  -- each statement that isn't empty has the number that counts those before it
   pub each :
       (front : List Statement) (s : Statement) (rest : List Statement) → b.body ≡ front ++ s ∷ rest
       → is_empty_statement s.code ≡ false
@@ -389,11 +389,11 @@ pub record HasNumberedStatements (c : Context) (b : Block) : Type 0 where
         instr = instruction c b.body (numbered_statement_count front) s;
         line = s.line;
       })
-  -- behind them one returns, as BE does, with the line of the END clause
+  -- behind the last of them one returns, as BE does, with the line of the END clause
   pub last :
       slice_get (statements_of c b) (numbered_statement_count b.body)
       ≡ Some (record { instr = Returns end_word.Be; line = b.end_line })
-  -- and there is no other
+  -- the code has no other statement
   pub count : length (statements_of c b) ≡ numbered_statement_count b.body + 1
 
 -- the statements of each block have the numbers that count those before them

@@ -39,7 +39,7 @@ pub data NamedItem : Type 0 where
   -- no operand stands there
   Nothing : NamedItem
   -- a place in memory, in the data block of the DB or DI register, or in the local bytes
-  Place : (spot : OperandPlace) → NamedItem
+  Place : (place : OperandPlace) → NamedItem
   -- a place in a data block that the statement opens first, as DB10.DBW 2
   PlaceIn : (block : ℕ) (width : Width) (byte bit : ℕ) → NamedItem
   -- what the parameter of this index stands for, in a function, and the width of its type

@@ -5,6 +5,7 @@
 use Rattle.std.specs.Prelude.{ℕ, ◌+◌, ◌-◌, ◌*◌, ◌/◌, ◌%◌, ◌^◌, ◌==◌, Bool, true, false, List, [], ◌∷◌, length, slice_get, ℤ, pos, negsuc, Option, Some, None, Result, Ok, Err, ok_or, if◌then◌else◌}
 use Rattle.std.specs.Option.{option_map}
 use Rattle.plc_base.specs.Bcd.{bcd_digits}
+use Rattle.plc_base.specs.ErrorCodes as errors
 use Rattle.plc_base.specs.Pointer.{place_at_pointer}
 use Rattle.plc_base.specs.S5Time.{s5time_of_ms}
 use Rattle.plc_base.specs.declared.places.Area.{Area}
@@ -24,6 +25,7 @@ use Rattle.frames.specs.declared.bindings.Binding.TheVariants as binding
 use Rattle.stl_ast.specs.declared.literals.Literal.{Literal}
 use Rattle.stl_ast.specs.declared.literals.Literal.TheVariants as literal
 use Rattle.machine.specs.ExecState.{ExecState, then_ok}
+use Rattle.machine.specs.Places.{no_operand}
 use Rattle.machine.specs.declared.places.Access.{Access}
 use Rattle.machine.specs.declared.places.Access.TheVariants.{Reading, Writing}
 use Rattle.machine.specs.declared.places.Location.{Location}
@@ -78,22 +80,24 @@ place_in_open_block None error byte bit width = Err error
 place_in_open_block (Some number) error byte bit width =
     Ok (location_of_parts area.Db number byte bit width 0)
 
--- where a byte or bit of an area lies: in DB and DI in the open data block, where none is open 32
--- and 33; in L in the local bytes of the innermost frame; else in memory
+-- where a byte or bit of an area lies: in DB and DI in the open data block, where none is open the
+-- error 16#32 or 16#33; in L in the local bytes of the innermost frame; else in memory
 unfoldable pub place_in_area : Area → (byte bit : ℕ) → Width → ExecState → Result Location ℕ
-place_in_area area.Db byte bit width p = place_in_open_block p.local.inner.db 0x32 byte bit width
-place_in_area area.Di byte bit width p = place_in_open_block p.local.inner.di 0x33 byte bit width
+place_in_area area.Db byte bit width p =
+    place_in_open_block p.local.inner.db errors.no_db_open byte bit width
+place_in_area area.Di byte bit width p =
+    place_in_open_block p.local.inner.di errors.no_di_open byte bit width
 place_in_area area.L byte bit width p =
     Ok (location_of_parts area.L 0 byte bit width (length p.local.locals.starts - 1))
 place_in_area a byte bit width p = Ok (location_of_parts a 0 byte bit width 0)
 
--- the error where there is no such place: 22 where it is read, 23 where it is written; in the
--- peripheral area 42 and 43
+-- the error where there is no such place: 16#22 where it is read, 16#23 where it is written;
+-- in the peripheral area 16#42 and 16#43
 abbrev pub missing_place_error : Access → Area → ℕ
-missing_place_error Reading area.P = 0x42
-missing_place_error Reading _ = 0x22
-missing_place_error Writing area.P = 0x43
-missing_place_error Writing _ = 0x23
+missing_place_error Reading area.P = errors.no_peripheral
+missing_place_error Reading _ = errors.no_place
+missing_place_error Writing area.P = errors.no_peripheral_to_write
+missing_place_error Writing _ = errors.no_place + 1
 
 -- the number at a place, in local bytes or in memory
 abbrev pub number_at_bound : Area → Location → ExecState → Option ℕ
@@ -122,27 +126,27 @@ bit_of_pointer pointer = pointer % 8
 
 -- a pointer suits a width: any pointer a bit, and one to bit 0 of its byte a byte, word or
 -- double word
-abbrev pub is_whole : Width → (pointer : ℕ) → Bool
-is_whole widths.Bit pointer = true
-is_whole _ pointer = bit_of_pointer pointer == 0
+abbrev pub suits_width : Width → (pointer : ℕ) → Bool
+suits_width widths.Bit pointer = true
+suits_width _ pointer = bit_of_pointer pointer == 0
 
--- the error of a pointer to a byte, word or double word that has a bit: 28 where it is read, 29
--- where it is written
+-- the error of a pointer to a byte, word or double word that has a bit: 16#28 where it is
+-- read, 16#29 where it is written
 abbrev pub pointer_bit_error : Access → ℕ
-pointer_bit_error Reading = 0x28
-pointer_bit_error Writing = 0x29
+pointer_bit_error Reading = errors.alignment_error
+pointer_bit_error Writing = errors.alignment_error + 1
 
--- the error of a pointer to no area, or to a bit in the peripheral area: 24 where it is read, 25
--- where it is written
+-- the error of a pointer to no area, or to a bit in the peripheral area: 16#24 where it is
+-- read, 16#25 where it is written
 abbrev pub pointer_area_error : Access → ℕ
-pointer_area_error Reading = 0x24
-pointer_area_error Writing = 0x25
+pointer_area_error Reading = errors.bad_area
+pointer_area_error Writing = errors.bad_area + 1
 
 -- where a pointer leads in an area
 unfoldable pub place_of_pointer :
     Access → Area → Width → (pointer : ℕ) → ExecState → Result Location ℕ
 place_of_pointer access a width pointer p =
-    if is_whole width pointer
+    if suits_width width pointer
     then place_in_area a (byte_of_pointer pointer) (bit_of_pointer pointer) width p
     else Err (pointer_bit_error access)
 
@@ -171,7 +175,7 @@ in_area_of access (Some a) width pointer p =
 unfoldable pub place_of_crossing :
     Access → Width → (address pointer : ℕ) → ExecState → Result Location ℕ
 place_of_crossing access width address pointer p =
-    if is_whole width pointer then in_area_of access (area_of_address address) width pointer p
+    if suits_width width pointer then in_area_of access (area_of_address address) width pointer p
     else Err (pointer_bit_error access)
 
 -- what the address register of a number holds: 1 is AR1, 2 is AR2
@@ -186,14 +190,15 @@ address_moved address count = (address % 2 ^ 19 + count % 2 ^ 19) % 2 ^ 19
 -- ---- the place of an operand
 
 -- the place of an operand, direct or indirect
-unfoldable pub place_of_spot : Access → OperandPlace → ExecState → Result Location ℕ
-place_of_spot access (named.Fixed a width byte bit) p = fixed_place access a width byte bit p
-place_of_spot access (named.ByMemory a width from byte) p =
+unfoldable pub place_of_operand_place : Access → OperandPlace → ExecState → Result Location ℕ
+place_of_operand_place access (named.Fixed a width byte bit) p =
+    fixed_place access a width byte bit p
+place_of_operand_place access (named.ByMemory a width from byte) p =
     then_ok (stored_number from byte widths.Dword p)
     (λ pointer. place_of_pointer access a width pointer p)
-place_of_spot access (named.ByRegister (Some a) width register count) p =
+place_of_operand_place access (named.ByRegister (Some a) width register count) p =
     place_of_pointer access a width (address_moved (address_in_register register p) count) p
-place_of_spot access (named.ByRegister None width register count) p =
+place_of_operand_place access (named.ByRegister None width register count) p =
     place_of_crossing access width (address_in_register register p)
     (address_moved (address_in_register register p) count) p
 
@@ -201,14 +206,14 @@ place_of_spot access (named.ByRegister None width register count) p =
 abbrev pub place_of_binding : Option Binding → Result Location ℕ
 place_of_binding (Some (binding.AtPlace place width frame)) =
     Ok (record { place = place; width = width; frame = frame })
-place_of_binding _ = Err 0
+place_of_binding _ = Err no_operand
 
 -- the place of what an operand names
 unfoldable pub place_of_operand : Access → NamedItem → ExecState → Result Location ℕ
-place_of_operand access (named.Place spot) p = place_of_spot access spot p
+place_of_operand access (named.Place place) p = place_of_operand_place access place p
 place_of_operand access (named.Parameter index width) p =
     place_of_binding (slice_get p.local.inner.bindings index)
-place_of_operand access _ p = Err 0
+place_of_operand access _ p = Err no_operand
 
 -- ---- numbers and bits
 
@@ -217,34 +222,34 @@ abbrev pub number_of_parameter : Option Binding → ExecState → Result ℕ ℕ
 number_of_parameter (Some (binding.AtPlace place width frame)) p =
     number_or_error Reading (record { place = place; width = width; frame = frame }) p
 number_of_parameter (Some (binding.Constant value)) p = Ok value
-number_of_parameter _ p = Err 0
+number_of_parameter _ p = Err no_operand
 
 -- the number of a timer, counter or data block
 unfoldable pub number_of_item : ItemNumber → ExecState → Result ℕ ℕ
 number_of_item (named.Written number) p = Ok number
 number_of_item (named.InWord from byte) p = stored_number from byte widths.Word p
 
--- what is read of the timer of a number; error 26 where there is none
+-- what is read of the timer of a number; error 16#26 where there is none
 abbrev pub of_timer : {A : Type 0} → (Timer → A) → ItemNumber → ExecState → Result A ℕ
 of_timer read n p =
     then_ok (number_of_item n p)
-    (λ number. ok_or (option_map read (slice_get p.timers number)) 0x26)
+    (λ number. ok_or (option_map read (slice_get p.timers number)) errors.no_timer)
 
--- what is read of the counter of a number; error 27 where there is none
+-- what is read of the counter of a number; error 16#27 where there is none
 abbrev pub of_counter : {A : Type 0} → (Counter → A) → ItemNumber → ExecState → Result A ℕ
 of_counter read n p =
     then_ok (number_of_item n p)
-    (λ number. ok_or (option_map read (slice_get p.counters number)) 0x27)
+    (λ number. ok_or (option_map read (slice_get p.counters number)) errors.no_counter)
 
 -- the number at a place or of a constant
 unfoldable pub number_of_operand : NamedItem → ExecState → Result ℕ ℕ
-number_of_operand (named.Place spot) p =
-    then_ok (place_of_spot Reading spot p) (λ b. number_or_error Reading b p)
+number_of_operand (named.Place place) p =
+    then_ok (place_of_operand_place Reading place p) (λ b. number_or_error Reading b p)
 number_of_operand (named.Parameter index width) p =
     number_of_parameter (slice_get p.local.inner.bindings index) p
 number_of_operand (named.Constant value) p = Ok (bits_of_literal value)
 number_of_operand (named.Pointer value) p = Ok value
-number_of_operand _ p = Err 0
+number_of_operand _ p = Err no_operand
 
 -- what L reads: of a timer the time left in units of its base, of a counter its value
 unfoldable pub number_to_load : NamedItem → ExecState → Result ℕ ℕ
@@ -256,7 +261,7 @@ number_to_load x p = number_of_operand x p
 unfoldable pub bcd_to_load : NamedItem → ExecState → Result ℕ ℕ
 bcd_to_load (named.Timer n) p = of_timer time_left n p
 bcd_to_load (named.Counter n) p = of_counter count_bcd n p
-bcd_to_load _ p = Err 0
+bcd_to_load _ p = Err no_operand
 
 -- the bit that a bit logic instruction reads: of a timer its output, of a counter whether its value
 -- is above 0
@@ -286,7 +291,7 @@ with_number_written _ b n p =
     option_map (λ m. with_other_memory m p) (memory.number_written p.memory b.place b.width n)
 
 -- the state with this number written at this place, in local bytes or in memory; the error of a
--- write where there is no such place, 43 in the peripheral area, else 23
+-- write where there is no such place, 16#43 in the peripheral area, else 16#23
 unfoldable pub with_number_at : Location → ℕ → ExecState → Result ExecState ℕ
 with_number_at b n p =
     ok_or (with_number_written b.place.area b n p) (missing_place_error Writing b.place.area)

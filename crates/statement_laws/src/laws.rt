@@ -104,7 +104,7 @@ pub fn accepted_operands_are_named()
     ensures { AcceptedOperandsAreNamed }
 {}
 
-/// So each statement of a source that breaks no rule, but the empty ones, does what its mnemonic
+/// Each statement of a source that breaks no rule, but the empty ones, does what its mnemonic
 /// says with what its operand names: it goes on or is an error, jumps to a label of its body, ends
 /// the block, or calls a block with what is passed for its parameters.
 pub fn accepted_statements_act()

@@ -10,7 +10,7 @@ use Rattle.stl_ast.specs.declared.declarations.Simple.{Simple}
 use Rattle.stl_ast.specs.declared.names.BlockName.{BlockName}
 use Rattle.block_layout.specs.Members.{component_of_name}
 use Rattle.block_layout.specs.Offsets.{elementary_place}
-use Rattle.block_layout.specs.Paths.{cells_at, elementary_at, path_end_in_data_block, walked_local}
+use Rattle.block_layout.specs.Paths.{cells_at, elementary_at, path_end_in_data_block, path_end_of_local}
 use Rattle.block_layout.specs.declared.cells.Cell.{Cell}
 use Rattle.block_layout.specs.declared.cells.Element.{Element}
 use Rattle.block_layout.specs.declared.cells.Element.TheVariants as element
@@ -89,16 +89,16 @@ own_at c temporary component (Some kind) = own_elementary c temporary component 
 
 -- what a path into the block's own variables names, by where it leads; it may be unknown, or go
 -- through what breaks a rule itself
-abbrev pub own_walked : Context → (temporary : Bool) → PathEnd → Resolution
-own_walked c temporary (path_end.Reaches component) =
+abbrev pub own_at_path_end : Context → (temporary : Bool) → PathEnd → Resolution
+own_at_path_end c temporary (path_end.Reaches component) =
     own_at c temporary component (elementary_at c.layouts component)
-own_walked c temporary path_end.Unknown = Unknown
-own_walked c temporary path_end.Unjudged = Unjudged
+own_at_path_end c temporary path_end.Unknown = Unknown
+own_at_path_end c temporary path_end.Unjudged = Unjudged
 
 -- what a path into the block's own variables names, by its first name and the steps behind it
 abbrev pub own_variable : Context → List ℕ → List PathStep → Resolution
 own_variable c name steps =
-    own_walked c (is_temporary_variable c name) (walked_local c.layouts c.block name steps)
+    own_at_path_end c (is_temporary_variable c name) (path_end_of_local c.layouts c.block name steps)
 
 -- what a component of the data block with this number is; of what isn't elementary no place is
 -- given
@@ -112,17 +112,17 @@ data_at c number component (Some kind) =
 
 -- what a path into the data block with this number names, by where it leads; it may be unknown, or
 -- go through what breaks a rule itself
-abbrev pub data_walked : Context → (number : ℕ) → PathEnd → Resolution
-data_walked c number (path_end.Reaches component) =
+abbrev pub data_at_path_end : Context → (number : ℕ) → PathEnd → Resolution
+data_at_path_end c number (path_end.Reaches component) =
     data_at c number component (elementary_at c.layouts component)
-data_walked c number path_end.Unknown = Unknown
-data_walked c number path_end.Unjudged = Unjudged
+data_at_path_end c number path_end.Unknown = Unknown
+data_at_path_end c number path_end.Unjudged = Unjudged
 
 -- what a path into the data block with this number, at this place, names; without one of the two it
 -- isn't checked
 abbrev pub data_path : Context → List PathStep → Option ℕ → Option ℕ → Resolution
 data_path c steps (Some number) (Some block) =
-    data_walked c number (path_end_in_data_block c.layouts block steps)
+    data_at_path_end c number (path_end_in_data_block c.layouts block steps)
 data_path c steps _ _ = Unjudged
 
 -- what a path into a data block names, where that doesn't break a rule itself

@@ -6,14 +6,14 @@ ghost use Rattle.stl_types.specs.Variables.{
   composite_operand,
   data_at,
   data_variable,
-  data_walked,
+  data_at_path_end,
   date_or_composite,
   variable_in_area,
   is_temporary_variable,
   own_at,
   own_elementary,
   own_variable,
-  own_walked,
+  own_at_path_end,
   parameter_at,
   parameter_index,
 };
@@ -144,8 +144,8 @@ impl<'a> Context<'a> {
         }
     }
 
-    fn own_walked(&self, temporary: bool, path_end: PathEnd) -> Resolution
-        ensures { result ≡ own_walked self.now temporary path_end }
+    fn own_at_path_end(&self, temporary: bool, path_end: PathEnd) -> Resolution
+        ensures { result ≡ own_at_path_end self.now temporary path_end }
     {
         match path_end {
             PathEnd::Reaches { component } => self.own_at(temporary, component),
@@ -160,7 +160,7 @@ impl<'a> Context<'a> {
         ensures { result ≡ own_variable self.now name.now path.now }
     {
         let path_end = self.layouts().walk_local(self.block(), name, path);
-        self.own_walked(self.is_temporary(name), path_end)
+        self.own_at_path_end(self.is_temporary(name), path_end)
     }
 
     fn data_at(&self, number: u16, component: ComponentAt) -> Resolution
@@ -178,8 +178,8 @@ impl<'a> Context<'a> {
         }
     }
 
-    fn data_walked(&self, number: u16, path_end: PathEnd) -> Resolution
-        ensures { result ≡ data_walked self.now number path_end }
+    fn data_at_path_end(&self, number: u16, path_end: PathEnd) -> Resolution
+        ensures { result ≡ data_at_path_end self.now number path_end }
     {
         match path_end {
             PathEnd::Reaches { component } => self.data_at(number, component),
@@ -198,6 +198,6 @@ impl<'a> Context<'a> {
         let Some(block) = self.data_place(name) else {
             return Resolution::Unjudged;
         };
-        self.data_walked(number, self.layouts().walk_data(block, path))
+        self.data_at_path_end(number, self.layouts().walk_data(block, path))
     }
 }

@@ -48,14 +48,15 @@ use Rattle.stl_codegen.specs.Compiled.{StatedBlock, compiled_block}
 use Rattle.stl_codegen.specs.Generated.{code_blocks_of, params_of}
 use Rattle.stl_codegen.specs.Instruction.{in_parameter_order}
 use Rattle.stl_list.specs.Joined.{system_parameters}
-use Rattle.sem_kept.proofs.accepted.Accepted.{AllLaid, IsSound, IsSoundStatement, IsSoundTree, context_at, right_tree}
+use Rattle.sem_kept.specs.Settled.{context_at}
+use Rattle.sem_kept.proofs.accepted.Accepted.{AllLaid, IsSoundBlock, IsSoundStatement, IsSoundTree, right_tree}
 use Rattle.block_layout.proofs.SoundnessLemmas.{block_unbroken}
 use Rattle.sem_kept.proofs.accepted.OperandsCells.{cells_are}
 use Rattle.block_layout.proofs.BlockLemmas.{known_there, place_there}
 use Rattle.block_layout.proofs.LayoutLemmas.{measured_symbols}
 use Rattle.sem_kept.proofs.accepted.OperandsFormals.{Distinct, IsFoundIn, Matched, block_formals, found_each, fresh_distinct, return_all, source_matched, system_matched}
 use Rattle.sem_kept.proofs.accepted.OperandsMembers.{code_block_there, one_block}
-use Rattle.sem_kept.proofs.accepted.OperandsOperations.{allowed}
+use Rattle.sem_kept.proofs.accepted.OperandsOperations.{taken_by_rule}
 use Rattle.sem_kept.proofs.accepted.OperandsPlaces.{AreParameters, function_components}
 use Rattle.sem_kept.proofs.accepted.OperandsViews.{IsThere, id_there, id_there_is, ids_same, layout_id}
 use Rattle.sem_kept.proofs.accepted.Shared.{callable_by}
@@ -213,7 +214,7 @@ not_any P (b ∷ bs) e = by (P (compiled_block b)) refl e (not_any P bs)
     by false is h more = (is, more h)
 
 pub components_same : (symbols : List Symbol) (t : Tree) (k : ℕ) (b : Block) (l : BlockLayout)
-    → IsSound symbols t k b l → l.components ≡ components_of (types_of_source symbols t.blocks) b
+    → IsSoundBlock symbols t k b l → l.components ≡ components_of (types_of_source symbols t.blocks) b
 unfolding block_layout
 components_same symbols t k b l h = ap (λ (z : BlockLayout). z.components) h.layout
 
@@ -229,7 +230,7 @@ module _ (symbols : List Symbol) (t : Tree) (tree : IsSoundTree symbols t) where
   -- a block of the source by its kind and number
   found_at : (id : BlockId) (p : ℕ) → slice_get (map (λ (b : BlockLayout). b.id) (layouts_of t symbols)) p ≡ Some (Some id)
       → is_code id.kind ≡ true
-      → (b : Block) × (l : BlockLayout) × (l.id ≡ Some id) × IsSound symbols t p b l
+      → (b : Block) × (l : BlockLayout) × (l.id ≡ Some id) × IsSoundBlock symbols t p b l
   found_at id p e code = (there.block, there.layout, there.is ∙ ap (λ (z : BlockId). Some z) one, there.sound)
     where
       listed : slice_get (types_of_source symbols t.blocks).ids p ≡ Some (Some id)
@@ -241,7 +242,7 @@ module _ (symbols : List Symbol) (t : Tree) (tree : IsSoundTree symbols t) where
       one : there.id ≡ id
       one = id_there_is symbols t tree is_code p id listed code
 
-  known_at : (k : ℕ) (b : Block) (l : BlockLayout) (id : BlockId) → IsSound symbols t k b l → l.id ≡ Some id
+  known_at : (k : ℕ) (b : Block) (l : BlockLayout) (id : BlockId) → IsSoundBlock symbols t k b l → l.id ≡ Some id
       → is_code id.kind ≡ true → known_block id (source_block_ids (context_at symbols t k)) ≡ Some k
   known_at k b l id sound e code =
       ap (λ (t' : Bool). if t' then place_of_block id (source_block_ids (context_at symbols t k)) else None) number
@@ -262,7 +263,7 @@ module _ (symbols : List Symbol) (t : Tree) (tree : IsSoundTree symbols t) where
           one_block symbols t id at.0 k f.0 b f.1 l f.3 sound f.2 e
 
   -- its parameters are found by their names
-  all_found : (p : ℕ) (b : Block) (l : BlockLayout) → IsSound symbols t p b l
+  all_found : (p : ℕ) (b : Block) (l : BlockLayout) → IsSoundBlock symbols t p b l
       → AllByRecursion (IsFoundAmong (formals_of (cells_at (layouts_of t symbols) p false)))
       (in_parameter_order (slice_get t.blocks p) (formals_of (cells_at (layouts_of t symbols) p false)))
   all_found p b l sound =
@@ -280,7 +281,7 @@ module _ (symbols : List Symbol) (t : Tree) (tree : IsSoundTree symbols t) where
 
   -- ---- a block and its types
 
-  module _ (k : ℕ) (b : Block) (l : BlockLayout) (sound : IsSound symbols t k b l) where
+  module _ (k : ℕ) (b : Block) (l : BlockLayout) (sound : IsSoundBlock symbols t k b l) where
     abbrev c : Context
     c = context_at symbols t k
 
@@ -321,7 +322,7 @@ module _ (symbols : List Symbol) (t : Tree) (tree : IsSoundTree symbols t) where
         → list_any (λ (x : CodeBlock). is_same_block x.id id) all ≡ true
     in_program id p whole code = by (list_any (λ (x : CodeBlock). is_same_block x.id id) all) refl
       where
-        f : (b : Block) × (l : BlockLayout) × (l.id ≡ Some id) × IsSound symbols t p b l
+        f : (b : Block) × (l : BlockLayout) × (l.id ≡ Some id) × IsSoundBlock symbols t p b l
         f = found_at id p (known_there id (source_block_ids c) p (whole_known (layouts_of t symbols) (known_block id (source_block_ids c)) p whole)) code
 
         by : (t' : Bool) → list_any (λ (x : CodeBlock). is_same_block x.id id) all ≡ t' → t' ≡ true
@@ -405,7 +406,7 @@ module _ (symbols : List Symbol) (t : Tree) (tree : IsSoundTree symbols t) where
         at = resolved_seen c s (view.Called id instance) e
 
         taken : takes_operand (form_of s.code) (view.Called id instance) ≡ true
-        taken = (allowed (form_of s.code) (view.Called id instance) (rule_called c (form_of s.code) s.operand id instance at h.allowed)).taken
+        taken = (taken_by_rule (form_of s.code) (view.Called id instance) (rule_called c (form_of s.code) s.operand id instance at h.allowed)).taken
 
         calls : form_of s.code ≡ form.Calls
         calls = taken_calls (form_of s.code) id instance taken
@@ -440,7 +441,7 @@ module _ (symbols : List Symbol) (t : Tree) (tree : IsSoundTree symbols t) where
           statements = all_owed b.body sound.statements;
         }
 
-  bodies_owed : (k : ℕ) (bs : List Block) (ls : List BlockLayout) → AllLaid (IsSound symbols t) k bs ls
+  bodies_owed : (k : ℕ) (bs : List Block) (ls : List BlockLayout) → AllLaid (IsSoundBlock symbols t) k bs ls
       → BodiesOweTypes (declared_kinds t symbols) (map compiled_block (code_blocks_of t symbols (layouts_of t symbols))) (context_at symbols t k) bs ls
   bodies_owed k [] ls h = tt
   bodies_owed k (b ∷ bs) [] h = tt

@@ -25,7 +25,7 @@ use Rattle.stl_symbols.specs.declared.targets.Target.TheVariants as target
 use Rattle.block_layout.specs.Blocks.{named_block}
 use Rattle.block_layout.specs.Members.{component_of_name}
 use Rattle.block_layout.specs.Offsets.{place_at, elementary_place, width_of}
-use Rattle.block_layout.specs.Paths.{cells_at, elementary_at, path_end_at_cell, folded_path, path_end_at_member, path_end_and_then, in_sections, path_end_by_index, indexed_behind, is_beyond, kind_of, path_end_by_name, named_behind, named_in, outermost_path_end, plain_kind, path_end_by_step, path_end_behind, path_end_in_data_block, walked_local, whole_at, path_end_in_bounds}
+use Rattle.block_layout.specs.Paths.{cells_at, elementary_at, path_end_at_cell, folded_path, path_end_at_member, path_end_and_then, in_sections, path_end_by_index, indexed_behind, is_beyond, kind_of, path_end_by_name, named_behind, named_in, outermost_path_end, plain_kind, path_end_by_step, path_end_behind, path_end_in_data_block, path_end_of_local, whole_at, path_end_in_bounds}
 use Rattle.block_layout.specs.declared.cells.Cell.{Cell}
 use Rattle.block_layout.specs.declared.cells.Element.{Element}
 use Rattle.block_layout.specs.declared.cells.Element.TheVariants as element
@@ -37,7 +37,7 @@ use Rattle.stl_types.specs.Addresses.{address_in_block}
 use Rattle.stl_types.specs.Context.{Context, data_number, data_place, in_function}
 use Rattle.stl_types.specs.Parameters.{formal, formal_here, formal_of, formals_of}
 use Rattle.stl_types.specs.Resolution.{resolution_of_call, resolution_of_address, instance_number, resolution_of_opened_block, resolution_of_path, resolution_of, resolution_of_symbol, resolved_target, whole_called_block}
-use Rattle.stl_types.specs.Variables.{behind_others, composite_operand, data_at, data_path, data_variable, data_walked, date_or_composite, variable_in_area, own_at, own_variable, own_walked, parameter_resolution, parameter_at, parameter_index}
+use Rattle.stl_types.specs.Variables.{behind_others, composite_operand, data_at, data_path, data_variable, data_at_path_end, date_or_composite, variable_in_area, own_at, own_variable, own_at_path_end, parameter_resolution, parameter_at, parameter_index}
 use Rattle.stl_types.specs.declared.parameters.Formal.{Formal}
 use Rattle.stl_types.specs.declared.views.Resolution.{Resolution}
 use Rattle.stl_types.specs.declared.views.Resolution.TheVariants.{Resolved}
@@ -204,8 +204,8 @@ module _ (c : Context) (own : in_function c ≡ true → AllByRecursion IsParame
         by path_end.Unjudged h more = tt
 
     local_here : (name : List ℕ) (steps : List PathStep) → is_some (component_of_name 0 0 0 name (cells_at c.layouts c.block false)) ≡ true
-        → IsHere (walked_local c.layouts c.block name steps)
-    unfolding walked_local
+        → IsHere (path_end_of_local c.layouts c.block name steps)
+    unfolding path_end_of_local
     local_here name steps found =
         either_way IsHere (is_some (whole_at c.layouts c.block)) (path_end_and_then (in_sections c.layouts c.block name) (λ component. path_end_behind c.layouts component steps)) path_end.Unjudged
         (subst (λ (t : Bool). IsHere (path_end_and_then (if t then outermost_path_end c.layouts c.block false 0 name else outermost_path_end c.layouts c.block true 0 name) (λ component. path_end_behind c.layouts component steps)))
@@ -245,7 +245,7 @@ module _ (c : Context) (own : in_function c ≡ true → AllByRecursion IsParame
               f.3,
             )
 
-    function_own : (w : PathEnd) → IsHere w → SeenOwn (own_walked c false w)
+    function_own : (w : PathEnd) → IsHere w → SeenOwn (own_at_path_end c false w)
     function_own path_end.Unknown h = tt
     function_own path_end.Unjudged h = tt
     function_own (path_end.Reaches component) h = by (elementary_at c.layouts component) refl
@@ -258,7 +258,7 @@ module _ (c : Context) (own : in_function c ≡ true → AllByRecursion IsParame
 
   -- ---- what is seen
 
-  elsewhere_own : (w : PathEnd) → SeenOwn (own_walked c true w)
+  elsewhere_own : (w : PathEnd) → SeenOwn (own_at_path_end c true w)
   elsewhere_own path_end.Unknown = tt
   elsewhere_own path_end.Unjudged = tt
   elsewhere_own (path_end.Reaches component) = by (elementary_at c.layouts component)
@@ -267,7 +267,7 @@ module _ (c : Context) (own : in_function c ≡ true → AllByRecursion IsParame
       by None = composite_own (slice_get (cells_at c.layouts component.block component.temporary) component.place)
       by (Some kind) = in_area_own kind area.L 0 component.offset
 
-  instance_own : in_function c ≡ false → (w : PathEnd) → SeenOwn (own_walked c false w)
+  instance_own : in_function c ≡ false → (w : PathEnd) → SeenOwn (own_at_path_end c false w)
   instance_own other path_end.Unknown = tt
   instance_own other path_end.Unjudged = tt
   instance_own other (path_end.Reaches component) = by (elementary_at c.layouts component)
@@ -282,12 +282,12 @@ module _ (c : Context) (own : in_function c ≡ true → AllByRecursion IsParame
   variable_own name steps = by (is_some (component_of_name 0 0 0 name (cells_at c.layouts c.block false))) refl (in_function c) refl
     where
       by : (t : Bool) → is_some (component_of_name 0 0 0 name (cells_at c.layouts c.block false)) ≡ t → (function : Bool) → in_function c ≡ function
-          → SeenOwn (own_walked c (not t) (walked_local c.layouts c.block name steps))
-      by false found function is = elsewhere_own (walked_local c.layouts c.block name steps)
-      by true found true is = function_own is (walked_local c.layouts c.block name steps) (local_here is name steps found)
-      by true found false is = instance_own is (walked_local c.layouts c.block name steps)
+          → SeenOwn (own_at_path_end c (not t) (path_end_of_local c.layouts c.block name steps))
+      by false found function is = elsewhere_own (path_end_of_local c.layouts c.block name steps)
+      by true found true is = function_own is (path_end_of_local c.layouts c.block name steps) (local_here is name steps found)
+      by true found false is = instance_own is (path_end_of_local c.layouts c.block name steps)
 
-  data_walk_own : (n : ℕ) (w : PathEnd) → SeenOwn (data_walked c n w)
+  data_walk_own : (n : ℕ) (w : PathEnd) → SeenOwn (data_at_path_end c n w)
   data_walk_own n path_end.Unknown = tt
   data_walk_own n path_end.Unjudged = tt
   data_walk_own n (path_end.Reaches component) = at (elementary_at c.layouts component)
@@ -371,7 +371,7 @@ no_composite (Some cell) = of_ cell.of
     of_ _ = tt
 
 no_parameter : (c : Context) → in_function c ≡ false → (name : List ℕ) (steps : List PathStep) → NoParameter (own_variable c name steps)
-no_parameter c other name steps = by (not (is_some (component_of_name 0 0 0 name (cells_at c.layouts c.block false)))) (walked_local c.layouts c.block name steps)
+no_parameter c other name steps = by (not (is_some (component_of_name 0 0 0 name (cells_at c.layouts c.block false)))) (path_end_of_local c.layouts c.block name steps)
   where
     at : (temporary : Bool) (component : ComponentAt) (o : Option Simple) → NoParameter (own_at c temporary component o)
     at temporary component None = no_composite (slice_get (cells_at c.layouts component.block component.temporary) component.place)
@@ -380,7 +380,7 @@ no_parameter c other name steps = by (not (is_some (component_of_name 0 0 0 name
         subst (λ (t : Bool). NoParameter (if t then parameter_at c component kind else variable_in_area kind (elementary_place area.Di 0 component.offset (Some kind)))) (sym other)
         (no_area kind area.Di 0 component.offset)
 
-    by : (temporary : Bool) (w : PathEnd) → NoParameter (own_walked c temporary w)
+    by : (temporary : Bool) (w : PathEnd) → NoParameter (own_at_path_end c temporary w)
     by temporary (path_end.Reaches component) = at temporary component (elementary_at c.layouts component)
     by temporary path_end.Unknown = tt
     by temporary path_end.Unjudged = tt

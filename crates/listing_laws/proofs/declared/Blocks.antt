@@ -44,7 +44,8 @@ use Rattle.stl_list.specs.Joined.{Chains, chains_of, links, total_parameter_coun
 use Rattle.stl_list.specs.Lines.{lines_from}
 use Rattle.stl_list.specs.Signatures.{Signature, formals_from, formals_of_block, signature, signatures, signatures_from}
 use Rattle.sem_kept.specs.Accepted.{IsAccepted, program_in}
-use Rattle.sem_kept.proofs.accepted.Accepted.{IsSound, all_both, context_at, right_tree, sound_code_blocks, sound_data_blocks}
+use Rattle.sem_kept.specs.Settled.{context_at}
+use Rattle.sem_kept.proofs.accepted.Accepted.{IsSoundBlock, all_both, right_tree, sound_code_blocks, sound_data_blocks}
 use Rattle.sem_kept.proofs.accepted.RecordBlocks.{code_blocks_rise}
 use Rattle.sem_kept.proofs.accepted.RecordData.{id_there}
 use Rattle.sem_kept.proofs.accepted.RecordOrder.{Rise, RiseFrom}
@@ -228,7 +229,7 @@ pub record IsLaidInstance (l : BlockLayout) (b : CodeBlock) : Type 0 where
   pub instance : IsInstance b
   pub are : l.components ≡ instance.cells
 
-pub laid_instance : (symbols : List Symbol) (t : Tree) (k : ℕ) (b : Block) (l : BlockLayout) (id : BlockId) → IsSound symbols t k b l → l.id ≡ Some id → is_code id.kind ≡ true
+pub laid_instance : (symbols : List Symbol) (t : Tree) (k : ℕ) (b : Block) (l : BlockLayout) (id : BlockId) → IsSoundBlock symbols t k b l → l.id ≡ Some id → is_code id.kind ≡ true
     → is_function_block id.kind ≡ true → IsLaidInstance l (compiled_block (code_block (context_at symbols t k) b l id))
 unfolding block_layout params_of
 laid_instance symbols t k b l id h e code fb = record {
@@ -295,7 +296,7 @@ laid_instance symbols t k b l id h e code fb = record {
     has_length : instance_len b l ≡ l.length
     has_length = ap (λ (s : Bool). if s then l.length else 0) own_fb
 
-pub sourced : (symbols : List Symbol) (t : Tree) (k : ℕ) (b : Block) (l : BlockLayout) (id : BlockId) → IsSound symbols t k b l → l.id ≡ Some id → is_code id.kind ≡ true
+pub sourced : (symbols : List Symbol) (t : Tree) (k : ℕ) (b : Block) (l : BlockLayout) (id : BlockId) → IsSoundBlock symbols t k b l → l.id ≡ Some id → is_code id.kind ≡ true
     → IsSourced (compiled_block (code_block (context_at symbols t k) b l id))
 unfolding block_layout params_of
 sourced symbols t k b l id h e code = record {
@@ -638,7 +639,7 @@ data_kind kinds.Fb n e h = absurd cc
 data_kind kinds.Udt n e h = absurd cc
 data_kind kinds.Sfc n e h = absurd cc
 
-data_numbered : (symbols : List Symbol) (t : Tree) (k : ℕ) (b : Block) (l : BlockLayout) (id : BlockId) → IsSound symbols t k b l → l.id ≡ Some id → is_data_block id.kind ≡ true
+data_numbered : (symbols : List Symbol) (t : Tree) (k : ℕ) (b : Block) (l : BlockLayout) (id : BlockId) → IsSoundBlock symbols t k b l → l.id ≡ Some id → is_data_block id.kind ≡ true
     → IsNumbered (generated_data_block (context_at symbols t k) l id)
 unfolding IsNumbered
 data_numbered symbols t k b l id h e db = data_kind id.kind id.number db (ap is_number_beyond_limits (sym e ∙ id_there symbols t k b l h) ∙ h.head.by_44)

@@ -31,7 +31,8 @@ use Rattle.stl_list.specs.DataBlocks.{listed_data}
 use Rattle.stl_list.specs.Initial.{values_of}
 use Rattle.stl_list.specs.Signatures.{Signature}
 use Rattle.sem_kept.specs.Accepted.{program_in}
-use Rattle.sem_kept.proofs.accepted.Accepted.{IsSound, context_at, right_tree, sound_data_blocks}
+use Rattle.sem_kept.specs.Settled.{context_at}
+use Rattle.sem_kept.proofs.accepted.Accepted.{IsSoundBlock, right_tree, sound_data_blocks}
 use Rattle.sem_kept.proofs.accepted.RecordData.{length_there}
 use Rattle.sem_kept.proofs.accepted.RecordParams.{end_step}
 use Rattle.block_layout.proofs.FillLemmas.{written_length}
@@ -81,7 +82,7 @@ initial_long l blocks k =
     written_length (replicate (length_at (slice_get l k)) 0) (structure_writes l (structure_of l k) ++ setting_writes l k (settings_at (slice_get blocks k)))
     ∙ length-replicate (length_at (slice_get l k)) 0
 
-source_even : (symbols : List Symbol) (t : Tree) (k : ℕ) (b : Block) (l : BlockLayout) (id : BlockId) → IsSound symbols t k b l → l.id ≡ Some id → is_data_block id.kind ≡ true
+source_even : (symbols : List Symbol) (t : Tree) (k : ℕ) (b : Block) (l : BlockLayout) (id : BlockId) → IsSoundBlock symbols t k b l → l.id ≡ Some id → is_data_block id.kind ≡ true
     → IsEven (generated_data_block (context_at symbols t k) l id)
 source_even symbols t k b l id h named db =
     let y = types_of_source symbols t.blocks in

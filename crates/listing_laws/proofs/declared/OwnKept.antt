@@ -19,8 +19,8 @@ use Rattle.stl_list.specs.DataBlocks.{listed_data}
 use Rattle.stl_list.specs.Listing.{listed_tree}
 use Rattle.stl_list.specs.Signatures.{Signature}
 use Rattle.sem_kept.specs.Accepted.{program_in}
-use Rattle.sem_kept.proofs.accepted.Accepted.{context_at}
-use Rattle.sem_kept.proofs.accepted.RecordData.{got}
+use Rattle.sem_kept.specs.Settled.{context_at}
+use Rattle.sem_kept.proofs.accepted.RecordData.{holds_at}
 use Rattle.listing_laws.specs.Declared.{signatures_in}
 use Rattle.listing_laws.specs.OwnData.{AreOwnDataKept, IsOneOfDataBlocks, IsOwnDataAgain}
 use Rattle.listing_laws.proofs.declared.OwnData.{own_data}
@@ -99,7 +99,7 @@ one_kept ss line symbols t d whole again stands =
     let b = listed_data ss line d.number d.bytes None in
     let laid = layout_there symbols t stands.place b stands.there in
     let l = laid.layout in
-    let clean : l.broken ≡ false = subst (λ o. IfSome o (λ x. x.broken ≡ false)) laid.there (got (λ x. x.broken ≡ false) (layouts_of t symbols) stands.place whole) in
+    let clean : l.broken ≡ false = subst (λ o. IfSome o (λ x. x.broken ≡ false)) laid.there (holds_at (λ x. x.broken ≡ false) (layouts_of t symbols) stands.place whole) in
     among symbols t d stands.place b l stands.there laid.there (again.again symbols t stands.place line l stands.there laid.there clean)
 
 all_kept : (ss : List Signature) (line : ℕ) (symbols : List Symbol) (t : Tree) (ds : List DataBlock) → AllByRecursion (λ l. l.broken ≡ false) (layouts_of t symbols)

@@ -28,7 +28,7 @@ use Rattle.block_layout.specs.declared.cells.Cell.{Cell}
 use Rattle.block_layout.specs.declared.cells.Element.{Element}
 use Rattle.block_layout.specs.declared.cells.Element.TheVariants.{Plain}
 use Rattle.stl_codegen.specs.Generated.{param_at_bits, param_bits, param_here, param_of, section_number}
-use Rattle.sem_kept.proofs.accepted.RecordParams.{AllBefore, AreOnce, IsElementary as IsElementaryDeclared, IsNew, NotIn, before_front, before_rest, outer_levels, parameter_sound, seen_by}
+use Rattle.sem_kept.proofs.accepted.RecordParams.{AllBefore, AreCellsOnce, IsElementaryDeclaration, IsNew, NotIn, before_front, before_rest, outer_levels, parameter_sound, seen_by}
 
 -- ---- cells of parameters
 
@@ -45,7 +45,7 @@ AreParameters kind opens [] = Unit {0}
 AreParameters kind opens (c ∷ cs) = IsParameterCell kind opens c × AreParameters kind false cs
 
 parameter_section : (y : Types) (o : Outside) (kind : PartKind) (before ds : List Declaration) → o.depth ≡ 0
-    → AllByRecursion (λ d. (d.level ≡ 0) × IsElementaryDeclared d) ds → AllBefore (IsNew o) before ds
+    → AllByRecursion (λ d. (d.level ≡ 0) × IsElementaryDeclaration d) ds → AllBefore (IsNew o) before ds
     → AreParameters kind false (cells_of y o kind before ds)
 unfolding cell_of
 parameter_section y o kind before [] shallow h new = tt
@@ -305,16 +305,16 @@ made_sections in_instance all cells h =
 
 -- ---- their names are apart
 
-once_front : (seen : List (List ℕ)) (xs ys : List Cell) → AreOnce seen (xs ++ ys) → AreOnce seen xs
+once_front : (seen : List (List ℕ)) (xs ys : List Cell) → AreCellsOnce seen (xs ++ ys) → AreCellsOnce seen xs
 once_front seen [] ys h = tt
 once_front seen (x ∷ xs) ys h = (h.0, once_front (seen_by seen x) xs ys h.1)
 
-apart_from : (seen : List (List ℕ)) (cs : List Cell) → AllByRecursion (λ c. c.level ≡ 0) cs → AreOnce seen cs → CellNamesDiffer cs × AllByRecursion (λ c. NotIn c.name seen) cs
+apart_from : (seen : List (List ℕ)) (cs : List Cell) → AllByRecursion (λ c. c.level ≡ 0) cs → AreCellsOnce seen cs → CellNamesDiffer cs × AllByRecursion (λ c. NotIn c.name seen) cs
 apart_from seen [] h once = (tt, tt)
 apart_from seen (c ∷ cs) (level, levels) (one, more) =
     let outer : nat_eq c.level 0 ≡ true = eq-eqb c.level 0 level in
     let seen_it : seen_by seen c ≡ c.name ∷ seen = ap (λ (t : Bool). if t then c.name ∷ seen else seen) outer in
-    let rest = apart_from (c.name ∷ seen) cs levels (subst (λ z. AreOnce z cs) seen_it more) in
+    let rest = apart_from (c.name ∷ seen) cs levels (subst (λ z. AreCellsOnce z cs) seen_it more) in
     ((firsts cs rest.1, rest.0), (one outer, seconds cs rest.1))
   where
     firsts : (ds : List Cell) → AllByRecursion (λ d. NotIn d.name (c.name ∷ seen)) ds → AllByRecursion (λ d. bytes_eq d.name c.name ≡ false) ds
@@ -329,12 +329,12 @@ levels_of : (kind : PartKind) (opens : Bool) (cs : List Cell) → AreParameters 
 levels_of kind opens [] h = tt
 levels_of kind opens (c ∷ cs) (one, more) = (one.elementary.level, levels_of kind false cs more)
 
-pub sections_apart : (cells : List Cell) (h : HasSections cells) → AreOnce [] cells → CellNamesDiffer (h.ins ++ (h.outs ++ h.both))
+pub sections_apart : (cells : List Cell) (h : HasSections cells) → AreCellsOnce [] cells → CellNamesDiffer (h.ins ++ (h.outs ++ h.both))
 sections_apart cells h once =
     (apart_from [] (h.ins ++ (h.outs ++ h.both))
     (all_append (λ c. c.level ≡ 0) h.ins (h.outs ++ h.both) (levels_of part.Input true h.ins h.input)
     (all_append (λ c. c.level ≡ 0) h.outs h.both (levels_of part.Output true h.outs h.output) (levels_of part.InOut true h.both h.in_out)))
-    (once_front [] (h.ins ++ (h.outs ++ h.both)) h.rest (subst (AreOnce []) (h.are ∙ grouped) once))).0
+    (once_front [] (h.ins ++ (h.outs ++ h.both)) h.rest (subst (AreCellsOnce []) (h.are ∙ grouped) once))).0
   where
     grouped : h.ins ++ (h.outs ++ (h.both ++ h.rest)) ≡ (h.ins ++ (h.outs ++ h.both)) ++ h.rest
     grouped = sym (append_assoc h.ins (h.outs ++ h.both) h.rest ∙ ap (λ z. h.ins ++ z) (append_assoc h.outs h.both h.rest))

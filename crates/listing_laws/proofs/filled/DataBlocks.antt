@@ -23,7 +23,8 @@ use Rattle.stl_list.specs.Lines.{line_behind_statements, stands_before}
 use Rattle.stl_list.specs.Listing.{listed_tree}
 use Rattle.stl_list.specs.Signatures.{Signature}
 use Rattle.sem_kept.specs.Accepted.{program_in}
-use Rattle.sem_kept.proofs.accepted.Accepted.{context_at, right_tree, sound_code_blocks}
+use Rattle.sem_kept.specs.Settled.{context_at}
+use Rattle.sem_kept.proofs.accepted.Accepted.{right_tree, sound_code_blocks}
 use Rattle.block_layout.proofs.CommonLemmas.{all_there}
 use Rattle.listing_laws.specs.Again.{listed_again}
 use Rattle.listing_laws.specs.Declared.{signatures_in}

@@ -42,7 +42,7 @@ use Rattle.stl_list.specs.Joined.{Chains}
 use Rattle.stl_list.specs.Lines.{line_behind_statements}
 use Rattle.stl_list.specs.Sections.{static_len, static_name, static_start}
 use Rattle.stl_list.specs.Signatures.{Signature, formals_from, formals_of_block, is_behind, signature, signatures_from}
-use Rattle.sem_kept.proofs.accepted.Accepted.{context_at}
+use Rattle.sem_kept.specs.Settled.{context_at}
 use Rattle.block_layout.proofs.CommonLemmas.{all_there}
 use Rattle.sem_kept.proofs.accepted.OperandsViews.{data_length, whole_is}
 use Rattle.listing_laws.specs.Chains.{is_listed_type}

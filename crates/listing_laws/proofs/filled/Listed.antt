@@ -25,7 +25,8 @@ use Rattle.stl_list.specs.Lines.{stands_before}
 use Rattle.stl_list.specs.Listing.{listed_tree}
 use Rattle.stl_list.specs.Signatures.{Signature, signatures}
 use Rattle.sem_kept.specs.Accepted.{IsAccepted, program_in}
-use Rattle.sem_kept.proofs.accepted.Accepted.{IsSoundTree, context_at, right_tree, sound_code_blocks, sound_data_blocks}
+use Rattle.sem_kept.specs.Settled.{context_at}
+use Rattle.sem_kept.proofs.accepted.Accepted.{IsSoundTree, right_tree, sound_code_blocks, sound_data_blocks}
 use Rattle.sem_kept.proofs.accepted.OperandsMembers.{code_block_there, data_block_there}
 use Rattle.block_layout.proofs.AlignmentLemmas.{structure_even}
 use Rattle.sem_kept.proofs.accepted.RecordBlocks.{code_blocks_rise}

@@ -27,10 +27,11 @@ use Rattle.stl_codegen.specs.Generated.{code_block, generated_data_block, functi
 use Rattle.stl_list.specs.DataBlocks.{function_block}
 use Rattle.sem_kept.specs.Accepted.{IsAccepted}
 use Rattle.sem_kept.specs.Initial.{HasRoom, IsMadeByWrites, writes_of}
-use Rattle.sem_kept.proofs.accepted.Accepted.{IsSound, IsSoundTree, context_at, right_tree}
+use Rattle.sem_kept.specs.Settled.{context_at}
+use Rattle.sem_kept.proofs.accepted.Accepted.{IsSoundBlock, IsSoundTree, right_tree}
 use Rattle.sem_kept.proofs.accepted.Initial.{initial_values_are_whole}
 use Rattle.sem_kept.proofs.accepted.OperandsCells.{IsLaid as LaidBlock, block_of_layout}
-use Rattle.sem_kept.proofs.accepted.OperandsViews.{IsStructured, IsThere, layout_id, structured, whole_is}
+use Rattle.sem_kept.proofs.accepted.OperandsViews.{IsStructured, IsThere, layout_id, structure_known, whole_is}
 use Rattle.block_layout.proofs.BlockLemmas.{kind_there}
 use Rattle.listing_laws.proofs.declared.Blocks.{IsLaidInstance, fb_kind, laid_instance}
 use Rattle.listing_laws.proofs.declared.Own.{whole_writes}
@@ -76,7 +77,7 @@ pub record IsSourceInstance (symbols : List Symbol) (t : Tree) (n : ℕ) (d : Da
   pub place : ℕ
   pub block : Block
   pub layout : BlockLayout
-  pub sound : IsSound symbols t place block layout
+  pub sound : IsSoundBlock symbols t place block layout
   pub is : layout.id ≡ Some (function_block n)
   pub long : length d.bytes ≡ (compiled_block (code_block (context_at symbols t place) block layout (function_block n))).instance_len
   -- where the parameters of the function block stand first among its cells
@@ -133,7 +134,7 @@ each_reach Q [] j i h = tt
 each_reach Q (w ∷ ws) j i (one, more) = (one j i, each_reach Q ws j i more)
 
 pub source_instance : (source file : List ℕ) (symbols : List Symbol) (t : Tree) → IsAccepted source file symbols t → AreBytes source → (k : ℕ) (b : Block) (l : BlockLayout) (id : BlockId)
-    → IsSound symbols t k b l → l.id ≡ Some id → is_data_block id.kind ≡ true → (n : ℕ) → (generated_data_block (context_at symbols t k) l id).instance_of ≡ Some n
+    → IsSoundBlock symbols t k b l → l.id ≡ Some id → is_data_block id.kind ≡ true → (n : ℕ) → (generated_data_block (context_at symbols t k) l id).instance_of ≡ Some n
     → IsSourceInstance symbols t n (generated_data_block (context_at symbols t k) l id)
 source_instance source file symbols t accepted bytes k b l id h is db n instance = record {
   place = q;
@@ -185,7 +186,7 @@ source_instance source file symbols t accepted bytes k b l id h is db n instance
     }
 
     shaped : IsStructured symbols t k
-    shaped = structured symbols t tree k there
+    shaped = structure_known symbols t tree k there
 
     inside : shaped.inside ≡ q
     inside = some_same shaped.inside q (sym shaped.is ∙ structure)

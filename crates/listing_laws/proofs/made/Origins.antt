@@ -17,7 +17,7 @@ use Rattle.stl_list.specs.Lines.{line_behind_statements, stands_before}
 use Rattle.stl_list.specs.Listing.{listed_tree}
 use Rattle.stl_list.specs.Signatures.{Signature}
 use Rattle.sem_kept.specs.Accepted.{program_in}
-use Rattle.sem_kept.proofs.accepted.Accepted.{IsSound, IsSoundTree, right_tree, sound_code_blocks}
+use Rattle.sem_kept.proofs.accepted.Accepted.{IsSoundBlock, IsSoundTree, right_tree, sound_code_blocks}
 use Rattle.block_layout.proofs.CommonLemmas.{all_there}
 use Rattle.listing_laws.specs.Again.{AreMadeOfSource, IsCodeAt, IsMadeOf, context_at, listed_again}
 use Rattle.listing_laws.specs.Declared.{signatures_in}
@@ -64,7 +64,7 @@ pub record IsFrom (symbols : List Symbol) (t : Tree) (x : CodeBlock) : Type 0 wh
   pub source : IsCodeAt symbols t place block layout id
   pub is : compiled_block (code_block (context_at symbols t place) block layout id) ≡ x
 
-one_from : (symbols : List Symbol) (t : Tree) (k : ℕ) (b : Block) (l : BlockLayout) (id : BlockId) → IsSound symbols t k b l → l.id ≡ Some id → is_code id.kind ≡ true
+one_from : (symbols : List Symbol) (t : Tree) (k : ℕ) (b : Block) (l : BlockLayout) (id : BlockId) → IsSoundBlock symbols t k b l → l.id ≡ Some id → is_code id.kind ≡ true
     → IsFrom symbols t (compiled_block (code_block (context_at symbols t k) b l id))
 one_from symbols t k b l id h e code = record {
   place = k;

@@ -50,7 +50,7 @@ use Rattle.stl_symbols.specs.declared.targets.Target.{Target}
 use Rattle.stl_symbols.specs.declared.targets.Target.TheVariants as target
 use Rattle.block_layout.specs.Blocks.{named_block}
 use Rattle.block_layout.specs.Offsets.{place_at, elementary_place, width_of}
-use Rattle.block_layout.specs.Paths.{cells_at, elementary_at, folded_path, path_end_in_data_block, walked_local}
+use Rattle.block_layout.specs.Paths.{cells_at, elementary_at, folded_path, path_end_in_data_block, path_end_of_local}
 use Rattle.block_layout.specs.declared.blocks.BlockLayout.{BlockLayout}
 use Rattle.block_layout.specs.declared.cells.Cell.{Cell}
 use Rattle.block_layout.specs.declared.cells.Element.{Element}
@@ -66,7 +66,7 @@ use Rattle.stl_types.specs.Operands.{operand_rule, statement_rule}
 use Rattle.stl_types.specs.Parameters.{Callee, callee_of}
 use Rattle.stl_types.specs.Resolution.{resolution_of_call, resolution_of_address, instance_number as number_of_instance, resolution_of_opened_block, resolution_of_path, resolution_of, resolution_of_symbol, resolved_target, whole_called_block}
 use Rattle.stl_types.specs.Resolved.{resolved_operand, operand_if_resolved}
-use Rattle.stl_types.specs.Variables.{composite_operand, data_at, data_path, data_variable, data_walked, date_or_composite, variable_in_area, is_temporary_variable, own_at, own_elementary, own_variable, own_walked, parameter_resolution, parameter_at, parameter_index}
+use Rattle.stl_types.specs.Variables.{composite_operand, data_at, data_path, data_variable, data_at_path_end, date_or_composite, variable_in_area, is_temporary_variable, own_at, own_elementary, own_variable, own_at_path_end, parameter_resolution, parameter_at, parameter_index}
 use Rattle.stl_types.specs.declared.forms.OperandRule.TheVariants as form
 use Rattle.stl_types.specs.declared.forms.OperandRule.{OperandRule}
 use Rattle.stl_types.specs.declared.parameters.Formal.{Formal}
@@ -132,8 +132,8 @@ own_elementary_plain c false component kind =
     (parameter_plain c component kind) (in_area_plain kind area.Di 0 component.offset (λ w. tt))
 
 own_plain : (c : Context) (name : List ℕ) (steps : List PathStep) → SeenIsNoBit (own_variable c name steps)
-own_plain c name steps = by (walked_local c.layouts c.block name steps) where
-  by : (w : PathEnd) → SeenIsNoBit (own_walked c (is_temporary_variable c name) w)
+own_plain c name steps = by (path_end_of_local c.layouts c.block name steps) where
+  by : (w : PathEnd) → SeenIsNoBit (own_at_path_end c (is_temporary_variable c name) w)
   by path_end.Unknown = tt
   by path_end.Unjudged = tt
   by (path_end.Reaches component) = at (elementary_at c.layouts component) where
@@ -141,7 +141,7 @@ own_plain c name steps = by (walked_local c.layouts c.block name steps) where
     at None = composite_plain (slice_get (cells_at c.layouts component.block component.temporary) component.place)
     at (Some kind) = own_elementary_plain c (is_temporary_variable c name) component kind
 
-data_walk_plain : (c : Context) (n : ℕ) (w : PathEnd) → SeenIsNoBit (data_walked c n w)
+data_walk_plain : (c : Context) (n : ℕ) (w : PathEnd) → SeenIsNoBit (data_at_path_end c n w)
 data_walk_plain c n path_end.Unknown = tt
 data_walk_plain c n path_end.Unjudged = tt
 data_walk_plain c n (path_end.Reaches component) = at (elementary_at c.layouts component) where

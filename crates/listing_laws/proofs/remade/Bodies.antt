@@ -44,7 +44,7 @@ use Rattle.stl_list.specs.Signatures.{Signature, called_formals, formals_of_bloc
 use Rattle.stl_list.specs.Statements.{ListingContext, listed_statement}
 use Rattle.sem_kept.specs.Accepted.{IsAccepted, program_in}
 use Rattle.sem_kept.specs.Settled.{HasCalled, HasInstruction, HasOperand, IsResolvedStatement}
-use Rattle.sem_kept.proofs.accepted.Accepted.{IsSound, IsSoundStatement, IsSoundTree, right_tree}
+use Rattle.sem_kept.proofs.accepted.Accepted.{IsSoundBlock, IsSoundStatement, IsSoundTree, right_tree}
 use Rattle.block_layout.proofs.CommonLemmas.{all_there}
 use Rattle.sem_kept.proofs.accepted.Settled.{statements_settle}
 use Rattle.sem_kept.proofs.accepted.SizesOps.{whole_count}
@@ -148,7 +148,7 @@ module _ (source file : List ℕ) (symbols : List Symbol) (t : Tree) (accepted :
   tree : IsSoundTree symbols t
   tree = right_tree source file symbols t accepted
 
-  sound : IsSound symbols t place b l
+  sound : IsSoundBlock symbols t place b l
   sound = source_sound symbols t tree again place b l id made
 
   stands_again : HasAgain c listed own

@@ -61,14 +61,14 @@ use Rattle.sem_kept.specs.Accepted.{IsAccepted, program_in}
 use Rattle.sem_kept.specs.Coded.{StatementHasBytes}
 use Rattle.sem_kept.specs.Operands.{ArePassed, InstrFits}
 use Rattle.sem_kept.specs.Settled.{HasCalled, HasOperand, HasInstruction, IsResolvedStatement}
-use Rattle.sem_kept.proofs.accepted.Accepted.{IsSound, IsSoundStatement, IsSoundTree, right_tree}
+use Rattle.sem_kept.proofs.accepted.Accepted.{IsSoundBlock, IsSoundStatement, IsSoundTree, right_tree}
 use Rattle.sem_kept.proofs.accepted.CodedBytes.{tree_has}
 use Rattle.sem_kept.proofs.accepted.CodedOps.{IsGoodStatement, statement_good}
 use Rattle.sem_kept.proofs.accepted.CodedSources.{context_fit, formals_few}
 use Rattle.sem_kept.proofs.accepted.CodedSymbols.{symbols_fit as symbols_coded}
 use Rattle.sem_kept.proofs.accepted.OperandsCalls.{call_fits}
 use Rattle.block_layout.proofs.CommonLemmas.{all_there}
-use Rattle.sem_kept.proofs.accepted.OperandsOperations.{allowed}
+use Rattle.sem_kept.proofs.accepted.OperandsOperations.{taken_by_rule}
 use Rattle.sem_kept.proofs.accepted.OperandsSymbols.{symbols_fit}
 use Rattle.sem_kept.proofs.accepted.OperandsViews.{EndsBy, Surrounds, ends_by, holds_locals}
 use Rattle.sem_kept.proofs.accepted.Settled.{statements_settle}
@@ -183,7 +183,7 @@ own_seen : (c : Context) (own : List Formal) (index : ℕ) → resolution_of c (
 unfolding resolution_of
 own_seen c own index = refl
 
-local_is : (symbols : List Symbol) (t : Tree) (k : ℕ) (b : Block) (l : BlockLayout) → IsSound symbols t k b l → l.local_len ≡ local_len (types_of_source symbols t.blocks) b
+local_is : (symbols : List Symbol) (t : Tree) (k : ℕ) (b : Block) (l : BlockLayout) → IsSoundBlock symbols t k b l → l.local_len ≡ local_len (types_of_source symbols t.blocks) b
 unfolding block_layout
 local_is symbols t k b l h = ap (λ (z : BlockLayout). z.local_len) h.layout
 
@@ -212,7 +212,7 @@ module _ (source file : List ℕ) (symbols : List Symbol) (t : Tree) (accepted :
   tree : IsSoundTree symbols t
   tree = right_tree source file symbols t accepted
 
-  sound : IsSound symbols t place b l
+  sound : IsSoundBlock symbols t place b l
   sound = source_sound symbols t tree again place b l id made
 
   is_kind : b.kind ≡ id.kind
@@ -301,7 +301,7 @@ module _ (source file : List ℕ) (symbols : List Symbol) (t : Tree) (accepted :
 
     is_word : is_call s.code ≡ true
     is_word = form_calls s.code
-        (taken_calls (form_of s.code) cid instance (allowed (form_of s.code) (view.Called cid instance) (rule_called c (form_of s.code) s.operand cid instance sees sound_here.allowed)).taken)
+        (taken_calls (form_of s.code) cid instance (taken_by_rule (form_of s.code) (view.Called cid instance) (rule_called c (form_of s.code) s.operand cid instance sees sound_here.allowed)).taken)
 
     how : (how : CallOperation) × (call_operation_of s.code ≡ Some how)
     how = call_word s.code is_word

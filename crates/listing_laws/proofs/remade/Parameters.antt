@@ -39,7 +39,7 @@ use Rattle.stl_list.specs.Operands.{name_at}
 use Rattle.stl_list.specs.Parameters.{section_of}
 use Rattle.stl_list.specs.Signatures.{formals_from, formals_of_block, is_behind}
 use Rattle.sem_kept.specs.Accepted.{program_in}
-use Rattle.sem_kept.proofs.accepted.Accepted.{IsSound, IsSoundTree, right_tree, sound_at}
+use Rattle.sem_kept.proofs.accepted.Accepted.{IsSoundBlock, IsSoundTree, right_tree, sound_at}
 use Rattle.sem_kept.proofs.accepted.OperandsCells.{cells_are}
 use Rattle.sem_kept.proofs.accepted.OperandsFormals.{IsRecordOf, Matched, source_matched}
 use Rattle.sem_kept.proofs.accepted.OperandsViews.{layout_id}
@@ -133,7 +133,7 @@ formal_again symbols t others again b h function index f there =
 
 -- a block of the source at its place is sound, and of the kind of its id
 pub source_sound : (symbols : List Symbol) (t : Tree) → IsSoundTree symbols t → (again place : ℕ) (b : Block) (l : BlockLayout) (id : BlockId) → IsMadeOf symbols t again place b l id
-    → IsSound symbols t place b l
+    → IsSoundBlock symbols t place b l
 source_sound symbols t tree again place b l id made = sound_at symbols t tree place b l made.source.block made.source.layout
 
 pub source_kind : (symbols : List Symbol) (t : Tree) → IsSoundTree symbols t → (again place : ℕ) (b : Block) (l : BlockLayout) (id : BlockId) → IsMadeOf symbols t again place b l id
@@ -163,7 +163,7 @@ parameters_again source file symbols t accepted bytes file_bytes others clean ag
     tree : IsSoundTree symbols t
     tree = right_tree source file symbols t accepted
 
-    sound : IsSound symbols t place b l
+    sound : IsSoundBlock symbols t place b l
     sound = source_sound symbols t tree again place b l id made
 
     listed : IsListedCode symbols t others again cb

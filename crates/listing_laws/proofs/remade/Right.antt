@@ -26,7 +26,7 @@ use Rattle.block_layout.specs.declared.blocks.BlockLayout.{BlockLayout}
 use Rattle.stl_types.specs.Addresses.{area_of_pointer, area_for_letters}
 use Rattle.stl_types.specs.Context.{Context}
 use Rattle.sem_kept.specs.Coded.{HasBytes, OperandHasBytes, StatementHasBytes}
-use Rattle.sem_kept.proofs.accepted.Accepted.{AllLaid, IsSound, IsSoundStatement, right_tree}
+use Rattle.sem_kept.proofs.accepted.Accepted.{AllLaid, IsSoundBlock, IsSoundStatement, right_tree}
 use Rattle.sem_kept.proofs.accepted.CodedBits.{value_fits}
 use Rattle.sem_kept.proofs.accepted.CodedBytes.{tree_has}
 use Rattle.listing_laws.specs.Again.{context_at}
@@ -99,7 +99,7 @@ statements_right symbols t c each (s ∷ ss) sound has plain = (
   statements_right symbols t c each ss sound.1 has.1 plain.1,
 )
 
-all_right : (symbols : List Symbol) (t : Tree) → AllByRecursion IsSymbol symbols → (k : ℕ) (bs : List Block) (ls : List BlockLayout) → AllLaid (IsSound symbols t) k bs ls
+all_right : (symbols : List Symbol) (t : Tree) → AllByRecursion IsSymbol symbols → (k : ℕ) (bs : List Block) (ls : List BlockLayout) → AllLaid (IsSoundBlock symbols t) k bs ls
     → AllByRecursion (λ b. AllByRecursion StatementHasBytes b.body) bs → AllByRecursion BlockIsNoBit bs → AllByRecursion (λ b. AllByRecursion (IsRightStatement symbols) b.body) bs
 all_right symbols t each k [] ls laid has plain = tt
 all_right symbols t each k (b ∷ bs) [] laid has plain = absurd laid

@@ -14,7 +14,7 @@ use Rattle.stl_types.specs.Context.{Context}
 use Rattle.stl_codegen.specs.Compiled.{SourceInstruction, StatedBlock}
 use Rattle.stl_codegen.specs.Generated.{code_block, code_blocks_of, return_statement, stated_from, statements_of}
 use Rattle.stl_codegen.specs.Instruction.{instruction}
-use Rattle.sem_kept.proofs.accepted.Accepted.{IsSound}
+use Rattle.sem_kept.proofs.accepted.Accepted.{IsSoundBlock}
 use Rattle.sem_kept.proofs.accepted.OperandsMembers.{code_block_there}
 use Rattle.listing_laws.specs.Again.{context_at}
 
@@ -42,7 +42,7 @@ pub record IsAmong (symbols : List Symbol) (t : Tree) (x : StatedBlock) : Type 0
   pub back : List StatedBlock
   pub is : code_blocks_of t symbols (layouts_of t symbols) ≡ front ++ x ∷ back
 
-pub among : (symbols : List Symbol) (t : Tree) (k : ℕ) (b : Block) (l : BlockLayout) (id : BlockId) → IsSound symbols t k b l → l.id ≡ Some id → is_code id.kind ≡ true
+pub among : (symbols : List Symbol) (t : Tree) (k : ℕ) (b : Block) (l : BlockLayout) (id : BlockId) → IsSoundBlock symbols t k b l → l.id ≡ Some id → is_code id.kind ≡ true
     → IsAmong symbols t (code_block (context_at symbols t k) b l id)
 among symbols t k b l id sound known code =
     code_block_there symbols t (IsAmong symbols t)

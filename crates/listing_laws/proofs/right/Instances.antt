@@ -46,12 +46,13 @@ use Rattle.stl_list.specs.DataBlocks.{function_block, listed_data}
 use Rattle.stl_list.specs.Operands.{name_of_data_block}
 use Rattle.stl_list.specs.Signatures.{Signature}
 use Rattle.sem_kept.specs.Accepted.{program_in}
-use Rattle.sem_kept.proofs.accepted.Accepted.{IsSoundStatement, IsSoundTree, context_at}
+use Rattle.sem_kept.specs.Settled.{context_at}
+use Rattle.sem_kept.proofs.accepted.Accepted.{IsSoundStatement, IsSoundTree}
 use Rattle.block_layout.proofs.BlockLemmas.{known_there}
 use Rattle.block_layout.proofs.LayoutLemmas.{measured_symbols}
 use Rattle.block_layout.proofs.CommonLemmas.{origin, or_second}
 use Rattle.sem_kept.proofs.accepted.OperandsMembers.{data_block_there}
-use Rattle.sem_kept.proofs.accepted.OperandsViews.{IsData, data_there, ids_same, whole_is}
+use Rattle.sem_kept.proofs.accepted.OperandsViews.{IsKnownDataBlock, data_there, ids_same, whole_is}
 use Rattle.listing_laws.specs.Again.{listed_again}
 use Rattle.listing_laws.specs.Calls.{IsInstanceAt}
 use Rattle.listing_laws.specs.Declared.{signatures_in}
@@ -278,7 +279,7 @@ source_instance symbols t tree k s sound id n callee fb same names right = recor
     unknown : (is_unknown_called (types_of_source symbols t.blocks) names.name || is_unknown_data (types_of_source symbols t.blocks) names.instance_name) ≡ false
     unknown = ap (names_unknown (types_of_source symbols t.blocks)) (sym names.is) ∙ sound.there
 
-    there : IsData symbols t k names.instance_name
+    there : IsKnownDataBlock symbols t k names.instance_name
     there =
         data_there symbols t tree k names.instance_name
         (or_second (is_unknown_called (types_of_source symbols t.blocks) names.name) (is_unknown_data (types_of_source symbols t.blocks) names.instance_name) unknown)

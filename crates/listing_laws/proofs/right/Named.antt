@@ -23,7 +23,7 @@ use Rattle.stl_ast.specs.declared.operands.Operand.TheVariants as operand
 use Rattle.stl_ast.specs.declared.operands.PathHead.TheVariants as head
 use Rattle.stl_symbols.specs.Symbol.{Symbol}
 use Rattle.block_layout.specs.Blocks.{found_block, known_block, named_block}
-use Rattle.block_layout.specs.Paths.{folded_path, holds_where_reached, if_whole, in_sections, is_checkable, walked_local, whole_at}
+use Rattle.block_layout.specs.Paths.{folded_path, holds_where_reached, if_whole, in_sections, is_checkable, path_end_of_local, whole_at}
 use Rattle.block_layout.specs.Rule23.{is_unknown_called, is_unknown_data, is_unknown_id, is_unknown_instance, names_unknown}
 use Rattle.block_layout.specs.Rule42.{operand_is_outside}
 use Rattle.block_layout.specs.Types.{Types}
@@ -142,7 +142,7 @@ and_false false b e = refl
 pub bare_inside : (y : Types) (c : Context) (o : Operand) → IsBare o → operand_is_outside y c.layouts c.block o ≡ false
 bare_inside y c (operand.Named (head.Local name) steps) h =
     ap (λ (p : List PathStep). operand_is_outside y c.layouts c.block (operand.Named (head.Local name) p)) h
-    ∙ and_false (is_checkable (walked_local c.layouts c.block (upper_case_name name) [])) (holds_where_reached (in_sections c.layouts c.block (upper_case_name name)) (λ component. false)) (no_further (in_sections c.layouts c.block (upper_case_name name)))
+    ∙ and_false (is_checkable (path_end_of_local c.layouts c.block (upper_case_name name) [])) (holds_where_reached (in_sections c.layouts c.block (upper_case_name name)) (λ component. false)) (no_further (in_sections c.layouts c.block (upper_case_name name)))
 bare_inside y c (operand.Named (head.InBlock name) steps) h = absurd h
 bare_inside y c (operand.Named (head.Symbol name) steps) h = absurd h
 bare_inside y c _ h = refl

@@ -40,7 +40,7 @@ use Rattle.stl_list.specs.Signatures.{Signature}
 use Rattle.stl_list.specs.Statements.{ListingContext, body_of, label_at, label_of_end, listed_statement, statement_at, statements_from, listing_context}
 use Rattle.sem_kept.specs.Accepted.{IsAccepted, program_in}
 use Rattle.sem_kept.specs.Settled.{HasInstruction, HasLabel, HasOperand, IsResolvedStatement}
-use Rattle.sem_kept.proofs.accepted.Accepted.{IsSound, IsSoundStatement, right_tree, sound_at}
+use Rattle.sem_kept.proofs.accepted.Accepted.{IsSoundBlock, IsSoundStatement, right_tree, sound_at}
 use Rattle.sem_kept.proofs.accepted.OperandsInstr.{resolved_is}
 use Rattle.sem_kept.proofs.accepted.Settled.{statements_settle}
 use Rattle.sem_kept.proofs.accepted.Shared.{stated_count as source_count}
@@ -325,7 +325,7 @@ few_stated c b few =
 
 -- the block of the source that a listed one was made of
 pub source_block : (source file : List ℕ) (symbols : List Symbol) (t : Tree) → IsAccepted source file symbols t → (again place : ℕ) (b : Block) (l : BlockLayout) (id : BlockId) → IsMadeOf symbols t again place b l id
-    → IsSound symbols t place b l
+    → IsSoundBlock symbols t place b l
 source_block source file symbols t accepted again place b l id made = sound_at symbols t (right_tree source file symbols t accepted) place b l made.source.block made.source.layout
 
 pub source_settled : (source file : List ℕ) (symbols : List Symbol) (t : Tree) → IsAccepted source file symbols t → AreBytes source → (again place : ℕ) (b : Block) (l : BlockLayout) (id : BlockId) → IsMadeOf symbols t again place b l id

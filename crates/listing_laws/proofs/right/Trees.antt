@@ -35,7 +35,8 @@ use Rattle.stl_list.specs.DataBlocks.{listed_data, listed_data_blocks}
 use Rattle.stl_list.specs.Listing.{listed_tree}
 use Rattle.stl_list.specs.Signatures.{Signature, formals_of_block}
 use Rattle.sem_kept.specs.Accepted.{IsAccepted, program_in}
-use Rattle.sem_kept.proofs.accepted.Accepted.{AllFrom, context_at}
+use Rattle.sem_kept.specs.Settled.{context_at}
+use Rattle.sem_kept.proofs.accepted.Accepted.{AllFrom}
 use Rattle.block_layout.proofs.CommonLemmas.{all_there}
 use Rattle.block_layout.proofs.LayoutLemmas.{measured_symbols}
 use Rattle.sem_kept.proofs.accepted.OperandsViews.{ids_same}

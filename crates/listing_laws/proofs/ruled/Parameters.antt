@@ -9,7 +9,7 @@ use Rattle.stl_ast.specs.declared.blocks.Block.{Block}
 use Rattle.stl_ast.specs.declared.declarations.Simple.{Simple}
 use Rattle.block_layout.specs.Members.{component_of_name}
 use Rattle.block_layout.specs.Offsets.{elementary_place}
-use Rattle.block_layout.specs.Paths.{cells_at, cells_in, elementary_at, path_end_at_cell, path_end_at_member, path_end_and_then, in_sections, kind_of, outermost_path_end, plain_kind, path_end_behind, walked_local, whole_at, whole_block}
+use Rattle.block_layout.specs.Paths.{cells_at, cells_in, elementary_at, path_end_at_cell, path_end_at_member, path_end_and_then, in_sections, kind_of, outermost_path_end, plain_kind, path_end_behind, path_end_of_local, whole_at, whole_block}
 use Rattle.block_layout.specs.Sizes.{alignment, capped_size, cell_bits, end_behind_cell, next_multiple}
 use Rattle.block_layout.specs.declared.blocks.BlockLayout.{BlockLayout}
 use Rattle.block_layout.specs.declared.cells.Cell.{Cell}
@@ -19,7 +19,7 @@ use Rattle.block_layout.specs.declared.walks.ComponentAt.{ComponentAt}
 use Rattle.block_layout.specs.declared.walks.PathEnd.{PathEnd}
 use Rattle.block_layout.specs.declared.walks.PathEnd.TheVariants as path_end
 use Rattle.stl_types.specs.Context.{Context, in_function, is_of_function}
-use Rattle.stl_types.specs.Variables.{behind_others, variable_in_area, own_at, own_variable, own_walked, parameter_resolution, parameter_at, parameter_index}
+use Rattle.stl_types.specs.Variables.{behind_others, variable_in_area, own_at, own_variable, own_at_path_end, parameter_resolution, parameter_at, parameter_index}
 use Rattle.stl_types.specs.declared.views.Resolution.TheVariants.{Resolved}
 use Rattle.stl_types.specs.declared.views.ResolvedOperand.TheVariants as view
 use Rattle.listing_laws.specs.OwnParameters.{AreOwnParametersFound}
@@ -91,8 +91,8 @@ is_whole l block b e whole = ap (λ (x : Option BlockLayout). is_some (whole_blo
 
 walked_to : (c : Context) (name : List ℕ) (m : Member) (cell : Cell) → component_of_name 0 0 0 name (cells_at c.layouts c.block false) ≡ Some m → slice_get (cells_at c.layouts c.block false) (0 + m.place) ≡ Some cell → cell.sound ≡ true
     → is_some (whole_at c.layouts c.block) ≡ true
-    → walked_local c.layouts c.block name [] ≡ path_end.Reaches (component_at c (0 + m.place) (capped_size (0 + capped_size m.offset)))
-unfolding walked_local outermost_path_end
+    → path_end_of_local c.layouts c.block name [] ≡ path_end.Reaches (component_at c (0 + m.place) (capped_size (0 + capped_size m.offset)))
+unfolding path_end_of_local outermost_path_end
 walked_to c name m cell e there sound whole =
     ap (λ (b : Bool). if b then path_end_and_then (in_sections c.layouts c.block name) (λ component. path_end_behind c.layouts component []) else path_end.Unjudged) whole
     ∙ ap (λ (x : Option Member). path_end_and_then (if is_some x then path_end_at_member (cells_at c.layouts c.block false) c.block false 0 0 x else outermost_path_end c.layouts c.block true 0 name) (λ component. path_end_behind c.layouts component [])) e
@@ -118,11 +118,11 @@ own_parameters_found c b l j cell kind at flat own = by (component_found 0 0 cel
         let place : 0 + m.place ≡ j = let e = h.at in omega (arith, e) in
         let there : slice_get (cells_at c.layouts c.block false) (0 + m.place) ≡ Some cell = ap (λ (xs : List Cell). slice_get xs (0 + m.place)) cells ∙ ap (slice_get l.components) place ∙ own.there in
         let component : ComponentAt = component_at c (0 + m.place) (capped_size (0 + capped_size m.offset)) in
-        let walks : walked_local c.layouts c.block cell.name [] ≡ path_end.Reaches component = walked_to c cell.name m cell found there own.sound (is_whole c.layouts c.block l at.layout at.whole) in
+        let walks : path_end_of_local c.layouts c.block cell.name [] ≡ path_end.Reaches component = walked_to c cell.name m cell found there own.sound (is_whole c.layouts c.block l at.layout at.whole) in
         let kinds : elementary_at c.layouts component ≡ Some kind = kind_at component (slice_get (cells_at c.layouts c.block false) (0 + m.place)) cell kind refl there own.bounds own.of_kind in
         let function : in_function c ≡ true = ap is_of_function at.block ∙ at.kind in
-        ap (λ (x : Option Member). own_walked c (not (is_some x)) (walked_local c.layouts c.block cell.name [])) found
-        ∙ ap (own_walked c false) walks
+        ap (λ (x : Option Member). own_at_path_end c (not (is_some x)) (path_end_of_local c.layouts c.block cell.name [])) found
+        ∙ ap (own_at_path_end c false) walks
         ∙ ap (own_at c false component) kinds
         ∙ ap (λ (t : Bool). if t then parameter_at c component kind else variable_in_area kind (elementary_place area.Di 0 component.offset (Some kind))) function
         ∙ ap (λ (x : Option Cell). parameter_resolution (parameter_index (length (cells_at c.layouts c.block false)) (0 + m.place) (slice_get c.blocks c.block)) kind x) there

@@ -19,7 +19,7 @@ use Rattle.stl_symbols.specs.declared.targets.Target.{Target}
 use Rattle.stl_symbols.specs.declared.targets.Target.TheVariants as target
 use Rattle.block_layout.specs.Blocks.{named_block}
 use Rattle.block_layout.specs.Offsets.{place_at, elementary_place, width_of}
-use Rattle.block_layout.specs.Paths.{cells_at, elementary_at, folded_path, path_end_in_data_block, walked_local}
+use Rattle.block_layout.specs.Paths.{cells_at, elementary_at, folded_path, path_end_in_data_block, path_end_of_local}
 use Rattle.block_layout.specs.declared.cells.Cell.{Cell}
 use Rattle.block_layout.specs.declared.cells.Element.{Element}
 use Rattle.block_layout.specs.declared.cells.Element.TheVariants as element
@@ -29,7 +29,7 @@ use Rattle.block_layout.specs.declared.walks.PathEnd.TheVariants as path_end
 use Rattle.stl_types.specs.Addresses.{address_in_block, area_of_pointer, area_for_letters}
 use Rattle.stl_types.specs.Context.{Context, data_number, data_place, in_function}
 use Rattle.stl_types.specs.Resolution.{resolution_of_call, instance_number, resolution_of_opened_block, resolution_of, resolution_of_symbol, resolved_target, whole_called_block}
-use Rattle.stl_types.specs.Variables.{composite_operand, data_at, data_path, data_walked, date_or_composite, variable_in_area, is_temporary_variable, own_at, own_elementary, own_variable, own_walked, parameter_resolution, parameter_at, parameter_index}
+use Rattle.stl_types.specs.Variables.{composite_operand, data_at, data_path, data_at_path_end, date_or_composite, variable_in_area, is_temporary_variable, own_at, own_elementary, own_variable, own_at_path_end, parameter_resolution, parameter_at, parameter_index}
 use Rattle.stl_types.specs.declared.parameters.Formal.{Formal}
 use Rattle.stl_types.specs.declared.views.Resolution.{Resolution}
 use Rattle.stl_types.specs.declared.views.Resolution.TheVariants.{Resolved}
@@ -102,7 +102,7 @@ own_component_seen : (c listed : Context) (temporary : Bool) (component : Compon
 own_component_seen c listed temporary component None = composite_seen true listed (slice_get (cells_at c.layouts component.block component.temporary) component.place)
 own_component_seen c listed temporary component (Some kind) = own_seen c listed temporary component kind
 
-own_walk_seen : (c listed : Context) (temporary : Bool) (end : PathEnd) → IfSeen true listed (own_walked c temporary end)
+own_walk_seen : (c listed : Context) (temporary : Bool) (end : PathEnd) → IfSeen true listed (own_at_path_end c temporary end)
 own_walk_seen c listed temporary (path_end.Reaches component) = own_component_seen c listed temporary component (elementary_at c.layouts component)
 own_walk_seen c listed temporary path_end.Unknown = tt
 own_walk_seen c listed temporary path_end.Unjudged = tt
@@ -111,7 +111,7 @@ data_component_seen : (c listed : Context) (n : ℕ) (component : ComponentAt) (
 data_component_seen c listed n component None h = composite_seen false listed (slice_get (cells_at c.layouts component.block component.temporary) component.place)
 data_component_seen c listed n component (Some kind) h = area_seen false listed area.Db n component.offset kind (opened_place listed (not (nat_eq n 0)) n h)
 
-data_walk_seen : (c listed : Context) (n : ℕ) (end : PathEnd) → IsOpenedAgain listed (Some n) → IfSeen false listed (data_walked c n end)
+data_walk_seen : (c listed : Context) (n : ℕ) (end : PathEnd) → IsOpenedAgain listed (Some n) → IfSeen false listed (data_at_path_end c n end)
 data_walk_seen c listed n (path_end.Reaches component) h = data_component_seen c listed n component (elementary_at c.layouts component) h
 data_walk_seen c listed n path_end.Unknown h = tt
 data_walk_seen c listed n path_end.Unjudged h = tt
@@ -245,7 +245,7 @@ both_own : (c listed : Context) (formals : List Formal) (name : List ℕ) (steps
     → Both listed formals (operand.Named (head.Local name) steps) v
 unfolding resolution_of
 both_own c listed formals name steps v has e =
-    let is : IsSeen true listed v = seen_is true listed (own_variable c (upper_case_name name) (folded_path steps)) v e (own_walk_seen c listed (is_temporary_variable c (upper_case_name name)) (walked_local c.layouts c.block (upper_case_name name) (folded_path steps))) in
+    let is : IsSeen true listed v = seen_is true listed (own_variable c (upper_case_name name) (folded_path steps)) v e (own_walk_seen c listed (is_temporary_variable c (upper_case_name name)) (path_end_of_local c.layouts c.block (upper_case_name name) (folded_path steps))) in
     (own_stands c listed formals (upper_case_name name) (folded_path steps) v has e is, other_by true listed (operand.Named (head.Local name) steps) v tt is)
 
 both_constant : (c listed : Context) (formals : List Formal) (value : Literal) (v : ResolvedOperand) → IsConstantCoded value → resolution_of c (operand.Constant value) ≡ Resolved v → Both listed formals (operand.Constant value) v

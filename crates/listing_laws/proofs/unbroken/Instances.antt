@@ -35,7 +35,8 @@ use Rattle.stl_list.specs.CodeBlocks.{in_lines}
 use Rattle.stl_list.specs.DataBlocks.{function_block}
 use Rattle.stl_list.specs.Lines.{stands_before}
 use Rattle.sem_kept.specs.Accepted.{program_in}
-use Rattle.sem_kept.proofs.accepted.Accepted.{IsSound, IsSoundTree, context_at, sound_at, sound_data_blocks}
+use Rattle.sem_kept.specs.Settled.{context_at}
+use Rattle.sem_kept.proofs.accepted.Accepted.{IsSoundBlock, IsSoundTree, sound_at, sound_data_blocks}
 use Rattle.sem_kept.proofs.accepted.RecordData.{id_there, length_there}
 use Rattle.block_layout.proofs.BlockLemmas.{kind_there}
 use Rattle.block_layout.proofs.FillLemmas.{written_length}
@@ -124,11 +125,11 @@ initial_long l blocks k =
     written_length (replicate (length_at (slice_get l k)) 0) (structure_writes l (structure_of l k) ++ setting_writes l k (settings_at (slice_get blocks k)))
     ∙ length-replicate (length_at (slice_get l k)) 0
 
-pub bytes_long : (symbols : List Symbol) (t : Tree) (k : ℕ) (b : Block) (l : BlockLayout) (id : BlockId) → IsSound symbols t k b l
+pub bytes_long : (symbols : List Symbol) (t : Tree) (k : ℕ) (b : Block) (l : BlockLayout) (id : BlockId) → IsSoundBlock symbols t k b l
     → length (generated_data_block (context_at symbols t k) l id).bytes ≡ length_of_block (types_of_source symbols t.blocks) t.blocks b
 bytes_long symbols t k b l id h = initial_long (layouts_of t symbols) t.blocks k ∙ ap length_at h.layout_there ∙ length_there symbols t k b l h
 
-shape_there : (symbols : List Symbol) (t : Tree) (k : ℕ) (b : Block) (l : BlockLayout) → IsSound symbols t k b l → l.shape ≡ shape_of (types_of_source symbols t.blocks) b
+shape_there : (symbols : List Symbol) (t : Tree) (k : ℕ) (b : Block) (l : BlockLayout) → IsSoundBlock symbols t k b l → l.shape ≡ shape_of (types_of_source symbols t.blocks) b
 unfolding block_layout
 shape_there symbols t k b l h = ap (λ (x : BlockLayout). x.shape) h.layout
 
@@ -160,7 +161,7 @@ is_code_of kinds.Fb e = refl
 is_code_of _ e = absurd cc
 
 -- the function block of an instance, by its place in the source
-from_block : (symbols : List Symbol) (t : Tree) (size place : ℕ) (b : Block) (l : BlockLayout) (id : BlockId) (number : ℕ) → IsSound symbols t place b l → l.id ≡ Some id
+from_block : (symbols : List Symbol) (t : Tree) (size place : ℕ) (b : Block) (l : BlockLayout) (id : BlockId) (number : ℕ) → IsSoundBlock symbols t place b l → l.id ≡ Some id
     → is_function_block id.kind ≡ true → id.number ≡ number → block_bits (types_of_source symbols t.blocks) (slice_get t.blocks place) / 8 ≡ size
     → HasFunctionBlock (in_lines (program_in symbols t).code_blocks) number size
 from_block symbols t size place b l id number h named fb e long =
@@ -206,7 +207,7 @@ found_block_of symbols t tree size number (shape.Of place) e long = by (slice_ge
                 let same : id.number ≡ number = cc in
                 from_block symbols t size place b.block l id number (sound_at symbols t tree place b.block l b.there laid) named fb same (long place refl)
 
-stored : (symbols : List Symbol) (t : Tree) → IsSoundTree symbols t → (k : ℕ) (b : Block) (l : BlockLayout) (id : BlockId) → IsSound symbols t k b l → l.id ≡ Some id → is_data_block id.kind ≡ true
+stored : (symbols : List Symbol) (t : Tree) → IsSoundTree symbols t → (k : ℕ) (b : Block) (l : BlockLayout) (id : BlockId) → IsSoundBlock symbols t k b l → l.id ≡ Some id → is_data_block id.kind ≡ true
     → IsStored (in_lines (program_in symbols t).code_blocks) (generated_data_block (context_at symbols t k) l id)
 stored symbols t tree k b l id h named db =
     let y = types_of_source symbols t.blocks in

@@ -21,7 +21,8 @@ use Rattle.stl_types.specs.Context.{Context}
 use Rattle.stl_codegen.specs.Generated.{generated_data_block, data_block_of, data_blocks_of, each_block}
 use Rattle.stl_codegen.specs.Order.{is_data_before}
 use Rattle.block_layout.proofs.HeadLemmas.{AllHeads, heads_none}
-use Rattle.sem_kept.proofs.accepted.Accepted.{IsSound, IsSoundTree, context_at}
+use Rattle.sem_kept.specs.Settled.{context_at}
+use Rattle.sem_kept.proofs.accepted.Accepted.{IsSoundBlock, IsSoundTree}
 use Rattle.sem_kept.proofs.accepted.RecordData.{id_there}
 use Rattle.block_layout.proofs.BlockLemmas.{kind_there}
 use Rattle.sem_kept.proofs.accepted.Sizes.{laid_mapped}
@@ -90,7 +91,7 @@ both_summed f none g of bs xs h k =
 abbrev pub data_size : DataBlock → ℕ
 data_size d = length d.bytes
 
-one_size : (symbols : List Symbol) (t : Tree) (k : ℕ) (b : Block) (l : BlockLayout) → IsSound symbols t k b l
+one_size : (symbols : List Symbol) (t : Tree) (k : ℕ) (b : Block) (l : BlockLayout) → IsSoundBlock symbols t k b l
     → sum_by data_size (data_block_of (context_at symbols t k) l l.id) ≤ data_length (types_of_source symbols t.blocks) t.blocks b
 one_size symbols t k b l h = by l.id refl
   where
@@ -116,7 +117,7 @@ source_bytes symbols t tree =
     let y = types_of_source symbols t.blocks in
     let of_ : Context → Block → BlockLayout → List DataBlock = λ c b l. data_block_of c l l.id in
     let each = each_block of_ (context_at symbols t 0) t.blocks (layouts_of t symbols) in
-    let fits = laid_mapped (IsSound symbols t) (λ k b l. sum_by data_size (of_ (context_at symbols t k) b l) ≤ data_length y t.blocks b) (one_size symbols t) 0 t.blocks (layouts_of t symbols) tree.blocks in
+    let fits = laid_mapped (IsSoundBlock symbols t) (λ k b l. sum_by data_size (of_ (context_at symbols t k) b l) ≤ data_length y t.blocks b) (one_size symbols t) 0 t.blocks (layouts_of t symbols) tree.blocks in
     let same = sorted_sum is_data_before data_size each in
     let less = each_sum of_ data_size (data_length y t.blocks) symbols t 0 t.blocks (layouts_of t symbols) fits in
     let most = few_data_bytes y t.blocks t.blocks (heads_none (exceeds_total y t.blocks) 54 [] t.blocks tree.by_layout.by_54) in

@@ -65,6 +65,7 @@ use Rattle.block_layout.proofs.CommonLemmas.{none_left, none_right, not_broken}
 use Rattle.block_layout.proofs.HeadLemmas.{AllHeads, heads_none}
 use Rattle.block_layout.proofs.SoundnessLemmas.{AreSoundDeclarations}
 use Rattle.block_layout.proofs.LayoutLemmas.{layouts_are}
+use Rattle.sem_kept.specs.Settled.{context_at}
 use Rattle.sem_kept.specs.Accepted.{IsAccepted}
 
 -- ---- lists of which nothing is left
@@ -240,15 +241,6 @@ states_right c blocks e49 =
 
 -- ---- at each place of the source
 
--- what a block of a place is checked by
-abbrev pub context_at : List Symbol → Tree → ℕ → Context
-context_at symbols t k = record {
-  symbols = symbols;
-  blocks = t.blocks;
-  layouts = layouts_of t symbols;
-  block = k;
-}
-
 -- what holds of each block with its place, from a place on
 abbrev pub AllFrom : (ℕ → Block → Type 0) → ℕ → List Block → Type 0
 AllFrom P k [] = Unit {0}
@@ -360,7 +352,7 @@ pub record AreSoundSettings (l : List BlockLayout) (k : ℕ) (b : Block) : Type 
   pub by_42 : in_settings (setting_is_outside l k) 42 b.settings ≡ []
 
 -- a block of the source at its place, with its layout
-pub record IsSound (symbols : List Symbol) (t : Tree) (k : ℕ) (b : Block) (l : BlockLayout)
+pub record IsSoundBlock (symbols : List Symbol) (t : Tree) (k : ℕ) (b : Block) (l : BlockLayout)
     : Type 0 where
   pub well_formed : IsBlock b
   pub before : List Block
@@ -381,7 +373,7 @@ pub record IsSoundTree (symbols : List Symbol) (t : Tree) : Type 0 where
   pub well_formed : IsWellFormed t
   pub by_layout : LaysOutRight (types_of_source symbols t.blocks) (layouts_of t symbols) t.blocks
   pub by_statements : StatesRight (first_context symbols (layouts_of t symbols) t.blocks) t.blocks
-  pub blocks : AllLaid (IsSound symbols t) 0 t.blocks (layouts_of t symbols)
+  pub blocks : AllLaid (IsSoundBlock symbols t) 0 t.blocks (layouts_of t symbols)
 
 -- ---- from the rules to each statement
 
@@ -396,13 +388,13 @@ actuals_pass breaks rule (a ∷ more) e = (
 )
 
 -- of a statement, its operand and its actual parameters
-record Passes (breaks : Operand → Bool) (s : Statement) : Type 0 where
+record BreaksNowhere (breaks : Operand → Bool) (s : Statement) : Type 0 where
   own : breaks s.operand ≡ false
   actuals : AllByRecursion (λ (a : Actual). breaks a.value ≡ false) s.actuals
 
 passes_of : (breaks : Operand → Bool) (rule : ℕ) (s : Statement)
     → flat_map (λ (o : OperandAtLine). broken_if (breaks o.operand) o.line rule) (operands_of s) ≡ []
-    → Passes breaks s
+    → BreaksNowhere breaks s
 passes_of breaks rule s e = record {
   own = not_broken (breaks s.operand) s.line rule
       (none_left (broken_if (breaks s.operand) s.line rule) _ e);
@@ -451,7 +443,7 @@ abbrev calls_40 : Context → Callee → Statement → List Refusal
 calls_40 c callee s = broken_if (is_bare_call callee s) s.line 40
 
 -- a statement for which no rule finds anything
-record IsClean (y : Types) (c : Context) (s : Statement) : Type 0 where
+record KeepsRules (y : Types) (c : Context) (s : Statement) : Type 0 where
   well : IsStatement s
   by_20 : flat_map (operand_20 c) (operands_of s) ≡ []
   by_23 : flat_map (operand_23 y) (operands_of s) ≡ []
@@ -466,7 +458,7 @@ record IsClean (y : Types) (c : Context) (s : Statement) : Type 0 where
   by_40 : CallsRight calls_40 c s
   by_46 : broken_if (calls_unknown c s.operand) s.line 46 ≡ []
 
-call_sound : (y : Types) (c : Context) (s : Statement) → IsClean y c s → (callee : Callee)
+call_sound : (y : Types) (c : Context) (s : Statement) → KeepsRules y c s → (callee : Callee)
     → callee_of c s.operand ≡ Some callee → IsSoundCall c callee s
 call_sound y c s h callee e = record {
   named = each_passes (names_no_formal callee.formals) (λ a. a.line) 34 s.actuals
@@ -482,7 +474,7 @@ call_sound y c s h callee e = record {
       (of_callee (calls_40 c) s (callee_of c s.operand) callee h.by_40 e);
 }
 
-statement_sound : (y : Types) (c : Context) (s : Statement) → IsClean y c s → IsSoundStatement y c s
+statement_sound : (y : Types) (c : Context) (s : Statement) → KeepsRules y c s → IsSoundStatement y c s
 statement_sound y c s h = record {
   well_formed = h.well;
   known = pass_20.own;
@@ -495,13 +487,13 @@ statement_sound y c s h = record {
   calls = call_sound y c s h;
 }
   where
-    pass_20 : Passes (λ o. is_unknown (resolution_of c o)) s
+    pass_20 : BreaksNowhere (λ o. is_unknown (resolution_of c o)) s
     pass_20 = passes_of (λ o. is_unknown (resolution_of c o)) 20 s h.by_20
 
-    pass_23 : Passes (names_unknown y) s
+    pass_23 : BreaksNowhere (names_unknown y) s
     pass_23 = passes_of (names_unknown y) 23 s h.by_23
 
-    pass_42 : Passes (operand_is_outside y c.layouts c.block) s
+    pass_42 : BreaksNowhere (operand_is_outside y c.layouts c.block) s
     pass_42 = passes_of (operand_is_outside y c.layouts c.block) 42 s h.by_42
 
 -- the same of all statements of a body
@@ -521,7 +513,7 @@ record IsCleanBody (y : Types) (c : Context) (body : List Statement) : Type 0 wh
   by_46 : flat_map (λ s. broken_if (calls_unknown c s.operand) s.line 46) body ≡ []
 
 first_clean : (y : Types) (c : Context) (s : Statement) (ss : List Statement)
-    → IsCleanBody y c (s ∷ ss) → IsClean y c s
+    → IsCleanBody y c (s ∷ ss) → KeepsRules y c s
 first_clean y c s ss h = record {
   well = h.well.0;
   by_20 = none_left _ _ h.by_20;
@@ -596,7 +588,7 @@ heads_sound y blocks before (b ∷ bs) h22 h23 h43 h44 h50 h51 h52 h53 h54 h55 =
 )
 
 -- what the rules of the layout and of statements leave of the blocks from a place on
-record AreClean (symbols : List Symbol) (t : Tree) (k : ℕ) (before bs : List Block) : Type 0 where
+record KeepRules (symbols : List Symbol) (t : Tree) (k : ℕ) (before bs : List Block) : Type 0 where
   well : AllByRecursion IsBlock bs
   heads : AllHeads (IsSoundHead (types_of_source symbols t.blocks) t.blocks) before bs
   by_21 : AllByRecursion (λ b. refusals_in_block broken_21 b ≡ []) bs
@@ -634,8 +626,8 @@ record AreClean (symbols : List Symbol) (t : Tree) (k : ℕ) (before bs : List B
       (λ b. with_zones (λ zones s. broken_if (is_ninth_zone zones s) s.line 49) [] b.body ≡ []) bs
 
 rest_blocks : (symbols : List Symbol) (t : Tree) (k : ℕ) (before : List Block) (b : Block)
-    (bs : List Block) → AreClean symbols t k before (b ∷ bs)
-    → AreClean symbols t (suc k) (b ∷ before) bs
+    (bs : List Block) → KeepRules symbols t k before (b ∷ bs)
+    → KeepRules symbols t (suc k) (b ∷ before) bs
 rest_blocks symbols t k before b bs h = record {
   well = h.well.1;
   heads = h.heads.1;
@@ -703,11 +695,11 @@ none_broken y blocks before b h =
     rw h22 (rw h23 (rw h43 (rw h44 (rw h50 (rw h51 (rw h52 (rw h53 (rw h54 h55))))))))
 
 block_sound : (symbols : List Symbol) (t : Tree) (k : ℕ) (before : List Block) (b : Block)
-    (bs : List Block) → AreClean symbols t k before (b ∷ bs) → length before ≡ k
+    (bs : List Block) → KeepRules symbols t k before (b ∷ bs) → length before ≡ k
     → slice_get t.blocks k ≡ Some b
     → slice_get (layouts_of t symbols) k
     ≡ Some (block_layout (types_of_source symbols t.blocks) t.blocks before b)
-    → IsSound symbols t k b (block_layout (types_of_source symbols t.blocks) t.blocks before b)
+    → IsSoundBlock symbols t k b (block_layout (types_of_source symbols t.blocks) t.blocks before b)
 block_sound symbols t k before b bs h n there laid = record {
   well_formed = h.well.0;
   before = before;
@@ -755,11 +747,11 @@ block_sound symbols t k before b bs h n there laid = record {
 }
 
 blocks_sound : (symbols : List Symbol) (t : Tree) (k : ℕ) (before front bs : List Block)
-    (laid : List BlockLayout) → AreClean symbols t k before bs → length before ≡ k
+    (laid : List BlockLayout) → KeepRules symbols t k before bs → length before ≡ k
     → t.blocks ≡ front ++ bs → length front ≡ k
     → layouts_of t symbols
     ≡ laid ++ layouts_from (types_of_source symbols t.blocks) t.blocks before bs → length laid ≡ k
-    → AllLaid (IsSound symbols t) k bs (layouts_from (types_of_source symbols t.blocks) t.blocks before bs)
+    → AllLaid (IsSoundBlock symbols t) k bs (layouts_from (types_of_source symbols t.blocks) t.blocks before bs)
 blocks_sound symbols t k before front [] laid h n e m f o = tt
 blocks_sound symbols t k before front (b ∷ bs) laid h n e m f o = (
   block_sound symbols t k before b bs h n (there_at t.blocks front b bs k e m)
@@ -843,7 +835,7 @@ heads_clean symbols t l p =
 
 blocks_clean : (symbols : List Symbol) (t : Tree) → IsWellFormed t
     → LaysOutRight (types_of_source symbols t.blocks) (layouts_of t symbols) t.blocks
-    → StatesRight (context_at symbols t 0) t.blocks → AreClean symbols t 0 [] t.blocks
+    → StatesRight (context_at symbols t 0) t.blocks → KeepRules symbols t 0 [] t.blocks
 unfolding rule_21 rule_56 rules_24_25_39 rule_24_of_actuals rule_26 rule_27 rule_29 rule_30 rule_31 rule_32 rule_33 rule_34 rule_35 rule_36 rule_37 rule_38 rule_40 rule_46 rule_47 rule_48 rule_49
 blocks_clean symbols t well l s = record {
   well = well;
@@ -906,7 +898,7 @@ tree_sound symbols t well l s = record {
   well_formed = well;
   by_layout = l;
   by_statements = s;
-  blocks = subst (λ (ls : List BlockLayout). AllLaid (IsSound symbols t) 0 t.blocks ls)
+  blocks = subst (λ (ls : List BlockLayout). AllLaid (IsSoundBlock symbols t) 0 t.blocks ls)
       (sym (layouts_are symbols t))
       (blocks_sound symbols t 0 [] [] t.blocks [] (blocks_clean symbols t well l s) refl refl refl
       (layouts_are symbols t) refl);
@@ -943,17 +935,17 @@ laid_at P k (x ∷ bs) (z ∷ ls) h (suc i) b l e f =
 
 pub sound_at : (symbols : List Symbol) (t : Tree) → IsSoundTree symbols t → (k : ℕ) (b : Block)
     (l : BlockLayout) → slice_get t.blocks k ≡ Some b → slice_get (layouts_of t symbols) k ≡ Some l
-    → IsSound symbols t k b l
+    → IsSoundBlock symbols t k b l
 sound_at symbols t h k b l e f =
     let from : 0 + k ≡ k = omega arith in
-    subst (λ n. IsSound symbols t n b l) from
-    (laid_at (IsSound symbols t) 0 t.blocks (layouts_of t symbols) h.blocks k b l e f)
+    subst (λ n. IsSoundBlock symbols t n b l) from
+    (laid_at (IsSoundBlock symbols t) 0 t.blocks (layouts_of t symbols) h.blocks k b l e f)
 
 -- what holds of the code block of each block that has one holds of all code blocks
 each_code : (symbols : List Symbol) (t : Tree) (P : StatedBlock → Type 0)
-    → ((k : ℕ) (b : Block) (l : BlockLayout) (id : BlockId) → IsSound symbols t k b l
+    → ((k : ℕ) (b : Block) (l : BlockLayout) (id : BlockId) → IsSoundBlock symbols t k b l
     → l.id ≡ Some id → is_code id.kind ≡ true → P (code_block (context_at symbols t k) b l id))
-    → (k : ℕ) (bs : List Block) (ls : List BlockLayout) → AllLaid (IsSound symbols t) k bs ls
+    → (k : ℕ) (bs : List Block) (ls : List BlockLayout) → AllLaid (IsSoundBlock symbols t) k bs ls
     → AllByRecursion P (each_block (λ c b l. code_block_of c b l l.id) (context_at symbols t k) bs ls)
 each_code symbols t P f k [] ls h = tt
 each_code symbols t P f k (b ∷ bs) [] h = tt
@@ -974,7 +966,7 @@ each_code symbols t P f k (b ∷ bs) (l ∷ ls) h =
 
 pub sound_code_blocks : (symbols : List Symbol) (t : Tree) (P : StatedBlock → Type 0)
     → IsSoundTree symbols t
-    → ((k : ℕ) (b : Block) (l : BlockLayout) (id : BlockId) → IsSound symbols t k b l
+    → ((k : ℕ) (b : Block) (l : BlockLayout) (id : BlockId) → IsSoundBlock symbols t k b l
     → l.id ≡ Some id → is_code id.kind ≡ true → P (code_block (context_at symbols t k) b l id))
     → AllByRecursion P (code_blocks_of t symbols (layouts_of t symbols))
 unfolding code_blocks_of
@@ -985,9 +977,9 @@ sound_code_blocks symbols t P h f =
     (each_code symbols t P f 0 t.blocks (layouts_of t symbols) h.blocks)
 
 each_data : (symbols : List Symbol) (t : Tree) (P : DataBlock → Type 0)
-    → ((k : ℕ) (b : Block) (l : BlockLayout) (id : BlockId) → IsSound symbols t k b l
+    → ((k : ℕ) (b : Block) (l : BlockLayout) (id : BlockId) → IsSoundBlock symbols t k b l
     → l.id ≡ Some id → is_data_block id.kind ≡ true → P (generated_data_block (context_at symbols t k) l id))
-    → (k : ℕ) (bs : List Block) (ls : List BlockLayout) → AllLaid (IsSound symbols t) k bs ls
+    → (k : ℕ) (bs : List Block) (ls : List BlockLayout) → AllLaid (IsSoundBlock symbols t) k bs ls
     → AllByRecursion P (each_block (λ c b l. data_block_of c l l.id) (context_at symbols t k) bs ls)
 each_data symbols t P f k [] ls h = tt
 each_data symbols t P f k (b ∷ bs) [] h = tt
@@ -1008,7 +1000,7 @@ each_data symbols t P f k (b ∷ bs) (l ∷ ls) h =
 
 pub sound_data_blocks : (symbols : List Symbol) (t : Tree) (P : DataBlock → Type 0)
     → IsSoundTree symbols t
-    → ((k : ℕ) (b : Block) (l : BlockLayout) (id : BlockId) → IsSound symbols t k b l
+    → ((k : ℕ) (b : Block) (l : BlockLayout) (id : BlockId) → IsSoundBlock symbols t k b l
     → l.id ≡ Some id → is_data_block id.kind ≡ true → P (generated_data_block (context_at symbols t k) l id))
     → AllByRecursion P (data_blocks_of t symbols (layouts_of t symbols))
 unfolding data_blocks_of

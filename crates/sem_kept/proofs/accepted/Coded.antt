@@ -21,19 +21,20 @@ use Rattle.stl_codegen.specs.Compiled.{StatedBlock, compiled_block}
 use Rattle.stl_codegen.specs.Emitted.{ops_of}
 use Rattle.stl_codegen.specs.Generated.{code_block, code_blocks_of, return_statement, stated_from, statements_of}
 use Rattle.stl_codegen.specs.Instruction.{instruction}
-use Rattle.sem_kept.proofs.accepted.Accepted.{IsSound, IsSoundStatement, IsSoundTree, context_at, right_tree, sound_code_blocks}
+use Rattle.sem_kept.specs.Settled.{context_at}
+use Rattle.sem_kept.proofs.accepted.Accepted.{IsSoundBlock, IsSoundStatement, IsSoundTree, right_tree, sound_code_blocks}
 use Rattle.sem_kept.proofs.accepted.CodedBlocks.{AreGood, block_coded}
 use Rattle.sem_kept.proofs.accepted.CodedBytes.{block_has_bytes}
 use Rattle.sem_kept.proofs.accepted.CodedOps.{IsGoodSource, IsGoodStatement, end_good, statement_good}
 use Rattle.sem_kept.proofs.accepted.CodedSources.{context_fit, formals_few}
 use Rattle.sem_kept.proofs.accepted.CodedSymbols.{symbols_fit}
-use Rattle.sem_kept.proofs.accepted.CodedViews.{IsFit, SymbolFits}
+use Rattle.sem_kept.proofs.accepted.CodedViews.{ContextFits, SymbolFits}
 use Rattle.sem_kept.proofs.accepted.Shared.{stated_count}
 use Rattle.sem_kept.specs.Coded.{AreCoded, CodedIsGood, IsBlockCoded, StatementHasBytes}
 
 -- ---- the statements of a body
 
-stated_good : (c : Context) (body : List Statement) (n : ℕ) (ss : List Statement) → IsFit c
+stated_good : (c : Context) (body : List Statement) (n : ℕ) (ss : List Statement) → ContextFits c
     → AllByRecursion (IsGoodSource c) ss → AreGood (stated_from c body n ss)
 stated_good c body n [] fit h = tt
 stated_good c body n (s ∷ ss) fit h =
@@ -72,7 +73,7 @@ few_statements b h =
 
 source_coded : (symbols : List Symbol) (t : Tree) (k : ℕ) (b : Block) (l : BlockLayout)
     (id : BlockId) → AllByRecursion SymbolFits symbols → IsSoundTree symbols t
-    → IsSound symbols t k b l → AllByRecursion StatementHasBytes b.body
+    → IsSoundBlock symbols t k b l → AllByRecursion StatementHasBytes b.body
     → IsBlockCoded (compiled_block (code_block (context_at symbols t k) b l id))
 unfolding statements_of
 source_coded symbols t k b l id fit tree sound has =

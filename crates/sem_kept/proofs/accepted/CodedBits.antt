@@ -17,7 +17,7 @@ use Rattle.block_layout.specs.Fits.{bits_of, fits_elementary_type, number_from, 
 use Rattle.block_layout.specs.Sizes.{plain_bits}
 use Rattle.stl_types.specs.Constants.{takes_constant}
 use Rattle.stl_types.specs.Forms.{form_of}
-use Rattle.stl_types.specs.declared.views.ResolvedOperand.TheVariants as view
+use Rattle.stl_types.specs.declared.views.ResolvedOperand.TheVariants as resolved
 use Rattle.stl_codegen.specs.Operations.{operation_for}
 use Rattle.sem_kept.specs.Coded.{HasBytes}
 
@@ -69,7 +69,7 @@ value_fits value kind is has e =
 -- an instruction takes the constants that its form does
 pub constant_taken : (m : Mnemonic) (value : Literal) → IsLiteral value → HasBytes value
     → takes_constant (form_of m) value ≡ true
-    → admits (takes_of_operation (operation_for m (operand.Constant value) view.Constant))
+    → admits (takes_of_operation (operation_for m (operand.Constant value) resolved.Constant))
     (flat.Literal (bits_of value)) ≡ true
 unfolding form_of takes_constant operation_for admits bits_of
 constant_taken code.L value is has h = refl

@@ -10,35 +10,32 @@ use Rattle.flat_code.specs.Forms.{passed_coding, direct_coding}
 use Rattle.flat_code.specs.Instr.{Returns}
 use Rattle.flat_code.specs.Ops.{OpData, is_op, op_bytes}
 use Rattle.flat_code.specs.declared.operands.Operand.{Operand as FlatOperand}
-use Rattle.flat_code.specs.declared.operations.EndOperation.TheVariants as end
 use Rattle.stl_codegen.specs.Compiled.{SourceInstruction, StatedBlock, operand_with_target, op_with_target, compiled_block, offset_from, offset_of_statement, ops_in, placed_ops}
 use Rattle.stl_codegen.specs.Emitted.{ops_of}
+use Rattle.sem_kept.proofs.compiled.Reading.{return_at}
+use Rattle.sem_kept.proofs.compiled.Runs.{total, total_append}
 use Rattle.sem_kept.proofs.accepted.Accepted.{all_mapped}
-use Rattle.sem_kept.proofs.accepted.CodedOps.{IsGood, IsGoodPart, IsGoodStatement}
+use Rattle.sem_kept.proofs.accepted.CodedOps.{IsOpAtAnyTarget, IsGoodPart, IsGoodStatement}
 use Rattle.sem_kept.specs.Coded.{IsBlockCoded}
 
 abbrev pub AreGood : List SourceInstruction → Type 0
 AreGood ss = AllByRecursion (λ s. IsGoodStatement (ops_of s.instr)) ss
 
--- the last statement of a block returns
-abbrev pub returning_at : ℕ → SourceInstruction
-returning_at line = record { instr = Returns end.Be; line = line }
-
 -- ---- each is an op
 
-statement_ops : (ops : List OpData) → IsGoodStatement ops → AllByRecursion IsGood ops
+statement_ops : (ops : List OpData) → IsGoodStatement ops → AllByRecursion IsOpAtAnyTarget ops
 statement_ops ops h =
-    subst (AllByRecursion IsGood) (sym h.whole)
-    (all_append IsGood h.front (h.final ∷ []) (all_mapped IsGoodPart IsGood (λ op k. k.good) h.front h.parts) (h.good, tt))
+    subst (AllByRecursion IsOpAtAnyTarget) (sym h.whole)
+    (all_append IsOpAtAnyTarget h.front (h.final ∷ []) (all_mapped IsGoodPart IsOpAtAnyTarget (λ op k. k.good) h.front h.parts) (h.good, tt))
 
-all_good : (ss : List SourceInstruction) → AreGood ss → AllByRecursion IsGood (ops_in ss)
+all_good : (ss : List SourceInstruction) → AreGood ss → AllByRecursion IsOpAtAnyTarget (ops_in ss)
 all_good [] h = tt
 all_good (s ∷ ss) h =
-    all_append IsGood (ops_of s.instr) (ops_in ss) (statement_ops (ops_of s.instr) h.0)
+    all_append IsOpAtAnyTarget (ops_of s.instr) (ops_in ss) (statement_ops (ops_of s.instr) h.0)
     (all_good ss h.1)
 
 ops_aimed : (f : ℕ → ℕ) (ops : List OpData) → ((n : ℕ) → f n < 4294967296)
-    → AllByRecursion IsGood ops → are_ops (map (op_with_target f) ops) ≡ true
+    → AllByRecursion IsOpAtAnyTarget ops → are_ops (map (op_with_target f) ops) ≡ true
 ops_aimed f [] small h = refl
 ops_aimed f (op ∷ ops) small h =
     and_from (is_op op.code (operand_with_target f op.operand)) (are_ops (map (op_with_target f) ops)) (h.0 f small)
@@ -68,12 +65,12 @@ overlong_front f (x ∷ front) final rest count at parts last few more =
     (overlong_front f front final rest (suc count) (at + size_of_op (op_with_target f x)) parts.1 last
     (omega (arith, few)) more))
 
-parted : (f : ℕ → ℕ) (front : List OpData) (final : OpData) (rest : List OpData)
+size_of_parts : (f : ℕ → ℕ) (front : List OpData) (final : OpData) (rest : List OpData)
     → map (op_with_target f) ((front ++ final ∷ []) ++ rest)
     ≡ map (op_with_target f) front ++ op_with_target f final ∷ map (op_with_target f) rest
-parted f [] final rest = refl
-parted f (x ∷ front) final rest =
-    ap (λ (l : List OpData). op_with_target f x ∷ l) (parted f front final rest)
+size_of_parts f [] final rest = refl
+size_of_parts f (x ∷ front) final rest =
+    ap (λ (l : List OpData). op_with_target f x ∷ l) (size_of_parts f front final rest)
 
 not_overlong : (f : ℕ → ℕ) (ss : List SourceInstruction) (at : ℕ) → AreGood ss
     → overlong_statement 0 at (map (op_with_target f) (ops_in ss)) ≡ None
@@ -82,7 +79,7 @@ not_overlong f (s ∷ ss) at h =
     let cut : map (op_with_target f) (ops_of s.instr ++ ops_in ss)
     ≡ map (op_with_target f) h.0.front ++ op_with_target f h.0.final ∷ map (op_with_target f) (ops_in ss) =
     ap (λ (l : List OpData). map (op_with_target f) (l ++ ops_in ss)) h.0.whole
-    ∙ parted f h.0.front h.0.final (ops_in ss) in
+    ∙ size_of_parts f h.0.front h.0.final (ops_in ss) in
     subst (λ (l : List OpData). overlong_statement 0 at l ≡ None) (sym cut)
     (overlong_front f h.0.front h.0.final (map (op_with_target f) (ops_in ss)) 0 at h.0.parts h.0.last
     (omega (arith, h.0.few)) (λ next. not_overlong f ss next h.1))
@@ -96,11 +93,11 @@ ends_behind (x ∷ []) (y ∷ ys) h = h
 ends_behind (x ∷ z ∷ xs) ys h = ends_behind (z ∷ xs) ys h
 
 ends_right : (f : ℕ → ℕ) (ss : List SourceInstruction) (line : ℕ)
-    → ends_by_be (map (op_with_target f) (ops_in (ss ++ returning_at line ∷ []))) ≡ true
+    → ends_by_be (map (op_with_target f) (ops_in (ss ++ return_at line ∷ []))) ≡ true
 unfolding ops_of
 ends_right f [] line = refl
 ends_right f (s ∷ ss) line =
-    let behind = ops_in (ss ++ returning_at line ∷ []) in
+    let behind = ops_in (ss ++ return_at line ∷ []) in
     subst (λ (l : List OpData). ends_by_be l ≡ true)
     (sym (map-append (op_with_target f) (ops_of s.instr) behind))
     (ends_behind (map (op_with_target f) (ops_of s.instr)) (map (op_with_target f) behind)
@@ -110,15 +107,6 @@ no_fault : (ops : List OpData) → overlong_statement 0 0 ops ≡ None → ends_
 no_fault ops few right = rw (few, right)
 
 -- ---- offsets are small
-
--- how many bytes ops take
-abbrev total : List OpData → ℕ
-total [] = 0
-total (op ∷ ops) = size_of_op op + total ops
-
-total_append : (xs ys : List OpData) → total (xs ++ ys) ≡ total xs + total ys
-total_append [] ys = omega arith
-total_append (x ∷ xs) ys = omega (arith, total_append xs ys)
 
 offset_within : (at : ℕ) (begins : Bool) (ops : List OpData) (n : ℕ)
     → offset_from at begins ops n ≤ at + total ops
@@ -156,7 +144,7 @@ offsets_small ss h few n = omega (arith, offset_within 0 true (ops_in ss) n, sta
 -- ---- THE CODE OF A BLOCK
 
 pub block_coded : (b : StatedBlock) (inner : List SourceInstruction) (line : ℕ)
-    → b.statements ≡ inner ++ returning_at line ∷ [] → AreGood b.statements
+    → b.statements ≡ inner ++ return_at line ∷ [] → AreGood b.statements
     → length b.statements ≤ 65535 → IsBlockCoded (compiled_block b)
 unfolding placed_ops
 block_coded b inner line whole good few =

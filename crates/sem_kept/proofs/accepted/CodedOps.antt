@@ -40,12 +40,12 @@ use Rattle.stl_types.specs.Parameters.{Callee, callee_of}
 use Rattle.stl_types.specs.Resolved.{resolved_operand}
 use Rattle.stl_types.specs.Resolution.{resolution_of}
 use Rattle.stl_types.specs.declared.forms.OperandRule.{OperandRule}
-use Rattle.stl_types.specs.declared.forms.OperandRule.TheVariants as form
+use Rattle.stl_types.specs.declared.forms.OperandRule.TheVariants as operand_rules
 use Rattle.stl_types.specs.declared.parameters.Formal.{Formal}
 use Rattle.stl_types.specs.declared.views.Resolution.{Resolution}
 use Rattle.stl_types.specs.declared.views.Resolution.TheVariants.{Resolved}
 use Rattle.stl_types.specs.declared.views.ResolvedOperand.{ResolvedOperand}
-use Rattle.stl_types.specs.declared.views.ResolvedOperand.TheVariants as view
+use Rattle.stl_types.specs.declared.views.ResolvedOperand.TheVariants as resolved
 use Rattle.stl_codegen.proofs.OpLemmas.{jumps, jump_ops}
 use Rattle.stl_codegen.specs.Compiled.{operand_with_target}
 use Rattle.stl_codegen.specs.Emitted.{call_op, end_op, op_with_end_mark, instance_number_or_zero, jump_op, use_db_ops, ops_of, pass_ops, preparing_op}
@@ -54,20 +54,20 @@ use Rattle.stl_codegen.specs.Operands.{block_opened_by_operand, flat_operand_of}
 use Rattle.stl_codegen.specs.Passed.{passed_actual, passed_resolution, passed_by_operand, passings_from, actual_of_formal, with_index}
 use Rattle.stl_codegen.specs.Operations.{call_operation_of, end_operation_of, jump_operation_of, operation_for}
 use Rattle.sem_kept.proofs.accepted.CodedBits.{bits_small, constant_taken}
-use Rattle.sem_kept.proofs.accepted.CodedTables.{taken, operation_is_op}
-use Rattle.sem_kept.proofs.accepted.CodedViews.{IsFit, IsWord, SeenFits, ViewFits, direct_fits, found_holds, payload_right, pointer_fits, seen_fits, word_fits}
+use Rattle.sem_kept.proofs.accepted.CodedTables.{operation_is_taken, operation_is_op}
+use Rattle.sem_kept.proofs.accepted.CodedViews.{ContextFits, IsWord, ResolvedNumbersFit, NumbersFit, direct_fits, found_holds, payload_right, pointer_fits, seen_fits, word_fits}
 use Rattle.sem_kept.specs.Coded.{HasBytes, OperandHasBytes, StatementHasBytes}
-use Rattle.sem_kept.proofs.accepted.OperandsOperations.{allowed}
+use Rattle.sem_kept.proofs.accepted.OperandsOperations.{taken_by_rule}
 use Rattle.sem_kept.proofs.accepted.Shared.{call_form, no_call_constant, rule_callable, rule_there}
 
 -- ---- ops that stay ops wherever they lead
 
-abbrev pub IsGood : OpData → Type 0
-IsGood op = (f : ℕ → ℕ) → ((n : ℕ) → f n < 4294967296) → is_op op.code (operand_with_target f op.operand) ≡ true
+abbrev pub IsOpAtAnyTarget : OpData → Type 0
+IsOpAtAnyTarget op = (f : ℕ → ℕ) → ((n : ℕ) → f n < 4294967296) → is_op op.code (operand_with_target f op.operand) ≡ true
 
 -- an op that prepares its statement
 pub record IsGoodPart (op : OpData) : Type 0 where
-  pub good : IsGood op
+  pub good : IsOpAtAnyTarget op
   pub inner : op.last ≡ false
 
 -- the ops of a statement: those that prepare, at most 63, and the last one
@@ -77,17 +77,17 @@ pub record IsGoodStatement (ops : List OpData) : Type 0 where
   pub whole : ops ≡ front ++ final ∷ []
   pub parts : AllByRecursion IsGoodPart front
   pub few : length front ≤ 63
-  pub good : IsGood final
+  pub good : IsOpAtAnyTarget final
   pub last : final.last ≡ true
 
 -- an operand that isn't a jump's
 still_good : (w : Operation) (last : Bool) (o : FlatOperand) → ((f : ℕ → ℕ) → operand_with_target f o ≡ o)
-    → is_instruction w o ≡ true → IsGood (record { code = op_code_of w; last = last; operand = o })
+    → is_instruction w o ≡ true → IsOpAtAnyTarget (record { code = op_code_of w; last = last; operand = o })
 still_good w last o still h f small =
     ap (λ (x : FlatOperand). is_op (op_code_of w) x) (still f) ∙ operation_is_op w o h
 
 -- one op alone
-alone : (op : OpData) → IsGood op → op.last ≡ true → IsGoodStatement (op ∷ [])
+alone : (op : OpData) → IsOpAtAnyTarget op → op.last ≡ true → IsGoodStatement (op ∷ [])
 alone op good last = record {
   front = [];
   final = op;
@@ -101,52 +101,52 @@ alone op good last = record {
 -- ---- instructions that go on
 
 -- what the rules say of an operand and what it names
-abbrev IsAllowed : OperandRule → Operand → ResolvedOperand → Type 0
-IsAllowed f (operand.Constant value) v = (takes_constant f value ≡ true) × (v ≡ view.Constant)
-IsAllowed f _ v = rule_of_resolved_operand f v ≡ None
+abbrev RuleAllows : OperandRule → Operand → ResolvedOperand → Type 0
+RuleAllows f (operand.Constant value) v = (takes_constant f value ≡ true) × (v ≡ resolved.Constant)
+RuleAllows f _ v = rule_of_resolved_operand f v ≡ None
 
 still_view : (o : Operand) (v : ResolvedOperand) (f : ℕ → ℕ) → operand_with_target f (flat_operand_of o v) ≡ flat_operand_of o v
 unfolding flat_operand_of
 still_view o v f = grind arith
 
 by_rule : (m : Mnemonic) (o : Operand) (v : ResolvedOperand) → jump_operation_of m ≡ None → call_operation_of m ≡ None
-    → end_operation_of m ≡ None → is_empty_statement m ≡ false → ViewFits o v → rule_of_resolved_operand (form_of m) v ≡ None
+    → end_operation_of m ≡ None → is_empty_statement m ≡ false → NumbersFit o v → rule_of_resolved_operand (form_of m) v ≡ None
     → is_instruction (operation_for m o v) (flat_operand_of o v) ≡ true
 unfolding is_instruction
 by_rule m o v j c e n fits rule =
-    let all = allowed (form_of m) v rule in
+    let all = taken_by_rule (form_of m) v rule in
     and_from (admits (takes_of_operation (operation_for m o v)) (flat_operand_of o v))
     (payload_fits (flat_operand_of o v))
-    (taken m o v j c e n (pointer_fits o v fits) all.taken)
+    (operation_is_taken m o v j c e n (pointer_fits o v fits) all.taken)
     (payload_right (form_of m) o v all.side fits)
 
 by_constant : (m : Mnemonic) (value : Literal) → IsLiteral value → HasBytes value
     → takes_constant (form_of m) value ≡ true
-    → is_instruction (operation_for m (operand.Constant value) view.Constant)
-    (flat_operand_of (operand.Constant value) view.Constant) ≡ true
+    → is_instruction (operation_for m (operand.Constant value) resolved.Constant)
+    (flat_operand_of (operand.Constant value) resolved.Constant) ≡ true
 unfolding is_instruction flat_operand_of
 by_constant m value is has h = grind (arith, nat_tests, constant_taken m value is has h, bits_small value is has)
 
 is_taken : (m : Mnemonic) (o : Operand) (v : ResolvedOperand) → jump_operation_of m ≡ None → call_operation_of m ≡ None
-    → end_operation_of m ≡ None → is_empty_statement m ≡ false → IsOperand o → OperandHasBytes o → ViewFits o v
-    → IsAllowed (form_of m) o v → is_instruction (operation_for m o v) (flat_operand_of o v) ≡ true
-is_taken m (operand.Constant value) v j c e n is has fits allowed =
+    → end_operation_of m ≡ None → is_empty_statement m ≡ false → IsOperand o → OperandHasBytes o → NumbersFit o v
+    → RuleAllows (form_of m) o v → is_instruction (operation_for m o v) (flat_operand_of o v) ≡ true
+is_taken m (operand.Constant value) v j c e n is has fits taken_by_rule =
     subst
     (λ (x : ResolvedOperand).
     is_instruction (operation_for m (operand.Constant value) x) (flat_operand_of (operand.Constant value) x)
     ≡ true)
-    (sym allowed.1) (by_constant m value is has allowed.0)
-is_taken m o v j c e n is has fits allowed = by_rule m o v j c e n fits allowed
+    (sym taken_by_rule.1) (by_constant m value is has taken_by_rule.0)
+is_taken m o v j c e n is has fits taken_by_rule = by_rule m o v j c e n fits taken_by_rule
 
 allowed_by : (c : Context) (f : OperandRule) (o : Operand) (v : ResolvedOperand) → operand_rule c f o ≡ None
-    → resolution_of c o ≡ Resolved v → IsAllowed f o v
+    → resolution_of c o ≡ Resolved v → RuleAllows f o v
 unfolding resolution_of
 allowed_by c f (operand.Constant value) v h e = grind arith
 allowed_by c f o v h e = sym (ap (rule_of_resolution f) e) ∙ h
 
 -- ---- one that opens a data block first
 
-opened_fits : (o : Operand) (v : ResolvedOperand) → ViewFits o v → IfSome (block_opened_by_operand v) IsWord
+opened_fits : (o : Operand) (v : ResolvedOperand) → NumbersFit o v → IfSome (block_opened_by_operand v) IsWord
 opened_fits o v fits = grind arith
 
 opening_good : (n : ℕ) → IsWord n → IsGoodPart (preparing_op operation.UseDb (flat.UseDb n))
@@ -157,7 +157,7 @@ opening_good n h = record {
 }
 
 opened_good : (use_db : Option ℕ) (w : Operation) (o : FlatOperand) → IfSome use_db IsWord
-    → IsGood (op_with_end_mark w o) → IsGoodStatement (ops_of (Does use_db w o))
+    → IsOpAtAnyTarget (op_with_end_mark w o) → IsGoodStatement (ops_of (Does use_db w o))
 unfolding ops_of
 opened_good None w o h good = alone (op_with_end_mark w o) good refl
 opened_good (Some n) w o h good = record {
@@ -179,11 +179,11 @@ unfolding is_instruction admits
 call_takes how id instance c h k = grind (arith, nat_tests)
 
 -- what is passed
-view_passed : (o : Operand) (v : ResolvedOperand) → ViewFits o v
+view_passed : (o : Operand) (v : ResolvedOperand) → NumbersFit o v
     → IfSome (passed_by_operand o v) (λ p. actual_fits p ≡ true)
 view_passed o v fits = grind (arith, nat_tests, direct_fits)
 
-seen_passed : (o : Operand) (s : Resolution) → SeenFits o s
+seen_passed : (o : Operand) (s : Resolution) → ResolvedNumbersFit o s
     → IfSome (passed_resolution o s) (λ p. actual_fits p ≡ true)
 seen_passed o s fits = grind (arith, view_passed)
 
@@ -205,7 +205,7 @@ pass_good index a lt fits = record {
 }
 
 abbrev IsActualOf : Context → Actual → Type 0
-IsActualOf c a = SeenFits a.value (resolution_of c a.value)
+IsActualOf c a = ResolvedNumbersFit a.value (resolution_of c a.value)
 
 passed_one : (c : Context) (index : ℕ) (a : Option Actual) (ps : List Passing) (n : ℕ)
     → index < 256 → IfSome a (IsActualOf c) → IsGoodPassing n ps
@@ -280,17 +280,17 @@ pub record IsGoodSource (c : Context) (s : Statement) : Type 0 where
   pub has : StatementHasBytes s
   pub callee : HasFewFormals c s
 
-actual_seen : (c : Context) (actuals : List Actual) → IsFit c → AreActuals actuals
+actual_seen : (c : Context) (actuals : List Actual) → ContextFits c → AreActuals actuals
     → AllByRecursion (λ a. OperandHasBytes a.value) actuals → AllByRecursion (IsActualOf c) actuals
 actual_seen c [] fit are has = tt
 actual_seen c (a ∷ actuals) fit are has =
     (seen_fits c a.value fit are.0.value has.0, actual_seen c actuals fit are.1 has.1)
 
-call_view_good : (c : Context) (s : Statement) (how : CallOperation) (v : ResolvedOperand) → IsFit c
-    → IsGoodSource c s → ViewFits s.operand v → rule_of_resolved_operand form.Calls v ≡ None
+call_view_good : (c : Context) (s : Statement) (how : CallOperation) (v : ResolvedOperand) → ContextFits c
+    → IsGoodSource c s → NumbersFit s.operand v → rule_of_resolved_operand operand_rules.Calls v ≡ None
     → IsGoodStatement (ops_of (call_instr c s how v))
 unfolding ops_of
-call_view_good c s how (view.Called id instance) fit good fits rule =
+call_view_good c s how (resolved.Called id instance) fit good fits rule =
     let passed = passings_good c s (callee_of c s.operand)
     (actual_seen c s.actuals fit good.formed.actuals good.has.actuals) good.callee in
     record {
@@ -306,14 +306,14 @@ call_view_good c s how (view.Called id instance) fit good fits rule =
     }
 call_view_good c s how _ fit good fits rule = filler_good
 
-view_good : (c : Context) (s : Statement) (v : ResolvedOperand) → IsFit c → IsGoodSource c s
+view_good : (c : Context) (s : Statement) (v : ResolvedOperand) → ContextFits c → IsGoodSource c s
     → is_empty_statement s.code ≡ false → jump_operation_of s.code ≡ None → statement_rule c s ≡ None
     → resolution_of c s.operand ≡ Resolved v → IsGoodStatement (ops_of (operand_instr c s v (call_operation_of s.code)))
 view_good c s v fit good some no_jump rule e = by (call_operation_of s.code) refl
   where
-    fits : ViewFits s.operand v
+    fits : NumbersFit s.operand v
     fits =
-        subst (SeenFits s.operand) e (seen_fits c s.operand fit good.formed.value good.has.operand)
+        subst (ResolvedNumbersFit s.operand) e (seen_fits c s.operand fit good.formed.value good.has.operand)
 
     ended : (end : Option EndOperation) → call_operation_of s.code ≡ None → end_operation_of s.code ≡ end
         → IsGoodStatement (ops_of (end_instr s v end))
@@ -330,21 +330,21 @@ view_good c s v fit good some no_jump rule e = by (call_operation_of s.code) ref
         → IsGoodStatement (ops_of (operand_instr c s v how))
     by (Some how) is =
         call_view_good c s how v fit good fits
-        (rule_there c form.Calls s.operand v no_call_constant
+        (rule_there c operand_rules.Calls s.operand v no_call_constant
         (ap (λ (f : OperandRule). operand_rule c f s.operand) (sym (call_form s.code how is)) ∙ rule) e)
     by None is = ended (end_operation_of s.code) is refl
 
 record IsResolved (c : Context) (s : Statement) (v : ResolvedOperand) : Type 0 where
   rule : statement_rule c s ≡ None
-  seen : resolution_of c s.operand ≡ Resolved v
+  resolves : resolution_of c s.operand ≡ Resolved v
 
 resolved_parts : (c : Context) (s : Statement) (v : ResolvedOperand) → resolved_operand c s ≡ Some v
     → IsResolved c s v
 unfolding resolved_operand
 resolved_parts c s v e = grind arith
 
--- THE OPS OF A STATEMENT
-pub statement_good : (c : Context) (body : List Statement) (n : ℕ) (s : Statement) → IsFit c
+-- the ops of a statement are good
+pub statement_good : (c : Context) (body : List Statement) (n : ℕ) (s : Statement) → ContextFits c
     → IsGoodSource c s → is_empty_statement s.code ≡ false
     → IsGoodStatement (ops_of (instruction c body n s))
 unfolding instruction
@@ -354,7 +354,7 @@ statement_good c body n s fit good some = by (jump_operation_of s.code) refl
         → IsGoodStatement (ops_of (resolved_instr c s v))
     resolves None no_jump e = filler_good
     resolves (Some v) no_jump e =
-        let r = resolved_parts c s v e in view_good c s v fit good some no_jump r.rule r.seen
+        let r = resolved_parts c s v e in view_good c s v fit good some no_jump r.rule r.resolves
 
     by : (how : Option JumpOperation) → jump_operation_of s.code ≡ how
         → IsGoodStatement (ops_of (instr_by c body n s how))

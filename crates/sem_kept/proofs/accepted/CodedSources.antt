@@ -39,9 +39,10 @@ use Rattle.block_layout.specs.declared.cells.Cell.{Cell}
 use Rattle.stl_types.specs.Context.{Context, in_function, is_of_function}
 use Rattle.stl_types.specs.Parameters.{Callee, callee_by, callee_of, formal_here, formals_of, source_callee, system_formals}
 use Rattle.stl_types.specs.declared.parameters.Formal.{Formal}
-use Rattle.sem_kept.proofs.accepted.Accepted.{AllLaid, IsSound, IsSoundTree, all_mapped, context_at}
+use Rattle.sem_kept.specs.Settled.{context_at}
+use Rattle.sem_kept.proofs.accepted.Accepted.{AllLaid, IsSoundBlock, IsSoundTree, all_mapped}
 use Rattle.sem_kept.proofs.accepted.CodedOps.{HasFewFormals}
-use Rattle.sem_kept.proofs.accepted.CodedViews.{IsFit, IsWord, LayoutFits, SymbolFits, block_fits, got_holds}
+use Rattle.sem_kept.proofs.accepted.CodedViews.{ContextFits, IsWord, LayoutFits, SymbolFits, block_fits, got_holds}
 
 -- ---- parameters stand in no structure
 
@@ -236,7 +237,7 @@ layouts_few y blocks before (b ∷ bs) fit h =
     (layout_few y blocks before b fit h.0.0 h.0.1, layouts_few y blocks (b ∷ before) bs fit h.1)
 
 blocks_few : (symbols : List Symbol) (t : Tree) (k : ℕ) (bs : List Block) (ls : List BlockLayout)
-    → AllLaid (IsSound symbols t) k bs ls → AllByRecursion IsFewBlock bs
+    → AllLaid (IsSoundBlock symbols t) k bs ls → AllByRecursion IsFewBlock bs
 blocks_few symbols t k [] ls h = tt
 blocks_few symbols t k (b ∷ bs) [] h = elim h [ ]
 blocks_few symbols t k (b ∷ bs) (l ∷ ls) h =
@@ -256,7 +257,7 @@ unfolding block_layout
 laid_components y blocks before b = refl
 
 own_few : (symbols : List Symbol) (t : Tree) (k : ℕ) (b : Block) (l : BlockLayout)
-    → IsSound symbols t k b l → in_function (context_at symbols t k) ≡ true
+    → IsSoundBlock symbols t k b l → in_function (context_at symbols t k) ≡ true
     → length (cells_at (layouts_of t symbols) k false) ≤ 60
 own_few symbols t k b l sound function =
     let y = types_of_source symbols t.blocks in
@@ -271,8 +272,8 @@ own_few symbols t k b l sound function =
 -- ---- WHAT SURROUNDS A BODY FITS
 
 pub context_fit : (symbols : List Symbol) (t : Tree) (k : ℕ) (b : Block) (l : BlockLayout)
-    → AllByRecursion SymbolFits symbols → IsSoundTree symbols t → IsSound symbols t k b l
-    → IsFit (context_at symbols t k)
+    → AllByRecursion SymbolFits symbols → IsSoundTree symbols t → IsSoundBlock symbols t k b l
+    → ContextFits (context_at symbols t k)
 context_fit symbols t k b l fit tree sound = record {
   symbols = fit;
   layouts = all_mapped IsFewLayout LayoutFits (λ l h. h.id) (layouts_of t symbols) (tree_few symbols t fit tree);

@@ -10,6 +10,7 @@ use Rattle.plc_base.specs.declared.places.Area.{Area}
 use Rattle.plc_base.specs.declared.places.Area.TheVariants as area
 use Rattle.plc_base.specs.declared.places.Place.{Place}
 use Rattle.plc_base.specs.declared.places.Width.{Width}
+use Rattle.flat_code.specs.Kinds.{ar1_number, ar2_number}
 use Rattle.flat_code.specs.Forms.{direct_coding, holds_pointers, payload_fits}
 use Rattle.stl_ast.specs.Operands.{IsAnyName, IsBitOf, IsOperand}
 use Rattle.stl_ast.specs.declared.blocks.PathStep.{PathStep}
@@ -26,7 +27,7 @@ use Rattle.stl_symbols.specs.declared.targets.Target.{Target}
 use Rattle.stl_symbols.specs.declared.targets.Target.TheVariants as target
 use Rattle.block_layout.specs.Blocks.{named_block}
 use Rattle.block_layout.specs.Offsets.{elementary_place}
-use Rattle.block_layout.specs.Paths.{cells_at, folded_path, walked_local, whole_at}
+use Rattle.block_layout.specs.Paths.{cells_at, folded_path, path_end_of_local, whole_at}
 use Rattle.block_layout.specs.declared.blocks.BlockLayout.{BlockLayout}
 use Rattle.block_layout.specs.declared.cells.Cell.{Cell}
 use Rattle.block_layout.specs.declared.walks.ComponentAt.{ComponentAt}
@@ -34,12 +35,12 @@ use Rattle.block_layout.specs.declared.walks.PathEnd.{PathEnd}
 use Rattle.stl_types.specs.Context.{Context, data_number, in_function}
 use Rattle.stl_types.specs.Operands.{is_on_wrong_side}
 use Rattle.stl_types.specs.Resolution.{resolution_of_address, resolution_of_path, resolution_of, whole_called_block}
-use Rattle.stl_types.specs.Variables.{composite_operand, data_variable, data_walked, variable_in_area, is_temporary_variable, own_elementary, own_walked, parameter_at}
+use Rattle.stl_types.specs.Variables.{composite_operand, data_variable, data_at_path_end, variable_in_area, is_temporary_variable, own_elementary, own_at_path_end, parameter_at}
 use Rattle.stl_types.specs.declared.forms.OperandRule.{OperandRule}
 use Rattle.stl_types.specs.declared.views.Resolution.{Resolution}
 use Rattle.stl_types.specs.declared.views.Resolution.TheVariants.{Resolved}
 use Rattle.stl_types.specs.declared.views.ResolvedOperand.{ResolvedOperand}
-use Rattle.stl_types.specs.declared.views.ResolvedOperand.TheVariants as view
+use Rattle.stl_types.specs.declared.views.ResolvedOperand.TheVariants as resolved
 use Rattle.stl_codegen.specs.Operands.{constant_bits, flat_operand_of}
 use Rattle.stl_parser.proofs.OptionLemmas.{both}
 use Rattle.sem_kept.specs.Coded.{OperandHasBytes}
@@ -55,26 +56,26 @@ abbrev pub PlaceFits : Place → Type 0
 PlaceFits place = IsWord place.number × IsWord place.byte × (place.bit ≤ 7)
 
 -- the numbers of a view, and the bits of a constant
-abbrev pub ViewFits : Operand → ResolvedOperand → Type 0
-ViewFits o (view.Direct place w side declared) = PlaceFits place
-ViewFits o (view.Parameter index section declared) = index < 256
-ViewFits o (view.ByMemory a w from byte) = (holds_pointers from ≡ true) × IsWord byte
-ViewFits o (view.ByRegister a w r bits) = (1 ≤ r) × (r ≤ 2) × (bits < 4294967296)
-ViewFits o (view.Timer n) = IsWord n
-ViewFits o (view.Counter n) = IsWord n
-ViewFits o (view.NumberBy what from byte) = (holds_pointers from ≡ true) × IsWord byte
-ViewFits o view.Constant = constant_bits o ≤ 4294967295
-ViewFits o (view.Pointer a byte bit) = IsWord byte × (bit ≤ 7)
-ViewFits o (view.OpenBlock di n) = IsWord n
-ViewFits o (view.Called id instance) = IsWord id.number × IfSome instance IsWord
-ViewFits o _ = Unit {0}
+abbrev pub NumbersFit : Operand → ResolvedOperand → Type 0
+NumbersFit o (resolved.Direct place w side declared) = PlaceFits place
+NumbersFit o (resolved.Parameter index section declared) = index < 256
+NumbersFit o (resolved.ByMemory a w from byte) = (holds_pointers from ≡ true) × IsWord byte
+NumbersFit o (resolved.ByRegister a w r bits) = (ar1_number ≤ r) × (r ≤ ar2_number) × (bits < 4294967296)
+NumbersFit o (resolved.Timer n) = IsWord n
+NumbersFit o (resolved.Counter n) = IsWord n
+NumbersFit o (resolved.NumberBy what from byte) = (holds_pointers from ≡ true) × IsWord byte
+NumbersFit o resolved.Constant = constant_bits o ≤ 4294967295
+NumbersFit o (resolved.Pointer a byte bit) = IsWord byte × (bit ≤ 7)
+NumbersFit o (resolved.OpenBlock di n) = IsWord n
+NumbersFit o (resolved.Called id instance) = IsWord id.number × IfSome instance IsWord
+NumbersFit o _ = Unit {0}
 
-abbrev pub SeenFits : Operand → Resolution → Type 0
-SeenFits o (Resolved v) = ViewFits o v
-SeenFits o _ = Unit {0}
+abbrev pub ResolvedNumbersFit : Operand → Resolution → Type 0
+ResolvedNumbersFit o (Resolved v) = NumbersFit o v
+ResolvedNumbersFit o _ = Unit {0}
 
-pub pointer_fits : (o : Operand) (v : ResolvedOperand) → ViewFits o v → PointerFits v
-pointer_fits o (view.Pointer a byte bit) f = f
+pub pointer_fits : (o : Operand) (v : ResolvedOperand) → NumbersFit o v → PointerFits v
+pointer_fits o (resolved.Pointer a byte bit) f = f
 pointer_fits o _ f = tt
 
 -- ---- the payload of an operand
@@ -88,7 +89,7 @@ unfolding direct_coding
 direct_fits a w byte bit k j = grind (arith, nat_tests)
 
 pub payload_right : (f : OperandRule) (o : Operand) (v : ResolvedOperand) → is_on_wrong_side f v ≡ false
-    → ViewFits o v → payload_fits (flat_operand_of o v) ≡ true
+    → NumbersFit o v → payload_fits (flat_operand_of o v) ≡ true
 unfolding flat_operand_of
 payload_right f o v r fits = grind (arith, nat_tests, direct_fits, pointer_near)
 
@@ -107,7 +108,7 @@ abbrev pub LayoutFits : BlockLayout → Type 0
 LayoutFits l = IfSome l.id (λ id. IsWord id.number)
 
 -- the numbers of symbols and blocks fit, and the function has few parameters
-pub record IsFit (c : Context) : Type 0 where
+pub record ContextFits (c : Context) : Type 0 where
   pub symbols : AllByRecursion SymbolFits c.symbols
   pub layouts : AllByRecursion LayoutFits c.layouts
   pub own : in_function c ≡ true → length (cells_at c.layouts c.block false) ≤ 60
@@ -138,57 +139,57 @@ whole_holds : (l : List BlockLayout) (k : ℕ) → AllByRecursion LayoutFits l
     → IfSome (whole_at l k) LayoutFits
 whole_holds l k h = grind (arith, got_holds LayoutFits l k h)
 
-pub data_fits : (c : Context) (name : BlockName) → IsFit c → IfSome (data_number c name) IsWord
+pub data_fits : (c : Context) (name : BlockName) → ContextFits c → IfSome (data_number c name) IsWord
 data_fits c name fit = grind (arith, (λ (k : ℕ). whole_holds c.layouts k fit.layouts))
 
 -- ---- variables
 
 in_area_fits : (o : Operand) (kind : Simple) (a : Area) (n bits : ℕ) → IsWord n
-    → SeenFits o (variable_in_area kind (elementary_place a n bits (Some kind)))
+    → ResolvedNumbersFit o (variable_in_area kind (elementary_place a n bits (Some kind)))
 in_area_fits o kind a n bits h = grind (arith, nat_tests)
 
-composite_fits : (o : Operand) (found : Option Cell) → ViewFits o (composite_operand found)
+composite_fits : (o : Operand) (found : Option Cell) → NumbersFit o (composite_operand found)
 composite_fits o found = grind arith
 
 parameter_holds : (c : Context) (o : Operand) (component : ComponentAt) (kind : Simple)
-    → length (cells_at c.layouts c.block false) ≤ 60 → SeenFits o (parameter_at c component kind)
+    → length (cells_at c.layouts c.block false) ≤ 60 → ResolvedNumbersFit o (parameter_at c component kind)
 parameter_holds c o component kind few = grind (arith, slice_get_within {A = Cell})
 
 own_elementary_fits : (c : Context) (o : Operand) (temporary : Bool) (component : ComponentAt) (kind : Simple)
-    → IsFit c → SeenFits o (own_elementary c temporary component kind)
+    → ContextFits c → ResolvedNumbersFit o (own_elementary c temporary component kind)
 own_elementary_fits c o true component kind fit = in_area_fits o kind area.L 0 component.offset (omega arith)
 own_elementary_fits c o false component kind fit = by (in_function c) refl
   where
     by : (b : Bool) → in_function c ≡ b
-        → SeenFits o (if b then parameter_at c component kind else variable_in_area kind (elementary_place area.Di 0 component.offset (Some kind)))
+        → ResolvedNumbersFit o (if b then parameter_at c component kind else variable_in_area kind (elementary_place area.Di 0 component.offset (Some kind)))
     by true e = parameter_holds c o component kind (fit.own e)
     by false e = in_area_fits o kind area.Di 0 component.offset (omega arith)
 
-own_fits : (c : Context) (o : Operand) (temporary : Bool) (w : PathEnd) → IsFit c → SeenFits o (own_walked c temporary w)
+own_fits : (c : Context) (o : Operand) (temporary : Bool) (w : PathEnd) → ContextFits c → ResolvedNumbersFit o (own_at_path_end c temporary w)
 own_fits c o temporary w fit =
     grind (arith, composite_fits, (λ (component : ComponentAt) (kind : Simple). own_elementary_fits c o temporary component kind fit))
 
 data_walk_fits : (c : Context) (o : Operand) (n : ℕ) (w : PathEnd) → IsWord n
-    → SeenFits o (data_walked c n w)
+    → ResolvedNumbersFit o (data_at_path_end c n w)
 data_walk_fits c o n w h = grind (arith, composite_fits, in_area_fits)
 
 data_variable_fits : (c : Context) (o : Operand) (name : BlockName) (steps : List PathStep)
-    → IsFit c → SeenFits o (data_variable c name steps)
+    → ContextFits c → ResolvedNumbersFit o (data_variable c name steps)
 data_variable_fits c o name steps fit = grind (arith, data_walk_fits, data_fits c name fit)
 
 -- ---- operands
 
-path_fits : (c : Context) (o : Operand) (p : PathHead) (steps : List PathStep) → IsFit c
-    → SeenFits o (resolution_of_path c p steps)
+path_fits : (c : Context) (o : Operand) (p : PathHead) (steps : List PathStep) → ContextFits c
+    → ResolvedNumbersFit o (resolution_of_path c p steps)
 path_fits c o (head.Local name) steps fit =
     own_fits c o (is_temporary_variable c (upper_case_name name))
-    (walked_local c.layouts c.block (upper_case_name name) (folded_path steps)) fit
+    (path_end_of_local c.layouts c.block (upper_case_name name) (folded_path steps)) fit
 path_fits c o (head.InBlock name) steps fit = data_variable_fits c o name (folded_path steps) fit
 path_fits c o (head.Symbol name) steps fit = grind (arith, symbol_fits name c.symbols fit.symbols)
 
 direct_seen_fits : (c : Context) (o : Operand) (name : Option BlockName) (a : Letters) (w : Width)
-    (byte bit : ℕ) → IsFit c → IsWord byte → IsBitOf w bit
-    → SeenFits o (resolution_of_address c name a w byte bit)
+    (byte bit : ℕ) → ContextFits c → IsWord byte → IsBitOf w bit
+    → ResolvedNumbersFit o (resolution_of_address c name a w byte bit)
 direct_seen_fits c o name a w byte bit fit k j = grind (arith, (λ (name : BlockName). data_fits c name fit))
 
 block_holds : (c : Context) (id : Option BlockId) → IfSome id (λ id. IsWord id.number)
@@ -196,8 +197,8 @@ block_holds : (c : Context) (id : Option BlockId) → IfSome id (λ id. IsWord i
 block_holds c id h = grind arith
 
 -- the numbers of what an operand names fit
-pub seen_fits : (c : Context) (o : Operand) → IsFit c → IsOperand o → OperandHasBytes o
-    → SeenFits o (resolution_of c o)
+pub seen_fits : (c : Context) (o : Operand) → ContextFits c → IsOperand o → OperandHasBytes o
+    → ResolvedNumbersFit o (resolution_of c o)
 unfolding resolution_of
 seen_fits c (operand.Direct name a w byte bit) fit is has =
     direct_seen_fits c (operand.Direct name a w byte bit) name a w byte bit fit is.1 is.2

@@ -56,14 +56,14 @@ use Rattle.stl_types.specs.Unknown.{leads_nowhere, sets_unknown}
 use Rattle.sem_kept.specs.Accepted.{IsAccepted}
 use Rattle.sem_kept.specs.Coded.{BlockHasBytes, DeclarationHasBytes, HasBytes, InitHasBytes, PartHasBytes, SettingHasBytes}
 use Rattle.sem_kept.specs.Initial.{HasElements, HasRoom, InitialValuesAreWhole, IsSettingWritten, IsWhole, IsMadeByWrites, writes_of}
-use Rattle.sem_kept.proofs.accepted.Accepted.{IsSound, IsSoundTree, all_both, each_passes, right_tree}
+use Rattle.sem_kept.proofs.accepted.Accepted.{IsSoundBlock, IsSoundTree, all_both, each_passes, right_tree}
 use Rattle.sem_kept.proofs.accepted.CodedBits.{value_fits}
 use Rattle.sem_kept.proofs.accepted.CodedBytes.{block_has_bytes}
 use Rattle.block_layout.proofs.SoundnessLemmas.{IsUnbroken, Unbroken, block_unbroken, unbroken_back, unbroken_front}
 use Rattle.sem_kept.proofs.accepted.OperandsCells.{are_right, block_of_layout, cells_are}
 use Rattle.block_layout.proofs.ContainmentLemmas.{data_goes, element_parts, element_plain, element_structure, element_udt, structure_fits, udt_fits}
 use Rattle.sem_kept.proofs.accepted.OperandsPlaces.{reached_place}
-use Rattle.sem_kept.proofs.accepted.OperandsViews.{IsStructured, IsThere, layout_id, structured, whole_is}
+use Rattle.sem_kept.proofs.accepted.OperandsViews.{IsStructured, IsThere, layout_id, structure_known, whole_is}
 use Rattle.block_layout.proofs.AlignmentLemmas.{AreRight, Goes, IsRightCell, IsSettled, Lies, Meets, MeetsKind, UdtEven, element_within, here_within, index_meets, settled_even, start_meets, structure_ends, structure_even}
 use Rattle.block_layout.proofs.OffsetLemmas.{end_step, step_grows}
 use Rattle.block_layout.proofs.BlockLemmas.{kind_there}
@@ -104,12 +104,12 @@ all_got P (x ∷ xs) each = (each zero x refl, all_got P xs (λ k z e. each (suc
 
 -- ---- the initial values of cells fit
 
-abbrev Fit : Element → List Preset → Type 0
-Fit (Plain kind) presets = AllByRecursion (λ p. p.value < 2 ^ plain_bits kind) presets
-Fit _ presets = Unit {0}
+abbrev PresetsFit : Element → List Preset → Type 0
+PresetsFit (Plain kind) presets = AllByRecursion (λ p. p.value < 2 ^ plain_bits kind) presets
+PresetsFit _ presets = Unit {0}
 
-abbrev IsFit : Cell → Type 0
-IsFit c = Fit c.of c.presets × HasElements c.bounds c.presets c.of
+abbrev CellFits : Cell → Type 0
+CellFits c = PresetsFit c.of c.presets × HasElements c.bounds c.presets c.of
 
 -- a constant of a source
 abbrev IsValue : Init → Type 0
@@ -136,7 +136,7 @@ plain_fits kind arrays (i ∷ is) h e =
     presets_fit kind (i ∷ is) h
     (and_first (list_all (λ i. fits_elementary_type i.value kind) (i ∷ is)) (are_within (elements_set_by (i ∷ is)) (settable_count arrays)) e)
 
-udt_fit : (bits : List ℕ) (o : Option ℕ) (presets : List Preset) → Fit (udt_element bits o) presets
+udt_fit : (bits : List ℕ) (o : Option ℕ) (presets : List Preset) → PresetsFit (udt_element bits o) presets
 udt_fit bits None presets = tt
 udt_fit bits (Some u) presets = tt
 
@@ -215,7 +215,7 @@ laid_elements y arrays (element.Udt name) init e =
 
 laid_fit : (y : Types) (arrays : List Bounds) (of : ElementType) (init : List Init)
     → AllByRecursion IsValue init → fit_or_none init (fit_type arrays of init) ≡ true
-    → Fit (layout_element y of) (map preset_of init)
+    → PresetsFit (layout_element y of) (map preset_of init)
 laid_fit y arrays (element.Plain kind) init h e = plain_fits kind arrays init h e
 laid_fit y arrays element.Structure init h e = tt
 laid_fit y arrays element.DateAndTime init h e = tt
@@ -234,7 +234,7 @@ init_kept y o before d e =
 
 cells_fit : (y : Types) (o : Outside) (section : PartKind) (before ds : List Declaration)
     → Unbroken y o before ds → AllByRecursion AreValues ds
-    → AllByRecursion IsFit (cells_of y o section before ds)
+    → AllByRecursion CellFits (cells_of y o section before ds)
 unfolding cell_of
 cells_fit y o section before [] h v = tt
 cells_fit y o section before (d ∷ ds) h v = (
@@ -245,36 +245,36 @@ cells_fit y o section before (d ∷ ds) h v = (
   cells_fit y o section (d ∷ before) ds h.1 v.1,
 )
 
-opened_fit : (cs : List Cell) → AllByRecursion IsFit cs → AllByRecursion IsFit (with_first_cell_opening cs)
+opened_fit : (cs : List Cell) → AllByRecursion CellFits cs → AllByRecursion CellFits (with_first_cell_opening cs)
 opened_fit [] h = tt
 opened_fit (c ∷ cs) h = by (opened_fit cs h.1) c.sound
   where
-    by : AllByRecursion IsFit (with_first_cell_opening cs) → (t : Bool)
-        → AllByRecursion IsFit (if t then record c { opens = true } ∷ cs else c ∷ with_first_cell_opening cs)
+    by : AllByRecursion CellFits (with_first_cell_opening cs) → (t : Bool)
+        → AllByRecursion CellFits (if t then record c { opens = true } ∷ cs else c ∷ with_first_cell_opening cs)
     by more true = h
     by more false = (h.0, more)
 
 sections_fit : (y : Types) (o : Outside) (wanted : PartKind → Bool) (before : List Declaration)
     (ps : List Part) → Unbroken y o before (flat_map (λ p. p.items) ps)
     → AllByRecursion (λ p. AllByRecursion AreValues p.items) ps
-    → AllByRecursion IsFit (section_cells y o wanted before ps)
+    → AllByRecursion CellFits (section_cells y o wanted before ps)
 sections_fit y o wanted before [] h v = tt
 sections_fit y o wanted before (q ∷ ps) h v =
-    all_append IsFit
+    all_append CellFits
     (if wanted q.kind then with_first_cell_opening (cells_of y o q.kind before q.items) else [])
     (section_cells y o wanted (declarations_before_next before q.items) ps)
     (by (wanted q.kind))
     (sections_fit y o wanted (declarations_before_next before q.items) ps
     (unbroken_back y o before q.items (flat_map (λ p. p.items) ps) h) v.1)
   where
-    by : (t : Bool) → AllByRecursion IsFit
+    by : (t : Bool) → AllByRecursion CellFits
         (if t then with_first_cell_opening (cells_of y o q.kind before q.items) else [])
     by true = opened_fit (cells_of y o q.kind before q.items)
         (cells_fit y o q.kind before q.items
         (unbroken_front y o before q.items (flat_map (λ p. p.items) ps) h) v.0)
     by false = tt
 
-returned_fit : (result : Option Simple) → AllByRecursion IsFit (returned_cells result)
+returned_fit : (result : Option Simple) → AllByRecursion CellFits (returned_cells result)
 returned_fit None = tt
 returned_fit (Some kind) = ((tt, λ element start. least 1), tt)
 
@@ -284,12 +284,12 @@ record Declares (b : Block) : Type 0 where
   structure : AllByRecursion AreValues b.components
 
 components_fit : (y : Types) (b : Block) → IsUnbroken y b → Declares b
-    → AllByRecursion IsFit (components_of y b)
+    → AllByRecursion CellFits (components_of y b)
 components_fit y b h v =
-    all_append IsFit
+    all_append CellFits
     (returned_cells b.result ++ section_cells y (of_sections b) (λ k. not (is_temp k)) [] b.parts)
     (cells_of y of_structure part.Static [] b.components)
-    (all_append IsFit (returned_cells b.result)
+    (all_append CellFits (returned_cells b.result)
     (section_cells y (of_sections b) (λ k. not (is_temp k)) [] b.parts)
     (returned_fit b.result)
     (sections_fit y (of_sections b) (λ k. not (is_temp k)) [] b.parts h.sections v.sections))
@@ -360,15 +360,15 @@ kind_begins n simple.Dword e = inr (omega (arith, e), refl)
 kind_begins n simple.Dint e = inr (omega (arith, e), refl)
 kind_begins n simple.Time e = inr (omega (arith, e), refl)
 
-zipped : (limit : ℕ) (kind : Simple) (offsets values : List ℕ)
+zip_is_kept : (limit : ℕ) (kind : Simple) (offsets values : List ℕ)
     → AllByRecursion (Begins limit (plain_bits kind) (Plain kind) []) offsets
     → AllByRecursion (λ v. v < 2 ^ plain_bits kind) values
     → AllByRecursion (IsKept limit) (writes_at (plain_bits kind) offsets values)
-zipped limit kind [] values h v = tt
-zipped limit kind (o ∷ os) [] h v = tt
-zipped limit kind (o ∷ os) (x ∷ xs) h v = (
+zip_is_kept limit kind [] values h v = tt
+zip_is_kept limit kind (o ∷ os) [] h v = tt
+zip_is_kept limit kind (o ∷ os) (x ∷ xs) h v = (
   record { within = h.0.within; begins = kind_begins o kind h.0.even; fits = v.0 },
-  zipped limit kind os xs h.1 v.1,
+  zip_is_kept limit kind os xs h.1 v.1,
 )
 
 values_fit : (most : ℕ) (presets : List Preset) → AllByRecursion (λ p. p.value < most) presets
@@ -384,9 +384,9 @@ record Holds (limit end start : ℕ) : Type 0 where
 
 module _ (l : List BlockLayout) (limit : ℕ) (near : limit < largest_size)
     (right : (u : ℕ) → AllByRecursion (IsRightCell l) (cells_at l u false))
-    (fit : (u : ℕ) → AllByRecursion IsFit (cells_at l u false)) where
-  abbrev Kept : List Write → Type 0
-  Kept ws = AllByRecursion (IsKept limit) ws
+    (fit : (u : ℕ) → AllByRecursion CellFits (cells_at l u false)) where
+  abbrev AreKept : List Write → Type 0
+  AreKept ws = AllByRecursion (IsKept limit) ws
 
   -- where a component begins in structures that begin at these places
   begun_begins : (level at : ℕ) (c : Cell) (cs : List Cell) → at ≤ largest_size
@@ -419,16 +419,16 @@ module _ (l : List BlockLayout) (limit : ℕ) (near : limit < largest_size)
 
   -- what is written inside a structure, and inside a data type
   abbrev Inner : (List ℕ → List Write) → (end : ℕ) → Type 0
-  Inner inside end = (starts : List ℕ) → AllByRecursion (Holds limit end) starts → Kept (inside starts)
+  Inner inside end = (starts : List ℕ) → AllByRecursion (Holds limit end) starts → AreKept (inside starts)
 
   abbrev Types_ : (ℕ → List ℕ → List Write) → Type 0
   Types_ of_type = (u : ℕ) → Inner (of_type u) (structure_bits (cells_at l u false))
 
   component_kept : (inside : List ℕ → List Write) (of_type : ℕ → List ℕ → List Write) (c : Cell)
       (cs : List Cell) → Inner inside (components_end (c.level + 1) 0 cs) → Types_ of_type → IsRightCell l c
-      → IsFit c → (starts : List ℕ)
+      → CellFits c → (starts : List ℕ)
       → AllByRecursion (Begins limit (element_of c cs) c.of c.bounds) starts
-      → Kept (component_writes inside of_type c (element_of c cs) starts c.of)
+      → AreKept (component_writes inside of_type c (element_of c cs) starts c.of)
   component_kept inside of_type c cs inner types ok v starts h = by c.of refl
     where
       parts : (components : ℕ) × (components % 16 ≡ 0) × (element_of c cs ≡ element_bits c.of components)
@@ -442,10 +442,10 @@ module _ (l : List BlockLayout) (limit : ℕ) (near : limit < largest_size)
 
       one : (kind : Simple) → c.of ≡ Plain kind → (s : ℕ)
           → Begins limit (element_of c cs) c.of c.bounds s
-          → Kept (writes_at (plain_bits kind) (element_starts c.bounds (element_of c cs) (s ∷ []))
+          → AreKept (writes_at (plain_bits kind) (element_starts c.bounds (element_of c cs) (s ∷ []))
           (preset_values c.presets))
       one kind e s k =
-          zipped limit kind (element_starts c.bounds (element_of c cs) (s ∷ [])) (preset_values c.presets)
+          zip_is_kept limit kind (element_starts c.bounds (element_of c cs) (s ∷ [])) (preset_values c.presets)
           (subst (λ (n : ℕ). AllByRecursion (Begins limit n (Plain kind) [])
           (element_starts c.bounds (element_of c cs) (s ∷ []))) (element_plain c cs kind e)
           (subst (λ (of : Element). AllByRecursion (Begins limit (element_of c cs) of [])
@@ -453,7 +453,7 @@ module _ (l : List BlockLayout) (limit : ℕ) (near : limit < largest_size)
           (elements_begin limit (element_of c cs) parts.0 c.of near parts.1 parts.2
           (settled_even l c.of ok.settled) c.bounds (s ∷ []) (k, tt))))
           (values_fit (2 ^ plain_bits kind) c.presets
-          (subst (λ (of : Element). Fit of c.presets) e v.0))
+          (subst (λ (of : Element). PresetsFit of c.presets) e v.0))
 
       structure : c.of ≡ Structure → (s : ℕ) → Begins limit (element_of c cs) c.of [] s
           → Holds limit (components_end (c.level + 1) 0 cs) s
@@ -472,7 +472,7 @@ module _ (l : List BlockLayout) (limit : ℕ) (near : limit < largest_size)
       }
 
       by : (of : Element) → c.of ≡ of
-          → Kept (component_writes inside of_type c (element_of c cs) starts of)
+          → AreKept (component_writes inside of_type c (element_of c cs) starts of)
       by (Plain kind) e =
           all_flat (Begins limit (element_of c cs) c.of c.bounds) (IsKept limit)
           (λ s. writes_at (plain_bits kind) (element_starts c.bounds (element_of c cs) (s ∷ []))
@@ -491,8 +491,8 @@ module _ (l : List BlockLayout) (limit : ℕ) (near : limit < largest_size)
 
   cells_kept : (of_type : ℕ → List ℕ → List Write) → Types_ of_type → (level at : ℕ)
       (starts : List ℕ) (cells : List Cell) → at ≤ largest_size → AllByRecursion (IsRightCell l) cells
-      → AllByRecursion IsFit cells → AllByRecursion (Holds limit (components_end level at cells)) starts
-      → Kept (writes_from of_type level starts at cells)
+      → AllByRecursion CellFits cells → AllByRecursion (Holds limit (components_end level at cells)) starts
+      → AreKept (writes_from of_type level starts at cells)
   cells_kept of_type types level at starts [] low ok v h = tt
   cells_kept of_type types level at starts (c ∷ cs) low ok v h =
       by (nat_lt c.level level) refl
@@ -503,7 +503,7 @@ module _ (l : List BlockLayout) (limit : ℕ) (near : limit < largest_size)
       here : Inner (λ inner. writes_from of_type (c.level + 1) inner 0 cs) (components_end (c.level + 1) 0 cs)
           → nat_lt c.level level ≡ false → (sound same : Bool) → c.sound ≡ sound
           → nat_eq c.level level ≡ same
-          → Kept (if sound && same
+          → AreKept (if sound && same
           then component_writes (λ inner. writes_from of_type (c.level + 1) inner 0 cs) of_type c
           (element_of c cs) (component_starts at c starts) c.of else [])
       here inner stays true true e f =
@@ -515,8 +515,8 @@ module _ (l : List BlockLayout) (limit : ℕ) (near : limit < largest_size)
       by : (t : Bool) → nat_lt c.level level ≡ t
           → Inner (λ inner. writes_from of_type (c.level + 1) inner 0 cs) (components_end (c.level + 1) 0 cs)
           → (AllByRecursion (Holds limit (components_end level (end_behind_cell level at c (cell_bits c cs)) cs)) starts
-          → Kept (writes_from of_type level starts (end_behind_cell level at c (cell_bits c cs)) cs))
-          → Kept (if t then []
+          → AreKept (writes_from of_type level starts (end_behind_cell level at c (cell_bits c cs)) cs))
+          → AreKept (if t then []
           else cell_writes (λ inner. writes_from of_type (c.level + 1) inner 0 cs) of_type level at starts c
           (element_of c cs) ++ writes_from of_type level starts (end_behind_cell level at c (cell_bits c cs)) cs)
       by true stops inner behind = tt
@@ -698,33 +698,33 @@ module _ (source file : List ℕ) (symbols : List Symbol) (t : Tree)
   tree : IsSoundTree symbols t
   tree = right_tree source file symbols t accepted
 
-  has : (k : ℕ) (b : Block) (l : BlockLayout) → IsSound symbols t k b l → BlockHasBytes b
+  has : (k : ℕ) (b : Block) (l : BlockLayout) → IsSoundBlock symbols t k b l → BlockHasBytes b
   has k b l h =
       block_has_bytes source accepted.tokens t bytes accepted.parsed k b h.block_there
 
   all_right : (u : ℕ) → AllByRecursion (IsRightCell ls) (cells_at ls u false)
   all_right u = all_got (IsRightCell ls) (cells_at ls u false) (λ k c e. are_right symbols t tree u k false c e)
 
-  all_fit : (u : ℕ) → AllByRecursion IsFit (cells_at ls u false)
+  all_fit : (u : ℕ) → AllByRecursion CellFits (cells_at ls u false)
   all_fit u = by (slice_get ls u) refl
     where
-      by : (o : Option BlockLayout) → slice_get ls u ≡ o → AllByRecursion IsFit (cells_at ls u false)
+      by : (o : Option BlockLayout) → slice_get ls u ≡ o → AllByRecursion CellFits (cells_at ls u false)
       by None is =
-          subst (λ (o : Option BlockLayout). AllByRecursion IsFit (cells_in false o)) (sym is) tt
+          subst (λ (o : Option BlockLayout). AllByRecursion CellFits (cells_in false o)) (sym is) tt
       by (Some l) is =
           let laid = block_of_layout symbols t tree u l is in
-          subst (λ (cs : List Cell). AllByRecursion IsFit cs)
+          subst (λ (cs : List Cell). AllByRecursion CellFits cs)
           (sym (cells_are symbols t u laid.block l laid.sound false))
           (components_fit (types_of_source symbols t.blocks) laid.block
           (block_unbroken (types_of_source symbols t.blocks) laid.block laid.sound.declarations)
           (declares laid.block laid.sound.well_formed (has u laid.block l laid.sound)))
 
   -- a data block with its layout
-  abbrev IsData : ℕ → Type 0
-  IsData k = IsThere symbols t is_data_block k
+  abbrev IsDataBlockAt : ℕ → Type 0
+  IsDataBlockAt k = IsThere symbols t is_data_block k
 
   data_of : (k : ℕ) (l : BlockLayout) (id : BlockId) → slice_get ls k ≡ Some l → l.id ≡ Some id
-      → is_data_block id.kind ≡ true → IsData k
+      → is_data_block id.kind ≡ true → IsDataBlockAt k
   data_of k l id there is kind =
       let laid = block_of_layout symbols t tree k l there in
       record {
@@ -738,7 +738,7 @@ module _ (source file : List ℕ) (symbols : List Symbol) (t : Tree)
         sound = laid.sound;
       }
 
-  setting_same : (k : ℕ) (d : IsData k) → setting_structure ls k ≡ structure_of ls k
+  setting_same : (k : ℕ) (d : IsDataBlockAt k) → setting_structure ls k ≡ structure_of ls k
   setting_same k d =
       ap (λ (o : Option BlockLayout). option_and_then (λ b. shape_block ls k b.shape) o)
       (d.laid ∙ sym (whole_is ls k d.layout d.laid d.sound.whole))
@@ -753,7 +753,7 @@ module _ (source file : List ℕ) (symbols : List Symbol) (t : Tree)
     fits = h.fits;
   }
 
-  writes_within : (k : ℕ) (d : IsData k) (s : IsStructured symbols t k) (limit : ℕ)
+  writes_within : (k : ℕ) (d : IsDataBlockAt k) (s : IsStructured symbols t k) (limit : ℕ)
       → structure_bits (cells_at ls s.inside false) ≤ limit → limit < largest_size
       → AllByRecursion (IsKept limit) (writes_of ls t.blocks k)
   writes_within k d s limit inside near =
@@ -780,7 +780,7 @@ module _ (source file : List ℕ) (symbols : List Symbol) (t : Tree)
           (each_passes (setting_misfits ls k) (λ (x : Setting). x.line) 41 d.block.settings d.sound.settings.by_41)
           (each_passes (setting_is_outside ls k) (λ (x : Setting). x.line) 42 d.block.settings d.sound.settings.by_42))
 
-  writes_kept : (k : ℕ) (d : IsData k) (s : IsStructured symbols t k)
+  writes_kept : (k : ℕ) (d : IsDataBlockAt k) (s : IsStructured symbols t k)
       → AllByRecursion (IsKept (structure_bits (cells_at ls s.inside false))) (writes_of ls t.blocks k)
   writes_kept k d s =
       let small = s.small in
@@ -788,11 +788,11 @@ module _ (source file : List ℕ) (symbols : List Symbol) (t : Tree)
 
   all_room : (u : ℕ) → AllByRecursion HasRoom (cells_at ls u false)
   all_room u =
-      all_held (λ (c : Cell). IsRightCell ls c × IsFit c) HasRoom
+      all_held (λ (c : Cell). IsRightCell ls c × CellFits c) HasRoom
       (λ c h. record { sound = h.0.sound; elements = h.1.1 }) (cells_at ls u false)
-      (all_both (IsRightCell ls) IsFit (cells_at ls u false) (all_right u) (all_fit u))
+      (all_both (IsRightCell ls) CellFits (cells_at ls u false) (all_right u) (all_fit u))
 
-  all_set : (k : ℕ) (d : IsData k) (s : IsStructured symbols t k)
+  all_set : (k : ℕ) (d : IsDataBlockAt k) (s : IsStructured symbols t k)
       → AllByRecursion (IsSettingWritten ls k) (settings_at (slice_get t.blocks k))
   all_set k d s =
       let small = s.small in
@@ -808,7 +808,7 @@ module _ (source file : List ℕ) (symbols : List Symbol) (t : Tree)
   unfolding initial_bytes
   written k l id there is kind =
       let d = data_of k l id there is kind in
-      let s = structured symbols t tree k d in
+      let s = structure_known symbols t tree k d in
       let long : l.length ≡ structure_bits (cells_at ls s.inside false) / 8
       = sym (ap (λ (o : Option BlockLayout). length_at o) there) ∙ s.long in
       record {

@@ -15,7 +15,9 @@ use Rattle.flat_code.specs.declared.kinds.JumpOperation.{JumpOperation}
 use Rattle.flat_code.specs.declared.kinds.JumpOperation.TheVariants as jump
 use Rattle.flat_code.specs.declared.operands.Operand.{Operand as FlatOperand}
 use Rattle.flat_code.specs.declared.operands.Operand.TheVariants as flat
-use Rattle.flat_code.specs.declared.operations.EndOperation.TheVariants as ends
+use Rattle.flat_code.specs.OpCodes.{op_code_of}
+use Rattle.flat_code.specs.declared.operations.Operation.TheVariants as operation
+use Rattle.plc_base.specs.declared.instructions.Check.TheVariants as check
 use Rattle.stl_ast.specs.Statements.{is_empty_statement}
 use Rattle.stl_ast.specs.declared.mnemonics.Mnemonic.{Mnemonic}
 use Rattle.stl_ast.specs.declared.mnemonics.Mnemonic.TheVariants as code
@@ -39,14 +41,14 @@ use Rattle.stl_codegen.specs.Generated.{stated_from, statements_of}
 use Rattle.stl_codegen.specs.Instruction.{count_of_statement, instr_by, instruction, target_in, target_of}
 use Rattle.stl_codegen.specs.Operations.{jump_operation_of}
 use Rattle.sem_kept.specs.Back.{is_target}
-use Rattle.sem_kept.proofs.compiled.Reading.{aimed_append, aimed_are, aimed_bytes, aimed_extent, aimed_is, aimed_part, aimed_parts, ends_append, ends_at, is_statement, parted, parts, parts_append, parts_are, position, position_is, the_code, the_code_is}
-use Rattle.sem_kept.proofs.compiled.Runs.{Parted, bytes_of, flat as flat_parts, size_aimed, total}
+use Rattle.sem_kept.proofs.compiled.Reading.{aimed_append, aimed_are, aimed_bytes, aimed_extent, aimed_is, aimed_part, aimed_parts, ends_append, ends_at, is_statement, parts_of_instr, parts, parts_append, parts_are, position, position_is, the_code, the_code_is, ops_with, return_at}
+use Rattle.sem_kept.proofs.compiled.Runs.{InstrParts, bytes_of, flat as flat_parts, size_aimed, total}
 use Rattle.sem_kept.specs.Jumps.{AllLandRight, LandsRight, jump_fault_of}
 use Rattle.plc_base.proofs.TruthLemmas.{or_met_behind}
 use Rattle.sem_kept.proofs.accepted.JumpsCode.{AreQuiet, IsFound, IsQuiet, codes_after, count_after, found_by, left_after, open_after, placed_all, spot_there}
 use Rattle.flat_code.proofs.BracketLemmas.{codes_behind, codes_fault, codes_opened, count_behind, count_fault, count_is, fault_is, few_codes, few_is, no_zones, none_left, zone_fault_is}
-use Rattle.sem_kept.proofs.accepted.JumpsRules.{AreAlike, AreRightFrom, HasList, IsRightAt, IsTarget, behind_more, by_29, by_31, by_47, by_49, few_open, functions, has_list, right_body, same_landings, target_is, target_past, zones_more}
-use Rattle.sem_kept.proofs.accepted.JumpsOperations.{IsLastOf, TakesRight, behind_codes, behind_count, bracket_right, codes_of, front_quiet, jumps_to, last_of, last_op, zone_right}
+use Rattle.sem_kept.proofs.accepted.JumpsRules.{AreNestedAlike, AreRightFrom, HasList, IsRightAt, IsLabelOfJump, behind_more, by_29, by_31, by_47, by_49, few_open, functions, has_list, right_body, same_landings, target_is, target_past, zones_more}
+use Rattle.sem_kept.proofs.accepted.JumpsOperations.{IsLastOf, TakesRight, behind_codes, behind_count, bracket_right, codes_of_source_brackets, front_quiet, leads_to_label, last_of, last_op_of_instr, zone_right}
 
 -- ---- small facts
 
@@ -91,13 +93,13 @@ no_difference : (xs : List ℕ) (codes : Option (List ℕ)) (zones : ℕ) (there
 no_difference xs codes zones there here same count =
     rw (ap₂ are_other_brackets here same ∙ same_few xs) (rw (eq-eqb zones there.zones (sym count)) refl)
 
-codes_by : (bs : List SourceBracket) → codes_of bs ≡ map (λ k. 0x18 + k) (functions bs)
+codes_by : (bs : List SourceBracket) → codes_of_source_brackets bs ≡ map (λ k. op_code_of (operation.Nest check.A) + k) (functions bs)
 codes_by [] = refl
-codes_by (b ∷ bs) = ap (λ (z : List ℕ). (0x18 + b.function) ∷ z) (codes_by bs)
+codes_by (b ∷ bs) = ap (λ (z : List ℕ). (op_code_of (operation.Nest check.A) + b.function) ∷ z) (codes_by bs)
 
-same_functions : (bs ds : List SourceBracket) → functions bs ≡ functions ds → codes_of bs ≡ codes_of ds
+same_functions : (bs ds : List SourceBracket) → functions bs ≡ functions ds → codes_of_source_brackets bs ≡ codes_of_source_brackets ds
 same_functions bs ds e =
-    codes_by bs ∙ ap (λ (z : List ℕ). map (λ k. 0x18 + k) z) e ∙ sym (codes_by ds)
+    codes_by bs ∙ ap (λ (z : List ℕ). map (λ k. op_code_of (operation.Nest check.A) + k) z) e ∙ sym (codes_by ds)
 
 leads_at_once : (most at : ℕ) (ops : List OpData) → leads_to_target most at at ops ≡ true
 leads_at_once most at [] = eq-eqb at at refl
@@ -112,12 +114,12 @@ jl_code : (m : Mnemonic) → jump_operation_of m ≡ Some jump.Jl → is_list_ju
 jl_code code.Jl e = refl
 jl_code _ e = absurd cc
 
-codes_more : (ps qs : List Parted) (codes : List ℕ)
+codes_more : (ps qs : List InstrParts) (codes : List ℕ)
     → codes_after (ps ++ qs) codes ≡ codes_after qs (codes_after ps codes)
 codes_more [] qs codes = refl
 codes_more (p ∷ ps) qs codes = codes_more ps qs (codes_behind p.end.code codes)
 
-counts_more : (ps qs : List Parted) (count : ℕ)
+counts_more : (ps qs : List InstrParts) (count : ℕ)
     → count_after (ps ++ qs) count ≡ count_after qs (count_after ps count)
 counts_more [] qs count = refl
 counts_more (p ∷ ps) qs count = counts_more ps qs (count_behind p.end.code count)
@@ -142,8 +144,8 @@ aimed_quiet f (op ∷ ops) h = (one op h.0, aimed_quiet f ops h.1)
       stays = stays op.operand q.stays;
     }
 
-part_quiet : (f : ℕ → ℕ) (i : Instr) → AllByRecursion IsQuiet (aimed_part f (parted i)).front
-part_quiet f i = aimed_quiet f (parted i).front (front_quiet i)
+part_quiet : (f : ℕ → ℕ) (i : Instr) → AllByRecursion IsQuiet (aimed_part f (parts_of_instr i)).front
+part_quiet f i = aimed_quiet f (parts_of_instr i).front (front_quiet i)
 
 parts_quiet : (f : ℕ → ℕ) (ss : List SourceInstruction) → AreQuiet (aimed_parts f (parts ss))
 parts_quiet f [] = tt
@@ -161,8 +163,8 @@ abbrev code_from : Context → (body : List Statement) → (ret : SourceInstruct
 code_from c body ret f n ss = the_code f (stated_from c body n ss ++ ret ∷ [])
 
 -- the statement of a number
-abbrev stated : Context → List Statement → (n : ℕ) → Statement → SourceInstruction
-stated c body n s = record { instr = instruction c body n s; line = s.line }
+abbrev statement_of_number : Context → List Statement → (n : ℕ) → Statement → SourceInstruction
+statement_of_number c body n s = record { instr = instruction c body n s; line = s.line }
 
 stated_append : (c : Context) (body : List Statement) (n : ℕ) (xs ys : List Statement)
     → stated_from c body n (xs ++ ys) ≡ stated_from c body n xs ++ stated_from c body (n + count_of_statements xs) ys
@@ -174,13 +176,13 @@ stated_append c body n (x ∷ xs) ys =
         → stated_from c body n (xs ++ ys) ≡ stated_from c body n xs ++ stated_from c body (n + count_of_statements xs) ys
         → stated_from c body (suc n) (xs ++ ys)
         ≡ stated_from c body (suc n) xs ++ stated_from c body (suc n + count_of_statements xs) ys
-        → (if e then stated_from c body n (xs ++ ys) else stated c body n x ∷ stated_from c body (suc n) (xs ++ ys))
-        ≡ (if e then stated_from c body n xs else stated c body n x ∷ stated_from c body (suc n) xs)
+        → (if e then stated_from c body n (xs ++ ys) else statement_of_number c body n x ∷ stated_from c body (suc n) (xs ++ ys))
+        ≡ (if e then stated_from c body n xs else statement_of_number c body n x ∷ stated_from c body (suc n) xs)
         ++ stated_from c body (n + ((if e then 0 else 1) + count_of_statements xs)) ys
     by true same next =
         same ∙ ap (λ (k : ℕ). stated_from c body n xs ++ stated_from c body k ys) (omega arith)
     by false same next =
-        ap (λ (z : List SourceInstruction). stated c body n x ∷ z)
+        ap (λ (z : List SourceInstruction). statement_of_number c body n x ∷ z)
         (next ∙ ap (λ (k : ℕ). stated_from c body (suc n) xs ++ stated_from c body k ys) (omega arith))
 
 stated_count : (c : Context) (body : List Statement) (n : ℕ) (xs : List Statement)
@@ -191,7 +193,7 @@ stated_count c body n (x ∷ xs) =
   where
     by : (e : Bool) → length (stated_from c body n xs) ≡ count_of_statements xs
         → length (stated_from c body (suc n) xs) ≡ count_of_statements xs
-        → length (if e then stated_from c body n xs else stated c body n x ∷ stated_from c body (suc n) xs)
+        → length (if e then stated_from c body n xs else statement_of_number c body n x ∷ stated_from c body (suc n) xs)
         ≡ (if e then 0 else 1) + count_of_statements xs
     by true same next = omega (arith, same)
     by false same next = omega (arith, next)
@@ -202,7 +204,7 @@ ends_of c body pre = ends_at (stated_from c body 0 pre)
 
 -- a statement more
 abbrev bytes_by : Context → (body : List Statement) → (n : ℕ) → Statement → (empty : Bool) → ℕ
-bytes_by c body n s empty = if empty then 0 else bytes_of (parted (instruction c body n s))
+bytes_by c body n s empty = if empty then 0 else bytes_of (parts_of_instr (instruction c body n s))
 
 ends_one : (c : Context) (body pre : List Statement) (n : ℕ) (s : Statement) → n ≡ count_of_statements pre
     → ends_of c body (pre ++ s ∷ []) ≡ ends_of c body pre + bytes_by c body n s (is_empty_statement s.code)
@@ -213,7 +215,7 @@ ends_one c body pre n s e =
     ∙ ap (λ (k : ℕ). ends_of c body pre + k) (by (is_empty_statement s.code))
   where
     by : (empty : Bool)
-        → ends_at (if empty then [] else stated c body n s ∷ []) ≡ bytes_by c body n s empty
+        → ends_at (if empty then [] else statement_of_number c body n s ∷ []) ≡ bytes_by c body n s empty
     by true = refl
     by false = omega arith
 
@@ -231,7 +233,7 @@ count_empty pre s e =
 
 ends_more : (c : Context) (body pre : List Statement) (n : ℕ) (s : Statement) → is_empty_statement s.code ≡ false
     → n ≡ count_of_statements pre
-    → ends_of c body (pre ++ s ∷ []) ≡ ends_of c body pre + bytes_of (parted (instruction c body n s))
+    → ends_of c body (pre ++ s ∷ []) ≡ ends_of c body pre + bytes_of (parts_of_instr (instruction c body n s))
 ends_more c body pre n s e is =
     ends_one c body pre n s is ∙ ap (λ (t : Bool). ends_of c body pre + bytes_by c body n s t) e
 
@@ -243,27 +245,27 @@ count_more pre s e =
 -- the brackets behind statements
 stated_codes : (f : ℕ → ℕ) (c : Context) (body : List Statement) (n : ℕ) (bs : List SourceBracket)
     (xs : List Statement) → AllByRecursion TakesRight xs
-    → codes_after (aimed_parts f (parts (stated_from c body n xs))) (codes_of bs)
-    ≡ codes_of (brackets_behind_all bs xs)
+    → codes_after (aimed_parts f (parts (stated_from c body n xs))) (codes_of_source_brackets bs)
+    ≡ codes_of_source_brackets (brackets_behind_all bs xs)
 stated_codes f c body n bs [] h = refl
 stated_codes f c body n bs (x ∷ xs) h =
     by (is_empty_statement x.code) refl (stated_codes f c body n (brackets_behind bs x) xs h.1)
     (stated_codes f c body (suc n) (brackets_behind bs x) xs h.1)
   where
     by : (e : Bool) → is_empty_statement x.code ≡ e
-        → codes_after (aimed_parts f (parts (stated_from c body n xs))) (codes_of (brackets_behind bs x))
-        ≡ codes_of (brackets_behind_all (brackets_behind bs x) xs)
-        → codes_after (aimed_parts f (parts (stated_from c body (suc n) xs))) (codes_of (brackets_behind bs x))
-        ≡ codes_of (brackets_behind_all (brackets_behind bs x) xs)
+        → codes_after (aimed_parts f (parts (stated_from c body n xs))) (codes_of_source_brackets (brackets_behind bs x))
+        ≡ codes_of_source_brackets (brackets_behind_all (brackets_behind bs x) xs)
+        → codes_after (aimed_parts f (parts (stated_from c body (suc n) xs))) (codes_of_source_brackets (brackets_behind bs x))
+        ≡ codes_of_source_brackets (brackets_behind_all (brackets_behind bs x) xs)
         → codes_after (aimed_parts f (parts
-        (if e then stated_from c body n xs else stated c body n x ∷ stated_from c body (suc n) xs))) (codes_of bs)
-        ≡ codes_of (brackets_behind_all (brackets_behind bs x) xs)
+        (if e then stated_from c body n xs else statement_of_number c body n x ∷ stated_from c body (suc n) xs))) (codes_of_source_brackets bs)
+        ≡ codes_of_source_brackets (brackets_behind_all (brackets_behind bs x) xs)
     by true is same next =
-        ap (λ (z : List SourceBracket). codes_after (aimed_parts f (parts (stated_from c body n xs))) (codes_of z))
+        ap (λ (z : List SourceBracket). codes_after (aimed_parts f (parts (stated_from c body n xs))) (codes_of_source_brackets z))
         (sym (empty_behind bs x is)) ∙ same
     by false is same next =
         ap (codes_after (aimed_parts f (parts (stated_from c body (suc n) xs))))
-        (behind_codes bs body x (last_op (instruction c body n x)) (last_of c body n x h.0)) ∙ next
+        (behind_codes bs body x (last_op_of_instr (instruction c body n x)) (last_of c body n x h.0)) ∙ next
 
 -- and how many zones are
 stated_zones : (f : ℕ → ℕ) (c : Context) (body : List Statement) (n : ℕ) (zones : List ℕ)
@@ -284,7 +286,7 @@ stated_zones f c body n zones (x ∷ xs) h =
         → counted_after (stated_from c body (suc n) xs) (length (zones_behind zones x))
         ≡ length (zones_behind_all (zones_behind zones x) xs)
         → counted_after
-        (if e then stated_from c body n xs else stated c body n x ∷ stated_from c body (suc n) xs)
+        (if e then stated_from c body n xs else statement_of_number c body n x ∷ stated_from c body (suc n) xs)
         (length zones)
         ≡ length (zones_behind_all (zones_behind zones x) xs)
     by true is same next =
@@ -292,7 +294,7 @@ stated_zones f c body n zones (x ∷ xs) h =
         (sym (empty_zones zones x is)) ∙ same
     by false is same next =
         ap (counted_after (stated_from c body (suc n) xs))
-        (behind_count zones body x (last_op (instruction c body n x)) (last_of c body n x h.0))
+        (behind_count zones body x (last_op_of_instr (instruction c body n x)) (last_of c body n x h.0))
         ∙ next
 
 -- ---- where a label is
@@ -339,26 +341,26 @@ spot_behind : (f : ℕ → ℕ) (front : List SourceInstruction) (s : SourceInst
     (count_after (aimed_parts f (parts front)) 0)
 spot_behind f front s rest =
     found_by _ _ _ _ _ _
-    (ap (λ (z : List Parted). spot_at (statement_spots (flat_parts z)) (ends_at front)) cut
-    ∙ ap (spot_at (statement_spots (flat_parts (ps ++ aimed_part f (parted s.instr) ∷ aimed_parts f (parts rest)))))
+    (ap (λ (z : List InstrParts). spot_at (statement_spots (flat_parts z)) (ends_at front)) cut
+    ∙ ap (spot_at (statement_spots (flat_parts (ps ++ aimed_part f (parts_of_instr s.instr) ∷ aimed_parts f (parts rest)))))
     (sym (aimed_extent f (parts front)) ∙ omega arith))
     refl refl
-    (spot_there 0 [] [] ps (aimed_part f (parted s.instr)) (aimed_parts f (parts rest))
+    (spot_there 0 [] [] ps (aimed_part f (parts_of_instr s.instr)) (aimed_parts f (parts rest))
     (aimed_are f (parts front) (parts_are front)) (parts_quiet f front) (part_quiet f s.instr)
-    (aimed_is f (parted s.instr) (is_statement s.instr)))
+    (aimed_is f (parts_of_instr s.instr) (is_statement s.instr)))
   where
-    ps : List Parted
+    ps : List InstrParts
     ps = aimed_parts f (parts front)
 
     cut : aimed_parts f (parts (front ++ s ∷ rest))
-        ≡ ps ++ aimed_part f (parted s.instr) ∷ aimed_parts f (parts rest)
+        ≡ ps ++ aimed_part f (parts_of_instr s.instr) ∷ aimed_parts f (parts rest)
     cut = ap (aimed_parts f) (parts_append front (s ∷ rest))
         ∙ aimed_append f (parts front) (parts (s ∷ rest))
 
 spot_of : (c : Context) (body : List Statement) (ret : SourceInstruction) (f : ℕ → ℕ) (pre rest : List Statement)
     → body ≡ pre ++ rest → AllByRecursion TakesRight pre
     → IsFound (spot_at (statement_spots (the_code f (whole c body ret))) (ends_of c body pre))
-    (few_codes (codes_of (brackets_behind_all [] pre))) (length (zones_behind_all [] pre))
+    (few_codes (codes_of_source_brackets (brackets_behind_all [] pre))) (length (zones_behind_all [] pre))
 spot_of c body ret f pre rest e takes =
     let h = has_first (stated_from c body (count_of_statements pre) rest) ret in
     found_by _ _ _ _ _ _
@@ -370,9 +372,6 @@ spot_of c body ret f pre rest e takes =
 
 -- ---- the list of a JL
 
-abbrev ops_with : (ℕ → ℕ) → Instr → List OpData → List OpData
-ops_with f i rest = (aimed_part f (parted i)).front ++ (aimed_part f (parted i)).end ∷ rest
-
 ju_instruction : (c : Context) (body : List Statement) (n : ℕ) (s : Statement)
     → is_unconditional_jump s.code ≡ true
     → instruction c body n s ≡ Jumps jump.Ju (target_of body s.operand)
@@ -381,7 +380,7 @@ ju_instruction c body n s e = ap (instr_by c body n s) (ju_code s.code e)
 
 -- a list goes on behind a JU
 ju_leads : (f : ℕ → ℕ) (most target at there : ℕ) (rest : List OpData)
-    → leads_to_target most target (at + bytes_of (parted (Jumps jump.Ju there))) rest ≡ true
+    → leads_to_target most target (at + bytes_of (parts_of_instr (Jumps jump.Ju there))) rest ≡ true
     → leads_to_target (suc most) target at (ops_with f (Jumps jump.Ju there) rest) ≡ true
 ju_leads f most target at there rest led =
     let long = size_aimed f (jump_op jump.Ju there) in
@@ -424,7 +423,7 @@ listed_on : (c : Context) (body : List Statement) (ret : SourceInstruction) (nam
     → leads_to_target left (place c body ret (n + further)) at (code_from c body ret (place c body ret) n ss) ≡ true)
     → leads_to_target left (place c body ret (n + ((if empty then 0 else 1) + further))) at
     (the_code (place c body ret) ((if empty then stated_from c body n ss
-    else stated c body n s ∷ stated_from c body (suc n) ss) ++ ret ∷ [])) ≡ true
+    else statement_of_number c body n s ∷ stated_from c body (suc n) ss) ++ ret ∷ [])) ≡ true
 listed_on c body ret name left pre s ss at n is_at is_n further true is h more =
     ap (λ (k : ℕ). leads_to_target left (place c body ret k) at (code_from c body ret (place c body ret) n ss))
     (omega arith)
@@ -433,8 +432,8 @@ listed_on c body ret name left pre s ss at n is_at is_n further false is h more 
     let r = ju_left left s.code (λ next. is_list_to next name ss) h in
     let ju = ju_instruction c body n s r.ju in
     let there = target_of body s.operand in
-    let long : bytes_of (parted (instruction c body n s)) ≡ bytes_of (parted (Jumps jump.Ju there)) =
-    ap (λ (i : Instr). bytes_of (parted i)) ju in
+    let long : bytes_of (parts_of_instr (instruction c body n s)) ≡ bytes_of (parts_of_instr (Jumps jump.Ju there)) =
+    ap (λ (i : Instr). bytes_of (parts_of_instr i)) ju in
     let end = ends_more c body pre n s is is_n in
     let number = count_more pre s is in
     let rest : List OpData = code_from c body ret (place c body ret) (suc n) ss in
@@ -442,9 +441,9 @@ listed_on c body ret name left pre s ss at n is_at is_n further false is h more 
     ap (λ (k : ℕ). leads_to_target k target at (ops_with (place c body ret) (instruction c body n s) rest)) r.is
     ∙ ap (λ (i : Instr). leads_to_target (suc r.fewer) target at (ops_with (place c body ret) i rest)) ju
     ∙ ju_leads (place c body ret) r.fewer target at there rest
-    (ap (λ (k : ℕ). leads_to_target r.fewer (place c body ret k) (at + bytes_of (parted (Jumps jump.Ju there))) rest)
+    (ap (λ (k : ℕ). leads_to_target r.fewer (place c body ret k) (at + bytes_of (parts_of_instr (Jumps jump.Ju there))) rest)
     (omega arith)
-    ∙ more r.fewer (at + bytes_of (parted (Jumps jump.Ju there))) (suc n)
+    ∙ more r.fewer (at + bytes_of (parts_of_instr (Jumps jump.Ju there))) (suc n)
     (omega (arith, long, end, is_at)) (omega (arith, number, is_n)) r.more)
 
 -- the statements from here on are a list up to a label, and so are their ops
@@ -515,17 +514,17 @@ pub record IsRightBody (body : List Statement) : Type 0 where
   pub by_49 : by_49 [] body ≡ []
 
 -- a label is where its jump leads, with the same brackets and as many zones
-abbrev Lands : Context → (body : List Statement) → (ret : SourceInstruction) → (pre : List Statement) → (name : List ℕ)
+abbrev LandsAlike : Context → (body : List Statement) → (ret : SourceInstruction) → (pre : List Statement) → (name : List ℕ)
     → Type 0
-Lands c body ret pre name =
+LandsAlike c body ret pre name =
     IsFound (spot_at (statement_spots (the_code (place c body ret) (whole c body ret)))
-    (place c body ret (target_in name body))) (few_codes (codes_of (brackets_behind_all [] pre)))
+    (place c body ret (target_in name body))) (few_codes (codes_of_source_brackets (brackets_behind_all [] pre)))
     (length (zones_behind_all [] pre))
 
 lands : (c : Context) (body : List Statement) (ret : SourceInstruction) (pre : List Statement) (s : Statement)
     (post : List Statement) (name : List ℕ)
     → IsRightBody body → body ≡ pre ++ s ∷ post → IsRightAt body pre s post
-    → s.operand ≡ operand.Label name → Lands c body ret pre name
+    → s.operand ≡ operand.Label name → LandsAlike c body ret pre name
 lands c body ret pre s post name all e right label =
     found_by _ _ _ _ _ _
     (ap (spot_at (statement_spots (the_code f (whole c body ret))))
@@ -540,23 +539,23 @@ lands c body ret pre s post name all e right label =
     f : ℕ → ℕ
     f = place c body ret
 
-    there : IsTarget body empty_nesting name
+    there : IsLabelOfJump body empty_nesting name
     there = target_is body name (ap (is_unknown_label (labels_of body)) (sym label) ∙ right.known)
 
-    same : AreAlike pre there.before
+    same : AreNestedAlike pre there.before
     same = same_landings body pre there.before s post name right label
         (few_open body pre (s ∷ post) e all.by_31)
         (few_open body there.before there.rest there.whole all.by_31) there.landing
 
 -- the list of a JL is there
-listed : (c : Context) (body : List Statement) (ret : SourceInstruction) (pre : List Statement) (s : Statement)
+list_lands : (c : Context) (body : List Statement) (ret : SourceInstruction) (pre : List Statement) (s : Statement)
     (post : List Statement) (name : List ℕ) (at n : ℕ)
     → body ≡ pre ++ s ∷ post → is_empty_statement s.code ≡ false
     → at ≡ ends_of c body (pre ++ s ∷ []) → n ≡ count_of_statements (pre ++ s ∷ [])
     → HasList body pre s name post
     → leads_to_target 255 (place c body ret (target_in name body)) at
     (code_from c body ret (place c body ret) n post) ≡ true
-listed c body ret pre s post name at n e is is_at is_n has =
+list_lands c body ret pre s post name at n e is is_at is_n has =
     ap (λ (k : ℕ). leads_to_target 255 (place c body ret k) at (code_from c body ret (place c body ret) n post)) target
     ∙ leads_from c body ret name 255 (pre ++ s ∷ []) post at n cut is_at is_n has.leads
   where
@@ -568,11 +567,11 @@ listed c body ret pre s post name at n e is is_at is_n has =
         ∙ ap (λ (k : ℕ). k + target_in name post) (sym is_n)
 
 -- a place in the code: where statements end, and what is open there
-record IsPlace (c : Context) (body pre : List Statement) (at n : ℕ) (bs : List OpenBracket)
+record IsPlaceInCode (c : Context) (body pre : List Statement) (at n : ℕ) (bs : List OpenBracket)
     (zones : List ℕ) : Type 0 where
   is_at : at ≡ ends_of c body pre
   is_n : n ≡ count_of_statements pre
-  codes : bracket_codes bs ≡ codes_of (brackets_behind_all [] pre)
+  codes : bracket_codes bs ≡ codes_of_source_brackets (brackets_behind_all [] pre)
   count : length zones ≡ length (zones_behind_all [] pre)
 
 -- a statement at its place
@@ -580,21 +579,21 @@ record IsHere (c : Context) (body pre : List Statement) (s : Statement) (post : 
     (at n : ℕ) (bs : List OpenBracket) (zones : List ℕ) : Type 0 where
   whole : body ≡ pre ++ s ∷ post
   full : is_empty_statement s.code ≡ false
-  stands : IsPlace c body pre at n bs zones
+  stands : IsPlaceInCode c body pre at n bs zones
   takes : TakesRight s
   right : IsRightAt body pre s post
 
-abbrev front_of : Context → List Statement → SourceInstruction → (n : ℕ) → Statement → List OpData
-front_of c body ret n s =
-    (aimed_part (place c body ret) (parted (instruction c body n s))).front
+abbrev front_ops : Context → List Statement → SourceInstruction → (n : ℕ) → Statement → List OpData
+front_ops c body ret n s =
+    (aimed_part (place c body ret) (parts_of_instr (instruction c body n s))).front
 
 abbrev end_of : Context → List Statement → SourceInstruction → (n : ℕ) → Statement → OpData
-end_of c body ret n s = (aimed_part (place c body ret) (parted (instruction c body n s))).end
+end_of c body ret n s = (aimed_part (place c body ret) (parts_of_instr (instruction c body n s))).end
 
 abbrev placed_end : Context → List Statement → SourceInstruction → Statement → List Statement → (at n : ℕ)
     → List OpenBracket → (zones : List ℕ) → List OpData → PlacedOp
 placed_end c body ret s post at n bs zones done = record {
-  at = at + total (front_of c body ret n s);
+  at = at + total (front_ops c body ret n s);
   brackets = bs;
   zones = zones;
   before = done;
@@ -606,10 +605,10 @@ placed_end c body ret s post at n bs zones done = record {
 ends_here : (c : Context) (body : List Statement) (ret : SourceInstruction) (pre : List Statement) (s : Statement)
     (post : List Statement) (at n : ℕ) (bs : List OpenBracket) (zones : List ℕ)
     → IsHere c body pre s post at n bs zones
-    → at + total (front_of c body ret n s) + size_of_op (end_of c body ret n s) ≡ ends_of c body (pre ++ s ∷ [])
+    → at + total (front_ops c body ret n s) + size_of_op (end_of c body ret n s) ≡ ends_of c body (pre ++ s ∷ [])
 ends_here c body ret pre s post at n bs zones h =
     let end = ends_more c body pre n s h.full h.stands.is_n in
-    let long = aimed_bytes (place c body ret) (parted (instruction c body n s)) in
+    let long = aimed_bytes (place c body ret) (parts_of_instr (instruction c body n s)) in
     let here = h.stands.is_at in
     omega (arith, end, long, here)
 
@@ -630,10 +629,10 @@ jump_lands c body ret pre s post at n bs zones done all h how is =
     let number = count_more pre s h.full in
     let same = h.stands.is_n in
     ap (λ (o : Operand). jump_fault ss p (jump_number how) (place c body ret (target_of body o))) label.1
-    ∙ jump_right ss p (jump_number how) target (codes_of (brackets_behind_all [] pre))
+    ∙ jump_right ss p (jump_number how) target (codes_of_source_brackets (brackets_behind_all [] pre))
     (length (zones_behind_all [] pre))
     (list_right how p target (λ jl.
-    listed c body ret pre s post name (p.at + size_of_op p.op) (suc n) h.whole h.full
+    list_lands c body ret pre s post name (p.at + size_of_op p.op) (suc n) h.whole h.full
     (ends_here c body ret pre s post at n bs zones h) (omega (arith, number, same))
     (has_list body pre s name post h.right (jl_code s.code (is ∙ ap (λ (j : JumpOperation). Some j) jl)) label.1)))
     (few_is bs ∙ ap few_codes h.stands.codes) h.stands.count
@@ -653,7 +652,7 @@ last_lands c body ret pre s post at n bs zones done all h = record {
 }
   where
     op : OpData
-    op = last_op (instruction c body n s)
+    op = last_op_of_instr (instruction c body n s)
 
     last : IsLastOf body s op
     last = last_of c body n s h.takes
@@ -664,7 +663,7 @@ last_lands c body ret pre s post at n bs zones done all h = record {
     p : PlacedOp
     p = placed_end c body ret s post at n bs zones done
 
-    by : (j : Option JumpOperation) → jump_operation_of s.code ≡ j → jumps_to body s j op.operand
+    by : (j : Option JumpOperation) → jump_operation_of s.code ≡ j → leads_to_label body s j op.operand
         → jump_fault_of ss p (operand_with_target (place c body ret) op.operand) ≡ None
     by None is stays = stays_right ss p (place c body ret) op.operand stays
     by (Some how) is there =
@@ -693,13 +692,13 @@ AllLand c body ret at bs zones ops =
 -- behind an empty statement it is the same
 past_empty : (c : Context) (body pre : List Statement) (s : Statement) (at n : ℕ)
     (bs : List OpenBracket) (zones : List ℕ) → is_empty_statement s.code ≡ true
-    → IsPlace c body pre at n bs zones
-    → IsPlace c body (pre ++ s ∷ []) at n bs zones
+    → IsPlaceInCode c body pre at n bs zones
+    → IsPlaceInCode c body (pre ++ s ∷ []) at n bs zones
 past_empty c body pre s at n bs zones is h = record {
   is_at = h.is_at ∙ sym (ends_empty c body pre s is);
   is_n = h.is_n ∙ sym (count_empty pre s is);
   codes = h.codes
-      ∙ ap codes_of
+      ∙ ap codes_of_source_brackets
       (sym (behind_more [] pre (s ∷ []) ∙ empty_behind (brackets_behind_all [] pre) s is));
   count = h.count
       ∙ ap (λ (z : List ℕ). length z)
@@ -710,19 +709,19 @@ past_empty c body pre s at n bs zones is h = record {
 past_end : (c : Context) (body : List Statement) (ret : SourceInstruction) (pre : List Statement)
     (s : Statement) (post : List Statement) (at n : ℕ) (bs : List OpenBracket) (zones : List ℕ)
     → IsHere c body pre s post at n bs zones
-    → IsPlace c body (pre ++ s ∷ [])
-    (at + total (front_of c body ret n s) + size_of_op (end_of c body ret n s)) (suc n)
-    (brackets_after (at + total (front_of c body ret n s)) (end_of c body ret n s).code bs)
-    (zones_past (at + total (front_of c body ret n s)) (end_of c body ret n s).code zones)
+    → IsPlaceInCode c body (pre ++ s ∷ [])
+    (at + total (front_ops c body ret n s) + size_of_op (end_of c body ret n s)) (suc n)
+    (brackets_after (at + total (front_ops c body ret n s)) (end_of c body ret n s).code bs)
+    (zones_past (at + total (front_ops c body ret n s)) (end_of c body ret n s).code zones)
 past_end c body ret pre s post at n bs zones h = record {
   is_at = ends_here c body ret pre s post at n bs zones h;
   is_n = let number = count_more pre s h.full in let is_n = h.stands.is_n in
       omega (arith, number, is_n);
   codes = codes_opened from op.code bs ∙ ap (codes_behind op.code) h.stands.codes
-      ∙ behind_codes (brackets_behind_all [] pre) body s (last_op (instruction c body n s)) last
-      ∙ ap codes_of (sym (behind_more [] pre (s ∷ [])));
+      ∙ behind_codes (brackets_behind_all [] pre) body s (last_op_of_instr (instruction c body n s)) last
+      ∙ ap codes_of_source_brackets (sym (behind_more [] pre (s ∷ [])));
   count = count_is from op.code zones ∙ ap (count_behind op.code) h.stands.count
-      ∙ behind_count (zones_behind_all [] pre) body s (last_op (instruction c body n s)) last
+      ∙ behind_count (zones_behind_all [] pre) body s (last_op_of_instr (instruction c body n s)) last
       ∙ ap (λ (z : List ℕ). length z) (sym (zones_more [] pre (s ∷ [])));
 }
   where
@@ -730,29 +729,29 @@ past_end c body ret pre s post at n bs zones h = record {
     op = end_of c body ret n s
 
     from : ℕ
-    from = at + total (front_of c body ret n s)
+    from = at + total (front_ops c body ret n s)
 
-    last : IsLastOf body s (last_op (instruction c body n s))
+    last : IsLastOf body s (last_op_of_instr (instruction c body n s))
     last = last_of c body n s h.takes
 
 -- a statement, and those behind it
 next_lands : (c : Context) (body : List Statement) (ret : SourceInstruction) (pre : List Statement) (s : Statement)
     (post : List Statement) (at n : ℕ) (bs : List OpenBracket) (zones : List ℕ) → IsRightBody body
-    → body ≡ pre ++ s ∷ post → IsPlace c body pre at n bs zones → TakesRight s
+    → body ≡ pre ++ s ∷ post → IsPlaceInCode c body pre at n bs zones → TakesRight s
     → IsRightAt body pre s post
     → ((at n : ℕ) (bs : List OpenBracket) (zones : List ℕ)
-    → IsPlace c body (pre ++ s ∷ []) at n bs zones
+    → IsPlaceInCode c body (pre ++ s ∷ []) at n bs zones
     → AllLand c body ret at bs zones (code_from c body ret (place c body ret) n post))
     → (empty : Bool) → is_empty_statement s.code ≡ empty
     → AllLand c body ret at bs zones
     (the_code (place c body ret) ((if empty then stated_from c body n post
-    else stated c body n s ∷ stated_from c body (suc n) post) ++ ret ∷ []))
+    else statement_of_number c body n s ∷ stated_from c body (suc n) post) ++ ret ∷ []))
 next_lands c body ret pre s post at n bs zones all e h takes right more true is =
     more at n bs zones (past_empty c body pre s at n bs zones is h)
 next_lands c body ret pre s post at n bs zones all e h takes right more false is =
     placed_all (LandsRight (statement_spots (the_code f (whole c body ret)))) at bs zones [] front op
     (code_from c body ret f (suc n) post) (part_quiet f i)
-    (aimed_is f (parted i) (is_statement i)).front (aimed_is f (parted i) (is_statement i)).end
+    (aimed_is f (parts_of_instr i) (is_statement i)).front (aimed_is f (parts_of_instr i) (is_statement i)).end
     (quiet_lands (statement_spots (the_code f (whole c body ret))))
     (λ done. last_lands c body ret pre s post at n bs zones done all here)
     (more (from + size_of_op op) (suc n) (brackets_after from op.code bs) (zones_past from op.code zones)
@@ -765,7 +764,7 @@ next_lands c body ret pre s post at n bs zones all e h takes right more false is
     i = instruction c body n s
 
     front : List OpData
-    front = front_of c body ret n s
+    front = front_ops c body ret n s
 
     op : OpData
     op = end_of c body ret n s
@@ -782,19 +781,16 @@ next_lands c body ret pre s post at n bs zones all e h takes right more false is
       right = right;
     }
 
-abbrev returning_at : ℕ → SourceInstruction
-returning_at line = record { instr = Returns ends.Be; line = line }
-
 body_lands : (c : Context) (body : List Statement) (line : ℕ) (pre post : List Statement) (at n : ℕ)
     (bs : List OpenBracket) (zones : List ℕ) → IsRightBody body
-    → body ≡ pre ++ post → IsPlace c body pre at n bs zones
+    → body ≡ pre ++ post → IsPlaceInCode c body pre at n bs zones
     → AllByRecursion TakesRight post → AreRightFrom body pre post
-    → AllLand c body (returning_at line) at bs zones
-    (code_from c body (returning_at line) (place c body (returning_at line)) n post)
+    → AllLand c body (return_at line) at bs zones
+    (code_from c body (return_at line) (place c body (return_at line)) n post)
 body_lands c body line pre [] at n bs zones all e h takes right =
     (record { jump = refl; brackets = refl; zones = refl }, tt)
 body_lands c body line pre (s ∷ post) at n bs zones all e h takes right =
-    next_lands c body (returning_at line) pre s post at n bs zones all e h takes.0 right.0
+    next_lands c body (return_at line) pre s post at n bs zones all e h takes.0 right.0
     (λ at n bs zones h.
     body_lands c body line (pre ++ s ∷ []) post at n bs zones all
     (e ∙ sym (append_assoc pre (s ∷ []) post)) h takes.1 right.1)
@@ -812,39 +808,39 @@ all_ended (line ∷ lines) e = absurd cc
 
 -- the parts of a body's statements, and of the one that returns
 whole_parts : (c : Context) (body : List Statement) (line : ℕ) (f : ℕ → ℕ)
-    → aimed_parts f (parts (whole c body (returning_at line)))
+    → aimed_parts f (parts (whole c body (return_at line)))
     ≡ aimed_parts f (parts (stated_from c body 0 body))
-    ++ aimed_parts f (parts (returning_at line ∷ []))
+    ++ aimed_parts f (parts (return_at line ∷ []))
 whole_parts c body line f =
-    ap (aimed_parts f) (parts_append (stated_from c body 0 body) (returning_at line ∷ []))
-    ∙ aimed_append f (parts (stated_from c body 0 body)) (parts (returning_at line ∷ []))
+    ap (aimed_parts f) (parts_append (stated_from c body 0 body) (return_at line ∷ []))
+    ∙ aimed_append f (parts (stated_from c body 0 body)) (parts (return_at line ∷ []))
 
 all_closed : (c : Context) (body : List Statement) (line : ℕ) (f : ℕ → ℕ) → IsRightBody body
-    → open_behind 0 [] (the_code f (whole c body (returning_at line))) ≡ []
+    → open_behind 0 [] (the_code f (whole c body (return_at line))) ≡ []
 all_closed c body line f all =
-    none_left (open_behind 0 [] (the_code f (whole c body (returning_at line))))
-    (open_after 0 [] (aimed_parts f (parts (whole c body (returning_at line))))
-    (parts_quiet f (whole c body (returning_at line)))
-    ∙ ap (λ (z : List Parted). codes_after z []) (whole_parts c body line f)
+    none_left (open_behind 0 [] (the_code f (whole c body (return_at line))))
+    (open_after 0 [] (aimed_parts f (parts (whole c body (return_at line))))
+    (parts_quiet f (whole c body (return_at line)))
+    ∙ ap (λ (z : List InstrParts). codes_after z []) (whole_parts c body line f)
     ∙ codes_more (aimed_parts f (parts (stated_from c body 0 body)))
-    (aimed_parts f (parts (returning_at line ∷ []))) []
+    (aimed_parts f (parts (return_at line ∷ []))) []
     ∙ stated_codes f c body 0 [] body all.takes
-    ∙ ap codes_of (none_open (brackets_behind_all [] body) all.by_30))
+    ∙ ap codes_of_source_brackets (none_open (brackets_behind_all [] body) all.by_30))
 
 zones_closed : (c : Context) (body : List Statement) (line : ℕ) (f : ℕ → ℕ) → IsRightBody body
-    → zones_left 0 [] (the_code f (whole c body (returning_at line))) ≡ []
+    → zones_left 0 [] (the_code f (whole c body (return_at line))) ≡ []
 zones_closed c body line f all =
-    no_zones (zones_left 0 [] (the_code f (whole c body (returning_at line))))
-    (left_after 0 [] (aimed_parts f (parts (whole c body (returning_at line))))
-    (parts_quiet f (whole c body (returning_at line)))
-    ∙ ap (λ (z : List Parted). count_after z 0) (whole_parts c body line f)
+    no_zones (zones_left 0 [] (the_code f (whole c body (return_at line))))
+    (left_after 0 [] (aimed_parts f (parts (whole c body (return_at line))))
+    (parts_quiet f (whole c body (return_at line)))
+    ∙ ap (λ (z : List InstrParts). count_after z 0) (whole_parts c body line f)
     ∙ counts_more (aimed_parts f (parts (stated_from c body 0 body)))
-    (aimed_parts f (parts (returning_at line ∷ []))) 0
+    (aimed_parts f (parts (return_at line ∷ []))) 0
     ∙ stated_zones f c body 0 [] body all.takes
     ∙ ap (λ (z : List ℕ). length z) (all_ended (zones_behind_all [] body) all.by_48))
 
 whole_lands : (c : Context) (body : List Statement) (line : ℕ) → IsRightBody body
-    → AllLandRight (the_code (place c body (returning_at line)) (whole c body (returning_at line)))
+    → AllLandRight (the_code (place c body (return_at line)) (whole c body (return_at line)))
 whole_lands c body line all = record {
   each = body_lands c body line [] body 0 0 [] [] all refl
       (record { is_at = refl; is_n = refl; codes = refl; count = refl }) all.takes
@@ -857,8 +853,8 @@ whole_lands c body line all = record {
         by_47 = all.by_47;
         by_49 = all.by_49;
       }));
-  closed = all_closed c body line (place c body (returning_at line)) all;
-  ended = zones_closed c body line (place c body (returning_at line)) all;
+  closed = all_closed c body line (place c body (return_at line)) all;
+  ended = zones_closed c body line (place c body (return_at line)) all;
 }
 
 -- the code of a block
@@ -866,5 +862,5 @@ pub lands_right : (c : Context) (b : Block) → IsRightBody b.body
     → AllLandRight (code_in (statements_of c b))
 unfolding statements_of
 lands_right c b all =
-    subst AllLandRight (sym (the_code_is (whole c b.body (returning_at b.end_line))))
+    subst AllLandRight (sym (the_code_is (whole c b.body (return_at b.end_line))))
     (whole_lands c b.body b.end_line all)

@@ -7,22 +7,25 @@ use Rattle.flat_code.specs.Codes.{size_of_op}
 use Rattle.flat_code.specs.Ops.{OpData}
 use Rattle.flat_code.specs.Placed.{PlacedOp, StatementSpot, before_next, bracket_codes, codes_of_few_brackets, open_behind, brackets_after, is_opening, ops_placed, spot_at, spots_from, zones_behind_op, zones_left}
 use Rattle.flat_code.specs.declared.image_fields.OpenBracket.{OpenBracket}
+use Rattle.flat_code.specs.OpCodes.{op_code_of}
+use Rattle.flat_code.specs.declared.operations.Operation.TheVariants as operation
+use Rattle.flat_code.specs.declared.operations.RelayOperation.TheVariants as relay
 use Rattle.flat_code.proofs.BracketLemmas.{codes_behind, few_codes, codes_opened, few_is, count_behind, count_is}
 use Rattle.sem_kept.specs.Back.{is_target}
-use Rattle.sem_kept.proofs.compiled.Runs.{total, Parted, IsPreparing, IsStatement, AreStatements, flat, bytes_of, bytes_long, extent}
+use Rattle.sem_kept.proofs.compiled.Runs.{total, InstrParts, IsPreparing, IsPartedStatement, AreStatements, flat, bytes_of, bytes_long, extent}
 
 -- ---- ops that prepare
 
 -- an op that has nothing to do with brackets and zones and doesn't jump
 pub record IsQuiet (op : OpData) : Type 0 where
   pub opens : is_opening op.code ≡ false
-  pub closes : (op.code == 0x1E) ≡ false
-  pub opens_zone : (op.code == 0x07) ≡ false
-  pub ends_zone : (op.code == 0x08) ≡ false
+  pub closes : (op.code == op_code_of operation.Unnest) ≡ false
+  pub opens_zone : (op.code == op_code_of (operation.Relay relay.Open)) ≡ false
+  pub ends_zone : (op.code == op_code_of (operation.Relay relay.Close)) ≡ false
   pub stays : is_target op.operand ≡ false
 
 -- statements of which only the last op may have to do with brackets and zones, or jump
-abbrev pub AreQuiet : List Parted → Type 0
+abbrev pub AreQuiet : List InstrParts → Type 0
 AreQuiet ps = AllByRecursion (λ p. AllByRecursion IsQuiet p.front) ps
 
 quiet_opens : (at : ℕ) (op : OpData) (bs : List OpenBracket) → IsQuiet op
@@ -62,8 +65,8 @@ spots_inside at bs zones (x ∷ front) op rest quiet fs last =
     next begin bs zones = spots_from (at + size_of_op x) begin bs zones (front ++ op ∷ rest)
 
 -- a statement, and those behind it
-spots_next : (at : ℕ) (bs : List OpenBracket) (zones : List ℕ) (p : Parted) (rest : List OpData)
-    → AllByRecursion IsQuiet p.front → IsStatement p
+spots_next : (at : ℕ) (bs : List OpenBracket) (zones : List ℕ) (p : InstrParts) (rest : List OpData)
+    → AllByRecursion IsQuiet p.front → IsPartedStatement p
     → spots_from at true bs zones (p.front ++ p.end ∷ rest)
     ≡ record { at = at; codes = codes_of_few_brackets bs; zones = length zones }
     ∷ spots_from (at + bytes_of p) true (brackets_after (at + total p.front) p.end.code bs)
@@ -86,12 +89,12 @@ spots_next at bs zones p rest quiet h =
         (spots_inside at bs zones (x ∷ front) p.end rest q fs h.end)
 
 -- the codes of the brackets that are open behind statements
-abbrev pub codes_after : List Parted → List ℕ → List ℕ
+abbrev pub codes_after : List InstrParts → List ℕ → List ℕ
 codes_after [] codes = codes
 codes_after (p ∷ ps) codes = codes_after ps (codes_behind p.end.code codes)
 
 -- and how many zones are
-abbrev pub count_after : List Parted → ℕ → ℕ
+abbrev pub count_after : List InstrParts → ℕ → ℕ
 count_after [] count = count
 count_after (p ∷ ps) count = count_after ps (count_behind p.end.code count)
 
@@ -112,9 +115,9 @@ found_by a b codes others zones more e same count h = record {
 }
 
 -- the statement behind others is found by its offset
-pub spot_there : (at : ℕ) (bs : List OpenBracket) (zones : List ℕ) (ps : List Parted) (p : Parted)
-    (qs : List Parted)
-    → AreStatements ps → AreQuiet ps → AllByRecursion IsQuiet p.front → IsStatement p
+pub spot_there : (at : ℕ) (bs : List OpenBracket) (zones : List ℕ) (ps : List InstrParts) (p : InstrParts)
+    (qs : List InstrParts)
+    → AreStatements ps → AreQuiet ps → AllByRecursion IsQuiet p.front → IsPartedStatement p
     → IsFound (spot_at (spots_from at true bs zones (flat (ps ++ p ∷ qs))) (at + extent ps))
     (few_codes (codes_after ps (bracket_codes bs))) (count_after ps (length zones))
 spot_there at bs zones [] p qs hs quiets quiet h = record {
@@ -150,7 +153,7 @@ open_inside at bs (x ∷ front) rest quiet =
     ∙ open_inside (at + size_of_op x) bs front rest quiet.1
     ∙ ap (λ (k : ℕ). open_behind k bs rest) (omega arith)
 
-pub open_after : (at : ℕ) (bs : List OpenBracket) (ps : List Parted) → AreQuiet ps
+pub open_after : (at : ℕ) (bs : List OpenBracket) (ps : List InstrParts) → AreQuiet ps
     → bracket_codes (open_behind at bs (flat ps)) ≡ codes_after ps (bracket_codes bs)
 open_after at bs [] quiets = refl
 open_after at bs (p ∷ ps) quiets =
@@ -166,7 +169,7 @@ left_inside at zones (x ∷ front) rest quiet =
     ∙ left_inside (at + size_of_op x) zones front rest quiet.1
     ∙ ap (λ (k : ℕ). zones_left k zones rest) (omega arith)
 
-pub left_after : (at : ℕ) (zones : List ℕ) (ps : List Parted) → AreQuiet ps
+pub left_after : (at : ℕ) (zones : List ℕ) (ps : List InstrParts) → AreQuiet ps
     → length (zones_left at zones (flat ps)) ≡ count_after ps (length zones)
 left_after at zones [] quiets = refl
 left_after at zones (p ∷ ps) quiets =

@@ -14,11 +14,11 @@ use Rattle.stl_types.specs.Operands.{operand_rule, rule_of_resolved_operand, rul
 use Rattle.stl_types.specs.Resolution.{resolution_of_address, resolution_of_opened_block, resolution_of_path, resolution_of}
 use Rattle.stl_types.specs.Unknown.{is_unknown}
 use Rattle.stl_types.specs.declared.forms.OperandRule.{OperandRule}
-use Rattle.stl_types.specs.declared.forms.OperandRule.TheVariants as form
+use Rattle.stl_types.specs.declared.forms.OperandRule.TheVariants as operand_rules
 use Rattle.stl_types.specs.declared.views.Resolution.{Resolution}
 use Rattle.stl_types.specs.declared.views.Resolution.TheVariants.{Resolved, Unknown, Unjudged}
 use Rattle.stl_types.specs.declared.views.ResolvedOperand.{ResolvedOperand}
-use Rattle.stl_types.specs.declared.views.ResolvedOperand.TheVariants as view
+use Rattle.stl_types.specs.declared.views.ResolvedOperand.TheVariants as resolved
 use Rattle.stl_codegen.specs.Operations.{jump_operation_of}
 use Rattle.sem_kept.proofs.ReachedLemmas.{AnyNumber, IsReached, direct_reached, path_reached}
 use Rattle.sem_kept.proofs.accepted.Accepted.{IsSoundStatement}
@@ -34,13 +34,13 @@ Settles _ = Unit {0}
 
 -- only nothing and a label come to these
 abbrev is_bare : Resolution → Bool
-is_bare (Resolved view.Nothing) = true
-is_bare (Resolved view.Label) = true
+is_bare (Resolved resolved.Nothing) = true
+is_bare (Resolved resolved.Label) = true
 is_bare _ = false
 
 not_bare : (x : Resolution) → IsReached AnyNumber x → is_bare x ≡ false
-not_bare (Resolved view.Nothing) h = absurd h
-not_bare (Resolved view.Label) h = absurd h
+not_bare (Resolved resolved.Nothing) h = absurd h
+not_bare (Resolved resolved.Label) h = absurd h
 not_bare (Resolved _) h = refl
 not_bare _ h = refl
 
@@ -50,14 +50,14 @@ of_opened di (Some number) = refl
 
 -- ---- what a form takes
 
-jump_view : (v : ResolvedOperand) → rule_of_resolved_operand form.Jumps v ≡ None → is_bare (Resolved v) ≡ true
+jump_view : (v : ResolvedOperand) → rule_of_resolved_operand operand_rules.Jumps v ≡ None → is_bare (Resolved v) ≡ true
 unfolding rule_of_resolved_operand takes_operand
-jump_view view.Label e = refl
+jump_view resolved.Label e = refl
 jump_view _ e = absurd cc
 
-bare_view : (v : ResolvedOperand) → rule_of_resolved_operand form.Bare v ≡ None → is_bare (Resolved v) ≡ true
+bare_view : (v : ResolvedOperand) → rule_of_resolved_operand operand_rules.Bare v ≡ None → is_bare (Resolved v) ≡ true
 unfolding rule_of_resolved_operand takes_operand
-bare_view view.Nothing e = refl
+bare_view resolved.Nothing e = refl
 bare_view _ e = absurd cc
 
 -- what comes to another operand breaks a rule
@@ -69,36 +69,36 @@ none_other f takes Unjudged other h known e = h
 
 label_of_jump : (c : Context) (o : Operand) → names_called_block o ≡ false
     → (names_called_block o ≡ false → Settles (resolution_of c o)) → is_unknown (resolution_of c o) ≡ false
-    → operand_rule c form.Jumps o ≡ None → (name : List ℕ) × (o ≡ operand.Label name)
+    → operand_rule c operand_rules.Jumps o ≡ None → (name : List ℕ) × (o ≡ operand.Label name)
 unfolding resolution_of rule_of_resolved_operand takes_operand takes_constant
 label_of_jump c (operand.Label name) none h known e = (name, refl)
 label_of_jump c operand.Nothing none h known e = absurd cc
 label_of_jump c (operand.Constant value) none h known e = absurd cc
 label_of_jump c (operand.Direct name a width byte bit) none h known e =
-    absurd (none_other form.Jumps jump_view (resolution_of_address c name a width byte bit)
+    absurd (none_other operand_rules.Jumps jump_view (resolution_of_address c name a width byte bit)
     (not_bare _ (direct_reached c name a width byte bit)) (h none) known e)
 label_of_jump c (operand.Named path steps) none h known e =
-    absurd (none_other form.Jumps jump_view (resolution_of_path c path steps) (not_bare _ (path_reached c path steps)) (h none) known e)
+    absurd (none_other operand_rules.Jumps jump_view (resolution_of_path c path steps) (not_bare _ (path_reached c path steps)) (h none) known e)
 label_of_jump c (operand.OpenBlock di name) none h known e =
-    absurd (none_other form.Jumps jump_view (resolution_of_opened_block di (data_number c name))
+    absurd (none_other operand_rules.Jumps jump_view (resolution_of_opened_block di (data_number c name))
     (of_opened di (data_number c name)) (h none) known e)
 label_of_jump c (operand.Called name instance) none h known e = absurd cc
 label_of_jump c _ none h known e = absurd cc
 
 nothing_of_bare : (c : Context) (o : Operand) → names_called_block o ≡ false
     → (names_called_block o ≡ false → Settles (resolution_of c o)) → is_unknown (resolution_of c o) ≡ false
-    → operand_rule c form.Bare o ≡ None → o ≡ operand.Nothing
+    → operand_rule c operand_rules.Bare o ≡ None → o ≡ operand.Nothing
 unfolding resolution_of rule_of_resolved_operand takes_operand takes_constant
 nothing_of_bare c operand.Nothing none h known e = refl
 nothing_of_bare c (operand.Label name) none h known e = absurd cc
 nothing_of_bare c (operand.Constant value) none h known e = absurd cc
 nothing_of_bare c (operand.Direct name a width byte bit) none h known e =
-    absurd (none_other form.Bare bare_view (resolution_of_address c name a width byte bit)
+    absurd (none_other operand_rules.Bare bare_view (resolution_of_address c name a width byte bit)
     (not_bare _ (direct_reached c name a width byte bit)) (h none) known e)
 nothing_of_bare c (operand.Named path steps) none h known e =
-    absurd (none_other form.Bare bare_view (resolution_of_path c path steps) (not_bare _ (path_reached c path steps)) (h none) known e)
+    absurd (none_other operand_rules.Bare bare_view (resolution_of_path c path steps) (not_bare _ (path_reached c path steps)) (h none) known e)
 nothing_of_bare c (operand.OpenBlock di name) none h known e =
-    absurd (none_other form.Bare bare_view (resolution_of_opened_block di (data_number c name))
+    absurd (none_other operand_rules.Bare bare_view (resolution_of_opened_block di (data_number c name))
     (of_opened di (data_number c name)) (h none) known e)
 nothing_of_bare c (operand.Called name instance) none h known e = absurd cc
 nothing_of_bare c _ none h known e = absurd cc

@@ -19,7 +19,8 @@ use Rattle.flat_code.specs.declared.operands.Operand.{Operand as FlatOperand}
 use Rattle.flat_code.specs.declared.operands.Operand.TheVariants as flat
 use Rattle.sem_kept.specs.Jumps.{AllLandRight, NoOperandFaultIsNoFault, JumpsLandRight, LandsRight, jump_fault_of}
 use Rattle.sem_kept.specs.Operands.{HaveNoOperandFaults, HasNoOperandFault}
-use Rattle.sem_kept.proofs.accepted.Accepted.{IsSound, IsSoundStatement, context_at, right_tree, sound_code_blocks}
+use Rattle.sem_kept.specs.Settled.{context_at}
+use Rattle.sem_kept.proofs.accepted.Accepted.{IsSoundBlock, IsSoundStatement, right_tree, sound_code_blocks}
 use Rattle.sem_kept.proofs.accepted.Jumps.{IsRightBody, lands_right}
 use Rattle.sem_kept.proofs.accepted.JumpsOperands.{Settles, takes_right}
 use Rattle.sem_kept.proofs.accepted.JumpsSettled.{Settle, operands_settle}
@@ -33,7 +34,7 @@ all_take y c [] h k = tt
 all_take y c (s ∷ ss) h k = (takes_right y c s h.0 k.0, all_take y c ss h.1 k.1)
 
 right_block : (symbols : List Symbol) (t : Tree) (k : ℕ) (b : Block) (l : BlockLayout)
-    → IsSound symbols t k b l → AllByRecursion (Settle symbols t k) b.body → IsRightBody b.body
+    → IsSoundBlock symbols t k b l → AllByRecursion (Settle symbols t k) b.body → IsRightBody b.body
 right_block symbols t k b l h settle = record {
   takes = all_take (types_of_source symbols t.blocks) (context_at symbols t k) b.body h.statements settle;
   by_26 = h.body.by_26;

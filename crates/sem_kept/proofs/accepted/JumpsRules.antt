@@ -228,7 +228,7 @@ few_open body pre post e by =
 -- ---- the statement of a label
 
 -- the first statement that has a label, with those before it
-pub record IsTarget (body : List Statement) (n : SourceNesting) (name : List ℕ) : Type 0 where
+pub record IsLabelOfJump (body : List Statement) (n : SourceNesting) (name : List ℕ) : Type 0 where
   pub before : List Statement
   pub rest : List Statement
   pub whole : body ≡ before ++ rest
@@ -264,7 +264,7 @@ no_further (Some n) e = absurd cc
 
 -- one more statement before
 later : (s : Statement) (ss : List Statement) (n : SourceNesting) (name : List ℕ)
-    → IsTarget ss (nesting_behind n s) name → IsTargetBy s ss n name None
+    → IsLabelOfJump ss (nesting_behind n s) name → IsTargetBy s ss n name None
 later s ss n name r = record {
   before = s ∷ r.before;
   rest = r.rest;
@@ -285,7 +285,7 @@ record IsTargetIf (s : Statement) (ss : List Statement) (n : SourceNesting) (nam
       ≡ Some (landing_of (nesting_after n before))
 
 by_label : (s : Statement) (ss : List Statement) (n : SourceNesting) (name l : List ℕ) (k : ℕ)
-    → ((j : ℕ) → name_place name (labels_of ss) ≡ Some j → IsTarget ss (nesting_behind n s) name)
+    → ((j : ℕ) → name_place name (labels_of ss) ≡ Some j → IsLabelOfJump ss (nesting_behind n s) name)
     → name_place name (l ∷ labels_of ss) ≡ Some k → IsTargetBy s ss n name (Some l)
 by_label s ss n name l k more e =
     let r = by (bytes_eq name l) e in
@@ -316,7 +316,7 @@ by_label s ss n name l k more e =
         }
 
 target_from : (body : List Statement) (n : SourceNesting) (name : List ℕ) (k : ℕ)
-    → name_place name (labels_of body) ≡ Some k → IsTarget body n name
+    → name_place name (labels_of body) ≡ Some k → IsLabelOfJump body n name
 unfolding target_in
 target_from [] n name k e = absurd cc
 target_from (s ∷ ss) n name k e =
@@ -329,7 +329,7 @@ target_from (s ∷ ss) n name k e =
       landing = r.landing;
     }
   where
-    by : ((j : ℕ) → name_place name (labels_of ss) ≡ Some j → IsTarget ss (nesting_behind n s) name)
+    by : ((j : ℕ) → name_place name (labels_of ss) ≡ Some j → IsLabelOfJump ss (nesting_behind n s) name)
         → (label : Option (List ℕ)) → name_place name (label_of label ++ labels_of ss) ≡ Some k
         → IsTargetBy s ss n name label
     by more None h = later s ss n name (more k h)
@@ -337,11 +337,11 @@ target_from (s ∷ ss) n name k e =
 
 -- a label that is known
 pub target_is : (body : List Statement) (name : List ℕ)
-    → is_unknown_label (labels_of body) (operand.Label name) ≡ false → IsTarget body empty_nesting name
+    → is_unknown_label (labels_of body) (operand.Label name) ≡ false → IsLabelOfJump body empty_nesting name
 target_is body name e = by (name_place name (labels_of body)) refl e
   where
     by : (place : Option ℕ) → name_place name (labels_of body) ≡ place → is_none place ≡ false
-        → IsTarget body empty_nesting name
+        → IsLabelOfJump body empty_nesting name
     by None is h = absurd cc
     by (Some k) is h = target_from body empty_nesting name k is
 
@@ -432,7 +432,7 @@ alike here there e =
     by false a false is h = absurd cc
 
 -- behind these statements and behind those the same brackets are open, and as many zones
-pub record AreAlike (pre before : List Statement) : Type 0 where
+pub record AreNestedAlike (pre before : List Statement) : Type 0 where
   pub functions : functions (brackets_behind_all [] pre) ≡ functions (brackets_behind_all [] before)
   pub zones : length (zones_behind_all [] pre) ≡ length (zones_behind_all [] before)
 
@@ -442,7 +442,7 @@ pub same_landings : (body pre before : List Statement) (s : Statement) (post : L
     → length (brackets_behind_all [] pre) ≤ 7 → length (brackets_behind_all [] before) ≤ 7
     → landing_at (labels_of body) (landings_at_labels empty_nesting body) name
     ≡ Some (landing_of (nesting_after empty_nesting before))
-    → AreAlike pre before
+    → AreNestedAlike pre before
 same_landings body pre before s post name h label few few' there = record {
   functions = equal_lists (functions here) (functions there_open) (omega (arith, few, count))
       (ap (λ (z : List ℕ). are_unequal z (functions there_open)) (sym (functions_few here few))

@@ -16,22 +16,23 @@ use Rattle.stl_types.specs.Resolution.{resolution_of}
 use Rattle.stl_types.specs.declared.views.Resolution.{Resolution}
 use Rattle.stl_codegen.specs.Generated.{params_of}
 use Rattle.sem_kept.specs.Accepted.{IsAccepted}
-use Rattle.sem_kept.proofs.accepted.Accepted.{IsSound, IsSoundStatement, IsSoundTree, context_at, right_tree}
+use Rattle.sem_kept.specs.Settled.{context_at}
+use Rattle.sem_kept.proofs.accepted.Accepted.{IsSoundBlock, IsSoundStatement, IsSoundTree, right_tree}
 use Rattle.sem_kept.proofs.accepted.JumpsOperands.{Settles}
 use Rattle.sem_kept.proofs.accepted.OperandsCells.{layout_of_block}
-use Rattle.sem_kept.proofs.accepted.OperandsSymbols.{SymbolFits, symbols_fit}
-use Rattle.sem_kept.proofs.accepted.OperandsViews.{EndsBy, IsSeen, ends_by, holds_locals, layout_local, operand_seen}
+use Rattle.sem_kept.proofs.accepted.OperandsSymbols.{IsRightSymbol, symbols_fit}
+use Rattle.sem_kept.proofs.accepted.OperandsViews.{EndsBy, ResolvesRight, ends_by, holds_locals, layout_local, operand_seen}
 
 -- the operand of a statement of the block at a place
 abbrev pub Settle : List Symbol → Tree → ℕ → Statement → Type 0
 Settle symbols t k s = names_called_block s.operand ≡ false → Settles (resolution_of (context_at symbols t k) s.operand)
 
-seen_settles : (a : Environment) (x : Resolution) → IsSeen a x → Settles x
+seen_settles : (a : Environment) (x : Resolution) → ResolvesRight a x → Settles x
 seen_settles a x h = subst Settles (sym h.is) tt
 
 -- no other block has a part in it
-abbrev environment_of : Block → BlockLayout → Environment
-environment_of b l = record {
+abbrev environment_of_alone : Block → BlockLayout → Environment
+environment_of_alone b l = record {
   kind = kind_number b.kind;
   local_len = l.local_len;
   params = map record_of_param (params_of b l);
@@ -40,15 +41,15 @@ environment_of b l = record {
 }
 
 all_settle : (symbols : List Symbol) (t : Tree) → IsSoundTree symbols t
-    → AllByRecursion SymbolFits symbols → (k : ℕ) (b : Block) (l : BlockLayout)
-    → IsSound symbols t k b l → is_code b.kind ≡ true → (ss : List Statement)
+    → AllByRecursion IsRightSymbol symbols → (k : ℕ) (b : Block) (l : BlockLayout)
+    → IsSoundBlock symbols t k b l → is_code b.kind ≡ true → (ss : List Statement)
     → AllByRecursion (IsSoundStatement (types_of_source symbols t.blocks) (context_at symbols t k)) ss
     → AllByRecursion (EndsBy l.local_len) ss → AllByRecursion (Settle symbols t k) ss
 all_settle symbols t tree fit k b l block is [] h ends = tt
 all_settle symbols t tree fit k b l block is (s ∷ ss) h ends = (
   λ other.
-      seen_settles (environment_of b l) (resolution_of (context_at symbols t k) s.operand)
-      (operand_seen symbols t tree fit k b l block is (environment_of b l)
+      seen_settles (environment_of_alone b l) (resolution_of (context_at symbols t k) s.operand)
+      (operand_seen symbols t tree fit k b l block is (environment_of_alone b l)
       (record { kind = refl; local = refl; params = refl }) s.operand (record {
         well_formed = h.0.well_formed.value;
         known = h.0.known;
@@ -59,8 +60,8 @@ all_settle symbols t tree fit k b l block is (s ∷ ss) h ends = (
 )
 
 block_settles : (symbols : List Symbol) (t : Tree) → IsSoundTree symbols t
-    → AllByRecursion SymbolFits symbols → (k : ℕ) (b : Block) (l : BlockLayout)
-    → IsSound symbols t k b l → AllByRecursion (Settle symbols t k) b.body
+    → AllByRecursion IsRightSymbol symbols → (k : ℕ) (b : Block) (l : BlockLayout)
+    → IsSoundBlock symbols t k b l → AllByRecursion (Settle symbols t k) b.body
 block_settles symbols t tree fit k b l block = by (is_code b.kind) refl
   where
     by : (code : Bool) → is_code b.kind ≡ code → AllByRecursion (Settle symbols t k) b.body

@@ -65,12 +65,12 @@ use Rattle.stl_types.specs.Operands.{operand_rule, rule_of_resolved_operand, rul
 use Rattle.stl_types.specs.Parameters.{Callee, callee_at, callee_by, callee_of, formals_of, is_sound_formal, source_callee, system_callee, system_formals}
 use Rattle.stl_types.specs.Resolution.{resolution_of_call, id_at, instance_number as instance_of_name, resolution_of, whole_called_block}
 use Rattle.stl_types.specs.declared.forms.OperandRule.{OperandRule}
-use Rattle.stl_types.specs.declared.forms.OperandRule.TheVariants as form
+use Rattle.stl_types.specs.declared.forms.OperandRule.TheVariants as operand_rules
 use Rattle.stl_types.specs.declared.parameters.Formal.{Formal}
 use Rattle.stl_types.specs.declared.views.Resolution.{Resolution}
 use Rattle.stl_types.specs.declared.views.Resolution.TheVariants.{Resolved}
 use Rattle.stl_types.specs.declared.views.ResolvedOperand.{ResolvedOperand}
-use Rattle.stl_types.specs.declared.views.ResolvedOperand.TheVariants as view
+use Rattle.stl_types.specs.declared.views.ResolvedOperand.TheVariants as resolved
 use Rattle.stl_codegen.specs.Compiled.{compiled_block}
 use Rattle.stl_codegen.specs.Emitted.{instance_number_or_zero, pass_ops, preparing_op}
 use Rattle.stl_codegen.specs.Generated.{code_blocks_of, data_blocks_of, instance_len, params_of}
@@ -79,8 +79,8 @@ use Rattle.stl_codegen.specs.Passed.{passed_actual, passed_place, passed_resolut
 use Rattle.stl_codegen.specs.Operations.{call_operation_of}
 use Rattle.sem_kept.specs.Coded.{OperandHasBytes, StatementHasBytes}
 use Rattle.sem_kept.specs.Operands.{ArePassed, InstrFits, PassesAlone}
-use Rattle.sem_kept.specs.Settled.{NamesWhatIsPassed}
-use Rattle.sem_kept.proofs.accepted.Accepted.{IsSound, IsSoundActual, IsSoundCall, IsSoundStatement, IsSoundTree, context_at}
+use Rattle.sem_kept.specs.Settled.{NamesWhatIsPassed, context_at}
+use Rattle.sem_kept.proofs.accepted.Accepted.{IsSoundBlock, IsSoundActual, IsSoundCall, IsSoundStatement, IsSoundTree}
 use Rattle.sem_kept.proofs.accepted.OperandsCells.{are_right, cells_are, layout_of_block}
 use Rattle.block_layout.proofs.SoundnessLemmas.{block_unbroken}
 use Rattle.block_layout.proofs.BlockLemmas.{known_there}
@@ -89,8 +89,8 @@ use Rattle.sem_kept.proofs.accepted.OperandsFormals.{Distinct, IsFoundIn, IsSyst
 use Rattle.sem_kept.proofs.accepted.OperandsInstr.{CallFits}
 use Rattle.sem_kept.proofs.accepted.OperandsMembers.{called_block, instance_found}
 use Rattle.sem_kept.proofs.accepted.OperandsPassed.{IsGoodActual, Passes, passed_from, supplied_passes}
-use Rattle.sem_kept.proofs.accepted.OperandsSymbols.{SymbolFits}
-use Rattle.sem_kept.proofs.accepted.OperandsViews.{EndsBy, IsChecked, IsData, IsThere, Surrounds, block_own, data_block_kind, data_length, data_there, function_block_kind, id_there, id_there_is, ids_same, instance_length, layout_components, layout_id, layout_length, layout_shape, not_none, operand_seen, whole_is}
+use Rattle.sem_kept.proofs.accepted.OperandsSymbols.{IsRightSymbol}
+use Rattle.sem_kept.proofs.accepted.OperandsViews.{EndsBy, IsChecked, IsKnownDataBlock, IsThere, Surrounds, block_own, data_block_kind, data_length, data_there, function_block_kind, id_there, id_there_is, ids_same, instance_length, layout_components, layout_id, layout_length, layout_shape, not_none, operand_seen, whole_is}
 use Rattle.sem_kept.proofs.accepted.Shared.{call_form, callable_by, calls_called}
 use Rattle.block_layout.proofs.CommonLemmas.{or_first, or_second}
 
@@ -145,8 +145,8 @@ module _ (a : Environment) (c : Context) (formals : List Formal) (actuals : List
 
 -- ---- what is supplied
 
-swapped : (xs ys : List ℕ) → bytes_eq xs ys ≡ true → bytes_eq ys xs ≡ true
-swapped xs ys e = ap (λ (zs : List ℕ). bytes_eq zs xs) (sym (same_bytes xs ys e)) ∙ bytes_itself xs
+bytes_eq_back : (xs ys : List ℕ) → bytes_eq xs ys ≡ true → bytes_eq ys xs ≡ true
+bytes_eq_back xs ys e = ap (λ (zs : List ℕ). bytes_eq zs xs) (sym (same_bytes xs ys e)) ∙ bytes_itself xs
 
 supplied_there : (actuals : List Actual) (f : Formal)
     → is_some (name_place f.name (map (λ (x : Actual). upper_case_name x.name) actuals)) ≡ true
@@ -165,7 +165,7 @@ supplied_there (z ∷ zs) f e =
         → (x : Actual) × ((if s then Some z else find (λ x. bytes_eq (upper_case_name x.name) f.name) zs) ≡ Some x)
     by true t g h e more = (z, refl)
     by false true g h e more =
-        let other : bytes_eq (upper_case_name z.name) f.name ≡ true = swapped f.name (upper_case_name z.name) h in
+        let other : bytes_eq (upper_case_name z.name) f.name ≡ true = bytes_eq_back f.name (upper_case_name z.name) h in
         absurd cc
     by false false g h e more =
         more (some_suc (name_place f.name (map (λ (x : Actual). upper_case_name x.name) zs)) e)
@@ -185,24 +185,24 @@ none_passed c i (f ∷ fs) = none_passed c (suc i) fs
 
 -- ---- what a call names
 
-abbrev IsInstanceOf : Context → Option BlockName → Option ℕ → Type 0
-IsInstanceOf c None None = Unit {0}
-IsInstanceOf c (Some name) (Some n) = data_number c name ≡ Some n
-IsInstanceOf c None (Some n) = ⊥
-IsInstanceOf c (Some name) None = ⊥
+abbrev IsNumberOfInstance : Context → Option BlockName → Option ℕ → Type 0
+IsNumberOfInstance c None None = Unit {0}
+IsNumberOfInstance c (Some name) (Some n) = data_number c name ≡ Some n
+IsNumberOfInstance c None (Some n) = ⊥
+IsNumberOfInstance c (Some name) None = ⊥
 
 record IsCall (c : Context) (name : BlockName) (inst : Option BlockName) (id : BlockId)
     (instance : Option ℕ) : Type 0 where
   named : named_block c.symbols name ≡ Some id
   whole : is_system_function id.kind ≡ false → (p : ℕ) × (whole_place c id ≡ Some p)
-  with_instance : IsInstanceOf c inst instance
-  seen : resolution_of c (operand.Called name inst) ≡ Resolved (view.Called id instance)
+  with_instance : IsNumberOfInstance c inst instance
+  resolves : resolution_of c (operand.Called name inst) ≡ Resolved (resolved.Called id instance)
 
 -- ---- what is called
 
--- the signatures of the blocks of a program
-abbrev signatures : List Symbol → Tree → List BlockSignature
-signatures symbols t =
+-- the signatures_of_source of the blocks of a program
+abbrev signatures_of_source : List Symbol → Tree → List BlockSignature
+signatures_of_source symbols t =
     map signature_of (map record_of_block (map compiled_block (code_blocks_of t symbols (layouts_of t symbols))))
 
 -- the formal parameters of what is called, in the order of its code
@@ -283,16 +283,16 @@ no_system k h = ⊎_elim (λ e. ap is_system_function e) (λ e. ap is_system_fun
 source_code : (k : BlockKind) → (k ≡ kinds.Fc) ⊎ (k ≡ kinds.Fb) → is_code k ≡ true
 source_code k h = ⊎_elim (λ e. ap is_code e) (λ e. ap is_code e) h
 
-not_five : (k : BlockKind) → (k ≡ kinds.Fc) ⊎ (k ≡ kinds.Fb) → (kind_number k == 5) ≡ false
-not_five k h =
-    ⊎_elim (λ e. ap (λ (j : BlockKind). kind_number j == 5) e) (λ e. ap (λ (j : BlockKind). kind_number j == 5) e) h
+no_sfc_number : (k : BlockKind) → (k ≡ kinds.Fc) ⊎ (k ≡ kinds.Fb) → (kind_number k == kind_number kinds.Sfc) ≡ false
+no_sfc_number k h =
+    ⊎_elim (λ e. ap (λ (j : BlockKind). kind_number j == kind_number kinds.Sfc) e) (λ e. ap (λ (j : BlockKind). kind_number j == kind_number kinds.Sfc) e) h
 
 source_flat : (blocks : List BlockSignature) (k : BlockKind) (number : ℕ) → (k ≡ kinds.Fc) ⊎ (k ≡ kinds.Fb)
     → flat_callee blocks (kind_number k) number ≡ block_with (kind_number k) number blocks
 unfolding flat_callee
 source_flat blocks k number h =
     ap (λ (t' : Bool). if t' then option_map callee_of_system (system_params number) else block_with (kind_number k) number blocks)
-    (not_five k h)
+    (no_sfc_number k h)
 
 sound_all : (cells : List Cell)
     → ((place : ℕ) (c : Cell) → slice_get cells place ≡ Some c → c.sound ≡ true)
@@ -336,7 +336,7 @@ source_called : (symbols : List Symbol) (t : Tree) → IsSoundTree symbols t →
     (name : BlockName) (inst : Option BlockName) (id : BlockId) (p : ℕ)
     → named_block symbols name ≡ Some id → (id.kind ≡ kinds.Fc) ⊎ (id.kind ≡ kinds.Fb)
     → whole_place (context_at symbols t k) id ≡ Some p
-    → IsCallee symbols t k (signatures symbols t) (operand.Called name inst) id
+    → IsCallee symbols t k (signatures_of_source symbols t) (operand.Called name inst) id
 source_called symbols t tree k name inst id p named kind whole = record {
   of_source = record { id = id; place = Some p; formals = formals };
   is = callee_source symbols t k name inst id p named kind whole
@@ -344,7 +344,7 @@ source_called symbols t tree k name inst id p named kind whole = record {
   same = refl;
   il = instance_len there.block there.layout;
   params = map record_of_param (params_of there.block there.layout);
-  flat = source_flat (signatures symbols t) id.kind id.number kind
+  flat = source_flat (signatures_of_source symbols t) id.kind id.number kind
       ∙ called_block symbols t tree p there.block there.layout id there.sound is_there (source_code id.kind kind);
   matched = subst (λ (o : Option Block). Matched (in_parameter_order o formals) (map record_of_param (params_of there.block there.layout)))
       (sym there.sound.block_there)
@@ -413,9 +413,9 @@ callee_there : (symbols : List Symbol) (t : Tree) → IsSoundTree symbols t → 
     (name : BlockName) (inst : Option BlockName) (id : BlockId) (instance : Option ℕ)
     → IsCall (context_at symbols t k) name inst id instance → is_callable id.kind ≡ true
     → is_unknown_function (named_block symbols name) ≡ false
-    → IsCallee symbols t k (signatures symbols t) (operand.Called name inst) id
+    → IsCallee symbols t k (signatures_of_source symbols t) (operand.Called name inst) id
 callee_there symbols t tree k name inst id instance call callable known =
-    ⊎_elim (λ is. system_called symbols t k (signatures symbols t) name inst id call.named is known)
+    ⊎_elim (λ is. system_called symbols t k (signatures_of_source symbols t) name inst id call.named is known)
     (λ kind. source_called symbols t tree k name inst id (call.whole (no_system id.kind kind)).0 call.named kind
     (call.whole (no_system id.kind kind)).1) (call_kind id.kind callable)
 
@@ -463,27 +463,27 @@ lacking false fb all e f g = absurd cc
 
 -- how a call's instance is checked
 no_instance_right : (lens : List (ℕ × ℕ)) (kind il : ℕ) (params : List ParameterRecord)
-    → (kind == 3) ≡ false → is_bad_instance lens (kind, il, params) 0 ≡ false
+    → (kind == kind_number kinds.Fb) ≡ false → is_bad_instance lens (kind, il, params) 0 ≡ false
 no_instance_right lens kind il params e =
     ap (λ (t' : Bool). if t' then (if true then not (is_nothing_in params) else is_short_instance il (length_of_data 0 lens)) else not true) e
 
 bare_right : (lens : List (ℕ × ℕ)) (il : ℕ) (params : List ParameterRecord) → params ≡ []
-    → is_bad_instance lens (3, il, params) 0 ≡ false
+    → is_bad_instance lens (kind_number kinds.Fb, il, params) 0 ≡ false
 bare_right lens il params e = ap (λ (ps : List ParameterRecord). not (is_nothing_in ps)) e
 
 given_right : (lens : List (ℕ × ℕ)) (il n len : ℕ) (params : List ParameterRecord)
     → (n == 0) ≡ false → length_of_data n lens ≡ Some len → nat_lt len il ≡ false
-    → is_bad_instance lens (3, il, params) n ≡ false
+    → is_bad_instance lens (kind_number kinds.Fb, il, params) n ≡ false
 given_right lens il n len params e f g =
     ap (λ (t' : Bool). if t' then not (is_nothing_in params) else is_short_instance il (length_of_data n lens)) e
     ∙ ap (λ (o : Option ℕ). is_short_instance il o) f ∙ g
 
 -- a call of another block than a function block passes all, and has no instance
 call_right : (lens : List (ℕ × ℕ)) (kind il : ℕ) (params : List ParameterRecord) (ops : List OpData)
-    → (kind == 3) ≡ false → are_all_passed 0 params ops ≡ true
+    → (kind == kind_number kinds.Fb) ≡ false → are_all_passed 0 params ops ≡ true
     → is_bad_call lens (Some (kind, il, params)) 0 ops ≡ false
 call_right lens kind il params ops e f =
-    ap (λ (t' : Bool). (not (kind == 3) && not t') || is_bad_instance lens (kind, il, params) 0) f
+    ap (λ (t' : Bool). (not (kind == kind_number kinds.Fb) && not t') || is_bad_instance lens (kind, il, params) 0) f
     ∙ ap (λ (t' : Bool). (not t' && false) || is_bad_instance lens (kind, il, params) 0) e
     ∙ no_instance_right lens kind il params e
 
@@ -536,11 +536,11 @@ operand_called (operand.Called name inst) e = (name, inst, refl)
 operand_called _ e = absurd cc
 
 -- an instance by its name
-instance_none : (c : Context) (inst : Option BlockName) → IsInstanceOf c inst None → inst ≡ None
+instance_none : (c : Context) (inst : Option BlockName) → IsNumberOfInstance c inst None → inst ≡ None
 instance_none c None h = refl
 instance_none c (Some name) h = absurd h
 
-instance_some : (c : Context) (inst : Option BlockName) (n : ℕ) → IsInstanceOf c inst (Some n)
+instance_some : (c : Context) (inst : Option BlockName) (n : ℕ) → IsNumberOfInstance c inst (Some n)
     → (name : BlockName) × (inst ≡ Some name) × (data_number c name ≡ Some n)
 instance_some c None n h = absurd h
 instance_some c (Some name) n h = (name, refl, h)
@@ -555,15 +555,15 @@ second_false : (a b : Bool) → (a && b) ≡ false → a ≡ true → b ≡ fals
 second_false true b e f = e
 second_false false b e f = absurd cc
 
-other_than_three : (k : BlockKind) → is_callable k ≡ true → is_function_block k ≡ false
-    → (kind_number k == 3) ≡ false
-other_than_three kinds.Fc e f = refl
-other_than_three kinds.Sfc e f = refl
-other_than_three _ e f = absurd cc
+no_fb_number : (k : BlockKind) → is_callable k ≡ true → is_function_block k ≡ false
+    → (kind_number k == kind_number kinds.Fb) ≡ false
+no_fb_number kinds.Fc e f = refl
+no_fb_number kinds.Sfc e f = refl
+no_fb_number _ e f = absurd cc
 
-block_three : (k : BlockKind) → is_function_block k ≡ true → kind_number k ≡ 3
-block_three kinds.Fb e = refl
-block_three _ e = absurd cc
+fb_number : (k : BlockKind) → is_function_block k ≡ true → kind_number k ≡ kind_number kinds.Fb
+fb_number kinds.Fb e = refl
+fb_number _ e = absurd cc
 
 -- ---- a call names what it calls
 
@@ -578,14 +578,14 @@ record IsWholeBlock (c : Context) (o : Option BlockId) : Type 0 where
   id : BlockId
   is : o ≡ Some id
   whole : is_system_function id.kind ≡ false → (p : ℕ) × (whole_place c id ≡ Some p)
-  seen : whole_called_block c o ≡ Some id
+  found : whole_called_block c o ≡ Some id
 
 block_whole : (symbols : List Symbol) (t : Tree) → IsSoundTree symbols t → (k : ℕ)
     (o : Option BlockId) → is_unknown_id (types_of_source symbols t.blocks) o ≡ false
     → IsWholeBlock (context_at symbols t k) o
 block_whole symbols t tree k None e = absurd cc
 block_whole symbols t tree k (Some id) e =
-    let r = by (is_system_function id.kind) refl e in record { id = id; is = refl; whole = r.0; seen = r.1 }
+    let r = by (is_system_function id.kind) refl e in record { id = id; is = refl; whole = r.0; found = r.1 }
   where
     by : (sys : Bool) → is_system_function id.kind ≡ sys
         → (if sys then false else is_none (known_block id (types_of_source symbols t.blocks).ids)) ≡ false
@@ -612,8 +612,8 @@ block_whole symbols t tree k (Some id) e =
 -- and so is the instance that is named
 instance_known : (symbols : List Symbol) (t : Tree) → IsSoundTree symbols t → (k : ℕ) (id : BlockId)
     (inst : Option BlockName) → is_unknown_instance (types_of_source symbols t.blocks) inst ≡ false
-    → (n : Option ℕ) × IsInstanceOf (context_at symbols t k) inst n
-    × (resolution_of_call (Some id) inst (instance_of_name (context_at symbols t k) inst) ≡ Resolved (view.Called id n))
+    → (n : Option ℕ) × IsNumberOfInstance (context_at symbols t k) inst n
+    × (resolution_of_call (Some id) inst (instance_of_name (context_at symbols t k) inst) ≡ Resolved (resolved.Called id n))
 instance_known symbols t tree k id None e = (None, tt, refl)
 instance_known symbols t tree k id (Some name) e =
     let d = data_there symbols t tree k name e in
@@ -629,8 +629,8 @@ call_there symbols t tree k name inst there = (
     named = block.is;
     whole = block.whole;
     with_instance = given.1;
-    seen = seen_called (context_at symbols t k) name inst
-        ∙ ap (λ (z : Option BlockId). resolution_of_call z inst (instance_of_name (context_at symbols t k) inst)) block.seen
+    resolves = seen_called (context_at symbols t k) name inst
+        ∙ ap (λ (z : Option BlockId). resolution_of_call z inst (instance_of_name (context_at symbols t k) inst)) block.found
         ∙ given.2;
   },
 )
@@ -643,23 +643,23 @@ call_there symbols t tree k name inst there = (
         (ap (λ (ss : List Symbol). is_unknown_id y (named_block ss name)) (sym (measured_symbols symbols t.blocks))
         ∙ or_first (is_unknown_called y name) (is_unknown_instance y inst) there)
 
-    given : (n : Option ℕ) × IsInstanceOf (context_at symbols t k) inst n
-        × (resolution_of_call (Some block.id) inst (instance_of_name (context_at symbols t k) inst) ≡ Resolved (view.Called block.id n))
+    given : (n : Option ℕ) × IsNumberOfInstance (context_at symbols t k) inst n
+        × (resolution_of_call (Some block.id) inst (instance_of_name (context_at symbols t k) inst) ≡ Resolved (resolved.Called block.id n))
     given = instance_known symbols t tree k block.id inst (or_second (is_unknown_called y name) (is_unknown_instance y inst) there)
 
 -- a call is one of what it is seen as
 call_of : (c : Context) (name : BlockName) (inst : Option BlockName) (id j : BlockId) (instance i : Option ℕ)
-    → IsCall c name inst j i → resolution_of c (operand.Called name inst) ≡ Resolved (view.Called id instance)
+    → IsCall c name inst j i → resolution_of c (operand.Called name inst) ≡ Resolved (resolved.Called id instance)
     → IsCall c name inst id instance
 call_of c name inst id j instance i call e =
     subst (λ (z : BlockId). IsCall c name inst z instance) one.0
     (subst (λ (n : Option ℕ). IsCall c name inst j n) one.1 call)
   where
-    same : Resolved (view.Called j i) ≡ Resolved (view.Called id instance) → (j ≡ id) × (i ≡ instance)
+    same : Resolved (resolved.Called j i) ≡ Resolved (resolved.Called id instance) → (j ≡ id) × (i ≡ instance)
     same e = (cc, cc)
 
     one : (j ≡ id) × (i ≡ instance)
-    one = same (sym call.seen ∙ e)
+    one = same (sym call.resolves ∙ e)
 
 -- ---- an actual parameter names what is passed
 
@@ -679,8 +679,8 @@ formal_there (f ∷ fs) name e = by (bytes_eq name f.name) e (formal_there fs na
 view_passed : (f : Formal) (o : Operand) (v : ResolvedOperand) → fits_resolved_operand f v ≡ true
     → (p : Passed) × (passed_by_operand o v ≡ Some p)
 unfolding fits_resolved_operand
-view_passed f o (view.Direct place w side declared) e = (passed_place place w, refl)
-view_passed f o (view.Parameter index own declared) e = (passed.Parameter index (width_of declared), refl)
+view_passed f o (resolved.Direct place w side declared) e = (passed_place place w, refl)
+view_passed f o (resolved.Parameter index own declared) e = (passed.Parameter index (width_of declared), refl)
 view_passed f o _ e = absurd cc
 
 constant_passed : (c : Context) (value : Literal)
@@ -705,7 +705,7 @@ good_passed : (a : Environment) (c : Context) (formals : List Formal) (x : Actua
 good_passed a c formals x good named =
     let f = formal_there formals (upper_case_name x.name)
     (not-false (list_any (λ (f : Formal). bytes_eq (upper_case_name x.name) f.name) formals) named) in
-    operand_passed c f.0 x.value good.seen.view good.seen.is
+    operand_passed c f.0 x.value good.resolves.operand good.resolves.is
     (not-false (fits_operand c f.0 x.value) (ap (misfits_formal c x) (sym f.1) ∙ good.fits))
 
 all_passed_on : (a : Environment) (c : Context) (formals : List Formal) (xs : List Actual)
@@ -717,10 +717,10 @@ all_passed_on a c formals (x ∷ xs) good named =
     (good_passed a c formals x good.0 named.0, all_passed_on a c formals xs good.1 named.1)
 
 module _ (symbols : List Symbol) (t : Tree) (tree : IsSoundTree symbols t)
-    (fit : AllByRecursion SymbolFits symbols) (k : ℕ) (b : Block) (l : BlockLayout)
-    (block : IsSound symbols t k b l) (code : is_code b.kind ≡ true)
+    (fit : AllByRecursion IsRightSymbol symbols) (k : ℕ) (b : Block) (l : BlockLayout)
+    (block : IsSoundBlock symbols t k b l) (code : is_code b.kind ≡ true)
     (a : Environment) (around : Surrounds symbols t b l a)
-    (blocks : a.blocks ≡ signatures symbols t)
+    (blocks : a.blocks ≡ signatures_of_source symbols t)
     (s : Statement) (sound : IsSoundStatement (types_of_source symbols t.blocks) (context_at symbols t k) s)
     (ends : EndsBy a.local_len s) (bytes : StatementHasBytes s) where
   -- what the call passes to it
@@ -746,7 +746,7 @@ module _ (symbols : List Symbol) (t : Tree) (tree : IsSoundTree symbols t)
         inside = sound.0.inside;
       } in (
         record {
-          seen = operand_seen symbols t tree fit k b l block code a around x.value h well.0.no_block ends.0;
+          resolves = operand_seen symbols t tree fit k b l block code a around x.value h well.0.no_block ends.0;
           well = well.0.value;
           bytes = bytes.0;
           fits = fits.0;
@@ -755,13 +755,13 @@ module _ (symbols : List Symbol) (t : Tree) (tree : IsSoundTree symbols t)
       )
 
   -- what is known of the call
-  record IsMade (how : CallOperation) (id : BlockId) (instance : Option ℕ) : Type 0 where
+  record IsMadeCall (how : CallOperation) (id : BlockId) (instance : Option ℕ) : Type 0 where
     name : BlockName
     inst : Option BlockName
     operand_is : s.operand ≡ operand.Called name inst
     call : IsCall (context_at symbols t k) name inst id instance
-    by_view : is_called_view (view.Called id instance) ≡ true
-    cal : IsCallee symbols t k (signatures symbols t) (operand.Called name inst) id
+    by_view : is_called_view (resolved.Called id instance) ≡ true
+    cal : IsCallee symbols t k (signatures_of_source symbols t) (operand.Called name inst) id
     rules : IsSoundCall (context_at symbols t k) cal.of_source s
 
   call_found : (name : BlockName) (inst : Option BlockName) → s.operand ≡ operand.Called name inst
@@ -770,8 +770,8 @@ module _ (symbols : List Symbol) (t : Tree) (tree : IsSoundTree symbols t)
       call_there symbols t tree k name inst (ap (names_unknown (types_of_source symbols t.blocks)) (sym e) ∙ sound.there)
 
   made : (how : CallOperation) (id : BlockId) (instance : Option ℕ) → call_operation_of s.code ≡ Some how
-      → resolution_of (context_at symbols t k) s.operand ≡ Resolved (view.Called id instance)
-      → IsMade how id instance
+      → resolution_of (context_at symbols t k) s.operand ≡ Resolved (resolved.Called id instance)
+      → IsMadeCall how id instance
   made how id instance word e = record {
     name = o.0;
     inst = o.1;
@@ -785,7 +785,7 @@ module _ (symbols : List Symbol) (t : Tree) (tree : IsSoundTree symbols t)
       o : (name : BlockName) × (inst : Option BlockName) × (s.operand ≡ operand.Called name inst)
       o = operand_called s.operand (sound.well_formed.called ∙ calls_are s.code how word)
 
-      seen_is : resolution_of (context_at symbols t k) (operand.Called o.0 o.1) ≡ Resolved (view.Called id instance)
+      seen_is : resolution_of (context_at symbols t k) (operand.Called o.0 o.1) ≡ Resolved (resolved.Called id instance)
       seen_is = ap (resolution_of (context_at symbols t k)) (sym o.2) ∙ e
 
       found : (id : BlockId) × (instance : Option ℕ) × IsCall (context_at symbols t k) o.0 o.1 id instance
@@ -794,34 +794,34 @@ module _ (symbols : List Symbol) (t : Tree) (tree : IsSoundTree symbols t)
       call : IsCall (context_at symbols t k) o.0 o.1 id instance
       call = call_of (context_at symbols t k) o.0 o.1 id found.0 instance found.1 found.2 seen_is
 
-      rule : rule_of_resolved_operand form.Calls (view.Called id instance) ≡ None
+      rule : rule_of_resolved_operand operand_rules.Calls (resolved.Called id instance) ≡ None
       rule =
-          ap (λ (f : OperandRule). rule_of_resolved_operand f (view.Called id instance)) (sym (call_form s.code how word))
+          ap (λ (f : OperandRule). rule_of_resolved_operand f (resolved.Called id instance)) (sym (call_form s.code how word))
           ∙ ap (λ (x : Resolution). rule_of_resolution (form_of s.code) x) (sym seen_is)
           ∙ ap (λ (x : Operand). operand_rule (context_at symbols t k) (form_of s.code) x) (sym o.2)
           ∙ sound.allowed
 
-      by_view : is_called_view (view.Called id instance) ≡ true
-      by_view = calls_called (view.Called id instance) rule
+      by_view : is_called_view (resolved.Called id instance) ≡ true
+      by_view = calls_called (resolved.Called id instance) rule
 
-      cal : IsCallee symbols t k (signatures symbols t) (operand.Called o.0 o.1) id
+      cal : IsCallee symbols t k (signatures_of_source symbols t) (operand.Called o.0 o.1) id
       cal = callee_there symbols t tree k o.0 o.1 id instance call (callable_by id instance by_view)
           (ap (calls_unknown (context_at symbols t k)) (sym o.2) ∙ sound.one_of_nine)
 
   -- what it passes
-  passings_are : (how : CallOperation) (id : BlockId) (instance : Option ℕ) (m : IsMade how id instance)
+  passings_are : (how : CallOperation) (id : BlockId) (instance : Option ℕ) (m : IsMadeCall how id instance)
       → passings_to (context_at symbols t k) s (callee_of (context_at symbols t k) s.operand)
       ≡ passed_by m.cal.of_source
   passings_are how id instance m =
       ap (passings_to (context_at symbols t k) s) (ap (callee_of (context_at symbols t k)) m.operand_is ∙ m.cal.is)
 
-  goods : (how : CallOperation) (id : BlockId) (instance : Option ℕ) (m : IsMade how id instance)
+  goods : (how : CallOperation) (id : BlockId) (instance : Option ℕ) (m : IsMadeCall how id instance)
       → AllByRecursion (IsGoodActual a (context_at symbols t k) m.cal.of_source.formals) s.actuals
   goods how id instance m =
       good_actuals m.cal.of_source.formals s.actuals
       sound.well_formed.actuals sound.actuals ends.1 bytes.actuals m.rules.fits
 
-  passes_right : (how : CallOperation) (id : BlockId) (instance : Option ℕ) (m : IsMade how id instance)
+  passes_right : (how : CallOperation) (id : BlockId) (instance : Option ℕ) (m : IsMadeCall how id instance)
       → ArePassed a (Some (kind_number id.kind, m.cal.il, m.cal.params)) None
       (passed_by m.cal.of_source)
   passes_right how id instance m =
@@ -831,7 +831,7 @@ module _ (symbols : List Symbol) (t : Tree) (tree : IsSoundTree symbols t)
       (λ n e. refl) m.cal.matched m.cal.found refl refl
 
   -- UC and CC call blocks without parameters
-  nothing_owed : (how : CallOperation) (id : BlockId) (instance : Option ℕ) (m : IsMade how id instance)
+  nothing_owed : (how : CallOperation) (id : BlockId) (instance : Option ℕ) (m : IsMadeCall how id instance)
       → has_actuals s.code ≡ false → m.cal.params ≡ []
   nothing_owed how id instance m e =
       no_params (ordered_formals t m.cal.of_source) m.cal.params
@@ -842,7 +842,7 @@ module _ (symbols : List Symbol) (t : Tree) (tree : IsSoundTree symbols t)
       (not (has_actuals s.code) && has_formals m.cal.of_source.formals) m.rules.bare))))
       m.cal.matched
 
-  all_owed : (how : CallOperation) (id : BlockId) (instance : Option ℕ) (m : IsMade how id instance)
+  all_owed : (how : CallOperation) (id : BlockId) (instance : Option ℕ) (m : IsMadeCall how id instance)
       → is_function_block id.kind ≡ false
       → are_all_passed 0 m.cal.params (pass_ops (passed_by m.cal.of_source)) ≡ true
   all_owed how id instance m other = by (has_actuals s.code) refl
@@ -864,7 +864,7 @@ module _ (symbols : List Symbol) (t : Tree) (tree : IsSoundTree symbols t)
           (ap (λ (z : BlockId). is_function_block z.kind) m.cal.same ∙ other)))))
 
   -- the instance of a function block
-  instance_right : (how : CallOperation) (id : BlockId) (n : ℕ) (m : IsMade how id (Some n))
+  instance_right : (how : CallOperation) (id : BlockId) (n : ℕ) (m : IsMadeCall how id (Some n))
       → is_function_block id.kind ≡ true
       → is_bad_instance lens (3, m.cal.il, m.cal.params) n ≡ false
   instance_right how id n m fb =
@@ -883,7 +883,7 @@ module _ (symbols : List Symbol) (t : Tree) (tree : IsSoundTree symbols t)
       operand_is : s.operand ≡ operand.Called m.name (Some at.0)
       operand_is = m.operand_is ∙ ap (λ (i : Option BlockName). operand.Called m.name i) at.1
 
-      d : IsData symbols t k at.0
+      d : IsKnownDataBlock symbols t k at.0
       d = data_there symbols t tree k at.0
           (or_second (is_unknown_called y m.name) (is_unknown_instance y (Some at.0))
           (ap (names_unknown y) (sym operand_is) ∙ sound.there))
@@ -920,7 +920,7 @@ module _ (symbols : List Symbol) (t : Tree) (tree : IsSoundTree symbols t)
           (layout_of_block symbols t tree fb_at.0 fb_at.1 fb_at.3).2.well_formed of_block
 
   -- CALL names one
-  bare_owed : (how : CallOperation) (id : BlockId) (m : IsMade how id None) → is_function_block id.kind ≡ true
+  bare_owed : (how : CallOperation) (id : BlockId) (m : IsMadeCall how id None) → is_function_block id.kind ≡ true
       → m.cal.params ≡ []
   bare_owed how id m fb = by (has_actuals s.code) refl
     where
@@ -934,20 +934,20 @@ module _ (symbols : List Symbol) (t : Tree) (tree : IsSoundTree symbols t)
           (ap has_no_instance (m.operand_is ∙ ap (λ (i : Option BlockName). operand.Called m.name i)
           (instance_none (context_at symbols t k) m.inst m.call.with_instance))))
 
-  call_bad : (how : CallOperation) (id : BlockId) (instance : Option ℕ) (m : IsMade how id instance)
+  call_bad : (how : CallOperation) (id : BlockId) (instance : Option ℕ) (m : IsMadeCall how id instance)
       → is_bad_call lens (Some (kind_number id.kind, m.cal.il, m.cal.params)) (instance_number_or_zero instance) (pass_ops (passed_by m.cal.of_source)) ≡ false
   call_bad how id instance m = by instance m (is_function_block id.kind) refl
     where
-      by : (instance : Option ℕ) (m : IsMade how id instance) (fb : Bool) → is_function_block id.kind ≡ fb
+      by : (instance : Option ℕ) (m : IsMadeCall how id instance) (fb : Bool) → is_function_block id.kind ≡ fb
           → is_bad_call lens (Some (kind_number id.kind, m.cal.il, m.cal.params)) (instance_number_or_zero instance)
           (pass_ops (passed_by m.cal.of_source)) ≡ false
       by None m false e =
           call_right lens (kind_number id.kind) m.cal.il m.cal.params (pass_ops (passed_by m.cal.of_source))
-          (other_than_three id.kind (callable_by id None m.by_view) e) (all_owed how id None m e)
+          (no_fb_number id.kind (callable_by id None m.by_view) e) (all_owed how id None m e)
       by (Some n) m false e = let given = m.by_view in absurd cc
       by None m true e =
-          rw (block_three id.kind e) (bare_right lens m.cal.il m.cal.params (bare_owed how id m e))
-      by (Some n) m true e = rw (block_three id.kind e) (instance_right how id n m e)
+          rw (fb_number id.kind e) (bare_right lens m.cal.il m.cal.params (bare_owed how id m e))
+      by (Some n) m true e = rw (fb_number id.kind e) (instance_right how id n m e)
 
   pub call_fits : CallFits a (lens_of (data_blocks_of t symbols (layouts_of t symbols))) (context_at symbols t k) s
   call_fits how id instance word e =
@@ -959,7 +959,7 @@ module _ (symbols : List Symbol) (t : Tree) (tree : IsSoundTree symbols t)
             (sym flat_is) (call_bad how id instance m),
       )
     where
-      m : IsMade how id instance
+      m : IsMadeCall how id instance
       m = made how id instance word e
 
       ps : List Passing
@@ -977,14 +977,14 @@ module _ (symbols : List Symbol) (t : Tree) (tree : IsSoundTree symbols t)
   -- it names what it calls
   pub called_is : (how : CallOperation) → call_operation_of s.code ≡ Some how
       → (id : BlockId) × (instance : Option ℕ)
-      × (resolution_of (context_at symbols t k) s.operand ≡ Resolved (view.Called id instance))
+      × (resolution_of (context_at symbols t k) s.operand ≡ Resolved (resolved.Called id instance))
   called_is how word =
       let o = operand_called s.operand (sound.well_formed.called ∙ calls_are s.code how word) in
       let found = call_found o.0 o.1 o.2 in
-      (found.0, found.1, ap (resolution_of (context_at symbols t k)) o.2 ∙ found.2.seen)
+      (found.0, found.1, ap (resolution_of (context_at symbols t k)) o.2 ∙ found.2.resolves)
 
   called_made : (how : CallOperation) (word : call_operation_of s.code ≡ Some how)
-      → IsMade how (called_is how word).0 (called_is how word).1
+      → IsMadeCall how (called_is how word).0 (called_is how word).1
   called_made how word =
       made how (called_is how word).0 (called_is how word).1 word (called_is how word).2
 

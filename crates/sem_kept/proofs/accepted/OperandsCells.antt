@@ -19,7 +19,7 @@ use Rattle.block_layout.specs.Types.{data_type_place}
 use Rattle.block_layout.specs.declared.blocks.BlockLayout.{BlockLayout}
 use Rattle.block_layout.specs.declared.cells.Cell.{Cell}
 use Rattle.block_layout.proofs.CommonLemmas.{all_there, IsOrigin, origin}
-use Rattle.sem_kept.proofs.accepted.Accepted.{IsSound, IsSoundTree, sound_at}
+use Rattle.sem_kept.proofs.accepted.Accepted.{IsSoundBlock, IsSoundTree, sound_at}
 use Rattle.block_layout.proofs.AlignmentLemmas.{AreRight, IsRightCell, IsSettled}
 use Rattle.block_layout.proofs.BlockLemmas.{IsFoundBlock, found_there, kind_there}
 use Rattle.block_layout.proofs.SoundnessLemmas.{Settles, IsUnbroken, block_unbroken, components_right, temps_right}
@@ -31,7 +31,7 @@ use Rattle.block_layout.proofs.DataTypeLemmas.{IsType, type_of_block, data_type,
 -- a layout with the block that it is of
 pub record IsLaid (symbols : List Symbol) (t : Tree) (k : ℕ) (l : BlockLayout) : Type 0 where
   pub block : Block
-  pub sound : IsSound symbols t k block l
+  pub sound : IsSoundBlock symbols t k block l
 
 pub block_of_layout : (symbols : List Symbol) (t : Tree) → IsSoundTree symbols t → (k : ℕ)
     (l : BlockLayout) → slice_get (layouts_of t symbols) k ≡ Some l → IsLaid symbols t k l
@@ -42,7 +42,7 @@ block_of_layout symbols t h k l e =
 
 pub layout_of_block : (symbols : List Symbol) (t : Tree) → IsSoundTree symbols t → (k : ℕ)
     (b : Block) → slice_get t.blocks k ≡ Some b
-    → (l : BlockLayout) × (slice_get (layouts_of t symbols) k ≡ Some l) × IsSound symbols t k b l
+    → (l : BlockLayout) × (slice_get (layouts_of t symbols) k ≡ Some l) × IsSoundBlock symbols t k b l
 layout_of_block symbols t h k b e =
     let found = layout_at symbols t k b e in
     (found.0, found.1, sound_at symbols t h k b found.0 e found.1)
@@ -50,7 +50,7 @@ layout_of_block symbols t h k b e =
 -- ---- cells, and the data types that they name
 
 pub cells_are : (symbols : List Symbol) (t : Tree) (k : ℕ) (b : Block) (l : BlockLayout)
-    → IsSound symbols t k b l → (temporary : Bool)
+    → IsSoundBlock symbols t k b l → (temporary : Bool)
     → cells_at (layouts_of t symbols) k temporary
     ≡ (if temporary then temps_of (types_of_source symbols t.blocks) b else components_of (types_of_source symbols t.blocks) b)
 unfolding block_layout
@@ -82,7 +82,7 @@ settles symbols t h (element.Udt name) few = by (data_type_place (types_of_sourc
         kind : from.of.kind ≡ kinds.Udt
         kind = kind_there symbols from.of found.id from.image ∙ data_type found.id.kind found.kind
 
-        laid : (l : BlockLayout) × (slice_get (layouts_of t symbols) v ≡ Some l) × IsSound symbols t v from.of l
+        laid : (l : BlockLayout) × (slice_get (layouts_of t symbols) v ≡ Some l) × IsSoundBlock symbols t v from.of l
         laid = layout_of_block symbols t h v from.of from.there
 
         type : IsType (types_of_source symbols t.blocks) from.of

@@ -24,20 +24,21 @@ use Rattle.stl_codegen.specs.Instruction.{instruction}
 use Rattle.sem_kept.specs.Accepted.{program_in}
 use Rattle.sem_kept.specs.Coded.{StatementHasBytes}
 use Rattle.sem_kept.specs.Operands.{BlockHasNoOperandFault, InstrFits, OperandsAreFine}
-use Rattle.sem_kept.proofs.accepted.Accepted.{IsSound, IsSoundStatement, IsSoundTree, context_at, right_tree, sound_code_blocks}
+use Rattle.sem_kept.specs.Settled.{context_at}
+use Rattle.sem_kept.proofs.accepted.Accepted.{IsSoundBlock, IsSoundStatement, IsSoundTree, right_tree, sound_code_blocks}
 use Rattle.sem_kept.proofs.accepted.CodedBytes.{block_has_bytes}
 use Rattle.sem_kept.proofs.accepted.OperandsCalls.{call_fits}
 use Rattle.sem_kept.proofs.accepted.OperandsInstr.{instr_fits}
 use Rattle.sem_kept.proofs.accepted.OperandsPlaced.{code_fine}
-use Rattle.sem_kept.proofs.accepted.OperandsSymbols.{SymbolFits, symbols_fit}
+use Rattle.sem_kept.proofs.accepted.OperandsSymbols.{IsRightSymbol, symbols_fit}
 use Rattle.sem_kept.proofs.accepted.OperandsViews.{EndsBy, Surrounds, ends_by, holds_locals, layout_id, layout_local, operand_seen}
 use Rattle.block_layout.proofs.BlockLemmas.{kind_there}
 
 -- ---- a block
 
 module _ (symbols : List Symbol) (t : Tree) (tree : IsSoundTree symbols t)
-    (fit : AllByRecursion SymbolFits symbols) (k : ℕ) (b : Block) (l : BlockLayout) (id : BlockId)
-    (block : IsSound symbols t k b l) (named : l.id ≡ Some id) (code : is_code id.kind ≡ true)
+    (fit : AllByRecursion IsRightSymbol symbols) (k : ℕ) (b : Block) (l : BlockLayout) (id : BlockId)
+    (block : IsSoundBlock symbols t k b l) (named : l.id ≡ Some id) (code : is_code id.kind ≡ true)
     (bytes : AllByRecursion StatementHasBytes b.body) where
   -- what surrounds it
   abbrev here : Environment

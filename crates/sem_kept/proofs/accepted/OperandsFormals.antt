@@ -290,9 +290,9 @@ record AreFresh (names outer : List (List ℕ)) (before : List Declaration) (fs 
   named : behind ≡ names ++ map (λ (f : Formal). f.name) fs
   within : Within behind (names_before outer 0 before)
 
-untwice : (y : Types) (o : Outside) (before : List Declaration) (d : Declaration)
+not_twice_before : (y : Types) (o : Outside) (before : List Declaration) (d : Declaration)
     → breaks_rule y o before d ≡ false → is_twice o before d ≡ false
-untwice y o before d e = or_first (is_twice o before d) _ (or_first _ _ (or_first _ _ (or_first _ _ e)))
+not_twice_before y o before d e = or_first (is_twice o before d) _ (or_first _ _ (or_first _ _ (or_first _ _ e)))
 
 not_there : (o : Option ℕ) → is_some o ≡ false → o ≡ None
 not_there None e = refl
@@ -332,7 +332,7 @@ fresh_section y o k section names before (d ∷ ds) is declared outline h within
     new = within (upper_case_name d.name)
         (not_there (name_place (upper_case_name d.name) (names_before o.names 0 before))
         (ap (λ (n : ℕ). is_some (name_place (upper_case_name d.name) (names_before o.names n before))) (sym lowest)
-        ∙ untwice y o before d h.0))
+        ∙ not_twice_before y o before d h.0))
 
     joined : AreFresh (names ++ upper_case_name d.name ∷ []) o.names (declarations_before_next (d ∷ before) ds) (flat_map formal_here (cells_of y o section (d ∷ before) ds))
         → AreFresh names o.names (declarations_before_next (d ∷ before) ds) (formal (upper_case_name d.name) section type.0 ∷ flat_map formal_here (cells_of y o section (d ∷ before) ds))

@@ -25,14 +25,14 @@ use Rattle.stl_types.specs.declared.forms.OperandRule.{OperandRule}
 use Rattle.stl_types.specs.declared.views.Resolution.{Resolution}
 use Rattle.stl_types.specs.declared.views.Resolution.TheVariants.{Resolved}
 use Rattle.stl_types.specs.declared.views.ResolvedOperand.{ResolvedOperand}
-use Rattle.stl_types.specs.declared.views.ResolvedOperand.TheVariants as view
+use Rattle.stl_types.specs.declared.views.ResolvedOperand.TheVariants as resolved
 use Rattle.stl_codegen.specs.Emitted.{op_with_end_mark}
 use Rattle.stl_codegen.specs.Instruction.{call_instr, end_instr, filler_instruction, instr_by, instruction, jump_instr, passings_to, resolved_instr, target_of}
 use Rattle.stl_codegen.specs.Operands.{flat_operand_of}
 use Rattle.stl_codegen.specs.Operations.{call_operation_of, end_operation_of, jump_operation_of, operation_for}
 use Rattle.sem_kept.specs.Operands.{InstrFits, IsOperandRightFor}
-use Rattle.sem_kept.proofs.accepted.OperandsViews.{IsSeen}
-use Rattle.sem_kept.proofs.accepted.OperandsOperations.{ViewFits, allowed, opened_fits, operand_fits, operation_is}
+use Rattle.sem_kept.proofs.accepted.OperandsViews.{ResolvesRight}
+use Rattle.sem_kept.proofs.accepted.OperandsOperations.{IsRightOperand, taken_by_rule, opened_fits, operand_fits, operation_is}
 
 jump_fits : (a : Environment) (lens : List (ℕ × ℕ)) (how : JumpOperation) (n target : ℕ)
     → InstrFits a lens (jump_instr how n target)
@@ -53,7 +53,7 @@ seen_rule : (c : Context) (f : OperandRule) (o : Operand) (v : ResolvedOperand) 
     → rule_of_resolution f (resolution_of c o) ≡ None → rule_of_resolved_operand f v ≡ None
 seen_rule c f o v e h = ap (λ (s : Resolution). rule_of_resolution f s) (sym e) ∙ h
 
-constant_seen : (c : Context) (value : Literal) → resolution_of c (operand.Constant value) ≡ Resolved view.Constant
+constant_seen : (c : Context) (value : Literal) → resolution_of c (operand.Constant value) ≡ Resolved resolved.Constant
 unfolding resolution_of
 constant_seen c value = refl
 
@@ -62,22 +62,22 @@ sees_same v w e = cc
 
 constant_right : (a : Environment) (m : Mnemonic) (value : Literal)
     → IsOperandRightFor a
-    (op_with_end_mark (operation_for m (operand.Constant value) view.Constant) (flat_operand_of (operand.Constant value) view.Constant))
-    (flat_operand_of (operand.Constant value) view.Constant)
+    (op_with_end_mark (operation_for m (operand.Constant value) resolved.Constant) (flat_operand_of (operand.Constant value) resolved.Constant))
+    (flat_operand_of (operand.Constant value) resolved.Constant)
 unfolding flat_operand_of
 constant_right a m value = tt
 
 -- the operand that a statement does its instruction on
 right_for : (a : Environment) (c : Context) (m : Mnemonic) (o : Operand) (v : ResolvedOperand)
-    → resolution_of c o ≡ Resolved v → operand_rule c (form_of m) o ≡ None → ViewFits a v
+    → resolution_of c o ≡ Resolved v → operand_rule c (form_of m) o ≡ None → IsRightOperand a v
     → IsOperandRightFor a (op_with_end_mark (operation_for m o v) (flat_operand_of o v)) (flat_operand_of o v)
 right_for a c m (operand.Constant value) v e h fits =
     subst (λ (w : ResolvedOperand). IsOperandRightFor a (op_with_end_mark (operation_for m (operand.Constant value) w) (flat_operand_of (operand.Constant value) w)) (flat_operand_of (operand.Constant value) w))
-    (sees_same view.Constant v (sym (constant_seen c value) ∙ e)) (constant_right a m value)
-right_for a c m o v e h fits = operand_fits a m o v (allowed (form_of m) v (seen_rule c (form_of m) o v e h)) fits
+    (sees_same resolved.Constant v (sym (constant_seen c value) ∙ e)) (constant_right a m value)
+right_for a c m o v e h fits = operand_fits a m o v (taken_by_rule (form_of m) v (seen_rule c (form_of m) o v e h)) fits
 
 does_fits : (a : Environment) (lens : List (ℕ × ℕ)) (c : Context) (s : Statement) (v : ResolvedOperand)
-    → resolution_of c s.operand ≡ Resolved v → statement_rule c s ≡ None → ViewFits a v
+    → resolution_of c s.operand ≡ Resolved v → statement_rule c s ≡ None → IsRightOperand a v
     → (how : Option EndOperation) → InstrFits a lens (end_instr s v how)
 does_fits a lens c s v e h fits None = (
   (operation_is s.code s.operand v).prepares,
@@ -96,21 +96,21 @@ resolved_is c s h =
 abbrev pub CallFits : Environment → List (ℕ × ℕ) → Context → Statement → Type 0
 CallFits a lens c s =
     (how : CallOperation) (id : BlockId) (instance : Option ℕ) → call_operation_of s.code ≡ Some how
-    → resolution_of c s.operand ≡ Resolved (view.Called id instance)
+    → resolution_of c s.operand ≡ Resolved (resolved.Called id instance)
     → InstrFits a lens (Calls how id instance (passings_to c s (callee_of c s.operand)))
 
 call_view_fits : (a : Environment) (lens : List (ℕ × ℕ)) (c : Context) (s : Statement) (how : CallOperation)
     → CallFits a lens c s → call_operation_of s.code ≡ Some how
     → (v : ResolvedOperand) → resolution_of c s.operand ≡ Resolved v → InstrFits a lens (call_instr c s how v)
-call_view_fits a lens c s how calls is (view.Called id instance) e = calls how id instance is e
+call_view_fits a lens c s how calls is (resolved.Called id instance) e = calls how id instance is e
 call_view_fits a lens c s how calls is _ e = filler_fits a lens
 
 pub instr_fits : (a : Environment) (lens : List (ℕ × ℕ)) (c : Context) (body : List Statement) (n : ℕ)
     (s : Statement) → statement_rule c s ≡ None
-    → (is_call s.code ≡ false → IsSeen a (resolution_of c s.operand)) → CallFits a lens c s
+    → (is_call s.code ≡ false → ResolvesRight a (resolution_of c s.operand)) → CallFits a lens c s
     → InstrFits a lens (instruction c body n s)
 unfolding instruction
-instr_fits a lens c body n s allowed seen_fits calls = by (jump_operation_of s.code)
+instr_fits a lens c body n s taken_by_rule seen_fits calls = by (jump_operation_of s.code)
   where
     called : (how : CallOperation) → call_operation_of s.code ≡ Some how → (x : Resolution) → resolution_of c s.operand ≡ x
         → InstrFits a lens (resolved_instr c s (operand_if_resolved x))
@@ -120,10 +120,10 @@ instr_fits a lens c body n s allowed seen_fits calls = by (jump_operation_of s.c
     whether : (o : Option CallOperation) → call_operation_of s.code ≡ o
         → InstrFits a lens (resolved_instr c s (operand_if_resolved (resolution_of c s.operand)))
     whether None is =
-        let found : IsSeen a (resolution_of c s.operand) = seen_fits (no_call s.code is) in
-        rw (found.is, is) (does_fits a lens c s found.view found.is allowed found.fits (end_operation_of s.code))
+        let found : ResolvesRight a (resolution_of c s.operand) = seen_fits (no_call s.code is) in
+        rw (found.is, is) (does_fits a lens c s found.operand found.is taken_by_rule found.fits (end_operation_of s.code))
     whether (Some how) is = called how is (resolution_of c s.operand) refl
 
     by : (o : Option JumpOperation) → InstrFits a lens (instr_by c body n s o)
     by (Some how) = jump_fits a lens how n (target_of body s.operand)
-    by None = rw (resolved_is c s allowed) (whether (call_operation_of s.code) refl)
+    by None = rw (resolved_is c s taken_by_rule) (whether (call_operation_of s.code) refl)

@@ -31,7 +31,8 @@ use Rattle.stl_codegen.specs.Compiled.{StatedBlock, compiled_block}
 use Rattle.stl_codegen.specs.Generated.{code_block, code_block_of, code_blocks_of, generated_data_block, data_block_of, data_blocks_of, each_block, instance_len, params_of}
 use Rattle.stl_codegen.specs.Order.{is_code_before, is_data_before}
 use Rattle.stl_codegen.proofs.ProgramLemmas.{all_before}
-use Rattle.sem_kept.proofs.accepted.Accepted.{IsSound, IsSoundTree, context_at, sound_code_blocks, sound_data_blocks}
+use Rattle.sem_kept.specs.Settled.{context_at}
+use Rattle.sem_kept.proofs.accepted.Accepted.{IsSoundBlock, IsSoundTree, sound_code_blocks, sound_data_blocks}
 use Rattle.block_layout.proofs.LayoutLemmas.{measured_ids, measured_symbols}
 use Rattle.sem_kept.proofs.accepted.OperandsViews.{data_block_kind, layout_id}
 use Rattle.block_layout.proofs.FillLemmas.{written_length}
@@ -71,7 +72,7 @@ made_there P of one test id some o is right h =
 
 each_there : {A : Type 0} (symbols : List Symbol) (t : Tree) (P : A → Type 0) (of : Context → Block → BlockLayout → List A)
     → AllByRecursion P (each_block of (context_at symbols t 0) t.blocks (layouts_of t symbols))
-    → (k : ℕ) (b : Block) (l : BlockLayout) → IsSound symbols t k b l → AllByRecursion P (of (context_at symbols t k) b l)
+    → (k : ℕ) (b : Block) (l : BlockLayout) → IsSoundBlock symbols t k b l → AllByRecursion P (of (context_at symbols t k) b l)
 each_there symbols t P of h k b l sound =
     let from : 0 + k ≡ k = omega arith in
     subst (λ (n : ℕ). AllByRecursion P (of (context_at symbols t n) b l)) from
@@ -79,7 +80,7 @@ each_there symbols t P of h k b l sound =
 
 pub code_block_there : (symbols : List Symbol) (t : Tree) (P : StatedBlock → Type 0)
     → AllByRecursion P (code_blocks_of t symbols (layouts_of t symbols))
-    → (k : ℕ) (b : Block) (l : BlockLayout) (id : BlockId) → IsSound symbols t k b l
+    → (k : ℕ) (b : Block) (l : BlockLayout) (id : BlockId) → IsSoundBlock symbols t k b l
     → l.id ≡ Some id → is_code id.kind ≡ true → P (code_block (context_at symbols t k) b l id)
 unfolding code_blocks_of
 code_block_there symbols t P h k b l id sound is code =
@@ -90,7 +91,7 @@ code_block_there symbols t P h k b l id sound is code =
 
 pub data_block_there : (symbols : List Symbol) (t : Tree) (P : DataBlock → Type 0)
     → AllByRecursion P (data_blocks_of t symbols (layouts_of t symbols))
-    → (k : ℕ) (b : Block) (l : BlockLayout) (id : BlockId) → IsSound symbols t k b l
+    → (k : ℕ) (b : Block) (l : BlockLayout) (id : BlockId) → IsSoundBlock symbols t k b l
     → l.id ≡ Some id → is_data_block id.kind ≡ true → P (generated_data_block (context_at symbols t k) l id)
 unfolding data_blocks_of
 data_block_there symbols t P h k b l id sound is kind =
@@ -128,7 +129,7 @@ place_first id (i ∷ is) (suc j) e = by (is_id id i) (place_first id is j e)
     by false more = (suc more.0, ap (λ (o : Option ℕ). option_map (λ k. suc k) o) more.1, let few = more.2 in omega (arith, few))
 
 id_listed : (symbols : List Symbol) (t : Tree) (k : ℕ) (b : Block) (l : BlockLayout) (id : BlockId)
-    → IsSound symbols t k b l → l.id ≡ Some id
+    → IsSoundBlock symbols t k b l → l.id ≡ Some id
     → slice_get (types_of_source symbols t.blocks).ids k ≡ Some (Some id)
 id_listed symbols t k b l id h is =
     ap (λ (ids : List (Option BlockId)). slice_get ids k) (measured_ids symbols t.blocks)
@@ -143,7 +144,7 @@ id_listed symbols t k b l id h is =
 
 -- a block is the first one with its number
 is_first : (symbols : List Symbol) (t : Tree) (k : ℕ) (b : Block) (l : BlockLayout) (id : BlockId)
-    (m : ℕ) → IsSound symbols t k b l → l.id ≡ Some id
+    (m : ℕ) → IsSoundBlock symbols t k b l → l.id ≡ Some id
     → place_of_block id (types_of_source symbols t.blocks).ids ≡ Some m → k ≤ m
 is_first symbols t k b l id m h is found =
     subst (λ (n : ℕ). n ≤ m) h.count
@@ -156,7 +157,7 @@ is_first symbols t k b l id m h is found =
         ∙ ap (λ (o : Option ℕ). is_earlier o (length h.before)) found
 
 pub one_block : (symbols : List Symbol) (t : Tree) (id : BlockId) (j k : ℕ) (b c : Block)
-    (l m : BlockLayout) → IsSound symbols t j b l → IsSound symbols t k c m → l.id ≡ Some id
+    (l m : BlockLayout) → IsSoundBlock symbols t j b l → IsSoundBlock symbols t k c m → l.id ≡ Some id
     → m.id ≡ Some id → j ≡ k
 one_block symbols t id j k b c l m h g e f =
     let one = place_first id (types_of_source symbols t.blocks).ids j (id_listed symbols t j b l id h e) in
@@ -222,7 +223,7 @@ id_by a b e f =
     ∙ ap (λ (n : ℕ). record { kind = b.kind; number = n }) f
 
 pub called_block : (symbols : List Symbol) (t : Tree) → IsSoundTree symbols t → (p : ℕ) (b : Block)
-    (l : BlockLayout) (id : BlockId) → IsSound symbols t p b l → l.id ≡ Some id
+    (l : BlockLayout) (id : BlockId) → IsSoundBlock symbols t p b l → l.id ≡ Some id
     → is_code id.kind ≡ true
     → block_with (kind_number id.kind) id.number
     (map signature_of (map record_of_block (map compiled_block (code_blocks_of t symbols (layouts_of t symbols)))))
@@ -245,7 +246,7 @@ called_block symbols t tree p b l id h is code =
         = ap (λ (t' : Bool). t' && id.number == id.number) one ∙ two in
         absurd cc
 
-    each : (k : ℕ) (c : Block) (m : BlockLayout) (other : BlockId) → IsSound symbols t k c m
+    each : (k : ℕ) (c : Block) (m : BlockLayout) (other : BlockId) → IsSoundBlock symbols t k c m
         → m.id ≡ Some other → is_code other.kind ≡ true
         → matches (kind_number id.kind) id.number (code_block (context_at symbols t k) c m other) ≡ true
         → (instance_len c m ≡ instance_len b l)
@@ -297,7 +298,7 @@ len_finds number len (d ∷ ds) h some = by (d.number == number) refl (len_finds
     by false is more = more (λ none. some (is, none))
 
 pub instance_found : (symbols : List Symbol) (t : Tree) → IsSoundTree symbols t → (q : ℕ)
-    (b : Block) (l : BlockLayout) (id : BlockId) → IsSound symbols t q b l → l.id ≡ Some id
+    (b : Block) (l : BlockLayout) (id : BlockId) → IsSoundBlock symbols t q b l → l.id ≡ Some id
     → is_data_block id.kind ≡ true
     → length_of_data id.number (lens_of (data_blocks_of t symbols (layouts_of t symbols))) ≡ Some l.length
 instance_found symbols t tree q b l id h is kind =
@@ -310,7 +311,7 @@ instance_found symbols t tree q b l id h is kind =
         let two : (id.number == id.number) ≡ true = eq-eqb id.number id.number refl in
         absurd cc
 
-    each : (k : ℕ) (c : Block) (m : BlockLayout) (other : BlockId) → IsSound symbols t k c m
+    each : (k : ℕ) (c : Block) (m : BlockLayout) (other : BlockId) → IsSoundBlock symbols t k c m
         → m.id ≡ Some other → is_data_block other.kind ≡ true → (other.number == id.number) ≡ true
         → length (generated_data_block (context_at symbols t k) m other).bytes ≡ l.length
     each k c m other g e f fits =

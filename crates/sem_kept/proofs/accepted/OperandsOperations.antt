@@ -13,6 +13,9 @@ use Rattle.flat_code.specs.Operations.{operation_of as operation_of_code}
 use Rattle.flat_code.specs.declared.table.OperandForms.{OperandForms}
 use Rattle.flat_code.specs.declared.operands.Operand.TheVariants as flat
 use Rattle.flat_code.specs.declared.operations.Operation.{Operation}
+use Rattle.flat_code.specs.declared.operations.Operation.TheVariants as operation
+use Rattle.flat_code.specs.declared.operations.RelayOperation.TheVariants as relay
+use Rattle.plc_base.specs.declared.instructions.Check.TheVariants as check
 use Rattle.stl_ast.specs.declared.blocks.PartKind.{PartKind}
 use Rattle.stl_ast.specs.declared.blocks.PartKind.TheVariants as part
 use Rattle.stl_ast.specs.declared.declarations.Simple.{Simple}
@@ -31,12 +34,12 @@ use Rattle.stl_types.specs.Kinds.{is_bit, is_composite, is_double_word, is_in_me
 use Rattle.stl_types.specs.Operands.{composite_rule, has_width, is_input, is_on_wrong_side, rule_of_resolved_operand, takes_operand, takes_width, form_writes_operand}
 use Rattle.stl_types.specs.Zones.{ends_zone, opens_zone}
 use Rattle.stl_types.specs.declared.forms.OperandRule.{OperandRule}
-use Rattle.stl_types.specs.declared.forms.OperandRule.TheVariants as form
+use Rattle.stl_types.specs.declared.forms.OperandRule.TheVariants as operand_rules
 use Rattle.stl_types.specs.declared.views.Register.{Register}
 use Rattle.stl_types.specs.declared.views.Register.TheVariants as register
 use Rattle.stl_types.specs.declared.views.Side.TheVariants as side
 use Rattle.stl_types.specs.declared.views.ResolvedOperand.{ResolvedOperand}
-use Rattle.stl_types.specs.declared.views.ResolvedOperand.TheVariants as view
+use Rattle.stl_types.specs.declared.views.ResolvedOperand.TheVariants as resolved
 use Rattle.stl_codegen.specs.Emitted.{op_with_end_mark}
 use Rattle.stl_codegen.specs.Operands.{is_db, numbered_operand, block_opened_by_operand, flat_operand_of, register_operand}
 use Rattle.stl_codegen.specs.Operations.{add_operation, load_pointer_operation, load_operation, or_operation, store_pointer_operation, transfer_operation, operation_for}
@@ -46,7 +49,7 @@ use Rattle.sem_kept.specs.Operands.{IsOpenedFor, IsOperandRightFor}
 -- ---- what the rules of operands leave
 
 -- an operand that its instruction takes
-pub record IsAllowed (f : OperandRule) (v : ResolvedOperand) : Type 0 where
+pub record IsTakenBy (f : OperandRule) (v : ResolvedOperand) : Type 0 where
   pub single : is_composite v ≡ false
   pub taken : takes_operand f v ≡ true
   pub wide : has_width f (width_in v) ≡ true
@@ -62,9 +65,9 @@ rule_by composite a b c d e =
     else if e then Some 39
     else None
 
-pub allowed : (f : OperandRule) (v : ResolvedOperand) → rule_of_resolved_operand f v ≡ None → IsAllowed f v
+pub taken_by_rule : (f : OperandRule) (v : ResolvedOperand) → rule_of_resolved_operand f v ≡ None → IsTakenBy f v
 unfolding rule_of_resolved_operand
-allowed f v e =
+taken_by_rule f v e =
     let all = chosen (composite_rule f v) (is_composite v) (takes_operand f v) (has_width f (width_in v))
     (is_on_wrong_side f v) (form_writes_operand f && is_input v) e in
     record { single = all.0; taken = all.1; wide = all.2; side = all.3; unwritten = all.4 }
@@ -82,15 +85,15 @@ allowed f v e =
 
 -- the op code of an instruction, by what it does to brackets
 abbrev pub IsCodeBy : Option ℕ → Bool → (code : ℕ) → Type 0
-IsCodeBy (Some function) c code = (code ≡ 0x18 + function) × (is_opening code ≡ true)
-IsCodeBy None true code = code ≡ 0x1E
-IsCodeBy None false code = (is_opening code ≡ false) × ((code == 0x1E) ≡ false)
+IsCodeBy (Some function) c code = (code ≡ op_code_of (operation.Nest check.A) + function) × (is_opening code ≡ true)
+IsCodeBy None true code = code ≡ op_code_of operation.Unnest
+IsCodeBy None false code = (is_opening code ≡ false) × ((code == op_code_of operation.Unnest) ≡ false)
 
--- and by what it does to zones
+-- the op code of an instruction, by what it does to zones
 abbrev pub IsZoneCodeBy : (opened ended : Bool) → (code : ℕ) → Type 0
-IsZoneCodeBy true ended code = code ≡ 0x07
-IsZoneCodeBy false true code = code ≡ 0x08
-IsZoneCodeBy false false code = ((code == 0x07) ≡ false) × ((code == 0x08) ≡ false)
+IsZoneCodeBy true ended code = code ≡ op_code_of (operation.Relay relay.Open)
+IsZoneCodeBy false true code = code ≡ op_code_of (operation.Relay relay.Close)
+IsZoneCodeBy false false code = ((code == op_code_of (operation.Relay relay.Open)) ≡ false) × ((code == op_code_of (operation.Relay relay.Close)) ≡ false)
 
 abbrev pub IsCodeOf : Mnemonic → (code : ℕ) → Type 0
 IsCodeOf m code =
@@ -109,28 +112,28 @@ pub record IsOperationOf (m : Mnemonic) (w : Operation) : Type 0 where
 
 or_is : (v : ResolvedOperand) → IsOperationOf code.O (or_operation v)
 unfolding bracket_function is_closing_bracket opens_zone ends_zone
-or_is view.Nothing = record { prepares = refl; goes_on = refl; code = ((refl, refl), (refl, refl)) }
+or_is resolved.Nothing = record { prepares = refl; goes_on = refl; code = ((refl, refl), (refl, refl)) }
 or_is _ = record { prepares = refl; goes_on = refl; code = ((refl, refl), (refl, refl)) }
 
 load_is : (v : ResolvedOperand) → IsOperationOf code.L (load_operation v)
 unfolding bracket_function is_closing_bracket opens_zone ends_zone
-load_is (view.Register register.Stw) = record { prepares = refl; goes_on = refl; code = ((refl, refl), (refl, refl)) }
-load_is (view.Register _) = record { prepares = refl; goes_on = refl; code = ((refl, refl), (refl, refl)) }
+load_is (resolved.Register register.Stw) = record { prepares = refl; goes_on = refl; code = ((refl, refl), (refl, refl)) }
+load_is (resolved.Register _) = record { prepares = refl; goes_on = refl; code = ((refl, refl), (refl, refl)) }
 load_is _ = record { prepares = refl; goes_on = refl; code = ((refl, refl), (refl, refl)) }
 
 transfer_is : (v : ResolvedOperand) → IsOperationOf code.T (transfer_operation v)
 unfolding bracket_function is_closing_bracket opens_zone ends_zone
-transfer_is (view.Register which) = record { prepares = refl; goes_on = refl; code = ((refl, refl), (refl, refl)) }
+transfer_is (resolved.Register which) = record { prepares = refl; goes_on = refl; code = ((refl, refl), (refl, refl)) }
 transfer_is _ = record { prepares = refl; goes_on = refl; code = ((refl, refl), (refl, refl)) }
 
 load_pointer_is : (v : ResolvedOperand) → IsOperationOf code.Lar1 (load_pointer_operation v)
 unfolding bracket_function is_closing_bracket opens_zone ends_zone
-load_pointer_is (view.Register which) = record { prepares = refl; goes_on = refl; code = ((refl, refl), (refl, refl)) }
+load_pointer_is (resolved.Register which) = record { prepares = refl; goes_on = refl; code = ((refl, refl), (refl, refl)) }
 load_pointer_is _ = record { prepares = refl; goes_on = refl; code = ((refl, refl), (refl, refl)) }
 
 store_pointer_is : (v : ResolvedOperand) → IsOperationOf code.Tar1 (store_pointer_operation v)
 unfolding bracket_function is_closing_bracket opens_zone ends_zone
-store_pointer_is (view.Register which) = record { prepares = refl; goes_on = refl; code = ((refl, refl), (refl, refl)) }
+store_pointer_is (resolved.Register which) = record { prepares = refl; goes_on = refl; code = ((refl, refl), (refl, refl)) }
 store_pointer_is _ = record { prepares = refl; goes_on = refl; code = ((refl, refl), (refl, refl)) }
 
 add_is : (o : Operand) → IsOperationOf code.Add (add_operation o)
@@ -153,28 +156,28 @@ operation_is _ o v = record { prepares = refl; goes_on = refl; code = ((refl, re
 
 -- a place in memory stands for all of them
 abbrev in_memory : ResolvedOperand
-in_memory = view.Direct (record { area = area.M; number = 0; byte = 0; bit = 0 }) width.Bit side.Both None
+in_memory = resolved.Direct (record { area = area.M; number = 0; byte = 0; bit = 0 }) width.Bit side.Both None
 
 or_same : (v : ResolvedOperand) → is_in_memory v ≡ true → or_operation v ≡ or_operation in_memory
-or_same view.Nothing h = absurd cc
+or_same resolved.Nothing h = absurd cc
 or_same _ h = refl
 
 load_same : (v : ResolvedOperand) → is_in_memory v ≡ true → load_operation v ≡ load_operation in_memory
-load_same (view.Register which) h = absurd cc
+load_same (resolved.Register which) h = absurd cc
 load_same _ h = refl
 
 transfer_same : (v : ResolvedOperand) → is_in_memory v ≡ true → transfer_operation v ≡ transfer_operation in_memory
-transfer_same (view.Register which) h = absurd cc
+transfer_same (resolved.Register which) h = absurd cc
 transfer_same _ h = refl
 
 load_pointer_same : (v : ResolvedOperand) → is_in_memory v ≡ true
     → load_pointer_operation v ≡ load_pointer_operation in_memory
-load_pointer_same (view.Register which) h = absurd cc
+load_pointer_same (resolved.Register which) h = absurd cc
 load_pointer_same _ h = refl
 
 store_pointer_same : (v : ResolvedOperand) → is_in_memory v ≡ true
     → store_pointer_operation v ≡ store_pointer_operation in_memory
-store_pointer_same (view.Register which) h = absurd cc
+store_pointer_same (resolved.Register which) h = absurd cc
 store_pointer_same _ h = refl
 
 memory_word : (m : Mnemonic) (o : Operand) (v : ResolvedOperand) → is_in_memory v ≡ true
@@ -198,18 +201,18 @@ or_true false false false d h k l e = absurd cc
 memory_form : (f : OperandRule) (v : ResolvedOperand) → is_in_memory v ≡ true → takes_operand f v ≡ true
     → takes_operand f in_memory ≡ true
 unfolding takes_operand
-memory_form form.ReadsBit v h k = refl
-memory_form form.ReadsBitOrBare v h k = refl
-memory_form form.WritesBit v h k = refl
-memory_form form.Sets v h k = refl
-memory_form form.Resets v h k = refl
-memory_form form.Loads v h k = refl
-memory_form form.Transfers v h k = refl
-memory_form form.LoadsAr1 v h k = refl
-memory_form form.LoadsAr2 v h k = refl
-memory_form form.StoresAr1 v h k = refl
-memory_form form.StoresAr2 v h k = refl
-memory_form _ view.Nothing h k = absurd cc
+memory_form operand_rules.ReadsBit v h k = refl
+memory_form operand_rules.ReadsBitOrBare v h k = refl
+memory_form operand_rules.WritesBit v h k = refl
+memory_form operand_rules.Sets v h k = refl
+memory_form operand_rules.Resets v h k = refl
+memory_form operand_rules.Loads v h k = refl
+memory_form operand_rules.Transfers v h k = refl
+memory_form operand_rules.LoadsAr1 v h k = refl
+memory_form operand_rules.LoadsAr2 v h k = refl
+memory_form operand_rules.StoresAr1 v h k = refl
+memory_form operand_rules.StoresAr2 v h k = refl
+memory_form _ resolved.Nothing h k = absurd cc
 memory_form _ _ h k = absurd cc
 
 bit_only : (t : OperandForms) → has_width_of t width.Bit ≡ true → (w : Width) → is_bit (Some w) ≡ true
@@ -257,7 +260,7 @@ widths code.Tar2 o w h k = dword_only (operation_takes code.Tar2 o) refl w k
 widths _ o w h k = absurd cc
 
 no_lack : (m : Mnemonic) (o : Operand) (v : ResolvedOperand) (w : Width) → is_in_memory v ≡ true
-    → width_in v ≡ Some w → IsAllowed (form_of m) v
+    → width_in v ≡ Some w → IsTakenBy (form_of m) v
     → lacks_width (op_with_end_mark (operation_for m o v) (flat_operand_of o v)) w ≡ false
 no_lack m o v w mem is h =
     ap (λ (x : Operation). not (has_width_of (takes_of (op_code_of x)) w)) (memory_word m o v mem)
@@ -267,7 +270,7 @@ no_lack m o v w mem is h =
 -- what writes has a form that writes
 unwritten : (m : Mnemonic) (o : Operand) (index : ℕ) (section : PartKind) (declared : Simple) (b : Bool)
     → (form_writes_operand (form_of m) && b) ≡ false
-    → (writes_code (op_code_of (operation_for m o (view.Parameter index section declared))) && b) ≡ false
+    → (writes_code (op_code_of (operation_for m o (resolved.Parameter index section declared))) && b) ≡ false
 unfolding form_of operation_for
 unwritten code.T o index section declared b h = h
 unwritten code.Assign o index section declared b h = h
@@ -283,7 +286,7 @@ unwritten code.Add o index section declared b h = added o
 unwritten _ o index section declared b h = refl
 
 input_section : (index : ℕ) (section : PartKind) (declared : Simple)
-    → is_input (view.Parameter index section declared) ≡ is_input_section section
+    → is_input (resolved.Parameter index section declared) ≡ is_input_section section
 input_section index part.Input declared = refl
 input_section index _ declared = refl
 
@@ -295,13 +298,13 @@ abbrev pub HasWidth : Width → Option Simple → Type 0
 HasWidth w None = Unit {0}
 HasWidth w (Some kind) = w ≡ width_of kind
 
-abbrev pub ViewFits : Environment → ResolvedOperand → Type 0
-ViewFits a (view.Direct place w s declared) =
+abbrev pub IsRightOperand : Environment → ResolvedOperand → Type 0
+IsRightOperand a (resolved.Direct place w s declared) =
     (is_bad_place a place.area w place.byte place.bit ≡ false) × HasWidth w declared
-ViewFits a (view.Parameter index section declared) =
+IsRightOperand a (resolved.Parameter index section declared) =
     (lacks_own_parameter (parameter_meant a index) (width_of declared) ≡ false)
     × (is_input_parameter (parameter_meant a index) ≡ is_input_section section)
-ViewFits a _ = Unit {0}
+IsRightOperand a _ = Unit {0}
 
 numbered_fits : (a : Environment) (w : Operation) (what : Numbered) (from : Area) (byte : ℕ)
     → IsOperandRightFor a (op_with_end_mark w (numbered_operand what from byte)) (numbered_operand what from byte)
@@ -316,27 +319,27 @@ register_fits a w register.Dilg = tt
 register_fits a w register.Dino = tt
 register_fits a w _ = tt
 
-pub operand_fits : (a : Environment) (m : Mnemonic) (o : Operand) (v : ResolvedOperand) → IsAllowed (form_of m) v
-    → ViewFits a v
+pub operand_fits : (a : Environment) (m : Mnemonic) (o : Operand) (v : ResolvedOperand) → IsTakenBy (form_of m) v
+    → IsRightOperand a v
     → IsOperandRightFor a (op_with_end_mark (operation_for m o v) (flat_operand_of o v)) (flat_operand_of o v)
 unfolding flat_operand_of
-operand_fits a m o (view.Direct place w s declared) h fits =
-    (no_lack m o (view.Direct place w s declared) w refl refl h, fits.0)
-operand_fits a m o (view.Parameter index section declared) h fits = (
-  no_lack m o (view.Parameter index section declared) (width_of declared) refl refl h,
+operand_fits a m o (resolved.Direct place w s declared) h fits =
+    (no_lack m o (resolved.Direct place w s declared) w refl refl h, fits.0)
+operand_fits a m o (resolved.Parameter index section declared) h fits = (
+  no_lack m o (resolved.Parameter index section declared) (width_of declared) refl refl h,
   fits.0,
   unwritten m o index section declared (is_input_parameter (parameter_meant a index))
       (ap (λ (b : Bool). form_writes_operand (form_of m) && b)
       (fits.1 ∙ sym (input_section index section declared)) ∙ h.unwritten),
 )
-operand_fits a m o (view.ByMemory ar w from byte) h fits =
-    no_lack m o (view.ByMemory ar w from byte) w refl refl h
-operand_fits a m o (view.ByRegister ar w r bits) h fits =
-    no_lack m o (view.ByRegister ar w r bits) w refl refl h
-operand_fits a m o (view.NumberBy what from byte) h fits =
-    numbered_fits a (operation_for m o (view.NumberBy what from byte)) what from byte
-operand_fits a m o (view.Register which) h fits =
-    register_fits a (operation_for m o (view.Register which)) which
+operand_fits a m o (resolved.ByMemory ar w from byte) h fits =
+    no_lack m o (resolved.ByMemory ar w from byte) w refl refl h
+operand_fits a m o (resolved.ByRegister ar w r bits) h fits =
+    no_lack m o (resolved.ByRegister ar w r bits) w refl refl h
+operand_fits a m o (resolved.NumberBy what from byte) h fits =
+    numbered_fits a (operation_for m o (resolved.NumberBy what from byte)) what from byte
+operand_fits a m o (resolved.Register which) h fits =
+    register_fits a (operation_for m o (resolved.Register which)) which
 operand_fits a m o _ h fits = tt
 
 opened_for : (ar : Area) (w : Width) (number byte bit : ℕ)
@@ -352,6 +355,6 @@ opened_for _ w number byte bit = tt
 
 pub opened_fits : (o : Operand) (v : ResolvedOperand) → IsOpenedFor (flat_operand_of o v) (block_opened_by_operand v)
 unfolding flat_operand_of
-opened_fits o (view.Direct place w s declared) =
+opened_fits o (resolved.Direct place w s declared) =
     opened_for place.area w place.number place.byte place.bit
 opened_fits o _ = tt

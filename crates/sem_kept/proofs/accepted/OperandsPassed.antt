@@ -8,6 +8,7 @@ use Rattle.plc_base.specs.declared.places.Area.{Area}
 use Rattle.plc_base.specs.declared.places.Area.TheVariants as area
 use Rattle.plc_base.specs.declared.places.Width.{Width}
 use Rattle.plc_base.specs.declared.places.Width.TheVariants as width
+use Rattle.flat_code.specs.Records.{section_in}
 use Rattle.flat_code.specs.Blocks.{Environment, is_above, is_bad_actual, is_bad_place, is_in_parameter as is_input_parameter, is_odd_bit, is_past_locals, literal_fits, misfits_index, misfits_parameter, parameter_meant}
 use Rattle.flat_code.specs.declared.image_fields.ParameterRecord.{ParameterRecord}
 use Rattle.flat_code.specs.declared.operands.Passed.{Passed}
@@ -39,7 +40,7 @@ use Rattle.stl_types.specs.Resolution.{resolution_of}
 use Rattle.stl_types.specs.declared.parameters.Formal.{Formal}
 use Rattle.stl_types.specs.declared.views.Resolution.TheVariants.{Resolved}
 use Rattle.stl_types.specs.declared.views.ResolvedOperand.{ResolvedOperand}
-use Rattle.stl_types.specs.declared.views.ResolvedOperand.TheVariants as view
+use Rattle.stl_types.specs.declared.views.ResolvedOperand.TheVariants as resolved
 use Rattle.stl_codegen.specs.Generated.{section_number}
 use Rattle.stl_codegen.specs.Passed.{passed_actual, passed_place, passed_resolution, passings_from, actual_of_formal, with_index}
 use Rattle.stl_codegen.specs.Operations.{operation_for}
@@ -48,8 +49,8 @@ use Rattle.sem_kept.specs.Operands.{ArePassed}
 use Rattle.sem_kept.proofs.accepted.Accepted.{there}
 use Rattle.sem_kept.proofs.accepted.CodedBits.{constant_taken}
 use Rattle.sem_kept.proofs.accepted.OperandsFormals.{IsFoundIn, IsRecordOf, Matched}
-use Rattle.sem_kept.proofs.accepted.OperandsViews.{IsSeen}
-use Rattle.sem_kept.proofs.accepted.OperandsOperations.{HasWidth, ViewFits}
+use Rattle.sem_kept.proofs.accepted.OperandsViews.{ResolvesRight}
+use Rattle.sem_kept.proofs.accepted.OperandsOperations.{HasWidth, IsRightOperand}
 use Rattle.block_layout.proofs.CommonLemmas.{or_first}
 
 -- ---- literals
@@ -174,10 +175,10 @@ place_passes a r area.Db number byte bit w fits same = by (nat_eq number 0)
 place_passes a r _ number byte bit w fits same = (fits, same)
 
 section_input : (f : Formal) (r : ParameterRecord) → IsRecordOf f r
-    → (r.section == 1) ≡ is_input_section f.section
-section_input f r h = ap (λ (n : ℕ). n == 1) h.0 ∙ by f.section h.2
+    → (r.section == section_in) ≡ is_input_section f.section
+section_input f r h = ap (λ (n : ℕ). n == section_in) h.0 ∙ by f.section h.2
   where
-    by : (p : PartKind) → is_parameter p ≡ true → (section_number p == 1) ≡ is_input_section p
+    by : (p : PartKind) → is_parameter p ≡ true → (section_number p == section_in) ≡ is_input_section p
     by part.Input e = refl
     by part.Output e = refl
     by part.InOut e = refl
@@ -190,9 +191,9 @@ own_section false true e = absurd cc
 own_section false false e = refl
 
 view_passes : (a : Environment) (c : Context) (f : Formal) (r : ParameterRecord) (o : Operand) (v : ResolvedOperand)
-    → resolution_of c o ≡ Resolved v → ViewFits a v → IsRecordOf f r → fits_resolved_operand f v ≡ true → Passes a c r o
+    → resolution_of c o ≡ Resolved v → IsRightOperand a v → IsRecordOf f r → fits_resolved_operand f v ≡ true → Passes a c r o
 unfolding fits_resolved_operand
-view_passes a c f r o (view.Direct place w side declared) e fits h taken = record {
+view_passes a c f r o (resolved.Direct place w side declared) e fits h taken = record {
   actual = passed_place place w;
   is = ap (passed_resolution o) e;
   right = (place_passes a r place.area place.number place.byte place.bit w fits.0 same).0;
@@ -202,12 +203,12 @@ view_passes a c f r o (view.Direct place w side declared) e fits h taken = recor
     same : not (r.width == width_number w) ≡ false
     same = width_same r f w h (typed_width f w declared
         (and_first (fits_type f w declared) (takes_side f.section side) taken) fits.1)
-view_passes a c f r o (view.Parameter index own declared) e fits h taken = record {
+view_passes a c f r o (resolved.Parameter index own declared) e fits h taken = record {
   actual = passed.Parameter index (width_of declared);
   is = ap (passed_resolution o) e;
   right = fits.0;
   fits = or_from (not (r.width == width_number (width_of declared)))
-      (not (r.section == 1) && is_input_parameter (parameter_meant a index))
+      (not (r.section == section_in) && is_input_parameter (parameter_meant a index))
       (width_same r f (width_of declared) h
       (same_types declared f.kind (and_first (is_same_type declared f.kind) (takes_section f.section own) taken)))
       (ap (λ (t : Bool). not t && is_input_parameter (parameter_meant a index)) (section_input f r h)
@@ -218,9 +219,9 @@ view_passes a c f r o (view.Parameter index own declared) e fits h taken = recor
 view_passes a c f r o _ e fits h taken = absurd cc
 
 other_passes : (a : Environment) (c : Context) (f : Formal) (r : ParameterRecord) (o : Operand)
-    → IsSeen a (resolution_of c o) → IsRecordOf f r → fits_resolution f (resolution_of c o) ≡ true → Passes a c r o
+    → ResolvesRight a (resolution_of c o) → IsRecordOf f r → fits_resolution f (resolution_of c o) ≡ true → Passes a c r o
 other_passes a c f r o s h taken =
-    view_passes a c f r o s.view s.is s.fits h (ap (fits_resolution f) (sym s.is) ∙ taken)
+    view_passes a c f r o s.operand s.is s.fits h (ap (fits_resolution f) (sym s.is) ∙ taken)
 
 constant_is : (c : Context) (value : Literal)
     → passed_resolution (operand.Constant value) (resolution_of c (operand.Constant value))
@@ -236,14 +237,14 @@ constant_passes a c f r value is has h taken = record {
   actual = passed.Literal (bits_of value);
   is = constant_is c value;
   right = refl;
-  fits = or_from (not (r.section == 1)) (not (literal_fits r.width (bits_of value)))
+  fits = or_from (not (r.section == section_in)) (not (literal_fits r.width (bits_of value)))
       (ap not (section_input f r h ∙ and_first (is_input_section f.section) (fits_elementary_type value f.kind) taken))
       (ap not (ap (λ (n : ℕ). literal_fits n (bits_of value)) h.1
       ∙ literal_width value f.kind is has (and_second (is_input_section f.section) (fits_elementary_type value f.kind) taken)));
 }
 
 pub passes : (a : Environment) (c : Context) (f : Formal) (r : ParameterRecord) (o : Operand)
-    → IsSeen a (resolution_of c o) → IsOperand o → OperandHasBytes o → IsRecordOf f r
+    → ResolvesRight a (resolution_of c o) → IsOperand o → OperandHasBytes o → IsRecordOf f r
     → fits_operand c f o ≡ true → Passes a c r o
 unfolding fits_operand
 passes a c f r (operand.Constant value) s is has h taken = constant_passes a c f r value is has h taken
@@ -253,7 +254,7 @@ passes a c f r o s is has h taken = other_passes a c f r o s h taken
 
 -- an actual parameter of a call, by the parameters of what is called
 pub record IsGoodActual (a : Environment) (c : Context) (formals : List Formal) (x : Actual) : Type 0 where
-  pub seen : IsSeen a (resolution_of c x.value)
+  pub resolves : ResolvesRight a (resolution_of c x.value)
   pub well : IsOperand x.value
   pub bytes : OperandHasBytes x.value
   pub fits : misfits_formal c x (formal_named formals x.name) ≡ false
@@ -279,7 +280,7 @@ pub supplied_passes : (a : Environment) (c : Context) (formals : List Formal) (a
     → AllByRecursion (IsGoodActual a c formals) actuals → IsFoundIn formals f → IsRecordOf f r
     → actual_of_formal actuals f ≡ Some x → Passes a c r x.value
 supplied_passes a c formals actuals f r x good found h e =
-    passes a c f r x.value one.0.seen one.0.well one.0.bytes h
+    passes a c f r x.value one.0.resolves one.0.well one.0.bytes h
     (not-false (fits_operand c f x.value)
     (ap (misfits_formal c x) (sym (found (upper_case_name x.name) one.1)) ∙ one.0.fits))
   where

@@ -38,8 +38,8 @@ ends_here : (op : OpData) (rest : List OpData) → op.last ≡ true → ending_o
 ends_here op [] e = refl
 ends_here op (next ∷ ops) e = rw e refl
 
-marked : (w : Operation) (o : Operand) → prepares_statement (op_code_of w) ≡ false → mark_fault (op_with_end_mark w o) ≡ None
-marked w o e = rw e refl
+no_mark_fault : (w : Operation) (o : Operand) → prepares_statement (op_code_of w) ≡ false → mark_fault (op_with_end_mark w o) ≡ None
+no_mark_fault w o e = rw e refl
 
 -- an operand that isn't a jump's stays as it is
 aimed_still : (f : ℕ → ℕ) (a : Environment) (op : OpData) (o : Operand) → IsOperandRightFor a op o
@@ -98,12 +98,12 @@ ends_calls op (p ∷ ps) call rest going closed = rw going (ends_calls (pass_op 
 
 module _ (a : Environment) (lens : List (ℕ × ℕ)) (ss : List StatementSpot) where
   -- ops have no fault where they stand, behind these of their statement
-  abbrev AreFine : ℕ → List OpenBracket → List ℕ → (before ops : List OpData) → Type 0
-  AreFine at brackets zones before ops = HaveNoOperandFaults a lens ss (ops_placed at brackets zones before ops)
+  abbrev HaveNoFaultAt : ℕ → List OpenBracket → List ℕ → (before ops : List OpData) → Type 0
+  HaveNoFaultAt at brackets zones before ops = HaveNoOperandFaults a lens ss (ops_placed at brackets zones before ops)
 
   -- the ops behind a statement have none wherever they stand
   abbrev FineBehind : List OpData → Type 0
-  FineBehind rest = (at : ℕ) (brackets : List OpenBracket) (zones : List ℕ) → AreFine at brackets zones [] rest
+  FineBehind rest = (at : ℕ) (brackets : List OpenBracket) (zones : List ℕ) → HaveNoFaultAt at brackets zones [] rest
 
   -- the block that a call means
   abbrev callee : BlockId → Option CalleeSeen
@@ -112,10 +112,10 @@ module _ (a : Environment) (lens : List (ℕ × ℕ)) (ss : List StatementSpot) 
   -- an op that ends a statement, and those behind it
   last_fine : (at : ℕ) (brackets : List OpenBracket) (zones : List ℕ) (before : List OpData) (op : OpData) (rest : List OpData)
       → op.last ≡ true → HasNoOperandFault a lens ss (placed_op at brackets zones before op rest)
-      → FineBehind rest → AreFine at brackets zones before (op ∷ rest)
+      → FineBehind rest → HaveNoFaultAt at brackets zones before (op ∷ rest)
   last_fine at brackets zones before op rest last fine behind = (
     fine,
-    subst (λ (z : List OpData). AreFine (at + size_of_op op) (brackets_after at op.code brackets) (zones_behind_op at op.code zones) z rest)
+    subst (λ (z : List OpData). HaveNoFaultAt (at + size_of_op op) (brackets_after at op.code brackets) (zones_behind_op at op.code zones) z rest)
         (sym next) (behind (at + size_of_op op) (brackets_after at op.code brackets) (zones_behind_op at op.code zones)),
   )
     where
@@ -124,11 +124,11 @@ module _ (a : Environment) (lens : List (ℕ × ℕ)) (ss : List StatementSpot) 
 
   does_fine : (at : ℕ) (brackets : List OpenBracket) (zones : List ℕ) (before : List OpData) (w : Operation) (o : Operand)
       (rest : List OpData) → prepares_statement (op_code_of w) ≡ false → IsOperandRightFor a (op_with_end_mark w o) o
-      → FineBehind rest → AreFine at brackets zones before (op_with_end_mark w o ∷ rest)
+      → FineBehind rest → HaveNoFaultAt at brackets zones before (op_with_end_mark w o ∷ rest)
   does_fine at brackets zones before w o rest own right behind =
       let p = placed_op at brackets zones before (op_with_end_mark w o) rest in
       last_fine at brackets zones before (op_with_end_mark w o) rest refl
-      (record { operand = λ still. right_operand a ss p o right; call = right_call a lens p o right; mark = marked w o own })
+      (record { operand = λ still. right_operand a ss p o right; call = right_call a lens p o right; mark = no_mark_fault w o own })
       behind
 
   use_db_fine : (at number : ℕ) (brackets : List OpenBracket) (zones : List ℕ) (w : Operation) (o : Operand)
@@ -151,7 +151,7 @@ module _ (a : Environment) (lens : List (ℕ × ℕ)) (ss : List StatementSpot) 
       (placed_op at brackets zones before (pass_op p) (pass_ops ps ++ call_op calls.Call block instance ∷ rest))
   pass_fine at brackets zones before p ps block instance rest above bad misfits = record {
     operand = λ still. seven_none _ (or_from (is_stray_pass here p.index) (is_bad_actual a p.actual) stray bad);
-    call = seven_none _ (ap (λ (op : OpData). op.code == 0x78 && misfits_call a op.operand p.index p.actual) last ∙ misfits);
+    call = seven_none _ (ap (λ (op : OpData). op.code == op_code_of (operation.Call calls.Call) && misfits_call a op.operand p.index p.actual) last ∙ misfits);
     mark = refl;
   }
     where
@@ -163,13 +163,13 @@ module _ (a : Environment) (lens : List (ℕ × ℕ)) (ss : List StatementSpot) 
 
       stray : is_stray_pass here p.index ≡ false
       stray =
-          ap (λ (op : OpData). not (op.code == 0x78) || not (is_above p.index (pass_before None before))) last
+          ap (λ (op : OpData). not (op.code == op_code_of (operation.Call calls.Call)) || not (is_above p.index (pass_before None before))) last
           ∙ not_true (is_above p.index (pass_before None before)) above
 
   call_fine : (at : ℕ) (brackets : List OpenBracket) (zones : List ℕ) (before : List OpData) (how : CallOperation)
       (block : BlockId) (instance : Option ℕ) (rest : List OpData)
       → is_bad_call lens (callee block) (instance_number_or_zero instance) before ≡ false
-      → FineBehind rest → AreFine at brackets zones before (call_op how block instance ∷ rest)
+      → FineBehind rest → HaveNoFaultAt at brackets zones before (call_op how block instance ∷ rest)
   call_fine at brackets zones before how block instance rest bad behind =
       last_fine at brackets zones before (call_op how block instance) rest refl
       (record { operand = λ still. refl; call = seven_none _ bad; mark = by how }) behind
@@ -182,7 +182,7 @@ module _ (a : Environment) (lens : List (ℕ × ℕ)) (ss : List StatementSpot) 
       (instance : Option ℕ) (left : List Passing) (rest : List OpData)
       → ArePassed a (callee block) (pass_before None done) left
       → is_bad_call lens (callee block) (instance_number_or_zero instance) (done ++ pass_ops left) ≡ false
-      → FineBehind rest → AreFine at brackets zones done (pass_ops left ++ call_op calls.Call block instance ∷ rest)
+      → FineBehind rest → HaveNoFaultAt at brackets zones done (pass_ops left ++ call_op calls.Call block instance ∷ rest)
   calls_fine at brackets zones done block instance [] rest passed bad behind =
       call_fine at brackets zones done calls.Call block instance rest
       (subst (λ (z : List OpData). is_bad_call lens (callee block) (instance_number_or_zero instance) z ≡ false)
@@ -201,13 +201,13 @@ module _ (a : Environment) (lens : List (ℕ × ℕ)) (ss : List StatementSpot) 
   -- ---- statements
 
   jump_fine : (at kind target : ℕ) (brackets : List OpenBracket) (zones : List ℕ) (rest : List OpData) → FineBehind rest
-      → AreFine at brackets zones [] (op_with_end_mark operation.Jump (operand.Jump kind target) ∷ rest)
+      → HaveNoFaultAt at brackets zones [] (op_with_end_mark operation.Jump (operand.Jump kind target) ∷ rest)
   jump_fine at kind target brackets zones rest behind =
       last_fine at brackets zones [] (op_with_end_mark operation.Jump (operand.Jump kind target)) rest refl
       (record { operand = λ still. absurd still; call = refl; mark = refl }) behind
 
   end_fine : (at : ℕ) (brackets : List OpenBracket) (zones : List ℕ) (how : EndOperation) (rest : List OpData)
-      → FineBehind rest → AreFine at brackets zones [] (end_op how ∷ rest)
+      → FineBehind rest → HaveNoFaultAt at brackets zones [] (end_op how ∷ rest)
   end_fine at brackets zones how rest behind =
       last_fine at brackets zones [] (end_op how) rest refl
       (record { operand = λ still. refl; call = refl; mark = by how }) behind
@@ -217,14 +217,14 @@ module _ (a : Environment) (lens : List (ℕ × ℕ)) (ss : List StatementSpot) 
       by _ = refl
 
   instr_fine : (f : ℕ → ℕ) (at : ℕ) (brackets : List OpenBracket) (zones : List ℕ) (i : Instr) (rest : List OpData)
-      → InstrFits a lens i → FineBehind rest → AreFine at brackets zones [] (map (op_with_target f) (ops_of i) ++ rest)
+      → InstrFits a lens i → FineBehind rest → HaveNoFaultAt at brackets zones [] (map (op_with_target f) (ops_of i) ++ rest)
   unfolding ops_of
   instr_fine f at brackets zones (Does None w o) rest h behind =
-      subst (λ (x : Operand). AreFine at brackets zones [] (op_with_end_mark w x ∷ rest))
+      subst (λ (x : Operand). HaveNoFaultAt at brackets zones [] (op_with_end_mark w x ∷ rest))
       (sym (aimed_still f a (op_with_end_mark w o) o h.1))
       (does_fine at brackets zones [] w o rest h.0 h.1 behind)
   instr_fine f at brackets zones (Does (Some number) w o) rest h behind =
-      subst (λ (x : Operand). AreFine at brackets zones [] (use_db_op number ∷ op_with_end_mark w x ∷ rest))
+      subst (λ (x : Operand). HaveNoFaultAt at brackets zones [] (use_db_op number ∷ op_with_end_mark w x ∷ rest))
       (sym (aimed_still f a (op_with_end_mark w o) o h.1)) (
         use_db_fine at number brackets zones w o rest h.2,
         does_fine (at + size_of_op (use_db_op number)) brackets zones (use_db_op number ∷ []) w o rest h.0 h.1 behind,
@@ -235,7 +235,7 @@ module _ (a : Environment) (lens : List (ℕ × ℕ)) (ss : List StatementSpot) 
       jump_fine at 1 (f otherwise) brackets zones rest behind
   instr_fine f at brackets zones (Returns how) rest h behind = end_fine at brackets zones how rest behind
   instr_fine f at brackets zones (Calls calls.Call block instance ps) rest h behind =
-      subst (AreFine at brackets zones []) (sym same) (calls_fine at brackets zones [] block instance ps rest h.1 h.2 behind)
+      subst (HaveNoFaultAt at brackets zones []) (sym same) (calls_fine at brackets zones [] block instance ps rest h.1 h.2 behind)
     where
       call : OpData
       call = call_op calls.Call block instance
@@ -256,10 +256,10 @@ module _ (a : Environment) (lens : List (ℕ × ℕ)) (ss : List StatementSpot) 
       → FineBehind (map (op_with_target f) (ops_in statements))
   statements_fine f [] h at brackets zones = tt
   statements_fine f (s ∷ more) h at brackets zones =
-      subst (AreFine at brackets zones []) (sym (map-append (op_with_target f) (ops_of s.instr) (ops_in more)))
+      subst (HaveNoFaultAt at brackets zones []) (sym (map-append (op_with_target f) (ops_of s.instr) (ops_in more)))
       (instr_fine f at brackets zones s.instr (map (op_with_target f) (ops_in more)) h.0 (statements_fine f more h.1))
 
   pub code_fine : (statements : List SourceInstruction) → AllByRecursion (λ s. InstrFits a lens s.instr) statements
-      → AreFine 0 [] [] [] (placed_ops (ops_in statements))
+      → HaveNoFaultAt 0 [] [] [] (placed_ops (ops_in statements))
   unfolding placed_ops
   code_fine statements h = statements_fine _ statements h 0 [] []

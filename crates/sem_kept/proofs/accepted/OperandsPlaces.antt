@@ -31,7 +31,7 @@ use Rattle.block_layout.specs.Around.{Outside, of_sections, of_structure, declar
 use Rattle.block_layout.specs.Cells.{cell_of, cells_of, components_of, is_temp, layout_element, with_first_cell_opening, returned_cells, section_cells}
 use Rattle.block_layout.specs.Members.{component_of_name}
 use Rattle.block_layout.specs.Offsets.{place_at, elementary_place, width_of}
-use Rattle.block_layout.specs.Paths.{cells_at, elementary_at, path_end_at_cell, path_end_at_member, path_end_and_then, in_sections, path_end_by_index, indexed_behind, is_beyond, kind_of, path_end_by_name, named_behind, named_in, outermost_path_end, plain_kind, path_end_by_step, path_end_behind, walked_local, whole_at, path_end_in_bounds}
+use Rattle.block_layout.specs.Paths.{cells_at, elementary_at, path_end_at_cell, path_end_at_member, path_end_and_then, in_sections, path_end_by_index, indexed_behind, is_beyond, kind_of, path_end_by_name, named_behind, named_in, outermost_path_end, plain_kind, path_end_by_step, path_end_behind, path_end_of_local, whole_at, path_end_in_bounds}
 use Rattle.block_layout.specs.Sizes.{array_bits, capped_size, element_of, plain_bits}
 use Rattle.block_layout.specs.Types.{Types}
 use Rattle.block_layout.specs.declared.blocks.BlockLayout.{BlockLayout}
@@ -45,7 +45,7 @@ use Rattle.block_layout.specs.declared.walks.PathEnd.TheVariants as path_end
 use Rattle.stl_types.specs.Variables.{behind_others, variable_in_area}
 use Rattle.stl_types.specs.declared.views.Resolution.TheVariants.{Resolved}
 use Rattle.stl_types.specs.declared.views.Side.TheVariants as side
-use Rattle.stl_types.specs.declared.views.ResolvedOperand.TheVariants as view
+use Rattle.stl_types.specs.declared.views.ResolvedOperand.TheVariants as resolved
 use Rattle.stl_codegen.specs.Instruction.{return_last}
 use Rattle.sem_kept.proofs.accepted.Accepted.{there}
 use Rattle.block_layout.proofs.AlignmentLemmas.{Lies, Meets, MeetsKind}
@@ -63,16 +63,16 @@ plain_of (Plain k) kind e = ap Plain (let same : k ≡ kind = cc in same)
 plain_of _ kind e = absurd cc
 
 -- a component that is elementary: all its indices are there
-pub record IsElementary (s : ComponentAt) (c : Cell) (kind : Simple) : Type 0 where
+pub record IsElementaryComponent (s : ComponentAt) (c : Cell) (kind : Simple) : Type 0 where
   pub whole : drop s.depth c.bounds ≡ []
   pub plain : c.of ≡ Plain kind
 
 pub elementary : (s : ComponentAt) (c : Cell) (kind : Simple) → kind_of s (Some c) ≡ Some kind
-    → IsElementary s c kind
+    → IsElementaryComponent s c kind
 elementary s c kind e = by (nat_eq s.depth (length c.bounds)) refl e
   where
     by : (t : Bool) → nat_eq s.depth (length c.bounds) ≡ t
-        → (if t then plain_kind c.of else None) ≡ Some kind → IsElementary s c kind
+        → (if t then plain_kind c.of else None) ≡ Some kind → IsElementaryComponent s c kind
     by true is h =
         let same : s.depth ≡ length c.bounds = eqb-true s.depth (length c.bounds) is in
         record {
@@ -92,13 +92,13 @@ reached_place l limit s kind h e = record {
       is.whole h.within);
 }
   where
-    is : IsElementary s h.cell kind
+    is : IsElementaryComponent s h.cell kind
     is = elementary s h.cell kind (ap (λ (o : Option Cell). kind_of s o) (sym h.there) ∙ e)
 
 pub placed_sees : (a : Area) (number offset limit : ℕ) (kind : Simple) → IsPlaced limit offset kind
     → limit ≤ 524280
     → variable_in_area kind (elementary_place a number offset (Some kind))
-    ≡ Resolved (view.Direct (place_at a number offset) (width_of kind) side.Both (Some kind))
+    ≡ Resolved (resolved.Direct (place_at a number offset) (width_of kind) side.Both (Some kind))
 placed_sees a number offset limit kind h few =
     ap (λ (t : Bool). variable_in_area kind (if t then Some (place_at a number offset, width_of kind) else None))
     (le-leb (offset / 8) 65535 (small offset (plain_bits kind) limit h.within few))
@@ -380,12 +380,12 @@ on_stays k (path_end.Reaches s) next h g = g s h.0 h.1
 on_stays k path_end.Unknown next h g = tt
 on_stays k path_end.Unjudged next h g = tt
 
-walked_stays : (l : List BlockLayout) (k : ℕ) → ArePlain l k → (ps : List PathStep) (s : ComponentAt)
+path_end_stays : (l : List BlockLayout) (k : ℕ) → ArePlain l k → (ps : List PathStep) (s : ComponentAt)
     → s.block ≡ k → s.temporary ≡ false → Stays k (path_end_behind l s ps)
-walked_stays l k plain [] s e f = (e, f)
-walked_stays l k plain (p ∷ ps) s e f =
+path_end_stays l k plain [] s e f = (e, f)
+path_end_stays l k plain (p ∷ ps) s e f =
     on_stays k (path_end_by_step l s p) (λ next. path_end_behind l next ps) (step_stays l k plain s p e f)
-    (λ next g h. walked_stays l k plain ps next g h)
+    (λ next g h. path_end_stays l k plain ps next g h)
 
 outermost_stays : (l : List BlockLayout) (k offset : ℕ) (name : List ℕ)
     → Stays k (outermost_path_end l k false offset name)
@@ -395,12 +395,12 @@ outermost_stays l k offset name =
 
 pub local_stays : (l : List BlockLayout) (k : ℕ) → ArePlain l k → (name : List ℕ)
     (ps : List PathStep) → is_some (component_of_name 0 0 0 name (cells_at l k false)) ≡ true
-    → is_some (whole_at l k) ≡ true → Stays k (walked_local l k name ps)
-unfolding walked_local
+    → is_some (whole_at l k) ≡ true → Stays k (path_end_of_local l k name ps)
+unfolding path_end_of_local
 local_stays l k plain name ps own whole =
     subst (λ (t : Bool). Stays k (if t then path_end_and_then (in_sections l k name) (λ s. path_end_behind l s ps) else path_end.Unjudged))
     (sym whole)
     (subst (λ (t : Bool). Stays k (path_end_and_then (if t then outermost_path_end l k false 0 name else outermost_path_end l k true 0 name)
     (λ s. path_end_behind l s ps))) (sym own)
     (on_stays k (outermost_path_end l k false 0 name) (λ s. path_end_behind l s ps) (outermost_stays l k 0 name)
-    (λ s e f. walked_stays l k plain ps s e f)))
+    (λ s e f. path_end_stays l k plain ps s e f)))

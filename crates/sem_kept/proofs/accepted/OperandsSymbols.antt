@@ -15,28 +15,28 @@ use Rattle.stl_symbols.specs.declared.targets.Target.TheVariants as target
 use Rattle.stl_symbols.proofs.FileLemmas.{symbols_right}
 use Rattle.sem_kept.proofs.accepted.Accepted.{all_mapped}
 
-abbrev pub TargetFits : Target → Type 0
-TargetFits (target.Variable place width) =
+abbrev pub IsRightTarget : Target → Type 0
+IsRightTarget (target.Variable place width) =
     (is_odd_bit width place.bit ≡ false) × (has_symbols place.area ≡ true)
-TargetFits _ = Unit {0}
+IsRightTarget _ = Unit {0}
 
-abbrev pub SymbolFits : Symbol → Type 0
-SymbolFits s = TargetFits s.target
+abbrev pub IsRightSymbol : Symbol → Type 0
+IsRightSymbol s = IsRightTarget s.target
 
 bit_fits : (w : Width) (bit : ℕ) → IsFirstBit w bit → is_odd_bit w bit ≡ false
 bit_fits Bit bit h = refl
 bit_fits _ bit h = ap not (eq-eqb bit 0 h)
 
-target_fits : (t : Target) → IsSymbolTarget t → TargetFits t
+target_fits : (t : Target) → IsSymbolTarget t → IsRightTarget t
 target_fits (target.Variable place w) h = (bit_fits w place.bit h.bit, h.area)
 target_fits _ h = tt
 
 -- all symbols of a file
 pub symbols_fit : (language : Language) (file : List ℕ) (symbols : List Symbol)
     → symbols_in language file ≡ Ok symbols
-    → AllByRecursion SymbolFits symbols
+    → AllByRecursion IsRightSymbol symbols
 symbols_fit language file symbols are =
-    all_mapped IsSymbol SymbolFits (λ s is. target_fits s.target is.target) symbols
+    all_mapped IsSymbol IsRightSymbol (λ s is. target_fits s.target is.target) symbols
     (symbols_right language file symbols are).each
 
 -- what is found has what all have
@@ -54,6 +54,6 @@ unfolding symbol_named
 named_has P name symbols h = found_has P (λ symbol. is_same_name name symbol.name) symbols h
 
 pub named_fits : (name : List ℕ) (symbols : List Symbol) (s : Symbol)
-    → AllByRecursion SymbolFits symbols → symbol_named name symbols ≡ Some s → SymbolFits s
+    → AllByRecursion IsRightSymbol symbols → symbol_named name symbols ≡ Some s → IsRightSymbol s
 named_fits name symbols s h e =
-    subst (λ (o : Option Symbol). IfSome o SymbolFits) e (named_has SymbolFits name symbols h)
+    subst (λ (o : Option Symbol). IfSome o IsRightSymbol) e (named_has IsRightSymbol name symbols h)

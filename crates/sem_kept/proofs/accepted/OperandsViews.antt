@@ -1,4 +1,4 @@
--- What the operands of a source that breaks no rule name: each is seen, and fits its block.
+-- What the operands of a source that breaks no rule name: each resolves, and fits its block.
 use Rattle.std.proofs.Common.{ℕ, zero, suc, ◌≡◌, ◌<◌, ◌≤◌, ◌+◌, ◌/◌, ◌%◌, max, List, [], ◌∷◌, ◌++◌, Option, Some, None, is_some, Bool, true, false, not, refl, sym, ◌∙◌, ap, subst, arith, length, map, if◌then◌else◌, ltb-false, le-ltb, eq-eqb}
 use Rattle.std.specs.Prelude.{◌==◌}
 use Rattle.std.specs.List.{AllByRecursion, flat_map, slice_get}
@@ -13,6 +13,7 @@ use Rattle.plc_base.specs.declared.places.Area.{Area}
 use Rattle.plc_base.specs.declared.places.Area.TheVariants as area
 use Rattle.plc_base.specs.declared.places.Width.{Width}
 use Rattle.plc_base.specs.declared.places.Width.TheVariants as width
+use Rattle.flat_code.specs.Records.{section_in}
 use Rattle.flat_code.specs.Blocks.{Environment, is_bad_place, is_in_parameter as is_input_parameter, is_odd_bit, is_past_locals, lacks_own_parameter, parameter_meant}
 use Rattle.flat_code.specs.Image.{record_of_param}
 use Rattle.flat_code.specs.declared.image_fields.ParameterRecord.{ParameterRecord}
@@ -51,7 +52,7 @@ use Rattle.block_layout.specs.Lengths.{farthest_actual_end, block_bits, farthest
 use Rattle.block_layout.specs.Measures.{types_of_source}
 use Rattle.block_layout.specs.Members.{component_of_name}
 use Rattle.block_layout.specs.Offsets.{place_at, elementary_place, width_of}
-use Rattle.block_layout.specs.Paths.{cells_at, elementary_at, folded_path, kind_of, leaves_local, shape_block, structure_of, path_end_in_data_block, walked_local, whole_at, whole_block}
+use Rattle.block_layout.specs.Paths.{cells_at, elementary_at, folded_path, kind_of, leaves_local, shape_block, structure_of, path_end_in_data_block, path_end_of_local, whole_at, whole_block}
 use Rattle.block_layout.specs.Rule23.{is_unknown_data, is_unknown_path, is_unknown_shape, names_unknown}
 use Rattle.block_layout.specs.Rule42.{leaves_found, leaves_path, operand_is_outside}
 use Rattle.block_layout.specs.Rule50.{has_too_much_local}
@@ -71,24 +72,25 @@ use Rattle.stl_types.specs.Addresses.{resolved_address, address_in_block, area_f
 use Rattle.stl_types.specs.Context.{Context, data_number, data_place, in_function, is_of_function, number_of_block}
 use Rattle.stl_types.specs.Resolution.{resolution_of_opened_block, resolution_of_path, resolution_of, resolution_of_symbol, resolved_target}
 use Rattle.stl_types.specs.Unknown.{is_unknown}
-use Rattle.stl_types.specs.Variables.{composite_operand, data_at, date_or_composite, data_path, data_variable, data_walked, variable_in_area, own_at, own_elementary, own_variable, own_walked, parameter_resolution, parameter_at, parameter_index}
+use Rattle.stl_types.specs.Variables.{composite_operand, data_at, date_or_composite, data_path, data_variable, data_at_path_end, variable_in_area, own_at, own_elementary, own_variable, own_at_path_end, parameter_resolution, parameter_at, parameter_index}
 use Rattle.stl_types.specs.declared.views.Resolution.{Resolution}
 use Rattle.stl_types.specs.declared.views.Resolution.TheVariants.{Resolved}
 use Rattle.stl_types.specs.declared.views.Side.TheVariants as side
 use Rattle.stl_types.specs.declared.views.ResolvedOperand.{ResolvedOperand}
-use Rattle.stl_types.specs.declared.views.ResolvedOperand.TheVariants as view
+use Rattle.stl_types.specs.declared.views.ResolvedOperand.TheVariants as resolved
 use Rattle.stl_codegen.specs.Generated.{param_at_bits, param_here, param_of, params_of, section_number}
 use Rattle.stl_codegen.specs.Instruction.{return_last}
-use Rattle.sem_kept.proofs.accepted.Accepted.{IsSound, IsSoundTree, context_at}
+use Rattle.sem_kept.specs.Settled.{context_at}
+use Rattle.sem_kept.proofs.accepted.Accepted.{IsSoundBlock, IsSoundTree}
 use Rattle.block_layout.proofs.BlockLemmas.{IsFoundBlock, found_there, kind_there}
 use Rattle.block_layout.proofs.CommonLemmas.{IsOrigin, all_there, origin, or_second}
 use Rattle.sem_kept.proofs.accepted.OperandsCells.{are_right, cells_are, layout_of_block}
 use Rattle.block_layout.proofs.LayoutLemmas.{measured_ids, measured_symbols}
 use Rattle.block_layout.proofs.ContainmentLemmas.{Moves, data_goes, local_goes, local_moves}
-use Rattle.sem_kept.proofs.accepted.OperandsPlaces.{AreParameters, GivesOne, IsElementary, IsParameterCell, IsPlaced, Stays, count_each, data_fits, elementary, function_components, in_its_order, instance_fits, local_fits, local_stays, one_each, placed_sees, reached_place}
-use Rattle.sem_kept.proofs.accepted.OperandsSymbols.{SymbolFits, TargetFits, named_fits}
+use Rattle.sem_kept.proofs.accepted.OperandsPlaces.{AreParameters, GivesOne, IsElementaryComponent, IsParameterCell, IsPlaced, Stays, count_each, data_fits, elementary, function_components, in_its_order, instance_fits, local_fits, local_stays, one_each, placed_sees, reached_place}
+use Rattle.sem_kept.proofs.accepted.OperandsSymbols.{IsRightSymbol, IsRightTarget, named_fits}
 use Rattle.block_layout.proofs.AlignmentLemmas.{AreRight, Goes, Lies, structure_even}
-use Rattle.sem_kept.proofs.accepted.OperandsOperations.{ViewFits}
+use Rattle.sem_kept.proofs.accepted.OperandsOperations.{IsRightOperand}
 
 -- ---- what surrounds a block
 
@@ -192,24 +194,24 @@ no_components y b h is =
     shaped : IsShapeOf kinds.Ob b.shape b.instance_of b.components
     shaped = subst (λ (k : BlockKind). IsShapeOf k b.shape b.instance_of b.components) is h.shaped
 
--- ---- what is seen
+-- ---- what operands resolve to
 
--- an operand is seen, and what it names fits
-pub record IsSeen (a : Environment) (s : Resolution) : Type 0 where
-  pub view : ResolvedOperand
-  pub is : s ≡ Resolved view
-  pub fits : ViewFits a view
+-- an operand resolves, and what it names fits
+pub record ResolvesRight (a : Environment) (s : Resolution) : Type 0 where
+  pub operand : ResolvedOperand
+  pub is : s ≡ Resolved operand
+  pub fits : IsRightOperand a operand
 
-view_seen : (a : Environment) (v : ResolvedOperand) → ViewFits a v → IsSeen a (Resolved v)
-view_seen a v fits = record { view = v; is = refl; fits = fits }
+view_seen : (a : Environment) (v : ResolvedOperand) → IsRightOperand a v → ResolvesRight a (Resolved v)
+view_seen a v fits = record { operand = v; is = refl; fits = fits }
 
-composite_seen : (a : Environment) (o : Option Cell) → IsSeen a (Resolved (composite_operand o))
-composite_seen a None = view_seen a view.Composite tt
+composite_seen : (a : Environment) (o : Option Cell) → ResolvesRight a (Resolved (composite_operand o))
+composite_seen a None = view_seen a resolved.Composite tt
 composite_seen a (Some c) = by c.of
   where
-    by : (e : Element) → IsSeen a (Resolved (date_or_composite e))
-    by DateAndTime = view_seen a view.Date tt
-    by _ = view_seen a view.Composite tt
+    by : (e : Element) → ResolvesRight a (Resolved (date_or_composite e))
+    by DateAndTime = view_seen a resolved.Date tt
+    by _ = view_seen a resolved.Composite tt
 
 -- ---- parameters
 
@@ -259,15 +261,15 @@ param_there b l cells place c kind is same each there plain section =
     (params_each cells cells each) there (param_here_is cells c kind section plain))))
 
 section_is_input : (p : PartKind) → is_parameter p ≡ true
-    → (section_number p == 1) ≡ is_input_section p
+    → (section_number p == section_in) ≡ is_input_section p
 section_is_input part.Static e = absurd cc
 section_is_input part.Temp e = absurd cc
 section_is_input _ e = refl
 
-own_there : (a : Environment) (index : ℕ) (q : ParameterRecord) → a.kind ≡ 2
+own_there : (a : Environment) (index : ℕ) (q : ParameterRecord) → a.kind ≡ kind_number kinds.Fc
     → slice_get a.params index ≡ Some q → parameter_meant a index ≡ Some q
 own_there a index q is there =
-    ap (λ (t : Bool). if t then slice_get a.params index else None) (eq-eqb a.kind 2 is) ∙ there
+    ap (λ (t : Bool). if t then slice_get a.params index else None) (eq-eqb a.kind (kind_number kinds.Fc) is) ∙ there
 
 -- ---- addresses and symbols
 
@@ -293,7 +295,7 @@ outside_locals : (a : Environment) (ar : Area) (w : Width) (byte : ℕ) → has_
 outside_locals a area.L w byte h = absurd cc
 outside_locals a _ w byte h = refl
 
-target_fits : (a : Environment) (x : Target) → TargetFits x → ViewFits a (resolved_target x)
+target_fits : (a : Environment) (x : Target) → IsRightTarget x → IsRightOperand a (resolved_target x)
 target_fits a (target.Variable place w) h = (
   or_from (is_odd_bit w place.bit) (is_past_locals a place.area w place.byte) h.0
       (outside_locals a place.area w place.byte h.1),
@@ -311,7 +313,7 @@ code_kind : (k : BlockKind) → is_code k ≡ true → is_function k ≡ false �
 code_kind kinds.Ob e f g = refl
 code_kind _ e f g = absurd cc
 
-function_kind : (k : BlockKind) → is_function k ≡ true → k ≡ kinds.Fc
+pub function_kind : (k : BlockKind) → is_function k ≡ true → k ≡ kinds.Fc
 function_kind kinds.Fc e = refl
 function_kind _ e = absurd cc
 
@@ -340,24 +342,24 @@ no_component name e = absurd cc
 -- ---- the layout of a block
 
 pub layout_length : (symbols : List Symbol) (t : Tree) (p : ℕ) (b : Block) (l : BlockLayout)
-    → IsSound symbols t p b l → l.length ≡ length_of_block (types_of_source symbols t.blocks) t.blocks b
+    → IsSoundBlock symbols t p b l → l.length ≡ length_of_block (types_of_source symbols t.blocks) t.blocks b
 unfolding block_layout
 layout_length symbols t p b l h = ap (λ (z : BlockLayout). z.length) h.layout
 
 pub layout_components : (symbols : List Symbol) (t : Tree) (p : ℕ) (b : Block) (l : BlockLayout)
-    → IsSound symbols t p b l → l.components ≡ components_of (types_of_source symbols t.blocks) b
+    → IsSoundBlock symbols t p b l → l.components ≡ components_of (types_of_source symbols t.blocks) b
 unfolding block_layout
 layout_components symbols t p b l h = ap (λ (z : BlockLayout). z.components) h.layout
 
 pub layout_local : (symbols : List Symbol) (t : Tree) (p : ℕ) (b : Block) (l : BlockLayout)
-    → IsSound symbols t p b l → l.local_len ≡ local_len (types_of_source symbols t.blocks) b
+    → IsSoundBlock symbols t p b l → l.local_len ≡ local_len (types_of_source symbols t.blocks) b
 unfolding block_layout
 layout_local symbols t p b l h = ap (λ (z : BlockLayout). z.local_len) h.layout
 
 -- ---- the block's own variables
 
 module _ (symbols : List Symbol) (t : Tree) (tree : IsSoundTree symbols t) (k : ℕ) (b : Block)
-    (l : BlockLayout) (block : IsSound symbols t k b l) (code : is_code b.kind ≡ true)
+    (l : BlockLayout) (block : IsSoundBlock symbols t k b l) (code : is_code b.kind ≡ true)
     (a : Environment) (around : Surrounds symbols t b l a) where
   whole_here : is_some (whole_at (layouts_of t symbols) k) ≡ true
   whole_here = ap is_some (whole_is (layouts_of t symbols) k l block.layout_there block.whole)
@@ -377,10 +379,10 @@ module _ (symbols : List Symbol) (t : Tree) (tree : IsSoundTree symbols t) (k : 
   -- a temporary variable
   temporary_seen : (s : ComponentAt) → Lies (layouts_of t symbols) (structure_bits (cells_at (layouts_of t symbols) k true)) s
       → (o : Option Simple) → elementary_at (layouts_of t symbols) s ≡ o
-      → IsSeen a (own_at (context_at symbols t k) true s o)
+      → ResolvesRight a (own_at (context_at symbols t k) true s o)
   temporary_seen s h None e = composite_seen a (slice_get (cells_at (layouts_of t symbols) s.block s.temporary) s.place)
   temporary_seen s h (Some kind) e = record {
-    view = view.Direct (place_at area.L 0 s.offset) (width_of kind) side.Both (Some kind);
+    operand = resolved.Direct (place_at area.L 0 s.offset) (width_of kind) side.Both (Some kind);
     is = placed_sees area.L 0 s.offset (structure_bits (cells_at (layouts_of t symbols) k true)) kind at
         (few (structure_bits (cells_at (layouts_of t symbols) k true)) a.local_len within short);
     fits = (
@@ -411,10 +413,10 @@ module _ (symbols : List Symbol) (t : Tree) (tree : IsSoundTree symbols t) (k : 
   instance_seen : (limit : ℕ) → limit ≤ 131072 → is_function b.kind ≡ false → (s : ComponentAt)
       → Lies (layouts_of t symbols) limit s
       → (o : Option Simple) → elementary_at (layouts_of t symbols) s ≡ o
-      → IsSeen a (own_at (context_at symbols t k) false s o)
+      → ResolvesRight a (own_at (context_at symbols t k) false s o)
   instance_seen limit few other s h None e = composite_seen a (slice_get (cells_at (layouts_of t symbols) s.block s.temporary) s.place)
   instance_seen limit few other s h (Some kind) e = record {
-    view = view.Direct (place_at area.Di 0 s.offset) (width_of kind) side.Both (Some kind);
+    operand = resolved.Direct (place_at area.Di 0 s.offset) (width_of kind) side.Both (Some kind);
     is =
         ap (λ (t' : Bool). if t' then parameter_at (context_at symbols t k) s kind
         else variable_in_area kind (elementary_place area.Di 0 s.offset (Some kind))) (function_here ∙ other)
@@ -428,7 +430,7 @@ module _ (symbols : List Symbol) (t : Tree) (tree : IsSoundTree symbols t) (k : 
   -- a parameter of a function
   parameter_seen : b.kind ≡ kinds.Fc → (s : ComponentAt) → s.block ≡ k → s.temporary ≡ false
       → (o : Option Simple) → elementary_at (layouts_of t symbols) s ≡ o
-      → IsSeen a (own_at (context_at symbols t k) false s o)
+      → ResolvesRight a (own_at (context_at symbols t k) false s o)
   parameter_seen is s at own None e = composite_seen a (slice_get (cells_at (layouts_of t symbols) s.block s.temporary) s.place)
   parameter_seen is s at own (Some kind) e =
       by (slice_get (cells_at (layouts_of t symbols) k false) s.place) refl
@@ -444,9 +446,9 @@ module _ (symbols : List Symbol) (t : Tree) (tree : IsSoundTree symbols t) (k : 
           (function_components (types_of_source symbols t.blocks) b block.well_formed is)
 
       found : (c : Cell) → slice_get (cells_at (layouts_of t symbols) k false) s.place ≡ Some c
-          → IsElementary s c kind → IsSeen a (own_elementary (context_at symbols t k) false s kind)
+          → IsElementaryComponent s c kind → ResolvesRight a (own_elementary (context_at symbols t k) false s kind)
       found c there elem = record {
-        view = view.Parameter index c.section kind;
+        operand = resolved.Parameter index c.section kind;
         is =
             ap (λ (t' : Bool). if t' then parameter_at (context_at symbols t k) s kind
             else variable_in_area kind (elementary_place area.Di 0 s.offset (Some kind)))
@@ -475,7 +477,7 @@ module _ (symbols : List Symbol) (t : Tree) (tree : IsSoundTree symbols t) (k : 
 
       by : (o : Option Cell) → slice_get (cells_at (layouts_of t symbols) k false) s.place ≡ o
           → kind_of s o ≡ Some kind
-          → IsSeen a (own_elementary (context_at symbols t k) false s kind)
+          → ResolvesRight a (own_elementary (context_at symbols t k) false s kind)
       by None there f = absurd cc
       by (Some c) there f = found c there (elementary s c kind f)
 
@@ -483,7 +485,7 @@ module _ (symbols : List Symbol) (t : Tree) (tree : IsSoundTree symbols t) (k : 
   own_seen : (name : List ℕ) (steps : List PathStep)
       → is_unknown (own_variable (context_at symbols t k) name steps) ≡ false
       → leaves_local (layouts_of t symbols) k name steps ≡ false
-      → IsSeen a (own_variable (context_at symbols t k) name steps)
+      → ResolvesRight a (own_variable (context_at symbols t k) name steps)
   own_seen name steps known stays = by (is_some (component_of_name 0 0 0 name cells)) refl known
     where
       ls : List BlockLayout
@@ -495,21 +497,21 @@ module _ (symbols : List Symbol) (t : Tree) (tree : IsSoundTree symbols t) (k : 
       temps : List Cell
       temps = cells_at ls k true
 
-      walked : PathEnd
-      walked = walked_local ls k name steps
+      reached_end : PathEnd
+      reached_end = path_end_of_local ls k name steps
 
       right : AreRight ls
       right = are_right symbols t tree
 
-      -- each component that the path reaches is seen
+      -- each component that the path reaches resolves
       IsRead : Bool → Type 0
-      IsRead temporary = (s : ComponentAt) → walked ≡ path_end.Reaches s
-          → IsSeen a (own_at (context_at symbols t k) temporary s (elementary_at ls s))
+      IsRead temporary = (s : ComponentAt) → reached_end ≡ path_end.Reaches s
+          → ResolvesRight a (own_at (context_at symbols t k) temporary s (elementary_at ls s))
 
       reads : (temporary : Bool) (w : PathEnd)
-          → ((s : ComponentAt) → w ≡ path_end.Reaches s → IsSeen a (own_at (context_at symbols t k) temporary s (elementary_at ls s)))
-          → Moves w → is_unknown (own_walked (context_at symbols t k) temporary w) ≡ false
-          → IsSeen a (own_walked (context_at symbols t k) temporary w)
+          → ((s : ComponentAt) → w ≡ path_end.Reaches s → ResolvesRight a (own_at (context_at symbols t k) temporary s (elementary_at ls s)))
+          → Moves w → is_unknown (own_at_path_end (context_at symbols t k) temporary w) ≡ false
+          → ResolvesRight a (own_at_path_end (context_at symbols t k) temporary w)
       reads temporary (path_end.Reaches s) f m known = f s refl
       reads temporary path_end.Unknown f m known = absurd cc
       reads temporary path_end.Unjudged f m known = absurd m
@@ -571,10 +573,10 @@ module _ (symbols : List Symbol) (t : Tree) (tree : IsSoundTree symbols t) (k : 
           kind false false f g = of_organization (code_kind b.kind code f g) e
 
       by : (there : Bool) → is_some (component_of_name 0 0 0 name cells) ≡ there
-          → is_unknown (own_walked (context_at symbols t k) (not there) walked) ≡ false
-          → IsSeen a (own_walked (context_at symbols t k) (not there) walked)
-      by true e known = reads false walked (own e) (local_moves ls right k name steps whole_here) known
-      by false e known = reads true walked (temporary e) (local_moves ls right k name steps whole_here) known
+          → is_unknown (own_at_path_end (context_at symbols t k) (not there) reached_end) ≡ false
+          → ResolvesRight a (own_at_path_end (context_at symbols t k) (not there) reached_end)
+      by true e known = reads false reached_end (own e) (local_moves ls right k name steps whole_here) known
+      by false e known = reads true reached_end (temporary e) (local_moves ls right k name steps whole_here) known
 
 -- ---- data blocks
 
@@ -603,10 +605,10 @@ pub record IsThere (symbols : List Symbol) (t : Tree) (kinds : BlockKind → Boo
   pub is : layout.id ≡ Some id
   pub kind : kinds id.kind ≡ true
   pub same : block.kind ≡ id.kind
-  pub sound : IsSound symbols t p block layout
+  pub sound : IsSoundBlock symbols t p block layout
 
 pub layout_id : (symbols : List Symbol) (t : Tree) (p : ℕ) (b : Block) (l : BlockLayout)
-    → IsSound symbols t p b l → l.id ≡ id_of symbols b
+    → IsSoundBlock symbols t p b l → l.id ≡ id_of symbols b
 unfolding block_layout
 layout_id symbols t p b l h =
     ap (λ (z : BlockLayout). z.id) h.layout
@@ -631,7 +633,7 @@ id_there symbols t tree kinds p id there kind = record {
     from = origin (λ b. id_of symbols b) t.blocks p (Some id)
         (ap (λ (ids : List (Option BlockId)). slice_get ids p) (sym (measured_ids symbols t.blocks)) ∙ there)
 
-    laid : (l : BlockLayout) × (slice_get (layouts_of t symbols) p ≡ Some l) × IsSound symbols t p from.of l
+    laid : (l : BlockLayout) × (slice_get (layouts_of t symbols) p ≡ Some l) × IsSoundBlock symbols t p from.of l
     laid = layout_of_block symbols t tree p from.of from.there
 
 pub id_there_is : (symbols : List Symbol) (t : Tree) (tree : IsSoundTree symbols t)
@@ -660,7 +662,7 @@ place_same symbols t k name =
     (sym (measured_symbols symbols t.blocks))
 
 -- the data block of a name that is known
-pub record IsData (symbols : List Symbol) (t : Tree) (k : ℕ) (name : BlockName) : Type 0 where
+pub record IsKnownDataBlock (symbols : List Symbol) (t : Tree) (k : ℕ) (name : BlockName) : Type 0 where
   pub place : ℕ
   pub found : data_place (context_at symbols t k) name ≡ Some place
   pub listed : found_block (types_of_source symbols t.blocks).symbols (types_of_source symbols t.blocks).ids is_data_block name ≡ Some place
@@ -669,7 +671,7 @@ pub record IsData (symbols : List Symbol) (t : Tree) (k : ℕ) (name : BlockName
 
 pub data_there : (symbols : List Symbol) (t : Tree) → IsSoundTree symbols t → (k : ℕ)
     (name : BlockName) → is_unknown_data (types_of_source symbols t.blocks) name ≡ false
-    → IsData symbols t k name
+    → IsKnownDataBlock symbols t k name
 data_there symbols t tree k name e = record {
   place = place.0;
   found = found;
@@ -716,13 +718,13 @@ shape_found y (Some n) other e = (n, by (found_block y.symbols y.ids has_structu
     by (Some m) e = ap (λ (i : ℕ). Some i) (let same : m ≡ other = cc in same)
 
 pub layout_shape : (symbols : List Symbol) (t : Tree) (p : ℕ) (b : Block) (l : BlockLayout)
-    → IsSound symbols t p b l → l.shape ≡ shape_of (types_of_source symbols t.blocks) b
+    → IsSoundBlock symbols t p b l → l.shape ≡ shape_of (types_of_source symbols t.blocks) b
 unfolding block_layout
 layout_shape symbols t p b l h = ap (λ (z : BlockLayout). z.shape) h.layout
 
-pub structured : (symbols : List Symbol) (t : Tree) → IsSoundTree symbols t → (p : ℕ)
+pub structure_known : (symbols : List Symbol) (t : Tree) → IsSoundTree symbols t → (p : ℕ)
     → IsThere symbols t is_data_block p → IsStructured symbols t p
-structured symbols t tree p d = by (shape_of y d.block) refl
+structure_known symbols t tree p d = by (shape_of y d.block) refl
   where
     y : Types
     y = types_of_source symbols t.blocks
@@ -734,7 +736,7 @@ structured symbols t tree p d = by (shape_of y d.block) refl
     kind = d.same ∙ data_block_kind d.id.kind d.kind
 
     -- the structure is that of this block
-    made : (inside : ℕ) (b : Block) (l : BlockLayout) → IsSound symbols t inside b l → (sh : Shape)
+    made : (inside : ℕ) (b : Block) (l : BlockLayout) → IsSoundBlock symbols t inside b l → (sh : Shape)
         → shape_of y d.block ≡ sh → shape_block ls p sh ≡ Some inside
         → shape_bits y t.blocks d.block sh ≡ structure_bits (components_of y b) → IsStructured symbols t p
     made inside b l sound sh e is bits = record {
@@ -783,9 +785,9 @@ pub data_seen : (symbols : List Symbol) (t : Tree) → IsSoundTree symbols t →
     → is_unknown (data_variable (context_at symbols t k) name steps) ≡ false
     → leaves_found (layouts_of t symbols)
     (found_block (types_of_source symbols t.blocks).symbols (types_of_source symbols t.blocks).ids is_data_block name) steps ≡ false
-    → IsSeen a (data_variable (context_at symbols t k) name steps)
+    → ResolvesRight a (data_variable (context_at symbols t k) name steps)
 data_seen symbols t tree k a name steps there known stays =
-    subst (IsSeen a) (sym whole) (reads (path_end_in_data_block ls d.place steps) goes
+    subst (ResolvesRight a) (sym whole) (reads (path_end_in_data_block ls d.place steps) goes
     (subst (λ (s : Resolution). is_unknown s ≡ false) whole known))
   where
     ls : List BlockLayout
@@ -794,16 +796,16 @@ data_seen symbols t tree k a name steps there known stays =
     c : Context
     c = context_at symbols t k
 
-    d : IsData symbols t k name
+    d : IsKnownDataBlock symbols t k name
     d = data_there symbols t tree k name there
 
     s : IsStructured symbols t d.place
-    s = structured symbols t tree d.place d.block
+    s = structure_known symbols t tree d.place d.block
 
     limit : ℕ
     limit = structure_bits (cells_at ls s.inside false)
 
-    whole : data_variable c name steps ≡ data_walked c d.block.id.number (path_end_in_data_block ls d.place steps)
+    whole : data_variable c name steps ≡ data_at_path_end c d.block.id.number (path_end_in_data_block ls d.place steps)
     whole =
         ap (λ (o : Option ℕ). data_path c steps o (data_place c name)) d.number
         ∙ ap (λ (o : Option ℕ). data_path c steps (Some d.block.id.number) o) d.found
@@ -813,10 +815,10 @@ data_seen symbols t tree k a name steps there known stays =
         (omega arith) (subst (λ (o : Option ℕ). leaves_found ls o steps ≡ false) d.listed stays)
 
     at : (w : ComponentAt) → Lies ls limit w → (o : Option Simple) → elementary_at ls w ≡ o
-        → IsSeen a (data_at c d.block.id.number w o)
+        → ResolvesRight a (data_at c d.block.id.number w o)
     at w h None e = composite_seen a (slice_get (cells_at ls w.block w.temporary) w.place)
     at w h (Some kind) e = record {
-      view = view.Direct (place_at area.Db d.block.id.number w.offset) (width_of kind) side.Both (Some kind);
+      operand = resolved.Direct (place_at area.Db d.block.id.number w.offset) (width_of kind) side.Both (Some kind);
       is = placed_sees area.Db d.block.id.number w.offset limit kind place (let small = s.small in omega (arith, small));
       fits = (data_fits a w.offset limit kind place, refl);
     }
@@ -824,8 +826,8 @@ data_seen symbols t tree k a name steps there known stays =
         place : IsPlaced limit w.offset kind
         place = reached_place ls limit w kind h e
 
-    reads : (w : PathEnd) → Goes ls limit w → is_unknown (data_walked c d.block.id.number w) ≡ false
-        → IsSeen a (data_walked c d.block.id.number w)
+    reads : (w : PathEnd) → Goes ls limit w → is_unknown (data_at_path_end c d.block.id.number w) ≡ false
+        → ResolvesRight a (data_at_path_end c d.block.id.number w)
     reads (path_end.Reaches w) g u = at w g (elementary_at ls w) refl
     reads path_end.Unknown g u = absurd cc
     reads path_end.Unjudged g u = absurd g
@@ -840,14 +842,14 @@ pub record IsChecked (symbols : List Symbol) (t : Tree) (k : ℕ) (o : Operand) 
   pub inside : operand_is_outside (types_of_source symbols t.blocks) (layouts_of t symbols) k o ≡ false
 
 module _ (symbols : List Symbol) (t : Tree) (tree : IsSoundTree symbols t)
-    (fit : AllByRecursion SymbolFits symbols) (k : ℕ) (b : Block) (l : BlockLayout)
-    (block : IsSound symbols t k b l) (code : is_code b.kind ≡ true)
+    (fit : AllByRecursion IsRightSymbol symbols) (k : ℕ) (b : Block) (l : BlockLayout)
+    (block : IsSoundBlock symbols t k b l) (code : is_code b.kind ≡ true)
     (a : Environment) (around : Surrounds symbols t b l a) where
   symbol_fits : (name : List ℕ) (o : Option Symbol) → symbol_named name symbols ≡ o
-      → is_unknown (resolution_of_symbol o) ≡ false → IsSeen a (resolution_of_symbol o)
+      → is_unknown (resolution_of_symbol o) ≡ false → ResolvesRight a (resolution_of_symbol o)
   symbol_fits name None e known = absurd cc
   symbol_fits name (Some s) e known = record {
-    view = resolved_target s.target;
+    operand = resolved_target s.target;
     is = refl;
     fits = target_fits a s.target (named_fits name symbols s fit e);
   }
@@ -856,7 +858,7 @@ module _ (symbols : List Symbol) (t : Tree) (tree : IsSoundTree symbols t)
       → is_unknown (resolution_of_path (context_at symbols t k) p steps) ≡ false
       → is_unknown_path (types_of_source symbols t.blocks) p ≡ false
       → leaves_path (types_of_source symbols t.blocks) (layouts_of t symbols) k p steps ≡ false
-      → IsSeen a (resolution_of_path (context_at symbols t k) p steps)
+      → ResolvesRight a (resolution_of_path (context_at symbols t k) p steps)
   path_fits (head.Local name) steps known there inside =
       own_seen symbols t tree k b l block code a around (upper_case_name name) (folded_path steps) known inside
   path_fits (head.InBlock name) steps known there inside =
@@ -865,26 +867,26 @@ module _ (symbols : List Symbol) (t : Tree) (tree : IsSoundTree symbols t)
       symbol_fits name (symbol_named name symbols) refl known
 
   pub operand_seen : (o : Operand) → IsChecked symbols t k o → names_called_block o ≡ false
-      → local_end o ≤ a.local_len → IsSeen a (resolution_of (context_at symbols t k) o)
+      → local_end o ≤ a.local_len → ResolvesRight a (resolution_of (context_at symbols t k) o)
   unfolding resolution_of
   operand_seen (operand.Direct None ar w byte bit) h other ends =
       view_seen a _ (address_fits a ar w byte bit h.well_formed.2 ends, tt)
   operand_seen (operand.Direct (Some name) ar w byte bit) h other ends = record {
-    view = resolved_address d.block.id.number ar w byte bit;
+    operand = resolved_address d.block.id.number ar w byte bit;
     is = ap (λ (o : Option ℕ). address_in_block o ar w byte bit) d.number;
     fits = (address_fits a ar w byte bit h.well_formed.2 ends, tt);
   }
     where
-      d : IsData symbols t k name
+      d : IsKnownDataBlock symbols t k name
       d = data_there symbols t tree k name h.there
   operand_seen (operand.Named p steps) h other ends = path_fits p steps h.known h.there h.inside
   operand_seen (operand.OpenBlock di name) h other ends = record {
-    view = view.OpenBlock di d.block.id.number;
+    operand = resolved.OpenBlock di d.block.id.number;
     is = ap (λ (o : Option ℕ). resolution_of_opened_block di o) d.number;
     fits = tt;
   }
     where
-      d : IsData symbols t k name
+      d : IsKnownDataBlock symbols t k name
       d = data_there symbols t tree k name h.there
   operand_seen (operand.Called name instance) h other ends = absurd cc
   operand_seen _ h other ends = view_seen a _ tt

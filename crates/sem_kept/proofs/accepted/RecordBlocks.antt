@@ -45,8 +45,9 @@ use Rattle.stl_codegen.specs.Generated.{code_block, code_block_of, code_blocks_o
 use Rattle.stl_codegen.specs.Instruction.{instruction}
 use Rattle.stl_codegen.specs.Order.{is_code_before, is_data_before, is_id_before}
 use Rattle.sem_kept.specs.Records.{HasFaultlessCode}
-use Rattle.sem_kept.proofs.accepted.Accepted.{AllLaid, IsSound, IsSoundTree, context_at}
-use Rattle.sem_kept.proofs.accepted.RecordData.{got, id_there, length_there, types_symbols}
+use Rattle.sem_kept.specs.Settled.{context_at}
+use Rattle.sem_kept.proofs.accepted.Accepted.{AllLaid, IsSoundBlock, IsSoundTree}
+use Rattle.sem_kept.proofs.accepted.RecordData.{holds_at, id_there, length_there, types_symbols}
 use Rattle.sem_kept.proofs.accepted.RecordOrder.{AreApart, Differ, Rise, rise_sorted}
 use Rattle.sem_kept.proofs.accepted.RecordParams.{HasParams, params_right}
 use Rattle.block_layout.proofs.BlockLemmas.{kind_there}
@@ -92,7 +93,7 @@ module _ {A : Type 0} (of : Context → Block → BlockLayout → List A) (wante
 
   -- an item of a later block
   later : (x : A) (i : BlockId) (k : ℕ) → Named x i → wanted i.kind ≡ true → slice_get (types_of_source symbols t.blocks).ids k ≡ Some (Some i)
-      → (j : ℕ) (bs : List Block) (ls : List BlockLayout) → k < j → AllLaid (IsSound symbols t) j bs ls
+      → (j : ℕ) (bs : List Block) (ls : List BlockLayout) → k < j → AllLaid (IsSoundBlock symbols t) j bs ls
       → AllByRecursion (Differ lt x) (each_block of (context_at symbols t j) bs ls)
   later x i k named is there j [] ls low h = tt
   later x i k named is there j (b ∷ bs) [] low h = tt
@@ -109,7 +110,7 @@ module _ {A : Type 0} (of : Context → Block → BlockLayout → List A) (wante
           (ap (λ (o : Option BlockId). is_earlier (option_and_then (λ d. place_of_block d (types_of_source symbols t.blocks).ids) o) (length h.0.before)) (sym found) ∙ h.0.head.by_22)
           (omega (arith, count, low)) there
 
-  apart : (k : ℕ) (bs : List Block) (ls : List BlockLayout) → AllLaid (IsSound symbols t) k bs ls
+  apart : (k : ℕ) (bs : List Block) (ls : List BlockLayout) → AllLaid (IsSoundBlock symbols t) k bs ls
       → AreApart lt (each_block of (context_at symbols t k) bs ls)
   apart k [] ls h = tt
   apart k (b ∷ bs) [] h = tt
@@ -294,11 +295,11 @@ pub record HasFields (last : ℕ) (b : CodeBlock) : Type 0 where
   pub number : is_block_number b.id.kind b.id.number ≡ true
   pub params : HasParams (kind_number b.id.kind) b.instance_len b.params
   pub local : b.local_len ≤ 1024
-  pub start : kind_number b.id.kind ≡ 1 → 20 ≤ b.local_len
-  pub instance : (if eqb (kind_number b.id.kind) 3 then leb b.instance_len 16384 else eqb b.instance_len 0) ≡ true
+  pub start : kind_number b.id.kind ≡ kind_number kinds.Ob → 20 ≤ b.local_len
+  pub instance : (if eqb (kind_number b.id.kind) (kind_number kinds.Fb) then leb b.instance_len 16384 else eqb b.instance_len 0) ≡ true
   pub lines : AreRisingLines last 1 b.lines
 
-local_there : (symbols : List Symbol) (t : Tree) (k : ℕ) (b : Block) (l : BlockLayout) → IsSound symbols t k b l → l.local_len ≡ local_len (types_of_source symbols t.blocks) b
+local_there : (symbols : List Symbol) (t : Tree) (k : ℕ) (b : Block) (l : BlockLayout) → IsSoundBlock symbols t k b l → l.local_len ≡ local_len (types_of_source symbols t.blocks) b
 unfolding block_layout
 local_there symbols t k b l h = ap (λ (x : BlockLayout). x.local_len) h.layout
 
@@ -306,14 +307,14 @@ local_start : (y : Types) (b : Block) → b.kind ≡ kinds.Ob → 20 ≤ local_l
 unfolding local_len
 local_start y b kind = rw kind (omega arith)
 
-instance_right : (symbols : List Symbol) (t : Tree) (k : ℕ) (b : Block) (l : BlockLayout) (kind : BlockKind) → IsSound symbols t k b l → b.kind ≡ kind → is_code kind ≡ true
-    → (if eqb (kind_number kind) 3 then leb (instance_len b l) 16384 else eqb (instance_len b l) 0) ≡ true
+instance_right : (symbols : List Symbol) (t : Tree) (k : ℕ) (b : Block) (l : BlockLayout) (kind : BlockKind) → IsSoundBlock symbols t k b l → b.kind ≡ kind → is_code kind ≡ true
+    → (if eqb (kind_number kind) (kind_number kinds.Fb) then leb (instance_len b l) 16384 else eqb (instance_len b l) 0) ≡ true
 instance_right symbols t k b l kind h same code = by kind same code
   where
     none : is_function_block b.kind ≡ false → eqb (instance_len b l) 0 ≡ true
     none e = ap (λ (s : Bool). eqb (if s then l.length else 0) 0) e
 
-    by : (kind : BlockKind) → b.kind ≡ kind → is_code kind ≡ true → (if eqb (kind_number kind) 3 then leb (instance_len b l) 16384 else eqb (instance_len b l) 0) ≡ true
+    by : (kind : BlockKind) → b.kind ≡ kind → is_code kind ≡ true → (if eqb (kind_number kind) (kind_number kinds.Fb) then leb (instance_len b l) 16384 else eqb (instance_len b l) 0) ≡ true
     by kinds.Ob same code = none (ap is_function_block same)
     by kinds.Fc same code = none (ap is_function_block same)
     by kinds.Fb same code =
@@ -324,16 +325,16 @@ instance_right symbols t k b l kind h same code = by kind same code
     by kinds.Udt same code = absurd cc
     by kinds.Sfc same code = absurd cc
 
-number_one : (k : BlockKind) → is_code k ≡ true → kind_number k ≡ 1 → k ≡ kinds.Ob
-number_one kinds.Ob h e = refl
-number_one kinds.Fc h e = absurd (omega (arith, e))
-number_one kinds.Fb h e = absurd (omega (arith, e))
-number_one kinds.Db h e = absurd cc
-number_one kinds.Udt h e = absurd cc
-number_one kinds.Sfc h e = absurd cc
+ob_kind : (k : BlockKind) → is_code k ≡ true → kind_number k ≡ kind_number kinds.Ob → k ≡ kinds.Ob
+ob_kind kinds.Ob h e = refl
+ob_kind kinds.Fc h e = absurd (omega (arith, e))
+ob_kind kinds.Fb h e = absurd (omega (arith, e))
+ob_kind kinds.Db h e = absurd cc
+ob_kind kinds.Udt h e = absurd cc
+ob_kind kinds.Sfc h e = absurd cc
 
 pub fields_of : (last : ℕ) (symbols : List Symbol) (t : Tree) → AllByRecursion (λ b. AreRisingLines last 1 (statement_lines_of b)) t.blocks
-    → (k : ℕ) (b : Block) (l : BlockLayout) (id : BlockId) → IsSound symbols t k b l → l.id ≡ Some id → is_code id.kind ≡ true
+    → (k : ℕ) (b : Block) (l : BlockLayout) (id : BlockId) → IsSoundBlock symbols t k b l → l.id ≡ Some id → is_code id.kind ≡ true
     → HasFields last (compiled_block (code_block (context_at symbols t k) b l id))
 fields_of last symbols t rise k b l id h named code =
     let found : id_of (types_of_source symbols t.blocks).symbols b ≡ Some id = sym (id_there symbols t k b l h) ∙ named in
@@ -345,18 +346,18 @@ fields_of last symbols t rise k b l id h named code =
       number = not-false (is_block_number id.kind id.number) (ap is_number_beyond_limits (sym found) ∙ h.head.by_44);
       params = params_right symbols t k b l id.kind h kind code;
       local = omega (arith, local, most);
-      start = λ e. let least = local_start (types_of_source symbols t.blocks) b (kind ∙ number_one id.kind code e) in omega (arith, local, least);
+      start = λ e. let least = local_start (types_of_source symbols t.blocks) b (kind ∙ ob_kind id.kind code e) in omega (arith, local, least);
       instance = instance_right symbols t k b l id.kind h kind code;
       lines = lines_stated last (context_at symbols t k) b
-          (some_holds (slice_get t.blocks k) b (λ x. AreRisingLines last 1 (statement_lines_of x)) h.block_there (got (λ x. AreRisingLines last 1 (statement_lines_of x)) t.blocks k rise));
+          (some_holds (slice_get t.blocks k) b (λ x. AreRisingLines last 1 (statement_lines_of x)) h.block_there (holds_at (λ x. AreRisingLines last 1 (statement_lines_of x)) t.blocks k rise));
     }
 
 -- the fields one by one
-kind_good : (before kind : ℕ) → 1 ≤ kind → kind ≤ 3 → before ≤ kind → (kind_field before).good kind ≡ true
+kind_good : (before kind : ℕ) → kind_number kinds.Ob ≤ kind → kind ≤ kind_number kinds.Fb → before ≤ kind → (kind_field before).good kind ≡ true
 unfolding kind_field field_fault
 kind_good before kind low high rises = grind (arith, nat_tests)
 
-count_good : (kind n : ℕ) → n ≤ 60 → (not (eqb kind 1) || eqb n 0) ≡ true → (parameter_count_layout kind).good n ≡ true
+count_good : (kind n : ℕ) → n ≤ 60 → (not (eqb kind (kind_number kinds.Ob)) || eqb n 0) ≡ true → (parameter_count_layout kind).good n ≡ true
 unfolding parameter_count_layout field_fault
 count_good kind n few none = grind (arith, nat_tests)
 
@@ -365,11 +366,11 @@ number_good : (kind_before before kind number : ℕ) → number < 65536 → has_
 unfolding block_number_layout field_fault
 number_good kind_before before kind number near there rises = and_from _ _ (lt-ltb number 65536 near) (rw there (rw rises refl))
 
-local_good : (kind n : ℕ) → n ≤ 1024 → (not (eqb kind 1) || leb 20 n) ≡ true → (local_length_layout kind).good n ≡ true
+local_good : (kind n : ℕ) → n ≤ 1024 → (not (eqb kind (kind_number kinds.Ob)) || leb 20 n) ≡ true → (local_length_layout kind).good n ≡ true
 unfolding local_length_layout field_fault
 local_good kind n few start = grind (arith, nat_tests)
 
-instance_good : (kind n : ℕ) → n < 65536 → (if eqb kind 3 then leb n 16384 else eqb n 0) ≡ true → (instance_bytes_layout kind).good n ≡ true
+instance_good : (kind n : ℕ) → n < 65536 → (if eqb kind (kind_number kinds.Fb) then leb n 16384 else eqb n 0) ≡ true → (instance_bytes_layout kind).good n ≡ true
 unfolding instance_bytes_layout field_fault
 instance_good kind n near h = and_from _ _ (lt-ltb n 65536 near) (rw h refl)
 
@@ -390,7 +391,7 @@ number_there kinds.Db n code h = absurd cc
 number_there kinds.Udt n code h = absurd cc
 number_there kinds.Sfc n code h = absurd cc
 
-kind_within : (k : BlockKind) → is_code k ≡ true → (1 ≤ kind_number k) × (kind_number k ≤ 3)
+kind_within : (k : BlockKind) → is_code k ≡ true → (kind_number kinds.Ob ≤ kind_number k) × (kind_number k ≤ kind_number kinds.Fb)
 kind_within kinds.Ob h = (omega arith, omega arith)
 kind_within kinds.Fc h = (omega arith, omega arith)
 kind_within kinds.Fb h = (omega arith, omega arith)
@@ -399,14 +400,14 @@ kind_within kinds.Udt h = absurd cc
 kind_within kinds.Sfc h = absurd cc
 
 -- a test that holds by cases
-implied : (kind : ℕ) (t : Bool) → (kind ≡ 1 → t ≡ true) → (not (eqb kind 1) || t) ≡ true
-implied kind t h = by (eqb kind 1) refl
+implied : (kind : ℕ) (t : Bool) → (kind ≡ kind_number kinds.Ob → t ≡ true) → (not (eqb kind (kind_number kinds.Ob)) || t) ≡ true
+implied kind t h = by (eqb kind (kind_number kinds.Ob)) refl
   where
-    by : (s : Bool) → eqb kind 1 ≡ s → (not s || t) ≡ true
-    by true e = h (eqb-true kind 1 e)
+    by : (s : Bool) → eqb kind (kind_number kinds.Ob) ≡ s → (not s || t) ≡ true
+    by true e = h (eqb-true kind (kind_number kinds.Ob) e)
     by false e = refl
 
-instance_near : (kind n : ℕ) → (if eqb kind 3 then leb n 16384 else eqb n 0) ≡ true → n < 65536
+instance_near : (kind n : ℕ) → (if eqb kind (kind_number kinds.Fb) then leb n 16384 else eqb n 0) ≡ true → n < 65536
 instance_near kind n h = grind (arith, nat_tests)
 
 head_good : (last : ℕ) (before : ℕ × ℕ) (b : CodeBlock) → HasFields last b → HasFaultlessCode b → before.0 ≤ kind_number b.id.kind
@@ -468,9 +469,9 @@ marks_there x =
 -- ---- a whole record
 
 -- as many values as there are
-pub counted : {S A : Type 0} (l : S → Layout A) (next : S → A → S) (s : S) (xs : List A) → good_many l next s (length xs) xs ≡ all_good l next s xs
-counted l next s [] = refl
-counted l next s (x ∷ xs) = ap (λ (t : Bool). (l s).good x && t) (counted l next (next s x) xs)
+pub all_counted_by : {S A : Type 0} (l : S → Layout A) (next : S → A → S) (s : S) (xs : List A) → good_many l next s (length xs) xs ≡ all_good l next s xs
+all_counted_by l next s [] = refl
+all_counted_by l next s (x ∷ xs) = ap (λ (t : Bool). (l s).good x && t) (all_counted_by l next (next s x) xs)
 
 nothing_stops : (with_code_faults : Bool) (ops : List OpData) → code_fault ops ≡ None → stop_at with_code_faults ops [] ≡ None
 nothing_stops true ops h = h
@@ -492,10 +493,10 @@ block_good : (last : ℕ) (with_code_faults : Bool) (before : ℕ × ℕ) (b : C
 unfolding block_layout_of plain_block block_rows code_and_lines parameters_layout lines_layout
 block_good last with_code_faults before b near h c marks low rises =
     and_from _ _ (head_good last before b h c low rises)
-    (and_from _ _ (counted (λ s. parameter_layout (kind_number b.id.kind) b.instance_len) same_state 0 (map record_of_param b.params) ∙ h.params.good)
+    (and_from _ _ (all_counted_by (λ s. parameter_layout (kind_number b.id.kind) b.instance_len) same_state 0 (map record_of_param b.params) ∙ h.params.good)
     (and_from _ _ (code_good with_code_faults b.code c.ops c.ends)
     (and_from _ _ (marks_good with_code_faults (end_marks b.code) (length b.lines) marks)
-    (counted (line_field with_code_faults) line_after 0 b.lines ∙ lines_good with_code_faults last 0 1 b.lines near (omega arith) (omega arith) h.lines))))
+    (all_counted_by (line_field with_code_faults) line_after 0 b.lines ∙ lines_good with_code_faults last 0 1 b.lines near (omega arith) (omega arith) h.lines))))
 
 -- ---- all of them
 

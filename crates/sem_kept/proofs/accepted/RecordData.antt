@@ -36,7 +36,9 @@ use Rattle.flat_code.proofs.CheckLemmas.{contents_good, zero_word_good}
 use Rattle.stl_codegen.specs.Generated.{generated_data_block, data_block_of, data_blocks_of, each_block, function_block_number, instance_in}
 use Rattle.stl_codegen.specs.Order.{is_data_before}
 use Rattle.block_layout.proofs.HeadLemmas.{AllHeads, heads_none}
-use Rattle.sem_kept.proofs.accepted.Accepted.{AllLaid, IsSound, IsSoundTree, context_at, sound_data_blocks}
+use Rattle.sem_kept.specs.Initial.{writes_of}
+use Rattle.sem_kept.specs.Settled.{context_at}
+use Rattle.sem_kept.proofs.accepted.Accepted.{AllLaid, IsSoundBlock, IsSoundTree, sound_data_blocks}
 use Rattle.sem_kept.proofs.accepted.RecordNames.{IsByte, OfBytes}
 use Rattle.sem_kept.proofs.accepted.RecordOrder.{Rise, RiseFrom, sum_sorted}
 use Rattle.block_layout.proofs.FillLemmas.{written_length}
@@ -93,9 +95,6 @@ zero_bytes : (n : ℕ) → OfBytes (replicate n 0)
 zero_bytes zero = tt
 zero_bytes (suc n) = (omega arith, zero_bytes n)
 
-abbrev writes_of : List BlockLayout → List Block → ℕ → List Write
-writes_of l blocks block = structure_writes l (structure_of l block) ++ setting_writes l block (settings_at (slice_get blocks block))
-
 initial_are : (l : List BlockLayout) (blocks : List Block) (block : ℕ) → OfBytes (initial_bytes l blocks block)
 unfolding initial_bytes
 initial_are l blocks block =
@@ -117,13 +116,13 @@ unfolding types_of_source with_all_bits with_all_depths
 types_symbols symbols blocks = refl
 
 -- of the layouts, as far as they have one
-abbrev HasNumber : BlockLayout → Type 0
-HasNumber l = is_number_beyond_limits l.id ≡ false
+abbrev HasNumberInLimits : BlockLayout → Type 0
+HasNumberInLimits l = is_number_beyond_limits l.id ≡ false
 
-pub got : {A : Type 0} (P : A → Type 0) (xs : List A) (i : ℕ) → AllByRecursion P xs → IfSome (slice_get xs i) P
-got P [] i h = tt
-got P (x ∷ xs) zero h = h.0
-got P (x ∷ xs) (suc i) h = got P xs i h.1
+pub holds_at : {A : Type 0} (P : A → Type 0) (xs : List A) (i : ℕ) → AllByRecursion P xs → IfSome (slice_get xs i) P
+holds_at P [] i h = tt
+holds_at P (x ∷ xs) zero h = h.0
+holds_at P (x ∷ xs) (suc i) h = holds_at P xs i h.1
 
 number_within : (id : BlockId) → is_function_block id.kind ≡ true → is_number_beyond_limits (Some id) ≡ false → id.number ≤ 2047
 number_within id fb within = by id.kind fb within
@@ -144,18 +143,18 @@ function_number (Some id) within = by (is_function_block id.kind) refl
     by true e = let most = number_within id e within in omega (arith, most)
     by false e = omega arith
 
-instance_within : (layouts : List BlockLayout) (s : Shape) → AllByRecursion HasNumber layouts → number_of_instance (instance_in layouts s) ≤ 2048
+instance_within : (layouts : List BlockLayout) (s : Shape) → AllByRecursion HasNumberInLimits layouts → number_of_instance (instance_in layouts s) ≤ 2048
 instance_within layouts shape.Own h = omega arith
 instance_within layouts shape.Unknown h = omega arith
-instance_within layouts (shape.Of block) h = by (slice_get layouts block) (got HasNumber layouts block h)
+instance_within layouts (shape.Of block) h = by (slice_get layouts block) (holds_at HasNumberInLimits layouts block h)
   where
-    by : (o : Option BlockLayout) → IfSome o HasNumber → number_of_instance (option_and_then (λ l. function_block_number l.id) o) ≤ 2048
+    by : (o : Option BlockLayout) → IfSome o HasNumberInLimits → number_of_instance (option_and_then (λ l. function_block_number l.id) o) ≤ 2048
     by None k = omega arith
     by (Some l) k = function_number l.id k
 
 -- ---- a data block
 
-pub record IsData (d : DataBlock) : Type 0 where
+pub record IsDataRecord (d : DataBlock) : Type 0 where
   low : 1 ≤ d.number
   high : d.number ≤ 2047
   instance : number_of_instance d.instance_of ≤ 2048
@@ -174,24 +173,24 @@ data_number_within id db within = by id.kind db within
     by kinds.Sfc h k = absurd cc
 
 -- the length of the layout of a block
-pub length_there : (symbols : List Symbol) (t : Tree) (k : ℕ) (b : Block) (l : BlockLayout) → IsSound symbols t k b l
+pub length_there : (symbols : List Symbol) (t : Tree) (k : ℕ) (b : Block) (l : BlockLayout) → IsSoundBlock symbols t k b l
     → l.length ≡ length_of_block (types_of_source symbols t.blocks) t.blocks b
 unfolding block_layout
 length_there symbols t k b l h = ap (λ (x : BlockLayout). x.length) h.layout
 
-pub id_there : (symbols : List Symbol) (t : Tree) (k : ℕ) (b : Block) (l : BlockLayout) → IsSound symbols t k b l
+pub id_there : (symbols : List Symbol) (t : Tree) (k : ℕ) (b : Block) (l : BlockLayout) → IsSoundBlock symbols t k b l
     → l.id ≡ id_of (types_of_source symbols t.blocks).symbols b
 unfolding block_layout
 id_there symbols t k b l h = ap (λ (x : BlockLayout). x.id) h.layout
 
-bytes_there : (symbols : List Symbol) (t : Tree) (k : ℕ) (b : Block) (l : BlockLayout) (id : BlockId) → IsSound symbols t k b l
+bytes_there : (symbols : List Symbol) (t : Tree) (k : ℕ) (b : Block) (l : BlockLayout) (id : BlockId) → IsSoundBlock symbols t k b l
     → length (generated_data_block (context_at symbols t k) l id).bytes ≡ l.length
 bytes_there symbols t k b l id h =
     initial_length (layouts_of t symbols) t.blocks k ∙ ap length_at h.layout_there
 
-data_right : (symbols : List Symbol) (t : Tree) → AllByRecursion HasNumber (layouts_of t symbols)
-    → (k : ℕ) (b : Block) (l : BlockLayout) (id : BlockId) → IsSound symbols t k b l → l.id ≡ Some id → is_data_block id.kind ≡ true
-    → IsData (generated_data_block (context_at symbols t k) l id)
+data_right : (symbols : List Symbol) (t : Tree) → AllByRecursion HasNumberInLimits (layouts_of t symbols)
+    → (k : ℕ) (b : Block) (l : BlockLayout) (id : BlockId) → IsSoundBlock symbols t k b l → l.id ≡ Some id → is_data_block id.kind ≡ true
+    → IsDataRecord (generated_data_block (context_at symbols t k) l id)
 data_right symbols t numbered k b l id h named db =
     let within : is_number_beyond_limits (Some id) ≡ false = ap is_number_beyond_limits (sym named ∙ id_there symbols t k b l h) ∙ h.head.by_44 in
     let number = data_number_within id db within in
@@ -207,7 +206,7 @@ data_right symbols t numbered k b l id h named db =
     }
 
 laid_numbered : (symbols : List Symbol) (t : Tree) (k : ℕ) (bs : List Block) (ls : List BlockLayout) → length ls ≡ length bs
-    → AllLaid (IsSound symbols t) k bs ls → AllByRecursion HasNumber ls
+    → AllLaid (IsSoundBlock symbols t) k bs ls → AllByRecursion HasNumberInLimits ls
 laid_numbered symbols t k [] [] e laid = tt
 laid_numbered symbols t k [] (l ∷ ls) e laid = absurd (omega (arith, e))
 laid_numbered symbols t k (b ∷ bs) [] e laid = tt
@@ -218,13 +217,13 @@ layouts_long : (y : Types) (blocks before bs : List Block) → length (layouts_f
 layouts_long y blocks before [] = refl
 layouts_long y blocks before (b ∷ bs) = ap suc (layouts_long y blocks (b ∷ before) bs)
 
-tree_numbered : (symbols : List Symbol) (t : Tree) → IsSoundTree symbols t → AllByRecursion HasNumber (layouts_of t symbols)
+tree_numbered : (symbols : List Symbol) (t : Tree) → IsSoundTree symbols t → AllByRecursion HasNumberInLimits (layouts_of t symbols)
 unfolding layouts_of layouts_by
 tree_numbered symbols t h =
     laid_numbered symbols t 0 t.blocks (layouts_of t symbols) (layouts_long (types_of_source symbols t.blocks) t.blocks [] t.blocks) h.blocks
 
-pub datas_right : (symbols : List Symbol) (t : Tree) → IsSoundTree symbols t → AllByRecursion IsData (data_blocks_of t symbols (layouts_of t symbols))
-datas_right symbols t h = sound_data_blocks symbols t IsData h (data_right symbols t (tree_numbered symbols t h))
+pub datas_right : (symbols : List Symbol) (t : Tree) → IsSoundTree symbols t → AllByRecursion IsDataRecord (data_blocks_of t symbols (layouts_of t symbols))
+datas_right symbols t h = sound_data_blocks symbols t IsDataRecord h (data_right symbols t (tree_numbered symbols t h))
 
 -- ---- all of them together
 
@@ -234,7 +233,7 @@ data_size d = length d.bytes
 kind_of_data : (symbols : List Symbol) (b : Block) (id : BlockId) → id_of symbols b ≡ Some id → is_data_block id.kind ≡ true → is_data_block b.kind ≡ true
 kind_of_data symbols b id e db = ap is_data_block (kind_there symbols b id e) ∙ db
 
-one_size : (symbols : List Symbol) (t : Tree) (k : ℕ) (b : Block) (l : BlockLayout) (found : Option BlockId) → IsSound symbols t k b l → l.id ≡ found
+one_size : (symbols : List Symbol) (t : Tree) (k : ℕ) (b : Block) (l : BlockLayout) (found : Option BlockId) → IsSoundBlock symbols t k b l → l.id ≡ found
     → sum_by data_size (data_block_of (context_at symbols t k) l found) ≤ data_length (types_of_source symbols t.blocks) t.blocks b
 unfolding data_size
 one_size symbols t k b l None h named = omega arith
@@ -254,7 +253,7 @@ one_size symbols t k b l (Some id) h named = by (is_data_block id.kind) refl
         omega (arith, whole, len, same, all)
     by false is = omega arith
 
-each_size : (symbols : List Symbol) (t : Tree) (k : ℕ) (bs : List Block) (ls : List BlockLayout) → AllLaid (IsSound symbols t) k bs ls
+each_size : (symbols : List Symbol) (t : Tree) (k : ℕ) (bs : List Block) (ls : List BlockLayout) → AllLaid (IsSoundBlock symbols t) k bs ls
     → sum_by data_size (each_block (λ c b l. data_block_of c l l.id) (context_at symbols t k) bs ls) ≤ sum_by (data_length (types_of_source symbols t.blocks) t.blocks) bs
 each_size symbols t k [] ls h = omega arith
 each_size symbols t k (b ∷ bs) [] h = omega arith
@@ -309,7 +308,7 @@ len_good : (before n : ℕ) → n ≤ 16384 → before + n ≤ 2097152 → (data
 unfolding data_length_layout field_fault
 len_good before n short most = grind (arith, nat_tests)
 
-data_good : (before : ℕ × ℕ) (d : DataBlock) → IsData d → before.0 < d.number → before.1 + length d.bytes ≤ 2097152 → (data_layout before).good d ≡ true
+data_good : (before : ℕ × ℕ) (d : DataBlock) → IsDataRecord d → before.0 < d.number → before.1 + length d.bytes ≤ 2097152 → (data_layout before).good d ≡ true
 unfolding data_layout data_rows
 data_good before d h rises most =
     and_from _ _ (number_good before.0 d.number h.low h.high rises)
@@ -317,7 +316,7 @@ data_good before d h rises most =
     (and_from _ _ (len_good before.1 (length d.bytes) h.short most)
     (and_from _ _ zero_word_good (contents_good d.bytes h.bytes))))
 
-good_from : (before : ℕ × ℕ) (d : DataBlock) (ds : List DataBlock) → before.0 ≡ d.number → RiseFrom is_data_before d ds → AllByRecursion IsData ds
+good_from : (before : ℕ × ℕ) (d : DataBlock) (ds : List DataBlock) → before.0 ≡ d.number → RiseFrom is_data_before d ds → AllByRecursion IsDataRecord ds
     → before.1 + sum_by data_size ds ≤ 2097152 → good_datas before ds ≡ true
 unfolding data_size
 good_from before d [] same rise h most = refl
@@ -327,7 +326,7 @@ good_from before d (e ∷ ds) same rise h most =
     and_from _ _ (data_good before e h.0 (omega (arith, same, less)) (omega (arith, most, all)))
     (good_from (after_data before e) e ds refl rise.1 h.1 (omega (arith, most, all)))
 
-good_all_datas : (ds : List DataBlock) → Rise is_data_before ds → AllByRecursion IsData ds → sum_by data_size ds ≤ 2097152 → good_datas (0, 0) ds ≡ true
+good_all_datas : (ds : List DataBlock) → Rise is_data_before ds → AllByRecursion IsDataRecord ds → sum_by data_size ds ≤ 2097152 → good_datas (0, 0) ds ≡ true
 unfolding data_size
 good_all_datas [] rise h most = refl
 good_all_datas (d ∷ ds) rise h most =

@@ -42,15 +42,15 @@ abbrev pub OfBytes : List ℕ → Type 0
 OfBytes bytes = AllByRecursion IsByte bytes
 
 -- a variable that has its place in an image
-pub record IsPlaced (place : Place) (w : Width) : Type 0 where
+pub record IsPlaceOfEntry (place : Place) (w : Width) : Type 0 where
   pub number : place.number ≡ 0
   pub byte : place.byte < 65536
   pub bit : place.bit ≤ 7
   pub whole : (eqb (width_number w) 1 || eqb place.bit 0) ≡ true
 
-abbrev pub IsTarget : Target → Type 0
-IsTarget (target.Variable place w) = IsPlaced place w
-IsTarget _ = Unit {0}
+abbrev pub IsTargetOfEntry : Target → Type 0
+IsTargetOfEntry (target.Variable place w) = IsPlaceOfEntry place w
+IsTargetOfEntry _ = Unit {0}
 
 -- ---- names
 
@@ -64,18 +64,18 @@ not_blank : (b : ℕ) → is_blank b ≡ false → eqb b 32 ≡ false
 not_blank b h = grind (arith, nat_tests)
 
 -- a symbol whose name and place have an image
-pub record IsNamed (s : Symbol) : Type 0 where
+pub record HasNameEntry (s : Symbol) : Type 0 where
   pub some : 1 ≤ length s.name
   pub short : length s.name ≤ 24
   pub bytes : OfBytes s.name
   pub ends : ends_blank s.name ≡ false
-  pub place : IsTarget s.target
+  pub place : IsTargetOfEntry s.target
 
 bit_placed : (w : Width) (bit : ℕ) → IsFirstBit w bit
     → (bit ≤ 7) × ((eqb (width_number w) 1 || eqb bit 0) ≡ true)
 bit_placed w bit h = grind (arith, nat_tests)
 
-target_placed : (t : Target) → IsAddressed t → IsTarget t
+target_placed : (t : Target) → IsAddressed t → IsTargetOfEntry t
 target_placed t h = grind (arith, bit_placed)
 
 bytes_passed : (name : List ℕ) → EachBytePasses (λ b. ltb b 256) name → OfBytes name
@@ -84,7 +84,7 @@ bytes_passed name h = all_mapped (λ b. ltb b 256 ≡ true) IsByte (λ b k. ltb-
 passing_bytes : (file : List ℕ) → OfBytes file → EachBytePasses (λ b. ltb b 256) file
 passing_bytes file h = all_mapped IsByte (λ b. ltb b 256 ≡ true) (λ b k. lt-ltb b 256 k) file h
 
-named_by : (s : Symbol) → IsSymbol s → EachBytePasses (λ b. ltb b 256) s.name → IsNamed s
+named_by : (s : Symbol) → IsSymbol s → EachBytePasses (λ b. ltb b 256) s.name → HasNameEntry s
 named_by s is bytes = record {
   some = is.some;
   short = is.short;
@@ -95,17 +95,17 @@ named_by s is bytes = record {
 
 -- ---- the symbols of a file
 
-abbrev pub AreNamed : List Symbol → Type 0
-AreNamed symbols = AllByRecursion IsNamed symbols × AreOther symbols
+abbrev pub HaveNameEntries : List Symbol → Type 0
+HaveNameEntries symbols = AllByRecursion HasNameEntry symbols × AreOther symbols
 
 named_all : (symbols : List Symbol) → AllByRecursion IsSymbol symbols
     → AllByRecursion (λ (s : Symbol). EachBytePasses (λ b. ltb b 256) s.name) symbols
-    → AllByRecursion IsNamed symbols
+    → AllByRecursion HasNameEntry symbols
 named_all [] h k = tt
 named_all (s ∷ symbols) h k = (named_by s h.0 k.0, named_all symbols h.1 k.1)
 
 pub symbols_named : (language : Language) (bytes : List ℕ) (symbols : List Symbol) → OfBytes bytes
-    → symbols_in language bytes ≡ Ok symbols → AreNamed symbols
+    → symbols_in language bytes ≡ Ok symbols → HaveNameEntries symbols
 symbols_named language bytes symbols h e =
     let right = symbols_right language bytes symbols e in
     (named_all symbols right.each (right.bytes (λ b. ltb b 256) (passing_bytes bytes h)), right.apart)
@@ -119,7 +119,7 @@ record IsEntry (e : NameEntry) : Type 0 where
   upper : is_upper e.name ≡ true
   ends : ends_blank e.name ≡ false
   named : has_name e.place.area ≡ true
-  place : IsPlaced e.place e.width
+  place : IsPlaceOfEntry e.place e.width
 
 upper_fits : (name : List ℕ) → OfBytes name → bytes_fit (upper_case_name name) ≡ true
 upper_fits [] h = refl
@@ -134,10 +134,10 @@ upper_ends [] = refl
 upper_ends (b ∷ []) = grind (arith, nat_tests)
 upper_ends (b ∷ c ∷ bs) = upper_ends (c ∷ bs)
 
-entry_of : (s : Symbol) → IsNamed s → AllByRecursion IsEntry (name_entry s.name s.target)
+entry_of : (s : Symbol) → HasNameEntry s → AllByRecursion IsEntry (name_entry s.name s.target)
 entry_of s h = grind (arith, length-map s.name to_ascii_uppercase, upper_fits s.name h.bytes, upper_is s.name, upper_ends s.name)
 
-entries_of : (symbols : List Symbol) → AllByRecursion IsNamed symbols
+entries_of : (symbols : List Symbol) → AllByRecursion HasNameEntry symbols
     → AllByRecursion IsEntry (flat_map (λ s. name_entry s.name s.target) symbols)
 entries_of [] h = tt
 entries_of (s ∷ symbols) h =
@@ -242,7 +242,7 @@ first_name : (name : List ℕ) → 1 ≤ length name → is_earlier_name [] name
 first_name [] some = absurd (omega (arith, some))
 first_name (b ∷ bs) some = refl
 
-pub names_right : (symbols : List Symbol) → AreNamed symbols → good_names [] (name_entries_of symbols) ≡ true
+pub names_right : (symbols : List Symbol) → HaveNameEntries symbols → good_names [] (name_entries_of symbols) ≡ true
 unfolding entries
 names_right symbols h =
     good_all name_record after_name name_of_entry (λ e. e.name) is_name_before IsEntry []

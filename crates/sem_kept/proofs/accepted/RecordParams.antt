@@ -55,6 +55,7 @@ use Rattle.block_layout.specs.declared.cells.Element.{Element}
 use Rattle.block_layout.specs.declared.cells.Element.TheVariants as element
 use Rattle.block_layout.specs.Sizes.{largest_size}
 use Rattle.block_layout.specs.declared.members.Member.{Member}
+use Rattle.flat_code.specs.Records.{section_in, section_in_out}
 use Rattle.flat_code.specs.Checking.{good_params}
 use Rattle.flat_code.specs.Faults.{field_fault}
 use Rattle.flat_code.specs.Image.{parameter_layout, parameter_bit, parameter_byte, parameter_rows, record_of_param, section_field}
@@ -62,7 +63,7 @@ use Rattle.flat_code.specs.declared.programs.Param.{Param}
 use Rattle.flat_code.proofs.CheckLemmas.{zero_byte_good}
 use Rattle.stl_codegen.specs.Generated.{instance_len, offset_of_member, param_here, param_of, params_of, section_number}
 use Rattle.stl_codegen.specs.Instruction.{return_last}
-use Rattle.sem_kept.proofs.accepted.Accepted.{IsSound}
+use Rattle.sem_kept.proofs.accepted.Accepted.{IsSoundBlock}
 use Rattle.block_layout.proofs.CommonLemmas.{none_left, none_right, not_broken}
 use Rattle.sem_kept.proofs.accepted.RecordNames.{width_good}
 
@@ -135,19 +136,19 @@ seen_after seen [] = seen
 seen_after seen (c ∷ cs) = seen_after (seen_by seen c) cs
 
 -- no outermost cell has the name of one before it
-abbrev pub AreOnce : List (List ℕ) → List Cell → Type 0
-AreOnce seen [] = Unit {0}
-AreOnce seen (c ∷ cs) = (nat_eq c.level 0 ≡ true → NotIn c.name seen) × AreOnce (seen_by seen c) cs
+abbrev pub AreCellsOnce : List (List ℕ) → List Cell → Type 0
+AreCellsOnce seen [] = Unit {0}
+AreCellsOnce seen (c ∷ cs) = (nat_eq c.level 0 ≡ true → NotIn c.name seen) × AreCellsOnce (seen_by seen c) cs
 
-once_append : (seen : List (List ℕ)) (xs ys : List Cell) → AreOnce seen xs → AreOnce (seen_after seen xs) ys → AreOnce seen (xs ++ ys)
+once_append : (seen : List (List ℕ)) (xs ys : List Cell) → AreCellsOnce seen xs → AreCellsOnce (seen_after seen xs) ys → AreCellsOnce seen (xs ++ ys)
 once_append seen [] ys h k = k
 once_append seen (x ∷ xs) ys h k = (h.0, once_append (seen_by seen x) xs ys h.1 k)
 
-once_opened : (seen : List (List ℕ)) (cs : List Cell) → AreOnce seen cs → AreOnce seen (with_first_cell_opening cs)
+once_opened : (seen : List (List ℕ)) (cs : List Cell) → AreCellsOnce seen cs → AreCellsOnce seen (with_first_cell_opening cs)
 once_opened seen [] h = tt
 once_opened seen (c ∷ cs) h = by c.sound (once_opened (seen_by seen c) cs h.1)
   where
-    by : (t : Bool) → AreOnce (seen_by seen c) (with_first_cell_opening cs) → AreOnce seen (if t then record c { opens = true } ∷ cs else c ∷ with_first_cell_opening cs)
+    by : (t : Bool) → AreCellsOnce (seen_by seen c) (with_first_cell_opening cs) → AreCellsOnce seen (if t then record c { opens = true } ∷ cs else c ∷ with_first_cell_opening cs)
     by true more = h
     by false more = (h.0, more)
 
@@ -189,7 +190,7 @@ name_new o before d h zero_level =
     subst (λ (n : ℕ). NotIn (upper_case_name d.name) (names_before o.names n before)) outer (not_in (upper_case_name d.name) (names_before o.names d.level before) h)
 
 cells_once : (y : Types) (o : Outside) (section : PartKind) (before ds : List Declaration) (seen : List (List ℕ)) → Covers o.names before seen
-    → AllBefore (IsNew o) before ds → AreOnce seen (cells_of y o section before ds)
+    → AllBefore (IsNew o) before ds → AreCellsOnce seen (cells_of y o section before ds)
 unfolding cell_of
 cells_once y o section before [] seen covers h = tt
 cells_once y o section before (d ∷ ds) seen covers h =
@@ -214,7 +215,7 @@ names_more outer before (d ∷ ds) n h =
     (subst (NotIn n) (names_step outer d before) (names_more outer (d ∷ before) ds n h))
 
 pub sections_once : (y : Types) (o : Outside) (wanted : PartKind → Bool) (before : List Declaration) (ps : List Part) (seen : List (List ℕ))
-    → Covers o.names before seen → AllBefore (IsNew o) before (flat_map (λ p. p.items) ps) → AreOnce seen (section_cells y o wanted before ps)
+    → Covers o.names before seen → AllBefore (IsNew o) before (flat_map (λ p. p.items) ps) → AreCellsOnce seen (section_cells y o wanted before ps)
 sections_once y o wanted before [] seen covers h = tt
 sections_once y o wanted before (p ∷ ps) seen covers h =
     by (wanted p.kind)
@@ -230,11 +231,11 @@ sections_once y o wanted before (p ∷ ps) seen covers h =
     rest : AllBefore (IsNew o) (declarations_before_next before p.items) (flat_map (λ p. p.items) ps)
     rest = before_rest (IsNew o) before p.items (flat_map (λ p. p.items) ps) h
 
-    by : (t : Bool) → AreOnce (seen_after seen cells) more → AreOnce seen more → AreOnce seen ((if t then with_first_cell_opening cells else []) ++ more)
+    by : (t : Bool) → AreCellsOnce (seen_after seen cells) more → AreCellsOnce seen more → AreCellsOnce seen ((if t then with_first_cell_opening cells else []) ++ more)
     by true there skipped =
         once_append seen (with_first_cell_opening cells) more
         (once_opened seen cells (cells_once y o p.kind before p.items seen covers (before_front (IsNew o) before p.items (flat_map (λ p. p.items) ps) h)))
-        (subst (λ (z : List (List ℕ)). AreOnce z more) (sym (seen_opened seen cells)) there)
+        (subst (λ (z : List (List ℕ)). AreCellsOnce z more) (sym (seen_opened seen cells)) there)
     by false there skipped = skipped
 
 -- ---- cells of parameters
@@ -248,15 +249,15 @@ none_around [] = refl
 none_around (d ∷ ds) = let never = never_less d.level in rw never (none_around ds)
 
 -- an elementary declaration
-pub record IsElementary (d : Declaration) : Type 0 where
+pub record IsElementaryDeclaration (d : Declaration) : Type 0 where
   pub arrays : d.of.arrays ≡ []
   pub kind : Simple
   pub of : d.of.of ≡ type.Plain kind
 
-pub elementary : (d : Declaration) → is_elementary d ≡ true → IsElementary d
+pub elementary : (d : Declaration) → is_elementary d ≡ true → IsElementaryDeclaration d
 elementary d h = by d.of.arrays d.of.of refl refl h
   where
-    by : (arrays : List Bounds) (of : ElementType) → d.of.arrays ≡ arrays → d.of.of ≡ of → is_elementary_type arrays of ≡ true → IsElementary d
+    by : (arrays : List Bounds) (of : ElementType) → d.of.arrays ≡ arrays → d.of.of ≡ of → is_elementary_type arrays of ≡ true → IsElementaryDeclaration d
     by [] (type.Plain k) e f h = record { arrays = e; kind = k; of = f }
     by [] type.Structure e f h = absurd cc
     by [] type.DateAndTime e f h = absurd cc
@@ -264,7 +265,7 @@ elementary d h = by d.of.arrays d.of.of refl refl h
     by (b ∷ bs) of e f h = absurd cc
 
 pub outer_levels : (k : BlockKind) (p : PartKind) (ds : List Declaration) → is_parameter p ≡ true → IsOutline 0 ds → AreDeclaredIn k p ds
-    → AllByRecursion (λ d. (d.level ≡ 0) × IsElementary d) ds
+    → AllByRecursion (λ d. (d.level ≡ 0) × IsElementaryDeclaration d) ds
 outer_levels k p [] h outline all = tt
 outer_levels k p (d ∷ ds) h outline all =
     let e = elementary d (all.0.2 h) in
@@ -272,7 +273,7 @@ outer_levels k p (d ∷ ds) h outline all =
     let next : level_behind d.level d.of.of ≡ 0 = ap (level_behind d.level) e.of ∙ level in
     ((level, e), outer_levels k p ds h (subst (λ (n : ℕ). IsOutline n ds) next outline.1) all.1)
 
-pub parameter_sound : (y : Types) (o : Outside) (before : List Declaration) (d : Declaration) → o.depth ≡ 0 → d.level ≡ 0 → IsElementary d → IsNew o before d
+pub parameter_sound : (y : Types) (o : Outside) (before : List Declaration) (d : Declaration) → o.depth ≡ 0 → d.level ≡ 0 → IsElementaryDeclaration d → IsNew o before d
     → is_sound y o before d ≡ true
 parameter_sound y o before d shallow level e new =
     let arrays = e.arrays in
@@ -283,7 +284,7 @@ parameter_sound y o before d shallow level e new =
     rw twice (rw fits (rw level (rw arrays (rw of (rw none (rw shallow refl))))))
 
 parameter_cells : (y : Types) (o : Outside) (section : PartKind) (before ds : List Declaration) → o.depth ≡ 0
-    → (is_parameter section ≡ true → AllByRecursion (λ d. (d.level ≡ 0) × IsElementary d) ds) → AllBefore (IsNew o) before ds
+    → (is_parameter section ≡ true → AllByRecursion (λ d. (d.level ≡ 0) × IsElementaryDeclaration d) ds) → AllBefore (IsNew o) before ds
     → AllByRecursion IsParameter (cells_of y o section before ds)
 unfolding cell_of
 parameter_cells y o section before [] shallow h new = tt
@@ -425,7 +426,7 @@ plain_sized c cs k bounds of = rw bounds (rw of refl)
 
 pub parameters_placed : (look : List ℕ → Option Member) (len at place : ℕ) (seen : List (List ℕ)) (cs : List Cell)
     → at ≤ largest_size → components_end 0 at cs < largest_size → components_end 0 at cs ≤ 8 * len
-    → ((n : List ℕ) → NotIn n seen → look n ≡ component_of_name 0 at place n cs) → AreOnce seen cs → AllByRecursion IsParameter cs
+    → ((n : List ℕ) → NotIn n seen → look n ≡ component_of_name 0 at place n cs) → AreCellsOnce seen cs → AllByRecursion IsParameter cs
     → AllByRecursion (IsPlacedIn look len) cs
 parameters_placed look len at place seen [] near below fits finds once are = tt
 parameters_placed look len at place seen (c ∷ cs) near below fits finds once are = (
@@ -531,7 +532,7 @@ no_parameters y o section before (d ∷ ds) h =
     omega (arith, more, none, count)
 
 some_parameters : (y : Types) (o : Outside) (section : PartKind) (before ds : List Declaration)
-    → AllByRecursion (λ d. (d.level ≡ 0) × IsElementary d) ds
+    → AllByRecursion (λ d. (d.level ≡ 0) × IsElementaryDeclaration d) ds
     → parameter_cells_of (cells_of y o section before ds) ≤ count_by (λ d. nat_eq d.level 0) ds
 unfolding cell_of
 some_parameters y o section before [] h = omega arith
@@ -590,20 +591,20 @@ all_count y b h =
 
 -- ---- the fields of a record
 
-record IsGood (kind instance : ℕ) (p : Param) : Type 0 where
-  low : 1 ≤ p.section
-  high : p.section ≤ 3
+record IsGoodParam (kind instance : ℕ) (p : Param) : Type 0 where
+  low : section_in ≤ p.section
+  high : p.section ≤ section_in_out
   near : p.byte < 65536
-  byte : (if eqb kind 3 then leb (p.byte + byte_count p.width) instance else eqb p.byte 0) ≡ true
+  byte : (if eqb kind (kind_number kinds.Fb) then leb (p.byte + byte_count p.width) instance else eqb p.byte 0) ≡ true
   bit : p.bit ≤ 7
-  whole : (eqb kind 3 || eqb p.bit 0) ≡ true
+  whole : (eqb kind (kind_number kinds.Fb) || eqb p.bit 0) ≡ true
 
-section_good : (n : ℕ) → 1 ≤ n → n ≤ 3 → section_field.good n ≡ true
+section_good : (n : ℕ) → section_in ≤ n → n ≤ section_in_out → section_field.good n ≡ true
 unfolding section_field field_fault
 section_good n low high = grind (arith, nat_tests)
 
 byte_good : (kind instance : ℕ) (w : Width) (byte : ℕ) → byte < 65536
-    → (if eqb kind 3 then leb (byte + byte_count w) instance else eqb byte 0) ≡ true
+    → (if eqb kind (kind_number kinds.Fb) then leb (byte + byte_count w) instance else eqb byte 0) ≡ true
     → (parameter_byte kind instance (width_number w)).good byte ≡ true
 unfolding parameter_byte field_fault
 byte_good kind instance width.Bit byte near h = and_from _ _ (lt-ltb byte 65536 near) (rw h refl)
@@ -611,11 +612,11 @@ byte_good kind instance width.Byte byte near h = and_from _ _ (lt-ltb byte 65536
 byte_good kind instance width.Word byte near h = and_from _ _ (lt-ltb byte 65536 near) (rw h refl)
 byte_good kind instance width.Dword byte near h = and_from _ _ (lt-ltb byte 65536 near) (rw h refl)
 
-bit_good : (kind bit : ℕ) → bit ≤ 7 → (eqb kind 3 || eqb bit 0) ≡ true → (parameter_bit kind).good bit ≡ true
+bit_good : (kind bit : ℕ) → bit ≤ 7 → (eqb kind (kind_number kinds.Fb) || eqb bit 0) ≡ true → (parameter_bit kind).good bit ≡ true
 unfolding parameter_bit field_fault
 bit_good kind bit few whole = grind (arith, nat_tests)
 
-param_good : (kind instance : ℕ) (p : Param) → IsGood kind instance p → (parameter_layout kind instance).good (record_of_param p) ≡ true
+param_good : (kind instance : ℕ) (p : Param) → IsGoodParam kind instance p → (parameter_layout kind instance).good (record_of_param p) ≡ true
 unfolding parameter_layout parameter_rows
 param_good kind instance p h =
     and_from _ _ (section_good p.section h.low h.high)
@@ -623,13 +624,13 @@ param_good kind instance p h =
     (and_from _ _ (byte_good kind instance p.width p.byte h.near h.byte)
     (and_from _ _ (bit_good kind p.bit h.bit h.whole) zero_byte_good)))
 
-all_good_params : (kind instance : ℕ) (ps : List Param) → AllByRecursion (IsGood kind instance) ps → good_params kind instance ps ≡ true
+all_good_params : (kind instance : ℕ) (ps : List Param) → AllByRecursion (IsGoodParam kind instance) ps → good_params kind instance ps ≡ true
 all_good_params kind instance [] h = refl
 all_good_params kind instance (p ∷ ps) h = and_from _ _ (param_good kind instance p h.0) (all_good_params kind instance ps h.1)
 
 -- ---- from cells to parameters
 
-section_low : (p : PartKind) → (1 ≤ section_number p) × (section_number p ≤ 3)
+section_low : (p : PartKind) → (section_in ≤ section_number p) × (section_number p ≤ section_in_out)
 section_low part.Input = (omega arith, omega arith)
 section_low part.Output = (omega arith, omega arith)
 section_low part.InOut = (omega arith, omega arith)
@@ -640,10 +641,10 @@ bit_low : (n : ℕ) → n % 8 ≤ 7
 bit_low n = omega arith
 
 -- of no function block
-plain_param : (kind instance : ℕ) (all : List Cell) (c : Cell) → eqb kind 3 ≡ false → AllByRecursion (IsGood kind instance) (param_here false all c)
+plain_param : (kind instance : ℕ) (all : List Cell) (c : Cell) → eqb kind (kind_number kinds.Fb) ≡ false → AllByRecursion (IsGoodParam kind instance) (param_here false all c)
 plain_param kind instance all c other = by (is_parameter c.section) (one c.of)
   where
-    one : (e : Element) → AllByRecursion (IsGood kind instance) (param_of false all c e)
+    one : (e : Element) → AllByRecursion (IsGoodParam kind instance) (param_of false all c e)
     one (element.Plain k) = (
       record {
         low = (section_low c.section).0;
@@ -660,15 +661,15 @@ plain_param kind instance all c other = by (is_parameter c.section) (one c.of)
     one (element.Udt block bits) = tt
     one element.Unknown = tt
 
-    by : (t : Bool) → AllByRecursion (IsGood kind instance) (param_of false all c c.of)
-        → AllByRecursion (IsGood kind instance) (if t then param_of false all c c.of else [])
+    by : (t : Bool) → AllByRecursion (IsGoodParam kind instance) (param_of false all c c.of)
+        → AllByRecursion (IsGoodParam kind instance) (if t then param_of false all c c.of else [])
     by true h = h
     by false h = tt
 
-plain_params : (kind instance : ℕ) (all cs : List Cell) → eqb kind 3 ≡ false → AllByRecursion (IsGood kind instance) (flat_map (λ c. param_here false all c) cs)
+plain_params : (kind instance : ℕ) (all cs : List Cell) → eqb kind (kind_number kinds.Fb) ≡ false → AllByRecursion (IsGoodParam kind instance) (flat_map (λ c. param_here false all c) cs)
 plain_params kind instance all [] other = tt
 plain_params kind instance all (c ∷ cs) other =
-    all_append (IsGood kind instance) (param_here false all c) (flat_map (λ c. param_here false all c) cs)
+    all_append (IsGoodParam kind instance) (param_here false all c) (flat_map (λ c. param_here false all c) cs)
     (plain_param kind instance all c other) (plain_params kind instance all cs other)
 
 -- of a function block
@@ -676,10 +677,10 @@ abbrev look_in : List Cell → List ℕ → Option Member
 look_in all name = component_of_name 0 0 0 name all
 
 placed_param : (instance : ℕ) (all : List Cell) (c : Cell) → instance ≤ 16384 → IsPlacedIn (look_in all) instance c
-    → AllByRecursion (IsGood 3 instance) (param_here true all c)
+    → AllByRecursion (IsGoodParam (kind_number kinds.Fb) instance) (param_here true all c)
 placed_param instance all c short placed = by (is_parameter c.section) refl
   where
-    one : (e : Element) → c.of ≡ e → is_parameter c.section ≡ true → AllByRecursion (IsGood 3 instance) (param_of true all c e)
+    one : (e : Element) → c.of ≡ e → is_parameter c.section ≡ true → AllByRecursion (IsGoodParam (kind_number kinds.Fb) instance) (param_of true all c e)
     one (element.Plain k) of is =
         let within = placed is k of in (
           record {
@@ -697,23 +698,23 @@ placed_param instance all c short placed = by (is_parameter c.section) refl
     one (element.Udt block bits) of is = tt
     one element.Unknown of is = tt
 
-    by : (t : Bool) → is_parameter c.section ≡ t → AllByRecursion (IsGood 3 instance) (if t then param_of true all c c.of else [])
+    by : (t : Bool) → is_parameter c.section ≡ t → AllByRecursion (IsGoodParam (kind_number kinds.Fb) instance) (if t then param_of true all c c.of else [])
     by true is = one c.of refl is
     by false is = tt
 
 placed_params : (instance : ℕ) (all cs : List Cell) → instance ≤ 16384 → AllByRecursion (IsPlacedIn (look_in all) instance) cs
-    → AllByRecursion (IsGood 3 instance) (flat_map (λ c. param_here true all c) cs)
+    → AllByRecursion (IsGoodParam (kind_number kinds.Fb) instance) (flat_map (λ c. param_here true all c) cs)
 placed_params instance all [] short placed = tt
 placed_params instance all (c ∷ cs) short placed =
-    all_append (IsGood 3 instance) (param_here true all c) (flat_map (λ c. param_here true all c) cs)
+    all_append (IsGoodParam (kind_number kinds.Fb) instance) (param_here true all c) (flat_map (λ c. param_here true all c) cs)
     (placed_param instance all c short placed.0) (placed_params instance all cs short placed.1)
 
 -- ---- the order in an image
 
-reordered : {A : Type 0} (P : A → Type 0) (r : Option Simple) (xs : List A) → AllByRecursion P xs → AllByRecursion P (return_last r xs)
-reordered P None xs h = h
-reordered P (Some k) [] h = tt
-reordered P (Some k) (x ∷ xs) h = all_append P xs (x ∷ []) h.1 (h.0, tt)
+all_in_return_order : {A : Type 0} (P : A → Type 0) (r : Option Simple) (xs : List A) → AllByRecursion P xs → AllByRecursion P (return_last r xs)
+all_in_return_order P None xs h = h
+all_in_return_order P (Some k) [] h = tt
+all_in_return_order P (Some k) (x ∷ xs) h = all_append P xs (x ∷ []) h.1 (h.0, tt)
 
 reordered_length : {A : Type 0} (r : Option Simple) (xs : List A) → length (return_last r xs) ≡ length xs
 reordered_length None xs = refl
@@ -726,7 +727,7 @@ reordered_length (Some k) (x ∷ xs) = length-append xs (x ∷ []) ∙ omega ari
 pub record HasParams (kind instance : ℕ) (ps : List Param) : Type 0 where
   pub few : length ps ≤ 60
   pub good : good_params kind instance ps ≡ true
-  pub none : kind ≡ 1 → ps ≡ []
+  pub none : kind ≡ kind_number kinds.Ob → ps ≡ []
 
 pub structure_end : (cells : List Cell) → structure_bits cells / 8 ≤ 16384
     → (components_end 0 0 cells < largest_size) × (components_end 0 0 cells ≤ 8 * (structure_bits cells / 8))
@@ -783,8 +784,8 @@ no_params y b l are kind formed =
     ∙ ap (λ (r : Option Simple). return_last r []) result
 
 -- and those of a function block
-instance_params : (symbols : List Symbol) (t : Tree) (k : ℕ) (b : Block) (l : BlockLayout) → IsSound symbols t k b l → b.kind ≡ kinds.Fb
-    → AllByRecursion (IsGood 3 l.length) (params_of b l)
+instance_params : (symbols : List Symbol) (t : Tree) (k : ℕ) (b : Block) (l : BlockLayout) → IsSoundBlock symbols t k b l → b.kind ≡ kinds.Fb
+    → AllByRecursion (IsGoodParam (kind_number kinds.Fb) l.length) (params_of b l)
 unfolding params_of block_layout length_of_block
 instance_params symbols t k b l h kind =
     let y : Types = types_of_source symbols t.blocks in
@@ -804,10 +805,10 @@ instance_params symbols t k b l h kind =
     let end = structure_end cells (subst (λ (n : ℕ). n ≤ 16384) len short) in
     let placed = parameters_placed (look_in cells) (structure_bits cells / 8) 0 0 [] cells (omega arith) end.0 end.1 (λ n out. refl) once all in
     let instance = is_instance kind in
-    subst (λ (t : Bool). AllByRecursion (IsGood 3 l.length) (return_last b.result (flat_map (λ c. param_here t l.components c) l.components))) (sym instance)
-    (reordered (IsGood 3 l.length) b.result (flat_map (λ c. param_here true l.components c) l.components)
-    (subst (λ (cs : List Cell). AllByRecursion (IsGood 3 l.length) (flat_map (λ c. param_here true cs c) cs)) (sym are)
-    (subst (λ (n : ℕ). AllByRecursion (IsGood 3 n) (flat_map (λ c. param_here true cells c) cells)) (sym len)
+    subst (λ (t : Bool). AllByRecursion (IsGoodParam (kind_number kinds.Fb) l.length) (return_last b.result (flat_map (λ c. param_here t l.components c) l.components))) (sym instance)
+    (all_in_return_order (IsGoodParam (kind_number kinds.Fb) l.length) b.result (flat_map (λ c. param_here true l.components c) l.components)
+    (subst (λ (cs : List Cell). AllByRecursion (IsGoodParam (kind_number kinds.Fb) l.length) (flat_map (λ c. param_here true cs c) cs)) (sym are)
+    (subst (λ (n : ℕ). AllByRecursion (IsGoodParam (kind_number kinds.Fb) n) (flat_map (λ c. param_here true cells c) cells)) (sym len)
     (placed_params (structure_bits cells / 8) cells cells (subst (λ (n : ℕ). n ≤ 16384) len short) placed))))
   where
     is_instance : b.kind ≡ kinds.Fb → is_function_block b.kind ≡ true
@@ -819,15 +820,15 @@ instance_params symbols t k b l h kind =
 
 -- ---- whatever block it is
 
-other_params : (kind instance : ℕ) (b : Block) (l : BlockLayout) → eqb kind 3 ≡ false → is_function_block b.kind ≡ false
-    → AllByRecursion (IsGood kind instance) (params_of b l)
+other_params : (kind instance : ℕ) (b : Block) (l : BlockLayout) → eqb kind (kind_number kinds.Fb) ≡ false → is_function_block b.kind ≡ false
+    → AllByRecursion (IsGoodParam kind instance) (params_of b l)
 unfolding params_of
 other_params kind instance b l other h =
-    subst (λ (t : Bool). AllByRecursion (IsGood kind instance) (return_last b.result (flat_map (λ c. param_here t l.components c) l.components))) (sym h)
-    (reordered (IsGood kind instance) b.result (flat_map (λ c. param_here false l.components c) l.components)
+    subst (λ (t : Bool). AllByRecursion (IsGoodParam kind instance) (return_last b.result (flat_map (λ c. param_here t l.components c) l.components))) (sym h)
+    (all_in_return_order (IsGoodParam kind instance) b.result (flat_map (λ c. param_here false l.components c) l.components)
     (plain_params kind instance l.components l.components other))
 
-pub params_right : (symbols : List Symbol) (t : Tree) (k : ℕ) (b : Block) (l : BlockLayout) (kind : BlockKind) → IsSound symbols t k b l
+pub params_right : (symbols : List Symbol) (t : Tree) (k : ℕ) (b : Block) (l : BlockLayout) (kind : BlockKind) → IsSoundBlock symbols t k b l
     → b.kind ≡ kind → is_code kind ≡ true → HasParams (kind_number kind) (instance_len b l) (params_of b l)
 unfolding block_layout
 params_right symbols t k b l kind h same code = by kind same code

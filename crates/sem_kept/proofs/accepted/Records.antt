@@ -23,9 +23,9 @@ use Rattle.stl_codegen.specs.Order.{is_code_before}
 use Rattle.sem_kept.specs.Accepted.{program_in}
 use Rattle.sem_kept.specs.Records.{HasFaultlessCode, HasCounts, IsOfBytes, RecordsAreRight}
 use Rattle.sem_kept.proofs.accepted.Accepted.{IsSoundTree, all_both, right_tree, sound_code_blocks}
-use Rattle.sem_kept.proofs.accepted.RecordBlocks.{HasFields, IsRightBlock, code_blocks_rise, counted, data_blocks_rise, fields_of, first_good, next_good}
+use Rattle.sem_kept.proofs.accepted.RecordBlocks.{HasFields, IsRightBlock, code_blocks_rise, all_counted_by, data_blocks_rise, fields_of, first_good, next_good}
 use Rattle.sem_kept.proofs.accepted.RecordData.{data_blocks_right}
-use Rattle.sem_kept.proofs.accepted.RecordNames.{AreNamed, OfBytes, names_right, symbols_named}
+use Rattle.sem_kept.proofs.accepted.RecordNames.{HaveNameEntries, OfBytes, names_right, symbols_named}
 use Rattle.sem_kept.proofs.accepted.RecordOrder.{good_all}
 
 -- ---- a program of right records
@@ -41,9 +41,9 @@ unfolding body_layout records_layout body_rows code_blocks_layout data_blocks_la
 body_good with_code_faults p enough blocks datas entries =
     and_from _ _
     (rw (length-map p.code_blocks record_of_block, length-map p.names name_of_entry) (counts_good (length p.code_blocks) (length p.data_blocks) (length p.names) enough))
-    (and_from _ _ (counted (code_block_layout with_code_faults) after_block (0, 0) (map record_of_block p.code_blocks) ∙ blocks)
-    (and_from _ _ (counted data_block_layout after_data (0, 0) p.data_blocks ∙ datas)
-    (counted name_record after_name [] (map name_of_entry p.names) ∙ entries)))
+    (and_from _ _ (all_counted_by (code_block_layout with_code_faults) after_block (0, 0) (map record_of_block p.code_blocks) ∙ blocks)
+    (and_from _ _ (all_counted_by data_block_layout after_data (0, 0) p.data_blocks ∙ datas)
+    (all_counted_by name_record after_name [] (map name_of_entry p.names) ∙ entries)))
 
 -- ---- that of an accepted source
 
@@ -51,9 +51,9 @@ map_twice : {A B C : Type 0} (f : A → B) (g : B → C) (xs : List A) → map g
 map_twice f g [] = refl
 map_twice {C = C} f g (x ∷ xs) = ap (λ (z : List C). g (f x) ∷ z) (map_twice f g xs)
 
-unmapped : {A B : Type 0} (P : B → Type 0) (f : A → B) (xs : List A) → AllByRecursion P (map f xs) → AllByRecursion (λ x. P (f x)) xs
-unmapped P f [] h = tt
-unmapped P f (x ∷ xs) h = (h.0, unmapped P f xs h.1)
+all_before_map : {A B : Type 0} (P : B → Type 0) (f : A → B) (xs : List A) → AllByRecursion P (map f xs) → AllByRecursion (λ x. P (f x)) xs
+all_before_map P f [] h = tt
+all_before_map P f (x ∷ xs) h = (h.0, all_before_map P f xs h.1)
 
 pub code_blocks_right : (symbols : List Symbol) (t : Tree) (last : ℕ) (with_code_faults : Bool) → IsSoundTree symbols t → last < 4294967296
     → AllByRecursion (λ b. AreRisingLines last 1 (statement_lines_of b)) t.blocks
@@ -67,14 +67,14 @@ code_blocks_right symbols t last with_code_faults h near rise codes =
     blocks (code_blocks_rise symbols t h)
     (all_both (λ x. HasFields last (compiled_block x)) (λ x. HasFaultlessCode (compiled_block x)) blocks
     (sound_code_blocks symbols t (λ x. HasFields last (compiled_block x)) h (fields_of last symbols t rise))
-    (unmapped HasFaultlessCode compiled_block blocks codes))
+    (all_before_map HasFaultlessCode compiled_block blocks codes))
 
 all_from : (bytes : List ℕ) → ((i : ℕ) → get_or bytes i 0 < 256) → OfBytes bytes
 all_from [] h = tt
 all_from (b ∷ bytes) h = (h 0, all_from bytes (λ i. h (suc i)))
 
 pub file_named : (language : Language) (file : List ℕ) (symbols : List Symbol)
-    → symbols_in language file ≡ Ok symbols → IsOfBytes file → AreNamed symbols
+    → symbols_in language file ≡ Ok symbols → IsOfBytes file → HaveNameEntries symbols
 file_named language file symbols are bytes = symbols_named language file symbols (all_from file bytes) are
 
 pub right_by : LinesRise → RecordsAreRight

@@ -27,8 +27,8 @@ use Rattle.stl_codegen.specs.Compiled.{compiled_block}
 use Rattle.stl_codegen.specs.Generated.{code_blocks_of, params_of}
 use Rattle.stl_codegen.specs.Operations.{call_operation_of, jump_operation_of}
 use Rattle.sem_kept.specs.Coded.{StatementHasBytes}
-use Rattle.sem_kept.specs.Settled.{HasInstruction, HasLabel, HasOperand, NamesWhatIsPassed, IsResolvedStatement, StatementsSettle}
-use Rattle.sem_kept.proofs.accepted.Accepted.{IsSound, IsSoundStatement, IsSoundTree, context_at, each_passes, right_tree}
+use Rattle.sem_kept.specs.Settled.{HasInstruction, HasLabel, HasOperand, NamesWhatIsPassed, IsResolvedStatement, StatementsSettle, context_at}
+use Rattle.sem_kept.proofs.accepted.Accepted.{IsSoundBlock, IsSoundStatement, IsSoundTree, each_passes, right_tree}
 use Rattle.sem_kept.proofs.accepted.CodedBytes.{block_has_bytes}
 use Rattle.sem_kept.proofs.accepted.JumpsOperands.{takes_right}
 use Rattle.sem_kept.proofs.accepted.JumpsOperations.{TakesRight}
@@ -36,8 +36,8 @@ use Rattle.sem_kept.proofs.accepted.JumpsSettled.{Settle, operands_settle}
 use Rattle.sem_kept.proofs.accepted.OperandsCalls.{actuals_pass, callee_found, called_is}
 use Rattle.sem_kept.proofs.accepted.OperandsCells.{layout_of_block}
 use Rattle.sem_kept.proofs.accepted.OperandsInstr.{no_call, resolved_is}
-use Rattle.sem_kept.proofs.accepted.OperandsSymbols.{SymbolFits, symbols_fit}
-use Rattle.sem_kept.proofs.accepted.OperandsViews.{EndsBy, IsSeen, Surrounds, ends_by, holds_locals, layout_local, not_none, operand_seen}
+use Rattle.sem_kept.proofs.accepted.OperandsSymbols.{IsRightSymbol, symbols_fit}
+use Rattle.sem_kept.proofs.accepted.OperandsViews.{EndsBy, ResolvesRight, Surrounds, ends_by, holds_locals, layout_local, not_none, operand_seen}
 
 -- what calls no block has no actual parameters
 none_owed : (m : Mnemonic) → call_operation_of m ≡ None → has_actuals m ≡ false
@@ -45,8 +45,8 @@ none_owed code.Call e = absurd cc
 none_owed _ e = refl
 
 module _ (symbols : List Symbol) (t : Tree) (tree : IsSoundTree symbols t)
-    (fit : AllByRecursion SymbolFits symbols) (k : ℕ) (b : Block) (l : BlockLayout)
-    (block : IsSound symbols t k b l) (code : is_code b.kind ≡ true) where
+    (fit : AllByRecursion IsRightSymbol symbols) (k : ℕ) (b : Block) (l : BlockLayout)
+    (block : IsSoundBlock symbols t k b l) (code : is_code b.kind ≡ true) where
   -- the block among all code blocks
   abbrev here : Environment
   here = record {
@@ -84,9 +84,9 @@ module _ (symbols : List Symbol) (t : Tree) (tree : IsSoundTree symbols t)
 
       whether : (o : Option CallOperation) → call_operation_of s.code ≡ o
           → HasOperand (context_at symbols t k) s o
-      whether None is = (found.view, resolves ∙ ap operand_if_resolved found.is)
+      whether None is = (found.operand, resolves ∙ ap operand_if_resolved found.is)
         where
-          found : IsSeen here (resolution_of (context_at symbols t k) s.operand)
+          found : ResolvesRight here (resolution_of (context_at symbols t k) s.operand)
           found = operand_seen symbols t tree fit k b l block code here surrounded s.operand
               (record {
                 well_formed = sound.well_formed.value;
@@ -135,8 +135,8 @@ module _ (symbols : List Symbol) (t : Tree) (tree : IsSoundTree symbols t)
   )
 
 block_settles : (symbols : List Symbol) (t : Tree) → IsSoundTree symbols t
-    → AllByRecursion SymbolFits symbols → (k : ℕ) (b : Block) (l : BlockLayout)
-    → IsSound symbols t k b l → AllByRecursion StatementHasBytes b.body
+    → AllByRecursion IsRightSymbol symbols → (k : ℕ) (b : Block) (l : BlockLayout)
+    → IsSoundBlock symbols t k b l → AllByRecursion StatementHasBytes b.body
     → AllByRecursion (Settle symbols t k) b.body
     → AllByRecursion (IsResolvedStatement (context_at symbols t k) b.body) b.body
 block_settles symbols t tree fit k b l block has settle = by (is_code b.kind) refl

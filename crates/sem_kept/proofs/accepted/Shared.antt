@@ -24,15 +24,15 @@ use Rattle.stl_types.specs.Kinds.{is_operand_of_call}
 use Rattle.stl_types.specs.Operands.{operand_rule, rule_of_resolved_operand, rule_of_resolution, takes_operand}
 use Rattle.stl_types.specs.Resolution.{resolution_of}
 use Rattle.stl_types.specs.declared.forms.OperandRule.{OperandRule}
-use Rattle.stl_types.specs.declared.forms.OperandRule.TheVariants as form
+use Rattle.stl_types.specs.declared.forms.OperandRule.TheVariants as operand_rules
 use Rattle.stl_types.specs.declared.views.Resolution.{Resolution}
 use Rattle.stl_types.specs.declared.views.Resolution.TheVariants.{Resolved}
 use Rattle.stl_types.specs.declared.views.ResolvedOperand.{ResolvedOperand}
-use Rattle.stl_types.specs.declared.views.ResolvedOperand.TheVariants as view
+use Rattle.stl_types.specs.declared.views.ResolvedOperand.TheVariants as resolved
 use Rattle.stl_codegen.specs.Generated.{stated_from}
 use Rattle.stl_codegen.specs.Instruction.{instruction}
 use Rattle.stl_codegen.specs.Operations.{call_operation_of, jump_operation_of}
-use Rattle.sem_kept.proofs.accepted.OperandsOperations.{allowed}
+use Rattle.sem_kept.proofs.accepted.OperandsOperations.{taken_by_rule}
 
 -- ---- statements
 
@@ -55,7 +55,7 @@ stated_count c body n (s ∷ ss) =
 
 -- ---- the forms of instructions
 
-pub jump_form : (m : Mnemonic) (how : JumpOperation) → jump_operation_of m ≡ Some how → form_of m ≡ form.Jumps
+pub jump_form : (m : Mnemonic) (how : JumpOperation) → jump_operation_of m ≡ Some how → form_of m ≡ operand_rules.Jumps
 unfolding form_of
 jump_form code.Ju how h = refl
 jump_form code.Jl how h = refl
@@ -77,7 +77,7 @@ jump_form code.Juo how h = refl
 jump_form code.Loop how h = refl
 jump_form _ how h = absurd cc
 
-pub call_form : (m : Mnemonic) (how : CallOperation) → call_operation_of m ≡ Some how → form_of m ≡ form.Calls
+pub call_form : (m : Mnemonic) (how : CallOperation) → call_operation_of m ≡ Some how → form_of m ≡ operand_rules.Calls
 unfolding form_of
 call_form code.Call how h = refl
 call_form code.Uc how h = refl
@@ -99,20 +99,20 @@ rule_there c f (operand.Constant value) v never h e = by (takes_constant f value
     by false e h = absurd cc
 rule_there c f _ v never h e = sym (ap (λ (s : Resolution). rule_of_resolution f s) e) ∙ h
 
-pub no_jump_constant : (value : Literal) → takes_constant form.Jumps value ≡ false
+pub no_jump_constant : (value : Literal) → takes_constant operand_rules.Jumps value ≡ false
 unfolding takes_constant
 no_jump_constant value = refl
 
-pub no_call_constant : (value : Literal) → takes_constant form.Calls value ≡ false
+pub no_call_constant : (value : Literal) → takes_constant operand_rules.Calls value ≡ false
 unfolding takes_constant
 no_call_constant value = refl
 
 -- what is called can be
-pub calls_called : (v : ResolvedOperand) → rule_of_resolved_operand form.Calls v ≡ None → is_operand_of_call v ≡ true
+pub calls_called : (v : ResolvedOperand) → rule_of_resolved_operand operand_rules.Calls v ≡ None → is_operand_of_call v ≡ true
 unfolding takes_operand
-calls_called v e = (allowed form.Calls v e).taken
+calls_called v e = (taken_by_rule operand_rules.Calls v e).taken
 
-pub callable_by : (id : BlockId) (instance : Option ℕ) → is_operand_of_call (view.Called id instance) ≡ true
+pub callable_by : (id : BlockId) (instance : Option ℕ) → is_operand_of_call (resolved.Called id instance) ≡ true
     → is_callable id.kind ≡ true
 callable_by id None e = e
 callable_by id (Some n) e = by id.kind e
@@ -126,5 +126,5 @@ callable_by id (Some n) e = by id.kind e
     by kinds.Udt e = absurd cc
 
 pub rule_callable : (id : BlockId) (instance : Option ℕ)
-    → rule_of_resolved_operand form.Calls (view.Called id instance) ≡ None → is_callable id.kind ≡ true
-rule_callable id instance e = callable_by id instance (calls_called (view.Called id instance) e)
+    → rule_of_resolved_operand operand_rules.Calls (resolved.Called id instance) ≡ None → is_callable id.kind ≡ true
+rule_callable id instance e = callable_by id instance (calls_called (resolved.Called id instance) e)

@@ -51,13 +51,14 @@ use Rattle.stl_codegen.specs.Instruction.{return_last}
 use Rattle.stl_codegen.specs.Order.{is_code_before, is_data_before}
 use Rattle.sem_kept.specs.Sizes.{AcceptedIsSmall, IsSmallBlock}
 use Rattle.block_layout.proofs.HeadLemmas.{AllHeads, heads_none}
-use Rattle.sem_kept.proofs.accepted.Accepted.{AllLaid, IsSound, IsSoundStatement, IsSoundTree, context_at, right_tree, sound_code_blocks}
+use Rattle.sem_kept.specs.Settled.{context_at}
+use Rattle.sem_kept.proofs.accepted.Accepted.{AllLaid, IsSoundBlock, IsSoundStatement, IsSoundTree, right_tree, sound_code_blocks}
 use Rattle.block_layout.proofs.LayoutLemmas.{measured_ids, measured_symbols}
 use Rattle.sem_kept.proofs.accepted.OperandsMembers.{initial_long}
 use Rattle.sem_kept.proofs.accepted.OperandsViews.{data_there, layout_components, layout_id, layout_length}
 use Rattle.block_layout.proofs.CountLemmas.{bit, count_of_code, counted_data, few_code_blocks, few_data_blocks, few_data_bytes, is_code_id}
-use Rattle.sem_kept.proofs.accepted.SizesCalls.{AllAreOnce, AreOnce, passes_few, sound_once}
-use Rattle.sem_kept.proofs.accepted.SizesNames.{IsFine, names_count, names_size, symbols_fine}
+use Rattle.sem_kept.proofs.accepted.SizesCalls.{AllAreOnce, AreNamesOnce, passes_few, sound_once}
+use Rattle.sem_kept.proofs.accepted.SizesNames.{IsShortSymbol, names_count, names_size, symbols_fine}
 use Rattle.sem_kept.proofs.accepted.SizesOps.{IsTaken, Opens, bytes_in, whole_count, whole_fits}
 use Rattle.sem_kept.proofs.accepted.SizesSums.{each_sum, mapped_sum, sorted_sum, summed_22, summed_8, summed_ones}
 use Rattle.block_layout.proofs.CommonLemmas.{summed_two}
@@ -200,16 +201,16 @@ laid_mapped P Q f k (b ∷ bs) (l ∷ ls) h = (f k b l h.0, laid_mapped P Q f (s
 
 -- what each sound block has by its layout, all layouts have
 laid_each : (symbols : List Symbol) (t : Tree) (P : BlockLayout → Type 0)
-    → ((k : ℕ) (b : Block) (l : BlockLayout) → IsSound symbols t k b l → P l)
+    → ((k : ℕ) (b : Block) (l : BlockLayout) → IsSoundBlock symbols t k b l → P l)
     → (y : Types) (blocks before : List Block) (k : ℕ) (bs : List Block)
-    → AllLaid (IsSound symbols t) k bs (layouts_from y blocks before bs)
+    → AllLaid (IsSoundBlock symbols t) k bs (layouts_from y blocks before bs)
     → AllByRecursion P (layouts_from y blocks before bs)
 laid_each symbols t P f y blocks before k [] h = tt
 laid_each symbols t P f y blocks before k (b ∷ bs) h =
     (f k b (block_layout y blocks before b) h.0, laid_each symbols t P f y blocks (b ∷ before) (suc k) bs h.1)
 
 all_laid : (symbols : List Symbol) (t : Tree) (P : BlockLayout → Type 0)
-    → ((k : ℕ) (b : Block) (l : BlockLayout) → IsSound symbols t k b l → P l) → IsSoundTree symbols t
+    → ((k : ℕ) (b : Block) (l : BlockLayout) → IsSoundBlock symbols t k b l → P l) → IsSoundTree symbols t
     → AllByRecursion P (layouts_of t symbols)
 unfolding layouts_of layouts_by
 all_laid symbols t P f h =
@@ -222,12 +223,12 @@ opens symbols t tree k (operand.OpenBlock di name) there = ap is_some (data_ther
 opens symbols t tree k _ there = tt
 
 -- what is needed of a tree
-record IsReady (symbols : List Symbol) (t : Tree) : Type 0 where
-  fine : AllByRecursion IsFine symbols
+record IsShortTree (symbols : List Symbol) (t : Tree) : Type 0 where
+  fine : AllByRecursion IsShortSymbol symbols
   sound : IsSoundTree symbols t
   once : AllAreOnce (layouts_of t symbols)
 
-all_taken : (symbols : List Symbol) (t : Tree) (k : ℕ) (ss : List Statement) → IsReady symbols t
+all_taken : (symbols : List Symbol) (t : Tree) (k : ℕ) (ss : List Statement) → IsShortTree symbols t
     → AllByRecursion (IsSoundStatement (types_of_source symbols t.blocks) (context_at symbols t k)) ss
     → AllByRecursion (IsTaken (context_at symbols t k)) ss
 all_taken symbols t k [] ready h = tt
@@ -243,12 +244,12 @@ all_taken symbols t k (s ∷ ss) ready h = (
 -- ---- code blocks
 
 sound_kind : (symbols : List Symbol) (t : Tree) (k : ℕ) (b : Block) (l : BlockLayout)
-    (id : BlockId) → IsSound symbols t k b l → l.id ≡ Some id → b.kind ≡ id.kind
+    (id : BlockId) → IsSoundBlock symbols t k b l → l.id ≡ Some id → b.kind ≡ id.kind
 sound_kind symbols t k b l id sound e = kind_there symbols b id (sym (layout_id symbols t k b l sound) ∙ e)
 
 -- its code
-code_fits : (symbols : List Symbol) (t : Tree) → IsReady symbols t → (k : ℕ) (b : Block)
-    (l : BlockLayout) (id : BlockId) → IsSound symbols t k b l → l.id ≡ Some id
+code_fits : (symbols : List Symbol) (t : Tree) → IsShortTree symbols t → (k : ℕ) (b : Block)
+    (l : BlockLayout) (id : BlockId) → IsSoundBlock symbols t k b l → l.id ≡ Some id
     → is_code id.kind ≡ true
     → bytes_in (compiled_block (code_block (context_at symbols t k) b l id)).code
     + 4 * length (compiled_block (code_block (context_at symbols t k) b l id)).lines ≤ body_size b
@@ -257,8 +258,8 @@ code_fits symbols t ready k b l id sound e is =
     (all_taken symbols t k b.body ready sound.statements)
     (ap is_code (sound_kind symbols t k b l id sound e) ∙ is)
 
-code_size : (symbols : List Symbol) (t : Tree) → IsReady symbols t → (k : ℕ) (b : Block)
-    (l : BlockLayout) (id : BlockId) → IsSound symbols t k b l → l.id ≡ Some id
+code_size : (symbols : List Symbol) (t : Tree) → IsShortTree symbols t → (k : ℕ) (b : Block)
+    (l : BlockLayout) (id : BlockId) → IsSoundBlock symbols t k b l → l.id ≡ Some id
     → is_code id.kind ≡ true
     → records_size (compiled_block (code_block (context_at symbols t k) b l id)) ≤ 22 + whole_size b
 code_size symbols t ready k b l id sound e is =
@@ -270,11 +271,11 @@ code_size symbols t ready k b l id sound e is =
     )
 
 coded_is : (symbols : List Symbol) (t : Tree) (k : ℕ) (b : Block) (l : BlockLayout)
-    → IsSound symbols t k b l → bit (is_code_id l.id) ≡ count_of_code symbols b
+    → IsSoundBlock symbols t k b l → bit (is_code_id l.id) ≡ count_of_code symbols b
 coded_is symbols t k b l sound = ap (λ (o : Option BlockId). bit (is_code_id o)) (layout_id symbols t k b l sound)
 
 coded_one : (symbols : List Symbol) (t : Tree) (k : ℕ) (b : Block) (l : BlockLayout) (id : BlockId)
-    → IsSound symbols t k b l → l.id ≡ Some id → is_code id.kind ≡ true → count_of_code symbols b ≡ 1
+    → IsSoundBlock symbols t k b l → l.id ≡ Some id → is_code id.kind ≡ true → count_of_code symbols b ≡ 1
 coded_one symbols t k b l id sound e is =
     sym (coded_is symbols t k b l sound) ∙ ap (λ (o : Option BlockId). bit (is_code_id o)) e ∙ ap bit is
 
@@ -290,13 +291,13 @@ made_sum f n of one test none some (Some id) h = rw (some id) (by (test id) (h i
     by false most = omega arith
 
 codes_sum : (symbols : List Symbol) (t : Tree) → IsSoundTree symbols t → (f : StatedBlock → ℕ) (g : Block → ℕ)
-    → ((k : ℕ) (b : Block) (l : BlockLayout) (id : BlockId) → IsSound symbols t k b l → l.id ≡ Some id
+    → ((k : ℕ) (b : Block) (l : BlockLayout) (id : BlockId) → IsSoundBlock symbols t k b l → l.id ≡ Some id
     → is_code id.kind ≡ true → f (code_block (context_at symbols t k) b l id) ≤ g b)
     → sum_by f (code_blocks_of t symbols (layouts_of t symbols)) ≤ sum_by g t.blocks
 unfolding code_blocks_of
 codes_sum symbols t sound f g each =
     let of_ : Context → Block → BlockLayout → List StatedBlock = λ c b l. code_block_of c b l l.id in
-    let here = laid_mapped (IsSound symbols t) (λ k b l. sum_by f (of_ (context_at symbols t k) b l) ≤ g b)
+    let here = laid_mapped (IsSoundBlock symbols t) (λ k b l. sum_by f (of_ (context_at symbols t k) b l) ≤ g b)
     (λ k b l h. made_sum f (g b) (code_block_of (context_at symbols t k) b l) (code_block (context_at symbols t k) b l)
     (λ id. is_code id.kind) refl (λ id. refl) l.id (λ id. each k b l id h)) 0 t.blocks (layouts_of t symbols) sound.blocks in
     omega (
@@ -305,7 +306,7 @@ codes_sum symbols t sound f g each =
       each_sum of_ f g symbols t 0 t.blocks (layouts_of t symbols) here,
     )
 
-codes_size : (symbols : List Symbol) (t : Tree) → IsReady symbols t
+codes_size : (symbols : List Symbol) (t : Tree) → IsShortTree symbols t
     → sum_by records_size (map compiled_block (code_blocks_of t symbols (layouts_of t symbols)))
     ≤ 22 * sum_by (count_of_code symbols) t.blocks + sum_by whole_size t.blocks
 codes_size symbols t ready =
@@ -337,12 +338,12 @@ codes_count symbols t sound =
 -- ---- data blocks
 
 sound_data : (symbols : List Symbol) (t : Tree) (k : ℕ) (b : Block) (l : BlockLayout)
-    (id : BlockId) → IsSound symbols t k b l → l.id ≡ Some id → is_data_block id.kind ≡ true
+    (id : BlockId) → IsSoundBlock symbols t k b l → l.id ≡ Some id → is_data_block id.kind ≡ true
     → is_data_block b.kind ≡ true
 sound_data symbols t k b l id sound e is = ap is_data_block (sound_kind symbols t k b l id sound e) ∙ is
 
 one_data_size : (symbols : List Symbol) (t : Tree) (k : ℕ) (b : Block) (l : BlockLayout)
-    (id : BlockId) → IsSound symbols t k b l → l.id ≡ Some id → is_data_block id.kind ≡ true
+    (id : BlockId) → IsSoundBlock symbols t k b l → l.id ≡ Some id → is_data_block id.kind ≡ true
     → data_size (generated_data_block (context_at symbols t k) l id)
     ≡ 8 * counted_data b + data_length (types_of_source symbols t.blocks) t.blocks b
 one_data_size symbols t k b l id sound e is =
@@ -361,13 +362,13 @@ one_data_size symbols t k b l id sound e is =
     )
 
 datas_sum : (symbols : List Symbol) (t : Tree) → IsSoundTree symbols t → (f : DataBlock → ℕ) (g : Block → ℕ)
-    → ((k : ℕ) (b : Block) (l : BlockLayout) (id : BlockId) → IsSound symbols t k b l → l.id ≡ Some id
+    → ((k : ℕ) (b : Block) (l : BlockLayout) (id : BlockId) → IsSoundBlock symbols t k b l → l.id ≡ Some id
     → is_data_block id.kind ≡ true → f (generated_data_block (context_at symbols t k) l id) ≤ g b)
     → sum_by f (data_blocks_of t symbols (layouts_of t symbols)) ≤ sum_by g t.blocks
 unfolding data_blocks_of
 datas_sum symbols t sound f g each =
     let of_ : Context → Block → BlockLayout → List DataBlock = λ c b l. data_block_of c l l.id in
-    let here = laid_mapped (IsSound symbols t) (λ k b l. sum_by f (of_ (context_at symbols t k) b l) ≤ g b)
+    let here = laid_mapped (IsSoundBlock symbols t) (λ k b l. sum_by f (of_ (context_at symbols t k) b l) ≤ g b)
     (λ k b l h. made_sum f (g b) (data_block_of (context_at symbols t k) l) (generated_data_block (context_at symbols t k) l)
     (λ id. is_data_block id.kind) refl (λ id. refl) l.id (λ id. each k b l id h)) 0 t.blocks (layouts_of t symbols) sound.blocks in
     omega (
@@ -449,9 +450,9 @@ part_of f (y ∷ ys) (suc k) x h = omega (arith, part_of f ys k x h, sum_by-cons
 few_statements : (n : ℕ) → nat_lt 65534 n ≡ false → n + 1 < 65536
 few_statements n h = grind (arith, nat_tests)
 
-small_block : (symbols : List Symbol) (t : Tree) → IsReady symbols t
+small_block : (symbols : List Symbol) (t : Tree) → IsShortTree symbols t
     → sum_by whole_size t.blocks ≤ 4194304 → (k : ℕ) (b : Block) (l : BlockLayout)
-    (id : BlockId) → IsSound symbols t k b l → l.id ≡ Some id → is_code id.kind ≡ true
+    (id : BlockId) → IsSoundBlock symbols t k b l → l.id ≡ Some id → is_code id.kind ≡ true
     → IsSmallBlock (compiled_block (code_block (context_at symbols t k) b l id))
 small_block symbols t ready bounded k b l id sound e is =
     let count = count_by (λ (s : Statement). not (is_empty_statement s.code)) b.body in
@@ -481,10 +482,10 @@ accepted_is_small source file symbols t is =
     let sound = right_tree source file symbols t is in
     let fine = symbols_fine is.language file symbols is.named in
     let y = types_of_source symbols t.blocks in
-    let ready : IsReady symbols t = record {
+    let ready : IsShortTree symbols t = record {
       fine = fine.each;
       sound = sound;
-      once = all_laid symbols t (λ l. AreOnce (formals_of l.components)) (sound_once symbols t) sound;
+      once = all_laid symbols t (λ l. AreNamesOnce (formals_of l.components)) (sound_once symbols t) sound;
     } in
     let short = is.short in
     let bounded = bounded_by_source source is.tokens t is.lexed is.parsed in

@@ -31,7 +31,7 @@ use Rattle.stl_types.specs.declared.parameters.Formal.{Formal}
 use Rattle.stl_parser.proofs.OptionLemmas.{both, chained, mapped, none_holds, passed}
 use Rattle.stl_codegen.specs.Instruction.{source_block_at, in_parameter_order, passings_to, return_last}
 use Rattle.stl_codegen.specs.Passed.{passed_actual, passed_resolution, passings_from, actual_of_formal, with_index}
-use Rattle.sem_kept.proofs.accepted.Accepted.{IsSound}
+use Rattle.sem_kept.proofs.accepted.Accepted.{IsSoundBlock}
 use Rattle.block_layout.proofs.SoundnessLemmas.{block_unbroken}
 use Rattle.sem_kept.proofs.accepted.OperandsFormals.{Distinct, FreshFrom, block_formals, fresh_distinct, same_bytes, system_matched}
 use Rattle.block_layout.proofs.CountLemmas.{bit}
@@ -46,7 +46,7 @@ abbrev named_so : List ℕ → Formal → ℕ
 named_so n f = bit (bytes_eq n f.name)
 
 -- no name stands twice
-pub record AreOnce (fs : List Formal) : Type 0 where
+pub record AreNamesOnce (fs : List Formal) : Type 0 where
   pub each : (n : List ℕ) → sum_by (named_so n) fs ≤ 1
 
 -- those that are supplied
@@ -62,7 +62,7 @@ no_sum : {X : Type 0} (f : X → ℕ) (xs : List X) → ((x : X) → f x ≡ 0) 
 no_sum f [] h = refl
 no_sum f (x ∷ xs) h = omega (arith, h x, sum_by-cons f x xs, no_sum f xs h)
 
-given_few : (actuals : List Actual) (fs : List Formal) → AreOnce fs
+given_few : (actuals : List Actual) (fs : List Formal) → AreNamesOnce fs
     → sum_by (is_given actuals) fs ≤ length actuals
 given_few [] fs once = omega (arith, no_sum (is_given []) fs (λ f. refl))
 given_few (a ∷ actuals) fs once =
@@ -116,12 +116,12 @@ in_order_sum : (f : Formal → ℕ) (b : Option Block) (xs : List Formal)
 in_order_sum f None xs = refl
 in_order_sum f (Some b) xs = ordered_sum f b.result xs
 
-ordered_once : (b : Option Block) (xs : List Formal) → AreOnce xs → AreOnce (in_parameter_order b xs)
+ordered_once : (b : Option Block) (xs : List Formal) → AreNamesOnce xs → AreNamesOnce (in_parameter_order b xs)
 ordered_once b xs once =
     record { each = λ n. omega (arith, once.each n, in_order_sum (named_so n) b xs) }
 
 passings_few : (c : Context) (s : Statement) (callee : Option Callee)
-    → IfSome callee (λ callee. AreOnce callee.formals)
+    → IfSome callee (λ callee. AreNamesOnce callee.formals)
     → length (passings_to c s callee) ≤ length s.actuals
 passings_few c s None once = omega arith
 passings_few c s (Some callee) once =
@@ -158,56 +158,56 @@ distinct_once n (f ∷ fs) h =
     by true e more = omega (arith, none_named n f fs e h.0)
     by false e more = omega (arith, more)
 
-fresh_once : (fs : List Formal) → FreshFrom [] fs → AreOnce fs
+fresh_once : (fs : List Formal) → FreshFrom [] fs → AreNamesOnce fs
 fresh_once fs h = record { each = λ n. distinct_once n fs (fresh_distinct [] fs h) }
 
-system_once : (n : ℕ) → IfSome (system_formals n) AreOnce
+system_once : (n : ℕ) → IfSome (system_formals n) AreNamesOnce
 system_once n = by (system_formals n) refl
   where
-    by : (o : Option (List Formal)) → system_formals n ≡ o → IfSome o AreOnce
+    by : (o : Option (List Formal)) → system_formals n ≡ o → IfSome o AreNamesOnce
     by None e = tt
     by (Some fs) e = fresh_once fs (system_matched n fs e).fresh
 
-pub sound_once : (symbols : List Symbol) (t : Tree) (k : ℕ) (b : Block) (l : BlockLayout) → IsSound symbols t k b l
-    → AreOnce (formals_of l.components)
+pub sound_once : (symbols : List Symbol) (t : Tree) (k : ℕ) (b : Block) (l : BlockLayout) → IsSoundBlock symbols t k b l
+    → AreNamesOnce (formals_of l.components)
 unfolding block_layout
 sound_once symbols t k b l h =
     let y = types_of_source symbols t.blocks in
-    subst (λ (l : BlockLayout). AreOnce (formals_of l.components)) (sym h.layout)
+    subst (λ (l : BlockLayout). AreNamesOnce (formals_of l.components)) (sym h.layout)
     (fresh_once (formals_of (components_of y b))
     (block_formals y b h.well_formed (block_unbroken y b h.declarations)))
 
 -- ---- of a call
 
-none_once : AreOnce []
+none_once : AreNamesOnce []
 none_once = record { each = λ n. omega arith }
 
 -- the parameters of each block
 abbrev pub AllAreOnce : List BlockLayout → Type 0
-AllAreOnce ls = AllByRecursion (λ l. AreOnce (formals_of l.components)) ls
+AllAreOnce ls = AllByRecursion (λ l. AreNamesOnce (formals_of l.components)) ls
 
 cells_once : (ls : List BlockLayout) (place : ℕ) → AllAreOnce ls
-    → AreOnce (formals_of (cells_at ls place false))
+    → AreNamesOnce (formals_of (cells_at ls place false))
 cells_once [] place h = none_once
 cells_once (l ∷ ls) zero h = h.0
 cells_once (l ∷ ls) (suc place) h = cells_once ls place h.1
 
 abbrev IsOnceCalled : Callee → Type 0
-IsOnceCalled callee = AreOnce callee.formals
+IsOnceCalled callee = AreNamesOnce callee.formals
 
 source_once : (c : Context) (id : BlockId) → AllAreOnce c.layouts
     → IfSome (source_callee c id) IsOnceCalled
 source_once c id h =
     chained (whole_place c id) _ (λ place. Unit {0}) IsOnceCalled (none_holds (whole_place c id))
-    (λ place k. mapped (sound_formals (cells_at c.layouts place false)) _ AreOnce IsOnceCalled
-    (passed (list_all is_sound_formal (cells_at c.layouts place false)) _ AreOnce
+    (λ place k. mapped (sound_formals (cells_at c.layouts place false)) _ AreNamesOnce IsOnceCalled
+    (passed (list_all is_sound_formal (cells_at c.layouts place false)) _ AreNamesOnce
     (λ test. cells_once c.layouts place h)) (λ fs once. once))
 
 callee_once : (c : Context) (id : BlockId) (k : BlockKind) → AllAreOnce c.layouts
     → IfSome (callee_by c id k) IsOnceCalled
 callee_once c id k h =
     both (is_system_function k) _ _ IsOnceCalled
-    (mapped (system_formals id.number) _ AreOnce IsOnceCalled (system_once id.number)
+    (mapped (system_formals id.number) _ AreNamesOnce IsOnceCalled (system_once id.number)
     (λ fs once. once))
     (both (is_function k) _ _ IsOnceCalled (source_once c id h)
     (both (is_function_block k) _ _ IsOnceCalled (source_once c id h) tt))

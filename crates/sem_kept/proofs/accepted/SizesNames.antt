@@ -25,13 +25,13 @@ abbrev pub IsApart : Target → Type 0
 IsApart (target.Variable place width) = place.number ≡ 0
 IsApart _ = Unit {0}
 
-pub record IsFine (s : Symbol) : Type 0 where
+pub record IsShortSymbol (s : Symbol) : Type 0 where
   pub short : length s.name ≤ 24
   pub apart : IsApart s.target
 
-pub record AreFine (symbols : List Symbol) : Type 0 where
+pub record AreShortSymbols (symbols : List Symbol) : Type 0 where
   pub few : length symbols ≤ 65535
-  pub each : AllByRecursion IsFine symbols
+  pub each : AllByRecursion IsShortSymbol symbols
 
 target_apart : (t : Target) → IsSymbolTarget t → IsApart t
 target_apart (target.Variable place width) h = h.number
@@ -39,13 +39,13 @@ target_apart _ h = tt
 
 pub symbols_fine : (language : Language) (file : List ℕ) (symbols : List Symbol)
     → symbols_in language file ≡ Ok symbols
-    → AreFine symbols
+    → AreShortSymbols symbols
 symbols_fine language file symbols are =
     let right = symbols_right language file symbols are in
     record {
       few = right.few;
       each =
-          all_mapped IsSymbol IsFine
+          all_mapped IsSymbol IsShortSymbol
           (λ s is. record { short = is.short; apart = target_apart s.target is.target }) symbols
           right.each;
     }
@@ -66,7 +66,7 @@ entry_sum f n name (target.Variable place width) h = by (has_name place.area)
 entry_sum f n name (target.Timer number) h = omega arith
 entry_sum f n name _ h = omega arith
 
-entries_size : (symbols : List Symbol) → AllByRecursion IsFine symbols
+entries_size : (symbols : List Symbol) → AllByRecursion IsShortSymbol symbols
     → sum_by name_size (flat_map (λ s. name_entry s.name s.target) symbols) ≤ 30 * length symbols
 entries_size [] h = omega arith
 entries_size (s ∷ ss) h =
@@ -91,7 +91,7 @@ entries_count (s ∷ ss) =
           (flat_map (λ (s : Symbol). name_entry s.name s.target) ss),
     )
 
-pub names_size : (symbols : List Symbol) → AreFine symbols
+pub names_size : (symbols : List Symbol) → AreShortSymbols symbols
     → sum_by name_size (name_entries_of symbols) ≤ 1966050
 names_size symbols are =
     let entries = flat_map (λ (s : Symbol). name_entry s.name s.target) symbols in
@@ -102,7 +102,7 @@ names_size symbols are =
       sorted_sum is_name_before name_size entries,
     )
 
-pub names_count : (symbols : List Symbol) → AreFine symbols → length (name_entries_of symbols) ≤ 65535
+pub names_count : (symbols : List Symbol) → AreShortSymbols symbols → length (name_entries_of symbols) ≤ 65535
 names_count symbols are =
     let entries = flat_map (λ (s : Symbol). name_entry s.name s.target) symbols in
     omega (arith, are.few, entries_count symbols, sorted_length is_name_before entries)

@@ -52,13 +52,13 @@ use Rattle.stl_types.specs.Parameters.{callee_of}
 use Rattle.stl_types.specs.Resolved.{operand_if_resolved}
 use Rattle.stl_types.specs.Resolution.{resolution_of_call, resolution_of_address, resolution_of_opened_block, resolution_of_path, register_for_word, resolution_of}
 use Rattle.stl_types.specs.declared.forms.OperandRule.{OperandRule}
-use Rattle.stl_types.specs.declared.forms.OperandRule.TheVariants as form
+use Rattle.stl_types.specs.declared.forms.OperandRule.TheVariants as operand_rules
 use Rattle.stl_types.specs.declared.views.Register.{Register}
 use Rattle.stl_types.specs.declared.views.Register.TheVariants as register
 use Rattle.stl_types.specs.declared.views.Resolution.{Resolution}
 use Rattle.stl_types.specs.declared.views.Resolution.TheVariants.{Unjudged, Resolved, Unknown}
 use Rattle.stl_types.specs.declared.views.ResolvedOperand.{ResolvedOperand}
-use Rattle.stl_types.specs.declared.views.ResolvedOperand.TheVariants as view
+use Rattle.stl_types.specs.declared.views.ResolvedOperand.TheVariants as resolved
 use Rattle.stl_codegen.specs.Compiled.{SourceInstruction, operand_with_target, op_with_target, code_in, lines_in, ops_in, placed_ops}
 use Rattle.stl_codegen.specs.Emitted.{call_op, op_with_end_mark, use_db_ops, ops_of, pass_ops, preparing_op}
 use Rattle.stl_codegen.specs.Generated.{return_statement, stated_from, statements_of}
@@ -69,7 +69,7 @@ use Rattle.sem_kept.proofs.accepted.OperandsInstr.{resolved_is}
 use Rattle.sem_kept.proofs.ReachedLemmas.{AnyNumber, HasNumber, IsReached, data_path_reached, direct_reached, own_reached, symbol_reached}
 use Rattle.sem_kept.proofs.accepted.OperandsSymbols.{named_has}
 use Rattle.sem_kept.proofs.accepted.Shared.{call_form, calls_called, jump_form, no_call_constant, no_jump_constant, rule_there, stated_count}
-use Rattle.sem_kept.proofs.accepted.SizesNames.{IsApart, IsFine}
+use Rattle.sem_kept.proofs.accepted.SizesNames.{IsApart, IsShortSymbol}
 
 -- ---- the bytes of ops
 
@@ -209,12 +209,12 @@ returns_sized how = one_sized _
 
 -- ---- of what operands name
 
-abbrev ViewFits : ℕ → Operand → ResolvedOperand → Type 0
-ViewFits n o v = opened_size (block_opened_by_operand v) + flat_size (flat_operand_of o v) ≤ n
+abbrev OpsFit : ℕ → Operand → ResolvedOperand → Type 0
+OpsFit n o v = opened_size (block_opened_by_operand v) + flat_size (flat_operand_of o v) ≤ n
 
-abbrev SeenFits : ℕ → Operand → Resolution → Type 0
-SeenFits n o (Resolved v) = ViewFits n o v
-SeenFits n o _ = Unit {0}
+abbrev ResolvedOpsFit : ℕ → Operand → Resolution → Type 0
+ResolvedOpsFit n o (Resolved v) = OpsFit n o v
+ResolvedOpsFit n o _ = Unit {0}
 
 -- a place in no data block that is named
 none_opened : (b : Bool) (n m : ℕ) → n ≡ 0
@@ -235,13 +235,13 @@ place_fits place h = by (is_in_named_block place)
 
 -- what is reached, with so many bytes at most for the op that opens its data block
 reached_fits : (P : ℕ → Type 0) (n : ℕ) (o : Operand) → ((place : Place) → P place.number → opened_size (opened_by_place place) ≤ n)
-    → (s : Resolution) → IsReached P s → SeenFits (7 + n) o s
+    → (s : Resolution) → IsReached P s → ResolvedOpsFit (7 + n) o s
 unfolding flat_operand_of
-reached_fits P n o few (Resolved (view.Direct place w side declared)) h = omega (arith, few place h)
-reached_fits P n o few (Resolved (view.ByRegister a w register bits)) h = absurd h
-reached_fits P n o few (Resolved (view.NumberBy what from byte)) h = absurd h
-reached_fits P n o few (Resolved (view.Register which)) h = absurd h
-reached_fits P n o few (Resolved view.Constant) h = absurd h
+reached_fits P n o few (Resolved (resolved.Direct place w side declared)) h = omega (arith, few place h)
+reached_fits P n o few (Resolved (resolved.ByRegister a w register bits)) h = absurd h
+reached_fits P n o few (Resolved (resolved.NumberBy what from byte)) h = absurd h
+reached_fits P n o few (Resolved (resolved.Register which)) h = absurd h
+reached_fits P n o few (Resolved resolved.Constant) h = absurd h
 reached_fits P n o few (Resolved _) h = omega arith
 reached_fits P n o few _ h = tt
 
@@ -253,20 +253,20 @@ fine_number (target.Variable place width) h = h
 fine_number (target.Timer number) h = tt
 fine_number _ h = tt
 
-symbol_number : (s : Option Symbol) → IfSome s IsFine → IfSome s (λ s. HasNumber IsNone s.target)
+symbol_number : (s : Option Symbol) → IfSome s IsShortSymbol → IfSome s (λ s. HasNumber IsNone s.target)
 symbol_number None h = tt
 symbol_number (Some s) h = fine_number s.target h.apart
 
 path_fits : (c : Context) (o : Operand) (path : PathHead) (steps : List PathStep)
-    → AllByRecursion IsFine c.symbols → SeenFits (path_size path) o (resolution_of_path c path steps)
+    → AllByRecursion IsShortSymbol c.symbols → ResolvedOpsFit (path_size path) o (resolution_of_path c path steps)
 path_fits c o (head.Local name) steps h = reached_fits IsNone 0 o apart_fits _ (own_reached IsNone refl c _ _)
 path_fits c o (head.InBlock name) steps h = reached_fits AnyNumber 4 o place_fits _ (data_path_reached c _ _ _)
 path_fits c o (head.Symbol name) steps h =
     reached_fits IsNone 0 o apart_fits _
-    (symbol_reached IsNone (symbol_named name c.symbols) (symbol_number _ (named_has IsFine name c.symbols h)))
+    (symbol_reached IsNone (symbol_named name c.symbols) (symbol_number _ (named_has IsShortSymbol name c.symbols h)))
 
 direct_fits : (c : Context) (o : Operand) (name : Option BlockName) (a : Letters) (w : Width)
-    (byte bit : ℕ) → SeenFits (7 + block_size name) o (resolution_of_address c name a w byte bit)
+    (byte bit : ℕ) → ResolvedOpsFit (7 + block_size name) o (resolution_of_address c name a w byte bit)
 direct_fits c o None a w byte bit = reached_fits IsNone 0 o apart_fits (resolution_of_address c None a w byte bit) refl
 direct_fits c o (Some name) a w byte bit =
     reached_fits AnyNumber 4 o place_fits _ (direct_reached c (Some name) a w byte bit)
@@ -283,13 +283,13 @@ register_fits register.Dilg = omega arith
 register_fits register.Dino = omega arith
 register_fits _ = omega arith
 
-opened_fits : (o : Operand) (di : Bool) (number : Option ℕ) → SeenFits 5 o (resolution_of_opened_block di number)
+opened_fits : (o : Operand) (di : Bool) (number : Option ℕ) → ResolvedOpsFit 5 o (resolution_of_opened_block di number)
 unfolding flat_operand_of
 opened_fits o di None = tt
 opened_fits o di (Some number) = omega arith
 
 called_fits : (o : Operand) (id : Option BlockId) (name : Option BlockName) (instance : Option ℕ)
-    → SeenFits 7 o (resolution_of_call id name instance)
+    → ResolvedOpsFit 7 o (resolution_of_call id name instance)
 unfolding flat_operand_of
 called_fits o None name instance = tt
 called_fits o (Some id) None instance = omega arith
@@ -297,8 +297,8 @@ called_fits o (Some id) (Some name) None = tt
 called_fits o (Some id) (Some name) (Some number) = omega arith
 
 -- the op of an operand, and the one that opens its data block
-seen_fits : (c : Context) (o : Operand) → AllByRecursion IsFine c.symbols
-    → SeenFits (op_size o) o (resolution_of c o)
+seen_fits : (c : Context) (o : Operand) → AllByRecursion IsShortSymbol c.symbols
+    → ResolvedOpsFit (op_size o) o (resolution_of c o)
 unfolding resolution_of flat_operand_of
 seen_fits c (operand.Direct name a w byte bit) h =
     direct_fits c (operand.Direct name a w byte bit) name a w byte bit
@@ -324,14 +324,14 @@ least_op _ = omega arith
 
 -- what isn't seen, a label and what is called: an operand of seven bytes
 abbrev IsWide : ℕ → Resolution → Type 0
-IsWide n (Resolved view.Label) = 7 ≤ n
-IsWide n (Resolved (view.Called id instance)) = 7 ≤ n
+IsWide n (Resolved resolved.Label) = 7 ≤ n
+IsWide n (Resolved (resolved.Called id instance)) = 7 ≤ n
 IsWide n (Resolved _) = Unit {0}
 IsWide n _ = 7 ≤ n
 
 any_wide : (n : ℕ) (s : Resolution) → 7 ≤ n → IsWide n s
-any_wide n (Resolved view.Label) h = h
-any_wide n (Resolved (view.Called id instance)) h = h
+any_wide n (Resolved resolved.Label) h = h
+any_wide n (Resolved (resolved.Called id instance)) h = h
 any_wide n (Resolved _) h = tt
 any_wide n _ h = h
 
@@ -354,14 +354,14 @@ operand_wide c (operand.Called name instance) h = any_wide _ _ (omega arith)
 operand_wide c _ h = tt
 
 -- what a jump takes
-jump_wide : (n : ℕ) (v : ResolvedOperand) → rule_of_resolved_operand form.Jumps v ≡ None → IsWide n (Resolved v) → 7 ≤ n
+jump_wide : (n : ℕ) (v : ResolvedOperand) → rule_of_resolved_operand operand_rules.Jumps v ≡ None → IsWide n (Resolved v) → 7 ≤ n
 unfolding rule_of_resolved_operand takes_operand
-jump_wide n view.Label h wide = wide
+jump_wide n resolved.Label h wide = wide
 jump_wide n _ h wide = absurd cc
 
-view_holds : (n : ℕ) (o : Operand) (s : Resolution) (v : ResolvedOperand) → s ≡ Resolved v → SeenFits n o s
-    → ViewFits n o v
-view_holds n o s v e h = subst (λ (s : Resolution). SeenFits n o s) e h
+view_holds : (n : ℕ) (o : Operand) (s : Resolution) (v : ResolvedOperand) → s ≡ Resolved v → ResolvedOpsFit n o s
+    → OpsFit n o v
+view_holds n o s v e h = subst (λ (s : Resolution). ResolvedOpsFit n o s) e h
 
 -- what a statement passes is no more than it has
 abbrev pub PassesFew : Context → Statement → Type 0
@@ -385,7 +385,7 @@ jump_fits c n s how is jumps target =
   where
     by : (x : Resolution) → resolution_of c s.operand ≡ x → IsWide (op_size s.operand) x → 7 ≤ op_size s.operand
     by (Resolved v) e wide =
-        jump_wide (op_size s.operand) v (rule_there c form.Jumps s.operand v no_jump_constant
+        jump_wide (op_size s.operand) v (rule_there c operand_rules.Jumps s.operand v no_jump_constant
         (ap (λ (f : OperandRule). operand_rule c f s.operand) (sym (jump_form s.code how jumps)) ∙ is.allowed) e)
         wide
     by _ e wide = wide
@@ -393,12 +393,12 @@ jump_fits c n s how is jumps target =
 called_view_fits : (c : Context) (s : Statement) (how : CallOperation) (v : ResolvedOperand)
     → is_operand_of_call v ≡ true → IsWide (op_size s.operand) (Resolved v) → PassesFew c s
     → bytes_in (ops_of (call_instr c s how v)) ≤ op_size s.operand + 11 * length s.actuals
-called_view_fits c s how (view.Called id instance) h wide few =
+called_view_fits c s how (resolved.Called id instance) h wide few =
     omega (arith, calls_sized how id instance (passings_to c s (callee_of c s.operand)), wide, few)
 called_view_fits c s how _ h wide few = absurd cc
 
 end_fits : (c : Context) (s : Statement) (v : ResolvedOperand) (how : Option EndOperation)
-    → AllByRecursion IsFine c.symbols → resolution_of c s.operand ≡ Resolved v
+    → AllByRecursion IsShortSymbol c.symbols → resolution_of c s.operand ≡ Resolved v
     → bytes_in (ops_of (end_instr s v how)) ≤ op_size s.operand
 end_fits c s v None fine e =
     omega (
@@ -409,13 +409,13 @@ end_fits c s v None fine e =
 end_fits c s v (Some how) fine e = omega (arith, returns_sized how, least_op s.operand)
 
 operand_instr_fits : (c : Context) (s : Statement) (v : ResolvedOperand) (how : Option CallOperation)
-    → call_operation_of s.code ≡ how → AllByRecursion IsFine c.symbols → IsTaken c s
+    → call_operation_of s.code ≡ how → AllByRecursion IsShortSymbol c.symbols → IsTaken c s
     → resolution_of c s.operand ≡ Resolved v → IsWide (op_size s.operand) (Resolved v)
     → bytes_in (ops_of (operand_instr c s v how)) ≤ op_size s.operand + 11 * length s.actuals
 operand_instr_fits c s v None calls fine is e wide =
     omega (arith, end_fits c s v (end_operation_of s.code) fine e)
 operand_instr_fits c s v (Some how) calls fine is e wide =
-    called_view_fits c s how v (calls_called v (rule_there c form.Calls s.operand v no_call_constant
+    called_view_fits c s how v (calls_called v (rule_there c operand_rules.Calls s.operand v no_call_constant
     (ap (λ (f : OperandRule). operand_rule c f s.operand) (sym (call_form s.code how calls)) ∙ is.allowed) e)) wide is.few
 
 filler_sized : bytes_in (ops_of filler_instruction) ≡ 6
@@ -423,7 +423,7 @@ unfolding ops_of
 filler_sized = one_sized _
 
 -- an instruction that isn't a jump
-view_fits : (c : Context) (s : Statement) (found : Resolution) → AllByRecursion IsFine c.symbols
+view_fits : (c : Context) (s : Statement) (found : Resolution) → AllByRecursion IsShortSymbol c.symbols
     → IsTaken c s → resolution_of c s.operand ≡ found → IsWide (op_size s.operand) found
     → bytes_in (ops_of (resolved_instr c s (operand_if_resolved found)))
     ≤ op_size s.operand + 11 * length s.actuals
@@ -433,7 +433,7 @@ view_fits c s Unknown fine is e wide = omega (arith, wide, filler_sized)
 view_fits c s Unjudged fine is e wide = omega (arith, wide, filler_sized)
 
 instr_fits : (c : Context) (body : List Statement) (n : ℕ) (s : Statement) (how : Option JumpOperation)
-    → jump_operation_of s.code ≡ how → AllByRecursion IsFine c.symbols → IsTaken c s
+    → jump_operation_of s.code ≡ how → AllByRecursion IsShortSymbol c.symbols → IsTaken c s
     → bytes_in (ops_of (instr_by c body n s how)) ≤ op_size s.operand + 11 * length s.actuals
 instr_fits c body n s None jumps fine is =
     rw (resolved_is c s is.allowed)
@@ -442,7 +442,7 @@ instr_fits c body n s (Some how) jumps fine is =
     omega (arith, jump_fits c n s how is jumps (target_of body s.operand))
 
 statement_fits : (c : Context) (body : List Statement) (n : ℕ) (s : Statement)
-    → AllByRecursion IsFine c.symbols → IsTaken c s
+    → AllByRecursion IsShortSymbol c.symbols → IsTaken c s
     → bytes_in (ops_of (instruction c body n s)) ≤ op_size s.operand + 11 * length s.actuals
 unfolding instruction
 statement_fits c body n s fine is = instr_fits c body n s (jump_operation_of s.code) refl fine is
@@ -459,7 +459,7 @@ abbrev pub stated_size : List SourceInstruction → ℕ
 stated_size ss = bytes_in (ops_in ss) + 4 * length ss
 
 pub body_fits : (c : Context) (body : List Statement) (n : ℕ) (ss : List Statement)
-    → AllByRecursion IsFine c.symbols → AllByRecursion (IsTaken c) ss
+    → AllByRecursion IsShortSymbol c.symbols → AllByRecursion (IsTaken c) ss
     → stated_size (stated_from c body n ss) ≤ sum_by statement_size ss
 body_fits c body n [] fine h = omega arith
 body_fits c body n (s ∷ ss) fine h =
@@ -491,7 +491,7 @@ body_fits c body n (s ∷ ss) fine h =
 one_returns : (b : Block) → bytes_in (ops_in (return_statement b ∷ [])) ≡ 2
 one_returns b = omega (arith, returns_sized ends.Be, bytes_both (ops_of (Returns ends.Be)) [])
 
-pub whole_fits : (c : Context) (b : Block) → AllByRecursion IsFine c.symbols
+pub whole_fits : (c : Context) (b : Block) → AllByRecursion IsShortSymbol c.symbols
     → AllByRecursion (IsTaken c) b.body → is_code b.kind ≡ true
     → bytes_in (code_in (statements_of c b)) + 4 * length (lines_in (statements_of c b))
     ≤ body_size b

@@ -28,13 +28,13 @@ use Rattle.stl_types.specs.Operands.{rule_of_resolved_operand, rule_of_resolutio
 use Rattle.stl_types.specs.Resolved.{operand_if_resolved, resolved_operand}
 use Rattle.stl_types.specs.Resolution.{resolution_of_path, resolution_of_address, resolution_of_opened_block, resolution_of_call, instance_number, whole_called_block as whole_called, resolution_of}
 use Rattle.stl_types.specs.declared.forms.OperandRule.{OperandRule}
-use Rattle.stl_types.specs.declared.forms.OperandRule.TheVariants as form
+use Rattle.stl_types.specs.declared.forms.OperandRule.TheVariants as operand_rules
 use Rattle.stl_types.specs.declared.views.Register.{Register}
 use Rattle.stl_types.specs.declared.views.Register.TheVariants as register
 use Rattle.stl_types.specs.declared.views.Resolution.{Resolution}
 use Rattle.stl_types.specs.declared.views.Resolution.TheVariants.{Resolved, Unknown, Unjudged}
 use Rattle.stl_types.specs.declared.views.ResolvedOperand.{ResolvedOperand}
-use Rattle.stl_types.specs.declared.views.ResolvedOperand.TheVariants as view
+use Rattle.stl_types.specs.declared.views.ResolvedOperand.TheVariants as resolved
 use Rattle.stl_codegen.specs.Instruction.{numbers_from, jump_instr, target_of, call_instr, end_instr, operand_instr, resolved_instr, instr_by, instruction}
 use Rattle.stl_codegen.specs.Operands.{numbered_operand, register_operand, flat_operand_of}
 use Rattle.stl_codegen.specs.Operations.{jump_operation_of, call_operation_of, end_operation_of}
@@ -69,24 +69,24 @@ by_register _ = refl
 
 pub no_target : (o : Operand) (v : ResolvedOperand) → is_target (flat_operand_of o v) ≡ false
 unfolding flat_operand_of
-no_target o (view.NumberBy what from byte) = by_number what from byte
-no_target o (view.Register which) = by_register which
+no_target o (resolved.NumberBy what from byte) = by_number what from byte
+no_target o (resolved.Register which) = by_register which
 no_target o _ = refl
 
 -- ---- what is called
 
--- what is taken is seen, and breaks no rule
-taken : (r : Option ℕ) (x : Resolution) (v : ResolvedOperand)
+-- what is resolved_by_rule is seen, and breaks no rule
+resolved_by_rule : (r : Option ℕ) (x : Resolution) (v : ResolvedOperand)
     → (if is_none r then operand_if_resolved x else None) ≡ Some v → (r ≡ None) × (x ≡ Resolved v)
-taken None (Resolved w) v e = (refl, cc)
-taken None Unknown v e = absurd cc
-taken None Unjudged v e = absurd cc
-taken (Some rule) x v e = absurd cc
+resolved_by_rule None (Resolved w) v e = (refl, cc)
+resolved_by_rule None Unknown v e = absurd cc
+resolved_by_rule None Unjudged v e = absurd cc
+resolved_by_rule (Some rule) x v e = absurd cc
 
 -- an operand that names a called block breaks the rule of what it names
 rule_none : (c : Context) (f : OperandRule) (o : Operand) (id : BlockId) (i : Option ℕ)
-    → operand_rule c f o ≡ None → resolution_of c o ≡ Resolved (view.Called id i)
-    → rule_of_resolved_operand f (view.Called id i) ≡ None
+    → operand_rule c f o ≡ None → resolution_of c o ≡ Resolved (resolved.Called id i)
+    → rule_of_resolved_operand f (resolved.Called id i) ≡ None
 unfolding resolution_of
 rule_none c f (operand.Constant value) id i e s = absurd cc
 rule_none c f _ id i e s = ap (rule_of_resolution f) (sym s) ∙ e
@@ -95,11 +95,11 @@ rule_none c f _ id i e s = ap (rule_of_resolution f) (sym s) ∙ e
 
 -- only an operand that calls a block names one
 abbrev names_called : Resolution → Bool
-names_called (Resolved (view.Called id instance)) = true
+names_called (Resolved (resolved.Called id instance)) = true
 names_called _ = false
 
 none_called : (x : Resolution) → IsReached AnyNumber x → names_called x ≡ false
-none_called (Resolved (view.Called id instance)) h = absurd h
+none_called (Resolved (resolved.Called id instance)) h = absurd h
 none_called (Resolved _) h = refl
 none_called _ h = refl
 
@@ -210,24 +210,24 @@ least_data_number c name number e =
 
 called_instance : (c : Context) (b : Option BlockId) (named : Option BlockName) (id : BlockId)
     (number : ℕ)
-    → resolution_of_call b named (instance_number c named) ≡ Resolved (view.Called id (Some number))
+    → resolution_of_call b named (instance_number c named) ≡ Resolved (resolved.Called id (Some number))
     → 1 ≤ number
 called_instance c None named id number e = absurd cc
 called_instance c (Some x) None id number e = absurd cc
 called_instance c (Some x) (Some name) id number e = by (data_number c name) refl e
   where
     by : (i : Option ℕ) → data_number c name ≡ i
-        → resolution_of_call (Some x) (Some name) i ≡ Resolved (view.Called id (Some number)) → 1 ≤ number
+        → resolution_of_call (Some x) (Some name) i ≡ Resolved (resolved.Called id (Some number)) → 1 ≤ number
     by None is h = absurd cc
     by (Some k) is h =
         let same : k ≡ number = cc in least_data_number c name number (is ∙ ap Some same)
 
 not_called : (x : Resolution) (id : BlockId) (i : Option ℕ) → names_called x ≡ false
-    → x ≡ Resolved (view.Called id i) → ⊥
+    → x ≡ Resolved (resolved.Called id i) → ⊥
 not_called x id i other e = let h : false ≡ true = sym other ∙ ap names_called e in cc
 
 seen_instance : (c : Context) (o : Operand) (id : BlockId) (number : ℕ)
-    → resolution_of c o ≡ Resolved (view.Called id (Some number)) → 1 ≤ number
+    → resolution_of c o ≡ Resolved (resolved.Called id (Some number)) → 1 ≤ number
 unfolding resolution_of
 seen_instance c (operand.Called name instance) id number e =
     called_instance c (whole_called c (named_block c.symbols name)) instance id number e
@@ -242,7 +242,7 @@ seen_instance c (operand.OpenBlock di name) id number e =
 seen_instance c _ id number e = absurd cc
 
 instance_is : (c : Context) (o : Operand) (id : BlockId) (i : Option ℕ)
-    → resolution_of c o ≡ Resolved (view.Called id i) → IsInstanceNumber i
+    → resolution_of c o ≡ Resolved (resolved.Called id i) → IsInstanceNumber i
 instance_is c o id None e = tt
 instance_is c o id (Some number) e = seen_instance c o id number e
 
@@ -251,12 +251,12 @@ instance_is c o id (Some number) e = seen_instance c o id number e
 called_made : (c : Context) (n : ℕ) (s : Statement) (how : CallOperation) (v : ResolvedOperand)
     → resolved_operand c s ≡ Some v → call_operation_of s.code ≡ Some how → IsMade n (call_instr c s how v)
 unfolding resolved_operand
-called_made c n s how (view.Called id i) is e =
-    let t = taken (statement_rule c s) (resolution_of c s.operand) (view.Called id i) is in
-    let rule : rule_of_resolved_operand (form_of s.code) (view.Called id i) ≡ None =
+called_made c n s how (resolved.Called id i) is e =
+    let t = resolved_by_rule (statement_rule c s) (resolution_of c s.operand) (resolved.Called id i) is in
+    let rule : rule_of_resolved_operand (form_of s.code) (resolved.Called id i) ≡ None =
     rule_none c (form_of s.code) s.operand id i t.0 t.1 in
-    let calls_form : form_of s.code ≡ form.Calls = call_form s.code how e in (
-      rule_callable id i (ap (λ (f : OperandRule). rule_of_resolved_operand f (view.Called id i)) (sym calls_form) ∙ rule),
+    let calls_form : form_of s.code ≡ operand_rules.Calls = call_form s.code how e in (
+      rule_callable id i (ap (λ (f : OperandRule). rule_of_resolved_operand f (resolved.Called id i)) (sym calls_form) ∙ rule),
       instance_is c s.operand id i t.1,
     )
 called_made c n s how _ is e = (refl, refl)

@@ -22,22 +22,23 @@ use Rattle.flat_code.specs.declared.operations.Operation.{Operation}
 use Rattle.flat_code.specs.declared.operations.Operation.TheVariants as operation
 use Rattle.machine.specs.Flat.{OpRun, op_run_at, with_op, most_ops_of_statement, use_db_of, passings_of, list_of, most_listed, instance_named, instr_of, fetched_of, statement_fetched}
 use Rattle.stl_codegen.specs.Emitted.{ops_of, op_with_end_mark, use_db_ops, pass_ops, jump_op, call_op, end_op, instance_number_or_zero}
+use Rattle.flat_code.specs.declared.operations.EndOperation.TheVariants as ends
 use Rattle.stl_codegen.specs.Compiled.{SourceInstruction, ops_in, offset_from, offset_of_statement, operand_with_target, op_with_target, placed_ops, code_in, lines_in}
 use Rattle.stl_codegen.specs.Instruction.{numbers_from}
 use Rattle.machine.specs.Moved.{aimed_instr}
 use Rattle.sem_kept.specs.Back.{aimed_statement, goes_to_next_statement, is_target, IsInstanceNumber, is_ju, IsJu, IsList, IsGeneratedInstruction, AreCompiled, IsReadBack}
-use Rattle.sem_kept.proofs.compiled.Runs.{total, total_append, op_behind, op_at_end, size_aimed, total_aimed, Parted, IsPreparing, IsStatement, AreStatements, flat, bytes_of, bytes_long, extent, total_flat, extent_append, flat_append, line_at, line_at_end, offset_is, offset_past}
+use Rattle.sem_kept.proofs.compiled.Runs.{total, total_append, op_behind, op_at_end, size_aimed, total_aimed, InstrParts, IsPreparing, IsPartedStatement, AreStatements, flat, bytes_of, bytes_long, extent, total_flat, extent_append, flat_append, line_at, line_at_end, offset_is, offset_past}
 
 -- ---- the ops of a statement, in parts
 
-abbrev pub parted : Instr → Parted
-parted (Does use_db w o) = record { front = use_db_ops use_db; end = op_with_end_mark w o }
-parted (Jumps how target) = record { front = []; end = jump_op how target }
-parted (JumpsByList targets otherwise) = record { front = []; end = jump_op jump.Jl otherwise }
-parted (Calls how block instance passings) = record { front = pass_ops passings; end = call_op how block instance }
-parted (Returns how) = record { front = []; end = end_op how }
+abbrev pub parts_of_instr : Instr → InstrParts
+parts_of_instr (Does use_db w o) = record { front = use_db_ops use_db; end = op_with_end_mark w o }
+parts_of_instr (Jumps how target) = record { front = []; end = jump_op how target }
+parts_of_instr (JumpsByList targets otherwise) = record { front = []; end = jump_op jump.Jl otherwise }
+parts_of_instr (Calls how block instance passings) = record { front = pass_ops passings; end = call_op how block instance }
+parts_of_instr (Returns how) = record { front = []; end = end_op how }
 
-ops_parted : (i : Instr) → ops_of i ≡ (parted i).front ++ (parted i).end ∷ []
+ops_parted : (i : Instr) → ops_of i ≡ (parts_of_instr i).front ++ (parts_of_instr i).end ∷ []
 unfolding ops_of
 ops_parted (Does use_db w o) = refl
 ops_parted (Jumps how target) = refl
@@ -53,21 +54,21 @@ opening_prepares : (use_db : Option ℕ) → AllByRecursion IsPreparing (use_db_
 opening_prepares None = tt
 opening_prepares (Some number) = (refl, tt)
 
-pub is_statement : (i : Instr) → IsStatement (parted i)
+pub is_statement : (i : Instr) → IsPartedStatement (parts_of_instr i)
 is_statement (Does use_db w o) = record { front = opening_prepares use_db; end = refl }
 is_statement (Jumps how target) = record { front = tt; end = refl }
 is_statement (JumpsByList targets otherwise) = record { front = tt; end = refl }
 is_statement (Calls how block instance passings) = record { front = passing_prepares passings; end = refl }
 is_statement (Returns how) = record { front = tt; end = refl }
 
-abbrev pub parts : List SourceInstruction → List Parted
+abbrev pub parts : List SourceInstruction → List InstrParts
 parts [] = []
-parts (s ∷ ss) = parted s.instr ∷ parts ss
+parts (s ∷ ss) = parts_of_instr s.instr ∷ parts ss
 
 pub ops_in_parts : (ss : List SourceInstruction) → ops_in ss ≡ flat (parts ss)
 ops_in_parts [] = refl
 ops_in_parts (s ∷ ss) =
-    let p = parted s.instr in
+    let p = parts_of_instr s.instr in
     rw (ops_parted s.instr) (rw (ops_in_parts ss) (append_assoc p.front (p.end ∷ []) (flat (parts ss))))
 
 pub parts_append : (xs ys : List SourceInstruction) → parts (xs ++ ys) ≡ parts xs ++ parts ys
@@ -84,10 +85,18 @@ parts_are (s ∷ ss) = (is_statement s.instr, parts_are ss)
 
 -- ---- with offsets as targets
 
-abbrev pub aimed_part : (ℕ → ℕ) → Parted → Parted
+abbrev pub aimed_part : (ℕ → ℕ) → InstrParts → InstrParts
 aimed_part f p = record { front = map (op_with_target f) p.front; end = op_with_target f p.end }
 
-abbrev pub aimed_parts : (ℕ → ℕ) → List Parted → List Parted
+-- the ops of an instruction with offsets as targets, with these ops behind them
+abbrev pub ops_with : (ℕ → ℕ) → Instr → List OpData → List OpData
+ops_with f i rest = (aimed_part f (parts_of_instr i)).front ++ (aimed_part f (parts_of_instr i)).end ∷ rest
+
+-- the last statement of a block, which returns as BE does; line is that of the END clause
+abbrev pub return_at : (line : ℕ) → SourceInstruction
+return_at line = record { instr = Returns ends.Be; line = line }
+
+abbrev pub aimed_parts : (ℕ → ℕ) → List InstrParts → List InstrParts
 aimed_parts f [] = []
 aimed_parts f (p ∷ ps) = aimed_part f p ∷ aimed_parts f ps
 
@@ -95,15 +104,15 @@ map_append : (f : ℕ → ℕ) (xs ys : List OpData) → map (op_with_target f) 
 map_append f [] ys = refl
 map_append f (x ∷ xs) ys = ap (λ (z : List OpData). op_with_target f x ∷ z) (map_append f xs ys)
 
-aimed_flat : (f : ℕ → ℕ) (ps : List Parted) → map (op_with_target f) (flat ps) ≡ flat (aimed_parts f ps)
+aimed_flat : (f : ℕ → ℕ) (ps : List InstrParts) → map (op_with_target f) (flat ps) ≡ flat (aimed_parts f ps)
 aimed_flat f [] = refl
 aimed_flat f (p ∷ ps) = map_append f p.front (p.end ∷ flat ps)
     ∙ ap (λ (z : List OpData). map (op_with_target f) p.front ++ op_with_target f p.end ∷ z) (aimed_flat f ps)
 
-pub aimed_bytes : (f : ℕ → ℕ) (p : Parted) → bytes_of (aimed_part f p) ≡ bytes_of p
+pub aimed_bytes : (f : ℕ → ℕ) (p : InstrParts) → bytes_of (aimed_part f p) ≡ bytes_of p
 aimed_bytes f p = let a = total_aimed f p.front in let b = size_aimed f p.end in omega (arith, a, b)
 
-pub aimed_extent : (f : ℕ → ℕ) (ps : List Parted) → extent (aimed_parts f ps) ≡ extent ps
+pub aimed_extent : (f : ℕ → ℕ) (ps : List InstrParts) → extent (aimed_parts f ps) ≡ extent ps
 aimed_extent f [] = refl
 aimed_extent f (p ∷ ps) = let a = aimed_bytes f p in let b = aimed_extent f ps in omega (arith, a, b)
 
@@ -111,18 +120,18 @@ aimed_prepares : (f : ℕ → ℕ) (ops : List OpData) → AllByRecursion IsPrep
 aimed_prepares f [] h = tt
 aimed_prepares f (op ∷ ops) h = (h.0, aimed_prepares f ops h.1)
 
-pub aimed_is : (f : ℕ → ℕ) (p : Parted) → IsStatement p → IsStatement (aimed_part f p)
+pub aimed_is : (f : ℕ → ℕ) (p : InstrParts) → IsPartedStatement p → IsPartedStatement (aimed_part f p)
 aimed_is f p h = record { front = aimed_prepares f p.front h.front; end = h.end }
 
-pub aimed_are : (f : ℕ → ℕ) (ps : List Parted) → AreStatements ps → AreStatements (aimed_parts f ps)
+pub aimed_are : (f : ℕ → ℕ) (ps : List InstrParts) → AreStatements ps → AreStatements (aimed_parts f ps)
 aimed_are f [] h = tt
 aimed_are f (p ∷ ps) h = (aimed_is f p h.0, aimed_are f ps h.1)
 
-pub aimed_append : (f : ℕ → ℕ) (xs ys : List Parted) → aimed_parts f (xs ++ ys) ≡ aimed_parts f xs ++ aimed_parts f ys
+pub aimed_append : (f : ℕ → ℕ) (xs ys : List InstrParts) → aimed_parts f (xs ++ ys) ≡ aimed_parts f xs ++ aimed_parts f ys
 aimed_append f [] ys = refl
-aimed_append f (x ∷ xs) ys = ap (λ (z : List Parted). aimed_part f x ∷ z) (aimed_append f xs ys)
+aimed_append f (x ∷ xs) ys = ap (λ (z : List InstrParts). aimed_part f x ∷ z) (aimed_append f xs ys)
 
-aimed_count : (f : ℕ → ℕ) (ps : List Parted) → length (aimed_parts f ps) ≡ length ps
+aimed_count : (f : ℕ → ℕ) (ps : List InstrParts) → length (aimed_parts f ps) ≡ length ps
 aimed_count f [] = refl
 aimed_count f (p ∷ ps) = ap suc (aimed_count f ps)
 
@@ -183,13 +192,13 @@ run_of (suc most) xs (x ∷ front) op ys fs last few =
     run_more most xs front x op ys fs.0 (run_of most (xs ++ x ∷ []) front op ys fs.1 last (omega (arith, few)))
 
 pub run_is :
-    (ps : List Parted) (p : Parted) (qs : List Parted) → IsStatement p → length p.front ≤ 63
+    (ps : List InstrParts) (p : InstrParts) (qs : List InstrParts) → IsPartedStatement p → length p.front ≤ 63
     → op_run_at most_ops_of_statement (flat (ps ++ p ∷ qs)) (extent ps)
     ≡ Some (record { before = p.front; last = p.end; next = extent ps + bytes_of p })
 run_is ps p qs h few =
     rw (flat_append ps (p ∷ qs)) (rw (sym (total_flat ps)) (run_of 64 (flat ps) p.front p.end (flat qs) h.front h.end (omega (arith, few))))
 
-run_none : (ps : List Parted) → op_run_at most_ops_of_statement (flat ps) (extent ps) ≡ None
+run_none : (ps : List InstrParts) → op_run_at most_ops_of_statement (flat ps) (extent ps) ≡ None
 unfolding op_run_at
 run_none ps =
     let end = op_at_end 0 (flat ps) in
@@ -291,7 +300,7 @@ ListIsThere f _ next ops = Unit {0}
 instr_back :
     (f : ℕ → ℕ) (n : ℕ) (i : Instr) (behind : List SourceInstruction) (next : ℕ) (ops : List OpData)
     → OperationsHaveTheirCodes → JumpsHaveTheirKinds → IsGeneratedInstruction n i behind → ListIsThere f i next ops
-    → back (aimed_part f (parted i)).front (aimed_part f (parted i)).end next ops ≡ aimed_instr f i
+    → back (aimed_part f (parts_of_instr i)).front (aimed_part f (parts_of_instr i)).end next ops ≡ aimed_instr f i
 instr_back f n (Does use_db w o) behind next ops operations jumps h list =
     rw (operations w) (rw (aimed_same f o h.1) (rw (use_db_back f use_db)
     (does_back w o use_db (passings_of (map (op_with_target f) (use_db_ops use_db))) next ops h.0)))
@@ -329,7 +338,7 @@ pub ends_append : (xs ys : List SourceInstruction) → ends_at (xs ++ ys) ≡ en
 ends_append xs ys = ap extent (parts_append xs ys) ∙ extent_append (parts xs) (parts ys)
 
 -- a statement of one op, JU, at its place
-ju_alone : (i : Instr) → is_ju i ≡ true → (parted i).front ≡ []
+ju_alone : (i : Instr) → is_ju i ≡ true → (parts_of_instr i).front ≡ []
 ju_alone (Jumps how target) h = refl
 ju_alone (Does use_db w o) h = absurd cc
 ju_alone (JumpsByList targets otherwise) h = absurd cc
@@ -339,31 +348,31 @@ ju_alone (Returns how) h = absurd cc
 ju_at :
     (f : ℕ → ℕ) (front : List SourceInstruction) (j : SourceInstruction) (rest : List SourceInstruction) → is_ju j.instr ≡ true
     → op_placed 0 (the_code f (front ++ j ∷ rest)) (ends_at front)
-    ≡ Some ((aimed_part f (parted j.instr)).end, ends_at front + bytes_of (parted j.instr))
+    ≡ Some ((aimed_part f (parts_of_instr j.instr)).end, ends_at front + bytes_of (parts_of_instr j.instr))
 ju_at f front j rest h =
-    let alone : (parted j.instr).front ≡ [] = ju_alone j.instr h in
+    let alone : (parts_of_instr j.instr).front ≡ [] = ju_alone j.instr h in
     let same : flat (aimed_parts f (parts (front ++ j ∷ rest)))
-    ≡ flat (aimed_parts f (parts front)) ++ ((aimed_part f (parted j.instr)).front ++ (aimed_part f (parted j.instr)).end ∷ flat (aimed_parts f (parts rest)))
-    = ap (λ (z : List Parted). flat (aimed_parts f z)) (parts_append front (j ∷ rest))
+    ≡ flat (aimed_parts f (parts front)) ++ ((aimed_part f (parts_of_instr j.instr)).front ++ (aimed_part f (parts_of_instr j.instr)).end ∷ flat (aimed_parts f (parts rest)))
+    = ap (λ (z : List InstrParts). flat (aimed_parts f z)) (parts_append front (j ∷ rest))
     ∙ ap flat (aimed_append f (parts front) (parts (j ∷ rest)))
     ∙ flat_append (aimed_parts f (parts front)) (aimed_parts f (parts (j ∷ rest))) in
     let here : total (flat (aimed_parts f (parts front))) ≡ ends_at front
     = total_flat (aimed_parts f (parts front)) ∙ aimed_extent f (parts front) in
-    let long : size_of_op (aimed_part f (parted j.instr)).end ≡ bytes_of (parted j.instr)
-    = size_aimed f (parted j.instr).end ∙ (rw alone (omega arith)) in
+    let long : size_of_op (aimed_part f (parts_of_instr j.instr)).end ≡ bytes_of (parts_of_instr j.instr)
+    = size_aimed f (parts_of_instr j.instr).end ∙ (rw alone (omega arith)) in
     same_op same here long alone
   where
     same_op :
-        the_code f (front ++ j ∷ rest) ≡ flat (aimed_parts f (parts front)) ++ (map (op_with_target f) (parted j.instr).front ++ op_with_target f (parted j.instr).end ∷ flat (aimed_parts f (parts rest)))
+        the_code f (front ++ j ∷ rest) ≡ flat (aimed_parts f (parts front)) ++ (map (op_with_target f) (parts_of_instr j.instr).front ++ op_with_target f (parts_of_instr j.instr).end ∷ flat (aimed_parts f (parts rest)))
         → total (flat (aimed_parts f (parts front))) ≡ ends_at front
-        → size_of_op (op_with_target f (parted j.instr).end) ≡ bytes_of (parted j.instr)
-        → (parted j.instr).front ≡ []
+        → size_of_op (op_with_target f (parts_of_instr j.instr).end) ≡ bytes_of (parts_of_instr j.instr)
+        → (parts_of_instr j.instr).front ≡ []
         → op_placed 0 (the_code f (front ++ j ∷ rest)) (ends_at front)
-        ≡ Some (op_with_target f (parted j.instr).end, ends_at front + bytes_of (parted j.instr))
+        ≡ Some (op_with_target f (parts_of_instr j.instr).end, ends_at front + bytes_of (parts_of_instr j.instr))
     same_op same here long alone =
         let xs = flat (aimed_parts f (parts front)) in
-        let op = op_with_target f (parted j.instr).end in
-        let none : map (op_with_target f) (parted j.instr).front ≡ [] = ap (λ (z : List OpData). map (op_with_target f) z) alone in
+        let op = op_with_target f (parts_of_instr j.instr).end in
+        let none : map (op_with_target f) (parts_of_instr j.instr).front ≡ [] = ap (λ (z : List OpData). map (op_with_target f) z) alone in
         let at : the_code f (front ++ j ∷ rest) ≡ xs ++ op ∷ flat (aimed_parts f (parts rest))
         = same ∙ ap (λ (z : List OpData). xs ++ (z ++ op ∷ flat (aimed_parts f (parts rest)))) none in
         ap (λ (z : List OpData). op_placed 0 z (ends_at front)) at
@@ -381,14 +390,14 @@ list_step :
     ≡ map f (numbers_from (length front) (suc (length js)))
 list_step f most front j js rest jump first more =
     list_next most (the_code f (front ++ j ∷ (js ++ rest))) (ends_at front + ends_at (j ∷ js)) (ends_at front)
-    (ends_at front + bytes_of (parted j.instr)) (aimed_part f (parted j.instr)).end
-    (λ e. let long = bytes_long (parted j.instr) in omega (arith, e, long)) (ju_at f front j (js ++ rest) jump)
+    (ends_at front + bytes_of (parts_of_instr j.instr)) (aimed_part f (parts_of_instr j.instr)).end
+    (λ e. let long = bytes_long (parts_of_instr j.instr) in omega (arith, e, long)) (ju_at f front j (js ++ rest) jump)
     ∙ ap (λ (z : List ℕ). ends_at front ∷ z) others ∙ ap (λ (k : ℕ). k ∷ map f (numbers_from (suc (length front)) (length js))) (sym first)
   where
     longer : length (front ++ j ∷ []) ≡ suc (length front)
     longer = length-append front (j ∷ []) ∙ omega arith
 
-    ends : ends_at (front ++ j ∷ []) ≡ ends_at front + bytes_of (parted j.instr)
+    ends : ends_at (front ++ j ∷ []) ≡ ends_at front + bytes_of (parts_of_instr j.instr)
     ends = ends_append front (j ∷ []) ∙ omega arith
 
     cut : front ++ j ∷ (js ++ rest) ≡ (front ++ j ∷ []) ++ (js ++ rest)
@@ -397,11 +406,11 @@ list_step f most front j js rest jump first more =
     target : ends_at front + ends_at (j ∷ js) ≡ ends_at (front ++ j ∷ []) + ends_at js
     target = omega (arith, ends)
 
-    others : list_of most (the_code f (front ++ j ∷ (js ++ rest))) (ends_at front + ends_at (j ∷ js)) (ends_at front + bytes_of (parted j.instr))
+    others : list_of most (the_code f (front ++ j ∷ (js ++ rest))) (ends_at front + ends_at (j ∷ js)) (ends_at front + bytes_of (parts_of_instr j.instr))
         ≡ map f (numbers_from (suc (length front)) (length js))
     others =
-        ap (λ (z : List SourceInstruction). list_of most (the_code f z) (ends_at front + ends_at (j ∷ js)) (ends_at front + bytes_of (parted j.instr))) cut
-        ∙ ap (λ (k : ℕ). list_of most (the_code f ((front ++ j ∷ []) ++ (js ++ rest))) k (ends_at front + bytes_of (parted j.instr))) target
+        ap (λ (z : List SourceInstruction). list_of most (the_code f z) (ends_at front + ends_at (j ∷ js)) (ends_at front + bytes_of (parts_of_instr j.instr))) cut
+        ∙ ap (λ (k : ℕ). list_of most (the_code f ((front ++ j ∷ []) ++ (js ++ rest))) k (ends_at front + bytes_of (parts_of_instr j.instr))) target
         ∙ ap (λ (k : ℕ). list_of most (the_code f ((front ++ j ∷ []) ++ (js ++ rest))) (ends_at (front ++ j ∷ []) + ends_at js) k) (sym ends)
         ∙ more ∙ ap (λ (k : ℕ). map f (numbers_from k (length js))) longer
 
@@ -515,8 +524,8 @@ list_found front s rest (Calls how block instance passings) h = tt
 list_found front s rest (Returns how) h = tt
 
 -- a statement has at most 63 ops before its last
-few_before : (f : ℕ → ℕ) (n : ℕ) (i : Instr) (behind : List SourceInstruction) → IsGeneratedInstruction n i behind → length (aimed_part f (parted i)).front ≤ 63
-few_before f n i behind h = let same = length-map (parted i).front (op_with_target f) in let few = fronts i h in omega (arith, same, few)
+few_before : (f : ℕ → ℕ) (n : ℕ) (i : Instr) (behind : List SourceInstruction) → IsGeneratedInstruction n i behind → length (aimed_part f (parts_of_instr i)).front ≤ 63
+few_before f n i behind h = let same = length-map (parts_of_instr i).front (op_with_target f) in let few = fronts i h in omega (arith, same, few)
   where
     passing_count : (ps : List Passing) → length (pass_ops ps) ≡ length ps
     passing_count [] = refl
@@ -526,7 +535,7 @@ few_before f n i behind h = let same = length-map (parted i).front (op_with_targ
     opening_count None = omega arith
     opening_count (Some number) = omega arith
 
-    fronts : (i : Instr) → IsGeneratedInstruction n i behind → length (parted i).front ≤ 63
+    fronts : (i : Instr) → IsGeneratedInstruction n i behind → length (parts_of_instr i).front ≤ 63
     fronts (Does use_db w o) h = opening_count use_db
     fronts (Jumps how target) h = omega arith
     fronts (JumpsByList targets otherwise) h = omega arith
@@ -564,20 +573,20 @@ statement_here b front s rest operations jumps is lines h =
     f : ℕ → ℕ
     f = position ss
 
-    ps : List Parted
+    ps : List InstrParts
     ps = aimed_parts f (parts front)
 
-    p : Parted
-    p = aimed_part f (parted s.instr)
+    p : InstrParts
+    p = aimed_part f (parts_of_instr s.instr)
 
-    qs : List Parted
+    qs : List InstrParts
     qs = aimed_parts f (parts rest)
 
     run : OpRun
     run = record { before = p.front; last = p.end; next = extent ps + bytes_of p }
 
     code : b.code ≡ flat (ps ++ p ∷ qs)
-    code = is ∙ the_code_is ss ∙ ap (λ (z : List Parted). flat (aimed_parts f z)) (parts_append front (s ∷ rest))
+    code = is ∙ the_code_is ss ∙ ap (λ (z : List InstrParts). flat (aimed_parts f z)) (parts_append front (s ∷ rest))
         ∙ ap flat (aimed_append f (parts front) (parts (s ∷ rest)))
 
     at : extent ps ≡ ends_at front
@@ -593,10 +602,10 @@ statement_here b front s rest operations jumps is lines h =
     run_there : op_run_at most_ops_of_statement b.code (ends_at front) ≡ Some run
     run_there = ap (λ (z : List OpData). op_run_at most_ops_of_statement z (ends_at front)) code
         ∙ ap (op_run_at most_ops_of_statement (flat (ps ++ p ∷ qs))) (sym at)
-        ∙ run_is ps p qs (aimed_is f (parted s.instr) (is_statement s.instr)) (few_before f (length front) s.instr rest h)
+        ∙ run_is ps p qs (aimed_is f (parts_of_instr s.instr) (is_statement s.instr)) (few_before f (length front) s.instr rest h)
 
     next_at : extent ps + bytes_of p ≡ ends_at (front ++ s ∷ [])
-    next_at = let bytes = aimed_bytes f (parted s.instr) in let ends = ends_append front (s ∷ []) in omega (arith, bytes, ends, at)
+    next_at = let bytes = aimed_bytes f (parts_of_instr s.instr) in let ends = ends_append front (s ∷ []) in omega (arith, bytes, ends, at)
 
     next_is : extent ps + bytes_of p ≡ f (suc (length front))
     next_is = next_at ∙ sym (ap (λ (z : List SourceInstruction). position z (suc (length front))) (sym (append_assoc front (s ∷ []) rest))

@@ -71,46 +71,46 @@ total_aimed f [] = refl
 total_aimed f (op ∷ ops) = let one = size_aimed f op in let more = total_aimed f ops in omega (arith, one, more)
 
 -- the ops of a statement: those that prepare, and the one that does it
-pub record Parted : Type 0 where
+pub record InstrParts : Type 0 where
   pub front : List OpData
   pub end : OpData
 
 abbrev pub IsPreparing : OpData → Type 0
 IsPreparing op = op.last ≡ false
 
-pub record IsStatement (p : Parted) : Type 0 where
+pub record IsPartedStatement (p : InstrParts) : Type 0 where
   pub front : AllByRecursion IsPreparing p.front
   pub end : p.end.last ≡ true
 
-abbrev pub AreStatements : List Parted → Type 0
-AreStatements ps = AllByRecursion IsStatement ps
+abbrev pub AreStatements : List InstrParts → Type 0
+AreStatements ps = AllByRecursion IsPartedStatement ps
 
-abbrev pub flat : List Parted → List OpData
+abbrev pub flat : List InstrParts → List OpData
 flat [] = []
 flat (p ∷ ps) = p.front ++ p.end ∷ flat ps
 
-abbrev pub bytes_of : Parted → ℕ
+abbrev pub bytes_of : InstrParts → ℕ
 bytes_of p = total p.front + size_of_op p.end
 
-pub bytes_long : (p : Parted) → 0 < bytes_of p
+pub bytes_long : (p : InstrParts) → 0 < bytes_of p
 bytes_long p = let long = op_long p.end in omega (arith, long)
 
-abbrev pub extent : List Parted → ℕ
+abbrev pub extent : List InstrParts → ℕ
 extent [] = 0
 extent (p ∷ ps) = bytes_of p + extent ps
 
-pub total_flat : (ps : List Parted) → total (flat ps) ≡ extent ps
+pub total_flat : (ps : List InstrParts) → total (flat ps) ≡ extent ps
 total_flat [] = refl
 total_flat (p ∷ ps) =
     let cut = total_append p.front (p.end ∷ flat ps) in
     let more = total_flat ps in
     omega (arith, cut, more)
 
-pub extent_append : (xs ys : List Parted) → extent (xs ++ ys) ≡ extent xs + extent ys
+pub extent_append : (xs ys : List InstrParts) → extent (xs ++ ys) ≡ extent xs + extent ys
 extent_append [] ys = omega arith
 extent_append (x ∷ xs) ys = let more = extent_append xs ys in omega (arith, more)
 
-pub flat_append : (xs ys : List Parted) → flat (xs ++ ys) ≡ flat xs ++ flat ys
+pub flat_append : (xs ys : List InstrParts) → flat (xs ++ ys) ≡ flat xs ++ flat ys
 flat_append [] ys = refl
 flat_append (x ∷ xs) ys = rw (flat_append xs ys) (sym (append_assoc x.front (x.end ∷ flat xs) (flat ys)))
 
@@ -134,7 +134,7 @@ line_behind from k b (x ∷ front) op ys lines fs last =
     rw other (rw moved (rw fs.0 more))
 
 pub line_at :
-    (from : ℕ) (ps : List Parted) (p : Parted) (qs : List Parted) (lines : List ℕ) → AreStatements ps
+    (from : ℕ) (ps : List InstrParts) (p : InstrParts) (qs : List InstrParts) (lines : List ℕ) → AreStatements ps
     → line_placed from true (flat (ps ++ p ∷ qs)) lines (from + extent ps) ≡ slice_get lines (length ps)
 line_at from [] p qs lines h = here p.front
   where
@@ -151,7 +151,7 @@ line_at from (q ∷ ps) p qs lines h =
     dropped (x ∷ xs) n = refl
 
 pub line_at_end :
-    (from : ℕ) (ps : List Parted) (lines : List ℕ) → AreStatements ps
+    (from : ℕ) (ps : List InstrParts) (lines : List ℕ) → AreStatements ps
     → line_placed from true (flat ps) lines (from + extent ps) ≡ None
 line_at_end from [] lines h = refl
 line_at_end from (q ∷ ps) lines h =
@@ -172,7 +172,7 @@ offset_behind at n (x ∷ front) op ys fs last =
     rw moved (rw fs.0 (offset_behind (at + size_of_op x) n front op ys fs.1 last))
 
 pub offset_next :
-    (at n : ℕ) (p : Parted) (ys : List OpData) → IsStatement p
+    (at n : ℕ) (p : InstrParts) (ys : List OpData) → IsPartedStatement p
     → offset_from at true (p.front ++ p.end ∷ ys) (suc n) ≡ offset_from (at + bytes_of p) true ys n
 unfolding size_of_op op_bytes
 offset_next at n p ys h = by p.front h.front
@@ -185,7 +185,7 @@ offset_next at n p ys h = by p.front h.front
         rw moved (rw fs.0 (offset_behind (at + size_of_op x) n front p.end ys fs.1 h.end))
 
 pub offset_is :
-    (at : ℕ) (ps : List Parted) (ys : List Parted) → AreStatements ps
+    (at : ℕ) (ps : List InstrParts) (ys : List InstrParts) → AreStatements ps
     → offset_from at true (flat (ps ++ ys)) (length ps) ≡ at + extent ps
 offset_is at [] ys h = here (flat ys)
   where
@@ -198,7 +198,7 @@ offset_is at (p ∷ ps) ys h =
     offset_next at (length ps) p (flat (ps ++ ys)) h.0 ∙ more ∙ sym moved
 
 pub offset_past :
-    (at n : ℕ) (ps : List Parted) → AreStatements ps → length ps ≤ n
+    (at n : ℕ) (ps : List InstrParts) → AreStatements ps → length ps ≤ n
     → offset_from at true (flat ps) n ≡ at + extent ps
 offset_past at n [] h past = omega arith
 offset_past at zero (p ∷ ps) h past = absurd (omega (arith, past))

@@ -47,8 +47,8 @@ use Rattle.sem_kept.specs.Back.{is_target, is_ju, IsJu, IsList, IsGeneratedInstr
 use Rattle.sem_kept.specs.Statements.{IsCompilable}
 use Rattle.sem_kept.specs.Verified.{VerifiedIsCompilable}
 use Rattle.sem_kept.proofs.compiled.Instructions.{IsMade, instruction_made}
-use Rattle.sem_kept.proofs.compiled.Reading.{parted, parts, is_statement, ops_in_parts, parts_append, parts_count, parts_are, aimed_part, aimed_is, the_code, ends_at, ends_append, position, the_code_is}
-use Rattle.sem_kept.proofs.compiled.Runs.{total, size_aimed, total_aimed, Parted, IsPreparing, IsStatement, AreStatements, flat, bytes_of, bytes_long, extent, offset_next}
+use Rattle.sem_kept.proofs.compiled.Reading.{parts_of_instr, parts, is_statement, ops_in_parts, parts_append, parts_count, parts_are, aimed_part, aimed_is, the_code, ends_at, ends_append, position, the_code_is, ops_with, return_at}
+use Rattle.sem_kept.proofs.compiled.Runs.{total, size_aimed, total_aimed, InstrParts, IsPreparing, IsPartedStatement, AreStatements, flat, bytes_of, bytes_long, extent, offset_next}
 
 -- ---- what the source gives
 
@@ -56,14 +56,10 @@ abbrev AreMade : (n : ℕ) → List SourceInstruction → Type 0
 AreMade n [] = Unit {0}
 AreMade n (s ∷ ss) = IsMade n s.instr × AreMade (suc n) ss
 
--- the last statement of a block returns
-abbrev returning : ℕ → SourceInstruction
-returning line = record { instr = Returns ends.Be; line = line }
-
 record IsMadeBlock (b : StatedBlock) : Type 0 where
   inner : List SourceInstruction
   line : ℕ
-  whole : b.statements ≡ inner ++ returning line ∷ []
+  whole : b.statements ≡ inner ++ return_at line ∷ []
   made : AreMade 0 inner
 
 stated_made : (c : Context) (all : List Statement) (n : ℕ) (ss : List Statement)
@@ -218,7 +214,7 @@ offset_least at true (op ∷ ops) (suc n) =
 offset_least at false (op ∷ ops) n =
     let more = offset_least (at + size_of_op op) op.last ops n in omega (arith, more)
 
-offset_first : (at : ℕ) (p : Parted) (ops : List OpData)
+offset_first : (at : ℕ) (p : InstrParts) (ops : List OpData)
     → offset_from at true (p.front ++ p.end ∷ ops) 0 ≡ at
 offset_first at p ops = by p.front
   where
@@ -227,8 +223,8 @@ offset_first at p ops = by p.front
     by (op ∷ front) = refl
 
 -- only one statement has the offset at which a statement begins
-offset_one : (at n : ℕ) (ps : List Parted) (q : Parted) (qs : List Parted)
-    → AreStatements ps → IsStatement q
+offset_one : (at n : ℕ) (ps : List InstrParts) (q : InstrParts) (qs : List InstrParts)
+    → AreStatements ps → IsPartedStatement q
     → offset_from at true (flat (ps ++ q ∷ qs)) n ≡ at + extent ps → n ≡ length ps
 offset_one at zero [] q qs h k e = refl
 offset_one at (suc n) [] q qs h k e =
@@ -248,9 +244,9 @@ position_one : (front : List SourceInstruction) (s : SourceInstruction) (rest : 
     → position (front ++ s ∷ rest) n ≡ ends_at front → n ≡ length front
 unfolding offset_of_statement
 position_one front s rest n e =
-    let same : ops_in (front ++ s ∷ rest) ≡ flat (parts front ++ parted s.instr ∷ parts rest)
+    let same : ops_in (front ++ s ∷ rest) ≡ flat (parts front ++ parts_of_instr s.instr ∷ parts rest)
     = ops_in_parts (front ++ s ∷ rest) ∙ ap flat (parts_append front (s ∷ rest)) in
-    offset_one 0 n (parts front) (parted s.instr) (parts rest) (parts_are front)
+    offset_one 0 n (parts front) (parts_of_instr s.instr) (parts rest) (parts_are front)
     (is_statement s.instr)
     (ap (λ (z : List OpData). offset_from 0 true z n) (sym same) ∙ e ∙ omega arith)
     ∙ parts_count front
@@ -305,9 +301,6 @@ other_jump : (how : JumpOperation) (target : ℕ) → is_ju (Jumps how target) �
 other_jump jump.Ju target h = absurd cc
 other_jump _ target h = refl
 
-abbrev ops_with : (ℕ → ℕ) → Instr → List OpData → List OpData
-ops_with f i rest = (aimed_part f (parted i)).front ++ (aimed_part f (parted i)).end ∷ rest
-
 -- a statement that isn't JU ends the list
 list_stops : (f : ℕ → ℕ) (n most target from : ℕ) (i : Instr) (rest : List OpData)
     → IsMade n i → is_ju i ≡ false → leads_to_target most target from (ops_with f i rest) ≡ true
@@ -330,7 +323,7 @@ list_stops f n most target from (Calls how block instance []) rest made other e 
     leads_here most target from (call_op how block instance) rest refl e
 list_stops f n most target from (Calls how block instance (p ∷ ps)) rest made other e =
     leads_here most target from (preparing_op operation.Pass (operand.Pass p.index p.actual))
-    ((aimed_part f (parted (Calls how block instance ps))).front
+    ((aimed_part f (parts_of_instr (Calls how block instance ps))).front
     ++ call_op how block instance ∷ rest) refl e
 list_stops f n most target from (Returns how) rest made other e =
     leads_here most target from (end_op how) rest refl e
@@ -339,7 +332,7 @@ list_stops f n most target from (Returns how) rest made other e =
 data Goes (f : ℕ → ℕ) (most target from : ℕ) (i : Instr) (rest : List OpData) : Type 0 where
   Ends : (same : from ≡ target) → Goes f most target from i rest
   On : (fewer : ℕ) (is : most ≡ suc fewer) (ju : is_ju i ≡ true)
-      (more : leads_to_target fewer target (from + bytes_of (parted i)) rest ≡ true)
+      (more : leads_to_target fewer target (from + bytes_of (parts_of_instr i)) rest ≡ true)
       → Goes f most target from i rest
 
 ju_goes : (f : ℕ → ℕ) (most target from there : ℕ) (rest : List OpData)
@@ -348,7 +341,7 @@ ju_goes : (f : ℕ → ℕ) (most target from there : ℕ) (rest : List OpData)
 ju_goes f most target from there rest (Here same) = Ends same
 ju_goes f most target from there rest (Behind fewer is more) =
     let long = size_aimed f (jump_op jump.Ju there) in
-    let same : from + size_of_op (jump_op jump.Ju (f there)) ≡ from + bytes_of (parted (Jumps jump.Ju there))
+    let same : from + size_of_op (jump_op jump.Ju (f there)) ≡ from + bytes_of (parts_of_instr (Jumps jump.Ju there))
     = omega (arith, long) in
     On fewer is refl
     (ap (λ (k : ℕ). leads_to_target fewer target k rest) (sym same) ∙ more)
@@ -393,7 +386,7 @@ lists_more most target first s behind ju h = record {
 lists_step : (f : ℕ → ℕ) (most target from first n : ℕ) (s : SourceInstruction) (behind : List SourceInstruction)
     (rest : List OpData)
     → (from ≡ f target → target ≡ first)
-    → ((fewer : ℕ) → leads_to_target fewer (f target) (from + bytes_of (parted s.instr)) rest ≡ true
+    → ((fewer : ℕ) → leads_to_target fewer (f target) (from + bytes_of (parts_of_instr s.instr)) rest ≡ true
     → Lists fewer target (suc first) behind)
     → Goes f most (f target) from s.instr rest → Lists most target first (s ∷ behind)
 lists_step f most target from first n s behind rest one more (Ends same) =
@@ -406,33 +399,33 @@ one_longer : (front : List SourceInstruction) (s : SourceInstruction) → length
 one_longer front s = length-append front (s ∷ []) ∙ omega arith
 
 one_further : (front : List SourceInstruction) (s : SourceInstruction)
-    → ends_at (front ++ s ∷ []) ≡ ends_at front + bytes_of (parted s.instr)
+    → ends_at (front ++ s ∷ []) ≡ ends_at front + bytes_of (parts_of_instr s.instr)
 one_further front s = ends_append front (s ∷ []) ∙ omega arith
 
-listed : (whole front behind : List SourceInstruction) (line n most target : ℕ)
-    → whole ≡ front ++ (behind ++ returning line ∷ []) → AreMade n behind
+list_by_ops : (whole front behind : List SourceInstruction) (line n most target : ℕ)
+    → whole ≡ front ++ (behind ++ return_at line ∷ []) → AreMade n behind
     → leads_to_target most (position whole target) (ends_at front)
-    (the_code (position whole) (behind ++ returning line ∷ [])) ≡ true
-    → Lists most target (length front) (behind ++ returning line ∷ [])
-listed whole front [] line n most target e made led =
+    (the_code (position whole) (behind ++ return_at line ∷ [])) ≡ true
+    → Lists most target (length front) (behind ++ return_at line ∷ [])
+list_by_ops whole front [] line n most target e made led =
     let here = leads_here most (position whole target) (ends_at front) (end_op ends.Be) [] refl led in
-    lists_none most target (length front) (returning line ∷ [])
-    (position_one front (returning line) [] target
+    lists_none most target (length front) (return_at line ∷ [])
+    (position_one front (return_at line) [] target
     (ap (λ (z : List SourceInstruction). position z target) (sym e) ∙ sym here))
-listed whole front (s ∷ behind) line n most target e made led =
+list_by_ops whole front (s ∷ behind) line n most target e made led =
     lists_step (position whole) most target (ends_at front) (length front) n s
-    (behind ++ returning line ∷ [])
-    (the_code (position whole) (behind ++ returning line ∷ []))
-    (λ here. position_one front s (behind ++ returning line ∷ []) target
+    (behind ++ return_at line ∷ [])
+    (the_code (position whole) (behind ++ return_at line ∷ []))
+    (λ here. position_one front s (behind ++ return_at line ∷ []) target
     (ap (λ (z : List SourceInstruction). position z target) (sym e) ∙ sym here))
     (λ fewer more.
-    subst (λ (k : ℕ). Lists fewer target k (behind ++ returning line ∷ [])) (one_longer front s)
-    (listed whole (front ++ s ∷ []) behind line (suc n) fewer target
-    (e ∙ sym (append_assoc front (s ∷ []) (behind ++ returning line ∷ []))) made.1
+    subst (λ (k : ℕ). Lists fewer target k (behind ++ return_at line ∷ [])) (one_longer front s)
+    (list_by_ops whole (front ++ s ∷ []) behind line (suc n) fewer target
+    (e ∙ sym (append_assoc front (s ∷ []) (behind ++ return_at line ∷ []))) made.1
     (ap (λ (k : ℕ). leads_to_target fewer (position whole target) k
-    (the_code (position whole) (behind ++ returning line ∷ []))) (one_further front s) ∙ more)))
+    (the_code (position whole) (behind ++ return_at line ∷ []))) (one_further front s) ∙ more)))
     (list_goes (position whole) n most (position whole target) (ends_at front) s.instr
-    (the_code (position whole) (behind ++ returning line ∷ [])) made.0 led)
+    (the_code (position whole) (behind ++ return_at line ∷ [])) made.0 led)
 
 numbers_count : (n count : ℕ) → length (numbers_from n count) ≡ count
 numbers_count n zero = refl
@@ -497,10 +490,10 @@ few_in count at (x ∷ front) op rest fs last most e =
         record { few = omega (arith, few); more = r.more }
 
 few_of : (f : ℕ → ℕ) (i : Instr) (rest : List OpData) → IsShort (ops_with f i rest)
-    → IsFew 0 (aimed_part f (parted i)).front rest
+    → IsFew 0 (aimed_part f (parts_of_instr i)).front rest
 few_of f i rest h =
-    let is = aimed_is f (parted i) (is_statement i) in
-    few_in 0 h.at (aimed_part f (parted i)).front (aimed_part f (parted i)).end rest is.front is.end
+    let is = aimed_is f (parts_of_instr i) (is_statement i) in
+    few_in 0 h.at (aimed_part f (parts_of_instr i)).front (aimed_part f (parts_of_instr i)).end rest is.front is.end
     (omega arith) h.none
 
 passing_count : (ps : List Passing) → length (pass_ops ps) ≡ length ps
@@ -519,13 +512,13 @@ passed_few f ps rest h =
 
 one_compiled : (a : Environment) (ss : List StatementSpot) (whole front : List SourceInstruction) (s : SourceInstruction)
     (behind : List SourceInstruction) (line : ℕ) (i : Instr)
-    → whole ≡ front ++ s ∷ (behind ++ returning line ∷ []) → s.instr ≡ i
+    → whole ≡ front ++ s ∷ (behind ++ return_at line ∷ []) → s.instr ≡ i
     → IsMade (length front) i → AreMade (suc (length front)) behind
     → IsClean a ss (ends_at front)
-    (ops_with (position whole) i (the_code (position whole) (behind ++ returning line ∷ [])))
-    → IsFew 0 (aimed_part (position whole) (parted i)).front
-    (the_code (position whole) (behind ++ returning line ∷ []))
-    → IsGeneratedInstruction (length front) i (behind ++ returning line ∷ [])
+    (ops_with (position whole) i (the_code (position whole) (behind ++ return_at line ∷ [])))
+    → IsFew 0 (aimed_part (position whole) (parts_of_instr i)).front
+    (the_code (position whole) (behind ++ return_at line ∷ []))
+    → IsGeneratedInstruction (length front) i (behind ++ return_at line ∷ [])
 one_compiled a ss whole front s behind line (Does use_db w o) e is made more clean few = made
 one_compiled a ss whole front s behind line (Jumps how target) e is made more clean few = made
 one_compiled a ss whole front s behind line (Returns how) e is made more clean few = tt
@@ -533,13 +526,13 @@ one_compiled a ss whole front s behind line (Calls how block instance passings) 
   made.0,
   made.1,
   passed_few (position whole) passings
-      (the_code (position whole) (behind ++ returning line ∷ [])) few,
+      (the_code (position whole) (behind ++ return_at line ∷ [])) few,
 )
 one_compiled a ss whole front s behind line (JumpsByList targets otherwise) e is made more clean few =
-    is_list (length front) otherwise targets (behind ++ returning line ∷ []) made
-    (subst (λ (k : ℕ). Lists 255 otherwise k (behind ++ returning line ∷ [])) (one_longer front s)
-    (listed whole (front ++ s ∷ []) behind line (suc (length front)) 255 otherwise
-    (e ∙ sym (append_assoc front (s ∷ []) (behind ++ returning line ∷ []))) more
+    is_list (length front) otherwise targets (behind ++ return_at line ∷ []) made
+    (subst (λ (k : ℕ). Lists 255 otherwise k (behind ++ return_at line ∷ [])) (one_longer front s)
+    (list_by_ops whole (front ++ s ∷ []) behind line (suc (length front)) 255 otherwise
+    (e ∙ sym (append_assoc front (s ∷ []) (behind ++ return_at line ∷ []))) more
     (ap (λ (k : ℕ). leads_to_target 255 (f otherwise) k rest) from
     ∙ clean_leads a ss (ends_at front) (code_of_operation operation.Jump) (f otherwise) true rest clean)))
   where
@@ -547,38 +540,38 @@ one_compiled a ss whole front s behind line (JumpsByList targets otherwise) e is
     f = position whole
 
     rest : List OpData
-    rest = the_code (position whole) (behind ++ returning line ∷ [])
+    rest = the_code (position whole) (behind ++ return_at line ∷ [])
 
     from : ends_at (front ++ s ∷ []) ≡ ends_at front + size_of_op (jump_op jump.Jl (f otherwise))
     from =
         let long = size_aimed f (jump_op jump.Jl otherwise) in
-        let same : bytes_of (parted s.instr) ≡ bytes_of (parted (JumpsByList targets otherwise))
-        = ap (λ (i : Instr). bytes_of (parted i)) is in
+        let same : bytes_of (parts_of_instr s.instr) ≡ bytes_of (parts_of_instr (JumpsByList targets otherwise))
+        = ap (λ (i : Instr). bytes_of (parts_of_instr i)) is in
         let further = one_further front s in
         omega (arith, long, same, further)
 
 clean_part : (a : Environment) (ss : List StatementSpot) (f : ℕ → ℕ) (at : ℕ) (i : Instr) (rest : List OpData)
-    → IsClean a ss at (ops_with f i rest) → IsClean a ss (at + bytes_of (parted i)) rest
+    → IsClean a ss at (ops_with f i rest) → IsClean a ss (at + bytes_of (parts_of_instr i)) rest
 clean_part a ss f at i rest h =
-    let p = aimed_part f (parted i) in
-    let front = total_aimed f (parted i).front in
-    let end = size_aimed f (parted i).end in
-    let same : at + total p.front + size_of_op p.end ≡ at + bytes_of (parted i) = omega (arith, front, end) in
+    let p = aimed_part f (parts_of_instr i) in
+    let front = total_aimed f (parts_of_instr i).front in
+    let end = size_aimed f (parts_of_instr i).end in
+    let same : at + total p.front + size_of_op p.end ≡ at + bytes_of (parts_of_instr i) = omega (arith, front, end) in
     subst (λ (k : ℕ). IsClean a ss k rest) same
     (clean_next a ss (at + total p.front) p.end rest
     (clean_behind a ss at p.front (p.end ∷ rest) h))
 
 compiled_from : (a : Environment) (ss : List StatementSpot) (whole front behind : List SourceInstruction) (line : ℕ)
-    → whole ≡ front ++ (behind ++ returning line ∷ []) → AreMade (length front) behind
-    → IsClean a ss (ends_at front) (the_code (position whole) (behind ++ returning line ∷ []))
-    → IsShort (the_code (position whole) (behind ++ returning line ∷ []))
-    → AreCompiled (length front) (behind ++ returning line ∷ [])
+    → whole ≡ front ++ (behind ++ return_at line ∷ []) → AreMade (length front) behind
+    → IsClean a ss (ends_at front) (the_code (position whole) (behind ++ return_at line ∷ []))
+    → IsShort (the_code (position whole) (behind ++ return_at line ∷ []))
+    → AreCompiled (length front) (behind ++ return_at line ∷ [])
 compiled_from a ss whole front [] line e made clean short = (tt, tt)
 compiled_from a ss whole front (s ∷ behind) line e made clean short = (
   one_compiled a ss whole front s behind line s.instr e refl made.0 made.1 clean few,
-  subst (λ (k : ℕ). AreCompiled k (behind ++ returning line ∷ [])) (one_longer front s)
+  subst (λ (k : ℕ). AreCompiled k (behind ++ return_at line ∷ [])) (one_longer front s)
       (compiled_from a ss whole (front ++ s ∷ []) behind line
-      (e ∙ sym (append_assoc front (s ∷ []) (behind ++ returning line ∷ [])))
+      (e ∙ sym (append_assoc front (s ∷ []) (behind ++ return_at line ∷ [])))
       (subst (λ (k : ℕ). AreMade k behind) (sym (one_longer front s)) made.1)
       (subst (λ (k : ℕ). IsClean a ss k rest) (sym (one_further front s))
       (clean_part a ss (position whole) (ends_at front) s.instr rest clean))
@@ -586,9 +579,9 @@ compiled_from a ss whole front (s ∷ behind) line e made clean short = (
 )
   where
     rest : List OpData
-    rest = the_code (position whole) (behind ++ returning line ∷ [])
+    rest = the_code (position whole) (behind ++ return_at line ∷ [])
 
-    few : IsFew 0 (aimed_part (position whole) (parted s.instr)).front rest
+    few : IsFew 0 (aimed_part (position whole) (parts_of_instr s.instr)).front rest
     few = few_of (position whole) s.instr rest short
 
 -- its code has no fault, and no statement of more than 64 ops
@@ -607,7 +600,7 @@ block_compilable b made right =
     (subst IsShort same right.short))
   where
     whole : List SourceInstruction
-    whole = made.inner ++ returning made.line ∷ []
+    whole = made.inner ++ return_at made.line ∷ []
 
     same : code_in b.statements ≡ the_code (position whole) whole
     same = ap code_in made.whole ∙ the_code_is whole

@@ -43,7 +43,7 @@ use Rattle.stl_types.specs.declared.views.Resolution.{Resolution}
 use Rattle.stl_types.specs.declared.views.Resolution.TheVariants.{Resolved, Unknown, Unjudged}
 use Rattle.stl_types.specs.declared.views.Side.TheVariants as side
 use Rattle.stl_types.specs.declared.views.ResolvedOperand.{ResolvedOperand}
-use Rattle.stl_types.specs.declared.views.ResolvedOperand.TheVariants as view
+use Rattle.stl_types.specs.declared.views.ResolvedOperand.TheVariants as resolved
 use Rattle.stl_codegen.specs.Operands as codegen
 use Rattle.statement_laws.specs.Named.{NamedItem, ItemNumber, OpenBlock, OperandPlace}
 use Rattle.statement_laws.specs.Named as named
@@ -68,25 +68,25 @@ fact_of register.Dino = named.Opened named.DiNumber
 fact_of register.Ar2 = named.SecondRegister
 
 abbrev pub view_named : Option Literal → ResolvedOperand → Option NamedItem
-view_named (Some value) view.Constant = Some (named.Constant value)
+view_named (Some value) resolved.Constant = Some (named.Constant value)
 view_named (Some value) _ = None
-view_named None view.Nothing = Some named.Nothing
-view_named None (view.Direct place width side declared) = Some (named_place place width)
-view_named None (view.Parameter index section declared) =
+view_named None resolved.Nothing = Some named.Nothing
+view_named None (resolved.Direct place width side declared) = Some (named_place place width)
+view_named None (resolved.Parameter index section declared) =
     Some (named.Parameter index (width_of declared))
-view_named None (view.ByMemory a width from byte) =
+view_named None (resolved.ByMemory a width from byte) =
     Some (named.Place (named.ByMemory a width from byte))
-view_named None (view.ByRegister a width r count) =
+view_named None (resolved.ByRegister a width r count) =
     Some (named.Place (named.ByRegister a width r count))
-view_named None (view.Timer number) = Some (named.Timer (named.Written number))
-view_named None (view.Counter number) = Some (named.Counter (named.Written number))
-view_named None (view.NumberBy what from byte) = Some (numbered_item what (named.InWord from byte))
-view_named None (view.Pointer a byte bit) = Some (named.Pointer (codegen.pointer_bits a byte bit))
-view_named None view.Label = Some named.Label
-view_named None (view.OfStatus flag) = Some (named.Condition flag)
-view_named None (view.Register which) = Some (fact_of which)
-view_named None (view.OpenBlock di number) = Some (named.DataBlock di (named.Written number))
-view_named None (view.Called id instance) = Some (named.Called id instance)
+view_named None (resolved.Timer number) = Some (named.Timer (named.Written number))
+view_named None (resolved.Counter number) = Some (named.Counter (named.Written number))
+view_named None (resolved.NumberBy what from byte) = Some (numbered_item what (named.InWord from byte))
+view_named None (resolved.Pointer a byte bit) = Some (named.Pointer (codegen.pointer_bits a byte bit))
+view_named None resolved.Label = Some named.Label
+view_named None (resolved.OfStatus flag) = Some (named.Condition flag)
+view_named None (resolved.Register which) = Some (fact_of which)
+view_named None (resolved.OpenBlock di number) = Some (named.DataBlock di (named.Written number))
+view_named None (resolved.Called id instance) = Some (named.Called id instance)
 view_named None _ = None
 
 -- ---- its operand in the code
@@ -165,25 +165,25 @@ on_named other f (Some x) = f x
 plain_flat : (o : Operand) (v : ResolvedOperand)
     → codegen.flat_operand_of o v ≡ on_named (codegen.flat_operand_of o v) flat_of (view_named None v)
 unfolding codegen.flat_operand_of
-plain_flat o (view.Direct place width side declared) =
+plain_flat o (resolved.Direct place width side declared) =
     sym (place_flat place.area place.number width place.byte place.bit)
-plain_flat o (view.NumberBy numbered.Timer from byte) = refl
-plain_flat o (view.NumberBy numbered.Counter from byte) = refl
-plain_flat o (view.NumberBy numbered.Db from byte) = refl
-plain_flat o (view.NumberBy numbered.Di from byte) = refl
-plain_flat o (view.Register register.Stw) = refl
-plain_flat o (view.Register register.Dblg) = refl
-plain_flat o (view.Register register.Dbno) = refl
-plain_flat o (view.Register register.Dilg) = refl
-plain_flat o (view.Register register.Dino) = refl
-plain_flat o (view.Register register.Ar2) = refl
+plain_flat o (resolved.NumberBy numbered.Timer from byte) = refl
+plain_flat o (resolved.NumberBy numbered.Counter from byte) = refl
+plain_flat o (resolved.NumberBy numbered.Db from byte) = refl
+plain_flat o (resolved.NumberBy numbered.Di from byte) = refl
+plain_flat o (resolved.Register register.Stw) = refl
+plain_flat o (resolved.Register register.Dblg) = refl
+plain_flat o (resolved.Register register.Dbno) = refl
+plain_flat o (resolved.Register register.Dilg) = refl
+plain_flat o (resolved.Register register.Dino) = refl
+plain_flat o (resolved.Register register.Ar2) = refl
 plain_flat o _ = refl
 
 constant_flat : (value : Literal) (v : ResolvedOperand)
     → codegen.flat_operand_of (operand.Constant value) v
     ≡ on_named (codegen.flat_operand_of (operand.Constant value) v) flat_of (view_named (Some value) v)
 unfolding codegen.flat_operand_of
-constant_flat value view.Constant = ap flat.Literal (bits_same value)
+constant_flat value resolved.Constant = ap flat.Literal (bits_same value)
 constant_flat value _ = refl
 
 flat_same : (o : Operand) (v : ResolvedOperand)
@@ -197,19 +197,19 @@ operand_flat o v x e = flat_same o v ∙ ap (on_named (codegen.flat_operand_of o
 
 opens_same : (k : Option Literal) (v : ResolvedOperand)
     → codegen.block_opened_by_operand v ≡ on_named (codegen.block_opened_by_operand v) opens_first (view_named k v)
-opens_same None (view.Direct place width side declared) =
+opens_same None (resolved.Direct place width side declared) =
     sym (place_opens place.area place.number width place.byte place.bit)
-opens_same None (view.NumberBy numbered.Timer from byte) = refl
-opens_same None (view.NumberBy numbered.Counter from byte) = refl
-opens_same None (view.NumberBy numbered.Db from byte) = refl
-opens_same None (view.NumberBy numbered.Di from byte) = refl
-opens_same None (view.Register register.Stw) = refl
-opens_same None (view.Register register.Dblg) = refl
-opens_same None (view.Register register.Dbno) = refl
-opens_same None (view.Register register.Dilg) = refl
-opens_same None (view.Register register.Dino) = refl
-opens_same None (view.Register register.Ar2) = refl
-opens_same (Some value) view.Constant = refl
+opens_same None (resolved.NumberBy numbered.Timer from byte) = refl
+opens_same None (resolved.NumberBy numbered.Counter from byte) = refl
+opens_same None (resolved.NumberBy numbered.Db from byte) = refl
+opens_same None (resolved.NumberBy numbered.Di from byte) = refl
+opens_same None (resolved.Register register.Stw) = refl
+opens_same None (resolved.Register register.Dblg) = refl
+opens_same None (resolved.Register register.Dbno) = refl
+opens_same None (resolved.Register register.Dilg) = refl
+opens_same None (resolved.Register register.Dino) = refl
+opens_same None (resolved.Register register.Ar2) = refl
+opens_same (Some value) resolved.Constant = refl
 opens_same _ _ = refl
 
 pub opened_first : (k : Option Literal) (v : ResolvedOperand) (x : NamedItem) → view_named k v ≡ Some x
@@ -219,12 +219,12 @@ opened_first k v x e = opens_same k v ∙ ap (on_named (codegen.block_opened_by_
 -- ---- what the rules leave
 
 -- the rule that a view breaks with a form, where the operand is this constant or none
-abbrev pub rule_by : OperandRule → Option Literal → ResolvedOperand → Option ℕ
-rule_by f (Some value) v = if takes_constant f value then None else Some 25
-rule_by f None v = rule_of_resolved_operand f v
+abbrev pub rule_with_constant : OperandRule → Option Literal → ResolvedOperand → Option ℕ
+rule_with_constant f (Some value) v = if takes_constant f value then None else Some 25
+rule_with_constant f None v = rule_of_resolved_operand f v
 
 rule_same : (c : Context) (f : OperandRule) (o : Operand) (v : ResolvedOperand)
-    → resolution_of c o ≡ Resolved v → operand_rule c f o ≡ rule_by f (about o) v
+    → resolution_of c o ≡ Resolved v → operand_rule c f o ≡ rule_with_constant f (about o) v
 rule_same c f (operand.Constant value) v e = refl
 rule_same c f o v e = ap (rule_of_resolution f) e
 
@@ -239,7 +239,7 @@ resolution_same None Unjudged v e = absurd cc
 resolution_same (Some rule) n v e = absurd cc
 
 pub resolved_parts : (c : Context) (s : Statement) (v : ResolvedOperand) → resolved_operand c s ≡ Some v
-    → (rule_by (form_of s.code) (about s.operand) v ≡ None) × (resolution_of c s.operand ≡ Resolved v)
+    → (rule_with_constant (form_of s.code) (about s.operand) v ≡ None) × (resolution_of c s.operand ≡ Resolved v)
 unfolding resolved_operand
 resolved_parts c s v e =
     let parts = resolution_same (statement_rule c s) (resolution_of c s.operand) v e in
@@ -297,14 +297,14 @@ pointer_same (Some letters.Pq) byte bit = refl
 -- ---- data blocks by their numbers
 
 -- the number of the block at a place, where it breaks no rule itself
-abbrev number_at : List BlockLayout → Option ℕ → Option ℕ
-number_at ls place =
+abbrev number_of_whole_block : List BlockLayout → Option ℕ → Option ℕ
+number_of_whole_block ls place =
     option_and_then (λ b. number_of_block b.id) (option_and_then (whole_at ls) place)
 
-shifted : (l : BlockLayout) (ls : List BlockLayout) (place : Option ℕ)
-    → number_at (l ∷ ls) (option_map (λ k. suc k) place) ≡ number_at ls place
-shifted l ls None = refl
-shifted l ls (Some k) = refl
+number_behind_first : (l : BlockLayout) (ls : List BlockLayout) (place : Option ℕ)
+    → number_of_whole_block (l ∷ ls) (option_map (λ k. suc k) place) ≡ number_of_whole_block ls place
+number_behind_first l ls None = refl
+number_behind_first l ls (Some k) = refl
 
 same_number : (id : BlockId) (o : Option BlockId) (n : ℕ) → is_id id o ≡ true
     → number_of_block o ≡ Some n → id.number ≡ n
@@ -317,7 +317,7 @@ same_number id (Some other) n is e =
     by false h = absurd cc
 
 placed_number : (id : BlockId) (ls : List BlockLayout) (n : ℕ)
-    → number_at ls (place_of_block id (map (λ b. b.id) ls)) ≡ Some n → id.number ≡ n
+    → number_of_whole_block ls (place_of_block id (map (λ b. b.id) ls)) ≡ Some n → id.number ≡ n
 placed_number id [] n e = absurd cc
 placed_number id (l ∷ ls) n e = by (is_id id l.id) refl e (placed_number id ls n)
   where
@@ -329,36 +329,36 @@ placed_number id (l ∷ ls) n e = by (is_id id l.id) refl e (placed_number id ls
     here false h = h
 
     by : (first : Bool) → is_id id l.id ≡ first
-        → number_at (l ∷ ls) (if first then Some 0
+        → number_of_whole_block (l ∷ ls) (if first then Some 0
         else option_map (λ k. suc k) (place_of_block id (map (λ (b : BlockLayout). b.id) ls))) ≡ Some n
-        → (number_at ls (place_of_block id (map (λ (b : BlockLayout). b.id) ls)) ≡ Some n
+        → (number_of_whole_block ls (place_of_block id (map (λ (b : BlockLayout). b.id) ls)) ≡ Some n
         → id.number ≡ n)
         → id.number ≡ n
     by true is h more = same_number id l.id n is (here l.broken h)
     by false is h more =
         more
-        (sym (shifted l ls (place_of_block id (map (λ (b : BlockLayout). b.id) ls))) ∙ h)
+        (sym (number_behind_first l ls (place_of_block id (map (λ (b : BlockLayout). b.id) ls))) ∙ h)
 
 known_number : (id : BlockId) (ls : List BlockLayout) (n : ℕ)
-    → number_at ls (known_block id (map (λ b. b.id) ls)) ≡ Some n → id.number ≡ n
+    → number_of_whole_block ls (known_block id (map (λ b. b.id) ls)) ≡ Some n → id.number ≡ n
 known_number id ls n e = by (is_block_number id.kind id.number) e
   where
     by : (right : Bool)
-        → number_at ls (if right then place_of_block id (map (λ (b : BlockLayout). b.id) ls) else None)
+        → number_of_whole_block ls (if right then place_of_block id (map (λ (b : BlockLayout). b.id) ls) else None)
         ≡ Some n
         → id.number ≡ n
     by true h = placed_number id ls n h
     by false h = absurd cc
 
 meant_number : (ls : List BlockLayout) (o : Option BlockId) (n : ℕ)
-    → number_at ls (option_and_then (λ id. known_block id (map (λ b. b.id) ls))
+    → number_of_whole_block ls (option_and_then (λ id. known_block id (map (λ b. b.id) ls))
     (of_kind is_data_block o)) ≡ Some n
     → option_map (λ id. id.number) o ≡ Some n
 meant_number ls None n e = absurd cc
 meant_number ls (Some id) n e = by (is_data_block id.kind) e
   where
     by : (right : Bool)
-        → number_at ls (option_and_then (λ id. known_block id (map (λ (b : BlockLayout). b.id) ls))
+        → number_of_whole_block ls (option_and_then (λ id. known_block id (map (λ (b : BlockLayout). b.id) ls))
         (if right then Some id else None)) ≡ Some n
         → Some id.number ≡ Some n
     by true h = ap Some (known_number id ls n h)
@@ -424,11 +424,11 @@ register_same false false false false false false x e = absurd cc
 target_same : (t : Target) (v : ResolvedOperand) (x : NamedItem)
     → Resolved (resolved_target t) ≡ Resolved v → target_named t ≡ Some x → view_named None v ≡ Some x
 target_same (target.Variable place width) v x e n =
-    carry None (view.Direct place width side.Both None) v (named_place place width) x refl e n
+    carry None (resolved.Direct place width side.Both None) v (named_place place width) x refl e n
 target_same (target.Timer number) v x e n =
-    carry None (view.Timer number) v (named.Timer (named.Written number)) x refl e n
+    carry None (resolved.Timer number) v (named.Timer (named.Written number)) x refl e n
 target_same (target.Counter number) v x e n =
-    carry None (view.Counter number) v (named.Counter (named.Written number)) x refl e n
+    carry None (resolved.Counter number) v (named.Counter (named.Written number)) x refl e n
 target_same (target.Block id) v x e n = absurd cc
 
 pub symbol_same : (o : Option Symbol) (v : ResolvedOperand) (x : NamedItem)
@@ -456,6 +456,6 @@ pub opened_named : (c : Context) (di : Bool) (name : BlockName) (v : ResolvedOpe
     → view_named None v ≡ Some x
 opened_named c di name v x None d e n = absurd cc
 opened_named c di name v x (Some number) d e n =
-    carry None (view.OpenBlock di number) v (named.DataBlock di (named.Written number)) x refl e
+    carry None (resolved.OpenBlock di number) v (named.DataBlock di (named.Written number)) x refl e
     (ap (option_map (λ number. named.DataBlock di (named.Written number)))
     (sym (number_known c name number d)) ∙ n)
