@@ -21,7 +21,7 @@ pub record HasFaultlessCode (b : CodeBlock) : Type 0 where
   -- the number of its bytes fits 32 bits
   pub size : length (code_bytes b.code) < 4294967296
 
--- a symbols file is made of bytes
+-- a symbols file is made of bytes: what `AreBytes` says of its elements, by their places
 abbrev pub IsOfBytes : List ℕ → Type 0
 IsOfBytes file = (i : ℕ) → get_or file i 0 < 256
 

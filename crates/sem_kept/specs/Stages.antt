@@ -10,7 +10,7 @@ HaveOutcomeInTurn {B = B} first second a (Ok c) = (b : B) × first a (Ok b) × s
 HaveOutcomeInTurn {B = B} first second a (Err refused) =
     first a (Err refused) ⊎ ((b : B) × first a (Ok b) × second b (Err refused))
 
--- a stage whose refusals are told with what they are of
+-- a stage whose refusals are given with what they are of
 abbrev pub NamesRefusalOf :
     {A B E : Type 0} (of : Refusal → E) (stage : A → Result B Refusal → Type 0)
     → A → Result B E → Type 0

@@ -6,13 +6,9 @@ use Rattle.stl_ast.specs.declared.statements.Statement.{Statement}
 use Rattle.stl_types.specs.Context.{Context}
 use Rattle.stl_codegen.specs.Compiled.{SourceInstruction}
 use Rattle.stl_codegen.specs.Generated.{return_statement, stated_from, statements_of}
-use Rattle.stl_codegen.specs.Instruction.{instruction}
+use Rattle.sem_kept.proofs.accepted.Jumps.{statement_of_number}
 use Rattle.statement_laws.specs.Jumps.{numbered_statement_count}
 use Rattle.statement_laws.specs.Laws.{FamiliesAreAll, StatementsAreNumbered}
-
--- a statement with its number
-abbrev statement_of_number : Context → List Statement → ℕ → Statement → SourceInstruction
-statement_of_number c body n s = record { instr = instruction c body n s; line = s.line }
 
 number_of_statement_at : (c : Context) (body : List Statement) (n : ℕ) (front : List Statement) (s : Statement)
     (rest : List Statement) (tail : List SourceInstruction) → is_empty_statement s.code ≡ false

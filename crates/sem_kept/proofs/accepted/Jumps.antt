@@ -162,8 +162,8 @@ abbrev code_from : Context → (body : List Statement) → (ret : SourceInstruct
     → List Statement → List OpData
 code_from c body ret f n ss = the_code f (stated_from c body n ss ++ ret ∷ [])
 
--- the statement of a number
-abbrev statement_of_number : Context → List Statement → (n : ℕ) → Statement → SourceInstruction
+-- what a statement comes to that has this number among the statements of its block
+abbrev pub statement_of_number : Context → List Statement → (n : ℕ) → Statement → SourceInstruction
 statement_of_number c body n s = record { instr = instruction c body n s; line = s.line }
 
 stated_append : (c : Context) (body : List Statement) (n : ℕ) (xs ys : List Statement)
