@@ -15,7 +15,7 @@ use Rattle.block_layout.specs.Rule21.{broken_21}
 use Rattle.block_layout.specs.Rule56.{broken_56}
 use Rattle.block_layout.specs.Types.{Types}
 use Rattle.stl_ast.specs.declared.blocks.Part.{Part}
-use Rattle.block_layout.specs.declared.sections.Declared.{Declared}
+use Rattle.block_layout.specs.declared.sections.BlockCells.{BlockCells}
 use Rattle.block_layout.specs.declared.declaration_facts.OpenList.{OpenList}
 use Rattle.block_layout.specs.DeclarationFacts.{AreOpen, CheckedOnto, SectionAdded, refusals_by_facts, twice_by, deep_by, cell_with, cells_by, facts_of_declarations}
 
@@ -89,15 +89,15 @@ cells_opened y o section before (d ∷ ds) =
     opened_step y section d (is_sound y o before d) (facts_of_declarations y o (d ∷ before) ds) ds (cells_of y o section (d ∷ before) ds)
     (cells_begun y o section (d ∷ before) ds) (cells_opened y o section (d ∷ before) ds)
 
-pub twice_same : (y : Types) (o : Outside) (before ds : List Declaration) → refusals_by_facts twice_by (facts_of_declarations y o before ds) ds ≡ refusals_in_rest (broken_21 o) before ds
-twice_same y o before [] = refl
-twice_same y o before (d ∷ ds) = ap (λ (l : List Refusal). broken_21 o before d ++ l) (twice_same y o (d ∷ before) ds)
+pub twice_refusals_same : (y : Types) (o : Outside) (before ds : List Declaration) → refusals_by_facts twice_by (facts_of_declarations y o before ds) ds ≡ refusals_in_rest (broken_21 o) before ds
+twice_refusals_same y o before [] = refl
+twice_refusals_same y o before (d ∷ ds) = ap (λ (l : List Refusal). broken_21 o before d ++ l) (twice_refusals_same y o (d ∷ before) ds)
 
-pub deep_same : (y : Types) (o : Outside) (before ds : List Declaration) → refusals_by_facts deep_by (facts_of_declarations y o before ds) ds ≡ refusals_in_rest (broken_56 y o) before ds
-deep_same y o before [] = refl
-deep_same y o before (d ∷ ds) = ap (λ (l : List Refusal). broken_56 y o before d ++ l) (deep_same y o (d ∷ before) ds)
+pub deep_refusals_same : (y : Types) (o : Outside) (before ds : List Declaration) → refusals_by_facts deep_by (facts_of_declarations y o before ds) ds ≡ refusals_in_rest (broken_56 y o) before ds
+deep_refusals_same y o before [] = refl
+deep_refusals_same y o before (d ∷ ds) = ap (λ (l : List Refusal). broken_56 y o before d ++ l) (deep_refusals_same y o (d ∷ before) ds)
 
-pub section_added : (y : Types) (o : Outside) (before : List Declaration) (p : Part) (old new : Declared) (open_ : List OpenList) (vs us : List DeclarationFacts) (ds : List Declaration) →
+pub section_added : (y : Types) (o : Outside) (before : List Declaration) (p : Part) (old new : BlockCells) (open_ : List OpenList) (vs us : List DeclarationFacts) (ds : List Declaration) →
     ds ≡ p.items → us ≡ vs → CheckedOnto y o before ds vs open_ →
     new.components.items ≡ old.components.items ++ (if is_temp p.kind then [] else cells_by y p.kind false us p.items) →
     new.temps.items ≡ old.temps.items ++ (if is_temp p.kind then cells_by y p.kind false us p.items else []) →
@@ -111,6 +111,6 @@ section_added y o before p old new open_ vs us ds are same checked are_component
       lists = subst (λ (l : List Declaration). AreOpen y o (declarations_before_next before l) open_) are checked.lists;
       components = are_components ∙ ap (λ (l : List Cell). old.components.items ++ (if is_temp p.kind then [] else l)) cells;
       temps = are_temps ∙ ap (λ (l : List Cell). old.temps.items ++ (if is_temp p.kind then l else [])) cells;
-      twice = is_twice ∙ ap (λ (l : List Refusal). lesser old.twice (least l)) (ap (λ (l : List Declaration). refusals_by_facts twice_by us l) are ∙ ap (λ (l : List DeclarationFacts). refusals_by_facts twice_by l p.items) by ∙ twice_same y o before p.items);
-      deep = is_deep ∙ ap (λ (l : List Refusal). lesser old.deep (least l)) (ap (λ (l : List Declaration). refusals_by_facts deep_by us l) are ∙ ap (λ (l : List DeclarationFacts). refusals_by_facts deep_by l p.items) by ∙ deep_same y o before p.items);
+      twice = is_twice ∙ ap (λ (l : List Refusal). lesser old.twice (least l)) (ap (λ (l : List Declaration). refusals_by_facts twice_by us l) are ∙ ap (λ (l : List DeclarationFacts). refusals_by_facts twice_by l p.items) by ∙ twice_refusals_same y o before p.items);
+      deep = is_deep ∙ ap (λ (l : List Refusal). lesser old.deep (least l)) (ap (λ (l : List Declaration). refusals_by_facts deep_by us l) are ∙ ap (λ (l : List DeclarationFacts). refusals_by_facts deep_by l p.items) by ∙ deep_refusals_same y o before p.items);
     }

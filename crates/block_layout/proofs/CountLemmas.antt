@@ -34,11 +34,11 @@ is_there id None h = absurd cc
 is_there id (Some other) h = ap (λ (i : BlockId). Some i) (sym (same_block id other h))
 
 -- the first place of an id is at most a place where it stands
-placed : (id : BlockId) (front : List (Option BlockId)) (o : Option BlockId)
+first_place_at_most : (id : BlockId) (front : List (Option BlockId)) (o : Option BlockId)
     (rest : List (Option BlockId)) → is_id id o ≡ true
     → (p : ℕ) × (place_of_block id (front ++ o ∷ rest) ≡ Some p) × (p ≤ length front)
-placed id [] o rest h = (0, rw h refl, omega arith)
-placed id (i ∷ is) o rest h = by (is_id id i) (placed id is o rest h)
+first_place_at_most id [] o rest h = (0, rw h refl, omega arith)
+first_place_at_most id (i ∷ is) o rest h = by (is_id id i) (first_place_at_most id is o rest h)
   where
     by : (first : Bool)
         → (p : ℕ) × (place_of_block id (is ++ o ∷ rest) ≡ Some p) × (p ≤ length is)
@@ -110,7 +110,7 @@ once_behind y id front before (b ∷ bs) ids long once =
         → bit here + sum_by (with_id y.symbols id) bs ≤ 1
     by true e more =
         let behind : List (Option BlockId) = map (λ b. id_of y.symbols b) bs in
-        let there = placed id front (id_of y.symbols b) behind e in
+        let there = first_place_at_most id front (id_of y.symbols b) behind e in
         let none = none_behind y id there.0 (b ∷ before) bs
         (ap (λ (l : List (Option BlockId)). place_of_block id l) ids ∙ there.1)
         (omega (arith, there.2, long)) once.1 in
@@ -126,8 +126,8 @@ below_limit k n None = false
 below_limit k n (Some id) = is_same_kind k id.kind && nat_lt id.number n
 
 -- blocks of a kind with a number below a limit
-limited : List Symbol → BlockKind → ℕ → Block → ℕ
-limited symbols k n b = bit (below_limit k n (id_of symbols b))
+count_below : List Symbol → BlockKind → ℕ → Block → ℕ
+count_below symbols k n b = bit (below_limit k n (id_of symbols b))
 
 one_limit_more : (k : BlockKind) (n : ℕ) (o : Option BlockId)
     → bit (below_limit k (suc n) o)
@@ -157,19 +157,19 @@ no_sum f (x ∷ xs) h = omega (arith, h x, sum_by-cons f x xs, no_sum f xs h)
 -- as each of these numbers stands once, there are no more blocks than numbers
 few_of_kind : (symbols : List Symbol) (k : BlockKind) (n : ℕ) (bs : List Block)
     → ((id : BlockId) → sum_by (with_id symbols id) bs ≤ 1)
-    → sum_by (limited symbols k n) bs ≤ n
-unfolding limited with_id
+    → sum_by (count_below symbols k n) bs ≤ n
+unfolding count_below with_id
 few_of_kind symbols k zero bs once =
-    omega (arith, no_sum (limited symbols k 0) bs (λ b. none_below k (id_of symbols b)))
+    omega (arith, no_sum (count_below symbols k 0) bs (λ b. none_below k (id_of symbols b)))
 few_of_kind symbols k (suc n) bs once =
     let id : BlockId = record { kind = k; number = n } in
     omega (
       arith,
       few_of_kind symbols k n bs once,
       once id,
-      summed_two (limited symbols k n) (with_id symbols id) bs,
-      sum_by-le-sum_by (limited symbols k (suc n))
-          (λ b. limited symbols k n b + with_id symbols id b) bs
+      summed_two (count_below symbols k n) (with_id symbols id) bs,
+      sum_by-le-sum_by (count_below symbols k (suc n))
+          (λ b. count_below symbols k n b + with_id symbols id b) bs
           (λ b. one_limit_more k n (id_of symbols b)),
     )
 
@@ -180,8 +180,8 @@ is_code_id None = false
 is_code_id (Some id) = is_code id.kind
 
 -- whether a block of the source is a code block
-abbrev pub coded : List Symbol → Block → ℕ
-coded symbols b = bit (is_code_id (id_of symbols b))
+abbrev pub count_of_code : List Symbol → Block → ℕ
+count_of_code symbols b = bit (is_code_id (id_of symbols b))
 
 ob_low : (n : ℕ) → is_ob_number n ≡ true → n < 123
 ob_low n h = grind (arith, nat_tests)
@@ -215,27 +215,27 @@ by_id (Some id) h = by_kind id.kind id.number h
 
 code_here : (symbols : List Symbol) (before bs : List Block)
     → AllHeads (λ before b. has_wrong_number symbols b ≡ false) before bs
-    → sum_by (coded symbols) bs
-    ≤ sum_by (limited symbols kinds.Ob 123) bs + sum_by (limited symbols kinds.Fc 2048) bs
-    + sum_by (limited symbols kinds.Fb 2048) bs
-unfolding limited
+    → sum_by (count_of_code symbols) bs
+    ≤ sum_by (count_below symbols kinds.Ob 123) bs + sum_by (count_below symbols kinds.Fc 2048) bs
+    + sum_by (count_below symbols kinds.Fb 2048) bs
+unfolding count_below
 code_here symbols before [] h = omega arith
 code_here symbols before (b ∷ bs) h =
     omega (
       arith,
       by_id (id_of symbols b) h.0,
       code_here symbols (b ∷ before) bs h.1,
-      sum_by-cons (coded symbols) b bs,
-      sum_by-cons (limited symbols kinds.Ob 123) b bs,
-      sum_by-cons (limited symbols kinds.Fc 2048) b bs,
-      sum_by-cons (limited symbols kinds.Fb 2048) b bs,
+      sum_by-cons (count_of_code symbols) b bs,
+      sum_by-cons (count_below symbols kinds.Ob 123) b bs,
+      sum_by-cons (count_below symbols kinds.Fc 2048) b bs,
+      sum_by-cons (count_below symbols kinds.Fb 2048) b bs,
     )
 
 -- at most 123 organization blocks, 2,048 functions and 2,048 function blocks
 pub few_code_blocks : (y : Types) (bs : List Block) → y.ids ≡ map (λ b. id_of y.symbols b) bs
     → AllHeads (λ before b. is_block_twice y before b ≡ false) [] bs
     → AllHeads (λ before b. has_wrong_number y.symbols b ≡ false) [] bs
-    → sum_by (coded y.symbols) bs ≤ 4219
+    → sum_by (count_of_code y.symbols) bs ≤ 4219
 few_code_blocks y bs ids once right =
     let each : (id : BlockId) → sum_by (with_id y.symbols id) bs ≤ 1 =
     λ id. once_behind y id [] [] bs ids refl once in

@@ -233,8 +233,8 @@ then A B C m n k from_a from_b out f s = record {
       (s.are x among);
 }
 
-unmoved : (m : Marks) → Marked (λ x. ⊥) m m
-unmoved m = record {
+marks_same : (m : Marks) → Marked (λ x. ⊥) m m
+marks_same m = record {
   size = refl;
   kept = λ x old. old;
   marked = λ x never within. absurd never;
@@ -245,7 +245,7 @@ unmoved m = record {
 }
 
 marked_all : (m : Marks) (bs : List ℕ) → Marked (λ x. Among x bs) m (with_marks m bs)
-marked_all m [] = unmoved m
+marked_all m [] = marks_same m
 marked_all m (b ∷ bs) =
     then (λ x. x ≡ b) (λ x. Among x bs) (λ x. Among x (b ∷ bs)) m (with_mark m b) (with_marks (with_mark m b) bs)
     (λ x e. inl e) (λ x among. inr among) (λ x among. among) (marked_one m b) (marked_all (with_mark m b) bs)
@@ -381,9 +381,9 @@ all_rounds y blocks a s reached found r all =
     ∙ ap (λ (n : ℕ). leads_to y blocks n a a) all
 
 -- where a step finds nothing more
-pub ended : (y : Types) (blocks : List Block) (a s : ℕ) (reached : List Bool) (found : List ℕ) → IsRound y blocks a (suc s) reached found → found ≡ [] → suc s ≤ length blocks →
+pub found_none_more : (y : Types) (blocks : List Block) (a s : ℕ) (reached : List Bool) (found : List ℕ) → IsRound y blocks a (suc s) reached found → found ≡ [] → suc s ≤ length blocks →
     get_or reached a false ≡ leads_to y blocks (length blocks) a a
-ended y blocks a s reached found r none few =
+found_none_more y blocks a s reached found r none few =
     let more = length blocks - suc s in
     let n_is : more + suc s ≡ length blocks = omega arith in
     let same : (x : ℕ) → Leads y blocks (suc (suc s)) a x → Leads y blocks (suc s) a x =
@@ -401,8 +401,8 @@ none_there [] n is long = refl
 none_there (x ∷ xs) n is long = absurd (let none = eqb-true n 0 is in let never : ⊥ = omega (arith, none, long) in never)
 
 -- a list of a vector that was written whole through a slice of it
-pub written : (n : ℕ) (new old : List Bool) → length new ≡ n → take n (new ++ drop (length new) old) ≡ new
-written n new old long =
+pub slice_written : (n : ℕ) (new old : List Bool) → length new ≡ n → take n (new ++ drop (length new) old) ≡ new
+slice_written n new old long =
     ap (λ (k : ℕ). take k (new ++ drop (length new) old)) (sym long) ∙ take-append_seam new (drop (length new) old)
 
 pub map_next : {X Z : Type 0} (f : X → Z) (xs : List X) (i : ℕ) (x : X) (done now whole : List Z) → i < length xs → x ≡ get_or xs i x → now ≡ done ++ f x ∷ [] →

@@ -112,5 +112,5 @@ measured_by symbols blocks n e u b there less =
     (λ small. type_settled (unmeasured_types symbols blocks) blocks n (omega (arith, e)) u b there
     (omega (arith, e, small))) less
 
-pub measured : (symbols : List Symbol) (blocks : List Block) → Measured (types_of_source symbols blocks) blocks
-measured symbols blocks = measured_by symbols blocks 9 refl
+pub types_measured : (symbols : List Symbol) (blocks : List Block) → Measured (types_of_source symbols blocks) blocks
+types_measured symbols blocks = measured_by symbols blocks 9 refl

@@ -21,8 +21,8 @@ use Rattle.block_layout.specs.Types.{Types}
 use Rattle.block_layout.specs.DeclarationFacts.{AreOpen, CheckedOnto, breaks_in, open_lists_behind, open_list_of, inner_list, is_deep_in, facts_by_list, facts_of_declaration, facts_of_declarations, with_name}
 
 -- depths beyond 8 may count as 9
-pub deep_same : (a own : ℕ) → is_deep_in (capped_depth a) (capped_depth own) ≡ is_deep_in a own
-deep_same a own = grind (arith, nat_tests)
+pub deep_in_capped : (a own : ℕ) → is_deep_in (capped_depth a) (capped_depth own) ≡ is_deep_in a own
+deep_in_capped a own = grind (arith, nat_tests)
 
 pub deep_sum : (a own : ℕ) → capped_depth (capped_depth a + capped_depth own) ≡ capped_depth (a + own)
 deep_sum a own = omega arith
@@ -35,14 +35,14 @@ or_middle false unknown unfit upside ninth = refl
 pub breaks_same : (y : Types) (o : Outside) (before : List Declaration) (d : Declaration) → breaks_in y (open_list_of y o before d.level) d ≡ breaks_rule y o before d
 breaks_same y o before d =
     ap (λ (ninth : Bool). (is_twice o before d || ((is_unknown_type y d.of.of || not (init_fits d)) || has_upside_down d)) || ninth)
-    (deep_same (depth_around y o d.level before) (own_depth y d))
+    (deep_in_capped (depth_around y o d.level before) (own_depth y d))
     ∙ or_middle (is_twice o before d) (is_unknown_type y d.of.of) (not (init_fits d)) (has_upside_down d) (is_too_deep y o before d)
 
 -- a declaration by the list that it goes on
 pub facts_same : (y : Types) (o : Outside) (before : List Declaration) (d : Declaration) → facts_by_list y (open_list_of y o before d.level) d ≡ facts_of_declaration y o before d
 unfolding facts_by_list
 facts_same y o before d =
-    rw (breaks_same y o before d) (rw (deep_same (depth_around y o d.level before) (own_depth y d)) (rw (deep_sum (depth_around y o d.level before) (own_depth y d)) refl))
+    rw (breaks_same y o before d) (rw (deep_in_capped (depth_around y o d.level before) (own_depth y d)) (rw (deep_sum (depth_around y o d.level before) (own_depth y d)) refl))
 
 -- the lists behind a declaration
 list_lower : (y : Types) (o : Outside) (before : List Declaration) (d : Declaration) (level : ℕ) → level < d.level → open_list_of y o before level ≡ open_list_of y o (d ∷ before) level

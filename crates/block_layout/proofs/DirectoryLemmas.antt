@@ -28,8 +28,8 @@ nothing_more : (o : Option ℕ) → option_or o None ≡ o
 nothing_more None = refl
 nothing_more (Some n) = refl
 
-pub skipped : (before : ℕ → Option ℕ) (ns now : List (Option ℕ)) → ((q : ℕ) → before q ≡ numbered_place q ns) → now ≡ ns ++ None ∷ [] → (q : ℕ) → before q ≡ numbered_place q now
-skipped before ns now is_index is_now q =
+pub place_skipped : (before : ℕ → Option ℕ) (ns now : List (Option ℕ)) → ((q : ℕ) → before q ≡ numbered_place q ns) → now ≡ ns ++ None ∷ [] → (q : ℕ) → before q ≡ numbered_place q now
+place_skipped before ns now is_index is_now q =
     is_index q ∙ sym (nothing_more (numbered_place q ns)) ∙ sym (one_more q ns None) ∙ ap (λ (l : List (Option ℕ)). numbered_place q l) (sym is_now)
 
 pub number_known : (before : ℕ → Option ℕ) (ns now : List (Option ℕ)) (n : ℕ) → ((q : ℕ) → before q ≡ numbered_place q ns) → IsSome (before n) → now ≡ ns ++ Some n ∷ [] → (q : ℕ) → before q ≡ numbered_place q now

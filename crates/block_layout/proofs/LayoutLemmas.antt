@@ -16,20 +16,20 @@ use Rattle.block_layout.specs.Measures.{types_of_source, with_all_bits, with_all
 use Rattle.block_layout.specs.Rule43.{contains_itself, leads_to}
 use Rattle.block_layout.specs.Types.{Types}
 use Rattle.block_layout.specs.declared.blocks.BlockLayout.{BlockLayout}
-use Rattle.block_layout.specs.declared.broken.Before.{Before}
+use Rattle.block_layout.specs.declared.broken.BlocksBefore.{BlocksBefore}
 
 -- what is known of the layouts of the first blocks, and of what stands before the next block
-pub record AreLaid (y : Types) (blocks : List Block) (layouts : List BlockLayout) (b : Before) : Type 0 where
+pub record AreLaid (y : Types) (blocks : List Block) (layouts : List BlockLayout) (b : BlocksBefore) : Type 0 where
   pub some : List Block
   pub count : length some ≡ length layouts
   pub known : IsBefore y blocks some b
   pub so_far : layouts ++ layouts_from y blocks some (drop (length layouts) blocks) ≡ layouts_from y blocks [] blocks
 
-pub laid_first : (y : Types) (blocks : List Block) (b : Before) → IsBefore y blocks [] b → AreLaid y blocks [] b
+pub laid_first : (y : Types) (blocks : List Block) (b : BlocksBefore) → IsBefore y blocks [] b → AreLaid y blocks [] b
 laid_first y blocks b known = record { some = []; count = refl; known = known; so_far = refl }
 
 -- one block more
-pub laid_next : (y : Types) (blocks : List Block) (done now : List BlockLayout) (one : BlockLayout) (block : Block) (b next : Before) (at : AreLaid y blocks done b) →
+pub laid_next : (y : Types) (blocks : List Block) (done now : List BlockLayout) (one : BlockLayout) (block : Block) (b next : BlocksBefore) (at : AreLaid y blocks done b) →
     length done < length blocks → block ≡ get_or blocks (length done) block → one ≡ block_layout y blocks at.some block → now ≡ done ++ one ∷ [] →
     IsBefore y blocks (block ∷ at.some) next → AreLaid y blocks now next
 laid_next y blocks done now one block b next at within is_block is_one is_now known =
@@ -46,7 +46,7 @@ laid_next y blocks done now one block b next at within is_block is_one is_now kn
           ∙ at.so_far;
     }
 
-pub laid_end : (y : Types) (blocks : List Block) (done : List BlockLayout) (b : Before) → AreLaid y blocks done b → length blocks ≤ length done → done ≡ layouts_from y blocks [] blocks
+pub laid_end : (y : Types) (blocks : List Block) (done : List BlockLayout) (b : BlocksBefore) → AreLaid y blocks done b → length blocks ≤ length done → done ≡ layouts_from y blocks [] blocks
 laid_end y blocks done b at over =
     sym (append-nil done) ∙ ap (λ (l : List Block). done ++ layouts_from y blocks at.some l) (sym (drop_of_length-le blocks over)) ∙ at.so_far
 

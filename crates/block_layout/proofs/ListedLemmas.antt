@@ -109,14 +109,14 @@ up_twice : (n bytes : ℕ) → bytes % 2 ≡ 0 → next_multiple (next_multiple 
 unfolding next_multiple
 up_twice n bytes h = omega (arith, h)
 
-uncapped : (n : ℕ) → n ≤ 131072 → capped_size n ≡ n
-uncapped n h = grind (arith, nat_tests)
+size_uncapped : (n : ℕ) → n ≤ 131072 → capped_size n ≡ n
+size_uncapped n h = grind (arith, nat_tests)
 
 bytes_bits : (s : Cell) (bytes : ℕ) → IsBytes s bytes → bytes % 2 ≡ 0 → 8 * bytes ≤ 131072 → cell_bits s [] ≡ 8 * bytes
 unfolding element_of
 bytes_bits s bytes h is_even short =
     let whole : bytes * 8 ≡ 8 * bytes = omega arith in
-    rw (h.array, h.of, h.size, whole, uncapped (8 * bytes) short, even bytes is_even, uncapped (8 * bytes) short) refl
+    rw (h.array, h.of, h.size, whole, size_uncapped (8 * bytes) short, even bytes is_even, size_uncapped (8 * bytes) short) refl
 
 end_bytes : (at : ℕ) (s : Cell) (bytes : ℕ) → IsBytes s bytes → components_end 0 at (s ∷ []) ≡ capped_size (next_multiple at 16 + cell_bits s [])
 unfolding components_end element_of
@@ -131,5 +131,5 @@ length_stays ps vs qs s bytes alike some total is_even is short =
     let ends : components_end 0 0 (qs ++ s ∷ []) ≡ next_multiple (components_end 0 0 qs) 16 + 8 * bytes =
     end_append 0 ps qs (s ∷ []) alike ∙ end_bytes (components_end 0 0 qs) s bytes is
     ∙ ap (λ n. capped_size (next_multiple (components_end 0 0 qs) 16 + n)) (bytes_bits s bytes is is_even (omega (arith, sum)))
-    ∙ uncapped (next_multiple (components_end 0 0 qs) 16 + 8 * bytes) (omega (arith, sum)) in
-    ap (λ n. capped_size (next_multiple n 16)) ends ∙ ap capped_size (up_twice (components_end 0 0 qs) bytes is_even) ∙ uncapped (8 * bytes + next_multiple (components_end 0 0 qs) 16) sum ∙ sym whole
+    ∙ size_uncapped (next_multiple (components_end 0 0 qs) 16 + 8 * bytes) (omega (arith, sum)) in
+    ap (λ n. capped_size (next_multiple n 16)) ends ∙ ap capped_size (up_twice (components_end 0 0 qs) bytes is_even) ∙ size_uncapped (8 * bytes + next_multiple (components_end 0 0 qs) 16) sum ∙ sym whole

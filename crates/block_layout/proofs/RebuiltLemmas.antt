@@ -95,9 +95,9 @@ bit_put s w e = rw e refl
 bytes_put : (s : List ℕ) (w : Write) → nat_eq w.width 1 ≡ false → bytes_with_write s w ≡ with_bytes s (w.offset / 8) (big_endian_bytes (w.width / 8) w.value)
 bytes_put s w e = rw e refl
 
-moved : (all s : List ℕ) (w : Write) (j i : ℕ) → i < 8 → IsPart all s → IsTrueOf all w → Moved all s w j i
+bit_after_write : (all s : List ℕ) (w : Write) (j i : ℕ) → i < 8 → IsPart all s → IsTrueOf all w → Moved all s w j i
 unfolding Moved
-moved all s w j i h part (OfBit wide there value) = elim (cases_Bool (nat_eq j (w.offset / 8))) [
+bit_after_write all s w j i h part (OfBit wide there value) = elim (cases_Bool (nat_eq j (w.offset / 8))) [
   | inl same ↦ elim (cases_Bool (nat_eq i (w.offset % 8))) [
     | inl also ↦
         let byte : j ≡ w.offset / 8 = eqb-true j (w.offset / 8) same in
@@ -124,7 +124,7 @@ moved all s w j i h part (OfBit wide there value) = elim (cases_Bool (nat_eq j (
   no_byte : w.width ≡ 1 → (j ≡ w.offset / 8 → ⊥) → Reaches w j i → ⊥
   no_byte wide never (InBit width byte bit) = never byte
   no_byte wide never (InBytes width from to) = other_width w.width wide width
-moved all s w j i h part (OfBytes wide there value) = elim (cases_lt j (w.offset / 8)) [
+bit_after_write all s w j i h part (OfBytes wide there value) = elim (cases_lt j (w.offset / 8)) [
   | inl before ↦ inr (rw (bytes_put s w wide, outside s (w.offset / 8) (big_endian_bytes (w.width / 8) w.value) j (inl before)) refl, none wide (inl before))
   | inr from ↦ elim (cases_lt j (w.offset / 8 + w.width / 8)) [
     | inl to ↦
@@ -173,7 +173,7 @@ Below all s = (j i : ℕ) → i < 8 → bit_in s j i ≡ 1 → bit_in all j i �
 
 below_kept : (all s : List ℕ) (w : Write) → IsPart all s → IsTrueOf all w → Below all s → Below all (bytes_with_write s w)
 unfolding Below Moved
-below_kept all s w part true_ below j i h one = elim (moved all s w j i h part true_) [ inl new ↦ sym new ∙ one | inr old ↦ below j i h (sym old.0 ∙ one) ]
+below_kept all s w part true_ below j i h one = elim (bit_after_write all s w j i h part true_) [ inl new ↦ sym new ∙ one | inr old ↦ below j i h (sym old.0 ∙ one) ]
 
 below_all : (all s : List ℕ) (ws : List Write) → IsPart all s → AllByRecursion (IsTrueOf all) ws → Below all s → Below all (fold bytes_with_write s ws)
 below_all all s [] part true_ below = below
@@ -183,11 +183,11 @@ part_all : (all s : List ℕ) (ws : List Write) → IsPart all s → AllByRecurs
 part_all all s [] part true_ = part
 part_all all s (w ∷ ws) part (true_, more) = part_all all (bytes_with_write s w) ws (part_kept all s w part true_) more
 
-reached : (all s : List ℕ) (ws : List Write) (j i : ℕ) → i < 8 → IsPart all s → AllByRecursion (IsTrueOf all) ws → (bit_in s j i ≡ bit_in all j i) ⊎ OneReaches ws j i → bit_in (fold bytes_with_write s ws) j i ≡ bit_in all j i
+reached_bit_same : (all s : List ℕ) (ws : List Write) (j i : ℕ) → i < 8 → IsPart all s → AllByRecursion (IsTrueOf all) ws → (bit_in s j i ≡ bit_in all j i) ⊎ OneReaches ws j i → bit_in (fold bytes_with_write s ws) j i ≡ bit_in all j i
 unfolding Moved
-reached all s [] j i h part true_ (inl e) = e
-reached all s [] j i h part true_ (inr r) = absurd r
-reached all s (w ∷ ws) j i h part (true_, more) given = reached all (bytes_with_write s w) ws j i h (part_kept all s w part true_) more (elim (moved all s w j i h part true_) [
+reached_bit_same all s [] j i h part true_ (inl e) = e
+reached_bit_same all s [] j i h part true_ (inr r) = absurd r
+reached_bit_same all s (w ∷ ws) j i h part (true_, more) given = reached_bit_same all (bytes_with_write s w) ws j i h (part_kept all s w part true_) more (elim (bit_after_write all s w j i h part true_) [
   | inl new ↦ inl new
   | inr old ↦ later old.0 old.1 given
 ])
@@ -213,7 +213,7 @@ zeros_small (suc n) (suc k) = zeros_small n k
 bit_back : (all : List ℕ) (ws : List Write) (j i : ℕ) → i < 8 → IsPart all (replicate (length all) 0) → AllByRecursion (IsTrueOf all) ws
     → (bit_in all j i ≡ 1 → OneReaches ws j i) → (bit_in (fold bytes_with_write (replicate (length all) 0) ws) j i ≡ 1 → bit_in all j i ≡ 1) → bit_in (fold bytes_with_write (replicate (length all) 0) ws) j i ≡ bit_in all j i
 bit_back all ws j i h part true_ covered below = elim (cases_Bool (nat_eq (bit_in all j i) 1)) [
-  | inl set ↦ reached all (replicate (length all) 0) ws j i h part true_ (inr (covered (eqb-true (bit_in all j i) 1 set)))
+  | inl set ↦ reached_bit_same all (replicate (length all) 0) ws j i h part true_ (inr (covered (eqb-true (bit_in all j i) 1 set)))
   | inr clear ↦ both_zero (bit_in (fold bytes_with_write (replicate (length all) 0) ws) j i) (bit_in all j i) (bit_at-lt (get_or (fold bytes_with_write (replicate (length all) 0) ws) j 0) i) (bit_at-lt (get_or all j 0) i) (λ e. false≢true (sym clear ∙ eq-eqb (bit_in all j i) 1 e)) below
 ]
   where

@@ -10,7 +10,7 @@ use Rattle.stl_ast.specs.declared.declarations.Declaration.{Declaration}
 use Rattle.plc_base.specs.Least.{least, lesser}
 use Rattle.plc_base.proofs.LeastLemmas.{least-append, lesser_assoc, lesser_first, lesser_nothing}
 use Rattle.block_layout.specs.declared.cells.Cell.{Cell}
-use Rattle.block_layout.specs.declared.sections.Declared.{Declared}
+use Rattle.block_layout.specs.declared.sections.BlockCells.{BlockCells}
 use Rattle.block_layout.specs.declared.declaration_facts.OpenList.{OpenList}
 use Rattle.block_layout.specs.Around.{Outside, refusals_in_list, refusals_in_rest, declarations_before_next, of_sections, of_structure, returned_names, section_declarations}
 use Rattle.block_layout.specs.Cells.{cells_of, is_temp, with_first_cell_opening, section_cells, returned_cells, temps_of}
@@ -21,7 +21,7 @@ use Rattle.block_layout.specs.DeclarationFacts.{IsDeclaredByBlock, AreOpen, IsDe
 use Rattle.block_layout.specs.Measures.{capped_depth}
 use Rattle.block_layout.specs.declared.declaration_facts.DeclarationFacts.{DeclarationFacts}
 use Rattle.stl_ast.specs.declared.blocks.PartKind.TheVariants as part
-use Rattle.block_layout.proofs.CellLemmas.{cells_begun, twice_same, deep_same}
+use Rattle.block_layout.proofs.CellLemmas.{cells_begun, twice_refusals_same, deep_refusals_same}
 
 rest_append : (broken : List Declaration → Declaration → List Refusal) (before xs ys : List Declaration) → refusals_in_rest broken before (xs ++ ys) ≡ refusals_in_rest broken before xs ++ refusals_in_rest broken (declarations_before_next before xs) ys
 rest_append broken before [] ys = refl
@@ -29,8 +29,8 @@ rest_append broken before (x ∷ xs) ys =
     ap (λ (l : List Refusal). broken before x ++ l) (rest_append broken (x ∷ before) xs ys)
     ∙ sym (append_assoc (broken before x) (refusals_in_rest broken (x ∷ before) xs) (refusals_in_rest broken (declarations_before_next (x ∷ before) xs) ys))
 
--- what is left of the sections of a block
-pub record Left (y : Types) (b : Block) (ps : List Part) (made : Declared) (open_ : List OpenList) : Type 0 where
+-- the sections `ps` of a block are left, behind those that have come to `made`
+pub record AreSectionsLeft (y : Types) (b : Block) (ps : List Part) (made : BlockCells) (open_ : List OpenList) : Type 0 where
   pub now : List Declaration
   pub lists : AreOpen y (of_sections b) now open_
   pub components : made.components.items ++ section_cells y (of_sections b) (λ k. not (is_temp k)) now ps
@@ -48,9 +48,9 @@ rest_next broken now items more found next whole is_next so_far =
     ∙ ap (λ (o : Option Refusal). lesser found o) (sym (least-append (refusals_in_rest broken now items) (refusals_in_rest broken (declarations_before_next now items) more)) ∙ ap (λ (l : List Refusal). least l) (sym (rest_append broken now items more)))
     ∙ so_far
 
-pub left_next : (y : Types) (b : Block) (p : Part) (ps : List Part) (made new : Declared) (open_ now_open : List OpenList) → Left y b (p ∷ ps) made open_ →
-    ((o : Outside) (before : List Declaration) → AreOpen y o before open_ → SectionAdded y o before p made new now_open) → Left y b ps new now_open
-left_next y b p ps made new open_ now_open left added =
+pub sections_left_next : (y : Types) (b : Block) (p : Part) (ps : List Part) (made new : BlockCells) (open_ now_open : List OpenList) → AreSectionsLeft y b (p ∷ ps) made open_ →
+    ((o : Outside) (before : List Declaration) → AreOpen y o before open_ → SectionAdded y o before p made new now_open) → AreSectionsLeft y b ps new now_open
+sections_left_next y b p ps made new open_ now_open left added =
     let one = added (of_sections b) left.now left.lists in
     record {
       now = declarations_before_next left.now p.items;
@@ -70,8 +70,8 @@ left_next y b p ps made new open_ now_open left added =
     turned true l = refl
     turned false l = refl
 
-pub left_done : (y : Types) (b : Block) (made : Declared) (open_ : List OpenList) → Left y b [] made open_ → IsDeclaredBySections y b made
-left_done y b made open_ left = record {
+pub sections_left_done : (y : Types) (b : Block) (made : BlockCells) (open_ : List OpenList) → AreSectionsLeft y b [] made open_ → IsDeclaredBySections y b made
+sections_left_done y b made open_ left = record {
   components = sym (append-nil made.components.items) ∙ left.components;
   temps = sym (append-nil made.temps.items) ∙ left.temps;
   twice = sym (lesser_nothing made.twice) ∙ left.twice;
@@ -98,9 +98,9 @@ first_open y o f names depth sound = record { lists = λ level g below. at level
             ∙ ap (λ (b : Bool). record { names = o.names; depth = capped_depth (o.depth + 0); sound = b }) s
     at (suc level) g below = absurd (let never : ⊥ = omega arith in never)
 
-pub first_left : (y : Types) (b : Block) (made : Declared) (f : OpenList) (open_ : List OpenList) → open_ ≡ f ∷ [] → f.names ≡ returned_names b.result → f.depth ≡ 0 → f.sound ≡ true →
-    made.components.items ≡ returned_cells b.result → made.temps.items ≡ [] → made.twice ≡ None → made.deep ≡ None → Left y b b.parts made open_
-first_left y b made f open_ is_open names depth sound components temps twice deep_ = record {
+pub sections_left_first : (y : Types) (b : Block) (made : BlockCells) (f : OpenList) (open_ : List OpenList) → open_ ≡ f ∷ [] → f.names ≡ returned_names b.result → f.depth ≡ 0 → f.sound ≡ true →
+    made.components.items ≡ returned_cells b.result → made.temps.items ≡ [] → made.twice ≡ None → made.deep ≡ None → AreSectionsLeft y b b.parts made open_
+sections_left_first y b made f open_ is_open names depth sound components temps twice deep_ = record {
   now = [];
   lists = subst (λ (l : List OpenList). AreOpen y (of_sections b) [] l) (sym is_open) (first_open y (of_sections b) f names depth sound);
   components = ap (λ (l : List Cell). l ++ section_cells y (of_sections b) (λ k. not (is_temp k)) [] b.parts) components;
@@ -109,7 +109,7 @@ first_left y b made f open_ is_open names depth sound components temps twice dee
   deep = ap (λ (o : Option Refusal). lesser o (least (refusals_in_list (broken_56 y (of_sections b)) (section_declarations b)))) deep_ ∙ lesser_first _;
 }
 
-pub declared_all : (y : Types) (b : Block) (made new : Declared) (vs : List DeclarationFacts) → IsDeclaredBySections y b made → vs ≡ facts_of_declarations y of_structure [] b.components →
+pub declared_all : (y : Types) (b : Block) (made new : BlockCells) (vs : List DeclarationFacts) → IsDeclaredBySections y b made → vs ≡ facts_of_declarations y of_structure [] b.components →
     new.components.items ≡ made.components.items ++ cells_by y part.Static true vs b.components → new.temps ≡ made.temps →
     new.twice ≡ lesser made.twice (least (refusals_by_facts twice_by vs b.components)) → new.deep ≡ lesser made.deep (least (refusals_by_facts deep_by vs b.components)) → IsDeclaredByBlock y b new
 declared_all y b made new vs sections are components temps twice deep_ = record {
@@ -119,13 +119,13 @@ declared_all y b made new vs sections are components temps twice deep_ = record 
   temps = ap (λ v. v.items) temps ∙ sections.temps;
   twice = twice ∙ ap (λ (o : Option Refusal). lesser o (least (refusals_by_facts twice_by vs b.components))) sections.twice
       ∙ ap (λ (l : List Refusal). lesser (least (refusals_in_list (broken_21 (of_sections b)) (section_declarations b))) (least l))
-      (ap (λ (l : List DeclarationFacts). refusals_by_facts twice_by l b.components) are ∙ twice_same y of_structure [] b.components)
+      (ap (λ (l : List DeclarationFacts). refusals_by_facts twice_by l b.components) are ∙ twice_refusals_same y of_structure [] b.components)
       ∙ sym (least-append (refusals_in_list (broken_21 (of_sections b)) (section_declarations b)) (refusals_in_list (broken_21 of_structure) b.components));
   deep = deep_ ∙ ap (λ (o : Option Refusal). lesser o (least (refusals_by_facts deep_by vs b.components))) sections.deep
       ∙ ap (λ (l : List Refusal). lesser (least (refusals_in_list (broken_56 y (of_sections b)) (section_declarations b))) (least l))
-      (ap (λ (l : List DeclarationFacts). refusals_by_facts deep_by l b.components) are ∙ deep_same y of_structure [] b.components)
+      (ap (λ (l : List DeclarationFacts). refusals_by_facts deep_by l b.components) are ∙ deep_refusals_same y of_structure [] b.components)
       ∙ sym (least-append (refusals_in_list (broken_56 y (of_sections b)) (section_declarations b)) (refusals_in_list (broken_56 y of_structure) b.components));
 }
 
-pub left_at : (y : Types) (b : Block) (made : Declared) (open_ : List OpenList) (ps qs : List Part) → ps ≡ qs → Left y b ps made open_ → Left y b qs made open_
-left_at y b made open_ ps qs same left = subst (λ (l : List Part). Left y b l made open_) same left
+pub sections_left_at : (y : Types) (b : Block) (made : BlockCells) (open_ : List OpenList) (ps qs : List Part) → ps ≡ qs → AreSectionsLeft y b ps made open_ → AreSectionsLeft y b qs made open_
+sections_left_at y b made open_ ps qs same left = subst (λ (l : List Part). AreSectionsLeft y b l made open_) same left

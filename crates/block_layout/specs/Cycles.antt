@@ -5,11 +5,11 @@ use Rattle.stl_ast.specs.declared.blocks.Block.{Block}
 use Rattle.block_layout.specs.Rule43.{uses_of}
 use Rattle.block_layout.specs.Types.{Types}
 
--- the data types that each block uses
+-- of each block the data types that it uses, by their places in the source
 abbrev pub uses_of_all : Types → List Block → List (List ℕ)
 uses_of_all y blocks = map (λ b. uses_of y (Some b)) blocks
 
--- the marks of all blocks, and the blocks that were found
+-- of each block whether it is marked, and the places of the marked blocks, the first found first
 abbrev pub Marks : Type 0
 Marks = List Bool × List ℕ
 

@@ -16,7 +16,7 @@ use Rattle.block_layout.specs.Types.{Types}
 use Rattle.plc_base.specs.declared.refusals.Refusal.{Refusal}
 use Rattle.plc_base.specs.Least.{broken_if, least, lesser}
 use Rattle.block_layout.specs.declared.cells.Cell.{Cell}
-use Rattle.block_layout.specs.declared.sections.Declared.{Declared}
+use Rattle.block_layout.specs.declared.sections.BlockCells.{BlockCells}
 use Rattle.stl_ast.specs.declared.blocks.Block.{Block}
 use Rattle.stl_ast.specs.declared.blocks.Part.{Part}
 use Rattle.block_layout.specs.declared.declaration_facts.OpenList.{OpenList}
@@ -147,7 +147,7 @@ cells_by y section begun (v ∷ vs) (d ∷ ds) =
 
 -- a section comes to cells, and to the least refusals by rules 21 and 56, behind those before it
 pub record SectionAdded (y : Types) (o : Outside) (before : List Declaration) (p : Part)
-    (old new : Declared)
+    (old new : BlockCells)
     (open_ : List OpenList) : Type 0 where
   -- the lists that are open behind the last declaration of the section
   pub lists : AreOpen y o (declarations_before_next before p.items) open_
@@ -165,7 +165,7 @@ pub record SectionAdded (y : Types) (o : Outside) (before : List Declaration) (p
   pub deep : new.deep ≡ lesser old.deep (least (refusals_in_rest (broken_56 y o) before p.items))
 
 -- what the sections of a block come to
-pub record IsDeclaredBySections (y : Types) (b : Block) (made : Declared) : Type 0 where
+pub record IsDeclaredBySections (y : Types) (b : Block) (made : BlockCells) : Type 0 where
   -- the return value, if there is one, then the cells of all sections but VAR_TEMP
   pub components : made.components.items ≡ returned_cells b.result
       ++ section_cells y (of_sections b) (λ k. not (is_temp k)) [] b.parts
@@ -179,7 +179,7 @@ pub record IsDeclaredBySections (y : Types) (b : Block) (made : Declared) : Type
       ≡ least (refusals_in_list (broken_56 y (of_sections b)) (section_declarations b))
 
 -- what the declarations of a block come to
-pub record IsDeclaredByBlock (y : Types) (b : Block) (made : Declared) : Type 0 where
+pub record IsDeclaredByBlock (y : Types) (b : Block) (made : BlockCells) : Type 0 where
   -- the cells of the block but those of temporary variables
   pub components : made.components.items ≡ components_of y b
   -- the cells of the temporary variables

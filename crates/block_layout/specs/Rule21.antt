@@ -26,7 +26,7 @@ abbrev pub is_twice : Outside → List Declaration → Declaration → Bool
 is_twice o before d =
     is_some (name_place (upper_case_name d.name) (names_before o.names d.level before))
 
--- the refusal of a declaration, at its line
+-- the refusal by rule 21 of a declaration whose name stands before it in its list, at its line
 abbrev pub broken_21 : Outside → List Declaration → Declaration → List Refusal
 broken_21 o before d = broken_if (is_twice o before d) d.line 21
 

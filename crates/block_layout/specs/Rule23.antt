@@ -34,7 +34,7 @@ is_unknown_shape _ = false
 abbrev pub has_unknown_head : Types → Block → Bool
 has_unknown_head y b = is_none (id_of y.symbols b) || is_unknown_shape (shape_of y b)
 
--- the refusal of a declaration whose data type is unknown, at its line
+-- the refusal by rule 23 of a declaration whose data type is unknown, at its line
 abbrev pub broken_23 : Types → Outside → List Declaration → Declaration → List Refusal
 broken_23 y o before d = broken_if (is_unknown_type y d.of.of) d.line 23
 
@@ -73,7 +73,7 @@ names_unknown y (operand.Called name instance) =
     is_unknown_called y name || is_unknown_instance y instance
 names_unknown y _ = false
 
--- the refusal of an operand, at its line
+-- the refusal by rule 23 of an operand that names an unknown block, at its line
 abbrev pub operand_23 : Types → OperandAtLine → List Refusal
 operand_23 y o = broken_if (names_unknown y o.operand) o.line 23
 

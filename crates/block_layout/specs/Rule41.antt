@@ -18,7 +18,7 @@ use Rattle.block_layout.specs.declared.blocks.BlockLayout.{BlockLayout}
 use Rattle.block_layout.specs.declared.walks.PathEnd.{PathEnd}
 use Rattle.block_layout.specs.declared.walks.PathEnd.TheVariants as path_end
 
--- a declaration whose initial values don't fit its type
+-- the refusal by rule 41 of a declaration whose initial values don't fit its type, at its line
 abbrev pub broken_41 : Outside → List Declaration → Declaration → List Refusal
 broken_41 o before d = broken_if (not (init_fits d)) d.line 41
 
@@ -27,7 +27,7 @@ abbrev pub fits_kind : Literal → Option Simple → Bool
 fits_kind value None = false
 fits_kind value (Some kind) = fits_elementary_type value kind
 
--- only a path that leads to a component is checked by its value
+-- a value doesn't fit the component that a path leads to; it is not checked where there is none
 abbrev pub misfits_component : List BlockLayout → Literal → PathEnd → Bool
 misfits_component l value (path_end.Reaches component) =
     not (fits_kind value (elementary_at l component))

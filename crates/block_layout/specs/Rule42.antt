@@ -24,7 +24,7 @@ use Rattle.block_layout.specs.Settings.{on_settings}
 use Rattle.block_layout.specs.Types.{Types}
 use Rattle.block_layout.specs.declared.blocks.BlockLayout.{BlockLayout}
 
--- a declaration with the upper below the lower bound
+-- the refusal by rule 42 of a declaration with the upper below the lower bound, at its line
 abbrev pub broken_42 : Outside → List Declaration → Declaration → List Refusal
 broken_42 o before d = broken_if (has_upside_down d) d.line 42
 
@@ -52,7 +52,7 @@ abbrev pub operand_is_outside : Types → List BlockLayout → ℕ → Operand �
 operand_is_outside y l block (operand.Named path steps) = leaves_path y l block path steps
 operand_is_outside y l block _ = false
 
--- the refusal of an operand, at its line
+-- the refusal by rule 42 of an operand with an index outside its array, at its line
 abbrev pub operand_42 : Types → List BlockLayout → ℕ → OperandAtLine → List Refusal
 operand_42 y l block o = broken_if (operand_is_outside y l block o.operand) o.line 42
 

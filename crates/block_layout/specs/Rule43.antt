@@ -10,7 +10,7 @@ use Rattle.stl_ast.specs.declared.declarations.ElementType.TheVariants as elemen
 use Rattle.block_layout.specs.Heads.{on_heads}
 use Rattle.block_layout.specs.Types.{Types, data_type_place}
 
--- the one place in a list, or none
+-- a list of the place, if there is one; else the empty list
 abbrev pub if_some : Option ℕ → List ℕ
 if_some None = []
 if_some (Some n) = n ∷ []
@@ -20,7 +20,7 @@ abbrev pub types_used_by : Types → ElementType → List ℕ
 types_used_by y (element.Udt name) = if_some (data_type_place y name)
 types_used_by y _ = []
 
--- the data types that a block uses
+-- the data types that the components of a block use, by their places; none where there is no block
 abbrev pub uses_of : Types → Option Block → List ℕ
 uses_of y None = []
 uses_of y (Some b) = flat_map (λ d. types_used_by y d.of.of) b.components

@@ -42,7 +42,7 @@ is_too_deep y o before d =
     nat_le (depth_around y o d.level before) 8
     && nat_lt 8 (depth_around y o d.level before + own_depth y d)
 
--- the refusal of a declaration, at its line
+-- the refusal by rule 56 of a declaration that opens the ninth structure or array, at its line
 abbrev pub broken_56 : Types → Outside → List Declaration → Declaration → List Refusal
 broken_56 y o before d = broken_if (is_too_deep y o before d) d.line 56
 

@@ -12,33 +12,33 @@ use stl_ast::{Block, Declaration, Part};
 /// What a declaration can break by itself: its data type is unknown, its initial value doesn't fit,
 /// or a bound of an array is upside down.
 #[derive(Clone, Copy, Debug, PartialEq, Eq)]
-pub(crate) enum Alone {
+pub(crate) enum DeclarationFault {
     UnknownType,
     UnfitValue,
     UpsideDown,
 }
 
-fn breaks_by(types: &Types, which: Alone, declaration: &Declaration) -> bool
+fn breaks_by(types: &Types, which: DeclarationFault, declaration: &Declaration) -> bool
     ensures { result ≡ breaks_by types.now which declaration.now }
 {
     match which {
-        Alone::UnknownType => is_unknown_type(types, &declaration.of.of),
-        Alone::UnfitValue => !init_fits(declaration),
-        Alone::UpsideDown => has_upside_down(declaration),
+        DeclarationFault::UnknownType => is_unknown_type(types, &declaration.of.of),
+        DeclarationFault::UnfitValue => !init_fits(declaration),
+        DeclarationFault::UpsideDown => has_upside_down(declaration),
     }
 }
 
-fn rule_by(which: Alone) -> u16
+fn rule_by(which: DeclarationFault) -> u16
     ensures { result ≡ rule_by which }
 {
     match which {
-        Alone::UnknownType => 23,
-        Alone::UnfitValue => 41,
-        Alone::UpsideDown => 42,
+        DeclarationFault::UnknownType => 23,
+        DeclarationFault::UnfitValue => 41,
+        DeclarationFault::UpsideDown => 42,
     }
 }
 
-fn broken_by(types: &Types, which: Alone, declaration: &Declaration) -> Option<Refusal>
+fn broken_by(types: &Types, which: DeclarationFault, declaration: &Declaration) -> Option<Refusal>
     ensures { result ≡ least (broken_by types.now which declaration.now) }
 {
     broken_if(
@@ -48,7 +48,7 @@ fn broken_by(types: &Types, which: Alone, declaration: &Declaration) -> Option<R
     )
 }
 
-fn least_in_list(types: &Types, which: Alone, list: &[Declaration]) -> Option<Refusal>
+fn least_in_list(types: &Types, which: DeclarationFault, list: &[Declaration]) -> Option<Refusal>
     ensures { result ≡ least (flat_map (broken_by types.now which) list.now) }
 {
     least_of(list, |declaration: &Declaration| {
@@ -56,7 +56,7 @@ fn least_in_list(types: &Types, which: Alone, list: &[Declaration]) -> Option<Re
     })
 }
 
-fn least_in_parts(types: &Types, which: Alone, parts: &[Part]) -> Option<Refusal>
+fn least_in_parts(types: &Types, which: DeclarationFault, parts: &[Part]) -> Option<Refusal>
     ensures { result
         ≡ least (flat_map (λ p. flat_map (broken_by types.now which) p.items) parts.now) }
 {
@@ -66,7 +66,7 @@ fn least_in_parts(types: &Types, which: Alone, parts: &[Part]) -> Option<Refusal
 }
 
 #[tactic(auto, using(crate::proofs::AloneLemmas::least_of_block))]
-fn least_in_block(types: &Types, which: Alone, block: &Block) -> Option<Refusal>
+fn least_in_block(types: &Types, which: DeclarationFault, block: &Block) -> Option<Refusal>
     ensures { result
         ≡ least (refusals_in_block (λ o before d. broken_by types.now which d) block.now) }
 {
@@ -77,7 +77,11 @@ fn least_in_block(types: &Types, which: Alone, block: &Block) -> Option<Refusal>
 }
 
 /// The least refusal of declarations by what they break by themselves.
-pub(crate) fn least_alone(types: &Types, which: Alone, blocks: &[Block]) -> Option<Refusal>
+pub(crate) fn least_alone(
+    types: &Types,
+    which: DeclarationFault,
+    blocks: &[Block],
+) -> Option<Refusal>
     ensures { result
         ≡ least (refusals_in_blocks (λ o before d. broken_by types.now which d) blocks.now) }
 {

@@ -20,17 +20,17 @@ use stl_ast::Block;
 
 /// What stands before a block: how many blocks, how many of them are data blocks, and their bytes.
 #[derive(Clone, Copy, Debug, PartialEq, Eq)]
-pub(crate) struct Before {
+pub(crate) struct BlocksBefore {
     pub(crate) blocks: usize,
     pub(crate) data_blocks: usize,
     pub(crate) bytes: u64,
 }
 
 /// What stands before the first block.
-pub(crate) fn nothing_before() -> Before
+pub(crate) fn nothing_before() -> BlocksBefore
     ensures { (y : Types) (blocks : List Block) → IsBefore y blocks [] result }
 {
-    Before {
+    BlocksBefore {
         blocks: 0,
         data_blocks: 0,
         bytes: 0,
@@ -38,13 +38,13 @@ pub(crate) fn nothing_before() -> Before
 }
 
 /// What stands before the block behind this one.
-pub(crate) fn with_block(before: Before, block: &Block, len: u64) -> Before
+pub(crate) fn with_block(before: BlocksBefore, block: &Block, len: u64) -> BlocksBefore
     requires blocks { before.blocks < 2 ^ 64 - 1 }
     requires data { before.data_blocks < 2 ^ 64 - 1 }
     ensures { (y : Types) (blocks some : List Block) → len ≡ length_of_block y blocks block.now
         → IsBefore y blocks some before → IsBefore y blocks (block.now ∷ some) result }
 {
-    Before {
+    BlocksBefore {
         blocks: before.blocks + 1,
         data_blocks: before.data_blocks + counted_data(block),
         bytes: before.bytes.saturating_add(data_len(block, len)),
@@ -67,7 +67,7 @@ fn any_of_six(a: bool, b: bool, c: bool, d: bool, e: bool, f: bool) -> bool
 /// itself, `local` is the length of its local data and `len` that of its structure.
 pub(crate) fn is_broken(
     types: &Types,
-    before: Before,
+    before: BlocksBefore,
     block: &Block,
     in_itself: bool,
     local: u64,

@@ -6,7 +6,7 @@ ghost use Rattle.block_layout.specs.Layouts.{block_layout, is_broken, layouts_by
 ghost use Rattle.block_layout.specs.Lengths.{shape_of};
 
 use crate::blocks::BlockLayout;
-use crate::broken::{Before, is_broken, nothing_before, with_block};
+use crate::broken::{BlocksBefore, is_broken, nothing_before, with_block};
 use crate::cycles::{cycles, flag_at};
 use crate::declarations::number_at;
 use crate::lengths::{all_lengths, local_lens, shape_of};
@@ -46,7 +46,7 @@ pub(crate) fn facts_of(
 #[tactic(auto, unfolding(crate::specs::Layouts::block_layout))]
 fn block_layout(
     types: &Types,
-    before: Before,
+    before: BlocksBefore,
     block: &Block,
     outline: Outline,
     in_itself: bool,

@@ -26,8 +26,8 @@ use crate::layouts::{behind, numbers_behind};
 use crate::measures::ROUNDS;
 use crate::paths::Path;
 use crate::routes::{elementary_at, structure_of, walk_data};
-use crate::sizes::{array_bits, stepped};
-use crate::starts::{begun, element_starts, filled_starts, preset_values};
+use crate::sizes::{array_bits, end_behind_cell};
+use crate::starts::{component_starts, element_starts, filled_starts, preset_values};
 use crate::walks::{PathEnd, layout_at};
 use std::alloc::{AllocError, Global};
 use stl_ast::{Block, Setting, Simple};
@@ -89,7 +89,7 @@ fn put_cell(
     if !is_component(cell, level) {
         return Ok(());
     }
-    let begun = begun(alloc, at, cell, starts)?;
+    let begun = component_starts(alloc, at, cell, starts)?;
     match cell.of {
         Element::Plain { kind } => {
             put_plain(alloc, bytes, kind, cell, element, begun.as_slice())
@@ -152,7 +152,7 @@ fn put_from(
             starts,
         )?;
         let bits = array_bits(cell.bounds.as_slice(), elements[i]);
-        at = stepped(at, cell, bits, level);
+        at = end_behind_cell(at, cell, bits, level);
     }
     Ok(())
 }

@@ -143,15 +143,16 @@ fn check_layouts(
     Ok(CheckedLayouts { layouts, refusal })
 }
 
+/// The layouts of a source, and the least refusal by the rules that are checked with them.
 #[derive(Drop)]
-struct Laid {
+struct LayoutsWithRefusal {
     layouts: Layouts,
     refusal: Option<Refusal>,
 }
 
 /// The layouts of a source, and the least refusal.
 #[tactic(auto, unfolding(crate::specs::Layouts::layouts_of, crate::specs::Table::layout_refusals))]
-fn lay(alloc: Global, tree: &Tree, symbols: &Symbols) -> Result<Laid, AllocError>
+fn lay(alloc: Global, tree: &Tree, symbols: &Symbols) -> Result<LayoutsWithRefusal, AllocError>
     ensures layouts { IfOk result (λ laid. laid.layouts ≡ layouts_of tree.now symbols.now) }
     ensures refusal { IfOk result (λ laid. laid.refusal
         ≡ least (layout_refusals tree.now symbols.now)) }
@@ -160,7 +161,7 @@ fn lay(alloc: Global, tree: &Tree, symbols: &Symbols) -> Result<Laid, AllocError
     let types = types_of(alloc, symbols, blocks)?;
     let CheckedLayouts { layouts, refusal } = check_layouts(alloc, &types, blocks)?;
     let Types { directory, .. } = types;
-    Ok(Laid {
+    Ok(LayoutsWithRefusal {
         layouts: Layouts::new(layouts, directory),
         refusal,
     })
@@ -175,7 +176,7 @@ pub fn lay_out(alloc: Global, tree: &Tree, symbols: &Symbols) -> Result<Layouts,
     ensures { LaysOut (least (layout_refusals tree.now symbols.now))
         (layouts_of tree.now symbols.now) result }
 {
-    let Laid { layouts, refusal } = lay(alloc, tree, symbols)?;
+    let LayoutsWithRefusal { layouts, refusal } = lay(alloc, tree, symbols)?;
     match refusal {
         Some(refusal) => Err(SourceFault::Refused { refusal }),
         None => Ok(layouts),
@@ -191,6 +192,6 @@ pub fn lay_out(alloc: Global, tree: &Tree, symbols: &Symbols) -> Result<Layouts,
 pub fn lay_out_sound(alloc: Global, tree: &Tree, symbols: &Symbols) -> Result<Layouts, AllocError>
     ensures { IfOk result (λ l. l ≡ layouts_of tree.now symbols.now) }
 {
-    let Laid { layouts, .. } = lay(alloc, tree, symbols)?;
+    let LayoutsWithRefusal { layouts, .. } = lay(alloc, tree, symbols)?;
     Ok(layouts)
 }

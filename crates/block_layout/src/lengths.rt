@@ -38,7 +38,7 @@ use std::alloc::{AllocError, Global};
 use stl_ast::{Actual, Block, BlockName, ElementType, Letters, Operand, Statement};
 
 /// The function block or data type that a data block is of, or none.
-fn referred(block: &Block) -> Option<&BlockName>
+fn structure_block_name(block: &Block) -> Option<&BlockName>
     ensures { option_copied result ≡ structure_block_name block.now.instance_of block.now.shape }
 {
     if let Some(name) = &block.instance_of {
@@ -57,7 +57,7 @@ fn referred(block: &Block) -> Option<&BlockName>
 pub(crate) fn shape_of(types: &Types, block: &Block) -> Shape
     ensures { result ≡ shape_of types.now block.now }
 {
-    match referred(block) {
+    match structure_block_name(block) {
         None => Shape::Own,
         Some(name) => match types.structured(name) {
             Some(block) => Shape::Of { block },

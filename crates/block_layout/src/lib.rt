@@ -44,7 +44,7 @@ pub use laws::{law_of_listed, law_of_offsets, law_of_paths, law_of_rebuilt};
 pub use laying::{Layouts, lay_out, lay_out_sound};
 pub use layouts::Layout;
 pub use members::{Member, NameList};
-pub use offsets::{placed, width_of};
+pub use offsets::{elementary_place, width_of};
 pub use paths::Path;
 pub use rules::rule_52::is_parameter;
 pub use sizes::plain_bits;

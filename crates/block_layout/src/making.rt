@@ -11,7 +11,7 @@ use std::alloc::{AllocError, Global};
 use stl_ast::{Declaration, ElementType, Init, Name, PartKind, Sequence};
 
 /// What an element type comes to.
-fn laid(types: &Types, of: &ElementType) -> Element
+fn layout_element(types: &Types, of: &ElementType) -> Element
     ensures { result ≡ layout_element types.now of.now }
 {
     match of {
@@ -64,7 +64,7 @@ pub(crate) fn cell_with(
         opens,
         sound,
         bounds: Sequence::from_vec(bounds),
-        of: laid(types, &declaration.of.of),
+        of: layout_element(types, &declaration.of.of),
         presets: Sequence::from_vec(presets),
     })
 }

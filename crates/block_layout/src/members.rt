@@ -15,7 +15,7 @@ ghost use Rattle.block_layout.specs.Sizes.{elements_of};
 ghost use Rattle.block_layout.specs.Members.{component_of_name, members_of, name_here, component_names};
 
 use crate::cells::Cell;
-use crate::sizes::{alignment, array_bits, stepped, up};
+use crate::sizes::{alignment, array_bits, end_behind_cell, up};
 use std::alloc::{AllocError, Global};
 use stl_symbols::NameIndex;
 
@@ -95,7 +95,7 @@ pub(crate) fn members(
             },
         )?;
         let bits = array_bits(cell.bounds.as_slice(), elements[i]);
-        at = stepped(at, cell, bits, level);
+        at = end_behind_cell(at, cell, bits, level);
     }
     Ok(name_list)
 }

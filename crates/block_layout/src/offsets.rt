@@ -25,7 +25,7 @@ pub fn width_of(kind: Simple) -> Width
 
 /// The place so many bits from the start of an area or a data block, and the width of a type there;
 /// none that is past the 65,536th byte.
-pub fn placed(area: Area, number: u16, bits: u64, kind: Simple) -> Option<(Place, Width)>
+pub fn elementary_place(area: Area, number: u16, bits: u64, kind: Simple) -> Option<(Place, Width)>
     ensures { result ≡ elementary_place area number bits (Some kind) }
 {
     let byte = bits / 8;
@@ -42,7 +42,7 @@ pub fn placed(area: Area, number: u16, bits: u64, kind: Simple) -> Option<(Place
     }
 }
 
-fn reached(
+fn place_at_path_end(
     layouts: &[BlockLayout],
     area: Area,
     number: u16,
@@ -53,7 +53,7 @@ fn reached(
     match path_end {
         PathEnd::Reaches { component } => {
             let kind = elementary_at(layouts, component)?;
-            placed(area, number, component.offset, kind)
+            elementary_place(area, number, component.offset, kind)
         }
         _ => None,
     }
@@ -72,7 +72,7 @@ fn component(
         None
     } else {
         let path_end = walk_data(layouts, block, path);
-        reached(layouts, Area::Db, number, path_end)
+        place_at_path_end(layouts, Area::Db, number, path_end)
     }
 }
 
@@ -90,7 +90,7 @@ fn variable(
         None
     } else {
         let path_end = walk_from(layouts, block, temporary, path);
-        reached(layouts, area, 0, path_end)
+        place_at_path_end(layouts, area, 0, path_end)
     }
 }
 

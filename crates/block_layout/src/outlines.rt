@@ -5,7 +5,7 @@ ghost use Rattle.block_layout.specs.Rule21.{rule_21};
 ghost use Rattle.block_layout.specs.Rule56.{rule_56};
 
 use crate::layouts::Layout;
-use crate::sections::{Declared, declarations_of};
+use crate::sections::{BlockCells, declarations_of};
 use crate::types::Types;
 use plc_base::{Refusal, lesser};
 use std::alloc::{AllocError, Global};
@@ -45,7 +45,7 @@ pub(crate) fn outline_all(
         let made = declarations_of(alloc, types, block)?;
         twice = lesser(twice, made.twice);
         deep = lesser(deep, made.deep);
-        let Declared {
+        let BlockCells {
             components,
             temps,
             ..

@@ -33,7 +33,7 @@ use stl_symbols::NameIndex;
 /// What the declarations of a block come to: the cells of its components and of its temporary
 /// variables, and the least refusals by names that stand twice and by types nested too deep.
 #[derive(Drop)]
-pub(crate) struct Declared {
+pub(crate) struct BlockCells {
     pub(crate) components: Vec<Cell>,
     pub(crate) temps: Vec<Cell>,
     pub(crate) twice: Option<Refusal>,
@@ -52,7 +52,7 @@ fn add_section(
     types: &Types,
     part: &Part,
     all_facts: &[DeclarationFacts],
-    into: &mut Declared,
+    into: &mut BlockCells,
 ) -> Result<(), AllocError>
     requires { length all_facts.now ≡ length part.now.items }
     ensures components { IfOk result (λ _. into.new.components.items ≡ into.old.components.items
@@ -94,7 +94,7 @@ fn section(
     types: &Types,
     part: &Part,
     open_: &mut Vec<OpenList>,
-    into: &mut Declared,
+    into: &mut BlockCells,
 ) -> Result<(), AllocError>
     requires { 0 < length open_.old.items }
     ensures open { IfOk result (λ _. 0 < length open_.new.items) }
@@ -128,12 +128,12 @@ fn first_list(alloc: Global, returned: Option<Simple>) -> Result<OpenList, Alloc
 }
 
 /// What the sections of a block come to.
-fn sections(alloc: Global, types: &Types, block: &Block) -> Result<Declared, AllocError>
+fn sections(alloc: Global, types: &Types, block: &Block) -> Result<BlockCells, AllocError>
     ensures { IfOk result (λ made. IsDeclaredBySections types.now block.now made) }
 {
     let mut open_ = Vec::new(alloc);
     open_.push(first_list(alloc, block.result)?)?;
-    let mut made = Declared {
+    let mut made = BlockCells {
         components: returned_cells(alloc, block.result)?,
         temps: Vec::new(alloc),
         twice: None,
@@ -198,7 +198,7 @@ pub(crate) fn declarations_of(
     alloc: Global,
     types: &Types,
     block: &Block,
-) -> Result<Declared, AllocError>
+) -> Result<BlockCells, AllocError>
     ensures { IfOk result (λ made. IsDeclaredByBlock types.now block.now made) }
 {
     let mut made = sections(alloc, types, block)?;

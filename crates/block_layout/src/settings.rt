@@ -50,7 +50,7 @@ fn rule_of(which: SettingFault) -> u16
     }
 }
 
-fn refused(
+fn refusal_of_setting(
     alloc: Global,
     layouts: &[BlockLayout],
     which: SettingFault,
@@ -78,7 +78,7 @@ fn least_in_settings(
         settings.now)) }
 {
     try_least_of(settings, |setting: &Setting| {
-        refused(alloc, layouts, which, block, setting)
+        refusal_of_setting(alloc, layouts, which, block, setting)
     })
 }
 

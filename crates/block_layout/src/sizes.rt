@@ -20,7 +20,7 @@ use crate::cells::{Cell, Element, LARGEST};
 use std::alloc::{AllocError, Global};
 use stl_ast::{Bounds, Simple};
 
-pub(crate) fn capped(n: u64) -> u64
+pub(crate) fn capped_size(n: u64) -> u64
     ensures { result ≡ capped_size n }
 {
     if n < LARGEST { n } else { LARGEST }
@@ -97,7 +97,7 @@ pub(crate) fn array_bits(bounds: &[Bounds], element: u64) -> u64
     let mut bits = element;
     for i in (0..bounds.len()).rev() {
         let whole = count(&bounds[i]) * bits;
-        bits = capped(up(capped(whole), 16));
+        bits = capped_size(up(capped_size(whole), 16));
     }
     bits
 }
@@ -111,7 +111,7 @@ fn element_bits(of: Element, components: u64) -> u64
         Element::Plain { kind } => plain_bits(kind),
         Element::Structure => components,
         Element::DateAndTime => 64,
-        Element::Udt { bits, .. } => capped(bits),
+        Element::Udt { bits, .. } => capped_size(bits),
         Element::Unknown => 0,
     }
 }
@@ -123,13 +123,13 @@ fn past(at: u64, cell: &Cell, bits: u64) -> u64
     ensures near { result ≤ largest_size }
 {
     if cell.sound {
-        capped(up(at, alignment(cell)) + bits)
+        capped_size(up(at, alignment(cell)) + bits)
     } else {
         at
     }
 }
 
-pub(crate) fn stepped(at: u64, cell: &Cell, bits: u64, level: u64) -> u64
+pub(crate) fn end_behind_cell(at: u64, cell: &Cell, bits: u64, level: u64) -> u64
     requires near { at ≤ largest_size }
     requires small { bits ≤ largest_size }
     ensures value { result ≡ end_behind_cell level at cell.now bits }
@@ -156,7 +156,7 @@ fn end_of(cells: &[Cell], elements: &[u64], level: u64) -> u64
             return at;
         }
         let bits = array_bits(cell.bounds.as_slice(), elements[i]);
-        at = stepped(at, cell, bits, level);
+        at = end_behind_cell(at, cell, bits, level);
     }
     at
 }
@@ -170,7 +170,7 @@ fn components(cell: &Cell, behind: &[Cell], elements: &[u64]) -> u64
     ensures near { result ≤ largest_size }
 {
     if cell.sound {
-        capped(up(end_of(behind, elements, cell.level as u64 + 1), 16))
+        capped_size(up(end_of(behind, elements, cell.level as u64 + 1), 16))
     } else {
         0
     }
@@ -197,5 +197,5 @@ pub(crate) fn structure_bits(cells: &[Cell], elements: &[u64]) -> u64
     ensures value { result ≡ structure_bits cells.now }
     ensures near { result ≤ largest_size }
 {
-    capped(up(end_of(cells, elements, 0), 16))
+    capped_size(up(end_of(cells, elements, 0), 16))
 }

@@ -10,7 +10,7 @@ ghost use Rattle.block_layout.specs.InitialBytes.{
 };
 
 use crate::cells::{Cell, Preset};
-use crate::sizes::{alignment, array_bits, capped, count, up};
+use crate::sizes::{alignment, array_bits, capped_size, count, up};
 use crate::walks::bounds_behind;
 use std::alloc::{AllocError, Global};
 use stl_ast::Bounds;
@@ -21,8 +21,8 @@ fn add_steps(step: u64, count: u64, start: u64, places: &mut Vec<u64>) -> Result
         ≡ places.old.items ++ in_steps step count start) }
 {
     for k in 0..count {
-        let gone = capped(k.saturating_mul(step));
-        places.push(capped(start.saturating_add(gone)))?;
+        let gone = capped_size(k.saturating_mul(step));
+        places.push(capped_size(start.saturating_add(gone)))?;
     }
     Ok(())
 }
@@ -74,7 +74,7 @@ pub(crate) fn filled_starts(
 }
 
 /// Where a component begins in structures that begin at these places.
-pub(crate) fn begun(
+pub(crate) fn component_starts(
     alloc: Global,
     at: u64,
     cell: &Cell,
@@ -86,7 +86,7 @@ pub(crate) fn begun(
     let first = up(at, alignment(cell));
     let mut places = Vec::with_capacity(alloc, starts.len())?;
     for start in starts {
-        places.push(capped(start.saturating_add(first)))?;
+        places.push(capped_size(start.saturating_add(first)))?;
     }
     Ok(places)
 }

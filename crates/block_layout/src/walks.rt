@@ -43,7 +43,7 @@ use crate::blocks::BlockLayout;
 use crate::cells::{Cell, Element};
 use crate::layouts::Layout;
 use crate::members::Member;
-use crate::sizes::{array_bits, capped};
+use crate::sizes::{array_bits, capped_size};
 use stl_ast::{Bounds, PathStep};
 
 /// A component, or an element of an array in it: the block that declares it, whether in VAR_TEMP,
@@ -82,7 +82,13 @@ pub(crate) fn layout_at(layouts: &[BlockLayout], block: usize, temporary: bool) 
 }
 
 /// The component at a place of a block.
-fn entered(layout: &Layout, block: usize, temporary: bool, place: usize, offset: u64) -> PathEnd
+fn path_end_at_cell(
+    layout: &Layout,
+    block: usize,
+    temporary: bool,
+    place: usize,
+    offset: u64,
+) -> PathEnd
     requires { offset ≤ largest_size }
     ensures value { result
         ≡ path_end_at_cell block temporary place offset (slice_get layout.now place) }
@@ -123,12 +129,12 @@ fn found_at(
 {
     match found {
         None => PathEnd::Unknown,
-        Some(member) => entered(
+        Some(member) => path_end_at_cell(
             layout,
             block,
             temporary,
             first + member.place,
-            capped(offset + capped(member.offset)),
+            capped_size(offset + capped_size(member.offset)),
         ),
     }
 }
@@ -196,7 +202,7 @@ fn named_in(
 
 /// Where a name leads from a component.
 #[tactic(auto, unfolding(crate::specs::Paths::path_end_by_name))]
-fn named(layouts: &[BlockLayout], component: ComponentAt, name: &[u8]) -> PathEnd
+fn path_end_by_name(layouts: &[BlockLayout], component: ComponentAt, name: &[u8]) -> PathEnd
     requires offset { component.offset ≤ largest_size }
     requires sound { IsSoundAt layouts.now component }
     ensures value { result ≡ path_end_by_name layouts.now component name.now }
@@ -265,14 +271,14 @@ fn indexed_in(layout: &Layout, component: ComponentAt, at: i32) -> PathEnd
             temporary: component.temporary,
             place: component.place,
             depth: component.depth + 1,
-            offset: capped(component.offset + capped(gone)),
+            offset: capped_size(component.offset + capped_size(gone)),
         },
     }
 }
 
 /// Where an index leads from a component.
 #[tactic(auto, unfolding(crate::specs::Paths::path_end_by_index))]
-fn indexed(layouts: &[BlockLayout], component: ComponentAt, at: i32) -> PathEnd
+fn path_end_by_index(layouts: &[BlockLayout], component: ComponentAt, at: i32) -> PathEnd
     requires { component.offset ≤ largest_size }
     ensures value { result ≡ path_end_by_index layouts.now component at }
     ensures near { OffsetIsNear result }
@@ -292,8 +298,8 @@ pub(crate) fn step(layouts: &[BlockLayout], component: ComponentAt, step: &PathS
     ensures near { OffsetIsNear result }
 {
     match step {
-        PathStep::Named { name } => named(layouts, component, name.as_bytes()),
-        PathStep::Index { at } => indexed(layouts, component, *at),
+        PathStep::Named { name } => path_end_by_name(layouts, component, name.as_bytes()),
+        PathStep::Index { at } => path_end_by_index(layouts, component, *at),
     }
 }
 

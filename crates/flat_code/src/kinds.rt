@@ -9,7 +9,7 @@ use plc_base::Flag;
 pub const TIMER_KIND: u8 = 1;
 
 /// The kind of counters in the operand of a timer or counter.
-pub(crate) const COUNTER_KIND: u8 = 2;
+pub const COUNTER_KIND: u8 = 2;
 
 /// The number of address register 1 in a register-indirect operand.
 pub const AR1_NUMBER: u8 = 1;

@@ -29,8 +29,9 @@ pub use image_fields::{
     Field, OpenBracket, ParameterRecord, SECTION_IN, SECTION_IN_OUT, SECTION_OUT,
 };
 pub use kinds::{
-    AR1_NUMBER, CONDITIONS, DB_REGISTER_NUMBER, DI_REGISTER_NUMBER, FUNCTION, FUNCTION_BLOCK,
-    JUMPS, JumpOperation, SYSTEM_FUNCTION, TIMER_KIND, condition_of, flag_of, jump_of,
+    AR1_NUMBER, CONDITIONS, COUNTER_KIND, DB_REGISTER_NUMBER, DI_REGISTER_NUMBER, FUNCTION,
+    FUNCTION_BLOCK, JUMPS, JumpOperation, SYSTEM_FUNCTION, TIMER_KIND, condition_of, flag_of,
+    jump_of,
 };
 pub use names::{NameEntry, Names, ends_blank, is_name_before, is_upper_case, order_of};
 pub use operands::{Operand, Passed};

@@ -47,8 +47,8 @@ use Rattle.block_layout.specs.declared.walks.PathEnd.TheVariants as path_end
 use Rattle.stl_types.specs.Addresses.{address_in_block}
 use Rattle.stl_types.specs.Bodies.{first_context}
 use Rattle.stl_types.specs.Context.{Context, data_number, data_place, in_function}
-use Rattle.stl_types.specs.Resolution.{resolution_of_call, resolution_of_address, instance_number, resolution_of_opened_block, resolution_of_path, resolution_of, resolution_of_symbol, target_view, whole_called_block}
-use Rattle.stl_types.specs.Resolved.{resolved_operand, resolved_view}
+use Rattle.stl_types.specs.Resolution.{resolution_of_call, resolution_of_address, instance_number, resolution_of_opened_block, resolution_of_path, resolution_of, resolution_of_symbol, resolved_target, whole_called_block}
+use Rattle.stl_types.specs.Resolved.{resolved_operand, operand_if_resolved}
 use Rattle.stl_types.specs.Variables.{composite_operand, data_at, data_path, data_variable, data_at_path_end, date_or_composite, variable_in_area, is_temporary_variable, own_at, own_elementary, own_variable, own_at_path_end, parameter_resolution, parameter_at, parameter_index}
 use Rattle.stl_types.specs.declared.views.Register.TheVariants as register
 use Rattle.stl_types.specs.declared.views.Resolution.{Resolution}
@@ -59,7 +59,7 @@ use Rattle.stl_types.specs.declared.views.ResolvedOperand.TheVariants as view
 use Rattle.stl_codegen.specs.Compiled.{SourceInstruction, StatedBlock, operand_with_target, op_with_target, compiled_block, offset_of_statement, ops_in, placed_ops}
 use Rattle.stl_codegen.specs.Emitted.{call_op, ops_of, pass_ops}
 use Rattle.stl_codegen.specs.Generated.{code_block, code_block_of, code_blocks_of, each_block, stated_from, statements_of}
-use Rattle.stl_codegen.specs.Instruction.{call_instr, end_instr, instr_by, instruction, jump_instr, resolved_instr, target_of, view_instr}
+use Rattle.stl_codegen.specs.Instruction.{call_instr, end_instr, instr_by, instruction, jump_instr, resolved_instr, target_of, operand_instr}
 use Rattle.stl_codegen.specs.Operations.{call_operation_of, end_operation_of, jump_operation_of}
 use Rattle.stl_codegen.specs.Operands.{flat_operand_of}
 use Rattle.stl_codegen.specs.Order.{is_code_before}
@@ -127,7 +127,7 @@ data_short c name steps = by (data_number c name) (data_place c name) where
   by (Some n) None = tt
   by (Some n) (Some block) = data_walk_short c n (path_end_in_data_block c.layouts block steps)
 
-target_short : (t : Target) → IsShort (target_view t)
+target_short : (t : Target) → IsShort (resolved_target t)
 target_short (target.Variable place w) = tt
 target_short (target.Timer n) = tt
 target_short (target.Counter n) = tt
@@ -198,7 +198,7 @@ call_written : (c : Context) (s : Statement) (how : CallOperation) (v : Resolved
 call_written c s how (view.Called id instance) = tt
 call_written c s how _ = tt
 
-view_written : (c : Context) (s : Statement) (v : ResolvedOperand) (how : Option CallOperation) → IsShort v → IsWrittenInstr (view_instr c s v how)
+view_written : (c : Context) (s : Statement) (v : ResolvedOperand) (how : Option CallOperation) → IsShort v → IsWrittenInstr (operand_instr c s v how)
 view_written c s v None h = end_written s v (end_operation_of s.code) h
 view_written c s v (Some how) h = call_written c s how v
 
@@ -209,14 +209,14 @@ jump_written _ n to = tt
 abbrev IsShortOrNone : Option ResolvedOperand → Type 0
 IsShortOrNone o = MatchOption o (Unit {0}) IsShort
 
-view_short : (r : Resolution) → SeenShort r → IsShortOrNone (resolved_view r)
+view_short : (r : Resolution) → SeenShort r → IsShortOrNone (operand_if_resolved r)
 view_short (Resolved v) h = h
 view_short resolution.Unknown h = tt
 view_short _ h = tt
 
 resolved_short : (c : Context) (s : Statement) → IsOperand s.operand → IsShortOrNone (resolved_operand c s)
 unfolding resolved_operand
-resolved_short c s is = either_way IsShortOrNone _ (resolved_view (resolution_of c s.operand)) None (view_short (resolution_of c s.operand) (seen_short c s.operand is)) tt
+resolved_short c s is = either_way IsShortOrNone _ (operand_if_resolved (resolution_of c s.operand)) None (view_short (resolution_of c s.operand) (seen_short c s.operand is)) tt
 
 resolved_written : (c : Context) (s : Statement) (o : Option ResolvedOperand) → IsShortOrNone o → IsWrittenInstr (resolved_instr c s o)
 resolved_written c s None h = tt

@@ -34,7 +34,7 @@ use Rattle.stl_types.specs.declared.views.ResolvedOperand.TheVariants as view
 use Rattle.stl_types.specs.declared.views.ResolvedOperand.{ResolvedOperand}
 use Rattle.stl_codegen.specs.Compiled.{SourceInstruction, StatedBlock, compiled_block}
 use Rattle.stl_codegen.specs.Generated.{code_block, code_block_of, code_blocks_of, each_block, return_statement, stated_from, statements_of}
-use Rattle.stl_codegen.specs.Instruction.{call_instr, count_of_statement, end_instr, instr_by, instruction, jump_instr, resolved_instr, target_in, target_of, view_instr}
+use Rattle.stl_codegen.specs.Instruction.{call_instr, count_of_statement, end_instr, instr_by, instruction, jump_instr, resolved_instr, target_in, target_of, operand_instr}
 use Rattle.stl_codegen.specs.Operands.{flat_operand_of}
 use Rattle.stl_codegen.specs.Operations.{call_operation_of, end_operation_of, jump_operation_of}
 use Rattle.stl_codegen.specs.Order.{is_code_before}
@@ -114,7 +114,7 @@ call_free : (n : ℕ) (c : Context) (s : Statement) (how : CallOperation) (v : R
 call_free n c s how (view.Called id instance) = refl
 call_free n c s how _ = refl
 
-view_free : (n : ℕ) (c : Context) (s : Statement) (v : ResolvedOperand) (how : Option CallOperation) → jumps_to n (view_instr c s v how) ≡ false
+view_free : (n : ℕ) (c : Context) (s : Statement) (v : ResolvedOperand) (how : Option CallOperation) → jumps_to n (operand_instr c s v how) ≡ false
 view_free n c s v None = end_free n s v (end_operation_of s.code)
 view_free n c s v (Some how) = call_free n c s how v
 

@@ -37,11 +37,11 @@ use Rattle.stl_types.specs.declared.views.ResolvedOperand.{ResolvedOperand}
 use Rattle.stl_codegen.specs.Compiled.{SourceInstruction, StatedBlock, operand_with_target, compiled_block}
 use Rattle.stl_codegen.specs.Emitted.{pass_ops}
 use Rattle.stl_codegen.specs.Generated.{code_block, code_block_of, code_blocks_of, each_block, return_statement, stated_from, statements_of}
-use Rattle.stl_codegen.specs.Instruction.{source_block_at, call_instr, end_instr, in_parameter_order, instr_by, instruction, jump_instr, passings_to, resolved_instr, target_of, view_instr}
+use Rattle.stl_codegen.specs.Instruction.{source_block_at, call_instr, end_instr, in_parameter_order, instr_by, instruction, jump_instr, passings_to, resolved_instr, target_of, operand_instr}
 use Rattle.stl_codegen.specs.Operands.{is_db, is_in_named_block, block_opened_by_operand, flat_operand_of}
 use Rattle.stl_codegen.specs.Operations.{call_operation_of, end_operation_of, jump_operation_of}
 use Rattle.stl_codegen.specs.Order.{is_code_before}
-use Rattle.stl_codegen.specs.Passed.{passed_actual, passed_place, passed_resolution, passed_view, passings_from, actual_of_formal, with_index}
+use Rattle.stl_codegen.specs.Passed.{passed_actual, passed_place, passed_resolution, passed_by_operand, passings_from, actual_of_formal, with_index}
 use Rattle.stl_list.specs.Runs.{runs}
 use Rattle.listing_laws.proofs.BlockLemmas.{all_sorted}
 use Rattle.listing_laws.proofs.NameLemmas.{either_way}
@@ -85,7 +85,7 @@ OpensInstr (Does use_db w o) = ActsInOpened use_db o
 OpensInstr (Calls how block instance passings) = ArePassedIn passings
 OpensInstr _ = Unit {0}
 
-indexed_in : (index : ℕ) (o : Operand) (v : ResolvedOperand) → ArePassedIn (with_index index (passed_view o v))
+indexed_in : (index : ℕ) (o : Operand) (v : ResolvedOperand) → ArePassedIn (with_index index (passed_by_operand o v))
 indexed_in index o (view.Direct place width side declared) = (passed_in place width, tt)
 indexed_in index o (view.Parameter own section declared) = (tt, tt)
 indexed_in index o view.Constant = (tt, tt)
@@ -116,7 +116,7 @@ end_opens : (s : Statement) (v : ResolvedOperand) (how : Option EndOperation) �
 end_opens s v None = view_acts s.operand v
 end_opens s v (Some how) = tt
 
-view_opens : (c : Context) (s : Statement) (v : ResolvedOperand) (how : Option CallOperation) → OpensInstr (view_instr c s v how)
+view_opens : (c : Context) (s : Statement) (v : ResolvedOperand) (how : Option CallOperation) → OpensInstr (operand_instr c s v how)
 view_opens c s v None = end_opens s v (end_operation_of s.code)
 view_opens c s v (Some how) = call_opens c s how v
 

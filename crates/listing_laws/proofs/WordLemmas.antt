@@ -31,7 +31,7 @@ use Rattle.stl_types.specs.declared.views.ResolvedOperand.{ResolvedOperand}
 use Rattle.stl_types.specs.declared.views.ResolvedOperand.TheVariants as view
 use Rattle.stl_codegen.specs.Compiled.{SourceInstruction}
 use Rattle.stl_codegen.specs.Generated.{return_statement, stated_from, statements_of}
-use Rattle.stl_codegen.specs.Instruction.{call_instr, end_instr, filler_instruction, instr_by, instruction, jump_instr, resolved_instr, target_of, view_instr}
+use Rattle.stl_codegen.specs.Instruction.{call_instr, end_instr, filler_instruction, instr_by, instruction, jump_instr, resolved_instr, target_of, operand_instr}
 use Rattle.stl_codegen.specs.Operands.{numbered_operand, block_opened_by_operand, flat_operand_of, register_operand}
 use Rattle.stl_codegen.specs.Operations.{add_operation, call_operation_of, end_operation_of, jump_operation_of, load_operation, load_pointer_operation, operation_for, or_operation, store_pointer_operation, transfer_operation}
 use Rattle.stl_list.specs.Mnemonics.{jump_word, word_by, word_of}
@@ -335,7 +335,7 @@ call_has_word c s how (view.Called id instance) = call_has how
 call_has_word c s how _ = filler_has
 
 called_has : (c : Context) (s : Statement) (v : ResolvedOperand) (found : Option CallOperation) → is_empty_statement s.code ≡ false → jump_operation_of s.code ≡ None → call_operation_of s.code ≡ found
-    → HasWord (view_instr c s v found)
+    → HasWord (operand_instr c s v found)
 called_has c s v None some jumps e = ended_has s v (end_operation_of s.code) some jumps e refl
 called_has c s v (Some how) some jumps e = call_has_word c s how v
 

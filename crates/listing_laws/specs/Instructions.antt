@@ -13,7 +13,7 @@ use Rattle.stl_ast.specs.declared.operands.Operand.{Operand}
 use Rattle.stl_ast.specs.declared.operands.Operand.TheVariants as operand
 use Rattle.stl_ast.specs.declared.statements.Statement.{Statement}
 use Rattle.stl_symbols.specs.Symbol.{IsSymbolTarget, Symbol, symbol_named}
-use Rattle.stl_types.specs.Addresses.{area_left}
+use Rattle.stl_types.specs.Addresses.{area_of_pointer}
 use Rattle.stl_types.specs.Context.{Context, data_number}
 use Rattle.stl_types.specs.Operands.{statement_rule}
 use Rattle.stl_types.specs.Resolved.{resolved_operand}
@@ -46,7 +46,7 @@ pub record HasAgain (c listed : Context) (formals : List Formal) : Type 0 where
 -- an operand that is a constant has its bits, and one that is a pointer doesn't lead to peripherals
 abbrev pub IsCodedOperand : Operand → Type 0
 IsCodedOperand (operand.Constant value) = IsConstantCoded value
-IsCodedOperand (operand.Pointer a byte bit) = area_left a ≡ Some area.P → ⊥
+IsCodedOperand (operand.Pointer a byte bit) = area_of_pointer a ≡ Some area.P → ⊥
 IsCodedOperand _ = Unit {0}
 
 -- an operand is one that a right source may have, with the symbols of its file

@@ -43,7 +43,7 @@ use stl_codegen::generate;
 use stl_lexer::lex;
 use stl_parser::parse;
 use stl_symbols::{Language, Symbols, read_symbols, read_symbols_german};
-use stl_types::{Checked, check};
+use stl_types::{CheckedSource, check};
 
 /// A source that breaks no rule on its symbols, tokens, clauses and layout.
 #[derive(Drop)]
@@ -169,7 +169,7 @@ fn laid_source(alloc: Global, source: &[u8], symbols: Symbols) -> Result<LaidSou
 }
 
 /// A source that is laid out, with its statements checked.
-fn checked_of<'a>(alloc: Global, laid: &'a LaidSource) -> Result<Checked<'a>, CompileFault>
+fn checked_of<'a>(alloc: Global, laid: &'a LaidSource) -> Result<CheckedSource<'a>, CompileFault>
     ensures tree { IfOk result (λ checked. checked ≡ laid.now.tree) }
     ensures sound { IfOk result (λ checked.
         least (statement_refusals laid.now.tree laid.now.symbols laid.now.layouts) ≡ None) }

@@ -24,7 +24,7 @@ use Rattle.block_layout.specs.declared.walks.PathEnd.{PathEnd}
 use Rattle.block_layout.specs.declared.walks.PathEnd.TheVariants as path_end
 use Rattle.stl_types.specs.Addresses.{address_in_block}
 use Rattle.stl_types.specs.Context.{Context, data_number, in_function}
-use Rattle.stl_types.specs.Resolution.{resolution_of_address, resolution_of_path, resolution_of_symbol, target_view}
+use Rattle.stl_types.specs.Resolution.{resolution_of_address, resolution_of_path, resolution_of_symbol, resolved_target}
 use Rattle.stl_types.specs.Variables.{composite_operand, data_at, data_path, data_at_path_end, date_or_composite, own_at, own_at_path_end, parameter_at, parameter_resolution, variable_in_area}
 use Rattle.stl_types.specs.declared.views.Resolution.{Resolution}
 use Rattle.stl_types.specs.declared.views.Resolution.TheVariants.{Resolved}
@@ -107,7 +107,7 @@ abbrev pub HasNumber : (ℕ → Type 0) → Target → Type 0
 HasNumber P (target.Variable place width) = P place.number
 HasNumber P _ = Unit {0}
 
-target_reached : (P : ℕ → Type 0) (t : Target) → HasNumber P t → IsReached P (Resolved (target_view t))
+target_reached : (P : ℕ → Type 0) (t : Target) → HasNumber P t → IsReached P (Resolved (resolved_target t))
 target_reached P (target.Variable place width) h = h
 target_reached P (target.Timer number) h = tt
 target_reached P _ h = tt

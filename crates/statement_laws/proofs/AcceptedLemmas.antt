@@ -39,7 +39,7 @@ use Rattle.stl_types.specs.declared.views.ResolvedOperand.{ResolvedOperand}
 use Rattle.stl_types.specs.declared.views.ResolvedOperand.TheVariants as resolved
 use Rattle.stl_codegen.specs.Instruction.{instruction}
 use Rattle.stl_codegen.specs.Operations.{call_operation_of, jump_operation_of}
-use Rattle.stl_codegen.specs.Passed.{passed_resolution, passed_view}
+use Rattle.stl_codegen.specs.Passed.{passed_resolution, passed_by_operand}
 use Rattle.flat_code.specs.declared.kinds.JumpOperation.{JumpOperation}
 use Rattle.flat_code.specs.declared.kinds.JumpOperation.TheVariants as jump
 use Rattle.flat_code.specs.declared.operands.Passed.{Passed}
@@ -202,7 +202,7 @@ label_named c body s h = (named.Label, ap (named_by c) h.is)
 -- ---- actual parameters
 
 -- what is passed is named
-passed_named : (o : Operand) (v : ResolvedOperand) (p : Passed) → passed_view o v ≡ Some p → has_no_name v ≡ false
+passed_named : (o : Operand) (v : ResolvedOperand) (p : Passed) → passed_by_operand o v ≡ Some p → has_no_name v ≡ false
 passed_named o (resolved.Direct place width side declared) p e = refl
 passed_named o (resolved.Parameter index section declared) p e = refl
 passed_named o resolved.Constant p e = refl
@@ -210,15 +210,15 @@ passed_named o _ p e = absurd cc
 
 -- it is no register
 passed_word : (c : Context) (name : List ℕ) (v : ResolvedOperand) (p : Passed)
-    → resolution_of c (operand.Other name) ≡ Resolved v → passed_view (operand.Other name) v ≡ Some p → ⊥
+    → resolution_of c (operand.Other name) ≡ Resolved v → passed_by_operand (operand.Other name) v ≡ Some p → ⊥
 unfolding resolution_of
-passed_word c name v p e h = none (ap (passed_view (operand.Other name)) (resolved_same _ v e) ∙ h)
+passed_word c name v p e h = none (ap (passed_by_operand (operand.Other name)) (resolved_same _ v e) ∙ h)
   where
     none : None ≡ Some p → ⊥
     none k = cc
 
 value_named : (c : Context) (o : Operand) (v : ResolvedOperand) (p : Passed) → HasElementaryParameters c
-    → stays_inside c o ≡ true → resolution_of c o ≡ Resolved v → passed_view o v ≡ Some p → IsNamed c o
+    → stays_inside c o ≡ true → resolution_of c o ≡ Resolved v → passed_by_operand o v ≡ Some p → IsNamed c o
 value_named c (operand.Called name db) v p plain inside e h =
     let called = call_named c name db v e in (named.Called called.id called.instance, called.names)
 value_named c (operand.Named (head.Local name) steps) v p plain inside e h =

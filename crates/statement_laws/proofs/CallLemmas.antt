@@ -48,9 +48,9 @@ use Rattle.stl_types.specs.declared.parameters.Formal.{Formal}
 use Rattle.stl_types.specs.declared.views.Register.TheVariants as register
 use Rattle.stl_types.specs.declared.views.ResolvedOperand.{ResolvedOperand}
 use Rattle.stl_types.specs.declared.views.ResolvedOperand.TheVariants as resolved
-use Rattle.stl_codegen.specs.Instruction.{source_block_at, call_instr, in_parameter_order, instr_by, instruction, passings_to, resolved_instr, return_last, view_instr}
+use Rattle.stl_codegen.specs.Instruction.{source_block_at, call_instr, in_parameter_order, instr_by, instruction, passings_to, resolved_instr, return_last, operand_instr}
 use Rattle.stl_codegen.specs.Operations.{call_operation_of, jump_operation_of}
-use Rattle.stl_codegen.specs.Passed.{passed_actual, passed_place, passed_resolution, passed_view, passings_from, with_index}
+use Rattle.stl_codegen.specs.Passed.{passed_actual, passed_place, passed_resolution, passed_by_operand, passings_from, with_index}
 use Rattle.machine.specs.Bindings as bindings
 use Rattle.machine.specs.Code.{Code, BlockHead}
 use Rattle.machine.specs.DataBlocks as data_blocks
@@ -191,7 +191,7 @@ passed_or other None = other
 passed_or other (Some x) = flat_passed x
 
 plain_passed : (o : Operand) (v : ResolvedOperand)
-    → passed_view o v ≡ passed_or (passed_view o v) (view_named None v)
+    → passed_by_operand o v ≡ passed_or (passed_by_operand o v) (view_named None v)
 plain_passed o (resolved.Direct place w side declared) =
     place_passed place.area place.number w place.byte place.bit
 plain_passed o (resolved.NumberBy numbered.Timer from byte) = refl
@@ -207,13 +207,13 @@ plain_passed o (resolved.Register register.Ar2) = refl
 plain_passed o _ = refl
 
 constant_passed : (value : Literal) (v : ResolvedOperand)
-    → passed_view (operand.Constant value) v
-    ≡ passed_or (passed_view (operand.Constant value) v) (view_named (Some value) v)
+    → passed_by_operand (operand.Constant value) v
+    ≡ passed_or (passed_by_operand (operand.Constant value) v) (view_named (Some value) v)
 constant_passed value resolved.Constant = ap (λ b. Some (passed.Literal b)) (bits_same value)
 constant_passed value _ = refl
 
 view_passed : (o : Operand) (v : ResolvedOperand)
-    → passed_view o v ≡ passed_or (passed_view o v) (view_named (about o) v)
+    → passed_by_operand o v ≡ passed_or (passed_by_operand o v) (view_named (about o) v)
 view_passed (operand.Constant value) v = constant_passed value v
 view_passed o v = plain_passed o v
 
@@ -222,7 +222,7 @@ actual_passed : (c : Context) (a : Actual) → (h : IsNamedActual c a)
     → passed_resolution a.value (resolution_of c a.value) ≡ flat_passed h.item
 actual_passed c a h =
     ap (passed_resolution a.value) h.resolves ∙ view_passed a.value h.resolved_value
-    ∙ ap (passed_or (passed_view a.value h.resolved_value)) (view_same c a.value h.resolved_value h.item h.resolves h.names)
+    ∙ ap (passed_or (passed_by_operand a.value h.resolved_value)) (view_same c a.value h.resolved_value h.item h.resolves h.names)
 
 -- ---- the parameters in their order
 
@@ -554,7 +554,7 @@ unfolding instruction
 calls_act c body n s v name db id instance callee is o e names known actuals program next a w =
     ap (λ i. instruction_step program i next a w)
     (ap (instr_by c body n s) same.no_jump ∙ ap (resolved_instr c s) e
-    ∙ ap (view_instr c s v) same.is ∙ ap (call_instr c s how) viewed
+    ∙ ap (operand_instr c s v) same.is ∙ ap (call_instr c s how) viewed
     ∙ ap (λ z. Calls how id instance (passings_to c s z)) (ap (callee_of c) o ∙ known))
     ∙ ap₂ (λ (made : Bool) (called : StatementStep). if made then called
     else Went (standing_at next (with_rlo_1 (own.registers_at_call a.running.regs)) a) w)

@@ -15,7 +15,7 @@ use Rattle.stl_types.specs.Addresses.{address_in_block}
 use Rattle.stl_types.specs.Context.{Context, data_number}
 use Rattle.stl_types.specs.Forms.{form_of}
 use Rattle.stl_types.specs.Operands.{rule_of_resolved_operand, takes_operand}
-use Rattle.stl_types.specs.Resolution.{resolution_of_opened_block, resolution_of, resolution_of_symbol, target_view}
+use Rattle.stl_types.specs.Resolution.{resolution_of_opened_block, resolution_of, resolution_of_symbol, resolved_target}
 use Rattle.stl_types.specs.declared.forms.OperandRule.{OperandRule}
 use Rattle.stl_types.specs.declared.forms.OperandRule.TheVariants as operand_rules
 use Rattle.stl_types.specs.declared.views.Resolution.TheVariants.{Resolved}
@@ -87,7 +87,7 @@ name_left c f (operand.Constant value) v r e = ap has_no_name (sym (resolved_sam
 name_left c f _ v r e = taken_named f v r
 
 target_there : (t : Target) (v : ResolvedOperand) → has_no_name v ≡ false
-    → Resolved (target_view t) ≡ Resolved v → IsSomeItem (target_named t)
+    → Resolved (resolved_target t) ≡ Resolved v → IsSomeItem (target_named t)
 target_there (target.Variable place width) v r e = (own.named_place place width, refl)
 target_there (target.Timer number) v r e = (named.Timer (named.Written number), refl)
 target_there (target.Counter number) v r e = (named.Counter (named.Written number), refl)

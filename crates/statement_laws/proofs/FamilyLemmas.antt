@@ -21,7 +21,7 @@ use Rattle.stl_types.specs.Context.{Context}
 use Rattle.stl_types.specs.Forms.{form_of}
 use Rattle.stl_types.specs.Resolved.{resolved_operand}
 use Rattle.stl_types.specs.declared.views.ResolvedOperand.{ResolvedOperand}
-use Rattle.stl_codegen.specs.Instruction.{end_instr, instr_by, instruction, resolved_instr, view_instr}
+use Rattle.stl_codegen.specs.Instruction.{end_instr, instr_by, instruction, resolved_instr, operand_instr}
 use Rattle.stl_codegen.specs.Operands as codegen
 use Rattle.stl_codegen.specs.Operations.{call_operation_of, end_operation_of, jump_operation_of, operation_for}
 use Rattle.machine.specs.DataBlocks as data_blocks
@@ -86,7 +86,7 @@ unfolding instruction
 acts c body n s v x e is h program next a w =
     ap (λ i. instruction_step program i next a w)
     (ap (instr_by c body n s) action_of.no_jump ∙ ap (resolved_instr c s) e
-    ∙ ap (view_instr c s v) action_of.no_call ∙ ap (end_instr s v) action_of.no_end)
+    ∙ ap (operand_instr c s v) action_of.no_call ∙ ap (end_instr s v) action_of.no_end)
     ∙ ap (λ r. continue_with r next a)
     (ap (λ k. effect.statement_effect k (operation_for s.code s.operand v) (codegen.flat_operand_of s.operand v) p)
     (opened_first (about s.operand) v x there)

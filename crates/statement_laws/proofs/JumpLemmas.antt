@@ -14,7 +14,7 @@ use Rattle.stl_ast.specs.declared.operands.Operand.{Operand}
 use Rattle.stl_ast.specs.declared.operands.Operand.TheVariants as operand
 use Rattle.stl_ast.specs.declared.statements.Statement.{Statement}
 use Rattle.stl_types.specs.Lists.{has_label}
-use Rattle.stl_codegen.specs.Instruction.{count_of_statement, end_instr, instr_by, instruction, jump_instr, numbers_from, resolved_instr, target_in, target_of, view_instr}
+use Rattle.stl_codegen.specs.Instruction.{count_of_statement, end_instr, instr_by, instruction, jump_instr, numbers_from, resolved_instr, target_in, target_of, operand_instr}
 use Rattle.stl_codegen.specs.Operations.{call_operation_of, end_operation_of, jump_operation_of}
 use Rattle.machine.specs.Jumps as machine
 use Rattle.machine.specs.Statement.{Went, is_return_made, instruction_step, return_made}
@@ -168,7 +168,7 @@ unfolding instruction
 ends_act c body n s v is e program next a w =
     ap (λ i. instruction_step program i next a w)
     (ap (instr_by c body n s) same.no_jump ∙ ap (resolved_instr c s) e
-    ∙ ap (view_instr c s v) same.no_call ∙ ap (end_instr s v) same.is)
+    ∙ ap (operand_instr c s v) same.no_call ∙ ap (end_instr s v) same.is)
     ∙ ap (λ (b : Bool). if b then return_made (program.head a.running.frame.block) a w
     else Went (own.standing_at next (own.with_rlo_1 a.running.regs) a) w)
     (same.ended a.running.regs.status.rlo)

@@ -29,13 +29,13 @@ use Rattle.block_layout.specs.Paths.{whole_at}
 use Rattle.block_layout.specs.declared.blocks.BlockLayout.{BlockLayout}
 use Rattle.block_layout.specs.Fits.{bits_of, number_from, or_0, twos_complement_bits}
 use Rattle.block_layout.specs.Offsets.{width_of}
-use Rattle.stl_types.specs.Addresses.{resolved_address, address_in_block, area_left, area_for_letters}
+use Rattle.stl_types.specs.Addresses.{resolved_address, address_in_block, area_of_pointer, area_for_letters}
 use Rattle.stl_types.specs.Constants.{takes_constant}
 use Rattle.stl_types.specs.Context.{Context, data_number, number_of_block}
 use Rattle.stl_types.specs.Forms.{form_of}
 use Rattle.stl_types.specs.Operands.{operand_rule, rule_of_resolved_operand, rule_of_resolution, statement_rule}
-use Rattle.stl_types.specs.Resolution.{resolution_of_opened_block, resolution_of, resolution_of_symbol, target_view}
-use Rattle.stl_types.specs.Resolved.{resolved_operand, resolved_view}
+use Rattle.stl_types.specs.Resolution.{resolution_of_opened_block, resolution_of, resolution_of_symbol, resolved_target}
+use Rattle.stl_types.specs.Resolved.{resolved_operand, operand_if_resolved}
 use Rattle.stl_types.specs.declared.forms.OperandRule.{OperandRule}
 use Rattle.stl_types.specs.declared.views.Register.{Register}
 use Rattle.stl_types.specs.declared.views.Register.TheVariants as register
@@ -229,7 +229,7 @@ rule_same c f (operand.Constant value) v e = refl
 rule_same c f o v e = ap (rule_of_resolution f) e
 
 resolution_same : (r : Option ℕ) (n : Resolution) (v : ResolvedOperand)
-    → (if is_none r then resolved_view n else None) ≡ Some v → (r ≡ None) × (n ≡ Resolved v)
+    → (if is_none r then operand_if_resolved n else None) ≡ Some v → (r ≡ None) × (n ≡ Resolved v)
 resolution_same None (Resolved w) v e = (refl, ap Resolved (some_same e))
   where
     some_same : Some w ≡ Some v → w ≡ v
@@ -267,7 +267,7 @@ letters_same letters.L = refl
 letters_same letters.Pi = refl
 letters_same letters.Pq = refl
 
-pub left_same : (a : Option Letters) → area_left a ≡ option_map own.area_by_letters a
+pub left_same : (a : Option Letters) → area_of_pointer a ≡ option_map own.area_by_letters a
 left_same None = refl
 left_same (Some a) = ap Some (letters_same a)
 
@@ -283,7 +283,7 @@ direct_named letters.Pi w byte bit = refl
 direct_named letters.Pq w byte bit = refl
 
 pub pointer_same : (a : Option Letters) (byte bit : ℕ)
-    → codegen.pointer_bits (area_left a) byte bit ≡ pointer_constant_bits a byte bit
+    → codegen.pointer_bits (area_of_pointer a) byte bit ≡ pointer_constant_bits a byte bit
 pointer_same None byte bit = refl
 pointer_same (Some letters.I) byte bit = refl
 pointer_same (Some letters.Q) byte bit = refl
@@ -422,7 +422,7 @@ register_same false false false false false true x e = e
 register_same false false false false false false x e = absurd cc
 
 target_same : (t : Target) (v : ResolvedOperand) (x : NamedItem)
-    → Resolved (target_view t) ≡ Resolved v → target_named t ≡ Some x → view_named None v ≡ Some x
+    → Resolved (resolved_target t) ≡ Resolved v → target_named t ≡ Some x → view_named None v ≡ Some x
 target_same (target.Variable place width) v x e n =
     carry None (resolved.Direct place width side.Both None) v (named_place place width) x refl e n
 target_same (target.Timer number) v x e n =

@@ -31,7 +31,7 @@ use Rattle.block_layout.specs.declared.walks.ComponentAt.{ComponentAt}
 use Rattle.block_layout.specs.declared.walks.PathEnd.{PathEnd}
 use Rattle.block_layout.specs.declared.walks.PathEnd.TheVariants as path_end
 use Rattle.block_layout.specs.Paths as paths
-use Rattle.stl_types.specs.Addresses.{resolved_address, area_left, area_for_letters}
+use Rattle.stl_types.specs.Addresses.{resolved_address, area_of_pointer, area_for_letters}
 use Rattle.stl_types.specs.Context.{Context, data_number, in_function, is_of_function, whole_place}
 use Rattle.stl_types.specs.Resolution.{resolution_of_call, id_at, register_for_word, resolution_of, whole_called_block}
 use Rattle.stl_types.specs.Variables.{behind_others, data_at, data_path, data_variable, data_at_path_end, variable_in_area, own_at, own_elementary, own_variable, own_at_path_end, parameter_at}
@@ -438,11 +438,11 @@ view_same c (operand.NumberBy what from byte) v x e n =
     (numbered_item what (named.InWord (own.area_by_letters from) byte)) x
     (ap Some (number_in_same what from byte)) e n
 view_same c (operand.ByRegister a w r count) v x e n =
-    carry None (resolved.ByRegister (area_left a) w r count) v
+    carry None (resolved.ByRegister (area_of_pointer a) w r count) v
     (named.Place (named.ByRegister (option_map own.area_by_letters a) w r count)) x
     (ap (λ a. Some (named.Place (named.ByRegister a w r count))) (left_same a)) e n
 view_same c (operand.Pointer a byte bit) v x e n =
-    carry None (resolved.Pointer (area_left a) byte bit) v (named.Pointer (pointer_constant_bits a byte bit)) x
+    carry None (resolved.Pointer (area_of_pointer a) byte bit) v (named.Pointer (pointer_constant_bits a byte bit)) x
     (ap (λ b. Some (named.Pointer b)) (pointer_same a byte bit)) e n
 view_same c (operand.Constant value) v x e n =
     carry (Some value) resolved.Constant v (named.Constant value) x refl e n

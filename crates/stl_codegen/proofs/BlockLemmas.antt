@@ -115,7 +115,7 @@ far_misfits c b ops lines is none fits =
 
 -- ---- blocks one behind the other
 
--- one block more
+-- what comes of the blocks of a source, with one block more
 pub each_turn : {A : Type 0} (of : Context → Block → BlockLayout → List A) (c : Context) (bs : List Block) (ls : List BlockLayout) (i : ℕ) (b : Block) (l : BlockLayout) →
     i < length bs → i < length ls → b ≡ get_or bs i b → l ≡ get_or ls i l →
     each_block of (record c { block = i }) (drop i bs) (drop i ls) ≡ of (record c { block = i }) b l ++ each_block of (record c { block = i + 1 }) (drop (i + 1) bs) (drop (i + 1) ls)
@@ -126,7 +126,7 @@ each_turn {A = A} of c bs ls i b l in_bs in_ls is_b is_l =
     ∙ ap (λ (z : List BlockLayout). each_block of (record c { block = i }) (b ∷ drop (i + 1) bs) z) split_ls
     ∙ ap (λ (k : ℕ). of (record c { block = i }) b l ++ each_block of (record c { block = k }) (drop (i + 1) bs) (drop (i + 1) ls)) (sym (add-one i))
 
--- the same of code blocks as ops
+-- the code blocks of a source as ops, with one block more
 pub each_compiled_turn : (of : Context → Block → BlockLayout → List StatedBlock) (c : Context) (bs : List Block) (ls : List BlockLayout) (i : ℕ) (b : Block) (l : BlockLayout) →
     i < length bs → i < length ls → b ≡ get_or bs i b → l ≡ get_or ls i l →
     map compiled_block (each_block of (record c { block = i }) (drop i bs) (drop i ls))
@@ -135,7 +135,7 @@ each_compiled_turn of c bs ls i b l in_bs in_ls is_b is_l =
     ap (λ (z : List StatedBlock). map compiled_block z) (each_turn of c bs ls i b l in_bs in_ls is_b is_l)
     ∙ map-append compiled_block (of (record c { block = i }) b l) (each_block of (record c { block = i + 1 }) (drop (i + 1) bs) (drop (i + 1) ls))
 
--- the same of what goes by the layout alone
+-- the list from a place within it on begins with an item
 split : {A : Type 0} (xs : List A) (i : ℕ) → i < length xs → (y : A) × (drop i xs ≡ y ∷ drop (i + 1) xs)
 split [] i within = absurd (omega arith)
 split (x ∷ xs) i within = (get_or (x ∷ xs) i x, drop_more (x ∷ xs) i x within)

@@ -73,8 +73,8 @@ rises_sorted lt o [] = tt
 rises_sorted lt o (x ∷ xs) = rises_inserted lt o x (sorted_list lt xs) (rises_sorted lt o xs)
 
 -- two that aren't both alike with a third may change places
-exchanged : {A : Type 0} (p : A → Bool) (x y : A) (zs : List A) → (p x ≡ true → p y ≡ true → ⊥) → filter p (y ∷ x ∷ zs) ≡ filter p (x ∷ y ∷ zs)
-exchanged p x y zs h = by_tests (p x) (p y) refl refl
+filter_exchanged : {A : Type 0} (p : A → Bool) (x y : A) (zs : List A) → (p x ≡ true → p y ≡ true → ⊥) → filter p (y ∷ x ∷ zs) ≡ filter p (x ∷ y ∷ zs)
+filter_exchanged p x y zs h = by_tests (p x) (p y) refl refl
   where
     by_tests : (a b : Bool) → p x ≡ a → p y ≡ b → filter p (y ∷ x ∷ zs) ≡ filter p (x ∷ y ∷ zs)
     by_tests true true e f = absurd (h e f)
@@ -100,7 +100,7 @@ kept_inserted {A = A} lt o z x (y ∷ ys) = by_test (lt y x) refl (kept_inserted
     by_test : (b : Bool) → lt y x ≡ b → filter (ties lt z) (sorted_insertion lt x ys) ≡ filter (ties lt z) (x ∷ ys) → filter (ties lt z) (cond b (y ∷ sorted_insertion lt x ys) (x ∷ y ∷ ys)) ≡ filter (ties lt z) (x ∷ y ∷ ys)
     by_test true e more =
         ap (λ (r : List A). cond (ties lt z y) (y ∷ r) r) more
-        ∙ exchanged (ties lt z) x y ys (not_both lt o z x y e)
+        ∙ filter_exchanged (ties lt z) x y ys (not_both lt o z x y e)
     by_test false e more = refl
 
 kept_sorted : {A : Type 0} (lt : A → A → Bool) → IsStrictWeakOrder lt → (z : A) (xs : List A) → filter (ties lt z) (sorted_list lt xs) ≡ filter (ties lt z) xs

@@ -35,8 +35,8 @@ pub passings_end : (c : Context) (actuals : List Actual) (formals : List Formal)
 passings_end c actuals formals i over = ap (λ (l : List Formal). pass_ops (passings_from c actuals i l)) (drop_of_length-le formals over)
 
 -- two names in either order
-swapped : (xs ys : List ℕ) → bytes_eq xs ys ≡ bytes_eq ys xs
-swapped xs ys = by (bytes_eq xs ys) (bytes_eq ys xs) (bytes_eq-Decides xs ys) (bytes_eq-Decides ys xs)
+bytes_eq_swapped : (xs ys : List ℕ) → bytes_eq xs ys ≡ bytes_eq ys xs
+bytes_eq_swapped xs ys = by (bytes_eq xs ys) (bytes_eq ys xs) (bytes_eq-Decides xs ys) (bytes_eq-Decides ys xs)
   where
     by : (a b : Bool) → Decides a (xs ≡ ys) → Decides b (ys ≡ xs) → a ≡ b
     by true true h k = refl
@@ -45,4 +45,4 @@ swapped xs ys = by (bytes_eq xs ys) (bytes_eq ys xs) (bytes_eq-Decides xs ys) (b
     by false false h k = refl
 
 pub same_by_order : (name upper : List ℕ) → is_eq (slice_cmp nat_cmp upper (upper_case_name name)) ≡ bytes_eq (upper_case_name name) upper
-same_by_order name upper = is_eq-slice_cmp upper (upper_case_name name) ∙ swapped upper (upper_case_name name)
+same_by_order name upper = is_eq-slice_cmp upper (upper_case_name name) ∙ bytes_eq_swapped upper (upper_case_name name)

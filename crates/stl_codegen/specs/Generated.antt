@@ -9,6 +9,7 @@ use Rattle.plc_base.specs.declared.places.Width.{Width}
 use Rattle.flat_code.specs.Instr.{Returns}
 use Rattle.plc_base.specs.Folding.{upper_case_name}
 use Rattle.flat_code.specs.Programs.{DataBlock, NameEntry, Program}
+use Rattle.flat_code.specs.Records.{section_in, section_out, section_in_out}
 use Rattle.flat_code.specs.declared.programs.Param.{Param}
 use Rattle.flat_code.specs.declared.operations.EndOperation.TheVariants as ends
 use Rattle.stl_ast.specs.Statements.{is_empty_statement}
@@ -59,11 +60,11 @@ statements_of c b = stated_from c b.body 0 b.body ++ return_statement b ∷ []
 
 -- ---- parameters
 
--- the number of a parameter's section in an image: 1 IN, 2 OUT, 3 IN_OUT
+-- the number of a parameter's section in an image: IN, OUT or IN_OUT
 abbrev pub section_number : PartKind → ℕ
-section_number part.Input = 1
-section_number part.Output = 2
-section_number _ = 3
+section_number part.Input = section_in
+section_number part.Output = section_out
+section_number _ = section_in_out
 
 -- a parameter by its section, its width, and its place so many bits from the start
 abbrev pub param_at_bits : (section : ℕ) → Width → (bits : ℕ) → Param

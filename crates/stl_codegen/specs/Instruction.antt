@@ -21,7 +21,7 @@ use Rattle.stl_types.specs.Lists.{has_label}
 use Rattle.stl_types.specs.Parameters.{Callee, callee_of}
 use Rattle.stl_types.specs.Resolved.{resolved_operand}
 use Rattle.stl_types.specs.declared.views.ResolvedOperand.{ResolvedOperand}
-use Rattle.stl_types.specs.declared.views.ResolvedOperand.TheVariants as view
+use Rattle.stl_types.specs.declared.views.ResolvedOperand.TheVariants as resolved
 use Rattle.stl_codegen.specs.Operands.{block_opened_by_operand, flat_operand_of}
 use Rattle.stl_codegen.specs.Passed.{passings_from}
 use Rattle.stl_codegen.specs.Operations.{jump_operation_of, call_operation_of, end_operation_of, operation_for}
@@ -82,7 +82,7 @@ filler_instruction = Does None operation.Nop (flat.Literal 0)
 
 -- the instruction of CALL, UC or CC, by the block that its operand names
 abbrev pub call_instr : Context → Statement → CallOperation → ResolvedOperand → Instr
-call_instr c s how (view.Called id instance) =
+call_instr c s how (resolved.Called id instance) =
     Calls how id instance (passings_to c s (callee_of c s.operand))
 call_instr c s how _ = filler_instruction
 
@@ -94,14 +94,14 @@ end_instr s v None =
 end_instr s v (Some how) = Returns how
 
 -- CALL, UC and CC call a block; every other instruction returns or goes on
-abbrev pub view_instr : Context → Statement → ResolvedOperand → Option CallOperation → Instr
-view_instr c s v None = end_instr s v (end_operation_of s.code)
-view_instr c s v (Some how) = call_instr c s how v
+abbrev pub operand_instr : Context → Statement → ResolvedOperand → Option CallOperation → Instr
+operand_instr c s v None = end_instr s v (end_operation_of s.code)
+operand_instr c s v (Some how) = call_instr c s how v
 
 -- the instruction by what its operand names; NOP 0 where the operand names nothing that it takes
 abbrev pub resolved_instr : Context → Statement → Option ResolvedOperand → Instr
 resolved_instr c s None = filler_instruction
-resolved_instr c s (Some v) = view_instr c s v (call_operation_of s.code)
+resolved_instr c s (Some v) = operand_instr c s v (call_operation_of s.code)
 
 -- a jump goes to the statement of its label; every other instruction acts on what its operand names
 abbrev pub instr_by : Context → List Statement → (n : ℕ) → Statement → Option JumpOperation → Instr

@@ -5,7 +5,7 @@ use Rattle.plc_base.specs.declared.places.Area.{Area}
 use Rattle.plc_base.specs.declared.places.Area.TheVariants as area
 use Rattle.plc_base.specs.declared.places.Place.{Place}
 use Rattle.plc_base.specs.declared.places.Width.{Width}
-use Rattle.flat_code.specs.Kinds.{condition_number}
+use Rattle.flat_code.specs.Kinds.{condition_number, timer_kind, counter_kind, db_register_number, di_register_number}
 use Rattle.flat_code.specs.declared.operands.Operand.{Operand as FlatOperand}
 use Rattle.flat_code.specs.declared.operands.Operand.TheVariants as flat
 use Rattle.stl_ast.specs.declared.literals.Literal.{Literal}
@@ -18,7 +18,7 @@ use Rattle.block_layout.specs.Offsets.{width_of}
 use Rattle.stl_types.specs.declared.views.Register.{Register}
 use Rattle.stl_types.specs.declared.views.Register.TheVariants as register
 use Rattle.stl_types.specs.declared.views.ResolvedOperand.{ResolvedOperand}
-use Rattle.stl_types.specs.declared.views.ResolvedOperand.TheVariants as view
+use Rattle.stl_types.specs.declared.views.ResolvedOperand.TheVariants as resolved
 
 -- the area of the DB register
 abbrev pub is_db : Area → Bool
@@ -35,7 +35,7 @@ opened_by_place place = if is_in_named_block place then Some place.number else N
 
 -- USEDB: the data block that a statement opens first, for a place in a named data block
 abbrev pub block_opened_by_operand : ResolvedOperand → Option ℕ
-block_opened_by_operand (view.Direct place width side declared) = opened_by_place place
+block_opened_by_operand (resolved.Direct place width side declared) = opened_by_place place
 block_opened_by_operand _ = None
 
 -- a fixed place by area, width, byte and bit; the number of a data block is no part of it
@@ -61,27 +61,28 @@ register_operand register.Dilg = flat.Literal 2
 register_operand register.Dino = flat.Literal 3
 register_operand _ = flat.Nothing
 
--- the operand of what has a number that memory gives: timers and counters are 1 and 2, and so are
--- the two registers of open data blocks
+-- the operand of what has a number that memory gives: a timer or a counter, or a data block that is
+-- opened in one of the two registers
 abbrev pub numbered_operand : Numbered → Area → (byte : ℕ) → FlatOperand
-numbered_operand numbered.Timer from byte = flat.NumberedBy 1 from byte
-numbered_operand numbered.Counter from byte = flat.NumberedBy 2 from byte
-numbered_operand numbered.Db from byte = flat.OpenBy 1 from byte
-numbered_operand numbered.Di from byte = flat.OpenBy 2 from byte
+numbered_operand numbered.Timer from byte = flat.NumberedBy timer_kind from byte
+numbered_operand numbered.Counter from byte = flat.NumberedBy counter_kind from byte
+numbered_operand numbered.Db from byte = flat.OpenBy db_register_number from byte
+numbered_operand numbered.Di from byte = flat.OpenBy di_register_number from byte
 
 -- the operand of an instruction that goes on; what names a block, a label or no elementary variable
 -- comes to no such instruction
 unfoldable pub flat_operand_of : Operand → ResolvedOperand → FlatOperand
-flat_operand_of o (view.Direct place width side declared) = direct_flat_operand place width
-flat_operand_of o (view.Parameter index section declared) = flat.Parameter index (width_of declared)
-flat_operand_of o (view.ByMemory a width from byte) = flat.ByMemory a width from byte
-flat_operand_of o (view.ByRegister a width r bits) = flat.ByRegister a width r bits
-flat_operand_of o (view.Timer number) = flat.Numbered 1 number
-flat_operand_of o (view.Counter number) = flat.Numbered 2 number
-flat_operand_of o (view.NumberBy what from byte) = numbered_operand what from byte
-flat_operand_of o view.Constant = flat.Literal (constant_bits o)
-flat_operand_of o (view.Pointer a byte bit) = flat.Literal (pointer_bits a byte bit)
-flat_operand_of o (view.OfStatus flag) = flat.OfStatus (condition_number flag)
-flat_operand_of o (view.Register which) = register_operand which
-flat_operand_of o (view.OpenBlock di number) = flat.OpenBlock (if di then 2 else 1) number
+flat_operand_of o (resolved.Direct place width side declared) = direct_flat_operand place width
+flat_operand_of o (resolved.Parameter index section declared) = flat.Parameter index (width_of declared)
+flat_operand_of o (resolved.ByMemory a width from byte) = flat.ByMemory a width from byte
+flat_operand_of o (resolved.ByRegister a width r bits) = flat.ByRegister a width r bits
+flat_operand_of o (resolved.Timer number) = flat.Numbered timer_kind number
+flat_operand_of o (resolved.Counter number) = flat.Numbered counter_kind number
+flat_operand_of o (resolved.NumberBy what from byte) = numbered_operand what from byte
+flat_operand_of o resolved.Constant = flat.Literal (constant_bits o)
+flat_operand_of o (resolved.Pointer a byte bit) = flat.Literal (pointer_bits a byte bit)
+flat_operand_of o (resolved.OfStatus flag) = flat.OfStatus (condition_number flag)
+flat_operand_of o (resolved.Register which) = register_operand which
+flat_operand_of o (resolved.OpenBlock di number) =
+    flat.OpenBlock (if di then di_register_number else db_register_number) number
 flat_operand_of o _ = flat.Nothing

@@ -10,7 +10,7 @@ use Rattle.flat_code.specs.declared.operations.EndOperation.{EndOperation}
 use Rattle.flat_code.specs.declared.operations.EndOperation.TheVariants as ends
 use Rattle.plc_base.specs.declared.Check.TheVariants as check
 use Rattle.flat_code.specs.declared.operations.Logic.TheVariants as logic
-use Rattle.flat_code.specs.declared.operations.AccuOperation.TheVariants as number
+use Rattle.flat_code.specs.declared.operations.AccuOperation.TheVariants as accu_operation
 use Rattle.flat_code.specs.declared.operations.PointerOperation.TheVariants as pointers
 use Rattle.flat_code.specs.declared.operations.RelayOperation.TheVariants as relay
 use Rattle.flat_code.specs.declared.operations.Shift.TheVariants as shifts
@@ -25,7 +25,7 @@ use Rattle.stl_ast.specs.declared.operands.Operand.TheVariants as operand
 use Rattle.stl_types.specs.declared.views.Register.{Register}
 use Rattle.stl_types.specs.declared.views.Register.TheVariants as register
 use Rattle.stl_types.specs.declared.views.ResolvedOperand.{ResolvedOperand}
-use Rattle.stl_types.specs.declared.views.ResolvedOperand.TheVariants as view
+use Rattle.stl_types.specs.declared.views.ResolvedOperand.TheVariants as resolved
 
 -- the operation of a jump (manual: logic control instructions); no other instruction is one
 abbrev pub jump_operation_of : Mnemonic → Option JumpOperation
@@ -67,29 +67,29 @@ end_operation_of _ = None
 
 -- the operation of O, by its operand; O without operand is AND before OR
 abbrev pub or_operation : ResolvedOperand → Operation
-or_operation view.Nothing = operation.OrBare
+or_operation resolved.Nothing = operation.OrBare
 or_operation _ = operation.Check check.O
 
 -- the operation of L, by its operand: the status word, the number or the length of an open data
 -- block, or any other one
 abbrev pub load_operation : ResolvedOperand → Operation
-load_operation (view.Register register.Stw) = operation.LoadStatus
-load_operation (view.Register which) = operation.LoadOpenBlock
+load_operation (resolved.Register register.Stw) = operation.LoadStatus
+load_operation (resolved.Register which) = operation.LoadOpenBlock
 load_operation _ = operation.Load
 
 -- the operation of T, by its operand: STW, the only register that T takes, or a place
 abbrev pub transfer_operation : ResolvedOperand → Operation
-transfer_operation (view.Register which) = operation.TransferStatus
+transfer_operation (resolved.Register which) = operation.TransferStatus
 transfer_operation _ = operation.Transfer
 
 -- the operation of LAR1, by its operand: address register 2, or any other one
 abbrev pub load_pointer_operation : ResolvedOperand → Operation
-load_pointer_operation (view.Register which) = operation.Pointer pointers.Lar1Ar2
+load_pointer_operation (resolved.Register which) = operation.Pointer pointers.Lar1Ar2
 load_pointer_operation _ = operation.Pointer pointers.Lar1
 
 -- the operation of TAR1, by its operand: AR2, or a double word or none
 abbrev pub store_pointer_operation : ResolvedOperand → Operation
-store_pointer_operation (view.Register which) = operation.Pointer pointers.Tar1Ar2
+store_pointer_operation (resolved.Register which) = operation.Pointer pointers.Tar1Ar2
 store_pointer_operation _ = operation.Pointer pointers.Tar1
 
 -- the operation of `+`: with a decimal number it adds to the low word of accumulator 1, with L# to
@@ -139,23 +139,23 @@ operation_for code.Tar2 o v = operation.Pointer pointers.Tar2
 operation_for code.Car o v = operation.Pointer pointers.Car
 operation_for code.AddAr1 o v = operation.Pointer pointers.AddAr1
 operation_for code.AddAr2 o v = operation.Pointer pointers.AddAr2
-operation_for code.Tak o v = operation.Number number.Tak
-operation_for code.Push o v = operation.Number number.Push
-operation_for code.Pop o v = operation.Number number.Pop
-operation_for code.Caw o v = operation.Number number.Caw
-operation_for code.Cad o v = operation.Number number.Cad
+operation_for code.Tak o v = operation.Number accu_operation.Tak
+operation_for code.Push o v = operation.Number accu_operation.Push
+operation_for code.Pop o v = operation.Number accu_operation.Pop
+operation_for code.Caw o v = operation.Number accu_operation.Caw
+operation_for code.Cad o v = operation.Number accu_operation.Cad
 operation_for code.Inc o v = operation.Add adding.Inc
 operation_for code.Dec o v = operation.Add adding.Dec
 operation_for code.Add o v = add_operation o
-operation_for code.AddI o v = operation.Number number.AddI
-operation_for code.SubI o v = operation.Number number.SubI
-operation_for code.MulI o v = operation.Number number.MulI
-operation_for code.DivI o v = operation.Number number.DivI
-operation_for code.AddD o v = operation.Number number.AddD
-operation_for code.SubD o v = operation.Number number.SubD
-operation_for code.MulD o v = operation.Number number.MulD
-operation_for code.DivD o v = operation.Number number.DivD
-operation_for code.Mod o v = operation.Number number.Mod
+operation_for code.AddI o v = operation.Number accu_operation.AddI
+operation_for code.SubI o v = operation.Number accu_operation.SubI
+operation_for code.MulI o v = operation.Number accu_operation.MulI
+operation_for code.DivI o v = operation.Number accu_operation.DivI
+operation_for code.AddD o v = operation.Number accu_operation.AddD
+operation_for code.SubD o v = operation.Number accu_operation.SubD
+operation_for code.MulD o v = operation.Number accu_operation.MulD
+operation_for code.DivD o v = operation.Number accu_operation.DivD
+operation_for code.Mod o v = operation.Number accu_operation.Mod
 operation_for code.EqI o v = operation.CompareInt compare.Eq
 operation_for code.NeI o v = operation.CompareInt compare.Ne
 operation_for code.GtI o v = operation.CompareInt compare.Gt
@@ -168,15 +168,15 @@ operation_for code.GtD o v = operation.CompareDint compare.Gt
 operation_for code.LtD o v = operation.CompareDint compare.Lt
 operation_for code.GeD o v = operation.CompareDint compare.Ge
 operation_for code.LeD o v = operation.CompareDint compare.Le
-operation_for code.Bti o v = operation.Number number.Bti
-operation_for code.Itb o v = operation.Number number.Itb
-operation_for code.Btd o v = operation.Number number.Btd
-operation_for code.Dtb o v = operation.Number number.Dtb
-operation_for code.Itd o v = operation.Number number.Itd
-operation_for code.Invi o v = operation.Number number.Invi
-operation_for code.Invd o v = operation.Number number.Invd
-operation_for code.Negi o v = operation.Number number.Negi
-operation_for code.Negd o v = operation.Number number.Negd
+operation_for code.Bti o v = operation.Number accu_operation.Bti
+operation_for code.Itb o v = operation.Number accu_operation.Itb
+operation_for code.Btd o v = operation.Number accu_operation.Btd
+operation_for code.Dtb o v = operation.Number accu_operation.Dtb
+operation_for code.Itd o v = operation.Number accu_operation.Itd
+operation_for code.Invi o v = operation.Number accu_operation.Invi
+operation_for code.Invd o v = operation.Number accu_operation.Invd
+operation_for code.Negi o v = operation.Number accu_operation.Negi
+operation_for code.Negd o v = operation.Number accu_operation.Negd
 operation_for code.Aw o v = operation.Logic logic.Aw
 operation_for code.Ow o v = operation.Logic logic.Ow
 operation_for code.Xow o v = operation.Logic logic.Xow
@@ -191,8 +191,8 @@ operation_for code.Sld o v = operation.Shift shifts.Sld
 operation_for code.Srd o v = operation.Shift shifts.Srd
 operation_for code.Rld o v = operation.Shift shifts.Rld
 operation_for code.Rrd o v = operation.Shift shifts.Rrd
-operation_for code.Rlda o v = operation.Number number.Rlda
-operation_for code.Rrda o v = operation.Number number.Rrda
+operation_for code.Rlda o v = operation.Number accu_operation.Rlda
+operation_for code.Rrda o v = operation.Number accu_operation.Rrda
 operation_for code.Sp o v = operation.Start starts.Sp
 operation_for code.Se o v = operation.Start starts.Se
 operation_for code.Sd o v = operation.Start starts.Sd

@@ -16,7 +16,7 @@ use Rattle.stl_types.specs.Resolution.{resolution_of}
 use Rattle.stl_types.specs.declared.views.Resolution.{Resolution}
 use Rattle.stl_types.specs.declared.views.Resolution.TheVariants.{Resolved}
 use Rattle.stl_types.specs.declared.views.ResolvedOperand.{ResolvedOperand}
-use Rattle.stl_types.specs.declared.views.ResolvedOperand.TheVariants as view
+use Rattle.stl_types.specs.declared.views.ResolvedOperand.TheVariants as resolved
 use Rattle.stl_codegen.specs.Operands.{is_in_named_block, constant_bits}
 
 -- what passes a place, as it is written: in a data block that is named, or in the open one
@@ -28,16 +28,16 @@ passed_place place width =
 
 -- what an actual parameter passes: a constant, a place, or a parameter of the function that calls;
 -- nothing else fits a parameter
-abbrev pub passed_view : Operand → ResolvedOperand → Option Passed
-passed_view o (view.Direct place width side declared) = Some (passed_place place width)
-passed_view o (view.Parameter index section declared) =
+abbrev pub passed_by_operand : Operand → ResolvedOperand → Option Passed
+passed_by_operand o (resolved.Direct place width side declared) = Some (passed_place place width)
+passed_by_operand o (resolved.Parameter index section declared) =
     Some (passed.Parameter index (width_of declared))
-passed_view o view.Constant = Some (passed.Literal (constant_bits o))
-passed_view o _ = None
+passed_by_operand o resolved.Constant = Some (passed.Literal (constant_bits o))
+passed_by_operand o _ = None
 
 -- what an actual parameter passes; none where what it names is unknown, or breaks a rule itself
 abbrev pub passed_resolution : Operand → Resolution → Option Passed
-passed_resolution o (Resolved v) = passed_view o v
+passed_resolution o (Resolved v) = passed_by_operand o v
 passed_resolution o _ = None
 
 -- the actual parameter that is supplied for a parameter

@@ -22,7 +22,7 @@ abbrev pub IsOffset : Option ℕ → ℕ → Type 0
 IsOffset (Some at) offset = at ≡ offset
 IsOffset None offset = 4294967296 ≤ offset
 
--- the starts and the end of ops
+-- the offsets at which the statements of ops begin, and the end of the code
 pub record AreStatementOffsets (starts : List ℕ) (end : Option ℕ) (ops : List OpData) : Type 0 where
   -- of each statement number the table has the offset, or none where it doesn't fit 32 bits
   pub each : (n : ℕ) → IsOffset (offset_in_table starts end n) (offset_of_statement ops n)

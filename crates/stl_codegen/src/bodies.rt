@@ -76,7 +76,7 @@ impl<'a> Model for Body<'a> {
 }
 
 /// 0 for an empty statement, which has no number, and 1 for every other.
-fn counted(code: Mnemonic) -> u32
+fn count_of_mnemonic(code: Mnemonic) -> u32
     ensures { result ≡ count_of_mnemonic code }
 {
     if is_empty(code) { 0 } else { 1 }
@@ -125,7 +125,7 @@ impl<'a> Body<'a> {
         let mut count: u32 = 0;
         for statement in statements {
             add_target(&mut labels, &mut numbers, alloc, count, &statement.label)?;
-            count += counted(statement.code);
+            count += count_of_mnemonic(statement.code);
         }
         Ok(Body {
             statements,

@@ -14,7 +14,7 @@ use plc_base::NoMemory;
 use std::alloc::Global;
 use stl_ast::Tree;
 use stl_symbols::Symbols;
-use stl_types::{Checked, Context};
+use stl_types::{CheckedSource, Context};
 
 /// The code blocks of a source in the order of an image.
 fn ordered_code_blocks(
@@ -65,7 +65,7 @@ fn ordered_names(alloc: Global, symbols: &Symbols) -> Result<Vec<NameEntry>, NoM
 /// fit its field of an image, or the image is too long.
 fn program_in(
     alloc: Global,
-    checked: &Checked,
+    checked: &CheckedSource,
     layouts: &Layouts,
     symbols: &Symbols,
 ) -> Result<Option<Program>, NoMemory>
@@ -92,7 +92,7 @@ fn program_in(
 /// Want of memory.
 pub fn generate(
     alloc: Global,
-    checked: &Checked,
+    checked: &CheckedSource,
     layouts: &Layouts,
     symbols: &Symbols,
 ) -> Result<Program, NoMemory>

@@ -1,7 +1,7 @@
 ghost use Rattle.std.specs.Prelude.{◌≡◌, IfOk, zero, Some, None, drop, take, ◌++◌};
 ghost use Rattle.std.specs.Option.{option_copied};
 ghost use Rattle.stl_types.specs.Parameters.{callee_of};
-ghost use Rattle.stl_types.specs.declared.views.ResolvedOperand.TheVariants as views;
+ghost use Rattle.stl_types.specs.declared.views.ResolvedOperand.TheVariants as resolved;
 ghost use Rattle.flat_code.specs.Instr.{Calls, Does};
 ghost use Rattle.stl_codegen.specs.Emitted.{ops_of, pass_ops};
 ghost use Rattle.stl_codegen.specs.Fitting.{AreOpsAppended};
@@ -15,7 +15,7 @@ ghost use Rattle.stl_codegen.specs.Instruction.{
   passings_to,
   resolved_instr,
   return_last,
-  view_instr,
+  operand_instr,
 };
 ghost use Rattle.stl_codegen.specs.Operands.{block_opened_by_operand, flat_operand_of};
 ghost use Rattle.stl_codegen.specs.Operations.{call_operation_of, end_operation_of, operation_for};
@@ -210,7 +210,7 @@ fn append_by_view(
     view: ResolvedOperand,
 ) -> Result<Option<()>, AllocError>
     ensures { IfOk result (λ done. AreOpsAppended ops.old.items ops.new.items
-        (ops_of (view_instr context.now statement.now view (call_operation_of statement.now.code)))
+        (ops_of (operand_instr context.now statement.now view (call_operation_of statement.now.code)))
         done) }
 {
     match call_of(statement.code) {

@@ -14,7 +14,10 @@ ghost use Rattle.stl_codegen.specs.Operands.{
 };
 
 use block_layout::{bits_of, width_of};
-use flat_code::{Operand as FlatOperand, condition_of};
+use flat_code::{
+    COUNTER_KIND, DB_REGISTER_NUMBER, DI_REGISTER_NUMBER, Operand as FlatOperand, TIMER_KIND,
+    condition_of,
+};
 use plc_base::{Area, Place, Width};
 use stl_ast::{Numbered, Operand};
 use stl_types::{Register, ResolvedOperand};
@@ -95,22 +98,22 @@ fn numbered_operand(what: Numbered, from: Area, byte: u16) -> FlatOperand
 {
     match what {
         Numbered::Timer => FlatOperand::NumberedBy {
-            kind: 1,
+            kind: TIMER_KIND,
             from,
             byte,
         },
         Numbered::Counter => FlatOperand::NumberedBy {
-            kind: 2,
+            kind: COUNTER_KIND,
             from,
             byte,
         },
         Numbered::Db => FlatOperand::OpenBy {
-            register: 1,
+            register: DB_REGISTER_NUMBER,
             from,
             byte,
         },
         Numbered::Di => FlatOperand::OpenBy {
-            register: 2,
+            register: DI_REGISTER_NUMBER,
             from,
             byte,
         },
@@ -169,8 +172,14 @@ pub(crate) fn operand_of(operand: &Operand, view: ResolvedOperand) -> Option<Fla
             register,
             bits,
         }),
-        ResolvedOperand::Timer { number } => Some(FlatOperand::Numbered { kind: 1, number }),
-        ResolvedOperand::Counter { number } => Some(FlatOperand::Numbered { kind: 2, number }),
+        ResolvedOperand::Timer { number } => Some(FlatOperand::Numbered {
+            kind: TIMER_KIND,
+            number,
+        }),
+        ResolvedOperand::Counter { number } => Some(FlatOperand::Numbered {
+            kind: COUNTER_KIND,
+            number,
+        }),
         ResolvedOperand::NumberBy { what, from, byte } => Some(numbered_operand(what, from, byte)),
         ResolvedOperand::Constant => Some(FlatOperand::Literal {
             value: constant_bits(operand),
@@ -183,7 +192,11 @@ pub(crate) fn operand_of(operand: &Operand, view: ResolvedOperand) -> Option<Fla
         }),
         ResolvedOperand::Register { which } => Some(register_operand(which)),
         ResolvedOperand::OpenBlock { di, number } => Some(FlatOperand::OpenBlock {
-            register: if di { 2 } else { 1 },
+            register: if di {
+                DI_REGISTER_NUMBER
+            } else {
+                DB_REGISTER_NUMBER
+            },
             number,
         }),
         _ => Some(FlatOperand::Nothing),

@@ -19,7 +19,7 @@ ghost use Rattle.stl_codegen.specs.Generated.{offset_of_member, param_at_bits, p
 use crate::instructions::in_order;
 use arrayvec::ArrayVec;
 use block_layout::{BlockLayout, Cell, Element, Layout, Member, is_parameter, width_of};
-use flat_code::Param;
+use flat_code::{Param, SECTION_IN, SECTION_IN_OUT, SECTION_OUT};
 use plc_base::Width;
 use std::alloc::{AllocError, Global};
 use stl_ast::{Block, PartKind, Simple};
@@ -29,9 +29,9 @@ fn section_number(section: PartKind) -> u8
     ensures { result ≡ section_number section }
 {
     match section {
-        PartKind::Input => 1,
-        PartKind::Output => 2,
-        _ => 3,
+        PartKind::Input => SECTION_IN,
+        PartKind::Output => SECTION_OUT,
+        _ => SECTION_IN_OUT,
     }
 }
 

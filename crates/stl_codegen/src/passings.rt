@@ -9,7 +9,7 @@ ghost use Rattle.stl_codegen.specs.Passed.{
   passed_actual,
   passed_place,
   passed_resolution,
-  passed_view,
+  passed_by_operand,
   passings_from,
   actual_of_formal,
   with_index,
@@ -53,7 +53,7 @@ fn append_view(
     view: ResolvedOperand,
 ) -> Result<Option<()>, AllocError>
     ensures { IfOk result (λ done. AreOpsAppended ops.old.items ops.new.items
-        (pass_ops (with_index index (passed_view operand.now view))) done) }
+        (pass_ops (with_index index (passed_by_operand operand.now view))) done) }
 {
     match view {
         ResolvedOperand::Direct { place, width, .. } => {
@@ -105,7 +105,7 @@ fn is_for(actual: &Actual, formal: &Formal) -> bool
 }
 
 /// The actual parameter that is supplied for a parameter.
-fn supplied<'s>(actuals: &'s [Actual], formal: &Formal) -> Option<&'s Actual>
+fn actual_of_formal<'s>(actuals: &'s [Actual], formal: &Formal) -> Option<&'s Actual>
     ensures { option_copied result ≡ actual_of_formal actuals.now formal.now }
 {
     actuals.iter().find(|a| is_for(a, formal))
@@ -142,7 +142,7 @@ pub(crate) fn append_passings(
         (pass_ops (passings_from context.now actuals.now 0 formals.now)) done) }
 {
     for index in 0..formals.len() {
-        let actual = supplied(actuals, &formals[index]);
+        let actual = actual_of_formal(actuals, &formals[index]);
         let Some(_) = append_actual(alloc, ops, context, index, actual)? else {
             return Ok(None);
         };

@@ -65,7 +65,7 @@ fn offsets_of(alloc: Global, ops: &[Op]) -> Result<Offsets, NoMemory>
 
 /// An op with a byte offset as its target, if it is a jump; `None` where the offset doesn't fit.
 #[tactic(auto, unfolding(flat_code::specs::Ops::is_op, flat_code::specs::Table::admits))]
-fn aimed(op: &Op, offsets: &Offsets) -> Option<Op>
+fn op_with_offset(op: &Op, offsets: &Offsets) -> Option<Op>
     ensures some { IfSome result (λ placed. (ops : List OpData)
         → AreStatementOffsets offsets.now.starts.items offsets.now.end ops
         → placed ≡ op_with_target (offset_of_statement ops) op.now) }
@@ -99,7 +99,7 @@ pub fn place_targets(alloc: Global, ops: &[Op]) -> Result<Option<Vec<Op>>, NoMem
     let offsets = offsets_of(alloc, ops)?;
     let mut placed = Vec::new(alloc);
     for op in ops {
-        let Some(aimed) = aimed(op, &offsets) else {
+        let Some(aimed) = op_with_offset(op, &offsets) else {
             return Ok(None);
         };
         placed.push(aimed)?;

@@ -42,8 +42,8 @@ lesser_crossed a b c d =
     sym (lesser_assoc (lesser a b) c d) ∙ ap (λ (o : Option Refusal). lesser o d) (lesser_last a b c) ∙ lesser_assoc (lesser a c) b d
 
 -- the least of lists that are parted each in two is that of the parts
-crossed : (h hs f fs g gs : List Refusal) → least h ≡ lesser (least f) (least g) → least hs ≡ lesser (least fs) (least gs) → least (h ++ hs) ≡ lesser (least (f ++ fs)) (least (g ++ gs))
-crossed h hs f fs g gs is_h is_hs =
+least_of_parts : (h hs f fs g gs : List Refusal) → least h ≡ lesser (least f) (least g) → least hs ≡ lesser (least fs) (least gs) → least (h ++ hs) ≡ lesser (least (f ++ fs)) (least (g ++ gs))
+least_of_parts h hs f fs g gs is_h is_hs =
     least-append h hs ∙ ap (λ (o : Option Refusal). lesser o (least hs)) is_h ∙ ap (λ (o : Option Refusal). lesser (lesser (least f) (least g)) o) is_hs
     ∙ lesser_crossed (least f) (least g) (least fs) (least gs) ∙ ap (λ (o : Option Refusal). lesser o (lesser (least g) (least gs))) (sym (least-append f fs))
     ∙ ap (λ (o : Option Refusal). lesser (least (f ++ fs)) o) (sym (least-append g gs))
@@ -55,13 +55,13 @@ nothing = refl
 module _ (f g h : Context → Statement → List Refusal) (parts : (c : Context) (s : Statement) → least (h c s) ≡ lesser (least (f c s)) (least (g c s))) where
   body_parts : (c : Context) (body : List Statement) → least (flat_map (h c) body) ≡ lesser (least (flat_map (f c) body)) (least (flat_map (g c) body))
   body_parts c [] = nothing
-  body_parts c (s ∷ ss) = crossed (h c s) (flat_map (h c) ss) (f c s) (flat_map (f c) ss) (g c s) (flat_map (g c) ss) (parts c s) (body_parts c ss)
+  body_parts c (s ∷ ss) = least_of_parts (h c s) (flat_map (h c) ss) (f c s) (flat_map (f c) ss) (g c s) (flat_map (g c) ss) (parts c s) (body_parts c ss)
 
   pub statement_parts : (c : Context) (blocks : List Block) → least (in_statements h c blocks) ≡ lesser (least (in_statements f c blocks)) (least (in_statements g c blocks))
   statement_parts c [] = nothing
   statement_parts c (b ∷ bs) =
       let next : Context = record c { block = c.block + 1 } in
-      crossed (flat_map (h c) b.body) (in_statements h next bs) (flat_map (f c) b.body) (in_statements f next bs) (flat_map (g c) b.body) (in_statements g next bs)
+      least_of_parts (flat_map (h c) b.body) (in_statements h next bs) (flat_map (f c) b.body) (in_statements f next bs) (flat_map (g c) b.body) (in_statements g next bs)
       (body_parts c b.body) (statement_parts next bs)
 
 -- what a statement breaks by one of the rules
@@ -104,9 +104,9 @@ statement_spread c s =
     ∙ least-append (by_all c s) (dates_of c s)
 
 -- one rule more
-joined : (f g : Context → Statement → List Refusal) (c : Context) (blocks : List Block) (found : List Refusal) → least (in_statements f c blocks) ≡ least found →
+least_with_rule : (f g : Context → Statement → List Refusal) (c : Context) (blocks : List Block) (found : List Refusal) → least (in_statements f c blocks) ≡ least found →
     least (in_statements (λ c s. f c s ++ g c s) c blocks) ≡ least (found ++ in_statements g c blocks)
-joined f g c blocks found so_far =
+least_with_rule f g c blocks found so_far =
     statement_parts f g (λ c s. f c s ++ g c s) (λ c s. least-append (f c s) (g c s)) c blocks
     ∙ ap (λ (o : Option Refusal). lesser o (least (in_statements g c blocks))) so_far ∙ sym (least-append found (in_statements g c blocks))
 
@@ -114,12 +114,12 @@ all_joined : (c : Context) (blocks : List Block) → least (in_statements by_all
     ≡ least (rule_34 c blocks ++ rule_35 c blocks ++ rule_36 c blocks ++ rule_37 c blocks ++ rule_38 c blocks ++ rule_40 c blocks ++ rule_46 c blocks)
 unfolding by_all by_34 by_35 by_36 by_37 by_38 by_40 by_46 rule_34 rule_35 rule_36 rule_37 rule_38 rule_40 rule_46
 all_joined c blocks =
-    joined (λ c s. by_34 c s ++ by_35 c s ++ by_36 c s ++ by_37 c s ++ by_38 c s ++ by_40 c s) by_46 c blocks _
-    (joined (λ c s. by_34 c s ++ by_35 c s ++ by_36 c s ++ by_37 c s ++ by_38 c s) by_40 c blocks _
-    (joined (λ c s. by_34 c s ++ by_35 c s ++ by_36 c s ++ by_37 c s) by_38 c blocks _
-    (joined (λ c s. by_34 c s ++ by_35 c s ++ by_36 c s) by_37 c blocks _
-    (joined (λ c s. by_34 c s ++ by_35 c s) by_36 c blocks _
-    (joined by_34 by_35 c blocks (rule_34 c blocks) refl)))))
+    least_with_rule (λ c s. by_34 c s ++ by_35 c s ++ by_36 c s ++ by_37 c s ++ by_38 c s ++ by_40 c s) by_46 c blocks _
+    (least_with_rule (λ c s. by_34 c s ++ by_35 c s ++ by_36 c s ++ by_37 c s ++ by_38 c s) by_40 c blocks _
+    (least_with_rule (λ c s. by_34 c s ++ by_35 c s ++ by_36 c s ++ by_37 c s) by_38 c blocks _
+    (least_with_rule (λ c s. by_34 c s ++ by_35 c s ++ by_36 c s) by_37 c blocks _
+    (least_with_rule (λ c s. by_34 c s ++ by_35 c s) by_36 c blocks _
+    (least_with_rule by_34 by_35 c blocks (rule_34 c blocks) refl)))))
 
 pub rules_joined : (c : Context) (blocks : List Block) → least (in_statements broken_statement c blocks) ≡ least (rules_of_calls c blocks)
 unfolding rules_of_calls rule_24_of_actuals

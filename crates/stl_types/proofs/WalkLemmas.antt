@@ -13,7 +13,7 @@ use Rattle.stl_types.specs.Lists.{is_wrong_list, lists_from}
 use Rattle.stl_types.specs.Zones.{zones_behind, zones_behind_all}
 use Rattle.stl_types.specs.declared.brackets.SourceBracket.{SourceBracket}
 
--- one statement more
+-- the brackets that are open behind a body, with one statement more
 pub behind_turn : (brackets after whole : List SourceBracket) (body : List Statement) (i : ℕ) (s : Statement) → i < length body → s ≡ get_or body i s → after ≡ brackets_behind brackets s →
     brackets_behind_all brackets (drop i body) ≡ whole → brackets_behind_all after (drop (i + 1) body) ≡ whole
 behind_turn brackets after whole body i s within is_s is_after so_far =
@@ -23,7 +23,7 @@ behind_turn brackets after whole body i s within is_s is_after so_far =
 pub behind_end : (brackets whole : List SourceBracket) (body : List Statement) (i : ℕ) → length body ≤ i → brackets_behind_all brackets (drop i body) ≡ whole → brackets ≡ whole
 behind_end brackets whole body i over so_far = ap (λ (l : List Statement). brackets_behind_all brackets l) (sym (drop_of_length-le body over)) ∙ so_far
 
--- the same of zones
+-- the zones that are open behind a body, with one statement more
 pub zones_turn : (zones after whole : List ℕ) (body : List Statement) (i : ℕ) (s : Statement) → i < length body → s ≡ get_or body i s → after ≡ zones_behind zones s →
     zones_behind_all zones (drop i body) ≡ whole → zones_behind_all after (drop (i + 1) body) ≡ whole
 zones_turn zones after whole body i s within is_s is_after so_far =
@@ -33,7 +33,7 @@ zones_turn zones after whole body i s within is_s is_after so_far =
 pub zones_end : (zones whole : List ℕ) (body : List Statement) (i : ℕ) → length body ≤ i → zones_behind_all zones (drop i body) ≡ whole → zones ≡ whole
 zones_end zones whole body i over so_far = ap (λ (l : List Statement). zones_behind_all zones l) (sym (drop_of_length-le body over)) ∙ so_far
 
--- and of the refusals by jump lists
+-- the refusals by jump lists in a body, with one statement more
 pub lists_turn : (before after : List (List ℕ)) (body : List Statement) (i : ℕ) (s : Statement) (found one next whole : Option Refusal) → i < length body → s ≡ get_or body i s →
     after ≡ before ++ label_of s.label → one ≡ least (broken_if (is_wrong_list after s (drop (i + 1) body)) s.line 32) → next ≡ lesser found one →
     lesser found (least (lists_from before (drop i body))) ≡ whole → lesser next (least (lists_from after (drop (i + 1) body))) ≡ whole
@@ -52,7 +52,7 @@ pub lists_end : (before : List (List ℕ)) (body : List Statement) (i : ℕ) (fo
 lists_end before body i found whole over so_far =
     sym (lesser_nothing found) ∙ ap (λ (l : List Statement). lesser found (least (lists_from before l))) (sym (drop_of_length-le body over)) ∙ so_far
 
--- and of what is open at labels
+-- what is open at the labels of a body, with one statement more
 pub landings_turn : (n after : SourceNesting) (landings more whole : List Landing) (body : List Statement) (i : ℕ) (s : Statement) → i < length body → s ≡ get_or body i s →
     after ≡ nesting_behind n s → more ≡ landings ++ landing_here n s.label → landings ++ landings_at_labels n (drop i body) ≡ whole →
     more ++ landings_at_labels after (drop (i + 1) body) ≡ whole

@@ -21,7 +21,7 @@ use Rattle.stl_types.specs.declared.views.Resolution.TheVariants.{Resolved, Unkn
 use Rattle.stl_types.specs.declared.views.Side.{Side}
 use Rattle.stl_types.specs.declared.views.Side.TheVariants as side
 use Rattle.stl_types.specs.declared.views.ResolvedOperand.{ResolvedOperand}
-use Rattle.stl_types.specs.declared.views.ResolvedOperand.TheVariants as view
+use Rattle.stl_types.specs.declared.views.ResolvedOperand.TheVariants as resolved
 
 -- the parameter of this name among those of a block; none where no one has it
 abbrev pub formal_named : List Formal → List ℕ → Option Formal
@@ -69,17 +69,17 @@ fits_type f w None = is_same_width w (width_of f.kind)
 fits_type f w (Some declared) = is_same_type declared f.kind
 
 -- what an actual parameter names fits a parameter
-unfoldable pub fits_view : Formal → ResolvedOperand → Bool
-fits_view f (view.Direct place w side declared) =
+unfoldable pub fits_resolved_operand : Formal → ResolvedOperand → Bool
+fits_resolved_operand f (resolved.Direct place w side declared) =
     fits_type f w declared && takes_side f.section side
-fits_view f (view.Parameter index own declared) =
+fits_resolved_operand f (resolved.Parameter index own declared) =
     is_same_type declared f.kind && takes_section f.section own
-fits_view f _ = false
+fits_resolved_operand f _ = false
 
 -- what an operand comes to fits a parameter; one that isn't there or isn't checked breaks no
 -- further rule
 abbrev pub fits_resolution : Formal → Resolution → Bool
-fits_resolution f (Resolved v) = fits_view f v
+fits_resolution f (Resolved v) = fits_resolved_operand f v
 fits_resolution f Unknown = true
 fits_resolution f Unjudged = true
 

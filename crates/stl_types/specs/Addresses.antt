@@ -11,7 +11,7 @@ use Rattle.stl_types.specs.declared.views.Resolution.TheVariants.{Resolved, Unju
 use Rattle.stl_types.specs.declared.views.Side.{Side}
 use Rattle.stl_types.specs.declared.views.Side.TheVariants as side
 use Rattle.stl_types.specs.declared.views.ResolvedOperand.{ResolvedOperand}
-use Rattle.stl_types.specs.declared.views.ResolvedOperand.TheVariants as view
+use Rattle.stl_types.specs.declared.views.ResolvedOperand.TheVariants as resolved
 
 -- the area that letters name: PI and PQ are one
 abbrev pub area_for_letters : Letters → Area
@@ -31,14 +31,14 @@ side_of letters.Pi = side.Inputs
 side_of letters.Pq = side.Outputs
 side_of _ = side.Both
 
--- the area of a pointer, where it has one
-abbrev pub area_left : Option Letters → Option Area
-area_left a = option_map area_for_letters a
+-- the area that a pointer names by its letters; none where it names none
+abbrev pub area_of_pointer : Option Letters → Option Area
+area_of_pointer a = option_map area_for_letters a
 
 -- what an address names; `number` is that of the data block before it, else 0
 abbrev pub resolved_address : (number : ℕ) → Letters → Width → (byte bit : ℕ) → ResolvedOperand
 resolved_address number a width byte bit =
-    view.Direct
+    resolved.Direct
     (record { area = area_for_letters a; number = number; byte = byte; bit = bit }) width
     (side_of a) None
 

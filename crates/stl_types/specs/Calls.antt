@@ -45,7 +45,7 @@ in_calls broken c blocks =
     in_contexts (λ c body. flat_map (λ s. by_callee (broken c) s (callee_of c s.operand)) body) c
     blocks
 
--- a parameter has this name, in upper case
+-- one of these parameters has this name, in upper case
 abbrev pub has_formal : List Formal → List ℕ → Bool
 has_formal formals name = list_any (λ f. bytes_eq name f.name) formals
 
@@ -53,7 +53,7 @@ has_formal formals name = list_any (λ f. bytes_eq name f.name) formals
 abbrev pub names_no_formal : List Formal → Actual → Bool
 names_no_formal formals a = not (has_formal formals (upper_case_name a.name))
 
--- rule 34 in a call, for each of its actual parameters
+-- rule 34 in a call: each actual parameter whose name is that of no parameter
 abbrev pub actuals_without_formal : List Formal → List Actual → List Refusal
 actuals_without_formal formals actuals =
     flat_map (λ a. broken_if (names_no_formal formals a) a.line 34) actuals
@@ -67,7 +67,8 @@ abbrev pub is_supplied_twice : List Formal → (before : List (List ℕ)) → Ac
 is_supplied_twice formals before a =
     not (names_no_formal formals a) && is_some (name_place (upper_case_name a.name) before)
 
--- rule 35 in a call; `before` are the names supplied before these actual parameters
+-- rule 35 in a call: each actual parameter whose name is supplied before it; `before` are the names
+-- supplied before these actual parameters
 abbrev pub actuals_supplied_twice : List Formal → (before : List (List ℕ)) → List Actual
     → List Refusal
 actuals_supplied_twice formals before actuals =
@@ -104,7 +105,7 @@ abbrev pub misfits_formal : Context → Actual → Option Formal → Bool
 misfits_formal c a None = false
 misfits_formal c a (Some f) = not (fits_operand c f a.value)
 
--- rule 37 in a call, for each of its actual parameters
+-- rule 37 in a call: each actual parameter that doesn't fit the parameter of its name
 abbrev pub call_37 : Context → Callee → Statement → List Refusal
 call_37 c callee s =
     flat_map
@@ -119,7 +120,7 @@ abbrev pub is_resolved_date : Resolution → Bool
 is_resolved_date (Resolved v) = is_date v
 is_resolved_date _ = false
 
--- rule 24 in a body, for its actual parameters, whatever is called
+-- rule 24 in a body: each actual parameter that is a DATE_AND_TIME, whatever is called
 abbrev pub dates_in : Context → List Statement → List Refusal
 dates_in c body =
     flat_map
@@ -127,7 +128,7 @@ dates_in c body =
     s.actuals)
     body
 
--- rule 24 of actual parameters, in all bodies
+-- rule 24 of actual parameters, in all bodies: a DATE_AND_TIME as an actual parameter
 unfoldable pub rule_24_of_actuals : Context → List Block → List Refusal
 rule_24_of_actuals c blocks = in_contexts dates_in c blocks
 
@@ -159,7 +160,7 @@ unfoldable pub rule_38 : Context → List Block → List Refusal
 rule_38 c blocks =
     in_calls (λ c callee s. broken_if (has_wrong_instance c callee s.operand) s.line 38) c blocks
 
--- a call without data block
+-- the operand of a call names no data block
 abbrev pub has_no_instance : Operand → Bool
 has_no_instance (operand.Called name None) = true
 has_no_instance _ = false
@@ -186,7 +187,7 @@ abbrev pub is_unknown_function : Option BlockId → Bool
 is_unknown_function None = false
 is_unknown_function (Some id) = is_system_function id.kind && is_none (system_formals id.number)
 
--- rule 46 in a statement, by its operand
+-- rule 46 in a statement: its operand calls a system function that isn't one of the nine
 abbrev pub calls_unknown : Context → Operand → Bool
 calls_unknown c (operand.Called name instance) =
     is_unknown_function (named_block c.symbols name)

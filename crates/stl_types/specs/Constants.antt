@@ -4,7 +4,7 @@ use Rattle.stl_ast.specs.declared.literals.Literal.{Literal}
 use Rattle.stl_ast.specs.declared.literals.Literal.TheVariants as literal
 use Rattle.block_layout.specs.Fits.{fits_elementary_type}
 use Rattle.stl_types.specs.declared.forms.OperandRule.{OperandRule}
-use Rattle.stl_types.specs.declared.forms.OperandRule.TheVariants as form
+use Rattle.stl_types.specs.declared.forms.OperandRule.TheVariants as rules
 
 -- a number from 0 to a greatest one
 abbrev pub is_up_to : (most : ℕ) → ℤ → Bool
@@ -30,9 +30,9 @@ is_truth _ = false
 -- an instruction of a form takes a constant: L each but TRUE and FALSE; NOP, BLD, INC, DEC and the
 -- shifts a count; + a decimal number or L#; word logic what fits WORD or DWORD
 unfoldable pub takes_constant : OperandRule → Literal → Bool
-takes_constant form.Loads value = not (is_truth value)
-takes_constant (form.Counts most) value = is_count most value
-takes_constant (form.Shifts most) value = is_count most value
-takes_constant form.Adds value = is_addend value
-takes_constant (form.Combines kind) value = fits_elementary_type value kind
+takes_constant rules.Loads value = not (is_truth value)
+takes_constant (rules.Counts most) value = is_count most value
+takes_constant (rules.Shifts most) value = is_count most value
+takes_constant rules.Adds value = is_addend value
+takes_constant (rules.Combines kind) value = fits_elementary_type value kind
 takes_constant _ value = false

@@ -39,7 +39,7 @@ data_place c name = found_block c.symbols (source_block_ids c) is_data_block nam
 abbrev pub whole_data_place : Context → BlockName → Option ℕ
 whole_data_place c name = option_and_then (if_whole c.layouts) (data_place c name)
 
--- the number of a block id; None for none
+-- the number of a block; none where there is no block
 abbrev pub number_of_block : Option BlockId → Option ℕ
 number_of_block id = option_map (λ i. i.number) id
 

@@ -30,7 +30,7 @@ broken_call c callee s =
     ++ broken_if (has_wrong_instance c callee s.operand) s.line 38
     ++ broken_if (is_bare_call callee s) s.line 40
 
--- rule 24 of the actual parameters of a statement
+-- rule 24 in a statement: each actual parameter that is a DATE_AND_TIME
 abbrev pub dates_of : Context → Statement → List Refusal
 dates_of c s =
     flat_map (λ a. broken_if (is_resolved_date (resolution_of c a.value)) a.line 24) s.actuals

@@ -10,101 +10,101 @@ use Rattle.stl_ast.specs.declared.operands.Numbered.TheVariants as numbered
 use Rattle.block_layout.specs.Offsets.{width_of}
 use Rattle.stl_types.specs.declared.views.Register.TheVariants as register
 use Rattle.stl_types.specs.declared.views.ResolvedOperand.{ResolvedOperand}
-use Rattle.stl_types.specs.declared.views.ResolvedOperand.TheVariants as view
+use Rattle.stl_types.specs.declared.views.ResolvedOperand.TheVariants as resolved
 
 -- whether there is no operand
 abbrev pub names_nothing : ResolvedOperand → Bool
-names_nothing view.Nothing = true
+names_nothing resolved.Nothing = true
 names_nothing _ = false
 
 -- whether an operand is a place with an address of its own
 abbrev pub is_direct : ResolvedOperand → Bool
-is_direct (view.Direct place width side declared) = true
+is_direct (resolved.Direct place width side declared) = true
 is_direct _ = false
 
 -- whether an operand is a place in memory: direct, a parameter of a function, or by a pointer
 abbrev pub is_in_memory : ResolvedOperand → Bool
-is_in_memory (view.Direct place width side declared) = true
-is_in_memory (view.Parameter index section declared) = true
-is_in_memory (view.ByMemory a width from byte) = true
-is_in_memory (view.ByRegister a width register bits) = true
+is_in_memory (resolved.Direct place width side declared) = true
+is_in_memory (resolved.Parameter index section declared) = true
+is_in_memory (resolved.ByMemory a width from byte) = true
+is_in_memory (resolved.ByRegister a width register bits) = true
 is_in_memory _ = false
 
 -- whether an operand is a timer, also one whose number stands in memory
 abbrev pub is_timer : ResolvedOperand → Bool
-is_timer (view.Timer number) = true
-is_timer (view.NumberBy numbered.Timer from byte) = true
+is_timer (resolved.Timer number) = true
+is_timer (resolved.NumberBy numbered.Timer from byte) = true
 is_timer _ = false
 
 -- whether an operand is a counter, also one whose number stands in memory
 abbrev pub is_counter : ResolvedOperand → Bool
-is_counter (view.Counter number) = true
-is_counter (view.NumberBy numbered.Counter from byte) = true
+is_counter (resolved.Counter number) = true
+is_counter (resolved.NumberBy numbered.Counter from byte) = true
 is_counter _ = false
 
 -- whether an operand is a data block that is opened, also one whose number stands in memory
 abbrev pub is_opened : ResolvedOperand → Bool
-is_opened (view.OpenBlock di number) = true
-is_opened (view.NumberBy numbered.Db from byte) = true
-is_opened (view.NumberBy numbered.Di from byte) = true
+is_opened (resolved.OpenBlock di number) = true
+is_opened (resolved.NumberBy numbered.Db from byte) = true
+is_opened (resolved.NumberBy numbered.Di from byte) = true
 is_opened _ = false
 
 -- whether an operand is a condition of the status word
 abbrev pub is_condition : ResolvedOperand → Bool
-is_condition (view.OfStatus flag) = true
+is_condition (resolved.OfStatus flag) = true
 is_condition _ = false
 
 -- whether an operand is a pointer constant
 abbrev pub is_pointer_constant : ResolvedOperand → Bool
-is_pointer_constant (view.Pointer a byte bit) = true
+is_pointer_constant (resolved.Pointer a byte bit) = true
 is_pointer_constant _ = false
 
 -- whether an operand is a label
 abbrev pub is_label_operand : ResolvedOperand → Bool
-is_label_operand view.Label = true
+is_label_operand resolved.Label = true
 is_label_operand _ = false
 
 -- whether an operand is the status word, STW
 abbrev pub is_status_word : ResolvedOperand → Bool
-is_status_word (view.Register register.Stw) = true
+is_status_word (resolved.Register register.Stw) = true
 is_status_word _ = false
 
 -- whether an operand is address register 2, AR2
 abbrev pub is_second_register : ResolvedOperand → Bool
-is_second_register (view.Register register.Ar2) = true
+is_second_register (resolved.Register register.Ar2) = true
 is_second_register _ = false
 
 -- whether an operand is a register that can be loaded: the status word, or the number or length of
 -- an open data block
 abbrev pub is_loadable_register : ResolvedOperand → Bool
-is_loadable_register (view.Register register.Ar2) = false
-is_loadable_register (view.Register which) = true
+is_loadable_register (resolved.Register register.Ar2) = false
+is_loadable_register (resolved.Register which) = true
 is_loadable_register _ = false
 
 -- whether an operand is a called function, function block or system function; only a function block
 -- has an instance
 abbrev pub is_operand_of_call : ResolvedOperand → Bool
-is_operand_of_call (view.Called id None) = is_callable id.kind
-is_operand_of_call (view.Called id (Some instance)) = is_function_block id.kind
+is_operand_of_call (resolved.Called id None) = is_callable id.kind
+is_operand_of_call (resolved.Called id (Some instance)) = is_function_block id.kind
 is_operand_of_call _ = false
 
 -- whether an operand is a structure, an array or a DATE_AND_TIME
 abbrev pub is_composite : ResolvedOperand → Bool
-is_composite view.Composite = true
-is_composite view.Date = true
+is_composite resolved.Composite = true
+is_composite resolved.Date = true
 is_composite _ = false
 
 -- whether an operand is a DATE_AND_TIME
 abbrev pub is_date : ResolvedOperand → Bool
-is_date view.Date = true
+is_date resolved.Date = true
 is_date _ = false
 
--- the width of a place in memory
+-- the width of an operand that is a place in memory; no other has one
 abbrev pub width_in : ResolvedOperand → Option Width
-width_in (view.Direct place width side declared) = Some width
-width_in (view.Parameter index section declared) = Some (width_of declared)
-width_in (view.ByMemory a width from byte) = Some width
-width_in (view.ByRegister a width register bits) = Some width
+width_in (resolved.Direct place width side declared) = Some width
+width_in (resolved.Parameter index section declared) = Some (width_of declared)
+width_in (resolved.ByMemory a width from byte) = Some width
+width_in (resolved.ByRegister a width register bits) = Some width
 width_in _ = None
 
 -- whether the width is a bit

@@ -18,8 +18,8 @@ use Rattle.stl_types.specs.Labels.{labels_of}
 use Rattle.stl_types.specs.Zones.{zones_behind}
 use Rattle.stl_types.specs.declared.brackets.SourceBracket.{SourceBracket}
 
--- the brackets and the zones that are open before a statement, the outermost first,
--- a zone by the line of its MCR(
+-- the brackets and the zones that are open before a statement, the outermost first, a zone by the
+-- line of its MCR(
 pub record SourceNesting : Type 0 where
   -- the open brackets, the outermost first
   pub brackets : List SourceBracket
@@ -50,11 +50,11 @@ pub record Landing : Type 0 where
 abbrev pub functions_of : List SourceBracket → List ℕ
 functions_of brackets = map (λ b. b.function) (take 8 brackets)
 
--- what stands open: the functions of the brackets, and how many zones
+-- what a jump and its label have alike, of the brackets and zones that are open
 abbrev pub landing_of : SourceNesting → Landing
 landing_of n = record { functions = functions_of n.brackets; zones = length n.zones }
 
--- what is open before a statement, where it has a label
+-- what is open before a statement, in a list; the empty list where the statement has no label
 abbrev pub landing_here : SourceNesting → Option (List ℕ) → List Landing
 landing_here n None = []
 landing_here n (Some label) = landing_of n ∷ []
@@ -69,7 +69,8 @@ landings_at_labels n (s ∷ ss) =
 abbrev pub landing_at : (labels : List (List ℕ)) → List Landing → List ℕ → Option Landing
 landing_at labels landings name = option_and_then (slice_get landings) (name_place name labels)
 
--- lists that aren't equal; two of more than seven brackets aren't compared
+-- the function codes of open brackets aren't equal; two lists of more than seven brackets aren't
+-- compared
 abbrev pub are_unequal : (here there : List ℕ) → Bool
 are_unequal here there =
     not (nat_eq (length here) 8 && nat_eq (length there) 8) && not (bytes_eq here there)
@@ -100,7 +101,7 @@ crossing_jumps labels landings body =
     (crosses_nesting labels landings n s.operand) s.line 33)
     nesting_behind empty_nesting body
 
--- rule 33, in all bodies
+-- rule 33, in all bodies: unequal open brackets or zones at a jump and its label
 unfoldable pub rule_33 : List Block → List Refusal
 rule_33 blocks =
     in_bodies (λ body. crossing_jumps (labels_of body) (landings_at_labels empty_nesting body) body)

@@ -70,6 +70,6 @@ lists_from before (s ∷ ss) =
     broken_if (is_wrong_list (before ++ label_of s.label) s ss) s.line 32
     ++ lists_from (before ++ label_of s.label) ss
 
--- rule 32, in all bodies
+-- rule 32, in all bodies: a JL without a right jump list
 unfoldable pub rule_32 : List Block → List Refusal
 rule_32 blocks = in_bodies (λ body. lists_from [] body) blocks

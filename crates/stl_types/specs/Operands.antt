@@ -17,72 +17,72 @@ use Rattle.stl_types.specs.Forms.{form_of}
 use Rattle.stl_types.specs.Kinds.{names_nothing, is_direct, is_in_memory, is_timer, is_counter, is_opened, is_condition, is_pointer_constant, is_label_operand, is_status_word, is_second_register, is_loadable_register, is_operand_of_call, is_composite, is_date, width_in, is_bit, is_double_word, is_peripheral, is_peripheral_area}
 use Rattle.stl_types.specs.Resolution.{resolution_of}
 use Rattle.stl_types.specs.declared.forms.OperandRule.{OperandRule}
-use Rattle.stl_types.specs.declared.forms.OperandRule.TheVariants as form
+use Rattle.stl_types.specs.declared.forms.OperandRule.TheVariants as rules
 use Rattle.stl_types.specs.declared.views.Resolution.{Resolution}
 use Rattle.stl_types.specs.declared.views.Resolution.TheVariants.{Resolved}
 use Rattle.stl_types.specs.declared.views.Side.TheVariants as side
 use Rattle.stl_types.specs.declared.views.ResolvedOperand.{ResolvedOperand}
-use Rattle.stl_types.specs.declared.views.ResolvedOperand.TheVariants as view
+use Rattle.stl_types.specs.declared.views.ResolvedOperand.TheVariants as resolved
 
 -- the operands but constants that a form takes, whatever their width
 unfoldable pub takes_operand : OperandRule → ResolvedOperand → Bool
-takes_operand form.Bare v = names_nothing v
-takes_operand form.ReadsBit v = is_in_memory v || is_timer v || is_counter v || is_condition v
-takes_operand form.ReadsBitOrBare v =
+takes_operand rules.Bare v = names_nothing v
+takes_operand rules.ReadsBit v = is_in_memory v || is_timer v || is_counter v || is_condition v
+takes_operand rules.ReadsBitOrBare v =
     names_nothing v || is_in_memory v || is_timer v || is_counter v || is_condition v
-takes_operand form.WritesBit v = is_in_memory v
-takes_operand form.Sets v = is_in_memory v || is_counter v
-takes_operand form.Resets v = is_in_memory v || is_timer v || is_counter v
-takes_operand form.Loads v =
+takes_operand rules.WritesBit v = is_in_memory v
+takes_operand rules.Sets v = is_in_memory v || is_counter v
+takes_operand rules.Resets v = is_in_memory v || is_timer v || is_counter v
+takes_operand rules.Loads v =
     is_in_memory v || is_timer v || is_counter v || is_pointer_constant v || is_loadable_register v
-takes_operand form.Transfers v = is_in_memory v || is_status_word v
-takes_operand form.LoadsBcd v = is_timer v || is_counter v
-takes_operand form.LoadsAr1 v =
+takes_operand rules.Transfers v = is_in_memory v || is_status_word v
+takes_operand rules.LoadsBcd v = is_timer v || is_counter v
+takes_operand rules.LoadsAr1 v =
     names_nothing v || is_pointer_constant v || is_direct v || is_second_register v
-takes_operand form.LoadsAr2 v = names_nothing v || is_pointer_constant v || is_direct v
-takes_operand form.StoresAr1 v = names_nothing v || is_direct v || is_second_register v
-takes_operand form.StoresAr2 v = names_nothing v || is_direct v
-takes_operand form.AddsToAr v = names_nothing v || is_pointer_constant v
-takes_operand (form.Counts most) v = false
-takes_operand (form.Shifts most) v = names_nothing v
-takes_operand form.Adds v = false
-takes_operand (form.Combines kind) v = names_nothing v
-takes_operand form.Jumps v = is_label_operand v
-takes_operand form.StartsTimer v = is_timer v
-takes_operand form.Enables v = is_timer v || is_counter v
-takes_operand form.StepsCounter v = is_counter v
-takes_operand form.Calls v = is_operand_of_call v
-takes_operand form.Opens v = is_opened v
+takes_operand rules.LoadsAr2 v = names_nothing v || is_pointer_constant v || is_direct v
+takes_operand rules.StoresAr1 v = names_nothing v || is_direct v || is_second_register v
+takes_operand rules.StoresAr2 v = names_nothing v || is_direct v
+takes_operand rules.AddsToAr v = names_nothing v || is_pointer_constant v
+takes_operand (rules.Counts most) v = false
+takes_operand (rules.Shifts most) v = names_nothing v
+takes_operand rules.Adds v = false
+takes_operand (rules.Combines kind) v = names_nothing v
+takes_operand rules.Jumps v = is_label_operand v
+takes_operand rules.StartsTimer v = is_timer v
+takes_operand rules.Enables v = is_timer v || is_counter v
+takes_operand rules.StepsCounter v = is_counter v
+takes_operand rules.Calls v = is_operand_of_call v
+takes_operand rules.Opens v = is_opened v
 
 -- a form that takes a place in memory, of whatever width
 unfoldable pub takes_places : OperandRule → Bool
-takes_places form.ReadsBit = true
-takes_places form.ReadsBitOrBare = true
-takes_places form.WritesBit = true
-takes_places form.Sets = true
-takes_places form.Resets = true
-takes_places form.Loads = true
-takes_places form.Transfers = true
-takes_places form.LoadsAr1 = true
-takes_places form.LoadsAr2 = true
-takes_places form.StoresAr1 = true
-takes_places form.StoresAr2 = true
+takes_places rules.ReadsBit = true
+takes_places rules.ReadsBitOrBare = true
+takes_places rules.WritesBit = true
+takes_places rules.Sets = true
+takes_places rules.Resets = true
+takes_places rules.Loads = true
+takes_places rules.Transfers = true
+takes_places rules.LoadsAr1 = true
+takes_places rules.LoadsAr2 = true
+takes_places rules.StoresAr1 = true
+takes_places rules.StoresAr2 = true
 takes_places _ = false
 
 -- a form takes an operand of a width: bit instructions a bit, L and T a byte, a word or a double
 -- word, those of address registers a double word
 unfoldable pub takes_width : OperandRule → Option Width → Bool
-takes_width form.ReadsBit w = is_bit w
-takes_width form.ReadsBitOrBare w = is_bit w
-takes_width form.WritesBit w = is_bit w
-takes_width form.Sets w = is_bit w
-takes_width form.Resets w = is_bit w
-takes_width form.Loads w = not (is_bit w)
-takes_width form.Transfers w = not (is_bit w)
-takes_width form.LoadsAr1 w = is_double_word w
-takes_width form.LoadsAr2 w = is_double_word w
-takes_width form.StoresAr1 w = is_double_word w
-takes_width form.StoresAr2 w = is_double_word w
+takes_width rules.ReadsBit w = is_bit w
+takes_width rules.ReadsBitOrBare w = is_bit w
+takes_width rules.WritesBit w = is_bit w
+takes_width rules.Sets w = is_bit w
+takes_width rules.Resets w = is_bit w
+takes_width rules.Loads w = not (is_bit w)
+takes_width rules.Transfers w = not (is_bit w)
+takes_width rules.LoadsAr1 w = is_double_word w
+takes_width rules.LoadsAr2 w = is_double_word w
+takes_width rules.StoresAr1 w = is_double_word w
+takes_width rules.StoresAr2 w = is_double_word w
 takes_width _ w = true
 
 -- the width of an operand fits a form; only a place in memory has one
@@ -92,26 +92,26 @@ has_width f (Some w) = takes_width f (Some w)
 
 -- a form of instructions that write their operand
 abbrev pub form_writes_operand : OperandRule → Bool
-form_writes_operand form.WritesBit = true
-form_writes_operand form.Sets = true
-form_writes_operand form.Resets = true
-form_writes_operand form.Transfers = true
-form_writes_operand form.StoresAr1 = true
-form_writes_operand form.StoresAr2 = true
+form_writes_operand rules.WritesBit = true
+form_writes_operand rules.Sets = true
+form_writes_operand rules.Resets = true
+form_writes_operand rules.Transfers = true
+form_writes_operand rules.StoresAr1 = true
+form_writes_operand rules.StoresAr2 = true
 form_writes_operand _ = false
 
--- an operand that lies in the peripheral area where it can't be: there are inputs to read and
+-- an operand lies in the peripheral area where the form can't take it: there are inputs to read and
 -- outputs to write, and no pointer leads there by an area of its own
 abbrev pub is_on_wrong_side : OperandRule → ResolvedOperand → Bool
-is_on_wrong_side f (view.Direct place width side.Inputs declared) = form_writes_operand f
-is_on_wrong_side f (view.Direct place width side.Outputs declared) = not (form_writes_operand f)
-is_on_wrong_side f (view.ByMemory a width from byte) = is_peripheral a
-is_on_wrong_side f (view.ByRegister a width register bits) = is_peripheral_area a
+is_on_wrong_side f (resolved.Direct place width side.Inputs declared) = form_writes_operand f
+is_on_wrong_side f (resolved.Direct place width side.Outputs declared) = not (form_writes_operand f)
+is_on_wrong_side f (resolved.ByMemory a width from byte) = is_peripheral a
+is_on_wrong_side f (resolved.ByRegister a width register bits) = is_peripheral_area a
 is_on_wrong_side f _ = false
 
--- an input parameter of a function
+-- an operand is an input parameter of the function that has the body
 abbrev pub is_input : ResolvedOperand → Bool
-is_input (view.Parameter index part.Input declared) = true
+is_input (resolved.Parameter index part.Input declared) = true
 is_input _ = false
 
 -- the rule that an operand that isn't elementary breaks: a structure or an array has no width that
@@ -154,6 +154,7 @@ statement_rule c s = operand_rule c (form_of s.code) s.operand
 abbrev pub operands_24 : Context → List Statement → List Refusal
 operands_24 c body = flat_map (λ s. at_line s.line (statement_rule c s)) body
 
--- rules 24, 25 and 39, in all bodies
+-- rules 24, 25 and 39, in all bodies: a width, a form or a constant that isn't allowed, and a
+-- written input
 unfoldable pub rules_24_25_39 : Context → List Block → List Refusal
 rules_24_25_39 c blocks = in_contexts operands_24 c blocks

@@ -20,7 +20,7 @@ use Rattle.block_layout.specs.declared.cells.Element.TheVariants as element
 use Rattle.stl_types.specs.Context.{Context, whole_place}
 use Rattle.stl_types.specs.declared.parameters.Formal.{Formal}
 
--- a parameter by its parts
+-- a parameter by its name in upper case, its section and its elementary type
 abbrev pub formal : List ℕ → PartKind → Simple → Formal
 formal name section kind = record { name = name; section = section; kind = kind }
 
@@ -32,7 +32,7 @@ ob_nr_formal = formal (codes "OB_NR") part.Input simple.Int
 abbrev pub return_value_formal : Simple → Formal
 return_value_formal kind = formal (codes "RET_VAL") part.Output kind
 
--- MODE of a system function: which interrupts are meant
+-- MODE of a system function: which interrupts are meant, as a byte
 abbrev pub mode_formal : Formal
 mode_formal = formal (codes "MODE") part.Input simple.Byte
 

@@ -17,7 +17,7 @@ use Rattle.stl_symbols.specs.declared.targets.Target.TheVariants as target
 use Rattle.block_layout.specs.Blocks.{named_block}
 use Rattle.block_layout.specs.Paths.{folded_path}
 use Rattle.plc_base.specs.declared.places.Width.{Width}
-use Rattle.stl_types.specs.Addresses.{resolved_address, address_in_block, area_left, area_for_letters}
+use Rattle.stl_types.specs.Addresses.{resolved_address, address_in_block, area_of_pointer, area_for_letters}
 use Rattle.stl_types.specs.Context.{Context, data_number, whole_place}
 use Rattle.stl_types.specs.Variables.{data_variable, own_variable}
 use Rattle.stl_types.specs.declared.views.Register.{Register}
@@ -26,19 +26,19 @@ use Rattle.stl_types.specs.declared.views.Resolution.{Resolution}
 use Rattle.stl_types.specs.declared.views.Resolution.TheVariants.{Resolved, Unknown, Unjudged}
 use Rattle.stl_types.specs.declared.views.Side.TheVariants as side
 use Rattle.stl_types.specs.declared.views.ResolvedOperand.{ResolvedOperand}
-use Rattle.stl_types.specs.declared.views.ResolvedOperand.TheVariants as view
+use Rattle.stl_types.specs.declared.views.ResolvedOperand.TheVariants as resolved
 
 -- what a symbol stands for
-abbrev pub target_view : Target → ResolvedOperand
-target_view (target.Variable place width) = view.Direct place width side.Both None
-target_view (target.Timer number) = view.Timer number
-target_view (target.Counter number) = view.Counter number
-target_view (target.Block id) = view.Block
+abbrev pub resolved_target : Target → ResolvedOperand
+resolved_target (target.Variable place width) = resolved.Direct place width side.Both None
+resolved_target (target.Timer number) = resolved.Timer number
+resolved_target (target.Counter number) = resolved.Counter number
+resolved_target (target.Block id) = resolved.Block
 
 -- what a quoted name that is the whole operand names; unknown without a symbol
 abbrev pub resolution_of_symbol : Option Symbol → Resolution
 resolution_of_symbol None = Unknown
-resolution_of_symbol (Some s) = Resolved (target_view s.target)
+resolution_of_symbol (Some s) = Resolved (resolved_target s.target)
 
 -- what a path names: one into the block's own variables, into a data block, or a symbol
 abbrev pub resolution_of_path : Context → PathHead → List PathStep → Resolution
@@ -67,16 +67,16 @@ register_for_word name =
 -- what an operand names that opens the data block of this number; without a number it isn't checked
 abbrev pub resolution_of_opened_block : (di : Bool) → Option ℕ → Resolution
 resolution_of_opened_block di None = Unjudged
-resolution_of_opened_block di (Some number) = Resolved (view.OpenBlock di number)
+resolution_of_opened_block di (Some number) = Resolved (resolved.OpenBlock di number)
 
 -- what an operand names that calls a block, with the number of its instance, if one is named
 abbrev pub resolution_of_call : Option BlockId → (named : Option BlockName) → Option ℕ → Resolution
 resolution_of_call None named instance = Unjudged
-resolution_of_call (Some id) None instance = Resolved (view.Called id None)
+resolution_of_call (Some id) None instance = Resolved (resolved.Called id None)
 resolution_of_call (Some id) (Some name) None = Unjudged
-resolution_of_call (Some id) (Some name) (Some number) = Resolved (view.Called id (Some number))
+resolution_of_call (Some id) (Some name) (Some number) = Resolved (resolved.Called id (Some number))
 
--- the id of a block; none where no place of it is given
+-- kind and number of a block; none where no place of it is given
 abbrev pub id_at : BlockId → Option ℕ → Option BlockId
 id_at id place = option_map (λ p. id) place
 
@@ -93,23 +93,23 @@ instance_number c (Some name) = data_number c name
 
 -- what an operand names
 unfoldable pub resolution_of : Context → Operand → Resolution
-resolution_of c operand.Nothing = Resolved view.Nothing
+resolution_of c operand.Nothing = Resolved resolved.Nothing
 resolution_of c (operand.Direct name a width byte bit) =
     resolution_of_address c name a width byte bit
-resolution_of c (operand.Timer number) = Resolved (view.Timer number)
-resolution_of c (operand.Counter number) = Resolved (view.Counter number)
+resolution_of c (operand.Timer number) = Resolved (resolved.Timer number)
+resolution_of c (operand.Counter number) = Resolved (resolved.Counter number)
 resolution_of c (operand.Named path steps) = resolution_of_path c path steps
 resolution_of c (operand.ByMemory a width from byte) =
-    Resolved (view.ByMemory (area_for_letters a) width (area_for_letters from) byte)
+    Resolved (resolved.ByMemory (area_for_letters a) width (area_for_letters from) byte)
 resolution_of c (operand.NumberBy what from byte) =
-    Resolved (view.NumberBy what (area_for_letters from) byte)
+    Resolved (resolved.NumberBy what (area_for_letters from) byte)
 resolution_of c (operand.ByRegister a width register bits) =
-    Resolved (view.ByRegister (area_left a) width register bits)
-resolution_of c (operand.Pointer a byte bit) = Resolved (view.Pointer (area_left a) byte bit)
-resolution_of c (operand.Constant value) = Resolved view.Constant
-resolution_of c (operand.Label name) = Resolved view.Label
-resolution_of c (operand.OfStatus flag) = Resolved (view.OfStatus flag)
-resolution_of c (operand.Other name) = Resolved (view.Register (register_for_word name))
+    Resolved (resolved.ByRegister (area_of_pointer a) width register bits)
+resolution_of c (operand.Pointer a byte bit) = Resolved (resolved.Pointer (area_of_pointer a) byte bit)
+resolution_of c (operand.Constant value) = Resolved resolved.Constant
+resolution_of c (operand.Label name) = Resolved resolved.Label
+resolution_of c (operand.OfStatus flag) = Resolved (resolved.OfStatus flag)
+resolution_of c (operand.Other name) = Resolved (resolved.Register (register_for_word name))
 resolution_of c (operand.OpenBlock di name) = resolution_of_opened_block di (data_number c name)
 resolution_of c (operand.Called name instance) =
     resolution_of_call (whole_called_block c (named_block c.symbols name)) instance

@@ -10,11 +10,11 @@ use Rattle.stl_types.specs.declared.views.Resolution.TheVariants.{Resolved}
 use Rattle.stl_types.specs.declared.views.ResolvedOperand.{ResolvedOperand}
 
 -- what an operand names, where it isn't unknown and is checked
-abbrev pub resolved_view : Resolution → Option ResolvedOperand
-resolved_view (Resolved v) = Some v
-resolved_view _ = None
+abbrev pub operand_if_resolved : Resolution → Option ResolvedOperand
+operand_if_resolved (Resolved v) = Some v
+operand_if_resolved _ = None
 
 -- what the operand of a statement names, where its instruction takes it
 unfoldable pub resolved_operand : Context → Statement → Option ResolvedOperand
 resolved_operand c s =
-    if is_none (statement_rule c s) then resolved_view (resolution_of c s.operand) else None
+    if is_none (statement_rule c s) then operand_if_resolved (resolution_of c s.operand) else None

@@ -22,23 +22,23 @@ use Rattle.stl_types.specs.declared.views.Resolution.{Resolution}
 use Rattle.stl_types.specs.declared.views.Resolution.TheVariants.{Resolved, Unknown, Unjudged}
 use Rattle.stl_types.specs.declared.views.Side.TheVariants as side
 use Rattle.stl_types.specs.declared.views.ResolvedOperand.{ResolvedOperand}
-use Rattle.stl_types.specs.declared.views.ResolvedOperand.TheVariants as view
+use Rattle.stl_types.specs.declared.views.ResolvedOperand.TheVariants as resolved
 
 -- what a variable is that isn't elementary, by its element type: a DATE_AND_TIME, or a composite
 -- one
 abbrev pub date_or_composite : Element → ResolvedOperand
-date_or_composite element.DateAndTime = view.Date
-date_or_composite _ = view.Composite
+date_or_composite element.DateAndTime = resolved.Date
+date_or_composite _ = resolved.Composite
 
 -- what a component is that isn't elementary: a DATE_AND_TIME, or a composite one
 abbrev pub composite_operand : Option Cell → ResolvedOperand
-composite_operand None = view.Composite
+composite_operand None = resolved.Composite
 composite_operand (Some c) = date_or_composite c.of
 
 -- a variable in an area; none that is sound lies past the addresses
 abbrev pub variable_in_area : Simple → Option (Place × Width) → Resolution
 variable_in_area kind None = Unjudged
-variable_in_area kind (Some p) = Resolved (view.Direct p.0 p.1 side.Both (Some kind))
+variable_in_area kind (Some p) = Resolved (resolved.Direct p.0 p.1 side.Both (Some kind))
 
 -- the place of a parameter in a call: those declared in their order, and the return value, which is
 -- the first of the components, behind them
@@ -55,7 +55,7 @@ parameter_index count place (Some b) = behind_others count place b.result
 -- a parameter of a function, which is the component at this place
 abbrev pub parameter_resolution : (index : ℕ) → Simple → Option Cell → Resolution
 parameter_resolution index kind None = Unjudged
-parameter_resolution index kind (Some c) = Resolved (view.Parameter index c.section kind)
+parameter_resolution index kind (Some c) = Resolved (resolved.Parameter index c.section kind)
 
 -- a parameter of the function that has the body
 abbrev pub parameter_at : Context → ComponentAt → Simple → Resolution

@@ -22,13 +22,13 @@ ends_zone _ = false
 
 -- the zones that are open behind a statement that opens none, by the lines of their MCR(. A )MCR
 -- without open zone leaves none
-abbrev pub zones_ended : (zones : List ℕ) → Mnemonic → List ℕ
-zones_ended zones m = if ends_zone m then take (length zones - 1) zones else zones
+abbrev pub zones_after_ending : (zones : List ℕ) → Mnemonic → List ℕ
+zones_after_ending zones m = if ends_zone m then take (length zones - 1) zones else zones
 
 -- the zones that are open behind a statement, by the lines of their MCR(, the outermost first
 abbrev pub zones_behind : (zones : List ℕ) → Statement → List ℕ
 zones_behind zones s =
-    if opens_zone s.code then zones ++ s.line ∷ [] else zones_ended zones s.code
+    if opens_zone s.code then zones ++ s.line ∷ [] else zones_after_ending zones s.code
 
 -- the zones that are open behind all statements of a list, by the lines of their MCR(, the
 -- outermost first

@@ -1,7 +1,7 @@
 ghost use Rattle.std.specs.Prelude.{◌≡◌};
 ghost use Rattle.stl_types.specs.Actuals.{
   fits_type,
-  fits_view,
+  fits_resolved_operand,
   is_input_section,
   is_same_type,
   is_same_width,
@@ -79,9 +79,9 @@ fn fits_type(formal: &Formal, width: Width, declared: Option<Simple>) -> bool
 }
 
 /// Whether what an actual parameter names fits a parameter.
-#[tactic(auto, unfolding(crate::specs::Actuals::fits_view))]
-pub(crate) fn fits_view(formal: &Formal, view: ResolvedOperand) -> bool
-    ensures { result ≡ fits_view formal.now view }
+#[tactic(auto, unfolding(crate::specs::Actuals::fits_resolved_operand))]
+pub(crate) fn fits_resolved_operand(formal: &Formal, view: ResolvedOperand) -> bool
+    ensures { result ≡ fits_resolved_operand formal.now view }
 {
     match view {
         ResolvedOperand::Direct {

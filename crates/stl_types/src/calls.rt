@@ -108,7 +108,7 @@ pub(crate) fn least_supplied_twice(
     Ok(found)
 }
 
-fn supplied(alloc: Global, actuals: &[Actual]) -> Result<NameIndex, AllocError>
+fn supplied_names(alloc: Global, actuals: &[Actual]) -> Result<NameIndex, AllocError>
     ensures { IfOk result (λ names. names ≡ supplied_names actuals.now) }
 {
     let mut names = NameIndex::new(alloc);
@@ -141,6 +141,6 @@ pub(crate) fn lacks_actual(
     if !matches!(statement.code, Mnemonic::Call) || matches!(callee.id.kind, BlockKind::Fb) {
         return Ok(false);
     }
-    let names = supplied(alloc, statement.actuals.as_slice())?;
+    let names = supplied_names(alloc, statement.actuals.as_slice())?;
     Ok(!are_supplied(&names, callee.formals.as_slice()))
 }

@@ -20,11 +20,11 @@ use stl_symbols::Symbols;
 
 /// A source whose statements break no rule.
 #[derive(Drop)]
-pub struct Checked<'a> {
+pub struct CheckedSource<'a> {
     tree: &'a Tree,
 }
 
-impl<'a> Model for Checked<'a> {
+impl<'a> Model for CheckedSource<'a> {
     ghost use Rattle.stl_ast.specs.declared.blocks.Tree.{Tree};
 
     ghost Value = { Tree };
@@ -32,7 +32,7 @@ impl<'a> Model for Checked<'a> {
     ghost view = { λ c. c.tree.now };
 }
 
-impl<'a> Checked<'a> {
+impl<'a> CheckedSource<'a> {
     /// The source.
     pub fn tree(&self) -> &'a Tree
         ensures { result.now ≡ self.now }
@@ -96,12 +96,12 @@ pub fn check<'a>(
     tree: &'a Tree,
     symbols: &Symbols,
     layouts: &Layouts,
-) -> Result<Checked<'a>, SourceFault>
+) -> Result<CheckedSource<'a>, SourceFault>
     ensures { ChecksTree (least (statement_refusals tree.now symbols.now layouts.now)) tree.now
         result }
 {
     match least_refusal(alloc, tree, symbols, layouts)? {
         Some(refusal) => Err(SourceFault::Refused { refusal }),
-        None => Ok(Checked { tree }),
+        None => Ok(CheckedSource { tree }),
     }
 }

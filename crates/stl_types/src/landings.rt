@@ -87,7 +87,7 @@ struct Targets {
     landings: Vec<Landing>,
 }
 
-fn kept(brackets: &[SourceBracket]) -> &[SourceBracket]
+fn outermost_brackets(brackets: &[SourceBracket]) -> &[SourceBracket]
     ensures { result.now ≡ take 8 brackets.now }
 {
     if brackets.len() > MOST_KEPT {
@@ -101,7 +101,7 @@ fn functions_of(alloc: Global, brackets: &[SourceBracket]) -> Result<Vec<u8>, Al
     ensures { IfOk result (λ functions. functions.items ≡ functions_of brackets.now) }
 {
     let mut functions = Vec::new(alloc);
-    for bracket in kept(brackets) {
+    for bracket in outermost_brackets(brackets) {
         functions.push(bracket.function)?;
     }
     Ok(functions)

@@ -28,7 +28,7 @@ mod views;
 mod zones;
 
 pub use brackets::SourceBracket;
-pub use checking::{Checked, check};
+pub use checking::{CheckedSource, check};
 pub use contexts::Context;
 pub use forms::OperandRule;
 pub use parameters::{Callee, Formal};

@@ -7,7 +7,7 @@ ghost use Rattle.stl_types.specs.Actuals.{fits_operand, fits_resolution, formal_
 ghost use Rattle.stl_types.specs.Calls.{misfits_formal, is_resolved_date};
 ghost use Rattle.stl_types.specs.Resolution.{resolution_of};
 
-use crate::actuals::{fits_view, is_input_section};
+use crate::actuals::{fits_resolved_operand, is_input_section};
 use crate::calls::is_named;
 use crate::contexts::Context;
 use crate::kinds::is_date;
@@ -30,7 +30,7 @@ fn fits_resolution(formal: &Formal, resolution: Resolution) -> bool
     ensures { result ≡ fits_resolution formal.now resolution }
 {
     match resolution {
-        Resolution::Resolved { view } => fits_view(formal, view),
+        Resolution::Resolved { view } => fits_resolved_operand(formal, view),
         Resolution::Unknown | Resolution::Unjudged => true,
     }
 }

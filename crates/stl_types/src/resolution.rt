@@ -3,7 +3,7 @@ ghost use Rattle.std.specs.Str.{bytes_eq};
 ghost use Rattle.plc_base.specs.Kinds.{is_system_function};
 ghost use Rattle.stl_symbols.specs.Symbol.{symbol_named};
 ghost use Rattle.block_layout.specs.Blocks.{named_block};
-ghost use Rattle.stl_types.specs.Addresses.{resolved_address, address_in_block, area_left, area_for_letters, side_of};
+ghost use Rattle.stl_types.specs.Addresses.{resolved_address, address_in_block, area_of_pointer, area_for_letters, side_of};
 ghost use Rattle.stl_types.specs.Context.{data_number};
 ghost use Rattle.stl_types.specs.Resolution.{
   instance_number,
@@ -14,11 +14,11 @@ ghost use Rattle.stl_types.specs.Resolution.{
   resolution_of_opened_block,
   resolution_of_path,
   resolution_of_symbol,
-  target_view,
+  resolved_target,
   whole_called_block,
 };
 ghost use Rattle.stl_types.specs.declared.views.Resolution.TheVariants.{Resolved};
-ghost use Rattle.stl_types.specs.declared.views.ResolvedOperand.TheVariants as view;
+ghost use Rattle.stl_types.specs.declared.views.ResolvedOperand.TheVariants as resolved;
 
 use crate::contexts::Context;
 use crate::views::{Register, Resolution, ResolvedOperand, Side};
@@ -53,8 +53,8 @@ fn side_of(letters: Letters) -> Side
 }
 
 /// The area of a pointer, where it has one.
-fn area_left(letters: Option<Letters>) -> Option<Area>
-    ensures { result ≡ area_left letters }
+fn area_of_pointer(letters: Option<Letters>) -> Option<Area>
+    ensures { result ≡ area_of_pointer letters }
 {
     match letters {
         None => None,
@@ -91,8 +91,8 @@ fn address_in(number: Option<u16>, letters: Letters, width: Width, byte: u16, bi
 }
 
 /// What a symbol stands for.
-fn target_view(target: Target) -> ResolvedOperand
-    ensures { result ≡ target_view target }
+fn resolved_target(target: Target) -> ResolvedOperand
+    ensures { result ≡ resolved_target target }
 {
     match target {
         Target::Variable { place, width } => ResolvedOperand::Direct {
@@ -144,7 +144,7 @@ fn resolved_to(view: ResolvedOperand) -> Resolution
 }
 
 fn resolution_of_register(alloc: Global, name: &Name) -> Result<Resolution, AllocError>
-    ensures { IfOk result (λ s. s ≡ Resolved (view.Register (register_for_word name.now))) }
+    ensures { IfOk result (λ s. s ≡ Resolved (resolved.Register (register_for_word name.now))) }
 {
     let which = register_of(alloc, name)?;
     Ok(resolved_to(ResolvedOperand::Register { which }))
@@ -170,7 +170,7 @@ impl<'a> Context<'a> {
         match self.symbols().lookup(name.as_bytes()) {
             None => Resolution::Unknown,
             Some(target) => Resolution::Resolved {
-                view: target_view(target),
+                view: resolved_target(target),
             },
         }
     }
@@ -309,13 +309,13 @@ impl<'a> Context<'a> {
                 register,
                 bits,
             } => Ok(resolved_to(ResolvedOperand::ByRegister {
-                area: area_left(*area),
+                area: area_of_pointer(*area),
                 width: *width,
                 register: *register,
                 bits: *bits,
             })),
             Operand::Pointer { area, byte, bit } => Ok(resolved_to(ResolvedOperand::Pointer {
-                area: area_left(*area),
+                area: area_of_pointer(*area),
                 byte: *byte,
                 bit: *bit,
             })),

@@ -10,7 +10,7 @@ ghost use Rattle.stl_types.specs.Operands.{
   rules_24_25_39,
   statement_rule,
 };
-ghost use Rattle.stl_types.specs.Resolved.{resolved_operand, resolved_view};
+ghost use Rattle.stl_types.specs.Resolved.{resolved_operand, operand_if_resolved};
 ghost use Rattle.stl_types.specs.Resolution.{resolution_of};
 
 use crate::constants::takes_constant;
@@ -52,8 +52,8 @@ fn operand_rule(form: OperandRule, operand: &Operand, found: Resolution) -> Opti
 }
 
 /// What an operand names, where its resolution has that.
-fn resolved_view(resolution: Resolution) -> Option<ResolvedOperand>
-    ensures { result ≡ resolved_view resolution }
+fn operand_if_resolved(resolution: Resolution) -> Option<ResolvedOperand>
+    ensures { result ≡ operand_if_resolved resolution }
 {
     match resolution {
         Resolution::Resolved { view } => Some(view),
@@ -89,7 +89,7 @@ impl<'a> Context<'a> {
         let resolution = self.resolution(alloc, &statement.operand)?;
         let rule = operand_rule(form_of(statement.code), &statement.operand, resolution);
         if rule.is_none() {
-            Ok(resolved_view(resolution))
+            Ok(operand_if_resolved(resolution))
         } else {
             Ok(None)
         }

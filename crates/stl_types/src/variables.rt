@@ -20,7 +20,7 @@ ghost use Rattle.stl_types.specs.Variables.{
 
 use crate::contexts::Context;
 use crate::views::{Resolution, ResolvedOperand, Side};
-use block_layout::{ComponentAt, Element, Path, PathEnd, placed};
+use block_layout::{ComponentAt, Element, Path, PathEnd, elementary_place};
 use plc_base::{Area, Place, Width};
 use stl_ast::{BlockName, Simple};
 
@@ -124,12 +124,12 @@ impl<'a> Context<'a> {
         ensures { result ≡ own_elementary self.now temporary component kind }
     {
         if temporary {
-            return in_area(kind, placed(Area::L, 0, component.offset, kind));
+            return in_area(kind, elementary_place(Area::L, 0, component.offset, kind));
         }
         if self.in_function() {
             return self.parameter_at(component, kind);
         }
-        in_area(kind, placed(Area::Di, 0, component.offset, kind))
+        in_area(kind, elementary_place(Area::Di, 0, component.offset, kind))
     }
 
     fn own_at(&self, temporary: bool, component: ComponentAt) -> Resolution
@@ -171,7 +171,10 @@ impl<'a> Context<'a> {
             None => Resolution::Resolved {
                 view: self.composite(component),
             },
-            Some(kind) => in_area(kind, placed(Area::Db, number, component.offset, kind)),
+            Some(kind) => in_area(
+                kind,
+                elementary_place(Area::Db, number, component.offset, kind),
+            ),
         }
     }
 

@@ -5,7 +5,7 @@ ghost use Rattle.block_layout.specs.Operands.{in_body, operands_of};
 ghost use Rattle.block_layout.specs.Heads.{on_heads};
 ghost use Rattle.block_layout.specs.Rule23.{has_unknown_head, is_unknown_called, is_unknown_data, is_unknown_id, is_unknown_instance, is_unknown_path, names_unknown, operand_23, rule_23};
 
-use crate::alone::{Alone, least_alone};
+use crate::alone::{DeclarationFault, least_alone};
 use crate::blocks::Shape;
 use crate::lengths::shape_of;
 use crate::types::{Types, id_of, named_block};
@@ -135,7 +135,7 @@ pub(crate) fn least_unknown(types: &Types, blocks: &[Block]) -> Option<Refusal>
     ensures { result ≡ least (rule_23 types.now blocks.now) }
 {
     let heads = least_unknown_head(types, blocks);
-    let declared = least_alone(types, Alone::UnknownType, blocks);
+    let declared = least_alone(types, DeclarationFault::UnknownType, blocks);
     let used = least_unknown_operand(types, blocks);
     lesser(lesser(heads, declared), used)
 }

@@ -2,7 +2,7 @@ ghost use Rattle.std.specs.Prelude.{◌≡◌, IfOk};
 ghost use Rattle.plc_base.specs.Least.{least};
 ghost use Rattle.block_layout.specs.Rule41.{rule_41, fits_kind, misfits_component};
 
-use crate::alone::{Alone, least_alone};
+use crate::alone::{DeclarationFault, least_alone};
 use crate::blocks::BlockLayout;
 use crate::constants::fits;
 use crate::routes::elementary_at;
@@ -22,7 +22,7 @@ pub(crate) fn least_unfit(
 ) -> Result<Option<Refusal>, AllocError>
     ensures { IfOk result (λ r. r ≡ least (rule_41 layouts.now blocks.now)) }
 {
-    let declared = least_alone(types, Alone::UnfitValue, blocks);
+    let declared = least_alone(types, DeclarationFault::UnfitValue, blocks);
     let set = least_of_settings(alloc, layouts, SettingFault::UnfitValue, blocks)?;
     Ok(lesser(declared, set))
 }

@@ -6,7 +6,7 @@ ghost use Rattle.block_layout.specs.Operands.{in_body, operands_of};
 ghost use Rattle.block_layout.specs.Paths.{folded_path, leaves_local};
 ghost use Rattle.block_layout.specs.Rule42.{bodies_42, leaves_found, leaves_path, operand_42, operand_is_outside, rule_42};
 
-use crate::alone::{Alone, least_alone};
+use crate::alone::{DeclarationFault, least_alone};
 use crate::beyond::{leaves_local, leaves_structure};
 use crate::blocks::BlockLayout;
 use crate::paths::Path;
@@ -184,7 +184,7 @@ pub(crate) fn least_outside(
 ) -> Result<Option<Refusal>, AllocError>
     ensures { IfOk result (λ r. r ≡ least (rule_42 types.now layouts.now blocks.now)) }
 {
-    let declared = least_alone(types, Alone::UpsideDown, blocks);
+    let declared = least_alone(types, DeclarationFault::UpsideDown, blocks);
     let set = least_of_settings(alloc, layouts, SettingFault::OutsideIndex, blocks)?;
     let used = least_outside_operand(alloc, types, layouts, blocks)?;
     Ok(lesser(lesser(declared, set), used))

@@ -32,7 +32,7 @@ fn declared_in(part: &Part) -> usize
 }
 
 /// The return value of a function is one parameter.
-fn returned(of: Option<Simple>) -> u64
+fn return_value_count(of: Option<Simple>) -> u64
     ensures { result ≡ return_value_count of }
 {
     match of {
@@ -56,7 +56,7 @@ pub(crate) fn has_too_many_parameters(block: &Block) -> bool
     ensures { result ≡ has_too_many_parameters block.now }
 {
     let declared = parameters_in(block.parts.as_slice());
-    declared.saturating_add(returned(block.result)) > MOST_PARAMETERS
+    declared.saturating_add(return_value_count(block.result)) > MOST_PARAMETERS
 }
 
 /// The least refusal by rule 52.

@@ -36,7 +36,7 @@ use Rattle.stl_types.specs.Kinds.{is_operand_of_call}
 use Rattle.stl_types.specs.Operands.{operand_rule, rule_of_resolved_operand, rule_of_resolution, statement_rule, takes_operand}
 use Rattle.stl_types.specs.Parameters.{Callee, callee_at, callee_by, callee_of, formals_of, is_sound_formal, source_callee, system_callee, system_formals}
 use Rattle.stl_types.specs.Resolution.{resolution_of_call, id_at, instance_number, resolution_of, whole_called_block}
-use Rattle.stl_types.specs.Resolved.{resolved_operand, resolved_view}
+use Rattle.stl_types.specs.Resolved.{resolved_operand, operand_if_resolved}
 use Rattle.stl_types.specs.declared.forms.OperandRule.{OperandRule}
 use Rattle.stl_types.specs.declared.forms.OperandRule.TheVariants as form
 use Rattle.stl_types.specs.declared.parameters.Formal.{Formal}
@@ -137,7 +137,7 @@ seen_named c name inst id instance e = by (named_block c.symbols name) e
     by None h = absurd cc
     by (Some x) h = whether x (is_system_function x.kind) refl h
 
-view_seen : (r : Resolution) (v : ResolvedOperand) → resolved_view r ≡ Some v → r ≡ Resolved v
+view_seen : (r : Resolution) (v : ResolvedOperand) → operand_if_resolved r ≡ Some v → r ≡ Resolved v
 view_seen (Resolved w) v e = ap (λ (z : ResolvedOperand). Resolved z) (same_Some w v e)
 view_seen Unknown v e = absurd cc
 view_seen Unjudged v e = absurd cc
@@ -146,7 +146,7 @@ pub resolved_seen : (c : Context) (s : Statement) (v : ResolvedOperand) → reso
 unfolding resolved_operand
 resolved_seen c s v e = by (is_none (statement_rule c s)) e
   where
-    by : (t : Bool) → (if t then resolved_view (resolution_of c s.operand) else None) ≡ Some v → resolution_of c s.operand ≡ Resolved v
+    by : (t : Bool) → (if t then operand_if_resolved (resolution_of c s.operand) else None) ≡ Some v → resolution_of c s.operand ≡ Resolved v
     by true h = view_seen (resolution_of c s.operand) v h
     by false h = absurd cc
 

@@ -19,7 +19,7 @@ use Rattle.stl_types.specs.Parameters.{Callee}
 use Rattle.stl_types.specs.declared.parameters.Formal.{Formal}
 use Rattle.stl_types.specs.declared.views.ResolvedOperand.TheVariants as view
 use Rattle.stl_codegen.specs.Emitted.{instance_number_or_zero}
-use Rattle.stl_codegen.specs.Instruction.{instr_by, instruction, passings_to, resolved_instr, view_instr}
+use Rattle.stl_codegen.specs.Instruction.{instr_by, instruction, passings_to, resolved_instr, operand_instr}
 use Rattle.stl_codegen.specs.Operations.{call_operation_of, jump_operation_of}
 use Rattle.stl_list.specs.Operands.{name_of_data_block, instance_name, operand_by, plain_operand}
 use Rattle.listing_laws.specs.Calls.{AreCallsKept, AreCallsListed, AreCallsWhole, AreFunctionsKnown, AreInstancesRight, AreStatementsListed, IsInstanceNumbered}
@@ -65,7 +65,7 @@ unfolding instruction
 calls_kept c body n s how id instance own called callee ps call seen found listed =
     ap (instr_by c body n s) (no_jump s.code how call)
     ∙ ap (resolved_instr c s) seen
-    ∙ ap (view_instr c s (view.Called id instance)) call
+    ∙ ap (operand_instr c s (view.Called id instance)) call
     ∙ ap (λ (o : Option Callee). Calls how id instance (passings_to c s o)) found
     ∙ ap (Calls how id instance) (passings_kept c own called callee ps s listed)
 

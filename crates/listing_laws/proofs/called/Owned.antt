@@ -36,7 +36,7 @@ use Rattle.block_layout.specs.declared.walks.PathEnd.TheVariants as path_end
 use Rattle.stl_types.specs.Addresses.{address_in_block}
 use Rattle.stl_types.specs.Context.{Context, data_number, data_place, in_function}
 use Rattle.stl_types.specs.Parameters.{formal, formal_here, formal_of, formals_of}
-use Rattle.stl_types.specs.Resolution.{resolution_of_call, resolution_of_address, instance_number, resolution_of_opened_block, resolution_of_path, resolution_of, resolution_of_symbol, target_view, whole_called_block}
+use Rattle.stl_types.specs.Resolution.{resolution_of_call, resolution_of_address, instance_number, resolution_of_opened_block, resolution_of_path, resolution_of, resolution_of_symbol, resolved_target, whole_called_block}
 use Rattle.stl_types.specs.Variables.{behind_others, composite_operand, data_at, data_path, data_variable, data_at_path_end, date_or_composite, variable_in_area, own_at, own_variable, own_at_path_end, parameter_resolution, parameter_at, parameter_index}
 use Rattle.stl_types.specs.declared.parameters.Formal.{Formal}
 use Rattle.stl_types.specs.declared.views.Resolution.{Resolution}
@@ -304,7 +304,7 @@ module _ (c : Context) (own : in_function c ≡ true → AllByRecursion IsParame
       by (Some n) None = tt
       by (Some n) (Some block) = data_walk_own n (path_end_in_data_block c.layouts block steps)
 
-  target_own : (t : Target) → IsOwn (target_view t)
+  target_own : (t : Target) → IsOwn (resolved_target t)
   target_own (target.Variable place w) = tt
   target_own (target.Timer n) = tt
   target_own (target.Counter n) = tt

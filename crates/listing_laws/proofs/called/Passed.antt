@@ -21,13 +21,13 @@ use Rattle.stl_ast.specs.declared.operands.Operand.{Operand}
 use Rattle.stl_ast.specs.declared.operands.Operand.TheVariants as operand
 use Rattle.stl_ast.specs.declared.statements.Actual.{Actual}
 use Rattle.stl_ast.specs.declared.statements.Statement.{Statement}
-use Rattle.stl_types.specs.Actuals.{fits_operand, fits_resolution, fits_view, formal_named, is_same_type, takes_section, type_number}
+use Rattle.stl_types.specs.Actuals.{fits_operand, fits_resolution, fits_resolved_operand, formal_named, is_same_type, takes_section, type_number}
 use Rattle.stl_types.specs.Calls.{misfits_formal}
 use Rattle.stl_types.specs.Context.{Context}
 use Rattle.stl_types.specs.Parameters.{Callee, callee_of}
 use Rattle.stl_types.specs.Resolution.{resolution_of}
 use Rattle.stl_types.specs.Resolved.{resolved_operand}
-use Rattle.stl_codegen.specs.Instruction.{end_instr, instr_by, instruction, jump_instr, passings_to, resolved_instr, target_of, view_instr}
+use Rattle.stl_codegen.specs.Instruction.{end_instr, instr_by, instruction, jump_instr, passings_to, resolved_instr, target_of, operand_instr}
 use Rattle.stl_codegen.specs.Operations.{call_operation_of, end_operation_of, jump_operation_of}
 use Rattle.stl_types.specs.declared.parameters.Formal.{Formal}
 use Rattle.stl_types.specs.declared.views.Resolution.{Resolution}
@@ -35,7 +35,7 @@ use Rattle.stl_types.specs.declared.views.Resolution.TheVariants.{Resolved, Unkn
 use Rattle.stl_types.specs.declared.views.ResolvedOperand.{ResolvedOperand}
 use Rattle.stl_types.specs.declared.views.ResolvedOperand.TheVariants as view
 use Rattle.stl_codegen.specs.Operands.{is_in_named_block}
-use Rattle.stl_codegen.specs.Passed.{passed_actual, passed_resolution, passed_view, passings_from, actual_of_formal, with_index}
+use Rattle.stl_codegen.specs.Passed.{passed_actual, passed_resolution, passed_by_operand, passings_from, actual_of_formal, with_index}
 use Rattle.listing_laws.specs.HandedOn.{ArePassedOn, AreStatementsHandedOn, HandsTypesOn, CallOwesTypes, IsFoundAmong, IsHandedOn, SeesOwn, formals_by_index}
 
 same_types : (a b : Simple) → is_same_type a b ≡ true → a ≡ b
@@ -71,7 +71,7 @@ no_parameter index section kind e = absurd cc
 
 own_type : (c : Context) (f : Formal) (o : Operand) (index : ℕ) (section : PartKind) (kind : Simple)
     → resolution_of c o ≡ Resolved (view.Parameter index section kind) → fits_operand c f o ≡ true → kind ≡ f.kind
-unfolding fits_operand fits_view
+unfolding fits_operand fits_resolved_operand
 own_type c f (operand.Constant value) index section kind e h = absurd (no_parameter index section kind (sym (constant_seen c value) ∙ e))
 own_type c f o index section kind e h =
     same_types kind f.kind (and_first (is_same_type kind f.kind) (takes_section f.section section) (sym (ap (fits_resolution f) e) ∙ h))
@@ -104,7 +104,7 @@ module _ (c : Context) (own : List Simple) (own_seen : SeesOwn c own) (all : Lis
 
   -- what an operand that fits passes
   view_handed : (f : Formal) (i : ℕ) (o : Operand) (v : ResolvedOperand) → resolution_of c o ≡ Resolved v → fits_operand c f o ≡ true
-      → slice_get (map (λ (f : Formal). f.kind) all) i ≡ Some f.kind → AreHanded (with_index i (passed_view o v))
+      → slice_get (map (λ (f : Formal). f.kind) all) i ≡ Some f.kind → AreHanded (with_index i (passed_by_operand o v))
   view_handed f i o (view.Parameter index section kind) e h at =
       ((kind, own_seen o index section kind e, at ∙ ap Some (sym (own_type c f o index section kind e h))), tt)
   view_handed f i o (view.Direct place w side declared) e h at = by (is_in_named_block place)
@@ -163,7 +163,7 @@ module _ (types : BlockId → List Simple) (blocks : List CodeBlock) (c : Contex
 
   view_handed_on : (s : Statement) (v : ResolvedOperand) (how : Option CallOperation)
       → ((id : BlockId) (instance : Option ℕ) → v ≡ view.Called id instance → CallOwesTypes types blocks c s id)
-      → HandsTypesOn types blocks own (view_instr c s v how)
+      → HandsTypesOn types blocks own (operand_instr c s v how)
   view_handed_on s v None owes = ended (end_operation_of s.code)
     where
       ended : (e : Option EndOperation) → HandsTypesOn types blocks own (end_instr s v e)

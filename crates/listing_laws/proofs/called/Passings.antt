@@ -27,7 +27,7 @@ use Rattle.stl_ast.specs.declared.statements.Actual.{Actual}
 use Rattle.stl_symbols.specs.Names.{name_place}
 use Rattle.block_layout.specs.Fits.{bits_of, fits_elementary_type}
 use Rattle.block_layout.specs.Offsets.{width_of}
-use Rattle.stl_types.specs.Actuals.{fits_operand, fits_resolution, fits_view, formal_named, is_input_section, is_same_type, is_same_width, takes_section, takes_side, type_number}
+use Rattle.stl_types.specs.Actuals.{fits_operand, fits_resolution, fits_resolved_operand, formal_named, is_input_section, is_same_type, is_same_width, takes_section, takes_side, type_number}
 use Rattle.stl_types.specs.Addresses.{address_in_block, side_of}
 use Rattle.stl_types.specs.Calls.{is_supplied, is_supplied_twice, misfits_formal, names_no_formal, is_resolved_date, supplied_names, actuals_supplied_twice}
 use Rattle.stl_types.specs.Context.{Context, data_number}
@@ -172,20 +172,20 @@ side_taken part.Temp area.P = refl
 
 direct_fits : (c : Context) (f : Formal) (a : Area) (w : Width) (byte bit : ℕ) → w ≡ width_of f.kind
     → fits_operand c f (direct_operand None (is_written f.section) a w byte bit) ≡ true
-unfolding fits_operand fits_view resolution_of
+unfolding fits_operand fits_resolved_operand resolution_of
 direct_fits c f a w byte bit e =
     both (is_same_width w (width_of f.kind)) (takes_side f.section (side_of (letters_for_area (is_written f.section) a))) (same_width w (width_of f.kind) e) (side_taken f.section a)
 
 in_block_fits : (c : Context) (f : Formal) (number : ℕ) (w : Width) (byte bit : ℕ) → w ≡ width_of f.kind → data_number c (name_of_data_block number) ≡ Some number
     → fits_operand c f (direct_operand (Some number) (is_written f.section) area.Db w byte bit) ≡ true
-unfolding fits_operand fits_view
+unfolding fits_operand fits_resolved_operand
 in_block_fits c f number w byte bit e there =
     ap (fits_resolution f) (in_block_seen c (is_written f.section) number w byte bit there)
     ∙ both (is_same_width w (width_of f.kind)) true (same_width w (width_of f.kind) e) refl
 
 own_fits : (c : Context) (own : List Formal) (f g : Formal) (index : ℕ) → resolution_of c (own_parameter own index) ≡ Resolved (view.Parameter index g.section g.kind)
     → g.kind ≡ f.kind → takes_section f.section g.section ≡ true → fits_operand c f (own_parameter own index) ≡ true
-unfolding fits_operand fits_view
+unfolding fits_operand fits_resolved_operand
 own_fits c own f g index there kind section =
     ap (fits_resolution f) there ∙ both (is_same_type g.kind f.kind) (takes_section f.section g.section) (same_type g.kind f.kind kind) section
 

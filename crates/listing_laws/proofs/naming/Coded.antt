@@ -64,8 +64,8 @@ use Rattle.stl_types.specs.Context.{Context, data_number, data_place, in_functio
 use Rattle.stl_types.specs.Kinds.{is_operand_of_call as is_called_view}
 use Rattle.stl_types.specs.Operands.{operand_rule, statement_rule}
 use Rattle.stl_types.specs.Parameters.{Callee, callee_of}
-use Rattle.stl_types.specs.Resolution.{resolution_of_call, resolution_of_address, instance_number as number_of_instance, resolution_of_opened_block, resolution_of_path, resolution_of, resolution_of_symbol, target_view, whole_called_block}
-use Rattle.stl_types.specs.Resolved.{resolved_operand, resolved_view}
+use Rattle.stl_types.specs.Resolution.{resolution_of_call, resolution_of_address, instance_number as number_of_instance, resolution_of_opened_block, resolution_of_path, resolution_of, resolution_of_symbol, resolved_target, whole_called_block}
+use Rattle.stl_types.specs.Resolved.{resolved_operand, operand_if_resolved}
 use Rattle.stl_types.specs.Variables.{composite_operand, data_at, data_path, data_variable, data_at_path_end, date_or_composite, variable_in_area, is_temporary_variable, own_at, own_elementary, own_variable, own_at_path_end, parameter_resolution, parameter_at, parameter_index}
 use Rattle.stl_types.specs.declared.forms.OperandRule.TheVariants as form
 use Rattle.stl_types.specs.declared.forms.OperandRule.{OperandRule}
@@ -78,11 +78,11 @@ use Rattle.stl_types.specs.declared.views.ResolvedOperand.TheVariants as view
 use Rattle.stl_codegen.specs.Compiled.{SourceInstruction, StatedBlock, operand_with_target, compiled_block}
 use Rattle.stl_codegen.specs.Emitted.{instance_number_or_zero, pass_ops}
 use Rattle.stl_codegen.specs.Generated.{code_block, code_block_of, code_blocks_of, each_block, return_statement, stated_from, statements_of}
-use Rattle.stl_codegen.specs.Instruction.{source_block_at, call_instr, end_instr, in_parameter_order, instr_by, instruction, jump_instr, passings_to, resolved_instr, target_of, view_instr}
+use Rattle.stl_codegen.specs.Instruction.{source_block_at, call_instr, end_instr, in_parameter_order, instr_by, instruction, jump_instr, passings_to, resolved_instr, target_of, operand_instr}
 use Rattle.stl_codegen.specs.Operands.{is_in_named_block, flat_operand_of}
 use Rattle.stl_codegen.specs.Operations.{call_operation_of, end_operation_of, jump_operation_of}
 use Rattle.stl_codegen.specs.Order.{is_code_before}
-use Rattle.stl_codegen.specs.Passed.{passed_actual, passed_place, passed_resolution, passed_view, passings_from, actual_of_formal, with_index}
+use Rattle.stl_codegen.specs.Passed.{passed_actual, passed_place, passed_resolution, passed_by_operand, passings_from, actual_of_formal, with_index}
 use Rattle.stl_list.specs.Runs.{Run, runs}
 use Rattle.sem_kept.proofs.accepted.OperandsCalls.{none_passed}
 use Rattle.sem_kept.proofs.accepted.Shared.{call_form, calls_called, no_call_constant, rule_there}
@@ -156,7 +156,7 @@ data_plain c name steps = by (data_number c name) (data_place c name) where
   by (Some n) None = tt
   by (Some n) (Some block) = data_walk_plain c n (path_end_in_data_block c.layouts block steps)
 
-target_plain : (t : Target) → TargetIsNoBit t → ViewIsNoBit (target_view t)
+target_plain : (t : Target) → TargetIsNoBit t → ViewIsNoBit (resolved_target t)
 target_plain (target.Variable place w) h = h
 target_plain (target.Timer n) h = tt
 target_plain (target.Counter n) h = tt
@@ -210,7 +210,7 @@ place_passed : (place : Place) (w : Width) → IsNoBit place.area w → PassedIs
 place_passed place w h =
     either_way PassedIsNoBit (is_in_named_block place) (passed.InBlock place.number place.area w place.byte place.bit) (passed.Direct place.area w place.byte place.bit) h h
 
-view_passed : (index : ℕ) (o : Operand) (v : ResolvedOperand) → ViewIsNoBit v → ArePassed (with_index index (passed_view o v))
+view_passed : (index : ℕ) (o : Operand) (v : ResolvedOperand) → ViewIsNoBit v → ArePassed (with_index index (passed_by_operand o v))
 view_passed index o (view.Direct place w side declared) h = (place_passed place w h, tt)
 view_passed index o (view.Parameter own section declared) h = (tt, tt)
 view_passed index o view.Constant h = (tt, tt)
@@ -373,10 +373,10 @@ call_named c s how (view.Called id instance) h word named right = (
 call_named c s how _ h word named right = tt
 
 view_named : (c : Context) (s : Statement) (v : ResolvedOperand) → IsRight c s → resolution_of c s.operand ≡ Resolved v → statement_rule c s ≡ None → ViewIsNoBit v
-    → InstrIsNamed (view_instr c s v (call_operation_of s.code))
+    → InstrIsNamed (operand_instr c s v (call_operation_of s.code))
 view_named c s v h named right no_bit = by (call_operation_of s.code) refl
   where
-    by : (how : Option CallOperation) → call_operation_of s.code ≡ how → InstrIsNamed (view_instr c s v how)
+    by : (how : Option CallOperation) → call_operation_of s.code ≡ how → InstrIsNamed (operand_instr c s v how)
     by None e = end_named s v (end_operation_of s.code) no_bit
     by (Some how) e = call_named c s how v h e named right
 
@@ -385,7 +385,7 @@ unfolding resolved_operand
 resolved_named c s h = by (statement_rule c s) refl (resolution_of c s.operand) refl (seen_plain c s.operand h.symbols h.no_bit.0)
   where
     by : (rule : Option ℕ) → statement_rule c s ≡ rule → (r : Resolution) → resolution_of c s.operand ≡ r → SeenIsNoBit r
-        → InstrIsNamed (resolved_instr c s (if is_none rule then resolved_view r else None))
+        → InstrIsNamed (resolved_instr c s (if is_none rule then operand_if_resolved r else None))
     by (Some rule) e r f k = tt
     by None e (Resolved v) f k = view_named c s v h f e k
     by None e Unknown f k = tt

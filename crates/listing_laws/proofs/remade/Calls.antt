@@ -53,7 +53,7 @@ use Rattle.stl_types.specs.declared.views.ResolvedOperand.TheVariants as view
 use Rattle.stl_codegen.specs.Compiled.{StatedBlock, compiled_block}
 use Rattle.stl_codegen.specs.Emitted.{instance_number_or_zero, ops_of, pass_ops}
 use Rattle.stl_codegen.specs.Generated.{code_block, code_blocks_of, data_blocks_of, params_of}
-use Rattle.stl_codegen.specs.Instruction.{source_block_at, in_parameter_order, instr_by, instruction, passings_to, resolved_instr, return_last, view_instr}
+use Rattle.stl_codegen.specs.Instruction.{source_block_at, in_parameter_order, instr_by, instruction, passings_to, resolved_instr, return_last, operand_instr}
 use Rattle.stl_codegen.specs.Operations.{call_operation_of}
 use Rattle.stl_list.specs.Joined.{system_parameters}
 use Rattle.stl_list.specs.Operands.{name_of_data_block, name_at, own_parameter as own_named}
@@ -131,7 +131,7 @@ pub called_instr : (c : Context) (body : List Statement) (n : ℕ) (s : Statemen
     → resolved_operand c s ≡ Some (view.Called id instance) → callee_of c s.operand ≡ Some callee → instruction c body n s ≡ Calls how id instance (passings_to c s (Some callee))
 unfolding instruction
 called_instr c body n s how id instance callee word e found =
-    ap (instr_by c body n s) (no_jump s.code how word) ∙ ap (resolved_instr c s) e ∙ ap (view_instr c s (view.Called id instance)) word
+    ap (instr_by c body n s) (no_jump s.code how word) ∙ ap (resolved_instr c s) e ∙ ap (operand_instr c s (view.Called id instance)) word
     ∙ ap (λ (o : Option Callee). Calls how id instance (passings_to c s o)) found
 
 not_true : (t : Bool) → not t ≡ false → t ≡ true

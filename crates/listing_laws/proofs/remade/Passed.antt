@@ -31,7 +31,7 @@ use Rattle.stl_types.specs.declared.views.ResolvedOperand.TheVariants as view
 use Rattle.flat_code.specs.Instr.{Calls}
 use Rattle.stl_codegen.specs.Emitted.{call_op, ops_of, pass_ops}
 use Rattle.stl_codegen.specs.Operands.{is_in_named_block, opened_by_place}
-use Rattle.stl_codegen.specs.Passed.{passed_actual, passed_place, passed_resolution, passed_view, passings_from, actual_of_formal, with_index}
+use Rattle.stl_codegen.specs.Passed.{passed_actual, passed_place, passed_resolution, passed_by_operand, passings_from, actual_of_formal, with_index}
 use Rattle.sem_kept.specs.Operands.{ArePassed}
 use Rattle.sem_kept.proofs.accepted.CodedOps.{IsGoodPart, IsGoodStatement}
 use Rattle.sem_kept.proofs.accepted.CodedViews.{found_holds}
@@ -59,7 +59,7 @@ place_stored listed place w h = by (is_in_named_block place) h
     by false k = tt
 
 module _ (c listed : Context) (formals : List Formal) (has : HasAgain c listed formals) where
-  view_stored : (i : ℕ) (o : Operand) (v : ResolvedOperand) → StandsAgain listed formals v → AreStored listed (with_index i (passed_view o v))
+  view_stored : (i : ℕ) (o : Operand) (v : ResolvedOperand) → StandsAgain listed formals v → AreStored listed (with_index i (passed_by_operand o v))
   view_stored i o (view.Direct place w side declared) h = (place_stored listed place w h, tt)
   view_stored i o (view.Parameter index section declared) h = (tt, tt)
   view_stored i o view.Constant h = (tt, tt)

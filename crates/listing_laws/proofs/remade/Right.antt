@@ -23,7 +23,7 @@ use Rattle.block_layout.specs.Fits.{bits_of, fits_elementary_type}
 use Rattle.block_layout.specs.Layouts.{layouts_of}
 use Rattle.block_layout.specs.Measures.{types_of_source}
 use Rattle.block_layout.specs.declared.blocks.BlockLayout.{BlockLayout}
-use Rattle.stl_types.specs.Addresses.{area_left, area_for_letters}
+use Rattle.stl_types.specs.Addresses.{area_of_pointer, area_for_letters}
 use Rattle.stl_types.specs.Context.{Context}
 use Rattle.sem_kept.specs.Coded.{HasBytes, OperandHasBytes, StatementHasBytes}
 use Rattle.sem_kept.proofs.accepted.Accepted.{AllLaid, IsSoundBlock, IsSoundStatement, right_tree}
@@ -45,7 +45,7 @@ constant_coded value is has = record { literal = is; word = word }
     word : fits_elementary_type value simple.Word ≡ true → bits_of value ≤ 65535
     word e = let few = value_fits value simple.Word is has e in omega (arith, few)
 
-pointer_coded : (a : Option Letters) (byte bit : ℕ) → OperandIsNoBit (operand.Pointer a byte bit) → area_left a ≡ Some area.P → ⊥
+pointer_coded : (a : Option Letters) (byte bit : ℕ) → OperandIsNoBit (operand.Pointer a byte bit) → area_of_pointer a ≡ Some area.P → ⊥
 pointer_coded None byte bit h e = absurd cc
 pointer_coded (Some a) byte bit h e = subst (λ (z : Area). IsNoBit z width.Bit) (same (area_for_letters a) e) h
   where

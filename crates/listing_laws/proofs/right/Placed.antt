@@ -23,7 +23,7 @@ use Rattle.block_layout.specs.declared.blocks.BlockLayout.{BlockLayout}
 use Rattle.plc_base.specs.declared.blocks.BlockId.{BlockId}
 use Rattle.stl_types.specs.Context.{Context}
 use Rattle.stl_types.specs.Resolution.{resolution_of}
-use Rattle.stl_types.specs.Resolved.{resolved_operand, resolved_view}
+use Rattle.stl_types.specs.Resolved.{resolved_operand, operand_if_resolved}
 use Rattle.stl_types.specs.declared.views.Resolution.TheVariants.{Resolved}
 use Rattle.stl_types.specs.declared.views.ResolvedOperand.{ResolvedOperand}
 use Rattle.stl_types.specs.declared.views.ResolvedOperand.TheVariants as view
@@ -62,7 +62,7 @@ pub labels_seen : (c : Context) (name : List ℕ) → resolution_of c (operand.L
 unfolding resolution_of
 labels_seen c name = refl
 
-some_view : (c : Context) (body : List Statement) (s : Statement) → IsResolvedStatement c body s → resolved_operand c s ≡ resolved_view (resolution_of c s.operand) → (v : ResolvedOperand) × (resolved_operand c s ≡ Some v)
+some_view : (c : Context) (body : List Statement) (s : Statement) → IsResolvedStatement c body s → resolved_operand c s ≡ operand_if_resolved (resolution_of c s.operand) → (v : ResolvedOperand) × (resolved_operand c s ≡ Some v)
 some_view c body s h e = by (jump_operation_of s.code) h.instruction
   where
     by_call : (how : Option CallOperation) → HasOperand c s how → (v : ResolvedOperand) × (resolved_operand c s ≡ Some v)
@@ -71,7 +71,7 @@ some_view c body s h e = by (jump_operation_of s.code) h.instruction
 
     by : (how : Option JumpOperation) → HasInstruction c body s how → (v : ResolvedOperand) × (resolved_operand c s ≡ Some v)
     by None o = by_call (call_operation_of s.code) o
-    by (Some how) o = (view.Label, e ∙ ap (λ (x : Operand). resolved_view (resolution_of c x)) o.is ∙ ap resolved_view (labels_seen c o.name))
+    by (Some how) o = (view.Label, e ∙ ap (λ (x : Operand). operand_if_resolved (resolution_of c x)) o.is ∙ ap operand_if_resolved (labels_seen c o.name))
 
 not_none : {A : Type 0} (x : A) → None ≡ Some x → ⊥
 not_none x e = absurd cc

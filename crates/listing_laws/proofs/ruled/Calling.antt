@@ -30,7 +30,7 @@ use Rattle.stl_types.specs.declared.views.Resolution.TheVariants.{Resolved}
 use Rattle.stl_types.specs.declared.views.ResolvedOperand.{ResolvedOperand}
 use Rattle.stl_types.specs.declared.views.ResolvedOperand.TheVariants as view
 use Rattle.stl_codegen.specs.Emitted.{instance_number_or_zero as instance_of}
-use Rattle.stl_codegen.specs.Instruction.{source_block_at, in_parameter_order, instr_by, instruction, passings_to, resolved_instr, view_instr}
+use Rattle.stl_codegen.specs.Instruction.{source_block_at, in_parameter_order, instr_by, instruction, passings_to, resolved_instr, operand_instr}
 use Rattle.stl_codegen.specs.Operations.{call_operation_of, jump_operation_of}
 use Rattle.stl_codegen.specs.Passed.{passings_from}
 use Rattle.stl_list.specs.Actuals.{actuals_by}
@@ -67,7 +67,7 @@ calls_to : (c : Context) (body : List Statement) (n : ℕ) (s : Statement) (how 
     → instruction c body n s ≡ Calls how id instance []
 unfolding instruction
 calls_to c body n s how id instance h none e =
-    ap (instr_by c body n s) (no_jump s.code how h) ∙ ap (resolved_instr c s) e ∙ ap (view_instr c s (view.Called id instance)) h
+    ap (instr_by c body n s) (no_jump s.code how h) ∙ ap (resolved_instr c s) e ∙ ap (operand_instr c s (view.Called id instance)) h
     ∙ ap (λ (ps : List Passing). Calls how id instance ps) (none_passed c s (callee_of c s.operand) none)
 
 -- ---- the block that is called

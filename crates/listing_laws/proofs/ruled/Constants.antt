@@ -17,7 +17,7 @@ use Rattle.stl_ast.specs.declared.mnemonics.Mnemonic.TheVariants as code
 use Rattle.stl_ast.specs.declared.operands.Operand.{Operand}
 use Rattle.stl_ast.specs.declared.operands.Operand.TheVariants as operand
 use Rattle.block_layout.specs.Fits.{bits_of, fits_elementary_type, twos_complement_bits}
-use Rattle.stl_types.specs.Addresses.{area_left}
+use Rattle.stl_types.specs.Addresses.{area_of_pointer}
 use Rattle.stl_types.specs.Constants.{is_count, takes_constant}
 use Rattle.stl_types.specs.Context.{Context}
 use Rattle.stl_types.specs.Forms.{form_of}
@@ -132,15 +132,15 @@ crossing_byte k byte bit f g = omega (arith, f, g)
 crossing_bit : (k byte bit : ℕ) → bit ≤ 7 → crossing_pointer k byte bit % 8 ≡ bit
 crossing_bit k byte bit g = omega (arith, g)
 
-area_again : (a : Option Area) (byte bit : ℕ) → IsPointer a byte bit → area_left (pointer_letters (pointer_bits a byte bit)) ≡ a
-area_again None byte bit h = let f = h.low_byte in let g = h.low_bit in ap area_left (letters_none (8 * byte + bit) (omega (arith, f, g)))
+area_again : (a : Option Area) (byte bit : ℕ) → IsPointer a byte bit → area_of_pointer (pointer_letters (pointer_bits a byte bit)) ≡ a
+area_again None byte bit h = let f = h.low_byte in let g = h.low_bit in ap area_of_pointer (letters_none (8 * byte + bit) (omega (arith, f, g)))
 area_again (Some area.P) byte bit h = absurd (h.no_peripherals refl)
-area_again (Some area.I) byte bit h = ap area_left (crossing_area 1 byte bit (omega arith) h.low_byte h.low_bit)
-area_again (Some area.Q) byte bit h = ap area_left (crossing_area 2 byte bit (omega arith) h.low_byte h.low_bit)
-area_again (Some area.M) byte bit h = ap area_left (crossing_area 3 byte bit (omega arith) h.low_byte h.low_bit)
-area_again (Some area.Db) byte bit h = ap area_left (crossing_area 4 byte bit (omega arith) h.low_byte h.low_bit)
-area_again (Some area.Di) byte bit h = ap area_left (crossing_area 5 byte bit (omega arith) h.low_byte h.low_bit)
-area_again (Some area.L) byte bit h = ap area_left (crossing_area 6 byte bit (omega arith) h.low_byte h.low_bit)
+area_again (Some area.I) byte bit h = ap area_of_pointer (crossing_area 1 byte bit (omega arith) h.low_byte h.low_bit)
+area_again (Some area.Q) byte bit h = ap area_of_pointer (crossing_area 2 byte bit (omega arith) h.low_byte h.low_bit)
+area_again (Some area.M) byte bit h = ap area_of_pointer (crossing_area 3 byte bit (omega arith) h.low_byte h.low_bit)
+area_again (Some area.Db) byte bit h = ap area_of_pointer (crossing_area 4 byte bit (omega arith) h.low_byte h.low_bit)
+area_again (Some area.Di) byte bit h = ap area_of_pointer (crossing_area 5 byte bit (omega arith) h.low_byte h.low_bit)
+area_again (Some area.L) byte bit h = ap area_of_pointer (crossing_area 6 byte bit (omega arith) h.low_byte h.low_bit)
 
 byte_again : (a : Option Area) (byte bit : ℕ) → IsPointer a byte bit → pointer_bits a byte bit / 8 % 65536 ≡ byte
 byte_again None byte bit h = let f = h.low_byte in let g = h.low_bit in omega (arith, f, g)

@@ -20,12 +20,12 @@ use Rattle.stl_types.specs.Context.{Context}
 use Rattle.stl_types.specs.Forms.{form_of}
 use Rattle.stl_types.specs.Operands.{operand_rule, rule_of_resolved_operand, statement_rule, takes_operand, takes_width}
 use Rattle.stl_types.specs.Resolution.{resolution_of}
-use Rattle.stl_types.specs.Resolved.{resolved_operand, resolved_view}
+use Rattle.stl_types.specs.Resolved.{resolved_operand, operand_if_resolved}
 use Rattle.stl_types.specs.declared.views.Resolution.{Resolution}
 use Rattle.stl_types.specs.declared.views.Resolution.TheVariants.{Resolved, Unjudged, Unknown}
 use Rattle.stl_types.specs.declared.views.ResolvedOperand.{ResolvedOperand}
 use Rattle.stl_types.specs.declared.views.ResolvedOperand.TheVariants as view
-use Rattle.stl_codegen.specs.Instruction.{end_instr, instr_by, instruction, jump_instr, resolved_instr, target_in, target_of, view_instr}
+use Rattle.stl_codegen.specs.Instruction.{end_instr, instr_by, instruction, jump_instr, resolved_instr, target_in, target_of, operand_instr}
 use Rattle.stl_codegen.specs.Operands.{block_opened_by_operand, flat_operand_of}
 use Rattle.stl_codegen.specs.Operations.{call_operation_of, end_operation_of, jump_operation_of, operation_for}
 use Rattle.stl_list.specs.Labels.{label_of_number}
@@ -45,7 +45,7 @@ use Rattle.listing_laws.proofs.ruled.Views.{stands}
 -- ---- what a statement resolves to
 
 abbrev view_if : Option ℕ → Resolution → Option ResolvedOperand
-view_if rule r = if is_none rule then resolved_view r else None
+view_if rule r = if is_none rule then operand_if_resolved r else None
 
 no_rule : (rule : Option ℕ) (r : Resolution) (v : ResolvedOperand) → view_if rule r ≡ Some v → rule ≡ None
 no_rule None r v e = refl
@@ -70,14 +70,14 @@ what_seen c s v e = view_seen (statement_rule c s) (resolution_of c s.operand) v
 
 pub resolves : (c : Context) (s : Statement) (v : ResolvedOperand) → statement_rule c s ≡ None → resolution_of c s.operand ≡ Resolved v → resolved_operand c s ≡ Some v
 unfolding resolved_operand
-resolves c s v h e = ap (λ (rule : Option ℕ). view_if rule (resolution_of c s.operand)) h ∙ ap resolved_view e
+resolves c s v h e = ap (λ (rule : Option ℕ). view_if rule (resolution_of c s.operand)) h ∙ ap operand_if_resolved e
 
 -- the instruction of a statement that calls nothing and doesn't jump
 pub comes_to : (c : Context) (body : List Statement) (n : ℕ) (s : Statement) (v : ResolvedOperand) (ending : Option EndOperation) → jump_operation_of s.code ≡ None → call_operation_of s.code ≡ None → end_operation_of s.code ≡ ending
     → resolved_operand c s ≡ Some v → instruction c body n s ≡ end_instr s v ending
 unfolding instruction
 comes_to c body n s v ending jumps calls ends e =
-    ap (instr_by c body n s) jumps ∙ ap (resolved_instr c s) e ∙ ap (view_instr c s v) calls ∙ ap (end_instr s v) ends
+    ap (instr_by c body n s) jumps ∙ ap (resolved_instr c s) e ∙ ap (operand_instr c s v) calls ∙ ap (end_instr s v) ends
 
 -- ---- words
 

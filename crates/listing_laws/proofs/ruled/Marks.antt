@@ -19,7 +19,7 @@ use Rattle.stl_types.specs.declared.views.ResolvedOperand.{ResolvedOperand}
 use Rattle.stl_types.specs.declared.views.ResolvedOperand.TheVariants as view
 use Rattle.stl_codegen.specs.Compiled.{SourceInstruction, StatedBlock, compiled_block, lines_in}
 use Rattle.stl_codegen.specs.Generated.{return_statement, stated_from, statements_of}
-use Rattle.stl_codegen.specs.Instruction.{call_instr, instr_by, instruction, resolved_instr, target_of, view_instr}
+use Rattle.stl_codegen.specs.Instruction.{call_instr, instr_by, instruction, resolved_instr, target_of, operand_instr}
 use Rattle.stl_codegen.specs.Operations.{call_operation_of, end_operation_of, jump_operation_of}
 use Rattle.stl_list.specs.Lines.{line_of_statement}
 use Rattle.stl_list.specs.Mnemonics.{mnemonic_of}
@@ -52,7 +52,7 @@ called_word c f s how _ h e = absurd cc
 
 pub call_comes : (c : Context) (body : List Statement) (n : ℕ) (s : Statement) (v : ResolvedOperand) (how : CallOperation) → call_operation_of s.code ≡ Some how → resolved_operand c s ≡ Some v → instruction c body n s ≡ call_instr c s how v
 unfolding instruction
-call_comes c body n s v how h e = ap (instr_by c body n s) (no_jump s.code how h) ∙ ap (resolved_instr c s) e ∙ ap (view_instr c s v) h
+call_comes c body n s v how h e = ap (instr_by c body n s) (no_jump s.code how h) ∙ ap (resolved_instr c s) e ∙ ap (operand_instr c s v) h
 
 word_by_view : (c : Context) (body : List Statement) (n : ℕ) (f : ℕ → ℕ) (s : Statement) (v : ResolvedOperand) → IsStatement s → is_empty_statement s.code ≡ false → jump_operation_of s.code ≡ None → resolved_operand c s ≡ Some v
     → IsWorded f s.code (instruction c body n s)

@@ -11,7 +11,7 @@ use Rattle.stl_ast.specs.declared.mnemonics.Mnemonic.TheVariants as code
 use Rattle.stl_ast.specs.declared.operands.Operand.TheVariants as operand
 use Rattle.stl_ast.specs.declared.statements.Statement.{Statement}
 use Rattle.stl_types.specs.Brackets.{brackets_behind, brackets_behind_all, brackets_after_closing, is_closing_bracket, closes_no_bracket, is_eighth_bracket, brackets_left_open, brackets_after_opening, bracket_function, with_brackets}
-use Rattle.stl_types.specs.Zones.{ends_no_zone, ends_zone, is_ninth_zone, opens_zone, with_zones, zones_behind, zones_behind_all, zones_ended, zones_left_open}
+use Rattle.stl_types.specs.Zones.{ends_no_zone, ends_zone, is_ninth_zone, opens_zone, with_zones, zones_behind, zones_behind_all, zones_after_ending, zones_left_open}
 use Rattle.stl_types.specs.declared.brackets.SourceBracket.{SourceBracket}
 use Rattle.listing_laws.specs.Nesting.{AreNestingsKept, NestingMark, nesting_marks}
 
@@ -95,7 +95,7 @@ brackets_left x (s ∷ ss) = by (is_empty_statement s.code) refl (λ y. brackets
 
 pub zone_still : (x : List ℕ) (s : Statement) → is_empty_statement s.code ≡ true → zones_behind x s ≡ x
 unfolding opens_zone ends_zone
-zone_still x s e = ap (λ (m : Mnemonic). if opens_zone m then x ++ s.line ∷ [] else zones_ended x m) (empty_code s.code e)
+zone_still x s e = ap (λ (m : Mnemonic). if opens_zone m then x ++ s.line ∷ [] else zones_after_ending x m) (empty_code s.code e)
 
 ending_sees : Sees (λ zones s. broken_if (ends_no_zone zones s) s.line 47) zones_behind
 unfolding opens_zone ends_zone

@@ -23,7 +23,7 @@ use Rattle.stl_ast.specs.declared.operands.Numbered.TheVariants as numbered
 use Rattle.stl_ast.specs.declared.operands.Operand.{Operand}
 use Rattle.stl_ast.specs.declared.operands.Operand.TheVariants as operand
 use Rattle.block_layout.specs.Offsets.{width_of}
-use Rattle.stl_types.specs.Addresses.{address_in_block, area_left, area_for_letters, side_of}
+use Rattle.stl_types.specs.Addresses.{address_in_block, area_of_pointer, area_for_letters, side_of}
 use Rattle.stl_types.specs.Constants.{takes_constant}
 use Rattle.stl_types.specs.Context.{Context}
 use Rattle.stl_types.specs.Forms.{form_of}
@@ -60,7 +60,7 @@ area_again w area.Db = refl
 area_again w area.Di = refl
 area_again w area.L = refl
 
-any_area_again : (a : Option Area) → area_left (option_map read_letters a) ≡ a
+any_area_again : (a : Option Area) → area_of_pointer (option_map read_letters a) ≡ a
 any_area_again None = refl
 any_area_again (Some a) = ap (λ (x : Area). Some x) (area_again false a)
 

@@ -26,9 +26,9 @@ use Rattle.block_layout.specs.declared.cells.Element.TheVariants as element
 use Rattle.block_layout.specs.declared.walks.ComponentAt.{ComponentAt}
 use Rattle.block_layout.specs.declared.walks.PathEnd.{PathEnd}
 use Rattle.block_layout.specs.declared.walks.PathEnd.TheVariants as path_end
-use Rattle.stl_types.specs.Addresses.{address_in_block, area_left, area_for_letters}
+use Rattle.stl_types.specs.Addresses.{address_in_block, area_of_pointer, area_for_letters}
 use Rattle.stl_types.specs.Context.{Context, data_number, data_place, in_function}
-use Rattle.stl_types.specs.Resolution.{resolution_of_call, instance_number, resolution_of_opened_block, resolution_of, resolution_of_symbol, target_view, whole_called_block}
+use Rattle.stl_types.specs.Resolution.{resolution_of_call, instance_number, resolution_of_opened_block, resolution_of, resolution_of_symbol, resolved_target, whole_called_block}
 use Rattle.stl_types.specs.Variables.{composite_operand, data_at, data_path, data_at_path_end, date_or_composite, variable_in_area, is_temporary_variable, own_at, own_elementary, own_variable, own_at_path_end, parameter_resolution, parameter_at, parameter_index}
 use Rattle.stl_types.specs.declared.parameters.Formal.{Formal}
 use Rattle.stl_types.specs.declared.views.Resolution.{Resolution}
@@ -139,7 +139,7 @@ no_data_block area.Di h = refl
 no_data_block area.L h = refl
 no_data_block area.P h = refl
 
-target_seen : (listed : Context) (t : Target) → IsSymbolTarget t → IsSeen false listed (target_view t)
+target_seen : (listed : Context) (t : Target) → IsSymbolTarget t → IsSeen false listed (resolved_target t)
 target_seen listed (target.Variable place width) h = closed_place listed (is_db place.area) place.number (no_data_block place.area h.area)
 target_seen listed (target.Timer number) h = tt
 target_seen listed (target.Counter number) h = tt
@@ -254,10 +254,10 @@ both_constant c listed formals value v h e =
     let is : view.Constant ≡ v = view_is view.Constant v e in
     (subst (StandsAgain listed formals) is tt, (sym is, h))
 
-both_pointer : (c listed : Context) (formals : List Formal) (a : Option Letters) (byte bit : ℕ) (v : ResolvedOperand) → IsPointer (area_left a) byte bit → resolution_of c (operand.Pointer a byte bit) ≡ Resolved v
+both_pointer : (c listed : Context) (formals : List Formal) (a : Option Letters) (byte bit : ℕ) (v : ResolvedOperand) → IsPointer (area_of_pointer a) byte bit → resolution_of c (operand.Pointer a byte bit) ≡ Resolved v
     → Both listed formals (operand.Pointer a byte bit) v
 unfolding resolution_of
-both_pointer c listed formals a byte bit v h e = subst (Both listed formals (operand.Pointer a byte bit)) (view_is (view.Pointer (area_left a) byte bit) v e) (h, tt)
+both_pointer c listed formals a byte bit v h e = subst (Both listed formals (operand.Pointer a byte bit)) (view_is (view.Pointer (area_of_pointer a) byte bit) v e) (h, tt)
 
 pub stands : (c listed : Context) (formals : List Formal) (o : Operand) (v : ResolvedOperand) → HasAgain c listed formals → IsRightOperand c.symbols o → resolution_of c o ≡ Resolved v → Both listed formals o v
 stands c listed formals (operand.Constant value) v has h e = both_constant c listed formals value v h.coded e

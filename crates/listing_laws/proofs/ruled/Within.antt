@@ -25,7 +25,7 @@ use Rattle.stl_types.specs.declared.views.ResolvedOperand.{ResolvedOperand}
 use Rattle.stl_types.specs.declared.views.ResolvedOperand.TheVariants as view
 use Rattle.stl_codegen.specs.Bodies.{count_of_statements}
 use Rattle.stl_codegen.specs.Generated.{return_statement, stated_from, statements_of}
-use Rattle.stl_codegen.specs.Instruction.{call_instr, count_of_statement, end_instr, instr_by, instruction, jump_instr, resolved_instr, target_in, target_of, view_instr}
+use Rattle.stl_codegen.specs.Instruction.{call_instr, count_of_statement, end_instr, instr_by, instruction, jump_instr, resolved_instr, target_in, target_of, operand_instr}
 use Rattle.stl_codegen.specs.Operands.{numbered_operand, flat_operand_of, register_operand}
 use Rattle.stl_codegen.specs.Operations.{call_operation_of, end_operation_of, jump_operation_of}
 use Rattle.listing_laws.specs.LabelRules.{AreJumpsWithin, LeadsWithin}
@@ -91,7 +91,7 @@ call_stays : (c : Context) (s : Statement) (how : CallOperation) (v : ResolvedOp
 call_stays c s how (view.Called id instance) n = refl
 call_stays c s how _ n = refl
 
-view_stays : (c : Context) (s : Statement) (v : ResolvedOperand) (how : Option CallOperation) → Stays (view_instr c s v how)
+view_stays : (c : Context) (s : Statement) (v : ResolvedOperand) (how : Option CallOperation) → Stays (operand_instr c s v how)
 view_stays c s v None n = end_stays s v (end_operation_of s.code) n
 view_stays c s v (Some how) n = call_stays c s how v n
 

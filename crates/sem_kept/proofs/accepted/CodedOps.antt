@@ -49,9 +49,9 @@ use Rattle.stl_types.specs.declared.views.ResolvedOperand.TheVariants as resolve
 use Rattle.stl_codegen.proofs.OpLemmas.{jumps, jump_ops}
 use Rattle.stl_codegen.specs.Compiled.{operand_with_target}
 use Rattle.stl_codegen.specs.Emitted.{call_op, end_op, op_with_end_mark, instance_number_or_zero, jump_op, use_db_ops, ops_of, pass_ops, preparing_op}
-use Rattle.stl_codegen.specs.Instruction.{source_block_at, call_instr, end_instr, filler_instruction, in_parameter_order, instr_by, instruction, jump_instr, passings_to, resolved_instr, target_of, view_instr}
+use Rattle.stl_codegen.specs.Instruction.{source_block_at, call_instr, end_instr, filler_instruction, in_parameter_order, instr_by, instruction, jump_instr, passings_to, resolved_instr, target_of, operand_instr}
 use Rattle.stl_codegen.specs.Operands.{block_opened_by_operand, flat_operand_of}
-use Rattle.stl_codegen.specs.Passed.{passed_actual, passed_resolution, passed_view, passings_from, actual_of_formal, with_index}
+use Rattle.stl_codegen.specs.Passed.{passed_actual, passed_resolution, passed_by_operand, passings_from, actual_of_formal, with_index}
 use Rattle.stl_codegen.specs.Operations.{call_operation_of, end_operation_of, jump_operation_of, operation_for}
 use Rattle.sem_kept.proofs.accepted.CodedBits.{bits_small, constant_taken}
 use Rattle.sem_kept.proofs.accepted.CodedTables.{operation_is_taken, operation_is_op}
@@ -180,7 +180,7 @@ call_takes how id instance c h k = grind (arith, nat_tests)
 
 -- what is passed
 view_passed : (o : Operand) (v : ResolvedOperand) → NumbersFit o v
-    → IfSome (passed_view o v) (λ p. actual_fits p ≡ true)
+    → IfSome (passed_by_operand o v) (λ p. actual_fits p ≡ true)
 view_passed o v fits = grind (arith, nat_tests, direct_fits)
 
 seen_passed : (o : Operand) (s : Resolution) → ResolvedNumbersFit o s
@@ -308,7 +308,7 @@ call_view_good c s how _ fit good fits rule = filler_good
 
 view_good : (c : Context) (s : Statement) (v : ResolvedOperand) → ContextFits c → IsGoodSource c s
     → is_empty_statement s.code ≡ false → jump_operation_of s.code ≡ None → statement_rule c s ≡ None
-    → resolution_of c s.operand ≡ Resolved v → IsGoodStatement (ops_of (view_instr c s v (call_operation_of s.code)))
+    → resolution_of c s.operand ≡ Resolved v → IsGoodStatement (ops_of (operand_instr c s v (call_operation_of s.code)))
 view_good c s v fit good some no_jump rule e = by (call_operation_of s.code) refl
   where
     fits : NumbersFit s.operand v
@@ -327,7 +327,7 @@ view_good c s v fit good some no_jump rule e = by (call_operation_of s.code) ref
         (allowed_by c (form_of s.code) s.operand v rule e)))
 
     by : (how : Option CallOperation) → call_operation_of s.code ≡ how
-        → IsGoodStatement (ops_of (view_instr c s v how))
+        → IsGoodStatement (ops_of (operand_instr c s v how))
     by (Some how) is =
         call_view_good c s how v fit good fits
         (rule_there c operand_rules.Calls s.operand v no_call_constant

@@ -29,7 +29,7 @@ use Rattle.stl_types.specs.Brackets.{brackets_behind, is_closing_bracket, closes
 use Rattle.stl_types.specs.Context.{Context}
 use Rattle.stl_types.specs.Forms.{form_of}
 use Rattle.stl_types.specs.Operands.{operand_rule, rule_of_resolved_operand, takes_operand}
-use Rattle.stl_types.specs.Resolved.{resolved_operand, resolved_view}
+use Rattle.stl_types.specs.Resolved.{resolved_operand, operand_if_resolved}
 use Rattle.stl_types.specs.Resolution.{resolution_of}
 use Rattle.stl_types.specs.Zones.{ends_no_zone, ends_zone, is_ninth_zone, opens_zone, zones_behind}
 use Rattle.stl_types.specs.declared.brackets.SourceBracket.{SourceBracket}
@@ -38,7 +38,7 @@ use Rattle.stl_types.specs.declared.forms.OperandRule.TheVariants as operand_rul
 use Rattle.stl_types.specs.declared.views.ResolvedOperand.{ResolvedOperand}
 use Rattle.stl_types.specs.declared.views.ResolvedOperand.TheVariants as resolved
 use Rattle.stl_codegen.specs.Emitted.{use_db_ops as opening_op, pass_ops}
-use Rattle.stl_codegen.specs.Instruction.{call_instr, end_instr, instr_by, instruction, jump_instr, resolved_instr, target_of, view_instr}
+use Rattle.stl_codegen.specs.Instruction.{call_instr, end_instr, instr_by, instruction, jump_instr, resolved_instr, target_of, operand_instr}
 use Rattle.stl_codegen.specs.Operations.{call_operation_of, end_operation_of, jump_operation_of}
 use Rattle.sem_kept.specs.Back.{is_target}
 use Rattle.sem_kept.proofs.compiled.Instructions.{no_target}
@@ -145,12 +145,12 @@ last_call c s how _ is = record {
 }
 
 last_view : (c : Context) (s : Statement) (v : ResolvedOperand) (call : Option CallOperation) → call_operation_of s.code ≡ call
-    → IsLast s.code (last_op_of_instr (view_instr c s v call))
+    → IsLast s.code (last_op_of_instr (operand_instr c s v call))
 last_view c s v None is = last_end s v (end_operation_of s.code) refl
 last_view c s v (Some how) is = last_call c s how v is
 
 abbrev resolved_by : Context → OperandRule → Operand → Option ResolvedOperand
-resolved_by c f o = if is_none (operand_rule c f o) then resolved_view (resolution_of c o) else None
+resolved_by c f o = if is_none (operand_rule c f o) then operand_if_resolved (resolution_of c o) else None
 
 bare_resolved : (c : Context) → resolved_by c operand_rules.Bare operand.Nothing ≡ Some resolved.Nothing
 unfolding resolution_of rule_of_resolved_operand takes_operand

@@ -56,7 +56,7 @@ use Rattle.block_layout.specs.declared.blocks.BlockLayout.{BlockLayout}
 use Rattle.block_layout.specs.declared.blocks.Shape.{Shape}
 use Rattle.block_layout.specs.declared.blocks.Shape.TheVariants as shape
 use Rattle.block_layout.specs.declared.cells.Cell.{Cell}
-use Rattle.stl_types.specs.Actuals.{fits_operand, fits_resolution, fits_view, formal_named}
+use Rattle.stl_types.specs.Actuals.{fits_operand, fits_resolution, fits_resolved_operand, formal_named}
 use Rattle.stl_types.specs.Calls.{calls_unknown, has_formals, has_no_instance, has_wrong_instance, is_instance, is_no_instance, is_of_block, is_supplied, is_unknown_function, misfits_formal, names_no_formal, supplied_names}
 use Rattle.stl_types.specs.Context.{Context, data_number, source_block_ids, whole_data_place, whole_place}
 use Rattle.stl_types.specs.Forms.{form_of}
@@ -75,7 +75,7 @@ use Rattle.stl_codegen.specs.Compiled.{compiled_block}
 use Rattle.stl_codegen.specs.Emitted.{instance_number_or_zero, pass_ops, preparing_op}
 use Rattle.stl_codegen.specs.Generated.{code_blocks_of, data_blocks_of, instance_len, params_of}
 use Rattle.stl_codegen.specs.Instruction.{source_block_at, in_parameter_order, passings_to, return_last}
-use Rattle.stl_codegen.specs.Passed.{passed_actual, passed_place, passed_resolution, passed_view, passings_from, actual_of_formal, with_index}
+use Rattle.stl_codegen.specs.Passed.{passed_actual, passed_place, passed_resolution, passed_by_operand, passings_from, actual_of_formal, with_index}
 use Rattle.stl_codegen.specs.Operations.{call_operation_of}
 use Rattle.sem_kept.specs.Coded.{OperandHasBytes, StatementHasBytes}
 use Rattle.sem_kept.specs.Operands.{ArePassed, InstrFits, PassesAlone}
@@ -676,9 +676,9 @@ formal_there (f ∷ fs) name e = by (bytes_eq name f.name) e (formal_there fs na
     by true h more = (f, refl)
     by false h more = more h
 
-view_passed : (f : Formal) (o : Operand) (v : ResolvedOperand) → fits_view f v ≡ true
-    → (p : Passed) × (passed_view o v ≡ Some p)
-unfolding fits_view
+view_passed : (f : Formal) (o : Operand) (v : ResolvedOperand) → fits_resolved_operand f v ≡ true
+    → (p : Passed) × (passed_by_operand o v ≡ Some p)
+unfolding fits_resolved_operand
 view_passed f o (resolved.Direct place w side declared) e = (passed_place place w, refl)
 view_passed f o (resolved.Parameter index own declared) e = (passed.Parameter index (width_of declared), refl)
 view_passed f o _ e = absurd cc

@@ -24,7 +24,7 @@ use Rattle.block_layout.proofs.AlignmentLemmas.{AreRight, IsRightCell, IsSettled
 use Rattle.block_layout.proofs.BlockLemmas.{IsFoundBlock, found_there, kind_there}
 use Rattle.block_layout.proofs.SoundnessLemmas.{Settles, IsUnbroken, block_unbroken, components_right, temps_right}
 use Rattle.block_layout.proofs.LayoutLemmas.{laid_origin, layouts_are, layout_at, measured_ids}
-use Rattle.block_layout.proofs.DataTypeLemmas.{IsType, type_of_block, data_type, small_type, type_bits_are, measured}
+use Rattle.block_layout.proofs.DataTypeLemmas.{IsType, type_of_block, data_type, small_type, type_bits_are, types_measured}
 
 -- ---- the layouts of the blocks
 
@@ -91,7 +91,7 @@ settles symbols t h (element.Udt name) few = by (data_type_place (types_of_sourc
         same : get_or (types_of_source symbols t.blocks).bits v 0
             ≡ structure_bits (cells_at (layouts_of t symbols) v false)
         same =
-            measured symbols t.blocks v from.of from.there (omega (arith, few))
+            types_measured symbols t.blocks v from.of from.there (omega (arith, few))
             ∙ type_bits_are (types_of_source symbols t.blocks) from.of kind
             ∙ ap (λ (cs : List Cell). structure_bits cs)
             (sym (cells_are symbols t v from.of laid.0 laid.2 false ∙ type.components))

@@ -19,7 +19,7 @@ use Rattle.stl_types.specs.Context.{Context}
 use Rattle.stl_types.specs.Forms.{form_of}
 use Rattle.stl_types.specs.Operands.{operand_rule, rule_of_resolved_operand, rule_of_resolution, statement_rule}
 use Rattle.stl_types.specs.Parameters.{callee_of}
-use Rattle.stl_types.specs.Resolved.{resolved_operand, resolved_view}
+use Rattle.stl_types.specs.Resolved.{resolved_operand, operand_if_resolved}
 use Rattle.stl_types.specs.Resolution.{resolution_of}
 use Rattle.stl_types.specs.declared.forms.OperandRule.{OperandRule}
 use Rattle.stl_types.specs.declared.views.Resolution.{Resolution}
@@ -87,10 +87,10 @@ does_fits a lens c s v e h fits None = (
 does_fits a lens c s v e h fits (Some how) = tt
 
 pub resolved_is : (c : Context) (s : Statement) → statement_rule c s ≡ None
-    → resolved_operand c s ≡ resolved_view (resolution_of c s.operand)
+    → resolved_operand c s ≡ operand_if_resolved (resolution_of c s.operand)
 unfolding resolved_operand
 resolved_is c s h =
-    ap (λ (o : Option ℕ). if is_none o then resolved_view (resolution_of c s.operand) else None) h
+    ap (λ (o : Option ℕ). if is_none o then operand_if_resolved (resolution_of c s.operand) else None) h
 
 -- what is owed of a call
 abbrev pub CallFits : Environment → List (ℕ × ℕ) → Context → Statement → Type 0
@@ -113,12 +113,12 @@ unfolding instruction
 instr_fits a lens c body n s taken_by_rule seen_fits calls = by (jump_operation_of s.code)
   where
     called : (how : CallOperation) → call_operation_of s.code ≡ Some how → (x : Resolution) → resolution_of c s.operand ≡ x
-        → InstrFits a lens (resolved_instr c s (resolved_view x))
+        → InstrFits a lens (resolved_instr c s (operand_if_resolved x))
     called how is (Resolved v) e = rw is (call_view_fits a lens c s how calls is v e)
     called how is _ e = filler_fits a lens
 
     whether : (o : Option CallOperation) → call_operation_of s.code ≡ o
-        → InstrFits a lens (resolved_instr c s (resolved_view (resolution_of c s.operand)))
+        → InstrFits a lens (resolved_instr c s (operand_if_resolved (resolution_of c s.operand)))
     whether None is =
         let found : ResolvesRight a (resolution_of c s.operand) = seen_fits (no_call s.code is) in
         rw (found.is, is) (does_fits a lens c s found.operand found.is taken_by_rule found.fits (end_operation_of s.code))

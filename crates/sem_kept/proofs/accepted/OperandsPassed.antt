@@ -31,7 +31,7 @@ use Rattle.plc_base.specs.Folding.{upper_case_name}
 use Rattle.plc_base.proofs.TruthLemmas.{and_first, and_second}
 use Rattle.block_layout.specs.Fits.{bits_of, fits_elementary_type}
 use Rattle.block_layout.specs.Offsets.{width_of}
-use Rattle.stl_types.specs.Actuals.{fits_operand, fits_resolution, fits_type, fits_view, formal_named, is_input_section, is_same_type, is_same_width, takes_section, takes_side, type_number}
+use Rattle.stl_types.specs.Actuals.{fits_operand, fits_resolution, fits_type, fits_resolved_operand, formal_named, is_input_section, is_same_type, is_same_width, takes_section, takes_side, type_number}
 use Rattle.stl_types.specs.Calls.{misfits_formal}
 use Rattle.stl_types.specs.Constants.{takes_constant}
 use Rattle.stl_types.specs.Context.{Context}
@@ -191,8 +191,8 @@ own_section false true e = absurd cc
 own_section false false e = refl
 
 view_passes : (a : Environment) (c : Context) (f : Formal) (r : ParameterRecord) (o : Operand) (v : ResolvedOperand)
-    → resolution_of c o ≡ Resolved v → IsRightOperand a v → IsRecordOf f r → fits_view f v ≡ true → Passes a c r o
-unfolding fits_view
+    → resolution_of c o ≡ Resolved v → IsRightOperand a v → IsRecordOf f r → fits_resolved_operand f v ≡ true → Passes a c r o
+unfolding fits_resolved_operand
 view_passes a c f r o (resolved.Direct place w side declared) e fits h taken = record {
   actual = passed_place place w;
   is = ap (passed_resolution o) e;

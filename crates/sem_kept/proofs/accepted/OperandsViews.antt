@@ -70,7 +70,7 @@ use Rattle.block_layout.specs.declared.walks.PathEnd.TheVariants as path_end
 use Rattle.stl_types.specs.Actuals.{is_input_section}
 use Rattle.stl_types.specs.Addresses.{resolved_address, address_in_block, area_for_letters}
 use Rattle.stl_types.specs.Context.{Context, data_number, data_place, in_function, is_of_function, number_of_block}
-use Rattle.stl_types.specs.Resolution.{resolution_of_opened_block, resolution_of_path, resolution_of, resolution_of_symbol, target_view}
+use Rattle.stl_types.specs.Resolution.{resolution_of_opened_block, resolution_of_path, resolution_of, resolution_of_symbol, resolved_target}
 use Rattle.stl_types.specs.Unknown.{is_unknown}
 use Rattle.stl_types.specs.Variables.{composite_operand, data_at, date_or_composite, data_path, data_variable, data_at_path_end, variable_in_area, own_at, own_elementary, own_variable, own_at_path_end, parameter_resolution, parameter_at, parameter_index}
 use Rattle.stl_types.specs.declared.views.Resolution.{Resolution}
@@ -295,7 +295,7 @@ outside_locals : (a : Environment) (ar : Area) (w : Width) (byte : ℕ) → has_
 outside_locals a area.L w byte h = absurd cc
 outside_locals a _ w byte h = refl
 
-target_fits : (a : Environment) (x : Target) → IsRightTarget x → IsRightOperand a (target_view x)
+target_fits : (a : Environment) (x : Target) → IsRightTarget x → IsRightOperand a (resolved_target x)
 target_fits a (target.Variable place w) h = (
   or_from (is_odd_bit w place.bit) (is_past_locals a place.area w place.byte) h.0
       (outside_locals a place.area w place.byte h.1),
@@ -849,7 +849,7 @@ module _ (symbols : List Symbol) (t : Tree) (tree : IsSoundTree symbols t)
       → is_unknown (resolution_of_symbol o) ≡ false → ResolvesRight a (resolution_of_symbol o)
   symbol_fits name None e known = absurd cc
   symbol_fits name (Some s) e known = record {
-    operand = target_view s.target;
+    operand = resolved_target s.target;
     is = refl;
     fits = target_fits a s.target (named_fits name symbols s fit e);
   }

@@ -22,7 +22,7 @@ use Rattle.block_layout.specs.Measures.{types_of_source}
 use Rattle.block_layout.specs.declared.blocks.BlockLayout.{BlockLayout}
 use Rattle.stl_types.specs.Labels.{is_unknown_label, labels_of}
 use Rattle.stl_types.specs.Resolution.{resolution_of}
-use Rattle.stl_types.specs.Resolved.{resolved_operand, resolved_view}
+use Rattle.stl_types.specs.Resolved.{resolved_operand, operand_if_resolved}
 use Rattle.stl_codegen.specs.Compiled.{compiled_block}
 use Rattle.stl_codegen.specs.Generated.{code_blocks_of, params_of}
 use Rattle.stl_codegen.specs.Operations.{call_operation_of, jump_operation_of}
@@ -79,12 +79,12 @@ module _ (symbols : List Symbol) (t : Tree) (tree : IsSoundTree symbols t)
           (ap (is_unknown_label (labels_of b.body)) (sym n.1) ∙ known) in
           record { name = n.0; is = n.1; place = there.0; there = there.1 }
 
-      resolves : resolved_operand (context_at symbols t k) s ≡ resolved_view (resolution_of (context_at symbols t k) s.operand)
+      resolves : resolved_operand (context_at symbols t k) s ≡ operand_if_resolved (resolution_of (context_at symbols t k) s.operand)
       resolves = resolved_is (context_at symbols t k) s sound.allowed
 
       whether : (o : Option CallOperation) → call_operation_of s.code ≡ o
           → HasOperand (context_at symbols t k) s o
-      whether None is = (found.operand, resolves ∙ ap resolved_view found.is)
+      whether None is = (found.operand, resolves ∙ ap operand_if_resolved found.is)
         where
           found : ResolvesRight here (resolution_of (context_at symbols t k) s.operand)
           found = operand_seen symbols t tree fit k b l block code here surrounded s.operand
@@ -101,7 +101,7 @@ module _ (symbols : List Symbol) (t : Tree) (tree : IsSoundTree symbols t)
           record {
             id = called.0;
             instance = called.1;
-            called = resolves ∙ ap resolved_view called.2;
+            called = resolves ∙ ap operand_if_resolved called.2;
             callee = callee.0;
             found = callee.1;
             same = callee.2;

@@ -56,7 +56,7 @@ use Rattle.sem_kept.proofs.accepted.Accepted.{AllLaid, IsSoundBlock, IsSoundStat
 use Rattle.block_layout.proofs.LayoutLemmas.{measured_ids, measured_symbols}
 use Rattle.sem_kept.proofs.accepted.OperandsMembers.{initial_long}
 use Rattle.sem_kept.proofs.accepted.OperandsViews.{data_there, layout_components, layout_id, layout_length}
-use Rattle.block_layout.proofs.CountLemmas.{bit, coded, counted_data, few_code_blocks, few_data_blocks, few_data_bytes, is_code_id}
+use Rattle.block_layout.proofs.CountLemmas.{bit, count_of_code, counted_data, few_code_blocks, few_data_blocks, few_data_bytes, is_code_id}
 use Rattle.sem_kept.proofs.accepted.SizesCalls.{AllAreOnce, AreNamesOnce, passes_few, sound_once}
 use Rattle.sem_kept.proofs.accepted.SizesNames.{IsShortSymbol, names_count, names_size, symbols_fine}
 use Rattle.sem_kept.proofs.accepted.SizesOps.{IsTaken, Opens, bytes_in, whole_count, whole_fits}
@@ -271,11 +271,11 @@ code_size symbols t ready k b l id sound e is =
     )
 
 coded_is : (symbols : List Symbol) (t : Tree) (k : ℕ) (b : Block) (l : BlockLayout)
-    → IsSoundBlock symbols t k b l → bit (is_code_id l.id) ≡ coded symbols b
+    → IsSoundBlock symbols t k b l → bit (is_code_id l.id) ≡ count_of_code symbols b
 coded_is symbols t k b l sound = ap (λ (o : Option BlockId). bit (is_code_id o)) (layout_id symbols t k b l sound)
 
 coded_one : (symbols : List Symbol) (t : Tree) (k : ℕ) (b : Block) (l : BlockLayout) (id : BlockId)
-    → IsSoundBlock symbols t k b l → l.id ≡ Some id → is_code id.kind ≡ true → coded symbols b ≡ 1
+    → IsSoundBlock symbols t k b l → l.id ≡ Some id → is_code id.kind ≡ true → count_of_code symbols b ≡ 1
 coded_one symbols t k b l id sound e is =
     sym (coded_is symbols t k b l sound) ∙ ap (λ (o : Option BlockId). bit (is_code_id o)) e ∙ ap bit is
 
@@ -308,30 +308,30 @@ codes_sum symbols t sound f g each =
 
 codes_size : (symbols : List Symbol) (t : Tree) → IsShortTree symbols t
     → sum_by records_size (map compiled_block (code_blocks_of t symbols (layouts_of t symbols)))
-    ≤ 22 * sum_by (coded symbols) t.blocks + sum_by whole_size t.blocks
+    ≤ 22 * sum_by (count_of_code symbols) t.blocks + sum_by whole_size t.blocks
 codes_size symbols t ready =
     omega (
       arith,
       mapped_sum compiled_block records_size (code_blocks_of t symbols (layouts_of t symbols)),
-      codes_sum symbols t ready.sound (λ s. records_size (compiled_block s)) (λ b. 22 * coded symbols b + whole_size b)
+      codes_sum symbols t ready.sound (λ s. records_size (compiled_block s)) (λ b. 22 * count_of_code symbols b + whole_size b)
           (λ k b l id h e is. omega (
             arith,
             code_size symbols t ready k b l id h e is,
             coded_one symbols t k b l id h e is,
           )),
-      summed_two (λ b. 22 * coded symbols b) whole_size t.blocks,
-      summed_22 (coded symbols) t.blocks,
+      summed_two (λ b. 22 * count_of_code symbols b) whole_size t.blocks,
+      summed_22 (count_of_code symbols) t.blocks,
     )
 
 codes_count : (symbols : List Symbol) (t : Tree) → IsSoundTree symbols t
     → length (map compiled_block (code_blocks_of t symbols (layouts_of t symbols)))
-    ≤ sum_by (coded symbols) t.blocks
+    ≤ sum_by (count_of_code symbols) t.blocks
 codes_count symbols t sound =
     omega (
       arith,
       length-map (code_blocks_of t symbols (layouts_of t symbols)) compiled_block,
       summed_ones (code_blocks_of t symbols (layouts_of t symbols)),
-      codes_sum symbols t sound (λ s. 1) (coded symbols)
+      codes_sum symbols t sound (λ s. 1) (count_of_code symbols)
           (λ k b l id h e is. omega (arith, coded_one symbols t k b l id h e is)),
     )
 
@@ -428,10 +428,10 @@ unfolding rule_54
 heads_54 y blocks e = heads_none (exceeds_total y blocks) 54 [] blocks e
 
 few_codes : (symbols : List Symbol) (t : Tree) → IsSoundTree symbols t
-    → sum_by (coded symbols) t.blocks ≤ 4219
+    → sum_by (count_of_code symbols) t.blocks ≤ 4219
 few_codes symbols t sound =
     let y = types_of_source symbols t.blocks in
-    subst (λ (s : List Symbol). sum_by (coded s) t.blocks ≤ 4219)
+    subst (λ (s : List Symbol). sum_by (count_of_code s) t.blocks ≤ 4219)
     (measured_symbols symbols t.blocks)
     (few_code_blocks y t.blocks (measured_ids symbols t.blocks ∙ ap (λ (s : List Symbol). map (λ b. id_of s b) t.blocks)
     (sym (measured_symbols symbols t.blocks)))

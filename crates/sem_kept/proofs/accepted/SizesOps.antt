@@ -49,7 +49,7 @@ use Rattle.stl_types.specs.Context.{Context, data_number}
 use Rattle.stl_types.specs.Kinds.{is_operand_of_call}
 use Rattle.stl_types.specs.Operands.{operand_rule, rule_of_resolved_operand, statement_rule, takes_operand}
 use Rattle.stl_types.specs.Parameters.{callee_of}
-use Rattle.stl_types.specs.Resolved.{resolved_view}
+use Rattle.stl_types.specs.Resolved.{operand_if_resolved}
 use Rattle.stl_types.specs.Resolution.{resolution_of_call, resolution_of_address, resolution_of_opened_block, resolution_of_path, register_for_word, resolution_of}
 use Rattle.stl_types.specs.declared.forms.OperandRule.{OperandRule}
 use Rattle.stl_types.specs.declared.forms.OperandRule.TheVariants as operand_rules
@@ -62,7 +62,7 @@ use Rattle.stl_types.specs.declared.views.ResolvedOperand.TheVariants as resolve
 use Rattle.stl_codegen.specs.Compiled.{SourceInstruction, operand_with_target, op_with_target, code_in, lines_in, ops_in, placed_ops}
 use Rattle.stl_codegen.specs.Emitted.{call_op, op_with_end_mark, use_db_ops, ops_of, pass_ops, preparing_op}
 use Rattle.stl_codegen.specs.Generated.{return_statement, stated_from, statements_of}
-use Rattle.stl_codegen.specs.Instruction.{call_instr, end_instr, filler_instruction, instr_by, instruction, jump_instr, passings_to, resolved_instr, target_of, view_instr}
+use Rattle.stl_codegen.specs.Instruction.{call_instr, end_instr, filler_instruction, instr_by, instruction, jump_instr, passings_to, resolved_instr, target_of, operand_instr}
 use Rattle.stl_codegen.specs.Operands.{is_db, is_in_named_block, numbered_operand, block_opened_by_operand, opened_by_place, flat_operand_of, register_operand}
 use Rattle.stl_codegen.specs.Operations.{call_operation_of, end_operation_of, jump_operation_of, operation_for}
 use Rattle.sem_kept.proofs.accepted.OperandsInstr.{resolved_is}
@@ -408,13 +408,13 @@ end_fits c s v None fine e =
     )
 end_fits c s v (Some how) fine e = omega (arith, returns_sized how, least_op s.operand)
 
-view_instr_fits : (c : Context) (s : Statement) (v : ResolvedOperand) (how : Option CallOperation)
+operand_instr_fits : (c : Context) (s : Statement) (v : ResolvedOperand) (how : Option CallOperation)
     → call_operation_of s.code ≡ how → AllByRecursion IsShortSymbol c.symbols → IsTaken c s
     → resolution_of c s.operand ≡ Resolved v → IsWide (op_size s.operand) (Resolved v)
-    → bytes_in (ops_of (view_instr c s v how)) ≤ op_size s.operand + 11 * length s.actuals
-view_instr_fits c s v None calls fine is e wide =
+    → bytes_in (ops_of (operand_instr c s v how)) ≤ op_size s.operand + 11 * length s.actuals
+operand_instr_fits c s v None calls fine is e wide =
     omega (arith, end_fits c s v (end_operation_of s.code) fine e)
-view_instr_fits c s v (Some how) calls fine is e wide =
+operand_instr_fits c s v (Some how) calls fine is e wide =
     called_view_fits c s how v (calls_called v (rule_there c operand_rules.Calls s.operand v no_call_constant
     (ap (λ (f : OperandRule). operand_rule c f s.operand) (sym (call_form s.code how calls)) ∙ is.allowed) e)) wide is.few
 
@@ -425,10 +425,10 @@ filler_sized = one_sized _
 -- an instruction that isn't a jump
 view_fits : (c : Context) (s : Statement) (found : Resolution) → AllByRecursion IsShortSymbol c.symbols
     → IsTaken c s → resolution_of c s.operand ≡ found → IsWide (op_size s.operand) found
-    → bytes_in (ops_of (resolved_instr c s (resolved_view found)))
+    → bytes_in (ops_of (resolved_instr c s (operand_if_resolved found)))
     ≤ op_size s.operand + 11 * length s.actuals
 view_fits c s (Resolved v) fine is e wide =
-    view_instr_fits c s v (call_operation_of s.code) refl fine is e wide
+    operand_instr_fits c s v (call_operation_of s.code) refl fine is e wide
 view_fits c s Unknown fine is e wide = omega (arith, wide, filler_sized)
 view_fits c s Unjudged fine is e wide = omega (arith, wide, filler_sized)
 

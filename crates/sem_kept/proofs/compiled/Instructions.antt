@@ -25,7 +25,7 @@ use Rattle.block_layout.specs.declared.blocks.BlockLayout.{BlockLayout}
 use Rattle.stl_types.specs.Context.{Context, source_block_ids, number_of_block, data_place, data_number}
 use Rattle.stl_types.specs.Forms.{form_of}
 use Rattle.stl_types.specs.Operands.{rule_of_resolved_operand, rule_of_resolution, operand_rule, statement_rule}
-use Rattle.stl_types.specs.Resolved.{resolved_view, resolved_operand}
+use Rattle.stl_types.specs.Resolved.{operand_if_resolved, resolved_operand}
 use Rattle.stl_types.specs.Resolution.{resolution_of_path, resolution_of_address, resolution_of_opened_block, resolution_of_call, instance_number, whole_called_block as whole_called, resolution_of}
 use Rattle.stl_types.specs.declared.forms.OperandRule.{OperandRule}
 use Rattle.stl_types.specs.declared.forms.OperandRule.TheVariants as operand_rules
@@ -35,7 +35,7 @@ use Rattle.stl_types.specs.declared.views.Resolution.{Resolution}
 use Rattle.stl_types.specs.declared.views.Resolution.TheVariants.{Resolved, Unknown, Unjudged}
 use Rattle.stl_types.specs.declared.views.ResolvedOperand.{ResolvedOperand}
 use Rattle.stl_types.specs.declared.views.ResolvedOperand.TheVariants as resolved
-use Rattle.stl_codegen.specs.Instruction.{numbers_from, jump_instr, target_of, call_instr, end_instr, view_instr, resolved_instr, instr_by, instruction}
+use Rattle.stl_codegen.specs.Instruction.{numbers_from, jump_instr, target_of, call_instr, end_instr, operand_instr, resolved_instr, instr_by, instruction}
 use Rattle.stl_codegen.specs.Operands.{numbered_operand, register_operand, flat_operand_of}
 use Rattle.stl_codegen.specs.Operations.{jump_operation_of, call_operation_of, end_operation_of}
 use Rattle.sem_kept.specs.Back.{goes_to_next_statement, is_target, IsInstanceNumber}
@@ -77,7 +77,7 @@ no_target o _ = refl
 
 -- what is resolved_by_rule is seen, and breaks no rule
 resolved_by_rule : (r : Option ℕ) (x : Resolution) (v : ResolvedOperand)
-    → (if is_none r then resolved_view x else None) ≡ Some v → (r ≡ None) × (x ≡ Resolved v)
+    → (if is_none r then operand_if_resolved x else None) ≡ Some v → (r ≡ None) × (x ≡ Resolved v)
 resolved_by_rule None (Resolved w) v e = (refl, cc)
 resolved_by_rule None Unknown v e = absurd cc
 resolved_by_rule None Unjudged v e = absurd cc
@@ -267,7 +267,7 @@ ended_made n s v None = ((operation_is s.code s.operand v).goes_on, no_target s.
 ended_made n s v (Some how) = tt
 
 seen_made : (c : Context) (n : ℕ) (s : Statement) (v : ResolvedOperand) → resolved_operand c s ≡ Some v
-    → (h : Option CallOperation) → call_operation_of s.code ≡ h → IsMade n (view_instr c s v h)
+    → (h : Option CallOperation) → call_operation_of s.code ≡ h → IsMade n (operand_instr c s v h)
 seen_made c n s v is None e = ended_made n s v (end_operation_of s.code)
 seen_made c n s v is (Some how) e = called_made c n s how v is e
 

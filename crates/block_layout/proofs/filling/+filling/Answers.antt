@@ -27,10 +27,10 @@ put_from-array_bits-bits-requires t c = elements_near c.args.cells.now c.args.ce
 pub put_from-loop-i-preserved : goal.put_from-loop-i-preserved
 put_from-loop-i-preserved t c = record {
   so_far = from_turn (type_writes c.args.layouts.now c.args.depth) c.args.level c.args.starts.now c.loop-i.at c.args.cells.now c.loop-i.i c.index-cells-i.result c.loop-i.bytes _
-      c.behind.result.now c.args.elements.now c.stepped-at.result c.put_cell.new.bytes
+      c.behind.result.now c.args.elements.now c.end_behind_cell-at.result c.put_cell.new.bytes
       c.loop-i-test.true c.index-cells-i.is c.if-cell-level.false c.behind.ensures c.requires c.in_ok-put_cell.ensures
-      (let w = c.array_bits-bits.ensures.value in let v = c.as_slice.ensures in let u = c.stepped-at.ensures.value in cc) c.loop-i.invariant.so_far;
-  near = c.stepped-at.ensures.near;
+      (let w = c.array_bits-bits.ensures.value in let v = c.as_slice.ensures in let u = c.end_behind_cell-at.ensures.value in cc) c.loop-i.invariant.so_far;
+  near = c.end_behind_cell-at.ensures.near;
 }
 
 pub put_type-returns-then-depth-eq0 : goal.put_type-returns-then-depth-eq0

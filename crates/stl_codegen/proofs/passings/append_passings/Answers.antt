@@ -14,7 +14,7 @@ returns-in_default c =
     let within : c.loop-index.index < length c.args.formals.now = omega arith in
     let made : AreOpsAppended c.loop-index.ops.items c.append_actual.new.ops.items here c.in_ok-append_actual.field-0 =
     subst (λ (a : Option Actual). AreOpsAppended c.loop-index.ops.items c.append_actual.new.ops.items (pass_ops (passed_actual c.args.context.now c.loop-index.index a)) c.in_ok-append_actual.field-0)
-    c.supplied-actual.ensures c.in_ok-append_actual.ensures in
+    c.actual_of_formal-actual.ensures c.in_ok-append_actual.ensures in
     between_stop c.args.ops.now.items c.loop-index.ops.items _ here _ _ c.loop-index.invariant
     (passings_turn c.args.context.now c.args.actuals.now c.args.formals.now c.loop-index.index formal within c.index-formals-index.is)
     (appended_none c.loop-index.ops.items c.append_actual.new.ops.items here c.in_ok-append_actual.field-0 c.in_default.is made)
@@ -26,7 +26,7 @@ loop-index-preserved c =
     let within : c.loop-index.index < length c.args.formals.now = omega arith in
     let made : AreOpsAppended c.loop-index.ops.items c.append_actual.new.ops.items here c.in_ok-append_actual.field-0 =
     subst (λ (a : Option Actual). AreOpsAppended c.loop-index.ops.items c.append_actual.new.ops.items (pass_ops (passed_actual c.args.context.now c.loop-index.index a)) c.in_ok-append_actual.field-0)
-    c.supplied-actual.ensures c.in_ok-append_actual.ensures in
+    c.actual_of_formal-actual.ensures c.in_ok-append_actual.ensures in
     between_turn c.args.ops.now.items c.loop-index.ops.items c.append_actual.new.ops.items _ here _ _ c.loop-index.invariant
     (passings_turn c.args.context.now c.args.actuals.now c.args.formals.now c.loop-index.index formal within c.index-formals-index.is)
     (appended_some c.loop-index.ops.items c.append_actual.new.ops.items here c.in_ok-append_actual.field-0 c.in-Some.field-0 c.in-Some.is made)
