@@ -10,7 +10,7 @@ use Rattle.std.proofs.lemmas.Bool.Decides.{nat_tests}
 use Rattle.plc_base.specs.Kinds.{is_same_kind}
 use Rattle.plc_base.specs.declared.blocks.BlockId.{BlockId}
 use Rattle.block_layout.specs.Blocks.{place_of_block, is_id}
-use Rattle.block_layout.specs.Numbered.{block_has_number, numbered_place, number_of_kind, numbers_of_kind}
+use Rattle.block_layout.specs.BlockNumbers.{block_has_number, numbered_place, number_of_kind, numbers_of_kind}
 
 order_apart : (n q : ℕ) → nat_eq q n ≡ false → is_eq (nat_cmp n q) ≡ false
 order_apart n q d =

@@ -11,7 +11,7 @@ use Rattle.block_layout.specs.declared.cells.Element.TheVariants.{Plain}
 use Rattle.block_layout.specs.declared.members.Member.{Member}
 use Rattle.block_layout.specs.Members.{component_of_name}
 use Rattle.block_layout.specs.Sizes.{alignment, array_bits, capped_size, cell_bits, element_alignment, element_bits, element_of, components_end, component_end, plain_bits, end_behind_cell, structure_bits, next_multiple}
-use Rattle.block_layout.specs.Listed.{AreAlike, CellNamesDiffer, IsAlike, IsBytes, IsElementary, LengthStays, OffsetsStay, offset_named, offsets_in}
+use Rattle.block_layout.specs.ListedParameters.{AreAlike, CellNamesDiffer, IsAlike, IsBytes, IsElementary, LengthStays, OffsetsStay, offset_named, offsets_in}
 
 -- what the layout takes from an elementary component
 align : Bool → ℕ → ℕ

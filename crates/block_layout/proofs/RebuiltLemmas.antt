@@ -9,7 +9,7 @@ use Rattle.std.proofs.lemmas.List.{get_or-set_same, get_or-set_other, ext_get_or
 use Rattle.std.proofs.lemmas.Nat.{or_of_8, and_le_l, pow_below}
 use Rattle.std.proofs.lemmas.Nat.Bits.{bit_at-lt, bit_at_or, bit_at_and, bit_at-pow_same, bit_at-pow_other, bit_at-zero, bit_at_not}
 use Rattle.block_layout.specs.InitialBytes.{Write, big_endian_bytes, bytes_with_write, with_bit, with_bytes}
-use Rattle.block_layout.specs.Rebuilt.{AreRebuilt, InBit, InBytes, IsTrueOf, OfBit, OfBytes, OneReaches, Reaches, bit_in}
+use Rattle.block_layout.specs.RebuiltBytes.{AreRebuilt, InBit, InBytes, IsTrueOf, OfBit, OfBytes, OneReaches, Reaches, bit_in}
 use Rattle.block_layout.proofs.FillLemmas.{length_put_bytes}
 
 -- ---- one bit of a byte

@@ -1,7 +1,7 @@
 pub mod Before
 pub mod Facts
 pub mod Blocks
-pub mod Numbered
+pub mod BlockNumbers
 pub mod Types
 pub mod Fits
 pub mod Alone
@@ -22,8 +22,8 @@ pub mod Layouts
 pub mod Paths
 pub mod Offsets
 pub mod InitialBytes
-pub mod Listed
-pub mod Rebuilt
+pub mod ListedParameters
+pub mod RebuiltBytes
 pub mod Places
 pub mod Sums
 pub mod Rule21

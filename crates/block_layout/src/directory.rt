@@ -1,6 +1,6 @@
 ghost use Rattle.std.specs.Prelude.{◌≡◌, List, [], ◌∷◌, ◌++◌, IfOk};
 ghost use Rattle.block_layout.specs.Blocks.{place_of_block, is_block_number, is_ob_number, known_block};
-ghost use Rattle.block_layout.specs.Numbered.{number_of_kind, numbered_place, numbers_of_kind};
+ghost use Rattle.block_layout.specs.BlockNumbers.{number_of_kind, numbered_place, numbers_of_kind};
 
 use plc_base::{BlockId, BlockKind};
 use std::alloc::{AllocError, Global};
@@ -18,7 +18,7 @@ impl Model for NumberedBlocks {
     ghost use Rattle.std.specs.Prelude.{◌≡◌, ℕ, List, Option};
     ghost use Rattle.std.specs.BTreeMap.{get};
     ghost use Rattle.std.specs.Ordering.{nat_cmp};
-    ghost use Rattle.block_layout.specs.Numbered.{numbered_place};
+    ghost use Rattle.block_layout.specs.BlockNumbers.{numbered_place};
 
     ghost Value = { List (Option ℕ) };
 
@@ -112,7 +112,7 @@ impl Model for Directory {
     ghost use Rattle.std.specs.Prelude.{◌≡◌, List, Option};
     ghost use Rattle.plc_base.specs.declared.blocks.BlockId.{BlockId};
     ghost use Rattle.plc_base.specs.declared.blocks.BlockKind.TheVariants as kind;
-    ghost use Rattle.block_layout.specs.Numbered.{numbers_of_kind};
+    ghost use Rattle.block_layout.specs.BlockNumbers.{numbers_of_kind};
 
     ghost Value = { List (Option BlockId) };
 

@@ -1,9 +1,9 @@
 //! Laws of the definitions that contracts cite, each of them a function with an empty body.
 
 ghost use Rattle.std.specs.Prelude.{◌≡◌, ◌<◌, ℕ, List};
-ghost use Rattle.block_layout.specs.Listed.{LengthStays, OffsetsStay};
+ghost use Rattle.block_layout.specs.ListedParameters.{LengthStays, OffsetsStay};
 ghost use Rattle.block_layout.specs.Places.{AreOffsets, FindsSound, siblings, sound_offsets};
-ghost use Rattle.block_layout.specs.Rebuilt.{AreRebuilt};
+ghost use Rattle.block_layout.specs.RebuiltBytes.{AreRebuilt};
 ghost use Rattle.block_layout.specs.Sizes.{components_end, largest_size};
 ghost use Rattle.block_layout.specs.Sums.{LeadsToOne, OffsetsAreSums};
 ghost use Rattle.block_layout.specs.declared.cells.Cell.{Cell};

@@ -23,7 +23,7 @@ use Rattle.ob_sched.specs.OrganizationBlock.{is_delay}
 use Rattle.ob_sched.specs.Scheduler.{Scheduler, delay_of, delay_started, delay_cancelled, cycle_retriggered}
 use Rattle.sys_funcs.specs.Disabling.{selection_error_code}
 use Rattle.sys_funcs.specs.Functions.{dis_airt, en_airt, disabled_or_error, dis_irt, en_irt, srt_dint, can_dint, time_tck, with_delay}
-use Rattle.sys_funcs.specs.Returned.{SystemFunctionResult, int_result, with_br_set}
+use Rattle.sys_funcs.specs.Results.{SystemFunctionResult, int_result, with_br_set}
 use Rattle.controller.specs.Leaves.{call_finished, regs_called, running_of, ServesTo, ServesRunning}
 use Rattle.controller.specs.Monitoring.{regs_served}
 use Rattle.controller.specs.Serving.{ServiceResult, Returns, Passes, Stops, result_given, after_service, system_function_served, in_parameter}

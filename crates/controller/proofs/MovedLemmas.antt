@@ -12,7 +12,7 @@ use Rattle.frames.specs.declared.Activation.{Activation}
 use Rattle.frames.specs.declared.bindings.Binding.{Binding}
 use Rattle.frames.specs.declared.frame.Frame.{Frame}
 use Rattle.machine.specs.Code.{Code, Fetched, BlockHead}
-use Rattle.machine.specs.Moved.{FollowsCode, moved_activation, moved_fetched, moved_frame, moved_step, StatementsMove}
+use Rattle.machine.specs.MovedCode.{FollowsCode, moved_activation, moved_fetched, moved_frame, moved_step, StatementsMove}
 use Rattle.machine.specs.Statement.{StatementStep, Went, Ended, SyncError, SysCall, Stop, Stuck, statement_step}
 use Rattle.machine.specs.SystemCalls.{SystemCallArguments}
 use Rattle.monitor.specs.declared.MonRecord.{MonRecord}
@@ -27,7 +27,7 @@ use Rattle.ob_sched.specs.declared.start_infos.StartEvent.TheVariants.{Arrival}
 use Rattle.ob_sched.specs.declared.start_infos.StartInfo.{StartInfo}
 use Rattle.sys_funcs.specs.Disabling.{selection_error_code}
 use Rattle.sys_funcs.specs.Functions.{dis_airt, en_airt, dis_irt, en_irt, srt_dint, can_dint, time_tck, disabled_or_error, with_delay}
-use Rattle.sys_funcs.specs.Returned.{SystemFunctionResult, int_result, with_br_set}
+use Rattle.sys_funcs.specs.Results.{SystemFunctionResult, int_result, with_br_set}
 use Rattle.var_access.specs.declared.Reply.{Reply}
 use Rattle.var_access.specs.declared.Request.{Request}
 use Rattle.var_access.specs.declared.Request.TheVariants as ask
@@ -40,12 +40,12 @@ use Rattle.controller.specs.CyclePoint.{cycle_point, cycle_info, cycle_finished}
 use Rattle.controller.specs.Errors.{with_caller_registers, error_in, error_ob_started, error_raised, error_event, is_synchronous}
 use Rattle.controller.specs.Event.{entry_counted, entry_effect, state_after}
 use Rattle.controller.specs.Monitoring.{is_monitored, monitoring_record, mon_record_at, regs_after, regs_served, step_record}
-use Rattle.controller.specs.Moved.{moved_state, EntriesMove, HistoriesMove}
+use Rattle.controller.specs.MovedCode.{moved_state, EntriesMove, HistoriesMove}
 use Rattle.controller.specs.Replay.{EntryResult, entry_result_between, entry_result, replay, reply_to, state_after_entries}
 use Rattle.controller.specs.Requests.{stopped_if, tick_state_taken, arrival_served}
 use Rattle.controller.specs.Serving.{ServiceResult, Returns, Passes, Stops, system_function_served, after_service, system_call_served, in_parameter}
 use Rattle.controller.specs.Settling.{may_start, request_taken, request_started, best_started, after_settling}
-use Rattle.controller.specs.Shown.{observed_changes, entry_shown}
+use Rattle.controller.specs.ShownEntry.{observed_changes, entry_shown}
 use Rattle.controller.specs.Start.{all_obs, before_start, restart_cleared, warm_restarted, initial_state, state_in_startup, startup_info, startup_ob}
 use Rattle.controller.specs.State.{State, is_stop, diagnosis_recorded, each_diagnosed}
 use Rattle.controller.specs.Stepping.{run_starts, ob_ended, after_statement, step_of_first, after_step}

@@ -9,7 +9,7 @@ use Rattle.plc_mem.specs.Bits.{peripheral_byte}
 use Rattle.plc_mem.specs.Changes.{IsFirstChange}
 use Rattle.plc_mem.specs.Places.{HasParts, IsMemory}
 use Rattle.plc_base.specs.AreaBytes.{is_peripheral_byte}
-use Rattle.controller.specs.Shown.{if_changed, changed_output, changed_outputs}
+use Rattle.controller.specs.ShownEntry.{if_changed, changed_output, changed_outputs}
 
 -- the changed bytes from a number on
 abbrev pub changes_from : (before after : PeripheralBytes) (from : ℕ) → List (ℕ × ℕ)

@@ -5,7 +5,7 @@ use Rattle.plc_base.specs.declared.Profile.TheVariants.{Small}
 use Rattle.plc_base.specs.declared.BlockId.{BlockId}
 use Rattle.plc_base.specs.declared.Spot.{Spot}
 use Rattle.frames.specs.declared.Activation.{Activation}
-use Rattle.flat_code.specs.Placed.{line_placed}
+use Rattle.flat_code.specs.PlacedOps.{line_placed}
 use Rattle.flat_code.specs.Programs.{CodeBlock, Program}
 use Rattle.image_file.specs.Readers.{block_by_id, line_at_offset}
 use Rattle.machine.specs.Code.{Code, Fetched}

@@ -5,7 +5,7 @@ use Rattle.var_access.specs.declared.What.{What}
 use Rattle.controller.specs.Replay.{entry_result, state_after_entries, replay, last_observed_from, last_observed, ContinuesByMore, ContinuesReplay, ContinuesLastObserved, LastObservedByMore}
 use Rattle.controller.specs.Start.{initial_state}
 use Rattle.controller.specs.State.{State}
-use Rattle.controller.specs.Shown.{nothing_shown}
+use Rattle.controller.specs.ShownEntry.{nothing_shown}
 use Rattle.controller.specs.declared.observing.Observed.{Observed}
 
 run_more : (code : Code) (s : State) (front back : List What)

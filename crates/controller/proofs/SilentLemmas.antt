@@ -20,7 +20,7 @@ use Rattle.controller.specs.Monitoring.{monitoring_record}
 use Rattle.controller.specs.SilentSteps.{GoesOnSilently, GoesOnReady, ShowNothing}
 use Rattle.controller.specs.Replay.{entry_result, state_after_entries}
 use Rattle.controller.specs.Settling.{after_settling}
-use Rattle.controller.specs.Shown.{changed_mode, changed_outputs, is_same_mode, nothing_shown, entry_shown}
+use Rattle.controller.specs.ShownEntry.{changed_mode, changed_outputs, is_same_mode, nothing_shown, entry_shown}
 use Rattle.controller.specs.State.{State, is_stop}
 use Rattle.controller.specs.Stepping.{after_step}
 use Rattle.controller.proofs.ObservingLemmas.{none_changed}

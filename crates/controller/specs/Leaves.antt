@@ -13,7 +13,7 @@ use Rattle.machine.specs.declared.outcomes.Outcome.{Outcome}
 use Rattle.machine.specs.declared.outcomes.Outcome.TheVariants as outcome
 use Rattle.monitor.specs.declared.MonRecord.{MonRecord}
 use Rattle.ob_sched.specs.Scheduler.{Scheduler}
-use Rattle.sys_funcs.specs.Returned.{LeavesSystemFunctionResult}
+use Rattle.sys_funcs.specs.Results.{LeavesSystemFunctionResult}
 use Rattle.status_word.specs.declared.Regs.{Regs}
 use Rattle.controller.specs.Errors.{error_in, error_raised}
 use Rattle.controller.specs.Monitoring.{regs_before_service, regs_served, statement_record}

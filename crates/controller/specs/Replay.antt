@@ -8,7 +8,7 @@ use Rattle.var_access.specs.declared.What.{What}
 use Rattle.var_access.specs.declared.What.TheVariants.{Ask}
 use Rattle.controller.specs.Asking.{request_reply}
 use Rattle.controller.specs.Event.{state_after}
-use Rattle.controller.specs.Shown.{nothing_shown, entry_shown}
+use Rattle.controller.specs.ShownEntry.{nothing_shown, entry_shown}
 use Rattle.controller.specs.Start.{initial_state}
 use Rattle.controller.specs.State.{State}
 use Rattle.controller.specs.declared.observing.Observed.{Observed}

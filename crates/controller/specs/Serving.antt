@@ -12,7 +12,7 @@ use Rattle.machine.specs.Statement.{with_memory}
 use Rattle.machine.specs.SystemCalls.{SystemCallArguments}
 use Rattle.ob_sched.specs.Scheduler.{Scheduler, cycle_retriggered}
 use Rattle.sys_funcs.specs.Functions.{dis_airt, en_airt, dis_irt, en_irt, srt_dint, can_dint, time_tck}
-use Rattle.sys_funcs.specs.Returned.{SystemFunctionResult, with_br_set}
+use Rattle.sys_funcs.specs.Results.{SystemFunctionResult, with_br_set}
 use Rattle.controller.specs.State.{State}
 use Rattle.controller.specs.Stopping.{stop_entered_at}
 

@@ -8,7 +8,7 @@ use Rattle.machine.specs.Statement.{GlobalStore}
 use Rattle.ob_sched.specs.StartRequest.{best_of}
 use Rattle.var_access.specs.declared.What.{What}
 use Rattle.controller.specs.Replay.{entry_result}
-use Rattle.controller.specs.Shown.{nothing_shown}
+use Rattle.controller.specs.ShownEntry.{nothing_shown}
 use Rattle.controller.specs.State.{State, is_stop}
 
 -- none of these entries shows anything, from a state on

@@ -11,7 +11,7 @@ ghost use Rattle.var_access.specs.declared.What.TheVariants.{Step};
 ghost use Rattle.controller.specs.Asking.{request_reply};
 ghost use Rattle.controller.specs.SilentSteps.{ShowNothing, steps_silently};
 ghost use Rattle.controller.specs.Replay.{state_after_entries};
-ghost use Rattle.controller.specs.Replayed.{final_data_blocks as blocks_after, next_result, number_with_bytes as with_number, final_state, last_shown};
+ghost use Rattle.controller.specs.ReplayResult.{final_data_blocks as blocks_after, next_result, number_with_bytes as with_number, final_state, last_shown};
 
 use crate::cpus::Cpu;
 use crate::observing::{Observed, Observer};
@@ -39,7 +39,7 @@ impl Model for Controller {
 
     ghost Value = { Recording };
 
-    ghost use Rattle.controller.specs.Kept.{IsReplay};
+    ghost use Rattle.controller.specs.Invariant.{IsReplay};
 
     ghost view = { λ a. record {
       program = a.program.program;

@@ -1,7 +1,7 @@
 //! Laws of histories and of activations: each function does nothing, and its contract is the law.
 ghost use Rattle.controller.specs.Fitting.{EntriesKeepFit, FitIsReady, HistoriesAreFit, StartIsFit};
 ghost use Rattle.controller.specs.MachineLaws.{MachineLaws};
-ghost use Rattle.controller.specs.Moved.{EntriesMove, HistoriesMove};
+ghost use Rattle.controller.specs.MovedCode.{EntriesMove, HistoriesMove};
 ghost use Rattle.controller.specs.Replay.{ContinuesByMore, ContinuesReplay, ContinuesLastObserved, CountsEntries, CountsHistory, EntriesKeepProfile, HistoriesKeepProfile, LastObservedByMore};
 ghost use Rattle.controller.specs.Stack.{AtMost48};
 

@@ -1,7 +1,7 @@
 //! What an entry shows.
 ghost use Rattle.std.specs.Prelude.{◌≡◌, []};
 ghost use Rattle.plc_mem.specs.Places.{HasParts};
-ghost use Rattle.controller.specs.Shown.{changed_mode as mode_changed, changed_outputs, nothing_shown, watched_state, watched_next};
+ghost use Rattle.controller.specs.ShownEntry.{changed_mode as mode_changed, changed_outputs, nothing_shown, watched_state, watched_next};
 ghost use Rattle.controller.specs.Views.{cpu_state};
 
 use crate::cpus::Cpu;
@@ -47,7 +47,7 @@ pub struct Observer {
 }
 
 impl Model for Observer {
-    ghost use Rattle.controller.specs.Shown.{WatchedState};
+    ghost use Rattle.controller.specs.ShownEntry.{WatchedState};
 
     ghost Value = { WatchedState };
 

@@ -71,7 +71,7 @@ impl Cpu {
 
     /// One entry of the history, over a program in which the running activation can go on, and settling
     /// after it. The answer is what is recorded of it. Takes no memory.
-    #[tactic(auto, unfolding(crate::specs::Event::state_after, crate::specs::Monitoring::monitoring_record, crate::specs::Replay::entry_result, crate::specs::Shown::entry_shown))]
+    #[tactic(auto, unfolding(crate::specs::Event::state_after, crate::specs::Monitoring::monitoring_record, crate::specs::Replay::entry_result, crate::specs::ShownEntry::entry_shown))]
     pub fn enter(&mut self, program: &Loaded, what: &What) -> Option<MonRecord>
         requires range { IsInRange what.now }
         requires few { self.old.entries + 1 < 2 ^ 64 }

@@ -5,7 +5,7 @@ use Rattle.std.specs.Prelude.{nat_eq, nat_le, ◌==◌}
 use Rattle.std.proofs.lemmas.Bool.{ne_eqb}
 use Rattle.std.proofs.lemmas.List.{length-take-le}
 use Rattle.flat_code.specs.Blocks.{bracket_fault, zone_fault}
-use Rattle.flat_code.specs.Placed.{bracket_codes, codes_of_few_brackets, outer_brackets, is_empty_list, brackets_after, is_opening, zones_behind_op}
+use Rattle.flat_code.specs.PlacedOps.{bracket_codes, codes_of_few_brackets, outer_brackets, is_empty_list, brackets_after, is_opening, zones_behind_op}
 use Rattle.flat_code.specs.declared.image_fields.OpenBracket.{OpenBracket}
 
 -- ---- the codes of open brackets

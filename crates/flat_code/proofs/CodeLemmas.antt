@@ -11,7 +11,7 @@ use Rattle.flat_code.specs.declared.operations.Operation.{Operation}
 use Rattle.flat_code.specs.declared.operations.Operation.TheVariants as operation
 use Rattle.plc_base.specs.declared.instructions.Check.TheVariants as check
 use Rattle.flat_code.specs.declared.operations.AccuOperation.TheVariants as accu_operation
-use Rattle.flat_code.specs.declared.operations.AddConstant.TheVariants as adding
+use Rattle.flat_code.specs.declared.operations.AddConstant.TheVariants as add_constant
 use Rattle.plc_base.specs.declared.instructions.Compare.TheVariants as compare
 use Rattle.flat_code.specs.declared.operations.Logic.TheVariants as logic
 use Rattle.flat_code.specs.declared.operations.Shift.TheVariants as shifts
@@ -39,10 +39,10 @@ operation_again (operation.Check check.On) = refl
 operation_again (operation.Check check.X) = refl
 operation_again (operation.Check check.Xn) = refl
 operation_again operation.OrBare = refl
-operation_again (operation.Add adding.Dword) = refl
-operation_again (operation.Add adding.Inc) = refl
-operation_again (operation.Add adding.Dec) = refl
-operation_again (operation.Add adding.Word) = refl
+operation_again (operation.Add add_constant.Dword) = refl
+operation_again (operation.Add add_constant.Inc) = refl
+operation_again (operation.Add add_constant.Dec) = refl
+operation_again (operation.Add add_constant.Word) = refl
 operation_again (operation.Nest check.A) = refl
 operation_again (operation.Nest check.An) = refl
 operation_again (operation.Nest check.O) = refl

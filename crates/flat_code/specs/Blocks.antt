@@ -16,7 +16,7 @@ use Rattle.flat_code.specs.Ops.{OpData}
 use Rattle.flat_code.specs.Records.{BlockRecord}
 use Rattle.flat_code.specs.Codes.{size_of_op, first_found}
 use Rattle.flat_code.specs.declared.image_fields.OpenBracket.{OpenBracket}
-use Rattle.flat_code.specs.Placed.{PlacedOp, code_places, begins_its_statement, is_empty_list, last_op, is_opening, open_behind, zones_left, codes_of_few_brackets, most_brackets, most_zones, StatementSpot, statement_spots, spot_at}
+use Rattle.flat_code.specs.PlacedOps.{PlacedOp, code_places, begins_its_statement, is_empty_list, last_op, is_opening, open_behind, zones_left, codes_of_few_brackets, most_brackets, most_zones, StatementSpot, statement_spots, spot_at}
 use Rattle.flat_code.specs.OpCodes.{op_code_of}
 use Rattle.flat_code.specs.Kinds.{jump_number}
 use Rattle.flat_code.specs.Records.{section_in, section_out}

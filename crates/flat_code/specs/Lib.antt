@@ -16,6 +16,6 @@ pub mod Faults
 pub mod Codes
 pub mod Image
 pub mod Checking
-pub mod Placed
+pub mod PlacedOps
 pub mod Blocks
 pub mod Loading

@@ -4,7 +4,7 @@ use Rattle.flat_code.specs.declared.operations.Operation.{Operation}
 use Rattle.flat_code.specs.declared.operations.Operation.TheVariants as operation
 use Rattle.plc_base.specs.declared.instructions.Check.TheVariants as check
 use Rattle.flat_code.specs.declared.operations.AccuOperation.TheVariants as accu_operation
-use Rattle.flat_code.specs.declared.operations.AddConstant.TheVariants as adding
+use Rattle.flat_code.specs.declared.operations.AddConstant.TheVariants as add_constant
 use Rattle.plc_base.specs.declared.instructions.Compare.TheVariants as compare
 use Rattle.flat_code.specs.declared.operations.Logic.TheVariants as logic
 use Rattle.flat_code.specs.declared.operations.Shift.TheVariants as shifts
@@ -32,10 +32,10 @@ op_code_of (operation.Check check.On) = 0x13
 op_code_of (operation.Check check.X) = 0x14
 op_code_of (operation.Check check.Xn) = 0x15
 op_code_of operation.OrBare = 0x16
-op_code_of (operation.Add adding.Dword) = 0x17
-op_code_of (operation.Add adding.Inc) = 0x3E
-op_code_of (operation.Add adding.Dec) = 0x3F
-op_code_of (operation.Add adding.Word) = 0x40
+op_code_of (operation.Add add_constant.Dword) = 0x17
+op_code_of (operation.Add add_constant.Inc) = 0x3E
+op_code_of (operation.Add add_constant.Dec) = 0x3F
+op_code_of (operation.Add add_constant.Word) = 0x40
 op_code_of (operation.Nest check.A) = 0x18
 op_code_of (operation.Nest check.An) = 0x19
 op_code_of (operation.Nest check.O) = 0x1A

@@ -13,7 +13,7 @@ use Rattle.plc_mem.specs.Bits.{bit_of_byte}
 use Rattle.plc_mem.specs.Run.{number_over, operand_bit_of}
 use Rattle.plc_mem.specs.Writing.{is_within, put_number, bytes_with_number, byte_with_bit}
 use Rattle.plc_mem.proofs.Numbers.{run_none, weights_same}
-use Rattle.plc_mem.proofs.Stored.{length-stored}
+use Rattle.plc_mem.proofs.StoredNumbers.{length-stored}
 use Rattle.frames.specs.Locals.{LocalData, no_locals, frame_bytes_end, local_number, local_written, open_locals, close_locals, close_locals_at, last_start}
 use Rattle.frames.specs.OwnBytes.{IsLaidOut, IsOwnWritten, frame_bytes, own_bytes, bytes_cut}
 

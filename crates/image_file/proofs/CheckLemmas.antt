@@ -9,7 +9,7 @@ use Rattle.flat_code.specs.Codes.{size_of_op, code_bytes}
 use Rattle.flat_code.specs.OpCodes.{op_code_of}
 use Rattle.flat_code.specs.declared.operations.Operation.TheVariants as operation
 use Rattle.flat_code.specs.declared.operations.RelayOperation.TheVariants as relay
-use Rattle.flat_code.specs.Placed.{PlacedOp, ops_placed, code_places, is_opening, outer_brackets, brackets_after, zones_behind_op, before_next, open_behind, zones_left, StatementSpot, statement_spots, spots_from, codes_of_few_brackets}
+use Rattle.flat_code.specs.PlacedOps.{PlacedOp, ops_placed, code_places, is_opening, outer_brackets, brackets_after, zones_behind_op, before_next, open_behind, zones_left, StatementSpot, statement_spots, spots_from, codes_of_few_brackets}
 use Rattle.flat_code.specs.Blocks.{Environment, is_ju_operand, leads_to_target, op_faults, faults_over, open_faults, open_zone_faults, block_faults}
 use Rattle.image_file.specs.declared.faults.LoadFault.{LoadFault}
 use Rattle.image_file.specs.Least.{with_fault, with_faults}

@@ -8,11 +8,11 @@ use Rattle.flat_code.specs.declared.operands.Operand.TheVariants as operand
 use Rattle.flat_code.specs.Ops.{OpData}
 use Rattle.flat_code.specs.Codes.{size_of_op}
 use Rattle.flat_code.specs.Programs.{CodeBlock, Program}
-use Rattle.flat_code.specs.Placed.{PlacedOp, ops_placed, code_places, is_empty_list, bracket_codes, codes_of_few_brackets, most_brackets, StatementSpot, statement_spots, spots_from, spot_at, brackets_after, zones_behind_op, before_next}
+use Rattle.flat_code.specs.PlacedOps.{PlacedOp, ops_placed, code_places, is_empty_list, bracket_codes, codes_of_few_brackets, most_brackets, StatementSpot, statement_spots, spots_from, spot_at, brackets_after, zones_behind_op, before_next}
 use Rattle.flat_code.specs.Kinds.{jump_number}
 use Rattle.flat_code.specs.declared.kinds.JumpOperation.TheVariants as jump
 use Rattle.flat_code.specs.Blocks.{are_same_codes, are_other_brackets, target_fault, is_bad_list, operand_fault, leads_to_target}
-use Rattle.image_file.specs.Verified.{placed_at, IsVerifiedOp, Lands}
+use Rattle.image_file.specs.VerifiedProgram.{placed_at, IsVerifiedOp, Lands}
 use Rattle.image_file.proofs.VerifiedLemmas.{option_by_test, none_if, empty_next, op_long, place_offset, op_none, environment_in, brackets_right}
 
 spot_none : (from : ℕ) (begin : Bool) (brackets : List OpenBracket) (zones : List ℕ) (ops : List OpData) (at : ℕ) → at < from → spot_at (spots_from from begin brackets zones ops) at ≡ None

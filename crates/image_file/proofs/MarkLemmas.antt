@@ -10,7 +10,7 @@ use Rattle.flat_code.proofs.OpLemmas.{op_again}
 use Rattle.flat_code.specs.Codes.{size_of_op, code_bytes, are_ops}
 use Rattle.flat_code.specs.Image.{end_marks}
 use Rattle.flat_code.specs.Ops.{OpData, IsOp, is_op, op_at, op_bytes}
-use Rattle.flat_code.specs.Placed.{op_placed, line_placed}
+use Rattle.flat_code.specs.PlacedOps.{op_placed, line_placed}
 use Rattle.flat_code.specs.Programs.{CodeBlock}
 use Rattle.image_file.specs.Marks.{inside_mark, marks_from, ops_of_bytes, IsInPlace}
 use Rattle.image_file.specs.Tables.{no_index, HasSmallCode, AreSmall}

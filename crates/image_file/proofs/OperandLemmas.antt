@@ -22,10 +22,10 @@ use Rattle.flat_code.specs.Programs.{CodeBlock, Program}
 use Rattle.flat_code.specs.Image.{record_of_param, record_of_block}
 use Rattle.flat_code.specs.Loading.{lens_of}
 use Rattle.flat_code.specs.Table.{takes_of, has_memory_width}
-use Rattle.flat_code.specs.Placed.{PlacedOp, statement_spots, begins_its_statement, last_op}
+use Rattle.flat_code.specs.PlacedOps.{PlacedOp, statement_spots, begins_its_statement, last_op}
 use Rattle.flat_code.specs.Blocks.{signature_of, CalleeSeen, block_with, callee_among, is_odd_bit, is_past_locals, is_bad_place, lacks_width, writes_operand, parameter_meant, lacks_own_parameter, is_in_parameter, is_in_db, is_above, pass_before, is_stray_pass, is_bad_actual, misfits_index, misfits_callee, misfits_call, are_all_passed, is_bad_instance, is_bad_call, seven_if, operand_fault, call_fault_among}
 use Rattle.image_file.specs.Readers.{is_same_id, block_by_id}
-use Rattle.image_file.specs.Verified.{IsVerifiedOp, LiesWithin, HasParam, FitsOperand, FitsPassed, FitsPrepared, block_signatures, FitsCall, FitsParameter, IsCalledBlock}
+use Rattle.image_file.specs.VerifiedProgram.{IsVerifiedOp, LiesWithin, HasParam, FitsOperand, FitsPassed, FitsPrepared, block_signatures, FitsCall, FitsParameter, IsCalledBlock}
 use Rattle.image_file.proofs.ImageLemmas.{width_there}
 use Rattle.image_file.proofs.VerifiedLemmas.{op_none, environment_in}
 

@@ -18,9 +18,9 @@ use Rattle.flat_code.specs.Programs.{CodeBlock, Program}
 use Rattle.flat_code.specs.declared.programs.Param.{Param}
 use Rattle.flat_code.specs.Image.{plain_u16, zero_u16, parameter_count_layout, block_number_layout, local_length_layout, Head, head_layout, head_of_block, RecordCounts, row_of_counts, count_rows, counts_layout, counts_of, data_count, code_block_layout, code_blocks_layout, after_block, records_of, body_layout, record_of_block, IsProgram, IsRight, end_marks, lines_layout, line_field, line_after, record_of_param}
 use Rattle.flat_code.specs.declared.image_fields.OpenBracket.{OpenBracket}
-use Rattle.flat_code.specs.Placed.{PlacedOp, ops_placed, code_places, brackets_after, zones_behind_op, before_next}
+use Rattle.flat_code.specs.PlacedOps.{PlacedOp, ops_placed, code_places, brackets_after, zones_behind_op, before_next}
 use Rattle.flat_code.proofs.PartLemmas.{all_of_blocks, chain_parts, dword_fits, good_head, unless_fine, word_fits}
-use Rattle.image_file.specs.Verified.{placed_at, BlockBegins, BlockIsRight}
+use Rattle.image_file.specs.VerifiedProgram.{placed_at, BlockBegins, BlockIsRight}
 use Rattle.image_file.specs.Readers.{is_same_id, block_by_id}
 use Rattle.image_file.specs.Tables.{AreSmall, slot_of, HaveSlots}
 use Rattle.image_file.proofs.ImageLemmas.{good_records, good_block_of, head_kind}

@@ -21,7 +21,7 @@ use Rattle.image_file.specs.declared.refusing.LoadError.{LoadError}
 use Rattle.image_file.specs.declared.refusing.LoadError.TheVariants as error
 use Rattle.image_file.specs.Images.{GivesBack, IsImageOf}
 use Rattle.image_file.specs.Least.{with_faults, IsUpTo, IsLeastFault}
-use Rattle.image_file.specs.Loaded.{LoadedProgram}
+use Rattle.image_file.specs.LoadedProgram.{LoadedProgram}
 use Rattle.image_file.specs.Refusing.{IsLoadError}
 use Rattle.image_file.specs.Verifying.{line_faults, count_faults, faults_of_block, are_whole, lens_checked, DecidesFor, IsFirstOf, IsFaultOf, AreClean, IsClean}
 use Rattle.flat_code.proofs.PartLemmas.{all_of_blocks}

@@ -11,7 +11,7 @@ use Rattle.flat_code.specs.Ops.{OpData}
 use Rattle.flat_code.specs.Codes.{size_of_op, code_bytes}
 use Rattle.flat_code.specs.declared.image_fields.OpenBracket.{OpenBracket}
 use Rattle.flat_code.specs.Blocks.{BlockSignature, block_with, length_of_data}
-use Rattle.flat_code.specs.Placed.{StatementSpot, statement_spots, spots_from, spot_at, codes_of_few_brackets, brackets_after, zones_behind_op}
+use Rattle.flat_code.specs.PlacedOps.{StatementSpot, statement_spots, spots_from, spot_at, codes_of_few_brackets, brackets_after, zones_behind_op}
 use Rattle.image_file.specs.Tables.{start_index, no_index, table_entry, IsTableOf, FindsStatements, FindsLens, call_key, signature_callee, found_callee, FindsCallees}
 use Rattle.image_file.proofs.CheckLemmas.{code_len}
 use Rattle.image_file.proofs.MarkLemmas.{two_bytes}

@@ -14,10 +14,10 @@ use Rattle.flat_code.specs.Programs.{CodeBlock, Program}
 use Rattle.flat_code.specs.Records.{BlockRecord}
 use Rattle.flat_code.specs.Image.{record_of_block, end_marks}
 use Rattle.flat_code.specs.Loading.{AreVerified, lens_of, environment_of_block}
-use Rattle.flat_code.specs.Placed.{PlacedOp, ops_placed, code_places, op_placed, line_placed, begins_its_statement, is_empty_list, most_brackets, most_zones, StatementSpot, statement_spots, is_opening, outer_brackets, brackets_after, zones_behind_op, open_behind, zones_left, before_next}
+use Rattle.flat_code.specs.PlacedOps.{PlacedOp, ops_placed, code_places, op_placed, line_placed, begins_its_statement, is_empty_list, most_brackets, most_zones, StatementSpot, statement_spots, is_opening, outer_brackets, brackets_after, zones_behind_op, open_behind, zones_left, before_next}
 use Rattle.flat_code.specs.Blocks.{Environment, operand_fault, call_fault, mark_fault, bracket_fault, zone_fault, at_offset, op_faults, faults_over, open_faults, open_zone_faults, block_faults, prepares_statement, seven_if}
 use Rattle.image_file.specs.Readers.{is_same_id, block_by_id}
-use Rattle.image_file.specs.Verified.{placed_at, IsVerifiedOp, HasNext, BracketsAreRight, ZonesAreRight, StatementIsRight, HasLine}
+use Rattle.image_file.specs.VerifiedProgram.{placed_at, IsVerifiedOp, HasNext, BracketsAreRight, ZonesAreRight, StatementIsRight, HasLine}
 
 -- ---- no fault of a block is none of its ops
 

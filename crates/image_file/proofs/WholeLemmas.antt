@@ -14,7 +14,7 @@ use Rattle.flat_code.specs.Layout.{Note, Faulty, Whole, AllBlocks, Cursor, ReadR
 use Rattle.flat_code.specs.Codes.{ops_from, stop_at, read_ops, read_code, code_layout}
 use Rattle.flat_code.specs.Image.{no_fault, plain_u16, plain_u32, zero_u8, zero_u16, width_field, bytes_coding, section_field, parameter_byte, parameter_bit, parameter_rows, parameter_fields, parameter_row, parameter_of_fields, fields_of_parameter, parameter_layout, kind_field, parameter_count_layout, block_number_layout, local_length_layout, instance_bytes_layout, Head, head_of_row, row_of_head, head_rows, head_layout, same_state, parameters_layout, line_after, line_field, lines_layout, code_and_lines, BlockRow, parts_of_block_row, row_of_block_parts, block_rows, block_of_parts, parts_of_block, plain_block, whole_note, code_block_at, code_block_layout, after_block, data_number_layout, instance_field, data_length_layout, contents_layout, data_rows, data_fields, data_row, data_of_fields, fields_of_data, data_block_layout, after_data, name_len, name_bytes, name_area, name_bit, name_rows, name_fields, name_row, name_of_fields, fields_of_name, name_record, after_name, data_count, RecordCounts, counts_of_row, row_of_counts, count_rows, counts_layout, code_blocks_layout, plain_data_blocks, data_blocks_layout, names_layout, BodyRow, parts_of_body_row, row_of_body_parts, body_rows, records_of_parts, parts_of_records, records_layout, record_of_block, program_of_records, records_of, body_layout, magic_field, version_field, profile_field, Front, front_of_row, row_of_front, front_rows, front_layout, front_size, stamp_in, end_layout, read_cut_off, read_by, read_image}
 use Rattle.flat_code.specs.declared.image_fields.OpenBracket.{OpenBracket}
-use Rattle.flat_code.specs.Placed.{PlacedOp, StatementSpot, statement_spots, code_places, open_behind, zones_left}
+use Rattle.flat_code.specs.PlacedOps.{PlacedOp, StatementSpot, statement_spots, code_places, open_behind, zones_left}
 use Rattle.flat_code.specs.Blocks.{Environment, operand_fault, call_fault, mark_fault, bracket_fault, zone_fault, at_offset, op_faults, faults_over, open_faults, open_zone_faults, block_faults}
 use Rattle.flat_code.specs.Loading.{lens_of, later_data_blocks, environment_of_block, whole_blocks, all_blocks, blocks_of, op_faults_of_blocks, faults_of, GivesProgram, AreVerified, IsLoadable}
 use Rattle.flat_code.proofs.CodingLemmas.{IsBytes}

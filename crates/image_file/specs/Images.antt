@@ -8,7 +8,7 @@ use Rattle.flat_code.specs.Stamps.{profile_of}
 use Rattle.image_file.specs.declared.refusing.LoadError.{LoadError}
 use Rattle.image_file.specs.declared.refusing.LoadError.TheVariants as error
 use Rattle.image_file.specs.Least.{IsLeastFault}
-use Rattle.image_file.specs.Loaded.{LoadedProgram}
+use Rattle.image_file.specs.LoadedProgram.{LoadedProgram}
 
 -- bytes are without fault, and a loaded program is the one that they hold, with the profile of
 -- their version or the one that they name

@@ -3,7 +3,7 @@ pub mod Walking
 pub mod Least
 pub mod Running
 pub mod OpChecking
-pub mod Loaded
+pub mod LoadedProgram
 pub mod Refusing
 pub mod Images
 pub mod Typing
@@ -12,4 +12,4 @@ pub mod Verifying
 pub mod Readers
 pub mod Tables
 pub mod Marks
-pub mod Verified
+pub mod VerifiedProgram

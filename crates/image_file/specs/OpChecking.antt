@@ -6,7 +6,7 @@ use Rattle.flat_code.specs.declared.image_fields.OpenBracket.{OpenBracket}
 use Rattle.flat_code.specs.declared.image_fields.ParameterRecord.{ParameterRecord}
 use Rattle.flat_code.specs.Blocks.{Environment, CalleeSeen}
 use Rattle.flat_code.specs.Ops.{OpData}
-use Rattle.flat_code.specs.Placed.{PlacedOp}
+use Rattle.flat_code.specs.PlacedOps.{PlacedOp}
 use Rattle.image_file.specs.declared.environments.BlockEnvironment.{BlockEnvironment}
 use Rattle.image_file.specs.declared.verifying.OpPlace.{OpPlace}
 

@@ -6,7 +6,7 @@ use Rattle.plc_base.specs.declared.blocks.BlockKind.TheVariants as kinds
 use Rattle.plc_base.specs.declared.blocks.BlockId.{BlockId}
 use Rattle.flat_code.specs.Codes.{code_bytes}
 use Rattle.flat_code.specs.Blocks.{BlockSignature, CalleeSeen, block_with, length_of_data}
-use Rattle.flat_code.specs.Placed.{StatementSpot, spot_at}
+use Rattle.flat_code.specs.PlacedOps.{StatementSpot, spot_at}
 use Rattle.flat_code.specs.Programs.{CodeBlock}
 use Rattle.image_file.specs.Readers.{block_by_id}
 

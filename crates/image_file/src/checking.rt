@@ -2,7 +2,7 @@
 ghost use Rattle.std.specs.Prelude.{◌≡◌, ◌+◌, ◌<◌, ◌≤◌, ◌^◌, [], length, drop, OnOk, IfOk};
 ghost use Rattle.std.specs.Option.{option_map};
 ghost use Rattle.flat_code.specs.Codes.{size_of_op, code_bytes};
-ghost use Rattle.flat_code.specs.Placed.{PlacedOp, is_empty_list, brackets_after, zones_behind_op, before_next, codes_of_few_brackets, spot_at, statement_spots, open_behind, code_places};
+ghost use Rattle.flat_code.specs.PlacedOps.{PlacedOp, is_empty_list, brackets_after, zones_behind_op, before_next, codes_of_few_brackets, spot_at, statement_spots, open_behind, code_places};
 ghost use Rattle.flat_code.specs.Blocks.{seven_if, are_same_codes, target_fault, jump_fault, operand_fault, call_fault, mark_fault, bracket_fault, zone_fault, at_offset, op_faults, faults_over, open_faults, block_faults};
 ghost use Rattle.image_file.specs.OpChecking.{AllUpTo, environment_of};
 ghost use Rattle.image_file.specs.Least.{with_faults};
@@ -27,7 +27,7 @@ pub(crate) struct StatementStart {
 
 impl Model for StatementStart {
     ghost use Rattle.std.specs.Option.{option_map};
-    ghost use Rattle.flat_code.specs.Placed.{StatementSpot};
+    ghost use Rattle.flat_code.specs.PlacedOps.{StatementSpot};
 
     ghost Value = { StatementSpot };
 

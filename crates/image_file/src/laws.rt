@@ -1,6 +1,6 @@
 //! Laws of images: each function does nothing, and its contract is the law.
 ghost use Rattle.image_file.specs.Laws.{ImagesAreOfOne, ImagesAreRead, ReadingsAreImages, GivesExactlyImages, KeptIsLeast, VerifiesOrHasFault, FaultsAreOne};
-ghost use Rattle.image_file.specs.Verified.{OpsAreOfTable, BlocksAreRight, OpsArePlaced, CodeGoesOn, StatementsAreRight, StatementsHaveLines, JumpsLand, ListsLead, BracketsFit, ZonesFit, OperandsFit, PreparedFit, CallsFit, PassedFit, CalledAreThere};
+ghost use Rattle.image_file.specs.VerifiedProgram.{OpsAreOfTable, BlocksAreRight, OpsArePlaced, CodeGoesOn, StatementsAreRight, StatementsHaveLines, JumpsLand, ListsLead, BracketsFit, ZonesFit, OperandsFit, PreparedFit, CallsFit, PassedFit, CalledAreThere};
 
 /// Every program has one image of each version and profile, and every byte string is the image of
 /// at most one program, version and profile.

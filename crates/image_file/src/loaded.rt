@@ -28,7 +28,7 @@ pub struct Loaded {
 }
 
 impl Model for Loaded {
-    ghost use Rattle.image_file.specs.Loaded.{LoadedProgram, IsLoaded};
+    ghost use Rattle.image_file.specs.LoadedProgram.{LoadedProgram, IsLoaded};
 
     ghost Value = { LoadedProgram };
 

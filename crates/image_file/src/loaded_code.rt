@@ -44,7 +44,7 @@ fn line_of(lines: &[u32], mark: u32) -> Option<u32>
 
 impl<'a> LoadedCode<'a> {
     ghost use Rattle.std.specs.Prelude.{◌≡◌, ◌≤◌, length, true};
-    ghost use Rattle.flat_code.specs.Placed.{op_placed, line_placed};
+    ghost use Rattle.flat_code.specs.PlacedOps.{op_placed, line_placed};
     ghost use Rattle.image_file.specs.Readers.{code_block_head};
 
     /// The code of a block.

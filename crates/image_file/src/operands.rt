@@ -5,7 +5,7 @@ ghost use Rattle.flat_code.specs.Codes.{code_bytes};
 ghost use Rattle.flat_code.specs.OpCodes.{op_code_of};
 ghost use Rattle.flat_code.specs.declared.operations.CallOperation.TheVariants as calls;
 ghost use Rattle.flat_code.specs.declared.operations.Operation.TheVariants as operation;
-ghost use Rattle.flat_code.specs.Placed.{is_empty_list, ending_op};
+ghost use Rattle.flat_code.specs.PlacedOps.{is_empty_list, ending_op};
 ghost use Rattle.flat_code.specs.Blocks.{is_odd_bit, is_past_locals, is_bad_place, lacks_width, writes_operand, parameter_meant, lacks_own_parameter, is_in_parameter, is_in_db, pass_index, pass_before, is_above, is_bad_actual, literal_fits, misfits_parameter, is_index, is_passed, is_ju_operand, leads_to_target};
 ghost use Rattle.image_file.specs.OpChecking.{environment_of};
 

@@ -2,7 +2,7 @@
 ghost use Rattle.std.specs.Prelude.{◌≡◌, ◌++◌, ◌∷◌, [], ◌<◌, ◌^◌, length, map, slice_get, if◌then◌else◌, OnOk, IfOk};
 ghost use Rattle.std.specs.Option.{option_map};
 ghost use Rattle.flat_code.specs.Codes.{code_bytes};
-ghost use Rattle.flat_code.specs.Placed.{codes_of_few_brackets, statement_spots, spot_at};
+ghost use Rattle.flat_code.specs.PlacedOps.{codes_of_few_brackets, statement_spots, spot_at};
 
 use crate::checking::{OpenInCode, StatementStart, codes_of_few_brackets, is_last};
 use crate::tables::{place_at, table_of};
@@ -20,7 +20,7 @@ pub(crate) struct Statements {
 
 impl Model for Statements {
     ghost use Rattle.std.specs.Prelude.{List};
-    ghost use Rattle.flat_code.specs.Placed.{StatementSpot};
+    ghost use Rattle.flat_code.specs.PlacedOps.{StatementSpot};
     ghost use Rattle.image_file.specs.Tables.{FindsStatements};
 
     ghost Value = { List StatementSpot };

@@ -2,7 +2,7 @@
 ghost use Rattle.std.specs.Prelude.{◌≡◌, ◌+◌, ◌<◌, ◌≤◌, ◌^◌, ◌∷◌, ◌++◌, [], length, drop, OnOk, IfOk, if◌then◌else◌};
 ghost use Rattle.std.specs.Option.{option_map};
 ghost use Rattle.flat_code.specs.Codes.{size_of_op, code_bytes};
-ghost use Rattle.flat_code.specs.Placed.{codes_of_few_brackets, statement_spots, spot_at};
+ghost use Rattle.flat_code.specs.PlacedOps.{codes_of_few_brackets, statement_spots, spot_at};
 ghost use Rattle.flat_code.specs.Blocks.{are_other_brackets, call_fault_among, nesting_fault, target_fault, jump_fault, operand_fault, call_fault, op_faults, open_faults, open_zone_faults, block_faults};
 ghost use Rattle.image_file.specs.OpChecking.{AllUpTo, ZonesUpTo, environment_of, placed_of};
 ghost use Rattle.image_file.specs.Least.{with_faults};

@@ -17,8 +17,8 @@ use Rattle.flat_code.specs.Operations.{operation_of}
 use Rattle.flat_code.specs.Ops.{IsOp, OpData, is_op}
 use Rattle.flat_code.specs.Table.{admits, is_call_form, is_open, is_pass, is_use_db, takes_condition, takes_direct, takes_indirect, takes_kind, takes_literal, takes_nothing, takes_of}
 use Rattle.flat_code.specs.declared.table.OperandForms.{OperandForms}
-use Rattle.flat_code.specs.declared.table.OperandForms.TheVariants as takes
-use Rattle.flat_code.specs.declared.operations.AddConstant.TheVariants as adding
+use Rattle.flat_code.specs.declared.table.OperandForms.TheVariants as forms
+use Rattle.flat_code.specs.declared.operations.AddConstant.TheVariants as add_constant
 use Rattle.flat_code.specs.declared.operations.Logic.TheVariants as logic
 use Rattle.flat_code.specs.declared.operations.PointerOperation.TheVariants as pointers
 use Rattle.plc_base.specs.Bits.{has_bit}
@@ -43,7 +43,7 @@ use Rattle.stl_list.specs.Mnemonics.{jump_word, mnemonic_of, word_by, word_of}
 use Rattle.stl_parser.specs.Operands.{holds_pointer}
 use Rattle.stl_types.specs.declared.parameters.Formal.{Formal}
 use Rattle.stl_list.specs.Actuals.{actual_for, actual_here, actuals_before, actuals_by, is_written, passed_operand}
-use Rattle.stl_list.specs.Joined.{called_id, system_parameters}
+use Rattle.stl_list.specs.JoinedParameters.{called_id, system_parameters}
 use Rattle.stl_list.specs.Labels.{label_of_number}
 use Rattle.stl_list.specs.Lines.{line_of_statement}
 use Rattle.stl_list.specs.Runs.{Run, number_at, runs}
@@ -191,7 +191,7 @@ constant_printed (operation.Logic logic.Od) bits h = h
 constant_printed (operation.Logic logic.Xod) bits h = h
 constant_printed (operation.Logic _) bits h = omega arith
 constant_printed (operation.Pointer which) bits h = (letters_named bits, omega arith, omega arith)
-constant_printed (operation.Add adding.Dword) bits h = signed_long bits h
+constant_printed (operation.Add add_constant.Dword) bits h = signed_long bits h
 constant_printed operation.LoadOpenBlock bits h = open_is bits
 constant_printed _ bits h = omega arith
 
@@ -205,13 +205,13 @@ implied_printed _ = tt
 -- ---- what stands behind the word of an op code
 
 abbrev is_plain_takes : OperandForms → Bool
-is_plain_takes takes.NoCode = false
-is_plain_takes takes.Nothing = false
-is_plain_takes takes.UseDb = false
-is_plain_takes takes.Pass = false
-is_plain_takes takes.Jump = false
-is_plain_takes takes.Call = false
-is_plain_takes takes.Open = false
+is_plain_takes forms.NoCode = false
+is_plain_takes forms.Nothing = false
+is_plain_takes forms.UseDb = false
+is_plain_takes forms.Pass = false
+is_plain_takes forms.Jump = false
+is_plain_takes forms.Call = false
+is_plain_takes forms.Open = false
 is_plain_takes _ = true
 
 abbrev is_plain : PrintedSyntax → Bool
@@ -274,34 +274,34 @@ second_true false b h = h
 -- ---- what an instruction takes
 
 literal_plain : (t : OperandForms) (value : ℕ) → takes_literal t value ≡ true → is_plain_takes t ≡ true
-literal_plain (takes.Number most) value h = refl
-literal_plain (takes.NothingOrNumber most) value h = refl
-literal_plain takes.Load value h = refl
-literal_plain takes.Pointer value h = refl
+literal_plain (forms.Number most) value h = refl
+literal_plain (forms.NothingOrNumber most) value h = refl
+literal_plain forms.Load value h = refl
+literal_plain forms.Pointer value h = refl
 literal_plain _ value h = absurd (false≢true h)
 
 indirect_plain : (t : OperandForms) → takes_indirect t ≡ true → is_plain_takes t ≡ true
-indirect_plain takes.NoCode h = absurd (false≢true h)
-indirect_plain takes.Nothing h = absurd (false≢true h)
-indirect_plain takes.UseDb h = absurd (false≢true h)
-indirect_plain takes.Pass h = absurd (false≢true h)
-indirect_plain takes.Jump h = absurd (false≢true h)
-indirect_plain takes.Call h = absurd (false≢true h)
-indirect_plain takes.Open h = absurd (false≢true h)
+indirect_plain forms.NoCode h = absurd (false≢true h)
+indirect_plain forms.Nothing h = absurd (false≢true h)
+indirect_plain forms.UseDb h = absurd (false≢true h)
+indirect_plain forms.Pass h = absurd (false≢true h)
+indirect_plain forms.Jump h = absurd (false≢true h)
+indirect_plain forms.Call h = absurd (false≢true h)
+indirect_plain forms.Open h = absurd (false≢true h)
 indirect_plain _ h = refl
 
 direct_plain : (t : OperandForms) → takes_direct t ≡ true → is_plain_takes t ≡ true
-direct_plain takes.NoCode h = absurd (false≢true h)
-direct_plain takes.Nothing h = absurd (false≢true h)
-direct_plain takes.UseDb h = absurd (false≢true h)
-direct_plain takes.Pass h = absurd (false≢true h)
-direct_plain takes.Jump h = absurd (false≢true h)
-direct_plain takes.Call h = absurd (false≢true h)
-direct_plain takes.Open h = absurd (false≢true h)
+direct_plain forms.NoCode h = absurd (false≢true h)
+direct_plain forms.Nothing h = absurd (false≢true h)
+direct_plain forms.UseDb h = absurd (false≢true h)
+direct_plain forms.Pass h = absurd (false≢true h)
+direct_plain forms.Jump h = absurd (false≢true h)
+direct_plain forms.Call h = absurd (false≢true h)
+direct_plain forms.Open h = absurd (false≢true h)
 direct_plain _ h = refl
 
 condition_plain : (t : OperandForms) → takes_condition t ≡ true → is_plain_takes t ≡ true
-condition_plain takes.Check h = refl
+condition_plain forms.Check h = refl
 condition_plain _ h = absurd (false≢true h)
 
 neither : (a b : Bool) → (a && false || b && false) ≡ true → ⊥
@@ -311,13 +311,13 @@ neither false true h = false≢true h
 neither false false h = false≢true h
 
 kind_plain : (t : OperandForms) (kind : ℕ) → takes_kind t kind ≡ true → is_plain_takes t ≡ true
-kind_plain takes.NoCode kind h = absurd (neither (kind == timer_kind) (kind == counter_kind) h)
-kind_plain takes.Nothing kind h = absurd (neither (kind == timer_kind) (kind == counter_kind) h)
-kind_plain takes.UseDb kind h = absurd (neither (kind == timer_kind) (kind == counter_kind) h)
-kind_plain takes.Pass kind h = absurd (neither (kind == timer_kind) (kind == counter_kind) h)
-kind_plain takes.Jump kind h = absurd (neither (kind == timer_kind) (kind == counter_kind) h)
-kind_plain takes.Call kind h = absurd (neither (kind == timer_kind) (kind == counter_kind) h)
-kind_plain takes.Open kind h = absurd (neither (kind == timer_kind) (kind == counter_kind) h)
+kind_plain forms.NoCode kind h = absurd (neither (kind == timer_kind) (kind == counter_kind) h)
+kind_plain forms.Nothing kind h = absurd (neither (kind == timer_kind) (kind == counter_kind) h)
+kind_plain forms.UseDb kind h = absurd (neither (kind == timer_kind) (kind == counter_kind) h)
+kind_plain forms.Pass kind h = absurd (neither (kind == timer_kind) (kind == counter_kind) h)
+kind_plain forms.Jump kind h = absurd (neither (kind == timer_kind) (kind == counter_kind) h)
+kind_plain forms.Call kind h = absurd (neither (kind == timer_kind) (kind == counter_kind) h)
+kind_plain forms.Open kind h = absurd (neither (kind == timer_kind) (kind == counter_kind) h)
 kind_plain _ kind h = refl
 
 -- ---- statements by what stands behind their word

@@ -48,17 +48,17 @@ use Rattle.stl_types.specs.Addresses.{address_in_block}
 use Rattle.stl_types.specs.Bodies.{first_context}
 use Rattle.stl_types.specs.Context.{Context, data_number, data_place, in_function}
 use Rattle.stl_types.specs.Resolution.{resolution_of_call, resolution_of_address, instance_number, resolution_of_opened_block, resolution_of_path, resolution_of, resolution_of_symbol, resolved_target, whole_called_block}
-use Rattle.stl_types.specs.Resolved.{resolved_operand, operand_if_resolved}
+use Rattle.stl_types.specs.ResolvedStatement.{resolved_operand, operand_if_resolved}
 use Rattle.stl_types.specs.Variables.{composite_operand, data_at, data_path, data_variable, data_at_path_end, date_or_composite, variable_in_area, is_temporary_variable, own_at, own_elementary, own_variable, own_at_path_end, parameter_resolution, parameter_at, parameter_index}
 use Rattle.stl_types.specs.declared.views.Register.TheVariants as register
 use Rattle.stl_types.specs.declared.views.Resolution.{Resolution}
 use Rattle.stl_types.specs.declared.views.Resolution.TheVariants as resolution
 use Rattle.stl_types.specs.declared.views.Resolution.TheVariants.{Resolved}
 use Rattle.stl_types.specs.declared.views.ResolvedOperand.{ResolvedOperand}
-use Rattle.stl_types.specs.declared.views.ResolvedOperand.TheVariants as view
-use Rattle.stl_codegen.specs.Compiled.{SourceInstruction, StatedBlock, operand_with_target, op_with_target, compiled_block, offset_of_statement, ops_in, placed_ops}
-use Rattle.stl_codegen.specs.Emitted.{call_op, ops_of, pass_ops}
-use Rattle.stl_codegen.specs.Generated.{code_block, code_block_of, code_blocks_of, each_block, stated_from, statements_of}
+use Rattle.stl_types.specs.declared.views.ResolvedOperand.TheVariants as resolved
+use Rattle.stl_codegen.specs.CompiledBlock.{SourceInstruction, StatedBlock, operand_with_target, op_with_target, compiled_block, offset_of_statement, ops_in, placed_ops}
+use Rattle.stl_codegen.specs.EmittedOps.{call_op, ops_of, pass_ops}
+use Rattle.stl_codegen.specs.GeneratedProgram.{code_block, code_block_of, code_blocks_of, each_block, stated_from, statements_of}
 use Rattle.stl_codegen.specs.Instruction.{call_instr, end_instr, instr_by, instruction, jump_instr, resolved_instr, target_of, operand_instr}
 use Rattle.stl_codegen.specs.Operations.{call_operation_of, end_operation_of, jump_operation_of}
 use Rattle.stl_codegen.specs.Operands.{flat_operand_of}
@@ -71,7 +71,7 @@ use Rattle.listing_laws.specs.Ranges.{AreCompiledWritten, IsOffsetWritable, IsWr
 
 -- an offset that a pointer constant writes
 abbrev IsShort : ResolvedOperand → Type 0
-IsShort (view.ByRegister a w r bits) = bits < 8 * 65536
+IsShort (resolved.ByRegister a w r bits) = bits < 8 * 65536
 IsShort _ = Unit {0}
 
 abbrev SeenShort : Resolution → Type 0
@@ -178,16 +178,16 @@ IsWrittenInstr _ = Unit {0}
 
 operand_written : (o : Operand) (v : ResolvedOperand) → IsShort v → IsOffsetWritable (flat_operand_of o v)
 unfolding flat_operand_of
-operand_written o (view.ByRegister a w r bits) h = h
-operand_written o (view.NumberBy numbered.Timer from byte) h = tt
-operand_written o (view.NumberBy numbered.Counter from byte) h = tt
-operand_written o (view.NumberBy numbered.Db from byte) h = tt
-operand_written o (view.NumberBy numbered.Di from byte) h = tt
-operand_written o (view.Register register.Dblg) h = tt
-operand_written o (view.Register register.Dbno) h = tt
-operand_written o (view.Register register.Dilg) h = tt
-operand_written o (view.Register register.Dino) h = tt
-operand_written o (view.Register _) h = tt
+operand_written o (resolved.ByRegister a w r bits) h = h
+operand_written o (resolved.NumberBy numbered.Timer from byte) h = tt
+operand_written o (resolved.NumberBy numbered.Counter from byte) h = tt
+operand_written o (resolved.NumberBy numbered.Db from byte) h = tt
+operand_written o (resolved.NumberBy numbered.Di from byte) h = tt
+operand_written o (resolved.Register register.Dblg) h = tt
+operand_written o (resolved.Register register.Dbno) h = tt
+operand_written o (resolved.Register register.Dilg) h = tt
+operand_written o (resolved.Register register.Dino) h = tt
+operand_written o (resolved.Register _) h = tt
 operand_written o _ h = tt
 
 end_written : (s : Statement) (v : ResolvedOperand) (how : Option EndOperation) → IsShort v → IsWrittenInstr (end_instr s v how)
@@ -195,7 +195,7 @@ end_written s v None h = operand_written s.operand v h
 end_written s v (Some how) h = tt
 
 call_written : (c : Context) (s : Statement) (how : CallOperation) (v : ResolvedOperand) → IsWrittenInstr (call_instr c s how v)
-call_written c s how (view.Called id instance) = tt
+call_written c s how (resolved.Called id instance) = tt
 call_written c s how _ = tt
 
 view_written : (c : Context) (s : Statement) (v : ResolvedOperand) (how : Option CallOperation) → IsShort v → IsWrittenInstr (operand_instr c s v how)

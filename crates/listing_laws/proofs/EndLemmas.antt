@@ -28,12 +28,12 @@ use Rattle.stl_types.specs.Bodies.{first_context}
 use Rattle.stl_types.specs.Context.{Context}
 use Rattle.stl_types.specs.Labels.{is_unknown_label, label_of, labels_of, rule_26, unknown_labels}
 use Rattle.stl_types.specs.Lists.{has_label}
-use Rattle.stl_types.specs.Resolved.{resolved_operand}
+use Rattle.stl_types.specs.ResolvedStatement.{resolved_operand}
 use Rattle.stl_types.specs.declared.views.Register.TheVariants as register
-use Rattle.stl_types.specs.declared.views.ResolvedOperand.TheVariants as view
+use Rattle.stl_types.specs.declared.views.ResolvedOperand.TheVariants as resolved
 use Rattle.stl_types.specs.declared.views.ResolvedOperand.{ResolvedOperand}
-use Rattle.stl_codegen.specs.Compiled.{SourceInstruction, StatedBlock, compiled_block}
-use Rattle.stl_codegen.specs.Generated.{code_block, code_block_of, code_blocks_of, each_block, return_statement, stated_from, statements_of}
+use Rattle.stl_codegen.specs.CompiledBlock.{SourceInstruction, StatedBlock, compiled_block}
+use Rattle.stl_codegen.specs.GeneratedProgram.{code_block, code_block_of, code_blocks_of, each_block, return_statement, stated_from, statements_of}
 use Rattle.stl_codegen.specs.Instruction.{call_instr, count_of_statement, end_instr, instr_by, instruction, jump_instr, resolved_instr, target_in, target_of, operand_instr}
 use Rattle.stl_codegen.specs.Operands.{flat_operand_of}
 use Rattle.stl_codegen.specs.Operations.{call_operation_of, end_operation_of, jump_operation_of}
@@ -95,15 +95,15 @@ apart_below target n h = grind (arith, nat_tests)
 
 operand_free : (n : ℕ) (o : Operand) (v : ResolvedOperand) → goes_to n (flat_operand_of o v) ≡ false
 unfolding flat_operand_of
-operand_free n o (view.NumberBy numbered.Timer from byte) = refl
-operand_free n o (view.NumberBy numbered.Counter from byte) = refl
-operand_free n o (view.NumberBy numbered.Db from byte) = refl
-operand_free n o (view.NumberBy numbered.Di from byte) = refl
-operand_free n o (view.Register register.Dblg) = refl
-operand_free n o (view.Register register.Dbno) = refl
-operand_free n o (view.Register register.Dilg) = refl
-operand_free n o (view.Register register.Dino) = refl
-operand_free n o (view.Register _) = refl
+operand_free n o (resolved.NumberBy numbered.Timer from byte) = refl
+operand_free n o (resolved.NumberBy numbered.Counter from byte) = refl
+operand_free n o (resolved.NumberBy numbered.Db from byte) = refl
+operand_free n o (resolved.NumberBy numbered.Di from byte) = refl
+operand_free n o (resolved.Register register.Dblg) = refl
+operand_free n o (resolved.Register register.Dbno) = refl
+operand_free n o (resolved.Register register.Dilg) = refl
+operand_free n o (resolved.Register register.Dino) = refl
+operand_free n o (resolved.Register _) = refl
 operand_free n o _ = refl
 
 end_free : (n : ℕ) (s : Statement) (v : ResolvedOperand) (how : Option EndOperation) → jumps_to n (end_instr s v how) ≡ false
@@ -111,7 +111,7 @@ end_free n s v None = operand_free n s.operand v
 end_free n s v (Some how) = refl
 
 call_free : (n : ℕ) (c : Context) (s : Statement) (how : CallOperation) (v : ResolvedOperand) → jumps_to n (call_instr c s how v) ≡ false
-call_free n c s how (view.Called id instance) = refl
+call_free n c s how (resolved.Called id instance) = refl
 call_free n c s how _ = refl
 
 view_free : (n : ℕ) (c : Context) (s : Statement) (v : ResolvedOperand) (how : Option CallOperation) → jumps_to n (operand_instr c s v how) ≡ false

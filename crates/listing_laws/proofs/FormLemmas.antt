@@ -35,7 +35,7 @@ use Rattle.stl_list.specs.CodeBlocks.{in_lines, listed_block, listed_blocks, res
 use Rattle.stl_list.specs.Constants.{typed_constant}
 use Rattle.stl_list.specs.DataBlocks.{function_block, known_settings, listed_data, listed_data_blocks}
 use Rattle.stl_list.specs.Initial.{byte_at, byte_here, byte_setting, byte_settings, initial_run, inits_from, inits_of, parameter_here, parameter_setting, parameter_settings, settings_of, value_in, values_of}
-use Rattle.stl_list.specs.Joined.{Chains, chains_of}
+use Rattle.stl_list.specs.JoinedParameters.{Chains, chains_of}
 use Rattle.stl_list.specs.Labels.{label_of_number, three_digits}
 use Rattle.stl_list.specs.Lines.{first_statement_line, line_behind_statements, stands_before}
 use Rattle.stl_list.specs.Parameters.{is_return, parameter_name, return_name}

@@ -4,7 +4,7 @@ use Rattle.std.specs.Prelude.{nat_lt}
 use Rattle.std.specs.List.{AllByRecursion}
 use Rattle.std.specs.Option.{option_and_then}
 use Rattle.std.proofs.lemmas.Bool.Decides.{nat_tests}
-use Rattle.plc_base.specs.Gathered.{refusals_along}
+use Rattle.plc_base.specs.RefusalsAlong.{refusals_along}
 use Rattle.plc_base.specs.Least.{broken_if}
 use Rattle.plc_base.specs.declared.blocks.BlockId.{BlockId}
 use Rattle.stl_ast.specs.declared.blocks.Block.{Block}
@@ -17,7 +17,7 @@ use Rattle.block_layout.specs.Types.{Types}
 use Rattle.stl_list.specs.Listing.{listed_tree}
 use Rattle.listing_laws.specs.Heads.{AreBlocksOnce, AreNumbersRight}
 use Rattle.listing_laws.specs.Ids.{program_ids}
-use Rattle.sem_kept.specs.Accepted.{program_in}
+use Rattle.sem_kept.specs.AcceptedSource.{program_in}
 use Rattle.listing_laws.proofs.IdLemmas.{IsRight, NotSame, ids_listed, place_of, program_apart, program_right, source_apart, source_ids, source_right, source_symbols}
 use Rattle.listing_laws.proofs.OrderLemmas.{Pairs}
 

@@ -12,7 +12,7 @@ use Rattle.flat_code.specs.declared.operands.Operand.TheVariants as operand
 use Rattle.stl_ast.specs.Statements.{is_empty_statement}
 use Rattle.stl_ast.specs.declared.statements.Statement.{Statement}
 use Rattle.stl_types.specs.Lists.{has_label}
-use Rattle.stl_codegen.specs.Compiled.{SourceInstruction, operand_with_target, compiled_block}
+use Rattle.stl_codegen.specs.CompiledBlock.{SourceInstruction, operand_with_target, compiled_block}
 use Rattle.stl_codegen.specs.Instruction.{target_in}
 use Rattle.stl_list.specs.Labels.{base_36_digit, label_of_number, three_digits}
 use Rattle.stl_list.specs.Lines.{line_of_statement}

@@ -14,8 +14,8 @@ use Rattle.stl_parser.proofs.RiseLemmas.{lines_rise_across}
 use Rattle.block_layout.specs.declared.blocks.BlockLayout.{BlockLayout}
 use Rattle.stl_types.specs.Bodies.{first_context}
 use Rattle.stl_types.specs.Context.{Context}
-use Rattle.stl_codegen.specs.Compiled.{SourceInstruction, StatedBlock, compiled_block, lines_in}
-use Rattle.stl_codegen.specs.Generated.{code_block, code_block_of, code_blocks_of, each_block, return_statement, stated_from, statements_of}
+use Rattle.stl_codegen.specs.CompiledBlock.{SourceInstruction, StatedBlock, compiled_block, lines_in}
+use Rattle.stl_codegen.specs.GeneratedProgram.{code_block, code_block_of, code_blocks_of, each_block, return_statement, stated_from, statements_of}
 use Rattle.stl_codegen.specs.Instruction.{instruction}
 use Rattle.stl_codegen.specs.Order.{is_code_before, sorted_list}
 use Rattle.stl_list.specs.CodeBlocks.{in_lines}

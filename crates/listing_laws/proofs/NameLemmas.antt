@@ -8,7 +8,7 @@ use Rattle.plc_base.proofs.ListLemmas.{all_append}
 use Rattle.plc_base.specs.Kinds.{is_function, is_same_block, is_system_function}
 use Rattle.plc_base.specs.declared.blocks.BlockId.{BlockId}
 use Rattle.flat_code.specs.Programs.{CodeBlock}
-use Rattle.flat_code.specs.declared.operations.AddConstant.TheVariants as adding
+use Rattle.flat_code.specs.declared.operations.AddConstant.TheVariants as add_constant
 use Rattle.flat_code.specs.declared.operations.Logic.TheVariants as logic
 use Rattle.flat_code.specs.declared.operations.Operation.TheVariants as operation
 use Rattle.flat_code.specs.declared.operations.Operation.{Operation}
@@ -20,7 +20,7 @@ use Rattle.stl_lexer.specs.Bytes.{is_word_byte, is_word_start}
 use Rattle.stl_types.specs.Parameters.{dtime_formal, is_one_of, mode_formal, ob_nr_formal, return_value_formal, sign_formal, system_formals}
 use Rattle.stl_types.specs.declared.parameters.Formal.{Formal}
 use Rattle.stl_list.specs.Constants.{instruction_constant, open_block_name, typed_constant}
-use Rattle.stl_list.specs.Joined.{Chains, system_parameters}
+use Rattle.stl_list.specs.JoinedParameters.{Chains, system_parameters}
 use Rattle.stl_list.specs.Labels.{base_36_digit, label_of_number, three_digits}
 use Rattle.stl_list.specs.Parameters.{parameter_name, return_name}
 use Rattle.stl_list.specs.Signatures.{Signature, called_formals, formals_from, formals_of_block, is_behind, signatures, signatures_from}
@@ -167,6 +167,6 @@ instruction_printable (operation.Logic logic.Od) bits h = tt
 instruction_printable (operation.Logic logic.Xod) bits h = tt
 instruction_printable (operation.Logic _) bits h = tt
 instruction_printable (operation.Pointer which) bits h = (omega arith, omega arith)
-instruction_printable (operation.Add adding.Dword) bits h = signed_long bits h
+instruction_printable (operation.Add add_constant.Dword) bits h = signed_long bits h
 instruction_printable operation.LoadOpenBlock bits h = open_name bits
 instruction_printable _ bits h = omega arith

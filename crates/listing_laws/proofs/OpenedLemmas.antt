@@ -28,26 +28,26 @@ use Rattle.stl_types.specs.Bodies.{first_context}
 use Rattle.stl_types.specs.Context.{Context}
 use Rattle.stl_types.specs.Parameters.{Callee, callee_of}
 use Rattle.stl_types.specs.Resolution.{resolution_of}
-use Rattle.stl_types.specs.Resolved.{resolved_operand}
+use Rattle.stl_types.specs.ResolvedStatement.{resolved_operand}
 use Rattle.stl_types.specs.declared.parameters.Formal.{Formal}
 use Rattle.stl_types.specs.declared.views.Resolution.TheVariants.{Resolved}
 use Rattle.stl_types.specs.declared.views.Resolution.{Resolution}
-use Rattle.stl_types.specs.declared.views.ResolvedOperand.TheVariants as view
+use Rattle.stl_types.specs.declared.views.ResolvedOperand.TheVariants as resolved
 use Rattle.stl_types.specs.declared.views.ResolvedOperand.{ResolvedOperand}
-use Rattle.stl_codegen.specs.Compiled.{SourceInstruction, StatedBlock, operand_with_target, compiled_block}
-use Rattle.stl_codegen.specs.Emitted.{pass_ops}
-use Rattle.stl_codegen.specs.Generated.{code_block, code_block_of, code_blocks_of, each_block, return_statement, stated_from, statements_of}
+use Rattle.stl_codegen.specs.CompiledBlock.{SourceInstruction, StatedBlock, operand_with_target, compiled_block}
+use Rattle.stl_codegen.specs.EmittedOps.{pass_ops}
+use Rattle.stl_codegen.specs.GeneratedProgram.{code_block, code_block_of, code_blocks_of, each_block, return_statement, stated_from, statements_of}
 use Rattle.stl_codegen.specs.Instruction.{source_block_at, call_instr, end_instr, in_parameter_order, instr_by, instruction, jump_instr, passings_to, resolved_instr, target_of, operand_instr}
 use Rattle.stl_codegen.specs.Operands.{is_db, is_in_named_block, block_opened_by_operand, flat_operand_of}
 use Rattle.stl_codegen.specs.Operations.{call_operation_of, end_operation_of, jump_operation_of}
 use Rattle.stl_codegen.specs.Order.{is_code_before}
-use Rattle.stl_codegen.specs.Passed.{passed_actual, passed_place, passed_resolution, passed_by_operand, passings_from, actual_of_formal, with_index}
+use Rattle.stl_codegen.specs.PassedParameters.{passed_actual, passed_place, passed_resolution, passed_by_operand, passings_from, actual_of_formal, with_index}
 use Rattle.stl_list.specs.Runs.{runs}
 use Rattle.listing_laws.proofs.BlockLemmas.{all_sorted}
 use Rattle.listing_laws.proofs.NameLemmas.{either_way}
 use Rattle.listing_laws.proofs.RunLemmas.{runs_found}
 use Rattle.listing_laws.specs.Bodies.{IsOpenedIn}
-use Rattle.listing_laws.specs.Opened.{ActsInOpened, AreOpenedRight, OpensRight, PassesInOpened, PreparesInOpened}
+use Rattle.listing_laws.specs.OpenedBlocks.{ActsInOpened, AreOpenedRight, OpensRight, PassesInOpened, PreparesInOpened}
 use Rattle.listing_laws.specs.Statements.{statement_offset, run_of}
 
 -- ---- places
@@ -65,9 +65,9 @@ place_acts place = cond_both (is_in_named_block place) (Some place.number) None 
 
 view_acts : (o : Operand) (v : ResolvedOperand) → ActsInOpened (block_opened_by_operand v) (flat_operand_of o v)
 unfolding flat_operand_of
-view_acts o (view.Direct place width side declared) = place_acts place
-view_acts o (view.NumberBy what from byte) = acts_freely _
-view_acts o (view.Register which) = acts_freely _
+view_acts o (resolved.Direct place width side declared) = place_acts place
+view_acts o (resolved.NumberBy what from byte) = acts_freely _
+view_acts o (resolved.Register which) = acts_freely _
 view_acts o _ = tt
 
 passed_in : (place : Place) (w : Width) → PassesInOpened (passed_place place w)
@@ -86,9 +86,9 @@ OpensInstr (Calls how block instance passings) = ArePassedIn passings
 OpensInstr _ = Unit {0}
 
 indexed_in : (index : ℕ) (o : Operand) (v : ResolvedOperand) → ArePassedIn (with_index index (passed_by_operand o v))
-indexed_in index o (view.Direct place width side declared) = (passed_in place width, tt)
-indexed_in index o (view.Parameter own section declared) = (tt, tt)
-indexed_in index o view.Constant = (tt, tt)
+indexed_in index o (resolved.Direct place width side declared) = (passed_in place width, tt)
+indexed_in index o (resolved.Parameter own section declared) = (tt, tt)
+indexed_in index o resolved.Constant = (tt, tt)
 indexed_in index o _ = tt
 
 seen_in : (index : ℕ) (o : Operand) (r : Resolution) → ArePassedIn (with_index index (passed_resolution o r))
@@ -109,7 +109,7 @@ callee_in c s None = tt
 callee_in c s (Some callee) = passings_in c s.actuals 0 (in_parameter_order (source_block_at c.blocks callee.place) callee.formals)
 
 call_opens : (c : Context) (s : Statement) (how : CallOperation) (v : ResolvedOperand) → OpensInstr (call_instr c s how v)
-call_opens c s how (view.Called id instance) = callee_in c s (callee_of c s.operand)
+call_opens c s how (resolved.Called id instance) = callee_in c s (callee_of c s.operand)
 call_opens c s how _ = tt
 
 end_opens : (s : Statement) (v : ResolvedOperand) (how : Option EndOperation) → OpensInstr (end_instr s v how)

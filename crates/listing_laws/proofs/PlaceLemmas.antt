@@ -22,8 +22,8 @@ use Rattle.stl_ast.specs.declared.statements.Statement.{Statement}
 use Rattle.stl_parser.specs.declared.clauses.Clause.TheVariants as clause
 use Rattle.stl_parser.specs.declared.clauses.Clause.{Clause}
 use Rattle.stl_types.specs.declared.parameters.Formal.{Formal}
-use Rattle.stl_codegen.specs.Compiled.{StatedBlock, compiled_block}
-use Rattle.stl_codegen.specs.Generated.{code_blocks_of, program_of}
+use Rattle.stl_codegen.specs.CompiledBlock.{StatedBlock, compiled_block}
+use Rattle.stl_codegen.specs.GeneratedProgram.{code_blocks_of, program_of}
 use Rattle.stl_codegen.specs.Order.{sorted_list}
 use Rattle.stl_print.specs.Clauses.{line_of}
 use Rattle.stl_print.specs.Gaps.{line_behind as line_past}
@@ -31,7 +31,7 @@ use Rattle.stl_print.specs.Trees.{begin_clauses, block_clauses, declaration_clau
 use Rattle.stl_list.specs.CodeBlocks.{in_lines, line_reached, listed_block, listed_blocks}
 use Rattle.stl_list.specs.DataBlocks.{function_block, known_settings, listed_data, listed_data_blocks}
 use Rattle.stl_list.specs.Initial.{byte_at, byte_here, byte_setting, byte_settings, parameter_here, parameter_setting, parameter_settings, settings_of, value_in, values_of}
-use Rattle.stl_list.specs.Joined.{chains_of}
+use Rattle.stl_list.specs.JoinedParameters.{chains_of}
 use Rattle.stl_list.specs.Lines.{first_statement_line, line_of_statement, line_behind_statements, lines_from, stands_before}
 use Rattle.stl_list.specs.Listing.{listed_tree}
 use Rattle.stl_list.specs.Runs.{Run, runs}

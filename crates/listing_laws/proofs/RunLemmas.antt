@@ -10,8 +10,8 @@ use Rattle.flat_code.specs.Instr.{Instr, Passing, Does, Jumps, JumpsByList, Call
 use Rattle.flat_code.specs.Ops.{OpData, op_bytes}
 use Rattle.flat_code.specs.declared.operands.Operand.{Operand}
 use Rattle.flat_code.specs.declared.operands.Operand.TheVariants as operand
-use Rattle.stl_codegen.specs.Compiled.{SourceInstruction, operand_with_target, op_with_target, code_in, offset_from, offset_of_statement, ops_in, placed_ops}
-use Rattle.stl_codegen.specs.Emitted.{call_op, op_with_end_mark, use_db_ops, ops_of, pass_ops}
+use Rattle.stl_codegen.specs.CompiledBlock.{SourceInstruction, operand_with_target, op_with_target, code_in, offset_from, offset_of_statement, ops_in, placed_ops}
+use Rattle.stl_codegen.specs.EmittedOps.{call_op, op_with_end_mark, use_db_ops, ops_of, pass_ops}
 use Rattle.stl_list.specs.Runs.{Run, marks_with_target, number_at, runs, runs_from, statement_starts, starts_from, target_marks}
 use Rattle.listing_laws.specs.Statements.{AreNumbersFound, AreRunsFound, AreStartsFound, AreTargetsFound, IsCountFound, goes_to, jumps_to, statement_offset, run_of}
 

@@ -22,8 +22,8 @@ use Rattle.block_layout.specs.declared.blocks.BlockLayout.{BlockLayout}
 use Rattle.stl_types.specs.Bodies.{first_context}
 use Rattle.stl_types.specs.Context.{Context}
 use Rattle.stl_types.specs.Labels.{rule_26}
-use Rattle.stl_codegen.specs.Compiled.{SourceInstruction, StatedBlock, operand_with_target, code_in, compiled_block}
-use Rattle.stl_codegen.specs.Generated.{code_block, code_block_of, code_blocks_of, each_block, program_of}
+use Rattle.stl_codegen.specs.CompiledBlock.{SourceInstruction, StatedBlock, operand_with_target, code_in, compiled_block}
+use Rattle.stl_codegen.specs.GeneratedProgram.{code_block, code_block_of, code_blocks_of, each_block, program_of}
 use Rattle.stl_codegen.specs.Order.{is_code_before}
 use Rattle.stl_list.specs.Mnemonics.{mnemonic_of, word_by}
 use Rattle.stl_list.specs.Runs.{Run, runs, runs_from}
@@ -32,7 +32,7 @@ use Rattle.flat_code.specs.declared.operands.Passed.{Passed}
 use Rattle.stl_list.specs.Operands.{block_opened_by_ops}
 use Rattle.listing_laws.proofs.CompiledLemmas.{written_compiled}
 use Rattle.listing_laws.proofs.OpenedLemmas.{opened_right}
-use Rattle.listing_laws.specs.Opened.{ActsInOpened, OpensRight, PassesInOpened, PreparesInOpened}
+use Rattle.listing_laws.specs.OpenedBlocks.{ActsInOpened, OpensRight, PassesInOpened, PreparesInOpened}
 use Rattle.listing_laws.proofs.EndLemmas.{ends_free}
 use Rattle.listing_laws.proofs.RunLemmas.{runs_found}
 use Rattle.listing_laws.proofs.WordLemmas.{have_words}
@@ -41,11 +41,11 @@ use Rattle.listing_laws.specs.Labels.{HasWord}
 use Rattle.listing_laws.specs.Statements.{statement_offset, run_of}
 use Rattle.stl_list.specs.CodeBlocks.{in_lines, line_reached, listed_block, listed_blocks}
 use Rattle.stl_list.specs.DataBlocks.{listed_data_blocks}
-use Rattle.stl_list.specs.Joined.{chains_of}
+use Rattle.stl_list.specs.JoinedParameters.{chains_of}
 use Rattle.stl_list.specs.Lines.{line_behind_statements, lines_from, stands_before}
 use Rattle.stl_list.specs.Listing.{listed_tree}
 use Rattle.stl_list.specs.Signatures.{Signature, signatures}
-use Rattle.print_laws.specs.Printed.{IsPrintable}
+use Rattle.print_laws.specs.PrintedTree.{IsPrintable}
 use Rattle.print_laws.specs.Reading.{HasPrintedForms, IsPrintedBlock}
 use Rattle.listing_laws.proofs.BlockLemmas.{all_sorted, listed_printable}
 use Rattle.listing_laws.proofs.BodyLemmas.{AreBlocksWords, bodies_printed, words_of}

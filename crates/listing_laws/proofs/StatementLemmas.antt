@@ -13,7 +13,7 @@ use Rattle.flat_code.specs.declared.operands.Operand.{Operand as FlatOperand}
 use Rattle.flat_code.specs.declared.operands.Passed.{Passed}
 use Rattle.stl_types.specs.declared.parameters.Formal.{Formal}
 use Rattle.stl_list.specs.Actuals.{actual_for, actual_here, actuals_by}
-use Rattle.stl_list.specs.Joined.{called_id}
+use Rattle.stl_list.specs.JoinedParameters.{called_id}
 use Rattle.stl_list.specs.Labels.{label_of_number}
 use Rattle.stl_list.specs.Lines.{line_of_statement}
 use Rattle.stl_list.specs.Operands.{block_opened_by_ops}

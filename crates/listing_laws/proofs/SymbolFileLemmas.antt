@@ -15,7 +15,7 @@ use Rattle.plc_base.specs.declared.places.Width.{Width}
 use Rattle.plc_base.specs.declared.places.Width.TheVariants as width
 use Rattle.flat_code.specs.Programs.{NameEntry}
 use Rattle.stl_lexer.specs.Marks.{mark_text}
-use Rattle.stl_codegen.specs.Generated.{has_name}
+use Rattle.stl_codegen.specs.GeneratedProgram.{has_name}
 use Rattle.stl_list.specs.Symbols.{address_text, listed_names, name_text, symbols_writer}
 use Rattle.stl_list.specs.Operands.{read_letters}
 use Rattle.stl_list.specs.Parameters.{kind_of_width}

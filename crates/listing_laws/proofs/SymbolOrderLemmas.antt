@@ -13,7 +13,7 @@ use Rattle.plc_base.specs.Folding.{upper_case_name, is_same_name}
 use Rattle.plc_base.specs.Texts.{is_blank}
 use Rattle.plc_base.specs.declared.refusals.Refusal.{Refusal}
 use Rattle.flat_code.specs.Programs.{NameEntry}
-use Rattle.stl_codegen.specs.Generated.{has_name, name_entry, name_entries_of}
+use Rattle.stl_codegen.specs.GeneratedProgram.{has_name, name_entry, name_entries_of}
 use Rattle.stl_codegen.specs.Order.{is_name_before, sorted_list}
 use Rattle.stl_codegen.proofs.OrderLemmas.{names_ordered}
 use Rattle.stl_list.specs.Symbols.{listed_names}

@@ -24,13 +24,13 @@ use Rattle.stl_ast.specs.declared.operands.Operand.TheVariants as operand
 use Rattle.stl_ast.specs.declared.statements.Statement.{Statement}
 use Rattle.plc_base.specs.declared.places.Area.{Area}
 use Rattle.stl_types.specs.Context.{Context}
-use Rattle.stl_types.specs.Resolved.{resolved_operand}
+use Rattle.stl_types.specs.ResolvedStatement.{resolved_operand}
 use Rattle.stl_types.specs.declared.views.Register.{Register}
 use Rattle.stl_types.specs.declared.views.Register.TheVariants as register
 use Rattle.stl_types.specs.declared.views.ResolvedOperand.{ResolvedOperand}
-use Rattle.stl_types.specs.declared.views.ResolvedOperand.TheVariants as view
-use Rattle.stl_codegen.specs.Compiled.{SourceInstruction}
-use Rattle.stl_codegen.specs.Generated.{return_statement, stated_from, statements_of}
+use Rattle.stl_types.specs.declared.views.ResolvedOperand.TheVariants as resolved
+use Rattle.stl_codegen.specs.CompiledBlock.{SourceInstruction}
+use Rattle.stl_codegen.specs.GeneratedProgram.{return_statement, stated_from, statements_of}
 use Rattle.stl_codegen.specs.Instruction.{call_instr, end_instr, filler_instruction, instr_by, instruction, jump_instr, resolved_instr, target_of, operand_instr}
 use Rattle.stl_codegen.specs.Operands.{numbered_operand, block_opened_by_operand, flat_operand_of, register_operand}
 use Rattle.stl_codegen.specs.Operations.{add_operation, call_operation_of, end_operation_of, jump_operation_of, load_operation, load_pointer_operation, operation_for, or_operation, store_pointer_operation, transfer_operation}
@@ -42,32 +42,32 @@ use Rattle.listing_laws.proofs.RunLemmas.{same_target}
 
 or_word : (v : ResolvedOperand) → word_of (op_code_of (or_operation v)) ≡ code.O
 unfolding word_of
-or_word view.Nothing = refl
+or_word resolved.Nothing = refl
 or_word _ = refl
 
-load_register : (which : Register) → word_of (op_code_of (load_operation (view.Register which))) ≡ code.L
+load_register : (which : Register) → word_of (op_code_of (load_operation (resolved.Register which))) ≡ code.L
 unfolding word_of
 load_register register.Stw = refl
 load_register _ = refl
 
 load_word : (v : ResolvedOperand) → word_of (op_code_of (load_operation v)) ≡ code.L
 unfolding word_of
-load_word (view.Register which) = load_register which
+load_word (resolved.Register which) = load_register which
 load_word _ = refl
 
 transfer_word : (v : ResolvedOperand) → word_of (op_code_of (transfer_operation v)) ≡ code.T
 unfolding word_of
-transfer_word (view.Register which) = refl
+transfer_word (resolved.Register which) = refl
 transfer_word _ = refl
 
 load_pointer_word : (v : ResolvedOperand) → word_of (op_code_of (load_pointer_operation v)) ≡ code.Lar1
 unfolding word_of
-load_pointer_word (view.Register which) = refl
+load_pointer_word (resolved.Register which) = refl
 load_pointer_word _ = refl
 
 store_pointer_word : (v : ResolvedOperand) → word_of (op_code_of (store_pointer_operation v)) ≡ code.Tar1
 unfolding word_of
-store_pointer_word (view.Register which) = refl
+store_pointer_word (resolved.Register which) = refl
 store_pointer_word _ = refl
 
 add_word : (o : Operand) → word_of (op_code_of (add_operation o)) ≡ code.Add
@@ -302,18 +302,18 @@ numbered_plain numbered.Di from byte n = refl
 
 pub operand_plain : (o : Operand) (v : ResolvedOperand) → IsPlain (flat_operand_of o v)
 unfolding flat_operand_of
-operand_plain o (view.Register which) n = register_plain which n
-operand_plain o (view.NumberBy what from byte) n = numbered_plain what from byte n
-operand_plain o (view.Direct place width side declared) n = refl
-operand_plain o (view.Parameter index section declared) n = refl
-operand_plain o (view.ByMemory a width from byte) n = refl
-operand_plain o (view.ByRegister a width r bits) n = refl
-operand_plain o (view.Timer number) n = refl
-operand_plain o (view.Counter number) n = refl
-operand_plain o view.Constant n = refl
-operand_plain o (view.Pointer a byte bit) n = refl
-operand_plain o (view.OfStatus which) n = refl
-operand_plain o (view.OpenBlock di number) n = refl
+operand_plain o (resolved.Register which) n = register_plain which n
+operand_plain o (resolved.NumberBy what from byte) n = numbered_plain what from byte n
+operand_plain o (resolved.Direct place width side declared) n = refl
+operand_plain o (resolved.Parameter index section declared) n = refl
+operand_plain o (resolved.ByMemory a width from byte) n = refl
+operand_plain o (resolved.ByRegister a width r bits) n = refl
+operand_plain o (resolved.Timer number) n = refl
+operand_plain o (resolved.Counter number) n = refl
+operand_plain o resolved.Constant n = refl
+operand_plain o (resolved.Pointer a byte bit) n = refl
+operand_plain o (resolved.OfStatus which) n = refl
+operand_plain o (resolved.OpenBlock di number) n = refl
 operand_plain o _ n = refl
 
 filler_has : HasWord filler_instruction
@@ -331,7 +331,7 @@ ended_has s v None some jumps calls e =
 ended_has s v (Some how) some jumps calls e = end_has how
 
 call_has_word : (c : Context) (s : Statement) (how : CallOperation) (v : ResolvedOperand) → HasWord (call_instr c s how v)
-call_has_word c s how (view.Called id instance) = call_has how
+call_has_word c s how (resolved.Called id instance) = call_has how
 call_has_word c s how _ = filler_has
 
 called_has : (c : Context) (s : Statement) (v : ResolvedOperand) (found : Option CallOperation) → is_empty_statement s.code ≡ false → jump_operation_of s.code ≡ None → call_operation_of s.code ≡ found

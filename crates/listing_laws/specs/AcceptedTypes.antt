@@ -8,11 +8,11 @@ use Rattle.block_layout.specs.Blocks.{known_block}
 use Rattle.block_layout.specs.Layouts.{layouts_of}
 use Rattle.stl_types.specs.Bodies.{first_context}
 use Rattle.stl_types.specs.Context.{Context, source_block_ids}
-use Rattle.stl_codegen.specs.Generated.{program_of}
-use Rattle.sem_kept.specs.Accepted.{IsAccepted}
+use Rattle.stl_codegen.specs.GeneratedProgram.{program_of}
+use Rattle.sem_kept.specs.AcceptedSource.{IsAccepted}
 use Rattle.listing_laws.specs.Chains.{AreTypesAsDeclared}
 use Rattle.listing_laws.specs.HandedOn.{declared_type_in}
-use Rattle.listing_laws.specs.Owned.{own_kinds}
+use Rattle.listing_laws.specs.OwnParameterTypes.{own_kinds}
 use Rattle.listing_laws.specs.SourceTypes.{SourceOwesTypes}
 
 -- the types of the parameters of the block at a place, by their index

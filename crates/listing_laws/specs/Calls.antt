@@ -16,12 +16,12 @@ use Rattle.block_layout.specs.declared.blocks.Shape.TheVariants as shape
 use Rattle.stl_types.specs.Calls.{calls_unknown, has_no_instance, has_wrong_instance, is_bare_call}
 use Rattle.stl_types.specs.Context.{Context, whole_data_place}
 use Rattle.stl_types.specs.Parameters.{Callee, callee_of}
-use Rattle.stl_types.specs.Resolved.{resolved_operand}
+use Rattle.stl_types.specs.ResolvedStatement.{resolved_operand}
 use Rattle.stl_types.specs.declared.parameters.Formal.{Formal}
-use Rattle.stl_types.specs.declared.views.ResolvedOperand.TheVariants as view
+use Rattle.stl_types.specs.declared.views.ResolvedOperand.TheVariants as resolved
 use Rattle.stl_codegen.specs.Instruction.{instruction}
 use Rattle.stl_codegen.specs.Operations.{call_operation_of}
-use Rattle.stl_codegen.specs.Emitted.{pass_ops}
+use Rattle.stl_codegen.specs.EmittedOps.{pass_ops}
 use Rattle.stl_list.specs.Actuals.{actuals_before}
 use Rattle.stl_list.specs.Lines.{line_of_statement}
 use Rattle.stl_list.specs.Signatures.{called_formals}
@@ -62,7 +62,7 @@ AreCallsKept =
     (c : Context) (body : List Statement) (n : ℕ) (s : Statement) (how : CallOperation)
     (id : BlockId)
     (instance : Option ℕ) (own called : List Formal) (callee : Callee) (ps : List Passing)
-    → call_operation_of s.code ≡ Some how → resolved_operand c s ≡ Some (view.Called id instance)
+    → call_operation_of s.code ≡ Some how → resolved_operand c s ≡ Some (resolved.Called id instance)
     → callee_of c s.operand ≡ Some callee → IsListedCall c own called callee ps s
     → instruction c body n s ≡ Calls how id instance ps
 

@@ -16,17 +16,17 @@ use Rattle.stl_symbols.specs.Symbol.{Symbol}
 use Rattle.block_layout.specs.declared.blocks.BlockLayout.{BlockLayout}
 use Rattle.stl_types.specs.Context.{Context}
 use Rattle.stl_types.specs.Parameters.{Callee, callee_of}
-use Rattle.stl_types.specs.Resolved.{resolved_operand}
+use Rattle.stl_types.specs.ResolvedStatement.{resolved_operand}
 use Rattle.stl_types.specs.declared.parameters.Formal.{Formal}
-use Rattle.stl_types.specs.declared.views.ResolvedOperand.TheVariants as view
+use Rattle.stl_types.specs.declared.views.ResolvedOperand.TheVariants as resolved
 use Rattle.stl_codegen.specs.Instruction.{source_block_at, in_parameter_order, instruction, passings_to}
 use Rattle.stl_list.specs.Operands.{name_of_data_block}
 use Rattle.stl_list.specs.Signatures.{Signature, called_formals, formals_of_block}
 use Rattle.stl_list.specs.Statements.{listed_statement}
-use Rattle.sem_kept.specs.Accepted.{IsAccepted, program_in}
-use Rattle.listing_laws.specs.Again.{IsMadeOf, IsWholeAgain, again_at, context_at}
+use Rattle.sem_kept.specs.AcceptedSource.{IsAccepted, program_in}
+use Rattle.listing_laws.specs.ListedSource.{IsMadeOf, IsWholeAgain, again_at, context_at}
 use Rattle.listing_laws.specs.AgainBodies.{around_again, body_again, made_block}
-use Rattle.listing_laws.specs.Declared.{signatures_in}
+use Rattle.listing_laws.specs.ListedDeclarations.{signatures_in}
 use Rattle.listing_laws.specs.Instructions.{IsInstructionKept, IsRightOperand}
 use Rattle.listing_laws.specs.Passings.{AreAllPassed, AreNamedApart, AreRising, IsPassable, in_upper_case}
 use Rattle.listing_laws.specs.Statements.{statement_offset, run_of}
@@ -67,7 +67,7 @@ abbrev pub IsCalledAgain : (c listed : Context) → List Signature → (own : Li
     → Type 0
 IsCalledAgain c listed signatures own s =
     (id : BlockId) (instance : Option ℕ) (callee : Callee)
-    → resolved_operand c s ≡ Some (view.Called id instance) → callee_of c s.operand ≡ Some callee
+    → resolved_operand c s ≡ Some (resolved.Called id instance) → callee_of c s.operand ≡ Some callee
     → IsFoundAgain c listed own (called_formals signatures id) s id instance callee
 
 -- what each statement of an accepted source calls is found in the listing of its program, where no

@@ -8,7 +8,7 @@ use Rattle.stl_ast.specs.declared.declarations.Simple.TheVariants as simple
 use Rattle.block_layout.specs.Offsets.{width_of}
 use Rattle.stl_list.specs.declared.links.Link.{Link}
 use Rattle.stl_list.specs.declared.links.Link.TheVariants.{Joins, Has}
-use Rattle.stl_list.specs.Joined.{chains_of, is_int_kind, is_time_kind, kind_at, chain_labels, links, mark_at, marks_of, total_parameter_count}
+use Rattle.stl_list.specs.JoinedParameters.{chains_of, is_int_kind, is_time_kind, kind_at, chain_labels, links, mark_at, marks_of, total_parameter_count}
 
 -- ---- chains
 

@@ -4,7 +4,7 @@ use Rattle.std.specs.List.{AllByRecursion}
 use Rattle.block_layout.specs.declared.blocks.BlockLayout.{BlockLayout}
 use Rattle.stl_ast.specs.WellFormed.{IsWellFormed}
 use Rattle.stl_ast.specs.declared.blocks.Tree.{Tree}
-use Rattle.stl_codegen.specs.Generated.{program_of}
+use Rattle.stl_codegen.specs.GeneratedProgram.{program_of}
 use Rattle.stl_symbols.specs.Symbol.{Symbol}
 use Rattle.stl_types.specs.Labels.{rule_26}
 use Rattle.listing_laws.specs.Bodies.{IsEndFree}

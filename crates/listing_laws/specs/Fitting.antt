@@ -11,7 +11,7 @@ use Rattle.stl_types.specs.Context.{Context, data_number}
 use Rattle.stl_types.specs.Resolution.{resolution_of}
 use Rattle.stl_types.specs.declared.parameters.Formal.{Formal}
 use Rattle.stl_types.specs.declared.views.Resolution.TheVariants.{Resolved}
-use Rattle.stl_types.specs.declared.views.ResolvedOperand.TheVariants as view
+use Rattle.stl_types.specs.declared.views.ResolvedOperand.TheVariants as resolved
 use Rattle.stl_list.specs.Operands.{name_of_data_block, own_parameter as own_named}
 use Rattle.stl_list.specs.Parameters.{section_of}
 use Rattle.listing_laws.specs.Chains.{is_listed_type}
@@ -32,7 +32,7 @@ abbrev pub IsBacked : Environment → Context → (own : List Formal) → Formal
 IsBacked a c own f (passed.Parameter index width) =
     (g : Formal) × (r : ParameterRecord) × (parameter_meant a index ≡ Some r) × IsListedAs g r
     × (g.kind ≡ f.kind)
-    × (resolution_of c (own_named own index) ≡ Resolved (view.Parameter index g.section g.kind))
+    × (resolution_of c (own_named own index) ≡ Resolved (resolved.Parameter index g.section g.kind))
 IsBacked a c own f (passed.InBlock number area width byte bit) =
     (nat_eq number 0 ≡ false) × (data_number c (name_of_data_block number) ≡ Some number)
 IsBacked a c own f _ = Unit {0}

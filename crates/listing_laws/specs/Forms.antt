@@ -11,7 +11,7 @@ use Rattle.stl_list.specs.CodeBlocks.{in_lines, listed_blocks}
 use Rattle.stl_list.specs.DataBlocks.{listed_data_blocks}
 use Rattle.print_laws.specs.Reading.{IsPrintedLabel, IsNumberedBlockOf, IsPrintedBlock, IsPrintedPart, IsResultOf}
 use Rattle.stl_list.specs.Labels.{label_of_number}
-use Rattle.listing_laws.specs.Declared.{signatures_in}
+use Rattle.listing_laws.specs.ListedDeclarations.{signatures_in}
 use Rattle.listing_laws.specs.Ranges.{IsWrittenProgram}
 
 -- a code block of a form that is read back, but for its statements

@@ -4,7 +4,7 @@ use Rattle.stl_ast.specs.declared.blocks.Tree.{Tree}
 use Rattle.stl_ast.specs.declared.names.BlockName.{BlockName}
 use Rattle.stl_symbols.specs.Symbol.{Symbol}
 use Rattle.stl_types.specs.Context.{Context, data_number}
-use Rattle.listing_laws.specs.Again.{IsWholeAgain, again_at, context_at}
+use Rattle.listing_laws.specs.ListedSource.{IsWholeAgain, again_at, context_at}
 use Rattle.listing_laws.specs.Calling.{AreCalledAgain}
 use Rattle.listing_laws.specs.Operands.{IsOpenedAgain}
 

@@ -20,13 +20,13 @@ use Rattle.stl_types.specs.Calls.{misfits_formal}
 use Rattle.stl_types.specs.Context.{Context}
 use Rattle.stl_types.specs.Parameters.{Callee, callee_of}
 use Rattle.stl_types.specs.Resolution.{resolution_of}
-use Rattle.stl_types.specs.Resolved.{resolved_operand}
+use Rattle.stl_types.specs.ResolvedStatement.{resolved_operand}
 use Rattle.stl_types.specs.declared.parameters.Formal.{Formal}
 use Rattle.stl_types.specs.declared.views.Resolution.TheVariants.{Resolved}
-use Rattle.stl_types.specs.declared.views.ResolvedOperand.TheVariants as view
-use Rattle.stl_codegen.specs.Compiled.{StatedBlock, compiled_block}
+use Rattle.stl_types.specs.declared.views.ResolvedOperand.TheVariants as resolved
+use Rattle.stl_codegen.specs.CompiledBlock.{StatedBlock, compiled_block}
 use Rattle.stl_codegen.specs.Instruction.{source_block_at, in_parameter_order, instruction, passings_to}
-use Rattle.stl_list.specs.Joined.{links, total_parameter_count, system_parameters}
+use Rattle.stl_list.specs.JoinedParameters.{links, total_parameter_count, system_parameters}
 use Rattle.listing_laws.specs.Chains.{AreTypesAsDeclared, IsLinkBelow, IsKeptBy}
 
 -- ---- types
@@ -106,7 +106,7 @@ AreTypesListed =
 abbrev pub SeesOwn : Context → (own : List Simple) → Type 0
 SeesOwn c own =
     (o : Operand) (index : ℕ) (section : PartKind) (kind : Simple)
-    → resolution_of c o ≡ Resolved (view.Parameter index section kind)
+    → resolution_of c o ≡ Resolved (resolved.Parameter index section kind)
     → slice_get own index ≡ Some kind
 
 -- a parameter is found by its name
@@ -150,6 +150,6 @@ abbrev pub AreStatementsHandedOn : Type 0
 AreStatementsHandedOn =
     (kinds : BlockId → List Simple) (blocks : List CodeBlock) (c : Context) (own : List Simple)
     (body : List Statement) (n : ℕ) (s : Statement) → SeesOwn c own
-    → ((id : BlockId) (instance : Option ℕ) → resolved_operand c s ≡ Some (view.Called id instance)
+    → ((id : BlockId) (instance : Option ℕ) → resolved_operand c s ≡ Some (resolved.Called id instance)
     → CallOwesTypes kinds blocks c s id)
     → HandsTypesOn kinds blocks own (instruction c body n s)

@@ -6,7 +6,7 @@ use Rattle.block_layout.specs.Measures.{types_of_source}
 use Rattle.block_layout.specs.Rule22.{rule_22}
 use Rattle.block_layout.specs.Rule44.{rule_44}
 use Rattle.stl_list.specs.Listing.{listed_tree}
-use Rattle.sem_kept.specs.Accepted.{program_in}
+use Rattle.sem_kept.specs.AcceptedSource.{program_in}
 
 -- where a source has no block twice, the listing of its program has none twice
 abbrev pub AreBlocksOnce : Type 0

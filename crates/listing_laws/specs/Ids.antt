@@ -12,7 +12,7 @@ use Rattle.block_layout.specs.Rule22.{rule_22}
 use Rattle.block_layout.specs.Rule44.{rule_44}
 use Rattle.stl_list.specs.CodeBlocks.{in_lines}
 use Rattle.stl_list.specs.Listing.{listed_tree}
-use Rattle.sem_kept.specs.Accepted.{program_in}
+use Rattle.sem_kept.specs.AcceptedSource.{program_in}
 
 -- a data block by its number
 abbrev pub data_id : ℕ → BlockId

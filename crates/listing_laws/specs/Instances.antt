@@ -15,11 +15,11 @@ use Rattle.block_layout.specs.Rule51.{is_too_long}
 use Rattle.block_layout.specs.Settings.{on_settings}
 use Rattle.block_layout.specs.declared.blocks.BlockLayout.{BlockLayout}
 use Rattle.stl_types.specs.Unknown.{sets_unknown}
-use Rattle.stl_codegen.specs.Generated.{data_block_of, data_blocks_of}
+use Rattle.stl_codegen.specs.GeneratedProgram.{data_block_of, data_blocks_of}
 use Rattle.stl_list.specs.DataBlocks.{listed_data}
-use Rattle.sem_kept.specs.Accepted.{IsAccepted, program_in}
-use Rattle.listing_laws.specs.Again.{IsWholeAgain, again_at, listed_again}
-use Rattle.listing_laws.specs.Declared.{signatures_in}
+use Rattle.sem_kept.specs.AcceptedSource.{IsAccepted, program_in}
+use Rattle.listing_laws.specs.ListedSource.{IsWholeAgain, again_at, listed_again}
+use Rattle.listing_laws.specs.ListedDeclarations.{signatures_in}
 
 -- the block that a data block of a source's program is listed as
 abbrev pub data_again : (symbols : List Symbol) → Tree → (line : ℕ) → DataBlock → Block

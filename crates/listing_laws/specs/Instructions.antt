@@ -16,12 +16,12 @@ use Rattle.stl_symbols.specs.Symbol.{IsSymbolTarget, Symbol, symbol_named}
 use Rattle.stl_types.specs.Addresses.{area_of_pointer}
 use Rattle.stl_types.specs.Context.{Context, data_number}
 use Rattle.stl_types.specs.Operands.{statement_rule}
-use Rattle.stl_types.specs.Resolved.{resolved_operand}
+use Rattle.stl_types.specs.ResolvedStatement.{resolved_operand}
 use Rattle.stl_types.specs.Variables.{own_variable}
 use Rattle.stl_types.specs.declared.parameters.Formal.{Formal}
 use Rattle.stl_types.specs.declared.views.Resolution.TheVariants.{Resolved}
 use Rattle.stl_types.specs.declared.views.ResolvedOperand.{ResolvedOperand}
-use Rattle.stl_types.specs.declared.views.ResolvedOperand.TheVariants as view
+use Rattle.stl_types.specs.declared.views.ResolvedOperand.TheVariants as resolved
 use Rattle.stl_codegen.specs.Instruction.{instruction, target_in, target_of}
 use Rattle.stl_codegen.specs.Operations.{call_operation_of, jump_operation_of}
 use Rattle.stl_list.specs.Labels.{label_of_number}
@@ -40,7 +40,7 @@ pub record HasAgain (c listed : Context) (formals : List Formal) : Type 0 where
   -- index
   pub parameter : (name : List ℕ) (steps : List PathStep) (index : ℕ) (section : PartKind)
       (kind : Simple)
-      → own_variable c name steps ≡ Resolved (view.Parameter index section kind)
+      → own_variable c name steps ≡ Resolved (resolved.Parameter index section kind)
       → IsParameterAgain listed formals index section kind
 
 -- an operand that is a constant has its bits, and one that is a pointer doesn't lead to peripherals

@@ -7,8 +7,8 @@ use Rattle.stl_ast.specs.declared.blocks.Tree.{Tree}
 use Rattle.stl_symbols.specs.Symbol.{Symbol}
 use Rattle.block_layout.specs.declared.blocks.BlockLayout.{BlockLayout}
 use Rattle.stl_types.specs.Lists.{lists_from}
-use Rattle.sem_kept.specs.Accepted.{IsAccepted}
-use Rattle.listing_laws.specs.Again.{IsMadeOf, listed_again}
+use Rattle.sem_kept.specs.AcceptedSource.{IsAccepted}
+use Rattle.listing_laws.specs.ListedSource.{IsMadeOf, listed_again}
 
 -- each JL in a listed body of an accepted source has its list
 abbrev pub AreListsKept : Type 0

@@ -5,8 +5,8 @@ use Rattle.flat_code.specs.Instr.{Instr}
 use Rattle.stl_ast.specs.declared.blocks.Block.{Block}
 use Rattle.stl_types.specs.Context.{Context}
 use Rattle.stl_types.specs.Labels.{labels_of, labels_twice, unknown_labels}
-use Rattle.stl_codegen.specs.Compiled.{StatedBlock, compiled_block}
-use Rattle.stl_codegen.specs.Generated.{statements_of}
+use Rattle.stl_codegen.specs.CompiledBlock.{StatedBlock, compiled_block}
+use Rattle.stl_codegen.specs.GeneratedProgram.{statements_of}
 use Rattle.stl_list.specs.Signatures.{Signature}
 use Rattle.stl_list.specs.Statements.{body_of}
 use Rattle.listing_laws.specs.Statements.{jumps_to}

@@ -7,8 +7,8 @@ use Rattle.stl_lexer.specs.declared.kinds.Token.{Token}
 use Rattle.stl_parser.specs.Source.{IsTree}
 use Rattle.stl_symbols.specs.Symbol.{Symbol}
 use Rattle.block_layout.specs.declared.blocks.BlockLayout.{BlockLayout}
-use Rattle.stl_codegen.specs.Compiled.{compiled_block}
-use Rattle.stl_codegen.specs.Generated.{code_blocks_of}
+use Rattle.stl_codegen.specs.CompiledBlock.{compiled_block}
+use Rattle.stl_codegen.specs.GeneratedProgram.{code_blocks_of}
 use Rattle.stl_list.specs.CodeBlocks.{in_lines}
 use Rattle.stl_list.specs.Lines.{first_statement_line, last_statement_line, line_behind_statements, lines_from}
 

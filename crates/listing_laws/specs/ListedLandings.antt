@@ -8,8 +8,8 @@ use Rattle.stl_symbols.specs.Symbol.{Symbol}
 use Rattle.block_layout.specs.declared.blocks.BlockLayout.{BlockLayout}
 use Rattle.stl_types.specs.Labels.{labels_of}
 use Rattle.stl_types.specs.Landings.{crossing_jumps, landings_at_labels, empty_nesting}
-use Rattle.sem_kept.specs.Accepted.{IsAccepted}
-use Rattle.listing_laws.specs.Again.{IsMadeOf, listed_again}
+use Rattle.sem_kept.specs.AcceptedSource.{IsAccepted}
+use Rattle.listing_laws.specs.ListedSource.{IsMadeOf, listed_again}
 
 -- at each jump in a listed body of an accepted source and at its label equal brackets are open, and
 -- as many zones

@@ -1,7 +1,7 @@
 -- The symbols file of a listing is read back.
 use Rattle.std.specs.Prelude.{◌≡◌, ℕ, List, map, Ok}
 use Rattle.flat_code.specs.Programs.{NameEntry}
-use Rattle.stl_codegen.specs.Generated.{name_entries_of}
+use Rattle.stl_codegen.specs.GeneratedProgram.{name_entries_of}
 use Rattle.stl_list.specs.Symbols.{listed_names}
 use Rattle.stl_symbols.specs.Symbol.{Symbol}
 use Rattle.stl_symbols.specs.Symbols.{symbols_in}

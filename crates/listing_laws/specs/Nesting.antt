@@ -8,10 +8,10 @@ use Rattle.stl_ast.specs.declared.mnemonics.Mnemonic.{Mnemonic}
 use Rattle.stl_ast.specs.declared.statements.Statement.{Statement}
 use Rattle.stl_types.specs.Brackets.{closes_no_bracket, is_eighth_bracket, brackets_left_open, with_brackets}
 use Rattle.stl_types.specs.Context.{Context}
-use Rattle.stl_types.specs.Resolved.{resolved_operand}
+use Rattle.stl_types.specs.ResolvedStatement.{resolved_operand}
 use Rattle.stl_types.specs.Zones.{ends_no_zone, is_ninth_zone, with_zones, zones_left_open}
-use Rattle.stl_codegen.specs.Compiled.{StatedBlock, compiled_block, lines_in}
-use Rattle.stl_codegen.specs.Generated.{statements_of}
+use Rattle.stl_codegen.specs.CompiledBlock.{StatedBlock, compiled_block, lines_in}
+use Rattle.stl_codegen.specs.GeneratedProgram.{statements_of}
 use Rattle.stl_list.specs.Signatures.{Signature}
 use Rattle.stl_list.specs.Statements.{body_of}
 

@@ -22,7 +22,7 @@ use Rattle.stl_types.specs.Variables.{own_variable}
 use Rattle.stl_types.specs.declared.parameters.Formal.{Formal}
 use Rattle.stl_types.specs.declared.views.Resolution.TheVariants.{Resolved}
 use Rattle.stl_types.specs.declared.views.ResolvedOperand.{ResolvedOperand}
-use Rattle.stl_types.specs.declared.views.ResolvedOperand.TheVariants as view
+use Rattle.stl_types.specs.declared.views.ResolvedOperand.TheVariants as resolved
 use Rattle.stl_codegen.specs.Operands.{block_opened_by_operand, opened_by_place, flat_operand_of}
 use Rattle.stl_codegen.specs.Operations.{operation_for}
 use Rattle.stl_list.specs.Operands.{name_of_data_block, name_at, operand_of_run as listed_operand}
@@ -47,12 +47,12 @@ pub record IsParameterAgain (listed : Context) (formals : List Formal) (index : 
   pub kind_again : Simple
   -- the name means, in the listing, the parameter of this index
   pub named : own_variable listed (upper_case_name (name_at formals index)) []
-      ≡ Resolved (view.Parameter index section_again kind_again)
+      ≡ Resolved (resolved.Parameter index section_again kind_again)
   -- the type in the listing has the width of the type in the source
   pub wide : width_of kind_again ≡ width_of kind
   -- the parameter is an input in the listing exactly where it was one
-  pub input : is_input (view.Parameter index section_again kind_again)
-      ≡ is_input (view.Parameter index section kind)
+  pub input : is_input (resolved.Parameter index section_again kind_again)
+      ≡ is_input (resolved.Parameter index section kind)
 
 -- a pointer has an area that pointers have, and its numbers are in their ranges
 pub record IsPointer (a : Option Area) (byte bit : ℕ) : Type 0 where
@@ -66,12 +66,12 @@ pub record IsPointer (a : Option Area) (byte bit : ℕ) : Type 0 where
 -- what an operand of a source names stands in the tree of a listing; of a pointer, its numbers are
 -- in their ranges
 abbrev pub StandsAgain : Context → List Formal → ResolvedOperand → Type 0
-StandsAgain listed formals (view.Direct place width side declared) =
+StandsAgain listed formals (resolved.Direct place width side declared) =
     IsOpenedAgain listed (opened_by_place place)
-StandsAgain listed formals (view.Parameter index section declared) =
+StandsAgain listed formals (resolved.Parameter index section declared) =
     IsParameterAgain listed formals index section declared
-StandsAgain listed formals (view.OpenBlock di number) = IsOpenedAgain listed (Some number)
-StandsAgain listed formals (view.Pointer a byte bit) = IsPointer a byte bit
+StandsAgain listed formals (resolved.OpenBlock di number) = IsOpenedAgain listed (Some number)
+StandsAgain listed formals (resolved.Pointer a byte bit) = IsPointer a byte bit
 StandsAgain listed formals _ = Unit {0}
 
 -- a constant is in the range of its kind, and its bits are as many as it says
@@ -83,8 +83,8 @@ pub record IsConstantCoded (value : Literal) : Type 0 where
 
 -- an operand resolves to a constant exactly where it is one, and this has its bits
 abbrev pub IsConstantResolved : Operand → ResolvedOperand → Type 0
-IsConstantResolved (operand.Constant value) v = (v ≡ view.Constant) × IsConstantCoded value
-IsConstantResolved o view.Constant = ⊥
+IsConstantResolved (operand.Constant value) v = (v ≡ resolved.Constant) × IsConstantCoded value
+IsConstantResolved o resolved.Constant = ⊥
 IsConstantResolved o _ = Unit {0}
 
 -- ---- operands

@@ -4,7 +4,7 @@ use Rattle.flat_code.specs.Programs.{DataBlock, Program}
 use Rattle.stl_list.specs.CodeBlocks.{in_lines, line_reached}
 use Rattle.stl_list.specs.DataBlocks.{listed_data}
 use Rattle.stl_list.specs.Listing.{listed_tree}
-use Rattle.listing_laws.specs.Declared.{signatures_in}
+use Rattle.listing_laws.specs.ListedDeclarations.{signatures_in}
 
 -- each data block of a program stands in its listing in the order of the program behind the code
 -- blocks, on the line that these reach

@@ -12,12 +12,12 @@ use Rattle.block_layout.specs.Rule51.{is_too_long}
 use Rattle.block_layout.specs.Types.{Types}
 use Rattle.block_layout.specs.declared.blocks.BlockLayout.{BlockLayout}
 use Rattle.stl_types.specs.Bodies.{first_context}
-use Rattle.stl_codegen.specs.Generated.{data_block_of, data_blocks_of}
+use Rattle.stl_codegen.specs.GeneratedProgram.{data_block_of, data_blocks_of}
 use Rattle.stl_list.specs.DataBlocks.{listed_data}
 use Rattle.stl_list.specs.Listing.{listed_tree}
 use Rattle.stl_list.specs.Signatures.{Signature}
-use Rattle.sem_kept.specs.Accepted.{IsAccepted, program_in}
-use Rattle.listing_laws.specs.Declared.{signatures_in}
+use Rattle.sem_kept.specs.AcceptedSource.{IsAccepted, program_in}
+use Rattle.listing_laws.specs.ListedDeclarations.{signatures_in}
 
 -- a data block with a structure of its own, listed, is as long as it was and not too long, whatever
 -- stands beside it (rule 51); and where it stands in a source and breaks no rule as a whole, the

@@ -11,7 +11,7 @@ use Rattle.block_layout.specs.declared.cells.Element.TheVariants as element
 use Rattle.stl_types.specs.Context.{Context}
 use Rattle.stl_types.specs.Variables.{behind_others, own_variable}
 use Rattle.stl_types.specs.declared.views.Resolution.TheVariants.{Resolved}
-use Rattle.stl_types.specs.declared.views.ResolvedOperand.TheVariants as view
+use Rattle.stl_types.specs.declared.views.ResolvedOperand.TheVariants as resolved
 
 -- the block at a context is a function with this layout, which breaks no rule
 pub record IsFunctionAt (c : Context) (b : Block) (l : BlockLayout) : Type 0 where
@@ -48,4 +48,4 @@ AreOwnParametersFound =
     → IsFunctionAt c b l → AllByRecursion (λ d. d.level ≡ 0) l.components
     → IsOwnParameterCell l.components j cell kind
     → own_variable c cell.name []
-    ≡ Resolved (view.Parameter (behind_others (length l.components) j b.result) cell.section kind)
+    ≡ Resolved (resolved.Parameter (behind_others (length l.components) j b.result) cell.section kind)

@@ -14,18 +14,18 @@ use Rattle.stl_types.specs.Context.{Context}
 use Rattle.stl_types.specs.Variables.{own_variable}
 use Rattle.stl_types.specs.declared.parameters.Formal.{Formal}
 use Rattle.stl_types.specs.declared.views.Resolution.TheVariants.{Resolved}
-use Rattle.stl_types.specs.declared.views.ResolvedOperand.TheVariants as view
+use Rattle.stl_types.specs.declared.views.ResolvedOperand.TheVariants as resolved
 use Rattle.stl_list.specs.Signatures.{formals_of_block}
-use Rattle.sem_kept.specs.Accepted.{IsAccepted, program_in}
-use Rattle.listing_laws.specs.Again.{IsMadeOf, IsWholeAgain, again_at, context_at}
-use Rattle.listing_laws.specs.Declared.{signatures_in}
+use Rattle.sem_kept.specs.AcceptedSource.{IsAccepted, program_in}
+use Rattle.listing_laws.specs.ListedSource.{IsMadeOf, IsWholeAgain, again_at, context_at}
+use Rattle.listing_laws.specs.ListedDeclarations.{signatures_in}
 use Rattle.listing_laws.specs.Operands.{IsParameterAgain}
 
 -- what a body sees as its own parameter is there, at a block of a listing, as the one of its index
 abbrev pub AreOwnAgain : (c listed : Context) → List Formal → Type 0
 AreOwnAgain c listed formals =
     (name : List ℕ) (steps : List PathStep) (index : ℕ) (section : PartKind) (kind : Simple)
-    → own_variable c name steps ≡ Resolved (view.Parameter index section kind)
+    → own_variable c name steps ≡ Resolved (resolved.Parameter index section kind)
     → IsParameterAgain listed formals index section kind
 
 -- what each body of an accepted source sees as its own parameter is there in the listing, at the

@@ -21,8 +21,8 @@ use Rattle.stl_types.specs.Parameters.{Callee}
 use Rattle.stl_types.specs.Resolution.{resolution_of}
 use Rattle.stl_types.specs.declared.parameters.Formal.{Formal}
 use Rattle.stl_types.specs.declared.views.Resolution.TheVariants.{Resolved}
-use Rattle.stl_types.specs.declared.views.ResolvedOperand.TheVariants as view
-use Rattle.stl_codegen.specs.Emitted.{pass_ops}
+use Rattle.stl_types.specs.declared.views.ResolvedOperand.TheVariants as resolved
+use Rattle.stl_codegen.specs.EmittedOps.{pass_ops}
 use Rattle.stl_codegen.specs.Instruction.{source_block_at, in_parameter_order, passings_to}
 use Rattle.stl_list.specs.Actuals.{actuals_before}
 use Rattle.stl_list.specs.Operands.{name_of_data_block, own_parameter}
@@ -43,7 +43,7 @@ FitsListed c own f (passed.InBlock number a width byte bit) =
 FitsListed c own f (passed.Parameter index width) =
     (g : Formal) × (width ≡ width_of g.kind) × (g.kind ≡ f.kind)
     × (takes_section f.section g.section ≡ true)
-    × (resolution_of c (own_parameter own index) ≡ Resolved (view.Parameter index g.section g.kind))
+    × (resolution_of c (own_parameter own index) ≡ Resolved (resolved.Parameter index g.section g.kind))
 
 -- a passing is for a parameter that the called block has, and what it passes fits there
 pub record IsPassable (c : Context) (own called : List Formal) (p : Passing) : Type 0 where

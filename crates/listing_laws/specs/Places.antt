@@ -4,7 +4,7 @@ use Rattle.std.specs.List.{flat_map}
 use Rattle.block_layout.specs.declared.blocks.BlockLayout.{BlockLayout}
 use Rattle.print_laws.specs.Reading.{AreOnLines}
 use Rattle.stl_ast.specs.declared.blocks.Tree.{Tree}
-use Rattle.stl_codegen.specs.Generated.{program_of}
+use Rattle.stl_codegen.specs.GeneratedProgram.{program_of}
 use Rattle.stl_list.specs.Listing.{listed_tree}
 use Rattle.stl_print.specs.Trees.{block_clauses}
 use Rattle.stl_symbols.specs.Symbol.{Symbol}

@@ -11,7 +11,7 @@ use Rattle.stl_ast.specs.WellFormed.{IsWellFormed}
 use Rattle.stl_ast.specs.declared.blocks.Tree.{Tree}
 use Rattle.stl_symbols.specs.Symbol.{Symbol}
 use Rattle.block_layout.specs.declared.blocks.BlockLayout.{BlockLayout}
-use Rattle.stl_codegen.specs.Generated.{program_of}
+use Rattle.stl_codegen.specs.GeneratedProgram.{program_of}
 use Rattle.stl_list.specs.Listing.{listed_source, listed_tree}
 use Rattle.stl_print.specs.Trees.{pieces_of_tree}
 use Rattle.print_laws.specs.Standing.{HasPrintableTokens}

@@ -21,8 +21,8 @@ use Rattle.stl_types.specs.Lists.{rule_32}
 use Rattle.stl_types.specs.Operands.{rules_24_25_39}
 use Rattle.stl_types.specs.Unknown.{operand_20}
 use Rattle.stl_types.specs.Zones.{rule_47, rule_48, rule_49}
-use Rattle.sem_kept.specs.Accepted.{IsAccepted}
-use Rattle.listing_laws.specs.Again.{IsWholeAgain, listed_again}
+use Rattle.sem_kept.specs.AcceptedSource.{IsAccepted}
+use Rattle.listing_laws.specs.ListedSource.{IsWholeAgain, listed_again}
 
 -- no body of the blocks breaks a rule of a source (docs/REFUSALS.md): those of the layout on
 -- operands, 23 and 42, and those of statements; the field `by_20` states that rule 20 isn't broken,

@@ -18,8 +18,8 @@ use Rattle.block_layout.specs.Rule56.{broken_56}
 use Rattle.block_layout.specs.Types.{Types}
 use Rattle.stl_list.specs.CodeBlocks.{listed_block}
 use Rattle.stl_list.specs.DataBlocks.{listed_data}
-use Rattle.sem_kept.specs.Accepted.{IsAccepted, program_in}
-use Rattle.listing_laws.specs.Declared.{signatures_in}
+use Rattle.sem_kept.specs.AcceptedSource.{IsAccepted, program_in}
+use Rattle.listing_laws.specs.ListedDeclarations.{signatures_in}
 
 -- the declarations of a block break none of the rules of declarations, whatever types stand beside
 -- it

@@ -13,10 +13,10 @@ use Rattle.stl_symbols.specs.Symbol.{Symbol}
 use Rattle.block_layout.specs.declared.blocks.BlockLayout.{BlockLayout}
 use Rattle.stl_types.specs.Bodies.{first_context}
 use Rattle.stl_types.specs.Context.{Context}
-use Rattle.stl_types.specs.Resolved.{resolved_operand}
-use Rattle.stl_types.specs.declared.views.ResolvedOperand.TheVariants as view
-use Rattle.stl_codegen.specs.Compiled.{compiled_block}
-use Rattle.stl_codegen.specs.Generated.{code_blocks_of, params_of, program_of}
+use Rattle.stl_types.specs.ResolvedStatement.{resolved_operand}
+use Rattle.stl_types.specs.declared.views.ResolvedOperand.TheVariants as resolved
+use Rattle.stl_codegen.specs.CompiledBlock.{compiled_block}
+use Rattle.stl_codegen.specs.GeneratedProgram.{code_blocks_of, params_of, program_of}
 use Rattle.listing_laws.specs.Chains.{AreTypesAsDeclared}
 use Rattle.listing_laws.specs.HandedOn.{BlocksHandTypesOn, CallOwesTypes, SeesOwn, declared_type_in}
 
@@ -24,7 +24,7 @@ use Rattle.listing_laws.specs.HandedOn.{BlocksHandTypesOn, CallOwesTypes, SeesOw
 abbrev pub StatementOwesTypes :
     (kinds : BlockId → List Simple) → List CodeBlock → Context → Statement → Type 0
 StatementOwesTypes kinds all c s =
-    (id : BlockId) (instance : Option ℕ) → resolved_operand c s ≡ Some (view.Called id instance)
+    (id : BlockId) (instance : Option ℕ) → resolved_operand c s ≡ Some (resolved.Called id instance)
     → CallOwesTypes kinds all c s id
 
 -- a code block of a source: the types are those of its parameters, which its body sees so, and each

@@ -16,7 +16,7 @@ use Rattle.stl_parser.specs.Source.{IsTree}
 use Rattle.stl_symbols.specs.Symbol.{Symbol}
 use Rattle.block_layout.specs.declared.blocks.BlockLayout.{BlockLayout}
 use Rattle.stl_types.specs.Labels.{rule_26}
-use Rattle.stl_codegen.specs.Generated.{program_of}
+use Rattle.stl_codegen.specs.GeneratedProgram.{program_of}
 use Rattle.stl_list.specs.Listing.{listed_source, listed_tree}
 use Rattle.stl_list.specs.Runs.{Run, runs}
 use Rattle.listing_laws.specs.Bodies.{IsCallBy, IsEndFree, IsPlace, IsSourceRun}

@@ -5,8 +5,8 @@ use Rattle.flat_code.specs.Instr.{Instr, Does, Jumps, JumpsByList, Calls, Return
 use Rattle.flat_code.specs.declared.kinds.JumpOperation.TheVariants as jump
 use Rattle.flat_code.specs.declared.operands.Operand.{Operand}
 use Rattle.flat_code.specs.declared.operands.Operand.TheVariants as operand
-use Rattle.stl_codegen.specs.Compiled.{SourceInstruction, operand_with_target, code_in, offset_of_statement, ops_in}
-use Rattle.stl_codegen.specs.Emitted.{call_op, end_op, op_with_end_mark, jump_op, use_db_ops, pass_ops}
+use Rattle.stl_codegen.specs.CompiledBlock.{SourceInstruction, operand_with_target, code_in, offset_of_statement, ops_in}
+use Rattle.stl_codegen.specs.EmittedOps.{call_op, end_op, op_with_end_mark, jump_op, use_db_ops, pass_ops}
 use Rattle.stl_list.specs.Runs.{Run, number_at, runs, statement_starts, target_marks}
 
 -- the ops of an instruction as a listing takes them: those that prepare, and the last one. A

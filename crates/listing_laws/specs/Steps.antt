@@ -8,8 +8,8 @@ use Rattle.flat_code.specs.Instr.{Passing, Calls}
 use Rattle.flat_code.specs.declared.operands.Passed.TheVariants as passed
 use Rattle.flat_code.specs.declared.operations.CallOperation.{CallOperation}
 use Rattle.stl_types.specs.declared.parameters.Formal.{Formal}
-use Rattle.stl_codegen.specs.Compiled.{SourceInstruction, StatedBlock, compiled_block}
-use Rattle.stl_list.specs.Joined.{first_of, links, total_parameter_count, system_parameters}
+use Rattle.stl_codegen.specs.CompiledBlock.{SourceInstruction, StatedBlock, compiled_block}
+use Rattle.stl_list.specs.JoinedParameters.{first_of, links, total_parameter_count, system_parameters}
 use Rattle.listing_laws.specs.Chains.{HasStep, LinksHaveType}
 
 -- a statement of a block, `b`, passes the parameter of index `own` of `b` to the block `id`, for

@@ -1,4 +1,4 @@
-ghost use Rattle.listing_laws.specs.Called.{AreOwnNamesApart, AreSystemNamesApart};
+ghost use Rattle.listing_laws.specs.ParameterNames.{AreOwnNamesApart, AreSystemNamesApart};
 
 /// The parameters of a block in a listing have names of their own, also in upper case, and so have
 /// those of the system functions.

@@ -1,4 +1,4 @@
-ghost use Rattle.listing_laws.specs.Compiled.{AreListingsCompiled, ListingsCompile};
+ghost use Rattle.listing_laws.specs.ListingCompiles.{AreListingsCompiled, ListingsCompile};
 
 use crate::bodies_again::law_of_bodies_again;
 use crate::instances::{law_of_listed_data_blocks, law_of_listed_settings};

@@ -1,4 +1,4 @@
-ghost use Rattle.listing_laws.specs.Declared.{AreDeclaredAgain, AreKindsWide};
+ghost use Rattle.listing_laws.specs.ListedDeclarations.{AreDeclaredAgain, AreKindsWide};
 
 /// The types that the listing of a program gives to parameters, by chains of passings, have the
 /// widths of these, where the program verifies (`kinds`). So the declarations in the listing of an

@@ -1,4 +1,4 @@
-ghost use Rattle.listing_laws.specs.Listed.{AreEndsAlike, AreListedAs, AreParametersListed};
+ghost use Rattle.listing_laws.specs.ListingParameters.{AreEndsAlike, AreListedAs, AreParametersListed};
 
 /// Each parameter of a block in a listing is the one that the code has, of the type that chains
 /// give to it, and both ends of a passing have one type.

@@ -1,4 +1,4 @@
-ghost use Rattle.listing_laws.specs.Named.{AreAcceptedRead, AreSourcesNamed};
+ghost use Rattle.listing_laws.specs.NamedProgram.{AreAcceptedRead, AreSourcesNamed};
 
 use crate::sources::law_of_listed_source;
 

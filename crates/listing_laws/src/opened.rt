@@ -1,4 +1,4 @@
-ghost use Rattle.listing_laws.specs.Opened.{AreOpenedRight};
+ghost use Rattle.listing_laws.specs.OpenedBlocks.{AreOpenedRight};
 
 /// A statement of a source's program that opens a data block acts on a place in it, and what is
 /// passed in a data block is a place in one.

@@ -1,4 +1,4 @@
-ghost use Rattle.listing_laws.specs.Again.{AreMadeOfSource};
+ghost use Rattle.listing_laws.specs.ListedSource.{AreMadeOfSource};
 ghost use Rattle.listing_laws.specs.Origins.{AreDataListed};
 
 /// Each code block of the listing of an accepted source's program was made of a block of the

@@ -1,4 +1,4 @@
-ghost use Rattle.listing_laws.specs.Again.{AreWholeAgain};
+ghost use Rattle.listing_laws.specs.ListedSource.{AreWholeAgain};
 ghost use Rattle.listing_laws.specs.Whole.{AreBlocksRightAgain, AreDataLaid};
 
 /// No block of the listing of an accepted source's program breaks a rule as a whole (`whole`), and

@@ -29,12 +29,12 @@ use Rattle.machine.specs.Lasting.{FitsProgram, GoesOnFitting, first_frame}
 use Rattle.machine.specs.OpenBrackets.{open_codes}
 use Rattle.machine.specs.ExecState.{LocalMemory, local_memory_of}
 use Rattle.machine.specs.Results.{GivesResult, with_ret_val}
-use Rattle.machine.proofs.Called.{local_memory_fits}
+use Rattle.machine.proofs.CallLemmas.{local_memory_fits}
 use Rattle.machine.proofs.FrameBytes.{mapped_there, locals_opened, locals_kept, lies_written}
 use Rattle.machine.proofs.Instructions.{kind_found}
 use Rattle.machine.proofs.Keeping.{KeepsLocalMemory, local_kept, same_local_memory}
 use Rattle.machine.proofs.Moving.{some_there, stands_of, fits_of}
-use Rattle.machine.proofs.Returned.{put_kept}
+use Rattle.machine.proofs.ReturnLemmas.{put_kept}
 use Rattle.machine.proofs.Sizes.{areas_of_same_sizes, same_sizes, region_sizes, same_parts}
 use Rattle.machine.proofs.Standing.{nothing_open, entry_start, opens_there, statement_there}
 

@@ -21,7 +21,7 @@ use Rattle.flat_code.specs.Kinds.{counter_kind, timer_kind}
 use Rattle.flat_code.specs.declared.operands.Operand.{Operand}
 use Rattle.flat_code.specs.declared.operands.Operand.TheVariants as operand
 use Rattle.flat_code.specs.declared.table.OperandForms.{OperandForms}
-use Rattle.flat_code.specs.declared.table.OperandForms.TheVariants as takes
+use Rattle.flat_code.specs.declared.table.OperandForms.TheVariants as forms
 use Rattle.flat_code.specs.declared.operations.AccuOperation.{AccuOperation}
 use Rattle.flat_code.specs.declared.operations.AccuOperation.TheVariants as accu_operation
 use Rattle.flat_code.specs.declared.operations.PointerOperation.{PointerOperation}
@@ -31,7 +31,7 @@ use Rattle.flat_code.specs.declared.operations.RelayOperation.{RelayOperation}
 use Rattle.flat_code.specs.declared.operations.RelayOperation.TheVariants as relay
 use Rattle.flat_code.specs.declared.operations.Operation.{Operation}
 use Rattle.flat_code.specs.declared.operations.Operation.TheVariants as operation
-use Rattle.flat_code.specs.Placed.{is_empty_list, most_zones}
+use Rattle.flat_code.specs.PlacedOps.{is_empty_list, most_zones}
 use Rattle.flat_code.specs.Table.{admits, takes_of_operation, takes_timer, takes_counter}
 use Rattle.machine.specs.declared.places.Access.{Access}
 use Rattle.machine.specs.declared.places.Access.TheVariants.{Reading, Writing}
@@ -246,7 +246,7 @@ one_known : (r : Result ℕ ℕ) → IfKnownError r → IfKnownError (bit_of_num
 one_known (Ok n) known = tt
 one_known (Err code) known = known
 
-tested_known : (o : Operand) (s : Local) (m : Areas) (t : List Timer) (n : List Counter) → admits takes.Check o ≡ true → ParamHas s false o → IfKnownError (checked_bit o s m t n)
+tested_known : (o : Operand) (s : Local) (m : Areas) (t : List Timer) (n : List Counter) → admits forms.Check o ≡ true → ParamHas s false o → IfKnownError (checked_bit o s m t n)
 unfolding checked_bit admits
 tested_known (operand.Numbered kind number) s m t n h has = bit_known kind number t n
 tested_known (operand.NumberedBy kind from byte) s m t n h has =
@@ -258,7 +258,7 @@ tested_known (operand.ByRegister area width register bits) s m t n h has = one_k
 tested_known (operand.Parameter index width) s m t n h has = one_known _ (number_known (operand.Parameter index width) s m (has.0, has.1, has.2))
 tested_known _ s m t n h has = absurd cc
 
-loaded_known : (o : Operand) (s : Local) (m : Areas) (t : List Timer) (n : List Counter) → admits takes.Load o ≡ true → ParamHas s false o → IfKnownError (load_value o s m t n)
+loaded_known : (o : Operand) (s : Local) (m : Areas) (t : List Timer) (n : List Counter) → admits forms.Load o ≡ true → ParamHas s false o → IfKnownError (load_value o s m t n)
 unfolding load_value admits
 loaded_known (operand.Numbered kind number) s m t n h has = value_known kind number t n
 loaded_known (operand.NumberedBy kind from byte) s m t n h has =
@@ -271,7 +271,7 @@ loaded_known (operand.Parameter index width) s m t n h has = number_known (opera
 loaded_known _ s m t n h has = absurd cc
 
 -- a timer or counter
-numbered_by : (o : Operand) (t : OperandForms) → (t ≡ takes.Numbered) ⊎ ((t ≡ takes.Timer) ⊎ (t ≡ takes.Counter)) → admits t o ≡ true → IsNumbered o
+numbered_by : (o : Operand) (t : OperandForms) → (t ≡ forms.Numbered) ⊎ ((t ≡ forms.Timer) ⊎ (t ≡ forms.Counter)) → admits t o ≡ true → IsNumbered o
 unfolding admits
 numbered_by (operand.Numbered kind number) t is h = tt
 numbered_by (operand.NumberedBy kind from byte) t is h = tt
@@ -296,16 +296,16 @@ kind_none kind t a b h = none (kind == timer_kind) (kind == counter_kind) (rw (a
     none false false e = cc
 
 -- an operand that is written
-written_place : (o : Operand) (t : OperandForms) (s : Local) → (t ≡ takes.Transfer) ⊎ (t ≡ takes.Bit) → admits t o ≡ true → ParamHas s true o → HasPlace s o
+written_place : (o : Operand) (t : OperandForms) (s : Local) → (t ≡ forms.Transfer) ⊎ (t ≡ forms.Bit) → admits t o ≡ true → ParamHas s true o → HasPlace s o
 unfolding admits
 written_place (operand.Direct area width byte bit) t s is h has = tt
 written_place (operand.ByMemory area width from byte) t s is h has = tt
 written_place (operand.ByRegister area width register bits) t s is h has = tt
 written_place (operand.Parameter index width) t s is h has = (has.0, has.1, has.3 refl)
-written_place (operand.Numbered kind number) t s (inl e) h has = absurd (kind_none kind takes.Transfer refl refl (rw e at h))
-written_place (operand.Numbered kind number) t s (inr e) h has = absurd (kind_none kind takes.Bit refl refl (rw e at h))
-written_place (operand.NumberedBy kind from byte) t s (inl e) h has = absurd (kind_none kind takes.Transfer refl refl (rw e at h))
-written_place (operand.NumberedBy kind from byte) t s (inr e) h has = absurd (kind_none kind takes.Bit refl refl (rw e at h))
+written_place (operand.Numbered kind number) t s (inl e) h has = absurd (kind_none kind forms.Transfer refl refl (rw e at h))
+written_place (operand.Numbered kind number) t s (inr e) h has = absurd (kind_none kind forms.Bit refl refl (rw e at h))
+written_place (operand.NumberedBy kind from byte) t s (inl e) h has = absurd (kind_none kind forms.Transfer refl refl (rw e at h))
+written_place (operand.NumberedBy kind from byte) t s (inr e) h has = absurd (kind_none kind forms.Bit refl refl (rw e at h))
 written_place _ t s (inl e) h has = absurd (let f : false ≡ true = rw e at h in cc)
 written_place _ t s (inr e) h has = absurd (let f : false ≡ true = rw e at h in cc)
 
@@ -367,11 +367,11 @@ counter_freed_known : (o : Operand) (s : Local) (m : Areas) (n : List Counter) �
 unfolding counter_freed
 counter_freed_known o s m n has = numbered_known 0x27 o s m _ refl has
 
-checking_known : (o : Operand) (p : ExecState) (with : _) → admits takes.Check o ≡ true → ParamHas p.local false o → IfKnownError (regs_after_bit_check with o p.local p.memory p.timers p.counters)
+checking_known : (o : Operand) (p : ExecState) (with : _) → admits forms.Check o ≡ true → ParamHas p.local false o → IfKnownError (regs_after_bit_check with o p.local p.memory p.timers p.counters)
 unfolding regs_after_bit_check
 checking_known o p with h has = then_known (checked_bit o p.local p.memory p.timers p.counters) _ (tested_known o p.local p.memory p.timers p.counters h has) (λ bit. tt)
 
-loading_known : (o : Operand) (p : ExecState) → admits takes.Load o ≡ true → ParamHas p.local false o → IfKnownError (regs_after_load o p.local p.memory p.timers p.counters)
+loading_known : (o : Operand) (p : ExecState) → admits forms.Load o ≡ true → ParamHas p.local false o → IfKnownError (regs_after_load o p.local p.memory p.timers p.counters)
 unfolding regs_after_load
 loading_known o p h has = then_known (load_value o p.local p.memory p.timers p.counters) _ (loaded_known o p.local p.memory p.timers p.counters h has) (λ x. tt)
 
@@ -400,7 +400,7 @@ edge_known rising o s m has =
     (λ at. then_known (bit_before at s m) (λ before. local_memory_after_edge_at rising at before s m) (before_known at s m) (λ before. put_known at _ _ s m))
 
 -- S and R of a bit, a timer or a counter; FR of a timer or a counter
-set_known : (o : Operand) (p : ExecState) → admits takes.BitOrCounter o ≡ true → ParamHas p.local true o → IfKnownError (set_effect (kind_of_numbered_operand o) o p)
+set_known : (o : Operand) (p : ExecState) → admits forms.BitOrCounter o ≡ true → ParamHas p.local true o → IfKnownError (set_effect (kind_of_numbered_operand o) o p)
 unfolding admits
 set_known (operand.Direct area width byte bit) p h has = local_memory_known p _ (bit_set_known true (operand.Direct area width byte bit) p.local p.memory tt)
 set_known (operand.ByMemory area width from byte) p h has = local_memory_known p _ (bit_set_known true (operand.ByMemory area width from byte) p.local p.memory tt)
@@ -415,7 +415,7 @@ reset_numbered_known kind o p has =
     either_known (is_timer_kind kind) (on_timers p (timer_reset o p.local p.memory p.timers)) (on_counters p (counter_reset o p.local p.memory p.counters))
     (timers_known p _ (timer_reset_known o p.local p.memory p.timers has)) (counters_known p _ (reset_counter_known o p.local p.memory p.counters has))
 
-reset_known : (o : Operand) (p : ExecState) → admits takes.BitOrNumbered o ≡ true → ParamHas p.local true o → IfKnownError (reset_effect (kind_of_numbered_operand o) o p)
+reset_known : (o : Operand) (p : ExecState) → admits forms.BitOrNumbered o ≡ true → ParamHas p.local true o → IfKnownError (reset_effect (kind_of_numbered_operand o) o p)
 unfolding admits
 reset_known (operand.Direct area width byte bit) p h has = local_memory_known p _ (bit_set_known false (operand.Direct area width byte bit) p.local p.memory tt)
 reset_known (operand.ByMemory area width from byte) p h has = local_memory_known p _ (bit_set_known false (operand.ByMemory area width from byte) p.local p.memory tt)
@@ -436,21 +436,21 @@ free_known (operand.NumberedBy kind from byte) p has = free_numbered_known kind 
 free_known _ p has = absurd has
 
 -- pointers
-address_known : (o : Operand) (s : Local) (m : Areas) → admits takes.Pointer o ≡ true → IfKnownError (address_loaded o s m)
+address_known : (o : Operand) (s : Local) (m : Areas) → admits forms.Pointer o ≡ true → IfKnownError (address_loaded o s m)
 unfolding admits
 address_known operand.Nothing s m h = tt
 address_known (operand.Literal value) s m h = number_known (operand.Literal value) s m tt
 address_known (operand.Direct area width byte bit) s m h = number_known (operand.Direct area width byte bit) s m tt
-address_known (operand.Numbered kind number) s m h = absurd (kind_none kind takes.Pointer refl refl h)
-address_known (operand.NumberedBy kind from byte) s m h = absurd (kind_none kind takes.Pointer refl refl h)
+address_known (operand.Numbered kind number) s m h = absurd (kind_none kind forms.Pointer refl refl h)
+address_known (operand.NumberedBy kind from byte) s m h = absurd (kind_none kind forms.Pointer refl refl h)
 address_known _ s m h = absurd cc
 
-address_transferred_known : (n : ℕ) (o : Operand) (s : Local) (m : Areas) → admits takes.PointerPlace o ≡ true → IfKnownError (address_transferred n o s m)
+address_transferred_known : (n : ℕ) (o : Operand) (s : Local) (m : Areas) → admits forms.PointerPlace o ≡ true → IfKnownError (address_transferred n o s m)
 unfolding admits
 address_transferred_known n operand.Nothing s m h = tt
 address_transferred_known n (operand.Direct area width byte bit) s m h = transferred_known n (operand.Direct area width byte bit) s m tt
-address_transferred_known n (operand.Numbered kind number) s m h = absurd (kind_none kind takes.PointerPlace refl refl h)
-address_transferred_known n (operand.NumberedBy kind from byte) s m h = absurd (kind_none kind takes.PointerPlace refl refl h)
+address_transferred_known n (operand.Numbered kind number) s m h = absurd (kind_none kind forms.PointerPlace refl refl h)
+address_transferred_known n (operand.NumberedBy kind from byte) s m h = absurd (kind_none kind forms.PointerPlace refl refl h)
 address_transferred_known n _ s m h = absurd cc
 
 pointed_known : (what : PointerOperation) (o : Operand) (s : Local) (m : Areas) → admits (takes_of_operation (operation.Pointer what)) o ≡ true → IfKnownError (pointer_effect what o s m)
@@ -476,21 +476,21 @@ open_known : (loaded : Bool) (register number : ℕ) (s : Local) → IfKnownErro
 open_known true register number s = tt
 open_known false register number s = refl
 
-opening_known : (o : Operand) (s : Local) (m : Areas) → admits takes.Open o ≡ true → IfKnownError (block_opened_by o s m)
+opening_known : (o : Operand) (s : Local) (m : Areas) → admits forms.Open o ≡ true → IfKnownError (block_opened_by o s m)
 unfolding block_opened_by admits
 opening_known (operand.OpenBlock register number) s m h = open_known (is_block_loaded number m) register number s
 opening_known (operand.OpenBy register from byte) s m h =
     then_known (pointer_number from byte widths.Word s m) (λ number. opened_if (is_block_loaded number m) register number s) (pointer_known from byte widths.Word s m)
     (λ number. open_known (is_block_loaded number m) register number s)
-opening_known (operand.Numbered kind number) s m h = absurd (kind_none kind takes.Open refl refl h)
-opening_known (operand.NumberedBy kind from byte) s m h = absurd (kind_none kind takes.Open refl refl h)
+opening_known (operand.Numbered kind number) s m h = absurd (kind_none kind forms.Open refl refl h)
+opening_known (operand.NumberedBy kind from byte) s m h = absurd (kind_none kind forms.Open refl refl h)
 opening_known _ s m h = absurd cc
 
-open_fact_known : (o : Operand) (s : Local) (m : Areas) → admits (takes.Number 3) o ≡ true → IfKnownError (loading_open_block o s m)
+open_fact_known : (o : Operand) (s : Local) (m : Areas) → admits (forms.Number 3) o ≡ true → IfKnownError (loading_open_block o s m)
 unfolding loading_open_block admits
 open_fact_known (operand.Literal which) s m h = tt
-open_fact_known (operand.Numbered kind number) s m h = absurd (kind_none kind (takes.Number 3) refl refl h)
-open_fact_known (operand.NumberedBy kind from byte) s m h = absurd (kind_none kind (takes.Number 3) refl refl h)
+open_fact_known (operand.Numbered kind number) s m h = absurd (kind_none kind (forms.Number 3) refl refl h)
+open_fact_known (operand.NumberedBy kind from byte) s m h = absurd (kind_none kind (forms.Number 3) refl refl h)
 open_fact_known _ s m h = absurd cc
 
 -- ---- all
@@ -561,24 +561,24 @@ relayed_done relay.Deactivate s room = tt
 relayed_done relay.Open s room = rw (zone_room s room) tt
 relayed_done relay.Close s room = rw (zone_there s.inner.relay.zones room) tt
 
-no_jump : (o : Operand) → admits takes.Jump o ≡ true → goes_by_statement operation.Jump o ≡ false → ⊥
+no_jump : (o : Operand) → admits forms.Jump o ≡ true → goes_by_statement operation.Jump o ≡ false → ⊥
 unfolding admits
 no_jump (operand.Jump kind target) h other = cc
-no_jump (operand.Numbered kind number) h other = kind_none kind takes.Jump refl refl h
-no_jump (operand.NumberedBy kind from byte) h other = kind_none kind takes.Jump refl refl h
+no_jump (operand.Numbered kind number) h other = kind_none kind forms.Jump refl refl h
+no_jump (operand.NumberedBy kind from byte) h other = kind_none kind forms.Jump refl refl h
 no_jump _ h other = cc
 
-no_call : (how : _) (o : Operand) → admits takes.Call o ≡ true → goes_by_statement (operation.Call how) o ≡ false → ⊥
+no_call : (how : _) (o : Operand) → admits forms.Call o ≡ true → goes_by_statement (operation.Call how) o ≡ false → ⊥
 unfolding admits
 no_call how (operand.Called kind number instance) h other = cc
-no_call how (operand.Numbered kind number) h other = kind_none kind takes.Call refl refl h
-no_call how (operand.NumberedBy kind from byte) h other = kind_none kind takes.Call refl refl h
+no_call how (operand.Numbered kind number) h other = kind_none kind forms.Call refl refl h
+no_call how (operand.NumberedBy kind from byte) h other = kind_none kind forms.Call refl refl h
 no_call how _ h other = cc
 
-no_code : (o : Operand) → admits takes.NoCode o ≡ true → ⊥
+no_code : (o : Operand) → admits forms.NoCode o ≡ true → ⊥
 unfolding admits
-no_code (operand.Numbered kind number) h = kind_none kind takes.NoCode refl refl h
-no_code (operand.NumberedBy kind from byte) h = kind_none kind takes.NoCode refl refl h
+no_code (operand.Numbered kind number) h = kind_none kind forms.NoCode refl refl h
+no_code (operand.NumberedBy kind from byte) h = kind_none kind forms.NoCode refl refl h
 no_code _ h = cc
 
 pub effect_known : (v : Operation) (o : Operand) (p : ExecState) → Suits v o p → IfKnownError (operation_effect v o p)
@@ -592,18 +592,18 @@ effect_known operation.Unnest o p s = own_known p _ (unnesting_done p.local s.ro
 effect_known (operation.Relay which) o p s = own_known p _ (relayed_done which p.local s.room)
 effect_known operation.Load o p s = registers_known p _ (loading_known o p s.operand_admitted s.has)
 effect_known operation.Transfer o p s =
-    local_memory_known p _ (transferred_known (if is_writing_off p.local then 0 else p.local.regs.a1) o p.local p.memory (written_place o takes.Transfer p.local (inl refl) s.operand_admitted s.has))
+    local_memory_known p _ (transferred_known (if is_writing_off p.local then 0 else p.local.regs.a1) o p.local p.memory (written_place o forms.Transfer p.local (inl refl) s.operand_admitted s.has))
 effect_known operation.Assign o p s =
-    local_memory_known p _ (assigned_known o p.local p.memory (written_place o takes.Bit p.local (inr refl) s.operand_admitted s.has))
+    local_memory_known p _ (assigned_known o p.local p.memory (written_place o forms.Bit p.local (inr refl) s.operand_admitted s.has))
 effect_known operation.Set o p s = set_known o p s.operand_admitted s.has
 effect_known operation.Reset o p s = reset_known o p s.operand_admitted s.has
 effect_known (operation.Edge rising) o p s =
-    local_memory_known p _ (edge_known rising o p.local p.memory (written_place o takes.Bit p.local (inr refl) s.operand_admitted s.has))
+    local_memory_known p _ (edge_known rising o p.local p.memory (written_place o forms.Bit p.local (inr refl) s.operand_admitted s.has))
 effect_known operation.SetRlo o p s = tt
 effect_known operation.ClearRlo o p s = tt
 effect_known operation.NegateRlo o p s = tt
 effect_known operation.SaveRlo o p s = tt
-effect_known operation.LoadBcd o p s = registers_known p _ (loading_bcd_known o p (numbered_by o takes.Numbered (inl refl) s.operand_admitted))
+effect_known operation.LoadBcd o p s = registers_known p _ (loading_bcd_known o p (numbered_by o forms.Numbered (inl refl) s.operand_admitted))
 effect_known operation.LoadStatus o p s = tt
 effect_known operation.TransferStatus o p s = tt
 effect_known operation.LoadOpenBlock o p s = registers_known p _ (open_fact_known o p.local p.memory s.operand_admitted)
@@ -614,10 +614,10 @@ effect_known (operation.CompareInt how) o p s = tt
 effect_known (operation.CompareDint how) o p s = tt
 effect_known (operation.Logic what) o p s = tt
 effect_known (operation.Shift what) o p s = tt
-effect_known (operation.Start how) o p s = timers_known p _ (starting_known how o p.local p.memory p.timers (numbered_by o takes.Timer (inr (inl refl)) s.operand_admitted))
-effect_known operation.Free o p s = free_known o p (numbered_by o takes.Numbered (inl refl) s.operand_admitted)
-effect_known operation.CountUp o p s = counters_known p _ (up_known o p.local p.memory p.counters (numbered_by o takes.Counter (inr (inr refl)) s.operand_admitted))
-effect_known operation.CountDown o p s = counters_known p _ (down_known o p.local p.memory p.counters (numbered_by o takes.Counter (inr (inr refl)) s.operand_admitted))
+effect_known (operation.Start how) o p s = timers_known p _ (starting_known how o p.local p.memory p.timers (numbered_by o forms.Timer (inr (inl refl)) s.operand_admitted))
+effect_known operation.Free o p s = free_known o p (numbered_by o forms.Numbered (inl refl) s.operand_admitted)
+effect_known operation.CountUp o p s = counters_known p _ (up_known o p.local p.memory p.counters (numbered_by o forms.Counter (inr (inr refl)) s.operand_admitted))
+effect_known operation.CountDown o p s = counters_known p _ (down_known o p.local p.memory p.counters (numbered_by o forms.Counter (inr (inr refl)) s.operand_admitted))
 effect_known operation.OpenBlock o p s = own_known p _ (opening_known o p.local p.memory s.operand_admitted)
 effect_known operation.Exchange o p s = tt
 effect_known operation.Jump o p s = absurd (no_jump o s.operand_admitted s.other)

@@ -6,7 +6,7 @@ use Rattle.plc_mem.specs.Areas.{Areas}
 use Rattle.frames.specs.declared.Activation.{Activation}
 use Rattle.frames.specs.declared.bindings.Binding.{Binding}
 use Rattle.flat_code.specs.Ops.{OpData}
-use Rattle.flat_code.specs.Placed.{op_placed, line_placed}
+use Rattle.flat_code.specs.PlacedOps.{op_placed, line_placed}
 use Rattle.flat_code.specs.Programs.{CodeBlock}
 use Rattle.flat_code.specs.Operations.{operation_of}
 use Rattle.flat_code.specs.declared.operands.Operand.{Operand}

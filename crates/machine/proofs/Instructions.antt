@@ -30,7 +30,7 @@ use Rattle.flat_code.specs.declared.operations.CallOperation.TheVariants as call
 use Rattle.flat_code.specs.declared.operations.RelayOperation.{RelayOperation}
 use Rattle.flat_code.specs.declared.operations.RelayOperation.TheVariants as relay
 use Rattle.flat_code.specs.declared.table.OperandForms.{OperandForms}
-use Rattle.flat_code.specs.declared.table.OperandForms.TheVariants as takes
+use Rattle.flat_code.specs.declared.table.OperandForms.TheVariants as forms
 use Rattle.flat_code.specs.declared.operations.TheConstants.{OPERATIONS}
 use Rattle.flat_code.specs.declared.operations.Operation.{Operation}
 use Rattle.flat_code.specs.declared.operations.Operation.TheVariants as operation
@@ -44,13 +44,13 @@ use Rattle.flat_code.specs.Forms.{kind_of_code, payload_fits}
 use Rattle.flat_code.specs.Image.{param_of_record, record_of_param}
 use Rattle.flat_code.specs.Ops.{OpData, is_op}
 use Rattle.flat_code.specs.OpCodes.{op_code_of as op_code}
-use Rattle.flat_code.specs.Placed.{op_placed, bracket_codes, most_zones, last_op, is_empty_list as nothing}
+use Rattle.flat_code.specs.PlacedOps.{op_placed, bracket_codes, most_zones, last_op, is_empty_list as nothing}
 use Rattle.flat_code.specs.Programs.{CodeBlock, Program}
 use Rattle.flat_code.specs.Records.{section_in}
 use Rattle.flat_code.specs.Table.{admits, is_jump_form, takes_of, takes_of_operation}
 use Rattle.flat_code.specs.Operations.{operation_of}
 use Rattle.image_file.specs.Readers.{is_same_id, block_by_id}
-use Rattle.image_file.specs.Verified.{FitsCall, FitsOperand, FitsPrepared, block_signatures}
+use Rattle.image_file.specs.VerifiedProgram.{FitsCall, FitsOperand, FitsPrepared, block_signatures}
 use Rattle.machine.specs.DataBlocks.{is_block_loaded}
 use Rattle.machine.specs.Effect.{on_local, operation_effect, with_db_opened, statement_effect}
 use Rattle.machine.specs.Entering.{activation_continued_at}
@@ -67,13 +67,13 @@ use Rattle.machine.specs.Places.{no_operand}
 use Rattle.machine.specs.SystemCalls.{system_function}
 use Rattle.machine.specs.Statement.{GlobalStore, Went, statement_step, instruction_step, continue_with, jump_step, is_return_made, is_call_made, regs_after_call_not_made, call_made, return_made, with_exec_state}
 use Rattle.machine.proofs.BindingLemmas.{PassingsFit, bound_of}
-use Rattle.machine.proofs.Called.{Caller, own_bound, function_lasts, function_block_lasts, going_fits, head_there}
-use Rattle.machine.proofs.Entered.{AreParams, of_blocks, of_functions, passings_fit, all_among, instance_long}
+use Rattle.machine.proofs.CallLemmas.{Caller, own_bound, function_lasts, function_block_lasts, going_fits, head_there}
+use Rattle.machine.proofs.EntryLemmas.{AreParams, of_blocks, of_functions, passings_fit, all_among, instance_long}
 use Rattle.machine.proofs.Errors.{IsKnownError, IfKnownError, IsSupplied, IsPlace, ParamHas, is_writing, goes_by_statement, HasRoom, Suits, effect_known, either_known, kind_none, zone_room, zone_there}
 use Rattle.machine.proofs.Keeping.{IfDone, Keeps, KeepsOpen, codes_after, open_after_operation, does_with_keeps}
 use Rattle.machine.proofs.Moving.{stands_of, frame_open, activation_follows}
 use Rattle.machine.proofs.Ready.{IsCallable, callable_kind, kind_callable}
-use Rattle.machine.proofs.Returned.{returned_lasts}
+use Rattle.machine.proofs.ReturnLemmas.{returned_lasts}
 use Rattle.machine.proofs.Systems.{function_called_lasts}
 use Rattle.machine.proofs.Sizes.{same_sizes}
 use Rattle.machine.proofs.OpenBehind.{is_other, nest_opens, opening_operation, two_or_four, behind_op, open_behind_op, opening_code, ending_code}
@@ -765,20 +765,20 @@ last_is_last p a w at = ends_here at.here.run_end.last.op at.here.run_end.last.r
 
 no_use_db_last :
     (l : ImageLaws) (p : Program) (a : Activation) (w : GlobalStore) (at : At p a w) (o : Operand) → at.here.run.last.operand ≡ o
-    → admits takes.UseDb o ≡ true → ⊥
+    → admits forms.UseDb o ≡ true → ⊥
 unfolding admits
 no_use_db_last l p a w at (operand.UseDb number) is h =
     let fits = last_prepared l p a w at (operand.UseDb number) is in
     let e : is_in_db (operand.UseDb number) ≡ true =
     ap is_in_db (sym is) ∙ ap (λ (z : OpData). is_in_db z.operand) (sym (last_is_last p a w at)) ∙ fits.1 in
     cc
-no_use_db_last l p a w at (operand.Numbered kind number) is h = kind_none kind takes.UseDb refl refl h
-no_use_db_last l p a w at (operand.NumberedBy kind from byte) is h = kind_none kind takes.UseDb refl refl h
+no_use_db_last l p a w at (operand.Numbered kind number) is h = kind_none kind forms.UseDb refl refl h
+no_use_db_last l p a w at (operand.NumberedBy kind from byte) is h = kind_none kind forms.UseDb refl refl h
 no_use_db_last l p a w at _ is h = cc
 
 no_pass_last :
     (l : ImageLaws) (p : Program) (a : Activation) (w : GlobalStore) (at : At p a w) (o : Operand) → at.here.run.last.operand ≡ o
-    → operation_of at.here.run.last.code ≡ operation.Pass → admits takes.Pass o ≡ true → ⊥
+    → operation_of at.here.run.last.code ≡ operation.Pass → admits forms.Pass o ≡ true → ⊥
 unfolding admits operation_of
 no_pass_last l p a w at (operand.Pass index actual) is operation_is h =
     let fits = last_prepared l p a w at (operand.Pass index actual) is in
@@ -787,8 +787,8 @@ no_pass_last l p a w at (operand.Pass index actual) is operation_is h =
   where
     other : (code : ℕ) → operation_of code ≡ operation.Pass → code ≡ op_code (operation.Call calls.Call) → ⊥
     other code e f = let g : operation_of 0x78 ≡ operation.Pass = rw f at e in cc
-no_pass_last l p a w at (operand.Numbered kind number) is operation_is h = kind_none kind takes.Pass refl refl h
-no_pass_last l p a w at (operand.NumberedBy kind from byte) is operation_is h = kind_none kind takes.Pass refl refl h
+no_pass_last l p a w at (operand.Numbered kind number) is operation_is h = kind_none kind forms.Pass refl refl h
+no_pass_last l p a w at (operand.NumberedBy kind from byte) is operation_is h = kind_none kind forms.Pass refl refl h
 no_pass_last l p a w at _ is operation_is h = cc
 
 has_room :
@@ -881,7 +881,7 @@ effect_erring u operation.Unnest o q s none = rw (none refl) (unnest_erring o q 
 effect_erring u (operation.Relay which) o q s none = rw (none refl) (relay_erring which o q s.room)
 effect_erring u v o q s none = quiet_erring v (statement_effect u v o q) (λ held. refl) (with_known u v o q s)
 
-nothing_in_db : (o : Operand) → admits takes.Nothing o ≡ true → is_in_db o ≡ false
+nothing_in_db : (o : Operand) → admits forms.Nothing o ≡ true → is_in_db o ≡ false
 unfolding admits
 nothing_in_db (operand.Direct area width byte bit) h = absurd cc
 nothing_in_db _ h = refl
@@ -897,7 +897,7 @@ no_use_db l p b last (op ∷ ops) none all = by op.operand (ap (λ (z : OpData).
         absurd cc
     by _ is more = more
 
-opening_takes : (v : Operation) → is_opening v ≡ true → takes_of_operation v ≡ takes.Nothing
+opening_takes : (v : Operation) → is_opening v ≡ true → takes_of_operation v ≡ forms.Nothing
 opening_takes (operation.Nest with) h = refl
 opening_takes operation.Unnest h = refl
 opening_takes (operation.Relay which) h = refl

@@ -19,7 +19,7 @@ use Rattle.frames.specs.Relay.{outer_zones, zone_opened, zone_ended}
 use Rattle.frames.specs.declared.relay.Relay.{Relay}
 use Rattle.frames.specs.Locals.{LocalData, local_written, local_operand_start}
 use Rattle.flat_code.specs.Kinds.{db_register_number}
-use Rattle.flat_code.specs.Placed.{is_empty_list, most_zones}
+use Rattle.flat_code.specs.PlacedOps.{is_empty_list, most_zones}
 use Rattle.flat_code.specs.declared.operands.Operand.{Operand}
 use Rattle.flat_code.specs.declared.operands.Operand.TheVariants as operand
 use Rattle.flat_code.specs.declared.operations.PointerOperation.{PointerOperation}

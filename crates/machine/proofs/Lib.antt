@@ -12,10 +12,10 @@ pub mod Keeping
 pub mod OpenBehind
 pub mod Standing
 pub mod Moving
-pub mod Returned
+pub mod ReturnLemmas
 pub mod BindingLemmas
-pub mod Entered
-pub mod Called
+pub mod EntryLemmas
+pub mod CallLemmas
 pub mod FunctionLemmas
 pub mod Systems
 pub mod Instructions

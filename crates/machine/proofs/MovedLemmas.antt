@@ -18,7 +18,7 @@ use Rattle.machine.specs.Code.{Code, Fetched, BlockHead}
 use Rattle.machine.specs.Effect.{statement_effect}
 use Rattle.machine.specs.Entering.{CalledBlock, Call, Fails, Stops, Enters, called_frame, activation_continued_at, caller_at, instance_supplied, entry_or_stop, call_with_bindings, block_call}
 use Rattle.machine.specs.Jumps.{is_jump_taken, regs_after_jump, jump_goal, list_goal, rlo_tested}
-use Rattle.machine.specs.Moved.{aimed_instr, moved_fetched, FollowsCode, moved_frame, moved_activation, moved_step, StatementsMove}
+use Rattle.machine.specs.MovedCode.{aimed_instr, moved_fetched, FollowsCode, moved_frame, moved_activation, moved_step, StatementsMove}
 use Rattle.machine.specs.ExecState.{ExecState, local_of, exec_state_of}
 use Rattle.machine.specs.Returning.{outputs_copied_back, return_to_caller, block_return}
 use Rattle.machine.specs.Statement.{GlobalStore, StatementStep, Went, continue_with, jump_step, call_step, called_block, block_called, after_system_call, system_call_made, call_made, is_call_made, regs_after_call_not_made, after_return, return_made, is_return_made, instruction_step, step_found, statement_step, activation_advanced_to}

@@ -14,7 +14,7 @@ use Rattle.flat_code.specs.Blocks.{prepares_statement}
 use Rattle.flat_code.specs.Codes.{size_of_op}
 use Rattle.flat_code.specs.OpCodes.{op_code_of as op_code}
 use Rattle.flat_code.specs.Ops.{OpData}
-use Rattle.flat_code.specs.Placed.{PlacedOp, bracket_codes, is_opening, brackets_after, zones_behind_op, outer_brackets, before_next}
+use Rattle.flat_code.specs.PlacedOps.{PlacedOp, bracket_codes, is_opening, brackets_after, zones_behind_op, outer_brackets, before_next}
 use Rattle.flat_code.specs.Operations.{operation_of}
 use Rattle.machine.specs.Fitting.{OpenAt}
 use Rattle.machine.specs.OpenBrackets.{check_named, checks_of, open_at}

@@ -18,7 +18,7 @@ use Rattle.flat_code.specs.Kinds.{jump_of_number}
 use Rattle.flat_code.specs.Loading.{Verifies}
 use Rattle.flat_code.specs.Ops.{OpData, is_op}
 use Rattle.flat_code.specs.Table.{admits, takes_of}
-use Rattle.flat_code.specs.Placed.{op_placed, line_placed, code_places}
+use Rattle.flat_code.specs.PlacedOps.{op_placed, line_placed, code_places}
 use Rattle.flat_code.specs.Programs.{CodeBlock, Program}
 use Rattle.flat_code.specs.Operations.{operation_of}
 use Rattle.flat_code.specs.declared.operands.Operand.{Operand}
@@ -27,7 +27,7 @@ use Rattle.flat_code.specs.declared.operations.CallOperation.{CallOperation}
 use Rattle.flat_code.specs.declared.operations.Operation.{Operation}
 use Rattle.flat_code.specs.declared.operations.Operation.TheVariants as operation
 use Rattle.image_file.specs.Readers.{block_by_id}
-use Rattle.image_file.specs.Verified.{placed_at, IsVerifiedOp, IsReaderOp, OpsArePlaced, OpsAreOfTable, FitsCall, CallsFit, IsCalledBlock, CalledAreThere, block_signatures}
+use Rattle.image_file.specs.VerifiedProgram.{placed_at, IsVerifiedOp, IsReaderOp, OpsArePlaced, OpsAreOfTable, FitsCall, CallsFit, IsCalledBlock, CalledAreThere, block_signatures}
 use Rattle.machine.specs.Code.{Code, BlockHead}
 use Rattle.machine.specs.Fitting.{OpenCodes, FrameFits, FramesFit, FitsBlock, ActivationFits}
 use Rattle.flat_code.specs.Forms.{is_callable_number, kind_of_code, payload_fits}

@@ -14,11 +14,11 @@ use Rattle.flat_code.specs.Loading.{Verifies}
 use Rattle.flat_code.specs.OpCodes.{op_code_of as op_code}
 use Rattle.flat_code.specs.Ops.{OpData}
 use Rattle.flat_code.specs.declared.operands.Operand.TheVariants as operand
-use Rattle.flat_code.specs.Placed.{PlacedOp, ops_placed, code_places, op_placed, line_placed, begins_its_statement, is_empty_list, brackets_after, zones_behind_op, before_next, ending_op, last_op}
+use Rattle.flat_code.specs.PlacedOps.{PlacedOp, ops_placed, code_places, op_placed, line_placed, begins_its_statement, is_empty_list, brackets_after, zones_behind_op, before_next, ending_op, last_op}
 use Rattle.flat_code.specs.Programs.{CodeBlock, Program}
 use Rattle.flat_code.specs.Operations.{operation_of}
 use Rattle.image_file.specs.Readers.{block_by_id}
-use Rattle.image_file.specs.Verified.{placed_at, IsVerifiedOp, HasNext}
+use Rattle.image_file.specs.VerifiedProgram.{placed_at, IsVerifiedOp, HasNext}
 use Rattle.machine.specs.Flat.{OpRun, op_run_at, with_op, most_ops_of_statement, fetched_of, statement_fetched, code_of}
 use Rattle.machine.specs.ImageLaws.{ImageLaws}
 use Rattle.machine.specs.Fitting.{OpenAt}

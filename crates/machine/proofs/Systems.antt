@@ -17,7 +17,7 @@ use Rattle.plc_mem.specs.Places.{HasImage}
 use Rattle.plc_mem.specs.Writing.{number_written}
 use Rattle.plc_base.specs.Widths.{bit_count}
 use Rattle.plc_mem.specs.Run.{number_over}
-use Rattle.plc_mem.proofs.Kept.{number_fits, over_fits}
+use Rattle.plc_mem.proofs.KeptMemory.{number_fits, over_fits}
 use Rattle.plc_mem.proofs.Runs.{chained_value}
 use Rattle.plc_mem.proofs.Lawful.{reads_where_each_bit_exists, writing_exists}
 use Rattle.frames.specs.Locals.{LocalData, local_operand_start, local_number, local_written}
@@ -44,7 +44,7 @@ use Rattle.machine.specs.Statement.{GlobalStore, after_system_call, system_call_
 use Rattle.machine.specs.SystemCalls.{system_call_arguments, input_of, inputs_from, result_from, system_call, system_function}
 use Rattle.machine.specs.Values.{with_locals, stored_at}
 use Rattle.machine.proofs.BindingLemmas.{PassingsFit, is_among, bound_of}
-use Rattle.machine.proofs.Called.{Caller, caller, function_bound, caller_binds, caller_known, going_fits}
+use Rattle.machine.proofs.CallLemmas.{Caller, caller, function_bound, caller_binds, caller_known, going_fits}
 use Rattle.machine.proofs.Errors.{IfKnownError}
 use Rattle.machine.proofs.FrameBytes.{mapped_there, lies_written, locals_moved}
 use Rattle.machine.proofs.Keeping.{IfDone}

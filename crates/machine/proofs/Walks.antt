@@ -5,7 +5,7 @@ use Rattle.std.specs.Option.{option_map}
 use Rattle.plc_mem.specs.Areas.{Areas}
 use Rattle.frames.specs.declared.bindings.Binding.{Binding}
 use Rattle.flat_code.specs.Ops.{OpData}
-use Rattle.flat_code.specs.Placed.{op_placed}
+use Rattle.flat_code.specs.PlacedOps.{op_placed}
 use Rattle.flat_code.specs.declared.operands.Operand.{Operand}
 use Rattle.flat_code.specs.declared.operands.Operand.TheVariants as operand
 use Rattle.flat_code.specs.declared.programs.Param.{Param}

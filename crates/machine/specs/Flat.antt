@@ -7,7 +7,7 @@ use Rattle.flat_code.specs.Instr.{Instr, Does, Jumps, JumpsByList, Calls, Return
 use Rattle.flat_code.specs.Forms.{kind_of_code}
 use Rattle.flat_code.specs.Kinds.{jump_of_number}
 use Rattle.flat_code.specs.Ops.{OpData}
-use Rattle.flat_code.specs.Placed.{op_placed, line_placed}
+use Rattle.flat_code.specs.PlacedOps.{op_placed, line_placed}
 use Rattle.flat_code.specs.Programs.{CodeBlock, DataBlock, Program}
 use Rattle.flat_code.specs.Operations.{operation_of}
 use Rattle.flat_code.specs.declared.kinds.JumpOperation.{JumpOperation}

@@ -1,5 +1,5 @@
 -- What verifying a program gives the machine: the laws of image_file together.
-use Rattle.image_file.specs.Verified.{OpsArePlaced, OpsAreOfTable, BlocksAreRight, CodeGoesOn, StatementsAreRight, StatementsHaveLines, BracketsFit, ZonesFit, JumpsLand, ListsLead, OperandsFit, PreparedFit, CallsFit, PassedFit, CalledAreThere}
+use Rattle.image_file.specs.VerifiedProgram.{OpsArePlaced, OpsAreOfTable, BlocksAreRight, CodeGoesOn, StatementsAreRight, StatementsHaveLines, BracketsFit, ZonesFit, JumpsLand, ListsLead, OperandsFit, PreparedFit, CallsFit, PassedFit, CalledAreThere}
 
 -- laws of each block and op of each program that verifies
 pub record ImageLaws : Type 0 where

@@ -28,4 +28,4 @@ pub mod OpenBrackets
 pub mod ImageLaws
 pub mod Lasting
 pub mod Walking
-pub mod Moved
+pub mod MovedCode

@@ -2,7 +2,7 @@
 -- Siemens, Statement List (STL): Bit Logic Instructions, "Nesting Open" and "Nesting Closed".
 use Rattle.std.specs.Prelude.{ℕ, ◌==◌, length, if◌then◌else◌, List, [], ◌∷◌, Result, Ok, Err}
 use Rattle.plc_base.specs.declared.Check.{Check}
-use Rattle.flat_code.specs.Placed.{most_brackets}
+use Rattle.flat_code.specs.PlacedOps.{most_brackets}
 use Rattle.status_word.specs.Brackets.{entry_of, bracket_begun, bracket_ended}
 use Rattle.status_word.specs.declared.Bracket.{Bracket}
 use Rattle.machine.specs.ExecState.{Local}

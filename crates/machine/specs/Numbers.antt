@@ -6,9 +6,9 @@ use Rattle.status_word.specs.declared.Regs.{Regs}
 use Rattle.flat_code.specs.declared.operands.Operand.{Operand}
 use Rattle.flat_code.specs.declared.operands.Operand.TheVariants as operand
 use Rattle.flat_code.specs.declared.operations.AccuOperation.{AccuOperation}
-use Rattle.flat_code.specs.declared.operations.AccuOperation.TheVariants as number
+use Rattle.flat_code.specs.declared.operations.AccuOperation.TheVariants as accu_operation
 use Rattle.flat_code.specs.declared.operations.AddConstant.{AddConstant}
-use Rattle.flat_code.specs.declared.operations.AddConstant.TheVariants as adding
+use Rattle.flat_code.specs.declared.operations.AddConstant.TheVariants as add_constant
 use Rattle.flat_code.specs.declared.operations.Logic.{Logic}
 use Rattle.flat_code.specs.declared.operations.Logic.TheVariants as logic
 use Rattle.flat_code.specs.declared.operations.Shift.{Shift}
@@ -28,31 +28,31 @@ from_bcd found = ok_or found errors.bad_bcd
 
 -- the effect on the registers of an accumulator or number instruction without operand
 unfoldable pub number_effect : AccuOperation → Regs → Result Regs ℕ
-number_effect number.Tak r = Ok (accumulators_toggled r)
-number_effect number.Push r = Ok (accumulator_pushed r)
-number_effect number.Pop r = Ok (accumulator_popped r)
-number_effect number.Caw r = Ok (with_word_reversed r)
-number_effect number.Cad r = Ok (with_bytes_reversed r)
-number_effect number.AddI r = Ok (accumulators_added 16 r)
-number_effect number.SubI r = Ok (accumulators_subtracted 16 r)
-number_effect number.MulI r = Ok (accumulators_multiplied 16 r)
-number_effect number.DivI r = Ok (divided_i r)
-number_effect number.AddD r = Ok (accumulators_added 32 r)
-number_effect number.SubD r = Ok (accumulators_subtracted 32 r)
-number_effect number.MulD r = Ok (accumulators_multiplied 32 r)
-number_effect number.DivD r = Ok (divided_d r)
-number_effect number.Mod r = Ok (remainder_d r)
-number_effect number.Bti r = from_bcd (from_bcd_word r)
-number_effect number.Itb r = Ok (to_bcd_word r)
-number_effect number.Btd r = from_bcd (from_bcd_dword r)
-number_effect number.Dtb r = Ok (to_bcd_dword r)
-number_effect number.Itd r = Ok (accumulator_widened r)
-number_effect number.Invi r = Ok (accumulator_inverted 16 r)
-number_effect number.Invd r = Ok (accumulator_inverted 32 r)
-number_effect number.Negi r = Ok (accu_negated 16 r)
-number_effect number.Negd r = Ok (accu_negated 32 r)
-number_effect number.Rlda r = Ok (rotated_left_through r)
-number_effect number.Rrda r = Ok (rotated_right_through r)
+number_effect accu_operation.Tak r = Ok (accumulators_toggled r)
+number_effect accu_operation.Push r = Ok (accumulator_pushed r)
+number_effect accu_operation.Pop r = Ok (accumulator_popped r)
+number_effect accu_operation.Caw r = Ok (with_word_reversed r)
+number_effect accu_operation.Cad r = Ok (with_bytes_reversed r)
+number_effect accu_operation.AddI r = Ok (accumulators_added 16 r)
+number_effect accu_operation.SubI r = Ok (accumulators_subtracted 16 r)
+number_effect accu_operation.MulI r = Ok (accumulators_multiplied 16 r)
+number_effect accu_operation.DivI r = Ok (divided_i r)
+number_effect accu_operation.AddD r = Ok (accumulators_added 32 r)
+number_effect accu_operation.SubD r = Ok (accumulators_subtracted 32 r)
+number_effect accu_operation.MulD r = Ok (accumulators_multiplied 32 r)
+number_effect accu_operation.DivD r = Ok (divided_d r)
+number_effect accu_operation.Mod r = Ok (remainder_d r)
+number_effect accu_operation.Bti r = from_bcd (from_bcd_word r)
+number_effect accu_operation.Itb r = Ok (to_bcd_word r)
+number_effect accu_operation.Btd r = from_bcd (from_bcd_dword r)
+number_effect accu_operation.Dtb r = Ok (to_bcd_dword r)
+number_effect accu_operation.Itd r = Ok (accumulator_widened r)
+number_effect accu_operation.Invi r = Ok (accumulator_inverted 16 r)
+number_effect accu_operation.Invd r = Ok (accumulator_inverted 32 r)
+number_effect accu_operation.Negi r = Ok (accu_negated 16 r)
+number_effect accu_operation.Negd r = Ok (accu_negated 32 r)
+number_effect accu_operation.Rlda r = Ok (rotated_left_through r)
+number_effect accu_operation.Rrda r = Ok (rotated_right_through r)
 
 -- the constant of an operand, cut to w bits; None where there is no operand
 abbrev pub constant_in : (w : ℕ) → Operand → Option ℕ
@@ -67,10 +67,10 @@ constant_or_zero w _ = 0
 
 -- registers after INC, DEC or + with a constant of 16 or 32 bits
 unfoldable pub with_constant : AddConstant → Operand → Regs → Regs
-with_constant adding.Inc o r = accumulator_increased 8 (constant_or_zero 8 o) r
-with_constant adding.Dec o r = accumulator_decreased 8 (constant_or_zero 8 o) r
-with_constant adding.Word o r = accumulator_increased 16 (constant_or_zero 16 o) r
-with_constant adding.Dword o r = accumulator_increased 32 (constant_or_zero 32 o) r
+with_constant add_constant.Inc o r = accumulator_increased 8 (constant_or_zero 8 o) r
+with_constant add_constant.Dec o r = accumulator_decreased 8 (constant_or_zero 8 o) r
+with_constant add_constant.Word o r = accumulator_increased 16 (constant_or_zero 16 o) r
+with_constant add_constant.Dword o r = accumulator_increased 32 (constant_or_zero 32 o) r
 
 -- registers after AW, OW, XOW, AD, OD or XOD, with a constant or accumulator 2
 unfoldable pub word_logic_effect : Logic → Operand → Regs → Regs

@@ -6,10 +6,10 @@ use Rattle.status_word.specs.declared.Check.TheVariants as check
 use Rattle.flat_code.specs.declared.image_fields.OpenBracket.{OpenBracket}
 use Rattle.flat_code.specs.OpCodes.{op_code_of}
 use Rattle.flat_code.specs.declared.operations.Operation.TheVariants as operation
-use Rattle.flat_code.specs.Placed.{PlacedOp, code_places, begins_its_statement, bracket_codes}
+use Rattle.flat_code.specs.PlacedOps.{PlacedOp, code_places, begins_its_statement, bracket_codes}
 use Rattle.flat_code.specs.Programs.{CodeBlock, Program}
 use Rattle.image_file.specs.Readers.{block_by_id}
-use Rattle.image_file.specs.Verified.{placed_at}
+use Rattle.image_file.specs.VerifiedProgram.{placed_at}
 use Rattle.machine.specs.Fitting.{OpenAt, OpenCodes}
 
 -- the function code of a bracket by the op that opens it

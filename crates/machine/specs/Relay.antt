@@ -4,7 +4,7 @@ use Rattle.std.specs.Prelude.{ℕ, ◌==◌, Bool, true, false, ◌&&◌, not, l
 use Rattle.status_word.specs.Store.{after_store}
 use Rattle.frames.specs.Relay.{is_zone_closed, zone_opened, zone_ended}
 use Rattle.frames.specs.declared.relay.Relay.{Relay}
-use Rattle.flat_code.specs.Placed.{is_empty_list, most_zones}
+use Rattle.flat_code.specs.PlacedOps.{is_empty_list, most_zones}
 use Rattle.flat_code.specs.declared.operations.RelayOperation.{RelayOperation}
 use Rattle.flat_code.specs.declared.operations.RelayOperation.TheVariants as relay
 use Rattle.machine.specs.ExecState.{Local}

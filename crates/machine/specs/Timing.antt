@@ -5,7 +5,7 @@ use Rattle.plc_base.specs.ErrorCodes as errors
 use Rattle.plc_base.specs.declared.TimerKind.{TimerKind}
 use Rattle.plc_mem.specs.Areas.{Areas}
 use Rattle.status_word.specs.declared.Regs.{Regs}
-use Rattle.timers_counters.specs.Numbered.{change_at_number, change_always}
+use Rattle.timers_counters.specs.ByNumber.{change_at_number, change_always}
 use Rattle.timers_counters.specs.Timer.{Timer, start_timer, reset_timer, free_timer}
 use Rattle.timers_counters.specs.Counter.{Counter, count_up, count_down, set_counter, reset_counter, free_counter}
 use Rattle.frames.specs.declared.running.Running.{Running}

@@ -8,7 +8,7 @@ use Rattle.plc_mem.specs.Writing.{number_written}
 use Rattle.status_word.specs.Flags.{flag_value}
 use Rattle.timers_counters.specs.declared.faults.TimerFault.{TimerFault}
 use Rattle.timers_counters.specs.declared.faults.TimerFault.TheVariants.{NoNumber, BadBcd}
-use Rattle.timers_counters.specs.Numbered.{read_at_number}
+use Rattle.timers_counters.specs.ByNumber.{read_at_number}
 use Rattle.timers_counters.specs.Timer.{Timer, units_left, time_left}
 use Rattle.timers_counters.specs.Counter.{Counter, is_counting, count_bcd}
 use Rattle.frames.specs.Locals.{LocalData, local_written}

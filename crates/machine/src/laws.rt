@@ -23,7 +23,7 @@ ghost use Rattle.machine.specs.ImageLaws.{ImageLaws};
 ghost use Rattle.machine.specs.Lasting.{FitsProgram, GoesOnFitting, IsStatementReady, StepFitsAgain, LeavesFit, first_frame, ob_block};
 ghost use Rattle.machine.specs.Results.{GivesResult};
 ghost use Rattle.machine.specs.Statement.{GlobalStore, step_found, statement_step, IsNotStuck, IsOutcomeOf};
-ghost use Rattle.machine.specs.Moved.{StatementsMove};
+ghost use Rattle.machine.specs.MovedCode.{StatementsMove};
 ghost use Rattle.machine.specs.There.{is_statement_complete};
 
 /// A statement that is there, with what it calls, goes.

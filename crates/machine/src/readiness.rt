@@ -6,7 +6,7 @@ ghost use Rattle.flat_code.specs.Ops.{OpData};
 ghost use Rattle.machine.specs.Flat.{code_of, block_head_of, instr_of, statement_fetched};
 ghost use Rattle.machine.specs.Statement.{GlobalStore, statement_step as statement_of, IsNotStuck};
 ghost use Rattle.machine.specs.There.{is_block_callable as is_callee_of, is_called_block_there, is_statement_complete, is_activation_ready as is_ready_of};
-ghost use Rattle.flat_code.specs.Placed.{line_placed};
+ghost use Rattle.flat_code.specs.PlacedOps.{line_placed};
 
 use crate::fetching::Fetched;
 use crate::system_calls::system_function;

@@ -2,7 +2,7 @@
 ghost use Rattle.std.specs.Prelude.{◌≡◌, ◌≤◌, length, MatchResult, Ok, Err};
 ghost use Rattle.std.specs.Option.{option_map};
 ghost use Rattle.flat_code.specs.Kinds.{jump_of_number as jump_of_kind};
-ghost use Rattle.flat_code.specs.Placed.{op_placed};
+ghost use Rattle.flat_code.specs.PlacedOps.{op_placed};
 ghost use Rattle.machine.specs.ExecState.{local_of};
 ghost use Rattle.machine.specs.Flat.{op_run_at, most_ops_of_statement, list_of, most_listed};
 ghost use Rattle.machine.specs.Jumps.{list_goal};

@@ -5,7 +5,7 @@ pub mod Changes
 pub mod Decimal
 pub mod ErrorCodes
 pub mod Folding
-pub mod Gathered
+pub mod RefusalsAlong
 pub mod Kinds
 pub mod Least
 pub mod Pointer

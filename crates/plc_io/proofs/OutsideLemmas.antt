@@ -7,7 +7,7 @@ use Rattle.std.proofs.lemmas.List.{append-nil, length-take-le, take_rest}
 use Rattle.plc_io.specs.Contents.{Contents, ReadsFrom, SameFiles}
 use Rattle.plc_io.specs.Counts.{CountsFailureByName, CountRose, SameCounts, last_count}
 use Rattle.plc_io.specs.Moments.{SinkAt}
-use Rattle.plc_io.specs.Taken.{OfferedPiece, TookBytes, TookFront}
+use Rattle.plc_io.specs.SinkBytes.{OfferedPiece, TookBytes, TookFront}
 use Rattle.plc_io.specs.declared.faults.IoFault.{IoFault}
 use Rattle.plc_io.specs.declared.faults.IoFault.TheVariants.{Failed, NoMemory}
 

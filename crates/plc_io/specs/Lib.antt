@@ -4,5 +4,5 @@ pub mod Counts
 pub mod FileCalls
 pub mod Moments
 pub mod NamedFiles
-pub mod Taken
-pub mod Untold
+pub mod SinkBytes
+pub mod CountsAlone

@@ -1,7 +1,7 @@
 ghost use Rattle.std.specs.Prelude.{◌≡◌, ◌≤◌, ◌+◌, ◌++◌, take, ◌<◌, length, vec_len, IfOk};
 ghost use Rattle.plc_io.specs.Contents.{IsFrontOfFile, ReadsFrom};
 ghost use Rattle.plc_io.specs.FileCalls.{LeavesRead};
-ghost use Rattle.plc_io.specs.Taken.{WroteText};
+ghost use Rattle.plc_io.specs.SinkBytes.{WroteText};
 
 use crate::faults::IoFault;
 use crate::traits::{Files, Sink};

@@ -18,7 +18,7 @@ ghost use Rattle.plc_io.specs.Calls.{NoCalls, after_call, is_next_to_fail, read_
 ghost use Rattle.plc_io.specs.Contents.{IsPiece, ReadsFrom};
 ghost use Rattle.plc_io.specs.FileCalls.{LeavesRead, LeavesWritten};
 ghost use Rattle.plc_io.specs.NamedFiles.{bytes_of, contents_of, memory_files, with_file};
-ghost use Rattle.plc_io.specs.Taken.{OfferedPiece, told_sink};
+ghost use Rattle.plc_io.specs.SinkBytes.{OfferedPiece, told_sink};
 
 use crate::calls::Calls;
 use crate::faults::{IoFault, NoMemory};

@@ -1,5 +1,5 @@
 ghost use Rattle.std.specs.Prelude.{◌≡◌, ◌≤◌, length, IfOk};
-ghost use Rattle.plc_io.specs.Untold.{untold_files, untold_sink};
+ghost use Rattle.plc_io.specs.CountsAlone.{untold_files, untold_sink};
 
 use crate::faults::IoFault;
 use crate::traits::{Files, Gate, Sink};

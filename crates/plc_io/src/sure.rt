@@ -2,7 +2,7 @@ ghost use Rattle.std.specs.Prelude.{◌≡◌, ◌-◌, ◌++◌, [], length, mi
 ghost use Rattle.plc_io.specs.Contents.{ReadsFrom};
 ghost use Rattle.plc_io.specs.FileCalls.{LeavesRead, LeavesWritten};
 ghost use Rattle.plc_io.specs.NamedFiles.{bytes_or_empty, sure_contents_of, sure_files, with_file};
-ghost use Rattle.plc_io.specs.Taken.{OfferedPiece, told_sink};
+ghost use Rattle.plc_io.specs.SinkBytes.{OfferedPiece, told_sink};
 
 use crate::faults::{IoFault, NoMemory};
 use crate::lists::{Bytes, NamedFiles};

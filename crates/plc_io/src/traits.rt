@@ -2,7 +2,7 @@ ghost use Rattle.std.specs.Prelude.{◌≡◌, ℕ, IfOk};
 ghost use Rattle.plc_io.specs.Contents.{ReadsFrom};
 ghost use Rattle.plc_io.specs.FileCalls.{LeavesRead, LeavesWritten};
 ghost use Rattle.plc_io.specs.Moments.{FilesAt, SinkAt};
-ghost use Rattle.plc_io.specs.Taken.{OfferedPiece};
+ghost use Rattle.plc_io.specs.SinkBytes.{OfferedPiece};
 
 use crate::faults::IoFault;
 

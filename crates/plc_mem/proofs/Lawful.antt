@@ -26,7 +26,7 @@ use Rattle.plc_base.specs.Profiles.{bit_memory_size}
 use Rattle.plc_base.specs.declared.Profile.{Profile}
 use Rattle.plc_mem.specs.Places.{IsBitMemory, IsRun, SamePlaces, IsMemory, IsPeripheral, AreByteValues, HasImage, HasParts}
 use Rattle.plc_mem.specs.Writing.{number_written, number_written_in, put_number, put_peripheral, put_in_block, is_within}
-use Rattle.plc_mem.specs.Written.{IsNumberWritten, bit_after_write, value_of_bit}
+use Rattle.plc_mem.specs.WrittenBits.{IsNumberWritten, bit_after_write, value_of_bit}
 use Rattle.plc_mem.specs.Run.{number_over, operand_bit_of}
 use Rattle.plc_base.specs.AreaBytes.{is_peripheral_byte}
 use Rattle.plc_mem.specs.Peripherals.{with_input, outputs_cleared}
@@ -37,7 +37,7 @@ use Rattle.plc_mem.proofs.Numbers.{weights_none, no_byte as nothing, run_none, b
 use Rattle.plc_mem.proofs.Writes.{written_is, input_written, number_of_region}
 use Rattle.plc_mem.proofs.OneMemory.{found_block, has_image, written_in_memory}
 use Rattle.plc_mem.proofs.Runs.{none_some, in_low, in_high, no_weight, PartPut, part_put, put_within}
-use Rattle.plc_mem.proofs.Stored.{kept_bit}
+use Rattle.plc_mem.proofs.StoredNumbers.{kept_bit}
 
 -- ---- which numbers there are
 

@@ -1,11 +1,11 @@
 pub mod OneBit
 pub mod BlockLemmas
 pub mod Numbers
-pub mod Stored
+pub mod StoredNumbers
 pub mod Runs
 pub mod Writes
 pub mod Extensional
 pub mod OneMemory
 pub mod Lawful
-pub mod Kept
+pub mod KeptMemory
 pub mod UpperLemmas

@@ -15,7 +15,7 @@ use Rattle.plc_base.specs.Profiles.{bit_memory_size}
 use Rattle.plc_mem.specs.Places.{IsBitMemory, AreByteValues, IsRun, IsPeripheral, IsMemory, HasImage}
 use Rattle.plc_mem.specs.Writing.{is_within, bytes_with_number, byte_with_bit, put_number, put_peripheral, put_in_block, number_written_in, number_written}
 use Rattle.std.specs.Option.{option_map}
-use Rattle.plc_mem.specs.Written.{IsNumberWritten, bit_after_write}
+use Rattle.plc_mem.specs.WrittenBits.{IsNumberWritten, bit_after_write}
 use Rattle.plc_mem.specs.Laws.{BitsDetermineMemory, WritingGivesTheOneMemory}
 use Rattle.plc_mem.proofs.Writes.{written_is}
 use Rattle.plc_mem.proofs.Extensional.{same_memory}

@@ -17,9 +17,9 @@ use Rattle.plc_mem.specs.Bits.{bit_of_byte, peripheral_byte, block_byte}
 use Rattle.plc_base.specs.Widths.{bit_count, byte_count}
 use Rattle.plc_mem.specs.Run.{number_over}
 use Rattle.plc_mem.specs.Writing.{is_within, bytes_with_number, put_number, put_peripheral, put_in_block}
-use Rattle.plc_mem.specs.Written.{weight_in, value_of_bit}
+use Rattle.plc_mem.specs.WrittenBits.{weight_in, value_of_bit}
 use Rattle.plc_mem.proofs.Numbers.{low_number, high_number}
-use Rattle.plc_mem.proofs.Stored.{stored_after, stored_number, length-stored, kept_bit}
+use Rattle.plc_mem.proofs.StoredNumbers.{stored_after, stored_number, length-stored, kept_bit}
 
 pub none_some : {A : Type 0} (x : A) → None ≡ Some x → ⊥
 none_some x e = cc

@@ -15,12 +15,12 @@ use Rattle.plc_mem.specs.Number.{region_number, region_of, region_written}
 use Rattle.plc_mem.specs.Places.{HasImage}
 use Rattle.plc_mem.specs.Run.{number_over}
 use Rattle.plc_mem.specs.Writing.{is_within, bytes_with_number, put_number, put_peripheral, put_in_block, number_written_in, number_written}
-use Rattle.plc_mem.specs.Written.{IsNumberWrittenIn, IsNumberWritten, bit_after_write, value_of_bit, weight_in}
+use Rattle.plc_mem.specs.WrittenBits.{IsNumberWrittenIn, IsNumberWritten, bit_after_write, value_of_bit, weight_in}
 use Rattle.std.specs.Ordering.{nat_cmp}
 use Rattle.std.proofs.lemmas.Option.{slice_get_past}
 use Rattle.plc_mem.proofs.Numbers.{no_byte}
 use Rattle.plc_mem.proofs.Runs.{mapped_value, part_put, put_done, bit_stays, none_some, run_after, run_holds, peripheral_after, peripheral_holds, block_after, block_holds, block_loaded}
-use Rattle.plc_mem.proofs.Stored.{kept_bit}
+use Rattle.plc_mem.proofs.StoredNumbers.{kept_bit}
 
 -- the number in an operand of a region is that of its bytes
 pub number_of_region : (m : Areas) (region : Region) (place : Place) (width : Width) → region_number m region place width ≡ number_over (region_byte m region) place.byte place.bit width

@@ -15,7 +15,7 @@ use Rattle.plc_mem.specs.Peripherals.{with_input, outputs_cleared, AreOutputsCle
 use Rattle.plc_mem.specs.Places.{AreByteValues, IsMemory, SameBlocks, SamePlaces}
 use Rattle.plc_mem.specs.Refresh.{memory_refreshed, IsRefreshed}
 use Rattle.plc_mem.specs.Writing.{number_written}
-use Rattle.plc_mem.specs.Written.{IsNumberWritten}
+use Rattle.plc_mem.specs.WrittenBits.{IsNumberWritten}
 
 -- Two memories with the same loaded data blocks and the same bits at every bit place are the same.
 abbrev pub BitsDetermineMemory : (m n : Areas) → Type 0

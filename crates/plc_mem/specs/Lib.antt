@@ -11,5 +11,5 @@ pub mod Refresh
 pub mod Restart
 pub mod Changes
 pub mod Places
-pub mod Written
+pub mod WrittenBits
 pub mod Laws

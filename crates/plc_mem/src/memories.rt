@@ -14,7 +14,7 @@ ghost use Rattle.plc_mem.specs.Peripherals.{with_input, output_of, outputs_clear
 ghost use Rattle.plc_mem.specs.Refresh.{memory_refreshed};
 ghost use Rattle.plc_mem.specs.Restart.{retained_bit_memory, memory_after_restart};
 ghost use Rattle.plc_mem.specs.Writing.{put_number, number_written, number_written_in};
-ghost use Rattle.plc_mem.specs.Written.{IsNumberWritten};
+ghost use Rattle.plc_mem.specs.WrittenBits.{IsNumberWritten};
 ghost use Rattle.plc_mem.specs.Places.{AreBlocks, HasImage, IsMemory};
 ghost use Rattle.plc_mem.specs.BitPlace.{Inputs, Outputs, BitMemory, PeripheralOutputs, DataBlock};
 

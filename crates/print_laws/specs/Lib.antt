@@ -1,3 +1,3 @@
 pub mod Standing
 pub mod Reading
-pub mod Printed
+pub mod PrintedTree

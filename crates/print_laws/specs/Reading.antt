@@ -12,7 +12,7 @@ use Rattle.stl_lexer.specs.Pieces.{ShowPieces, tokens_of}
 use Rattle.stl_ast.specs.Blocks.{is_parameter, may_declare, may_have_section}
 use Rattle.stl_ast.specs.Declarations.{is_elementary}
 use Rattle.stl_ast.specs.Literals.{IsDecimal, IsLong}
-use Rattle.stl_ast.specs.Operands.{IsBitOf, IsNumber}
+use Rattle.stl_ast.specs.Operands.{IsBitOf, IsNumber, ar1_register, ar2_register}
 use Rattle.stl_ast.specs.WellFormed.{AreSectionsInOrder}
 use Rattle.stl_ast.specs.declared.blocks.Block.{Block}
 use Rattle.stl_ast.specs.declared.blocks.Part.{Part}
@@ -124,9 +124,9 @@ abbrev pub IsBlockOf : Option BlockName → Letters → Type 0
 IsBlockOf None area = Unit {0}
 IsBlockOf (Some name) area = IsDataBlock name × (area ≡ letters.Db)
 
--- an address register by its number: 1 is AR1, 2 is AR2
+-- AR1 or AR2, by its number
 abbrev pub IsAddressRegister : (register : ℕ) → Type 0
-IsAddressRegister register = (register ≡ 1) ⊎ (register ≡ 2)
+IsAddressRegister register = (register ≡ ar1_register) ⊎ (register ≡ ar2_register)
 
 -- the operands of a listing that stand behind any instruction but jumps, calls and OPN
 abbrev pub IsPrintedOperand : Operand → Type 0

@@ -1,4 +1,4 @@
-ghost use Rattle.print_laws.specs.Printed.{ArePrintedSourcesRead};
+ghost use Rattle.print_laws.specs.PrintedTree.{ArePrintedSourcesRead};
 
 use crate::reading::law_of_printed_tree;
 use crate::standing::law_of_printed_tokens;

@@ -4,9 +4,9 @@ use Rattle.plc_base.specs.declared.BlockId.{BlockId}
 use Rattle.plc_base.specs.declared.Refusal.{Refusal}
 use Rattle.plc_io.specs.Contents.{Contents}
 use Rattle.plc_io.specs.Moments.{FilesAt}
-use Rattle.plc_io.specs.Taken.{TookBytes, TookPrefix}
+use Rattle.plc_io.specs.SinkBytes.{TookBytes, TookPrefix}
 use Rattle.flat_code.specs.Loading.{Verifies, faults_of}
-use Rattle.image_file.specs.Loaded.{LoadedProgram}
+use Rattle.image_file.specs.LoadedProgram.{LoadedProgram}
 use Rattle.image_file.specs.Refusing.{IsLoadError}
 use Rattle.image_file.specs.declared.faults.LoadFault.{LoadFault}
 use Rattle.image_file.specs.declared.refusing.LoadError.{LoadError}

@@ -1,7 +1,7 @@
 -- The line of a command's failure is written behind what it did.
 use Rattle.std.proofs.Common.{◌≡◌, inl, inr, sym, subst, ℕ, List, take, Option, Some, Ok, Err}
 use Rattle.plc_io.specs.Moments.{SinkAt}
-use Rattle.plc_io.specs.Taken.{TookBytes}
+use Rattle.plc_io.specs.SinkBytes.{TookBytes}
 use Rattle.s7_cli.specs.declared.failures.Failure.{Failure}
 use Rattle.s7_cli.specs.declared.failures.Failure.TheVariants.{WordsRefused, ReadFault, TooLong, Refused, ImageRefused, NoListing, SaysNo, TooDeep, WriteFault, NoMemory}
 use Rattle.s7_cli.specs.Command.{Command}

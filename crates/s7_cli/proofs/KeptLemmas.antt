@@ -6,7 +6,7 @@ use Rattle.var_access.specs.declared.Entry.{Entry}
 use Rattle.flat_code.specs.Loading.{IsLoadable}
 use Rattle.flat_code.specs.Programs.{NameEntry, Program}
 use Rattle.flat_code.specs.Stamps.{profile_of}
-use Rattle.image_file.specs.Loaded.{LoadedProgram}
+use Rattle.image_file.specs.LoadedProgram.{LoadedProgram}
 use Rattle.image_file.specs.Laws.{GivesExactlyImages, ImagesAreOfOne}
 use Rattle.image_file.specs.declared.faults.LoadFault.{LoadFault}
 use Rattle.machine.specs.Code.{Code}

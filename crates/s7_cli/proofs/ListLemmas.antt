@@ -6,7 +6,7 @@ use Rattle.flat_code.specs.Programs.{Program}
 use Rattle.flat_code.specs.declared.stamps.Stamp.TheVariants.{Two}
 use Rattle.plc_base.specs.declared.profiles.Profile.TheVariants.{Large}
 use Rattle.image_file.specs.Laws.{ImagesAreOfOne}
-use Rattle.image_file.specs.Loaded.{LoadedProgram}
+use Rattle.image_file.specs.LoadedProgram.{LoadedProgram}
 use Rattle.image_file.specs.Refusing.{IsLoadError}
 use Rattle.image_file.specs.declared.faults.LoadFault.{LoadFault}
 use Rattle.image_file.specs.declared.refusing.LoadError.{LoadError}
@@ -14,7 +14,7 @@ use Rattle.image_file.specs.declared.refusing.LoadError.TheVariants as loading
 use Rattle.plc_io.specs.Contents.{Contents}
 use Rattle.sem_kept.specs.Agreement.{ImageKeepsSourceIn}
 use Rattle.sem_kept.specs.Compiles.{CompilesTo, IsProgramUnique}
-use Rattle.listing_laws.specs.Compiled.{ListingsCompile}
+use Rattle.listing_laws.specs.ListingCompiles.{ListingsCompile}
 use Rattle.stl_list.specs.Listing.{listed_source}
 use Rattle.stl_list.specs.Symbols.{listed_names}
 use Rattle.stl_symbols.specs.declared.languages.Language.{Language}

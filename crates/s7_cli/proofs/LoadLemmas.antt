@@ -8,7 +8,7 @@ use Rattle.flat_code.specs.Stamps.{profile_of}
 use Rattle.flat_code.specs.declared.stamps.Stamp.{Stamp}
 use Rattle.image_file.specs.Images.{IsImageOf}
 use Rattle.image_file.specs.Least.{IsFaultAmong, IsLeastFault, IsUpTo}
-use Rattle.image_file.specs.Loaded.{LoadedProgram}
+use Rattle.image_file.specs.LoadedProgram.{LoadedProgram}
 use Rattle.image_file.specs.declared.faults.LoadFault.{LoadFault}
 use Rattle.s7_cli.specs.Loads.{IsImageOfLoadable, LoadsAs}
 

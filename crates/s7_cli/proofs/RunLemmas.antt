@@ -10,8 +10,8 @@ use Rattle.var_access.specs.declared.What.{What}
 use Rattle.controller.specs.declared.Observed.{Observed}
 use Rattle.controller.specs.Replay.{ContinuesReplay, EntryResult, entry_result, replay}
 use Rattle.controller.specs.State.{State}
-use Rattle.controller.specs.Replayed.{entry_events}
-use Rattle.sem_kept.specs.Kept.{BehavesAlike}
+use Rattle.controller.specs.ReplayResult.{entry_events}
+use Rattle.sem_kept.specs.KeptProgram.{BehavesAlike}
 use Rattle.monitor.specs.LineText.{end_text}
 use Rattle.s7_cli.specs.run_text.RunText.{data_blocks_text, entry_text, entry_lines_from, replied_text, run_text, shown_text}
 

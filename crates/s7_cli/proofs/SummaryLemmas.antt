@@ -25,7 +25,7 @@ use Rattle.var_access.specs.declared.What.{What}
 use Rattle.controller.specs.Asking.{request_reply, read_reply, value_before, var_value, values_from}
 use Rattle.controller.specs.State.{State}
 use Rattle.controller.specs.Replay.{replay}
-use Rattle.sem_kept.specs.Kept.{BehavesAlike}
+use Rattle.sem_kept.specs.KeptProgram.{BehavesAlike}
 use Rattle.s7_cli.specs.GenText.{memory_byte, summary_of}
 
 byte-read : (m : Areas) → AreByteValues m.bit_memory → (n : ℕ) → n < length m.bit_memory

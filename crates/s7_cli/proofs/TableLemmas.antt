@@ -3,7 +3,7 @@ use Rattle.std.proofs.Common.{◌≡◌, ◌≢◌, ◌<◌, ◌≤◌, ◌⊎�
 use Rattle.plc_base.specs.declared.Refusal.{Refusal}
 use Rattle.plc_io.specs.Contents.{SameFiles}
 use Rattle.plc_io.specs.Counts.{CountRose}
-use Rattle.plc_io.specs.Taken.{TookBytes}
+use Rattle.plc_io.specs.SinkBytes.{TookBytes}
 use Rattle.s7_cli.specs.declared.failures.File.{File}
 use Rattle.s7_cli.specs.declared.failures.File.TheVariants.{Source, Translation, Symbols, Image, Listing, History, Stimuli, Vars, Script, Certificate}
 use Rattle.s7_cli.specs.declared.failures.Failure.{Failure}

@@ -1,7 +1,7 @@
 -- What `watch` says of the contents of its files: one outcome, and which.
 use Rattle.std.proofs.Common.{◌≡◌, inl, inr, sym, ◌∙◌, ap, subst, ℕ, List, Ok, Err, Result}
 use Rattle.plc_base.specs.declared.Refusal.{Refusal}
-use Rattle.image_file.specs.Loaded.{LoadedProgram}
+use Rattle.image_file.specs.LoadedProgram.{LoadedProgram}
 use Rattle.image_file.specs.declared.faults.LoadFault.{LoadFault}
 use Rattle.var_access.specs.declared.Entry.{Entry}
 use Rattle.var_access.specs.declared.Var.{Var}

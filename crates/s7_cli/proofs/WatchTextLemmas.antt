@@ -3,7 +3,7 @@ use Rattle.std.proofs.Common.{◌≡◌, ◌≤◌, refl, sym, ◌∙◌, subst,
 use Rattle.plc_base.specs.declared.Refusal.{Refusal}
 use Rattle.plc_io.specs.Contents.{Contents}
 use Rattle.flat_code.specs.Loading.{faults_of}
-use Rattle.image_file.specs.Loaded.{LoadedProgram}
+use Rattle.image_file.specs.LoadedProgram.{LoadedProgram}
 use Rattle.image_file.specs.Refusing.{IsLoadError}
 use Rattle.image_file.specs.declared.refusing.LoadError.{LoadError}
 use Rattle.image_file.specs.declared.refusing.LoadError.TheVariants as loading

@@ -1,7 +1,7 @@
 -- What `bound` and `recheck` find out before they write.
 use Rattle.std.specs.Prelude.{◌≡◌, ℕ, List, Ok}
 use Rattle.plc_base.specs.declared.blocks.BlockId.{BlockId}
-use Rattle.image_file.specs.Loaded.{LoadedProgram}
+use Rattle.image_file.specs.LoadedProgram.{LoadedProgram}
 use Rattle.stack_bound.specs.Certificates.{IsCertificateOf}
 use Rattle.stack_bound.specs.CertificateText.{SpellsCertificate, certificate_text}
 use Rattle.stack_bound.specs.ChainText.{chain_text}

@@ -3,7 +3,7 @@ use Rattle.std.specs.Prelude.{◌≡◌, ◌≤◌, ◌⊎◌, ℕ, List, [], �
 use Rattle.plc_io.specs.Contents.{SameFiles}
 use Rattle.plc_io.specs.Counts.{CountRose, SameCounts, NoCountFell}
 use Rattle.plc_io.specs.Moments.{SinkAt}
-use Rattle.plc_io.specs.Taken.{TookBytes, TookPrefix}
+use Rattle.plc_io.specs.SinkBytes.{TookBytes, TookPrefix}
 use Rattle.s7_cli.specs.declared.failures.Failure.TheVariants.{ReadFault, WriteFault, NoMemory}
 use Rattle.s7_cli.specs.Answer.{CallAnswer, CallOutcome, words_refused_answer, exit_status}
 use Rattle.s7_cli.specs.Command.{Command, inputs_of, outputs_of}

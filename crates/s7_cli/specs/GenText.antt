@@ -9,7 +9,7 @@ use Rattle.var_access.specs.declared.Entry.{Entry}
 use Rattle.var_access.specs.declared.Var.{Var}
 use Rattle.machine.specs.Code.{Code}
 use Rattle.controller.specs.Replay.{replay}
-use Rattle.controller.specs.Replayed.{entry_events}
+use Rattle.controller.specs.ReplayResult.{entry_events}
 use Rattle.controller.specs.State.{State}
 
 -- the words for a mode; for STOP with its cause. A run without OB 100 and without requests never

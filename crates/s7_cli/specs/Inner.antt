@@ -4,7 +4,7 @@ use Rattle.plc_io.specs.Contents.{SameFiles}
 use Rattle.plc_io.specs.Counts.{CountRose, SameCounts, NoCountFell}
 use Rattle.plc_io.specs.FileCalls.{LeavesWritten, AreFilesUnchanged}
 use Rattle.plc_io.specs.Moments.{FilesAt}
-use Rattle.plc_io.specs.Taken.{TookBytes, TookPrefix}
+use Rattle.plc_io.specs.SinkBytes.{TookBytes, TookPrefix}
 use Rattle.plc_io.specs.declared.faults.IoFault.TheVariants as fault
 use Rattle.s7_cli.specs.declared.failures.Failure.{Failure}
 use Rattle.s7_cli.specs.declared.finish.Output.{Output}

@@ -1,7 +1,7 @@
 -- What `list` answers for what its file holds, and what it writes.
 use Rattle.std.specs.Prelude.{◌≡◌, ◌<◌, ◌≤◌, ◌⊎◌, ℕ, List, length, Result, Ok, Err}
 use Rattle.flat_code.specs.Programs.{Program}
-use Rattle.image_file.specs.Loaded.{LoadedProgram}
+use Rattle.image_file.specs.LoadedProgram.{LoadedProgram}
 use Rattle.image_file.specs.declared.faults.LoadFault.{LoadFault}
 use Rattle.sem_kept.specs.Compiles.{CompilesTo}
 use Rattle.stl_list.specs.Listing.{listed_source}

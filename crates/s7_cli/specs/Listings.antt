@@ -1,7 +1,7 @@
 -- What listings compile to.
 use Rattle.std.specs.Prelude.{◌≡◌, Bool, true, ℕ, List, Option, Some, None, Ok}
 use Rattle.flat_code.specs.Programs.{Program}
-use Rattle.image_file.specs.Loaded.{LoadedProgram}
+use Rattle.image_file.specs.LoadedProgram.{LoadedProgram}
 use Rattle.sem_kept.specs.Compiles.{CompilesTo}
 use Rattle.stl_list.specs.Listing.{listed_source}
 use Rattle.stl_list.specs.Symbols.{listed_names}

@@ -3,7 +3,7 @@ use Rattle.std.specs.Prelude.{◌≡◌, ℕ, ◌+◌, List, [], ◌∷◌, ◌+
 use Rattle.plc_base.specs.declared.Refusal.{Refusal}
 use Rattle.var_access.specs.declared.Entry.{Entry}
 use Rattle.flat_code.specs.Programs.{NameEntry}
-use Rattle.image_file.specs.Loaded.{LoadedProgram}
+use Rattle.image_file.specs.LoadedProgram.{LoadedProgram}
 use Rattle.image_file.specs.declared.faults.LoadFault.{LoadFault}
 use Rattle.machine.specs.Flat.{code_of}
 use Rattle.event_text.specs.HistoryText.{history_text}

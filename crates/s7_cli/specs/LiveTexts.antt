@@ -1,7 +1,7 @@
 -- What was read of the files of a live run, and what was found in it.
 use Rattle.std.specs.Prelude.{◌≡◌, ◌⊎◌, ℕ, ◌+◌, ◌≤◌, List, ◌∷◌, length, map, Result, Ok, Err}
 use Rattle.std.specs.List.{AllByRecursion}
-use Rattle.image_file.specs.Loaded.{LoadedProgram}
+use Rattle.image_file.specs.LoadedProgram.{LoadedProgram}
 use Rattle.var_access.specs.declared.Entry.{Entry}
 use Rattle.event_text.specs.Texts.{stimuli_of}
 use Rattle.s7_cli.specs.declared.failures.Failure.{Failure}

@@ -1,7 +1,7 @@
 -- Which histories are live histories.
 use Rattle.std.specs.Prelude.{◌≡◌, ◌⊎◌, ℕ, suc, ◌+◌, ◌≤◌, List, [], ◌∷◌, length, replicate, Result, Err}
 use Rattle.std.specs.List.{All}
-use Rattle.image_file.specs.Loaded.{LoadedProgram}
+use Rattle.image_file.specs.LoadedProgram.{LoadedProgram}
 use Rattle.var_access.specs.declared.Entry.{Entry}
 use Rattle.event_text.specs.Regular.{IsRegularOf}
 use Rattle.event_text.specs.Workers.{one_step}

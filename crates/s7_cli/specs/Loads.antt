@@ -3,7 +3,7 @@ use Rattle.std.specs.Prelude.{ℕ, List, Result, Ok, Err}
 use Rattle.flat_code.specs.Loading.{IsLoadable, faults_of}
 use Rattle.image_file.specs.Images.{IsImageOf}
 use Rattle.image_file.specs.Least.{IsLeastFault}
-use Rattle.image_file.specs.Loaded.{LoadedProgram}
+use Rattle.image_file.specs.LoadedProgram.{LoadedProgram}
 use Rattle.image_file.specs.declared.faults.LoadFault.{LoadFault}
 
 -- bytes are the image of a program in some version, which verifies, and it has the profile that

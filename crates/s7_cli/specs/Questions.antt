@@ -2,7 +2,7 @@
 use Rattle.std.specs.Prelude.{◌≡◌, ◌≢◌, ◌⊎◌, ◌||◌, ℕ, List, [], ◌∷◌, Option, Some, None, codes, bytes_eq, if◌then◌else◌}
 use Rattle.plc_io.specs.Counts.{CountRose}
 use Rattle.plc_io.specs.Moments.{SinkAt}
-use Rattle.plc_io.specs.Taken.{TookBytes, TookPrefix}
+use Rattle.plc_io.specs.SinkBytes.{TookBytes, TookPrefix}
 use Rattle.s7_cli.specs.declared.help.Question.{Question}
 use Rattle.s7_cli.specs.declared.help.Question.TheVariants.{Help, Version}
 use Rattle.s7_cli.specs.declared.help.TheConstants.{HELP, VERSION}

@@ -6,7 +6,7 @@ use Rattle.plc_base.specs.declared.Profile.TheVariants.{Large}
 use Rattle.var_access.specs.declared.Entry.{Entry}
 use Rattle.flat_code.specs.Image.{image as image_of}
 use Rattle.flat_code.specs.declared.stamps.Stamp.TheVariants.{Two}
-use Rattle.image_file.specs.Loaded.{LoadedProgram}
+use Rattle.image_file.specs.LoadedProgram.{LoadedProgram}
 use Rattle.image_file.specs.declared.faults.LoadFault.{LoadFault}
 use Rattle.machine.specs.Code.{Code}
 use Rattle.machine.specs.Flat.{code_of}

@@ -2,7 +2,7 @@
 use Rattle.std.specs.Prelude.{◌≡◌, ◌≢◌, ◌<◌, ◌≤◌, ◌⊎◌, ℕ, List, Option, Some, None, Err, true}
 use Rattle.plc_io.specs.Contents.{SameFiles}
 use Rattle.plc_io.specs.Counts.{CountRose}
-use Rattle.plc_io.specs.Taken.{TookBytes}
+use Rattle.plc_io.specs.SinkBytes.{TookBytes}
 use Rattle.s7_cli.specs.declared.failures.Failure.{Failure}
 use Rattle.s7_cli.specs.Answer.{CallAnswer, exit_status}
 use Rattle.s7_cli.specs.BoundSays.{StacksSuffice}

@@ -1,6 +1,6 @@
 -- An upgraded image beside the image that it was made of.
 use Rattle.std.specs.Prelude.{◌<◌, ℕ, List, get_or, Result}
-use Rattle.image_file.specs.Loaded.{LoadedProgram}
+use Rattle.image_file.specs.LoadedProgram.{LoadedProgram}
 use Rattle.image_file.specs.declared.faults.LoadFault.{LoadFault}
 use Rattle.sem_kept.specs.Agreement.{ImageKeepsSourceIn}
 use Rattle.stl_symbols.specs.declared.languages.Language.{Language}

@@ -6,7 +6,7 @@ use Rattle.var_access.specs.declared.Entry.{Entry}
 use Rattle.var_access.specs.declared.Reply.{Reply}
 use Rattle.var_access.specs.declared.Request.TheVariants.{ReadVars}
 use Rattle.var_access.specs.declared.Var.{Var}
-use Rattle.image_file.specs.Loaded.{LoadedProgram}
+use Rattle.image_file.specs.LoadedProgram.{LoadedProgram}
 use Rattle.image_file.specs.declared.faults.LoadFault.{LoadFault}
 use Rattle.event_text.specs.HistoryText.{history_text}
 use Rattle.event_text.specs.Replies.{outcome_text}

@@ -1,7 +1,7 @@
 -- What was read of the files of a watch, and what was found in it.
 use Rattle.std.specs.Prelude.{◌≡◌, ℕ, ◌+◌, ◌≤◌, List, ◌∷◌, length, map, Result, Ok, Err}
 use Rattle.plc_base.specs.declared.Refusal.{Refusal}
-use Rattle.image_file.specs.Loaded.{LoadedProgram}
+use Rattle.image_file.specs.LoadedProgram.{LoadedProgram}
 use Rattle.var_access.specs.declared.Entry.{Entry}
 use Rattle.var_access.specs.declared.Var.{Var}
 use Rattle.event_text.specs.Regular.{IsRegularOf}

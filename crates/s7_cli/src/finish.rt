@@ -1,6 +1,6 @@
 ghost use Rattle.std.specs.Prelude.{ℕ, List, Option};
 ghost use Rattle.plc_io.specs.Moments.{SinkAt};
-ghost use Rattle.plc_io.specs.Taken.{WroteText};
+ghost use Rattle.plc_io.specs.SinkBytes.{WroteText};
 ghost use Rattle.s7_cli.specs.Command.{Command};
 ghost use Rattle.s7_cli.specs.Ends.{EndsWithStatus, EndsWithOutcome, sink_moments};
 ghost use Rattle.s7_cli.specs.Inner.{AreOutputs, ComesBeforeLine, CommandComesTo, IsOutput, LineWritten, TextWritten, written_file};

@@ -2,7 +2,7 @@
 //! run.
 ghost use Rattle.std.specs.Prelude.{◌≡◌, ℕ, ◌^◌, ◌<◌, ◌≤◌, List, ◌++◌, codes, length, map, All, IfOk, Some};
 ghost use Rattle.plc_io.specs.Moments.{FilesAt};
-ghost use Rattle.plc_io.specs.Taken.{WroteText};
+ghost use Rattle.plc_io.specs.SinkBytes.{WroteText};
 ghost use Rattle.machine.specs.Flat.{code_of};
 ghost use Rattle.var_access.specs.Entry.{IsValid};
 ghost use Rattle.var_access.specs.Runs.{AreRuns, entries_of_runs};

@@ -1,6 +1,6 @@
 ghost use Rattle.std.specs.Prelude.{◌≡◌, ◌≤◌, ◌<◌, ◌+◌, ◌^◌, ◌++◌, length, map, sum as sum_of};
 ghost use Rattle.std.specs.List.{range_with_len};
-ghost use Rattle.controller.specs.Replayed.{final_state};
+ghost use Rattle.controller.specs.ReplayResult.{final_state};
 ghost use Rattle.s7_cli.specs.GenText.{bit_memory_sum, memory_byte, mode_words, sum_of_eight, summary_of};
 
 use controller::Controller;

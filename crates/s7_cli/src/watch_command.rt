@@ -2,7 +2,7 @@
 //! they made is written, its run, and the views.
 ghost use Rattle.std.specs.Prelude.{◌≡◌, ℕ, List, ◌++◌, ◌≤◌, codes, length, map, All, IfOk, OnOk, Some};
 ghost use Rattle.plc_io.specs.Moments.{FilesAt};
-ghost use Rattle.plc_io.specs.Taken.{WroteText};
+ghost use Rattle.plc_io.specs.SinkBytes.{WroteText};
 ghost use Rattle.var_access.specs.Entry.{IsValid};
 ghost use Rattle.s7_cli.specs.Answer.{done_answer};
 ghost use Rattle.s7_cli.specs.Command.{Watch};

@@ -4,16 +4,16 @@ use Rattle.plc_base.specs.declared.refusals.Refusal.{Refusal}
 use Rattle.block_layout.specs.Layouts.{layouts_of}
 use Rattle.block_layout.specs.Table.{layout_refusals}
 use Rattle.stl_ast.specs.declared.blocks.Tree.{Tree}
-use Rattle.stl_codegen.specs.Generated.{code_blocks_of, data_blocks_of, name_entries_of}
+use Rattle.stl_codegen.specs.GeneratedProgram.{code_blocks_of, data_blocks_of, name_entries_of}
 use Rattle.stl_lexer.specs.declared.kinds.Token.{Token}
 use Rattle.plc_base.specs.Least.{least, lesser}
 use Rattle.stl_symbols.specs.Symbol.{Symbol}
 use Rattle.stl_symbols.specs.declared.languages.Language.{Language}
 use Rattle.plc_base.proofs.LeastLemmas.{least-append}
 use Rattle.stl_types.specs.Table.{statement_refusals}
-use Rattle.sem_kept.specs.Accepted.{IsAccepted, program_in, AcceptedVerifies}
-use Rattle.sem_kept.specs.Verified.{VerifiedIsCompilable}
-use Rattle.sem_kept.specs.Kept.{ProgramsAreKept}
+use Rattle.sem_kept.specs.AcceptedSource.{IsAccepted, program_in, AcceptedVerifies}
+use Rattle.sem_kept.specs.VerifiedBlocks.{VerifiedIsCompilable}
+use Rattle.sem_kept.specs.KeptProgram.{ProgramsAreKept}
 use Rattle.sem_kept.specs.Agreement.{AreFiles, IsRunnable, ProgramsRun, names_among}
 use Rattle.sem_kept.specs.Meaning.{HasSymbolsIn, HasTokens, HasTreeOrRefusal, refusals_of, sound_by, stated_code_of_tree, HasOutcomeOfSourceIn, MeansCodeIn}
 

@@ -12,7 +12,7 @@ use Rattle.stl_ast.specs.Literals.{AreBytes}
 use Rattle.plc_base.specs.declared.profiles.Profile.{Profile}
 use Rattle.plc_base.specs.declared.refusals.Refusal.{Refusal}
 use Rattle.stl_ast.specs.declared.blocks.Tree.{Tree}
-use Rattle.stl_codegen.specs.Generated.{name_entries_of}
+use Rattle.stl_codegen.specs.GeneratedProgram.{name_entries_of}
 use Rattle.stl_lexer.specs.Limits.{source_limit}
 use Rattle.stl_lexer.specs.declared.kinds.Token.{Token}
 use Rattle.plc_base.specs.Least.{least}
@@ -20,8 +20,8 @@ use Rattle.stl_symbols.specs.Symbol.{Symbol}
 use Rattle.stl_symbols.specs.Symbols.{symbols_in, symbols_limit}
 use Rattle.stl_symbols.specs.declared.languages.Language.{Language}
 use Rattle.stl_symbols.specs.declared.languages.Language.TheVariants.{English, German}
-use Rattle.sem_kept.specs.Accepted.{program_in}
-use Rattle.sem_kept.specs.Kept.{BehavesAlike}
+use Rattle.sem_kept.specs.AcceptedSource.{program_in}
+use Rattle.sem_kept.specs.KeptProgram.{BehavesAlike}
 use Rattle.sem_kept.specs.Meaning.{HasSymbolsIn, HasTokens, HasTreeOrRefusal, refusals_of, MeansCodeIn}
 
 -- the source with these symbols means a code, and at this profile no history tells it from the one

@@ -13,8 +13,8 @@ use Rattle.flat_code.specs.declared.operations.Operation.{Operation}
 use Rattle.flat_code.specs.declared.operations.Operation.TheVariants as operation
 use Rattle.machine.specs.Code.{Fetched}
 use Rattle.machine.specs.Flat.{statement_fetched, is_jl}
-use Rattle.machine.specs.Moved.{aimed_instr}
-use Rattle.stl_codegen.specs.Compiled.{SourceInstruction, ops_in, offset_of_statement}
+use Rattle.machine.specs.MovedCode.{aimed_instr}
+use Rattle.stl_codegen.specs.CompiledBlock.{SourceInstruction, ops_in, offset_of_statement}
 use Rattle.stl_codegen.specs.Instruction.{numbers_from}
 
 -- what is fetched for the statement of number n: its instruction and the next position, where f

@@ -7,7 +7,7 @@ use Rattle.stl_ast.specs.declared.blocks.Tree.{Tree}
 use Rattle.stl_lexer.specs.declared.kinds.Token.{Token}
 use Rattle.stl_symbols.specs.Symbol.{Symbol}
 use Rattle.stl_symbols.specs.declared.languages.Language.{Language}
-use Rattle.sem_kept.specs.Accepted.{program_in}
+use Rattle.sem_kept.specs.AcceptedSource.{program_in}
 use Rattle.sem_kept.specs.Meaning.{HasSymbolsIn, HasTokens, HasTreeOrRefusal, refusals_of}
 
 -- a source with its symbols breaks no rule, and its program, the names of its symbols with it, is

@@ -18,7 +18,7 @@ use Rattle.block_layout.specs.declared.cells.Cell.{Cell}
 use Rattle.block_layout.specs.declared.cells.Element.{Element}
 use Rattle.block_layout.specs.declared.cells.Element.TheVariants.{Plain}
 use Rattle.block_layout.specs.declared.cells.Preset.{Preset}
-use Rattle.sem_kept.specs.Accepted.{IsAccepted}
+use Rattle.sem_kept.specs.AcceptedSource.{IsAccepted}
 
 -- a write in so many bytes cuts nothing: it ends within them, is a single bit or whole bytes from
 -- the start of one on, and has no fewer bits than its value

@@ -3,15 +3,15 @@ use Rattle.std.specs.Prelude.{◌≡◌, ℕ, List, [], Option, Some, None}
 use Rattle.std.specs.List.{AllByRecursion}
 use Rattle.flat_code.specs.Blocks.{Environment, block_faults, bracket_fault, jump_fault, zone_fault}
 use Rattle.flat_code.specs.Ops.{OpData}
-use Rattle.flat_code.specs.Placed.{PlacedOp, StatementSpot, open_behind, code_places, statement_spots, zones_left}
+use Rattle.flat_code.specs.PlacedOps.{PlacedOp, StatementSpot, open_behind, code_places, statement_spots, zones_left}
 use Rattle.flat_code.specs.declared.operands.Operand.{Operand}
 use Rattle.flat_code.specs.declared.operands.Operand.TheVariants as operand
 use Rattle.stl_ast.specs.declared.blocks.Tree.{Tree}
 use Rattle.stl_symbols.specs.Symbol.{Symbol}
 use Rattle.block_layout.specs.Layouts.{layouts_of}
-use Rattle.stl_codegen.specs.Compiled.{code_in}
-use Rattle.stl_codegen.specs.Generated.{code_blocks_of}
-use Rattle.sem_kept.specs.Accepted.{IsAccepted}
+use Rattle.stl_codegen.specs.CompiledBlock.{code_in}
+use Rattle.stl_codegen.specs.GeneratedProgram.{code_blocks_of}
+use Rattle.sem_kept.specs.AcceptedSource.{IsAccepted}
 use Rattle.sem_kept.specs.Operands.{HaveNoOperandFaults}
 
 -- a jump, and nothing else, is checked by the statements of its block

@@ -15,7 +15,7 @@ use Rattle.stl_symbols.specs.declared.languages.Language.TheVariants.{English}
 use Rattle.block_layout.specs.Layouts.{layouts_of}
 use Rattle.block_layout.specs.Table.{layout_refusals}
 use Rattle.stl_types.specs.Table.{statement_refusals}
-use Rattle.stl_codegen.specs.Generated.{code_blocks_of, data_blocks_of}
+use Rattle.stl_codegen.specs.GeneratedProgram.{code_blocks_of, data_blocks_of}
 use Rattle.sem_kept.specs.Statements.{stated_code}
 use Rattle.sem_kept.specs.Stages.{HaveOutcomeInTurn, NamesRefusalOf}
 

@@ -7,7 +7,7 @@ use Rattle.flat_code.specs.OpCodes.{op_code_of}
 use Rattle.flat_code.specs.Ops.{OpData}
 use Rattle.flat_code.specs.Image.{record_of_block}
 use Rattle.flat_code.specs.Loading.{environment_of_block, lens_of}
-use Rattle.flat_code.specs.Placed.{PlacedOp, StatementSpot, code_places, statement_spots}
+use Rattle.flat_code.specs.PlacedOps.{PlacedOp, StatementSpot, code_places, statement_spots}
 use Rattle.flat_code.specs.Programs.{CodeBlock, Program}
 use Rattle.flat_code.specs.declared.operands.Operand.{Operand}
 use Rattle.flat_code.specs.declared.operands.Operand.TheVariants as operand
@@ -16,9 +16,9 @@ use Rattle.flat_code.specs.declared.operations.CallOperation.TheVariants as call
 use Rattle.stl_ast.specs.Literals.{AreBytes}
 use Rattle.stl_ast.specs.declared.blocks.Tree.{Tree}
 use Rattle.stl_symbols.specs.Symbol.{Symbol}
-use Rattle.stl_codegen.specs.Emitted.{op_with_end_mark, instance_number_or_zero, pass_ops}
+use Rattle.stl_codegen.specs.EmittedOps.{op_with_end_mark, instance_number_or_zero, pass_ops}
 use Rattle.stl_codegen.specs.Fitting.{IsStill}
-use Rattle.sem_kept.specs.Accepted.{IsAccepted, program_in}
+use Rattle.sem_kept.specs.AcceptedSource.{IsAccepted, program_in}
 use Rattle.plc_base.specs.Kinds.{kind_number}
 
 -- ---- what fits

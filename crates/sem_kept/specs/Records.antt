@@ -8,7 +8,7 @@ use Rattle.flat_code.specs.Image.{body_layout}
 use Rattle.flat_code.specs.Programs.{CodeBlock, Program}
 use Rattle.stl_ast.specs.declared.blocks.Tree.{Tree}
 use Rattle.stl_symbols.specs.Symbol.{Symbol}
-use Rattle.sem_kept.specs.Accepted.{IsAccepted, program_in}
+use Rattle.sem_kept.specs.AcceptedSource.{IsAccepted, program_in}
 
 -- the code of a block has no fault, and its statements and bytes are few enough for their fields
 pub record HasFaultlessCode (b : CodeBlock) : Type 0 where

@@ -5,7 +5,7 @@ use Rattle.var_access.specs.declared.What.{What}
 use Rattle.controller.specs.Replay.{replay}
 use Rattle.controller.specs.State.{State, is_stop}
 use Rattle.frames.specs.declared.Activation.{Activation}
-use Rattle.image_file.specs.Loaded.{LoadedProgram}
+use Rattle.image_file.specs.LoadedProgram.{LoadedProgram}
 use Rattle.machine.specs.Code.{Code}
 use Rattle.machine.specs.Flat.{code_of}
 use Rattle.stl_symbols.specs.declared.languages.Language.{Language}

@@ -7,8 +7,8 @@ use Rattle.flat_code.specs.Programs.{DataBlock, NameEntry, Program}
 use Rattle.image_file.specs.Readers.{is_same_id}
 use Rattle.machine.specs.Code.{Code, Fetched, BlockHead}
 use Rattle.machine.specs.Flat.{numbered_bytes, code_of}
-use Rattle.machine.specs.Moved.{FollowsCode}
-use Rattle.stl_codegen.specs.Compiled.{SourceInstruction, StatedBlock, ops_in, offset_of_statement, compiled_block}
+use Rattle.machine.specs.MovedCode.{FollowsCode}
+use Rattle.stl_codegen.specs.CompiledBlock.{SourceInstruction, StatedBlock, ops_in, offset_of_statement, compiled_block}
 use Rattle.sem_kept.specs.Back.{AreCompiled}
 
 -- the first block of a kind and number

@@ -2,12 +2,12 @@
 //! contract is the law.
 ghost use Rattle.std.specs.Prelude.{◌≡◌, List};
 ghost use Rattle.flat_code.specs.Programs.{CodeBlock};
-ghost use Rattle.stl_codegen.specs.Compiled.{SourceInstruction, code_in, lines_in};
+ghost use Rattle.stl_codegen.specs.CompiledBlock.{SourceInstruction, code_in, lines_in};
 ghost use Rattle.sem_kept.specs.Back.{AreCompiled, IsReadBack};
 ghost use Rattle.sem_kept.specs.Statements.{ProgramsFollow};
-ghost use Rattle.sem_kept.specs.Verified.{VerifiedIsCompilable};
-ghost use Rattle.sem_kept.specs.Accepted.{AcceptedVerifies};
-ghost use Rattle.sem_kept.specs.Kept.{ProgramsAreKept};
+ghost use Rattle.sem_kept.specs.VerifiedBlocks.{VerifiedIsCompilable};
+ghost use Rattle.sem_kept.specs.AcceptedSource.{AcceptedVerifies};
+ghost use Rattle.sem_kept.specs.KeptProgram.{ProgramsAreKept};
 ghost use Rattle.sem_kept.specs.Agreement.{ImagesKeepGermanSources, ImagesKeepSources, ProgramsRun};
 ghost use Rattle.sem_kept.specs.Meaning.{
   IsMeaningUnique,
@@ -18,7 +18,7 @@ ghost use Rattle.sem_kept.specs.Meaning.{
 };
 ghost use Rattle.sem_kept.specs.Resumption.{SourcesResume, ImagesResume};
 ghost use Rattle.sem_kept.specs.Initial.{InitialValuesAreWhole};
-ghost use Rattle.sem_kept.specs.Settled.{StatementsSettle};
+ghost use Rattle.sem_kept.specs.SettledStatements.{StatementsSettle};
 
 /// At the offset of each statement of a block stands the statement that was compiled, with offsets
 /// as its targets, and behind the last one none begins.

@@ -8,7 +8,7 @@ use Rattle.flat_code.specs.Codes.{size_of_op}
 use Rattle.flat_code.specs.Forms.{kind_of_code}
 use Rattle.flat_code.specs.Instr.{Instr, Calls, Does, Jumps, JumpsByList, Returns, Passing}
 use Rattle.flat_code.specs.Ops.{OpData}
-use Rattle.flat_code.specs.Placed.{op_placed, line_placed}
+use Rattle.flat_code.specs.PlacedOps.{op_placed, line_placed}
 use Rattle.flat_code.specs.Programs.{CodeBlock}
 use Rattle.flat_code.specs.Kinds.{jump_of_number}
 use Rattle.flat_code.specs.Operations.{operation_of}

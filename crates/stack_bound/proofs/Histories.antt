@@ -25,7 +25,7 @@ use Rattle.ob_sched.specs.declared.start_infos.StartEvent.TheVariants.{Arrival}
 use Rattle.ob_sched.specs.declared.start_infos.StartInfo.{StartInfo}
 use Rattle.sys_funcs.specs.Disabling.{selection_error_code}
 use Rattle.sys_funcs.specs.Functions.{dis_airt, en_airt, disabled_or_error, dis_irt, en_irt, srt_dint, can_dint, time_tck, with_delay}
-use Rattle.sys_funcs.specs.Returned.{SystemFunctionResult, int_result, with_br_set}
+use Rattle.sys_funcs.specs.Results.{SystemFunctionResult, int_result, with_br_set}
 use Rattle.var_access.specs.declared.What.{What}
 use Rattle.var_access.specs.declared.What.TheVariants as what
 use Rattle.var_access.specs.declared.Request.{Request}

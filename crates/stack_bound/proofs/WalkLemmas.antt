@@ -5,7 +5,7 @@ use Rattle.std.proofs.lemmas.Bool.Decides.{nat_tests}
 use Rattle.flat_code.specs.Codes.{size_of_op}
 use Rattle.flat_code.specs.Forms.{form_of_operand, payload}
 use Rattle.flat_code.specs.Ops.{OpData, op_bytes, code_byte}
-use Rattle.flat_code.specs.Placed.{op_placed}
+use Rattle.flat_code.specs.PlacedOps.{op_placed}
 use Rattle.stack_bound.specs.Walking.{ops_after_offset}
 
 two_bytes : (a b : ℕ) (rest : List ℕ) → 0 < length (a ∷ b ∷ rest)

@@ -32,21 +32,21 @@ use Rattle.block_layout.specs.declared.cells.Element.{Element}
 use Rattle.stl_types.specs.Context.{Context, data_number, data_place, whole_place}
 use Rattle.stl_types.specs.Parameters.{callee_of}
 use Rattle.stl_types.specs.Resolution.{resolution_of_call, id_at, instance_number, resolution_of, whole_called_block}
-use Rattle.stl_types.specs.Resolved.{resolved_operand}
+use Rattle.stl_types.specs.ResolvedStatement.{resolved_operand}
 use Rattle.stl_types.specs.declared.views.Resolution.{Resolution}
 use Rattle.stl_types.specs.declared.views.Resolution.TheVariants.{Resolved, Unknown, Unjudged}
 use Rattle.stl_types.specs.declared.views.ResolvedOperand.{ResolvedOperand}
 use Rattle.stl_types.specs.declared.views.ResolvedOperand.TheVariants as resolved
 use Rattle.stl_codegen.specs.Instruction.{instruction}
 use Rattle.stl_codegen.specs.Operations.{call_operation_of, jump_operation_of}
-use Rattle.stl_codegen.specs.Passed.{passed_resolution, passed_by_operand}
+use Rattle.stl_codegen.specs.PassedParameters.{passed_resolution, passed_by_operand}
 use Rattle.flat_code.specs.declared.kinds.JumpOperation.{JumpOperation}
 use Rattle.flat_code.specs.declared.kinds.JumpOperation.TheVariants as jump
 use Rattle.flat_code.specs.declared.operands.Passed.{Passed}
 use Rattle.flat_code.specs.declared.operations.CallOperation.{CallOperation}
 use Rattle.flat_code.specs.declared.operations.CallOperation.TheVariants as how_called
-use Rattle.sem_kept.specs.Accepted.{IsAccepted}
-use Rattle.sem_kept.specs.Settled.{HasCalled, HasInstruction, HasLabel, HasOperand, NamesWhatIsPassed, IsResolvedStatement, context_at}
+use Rattle.sem_kept.specs.AcceptedSource.{IsAccepted}
+use Rattle.sem_kept.specs.SettledStatements.{HasCalled, HasInstruction, HasLabel, HasOperand, NamesWhatIsPassed, IsResolvedStatement, context_at}
 use Rattle.sem_kept.proofs.accepted.Accepted.{IsSoundBlock, IsSoundActual, IsSoundStatement, all_mapped, right_tree}
 use Rattle.block_layout.proofs.CommonLemmas.{all_there}
 use Rattle.sem_kept.proofs.accepted.OperandsCells.{cells_are, layout_of_block}
@@ -54,11 +54,11 @@ use Rattle.block_layout.proofs.LayoutLemmas.{measured_symbols}
 use Rattle.sem_kept.proofs.accepted.OperandsPlaces.{IsParameterCell, function_components}
 use Rattle.sem_kept.proofs.accepted.OperandsViews.{function_kind, ids_same}
 use Rattle.sem_kept.proofs.accepted.Settled.{statements_settle}
-use Rattle.statement_laws.specs.Accepted.{AcceptedOperandsAreNamed, AcceptedStatementsAct, ActsOnItsOperand, CallsNamed, DoesAsWritten, IsNamed, IsNamedStatement, JumpsByList, JumpsToLabel, NamesCalled, is_no_branch}
+use Rattle.statement_laws.specs.AcceptedStatements.{AcceptedOperandsAreNamed, AcceptedStatementsAct, ActsOnItsOperand, CallsNamed, DoesAsWritten, IsNamed, IsNamedStatement, JumpsByList, JumpsToLabel, NamesCalled, is_no_branch}
 use Rattle.statement_laws.specs.Effects.{effect_of_statement}
 use Rattle.statement_laws.specs.Laws.{Acts, HasElementaryParameters, IsNamedActual, has_fixed_name, is_bit_logic, is_call_instruction, is_comparison, is_data_block_instruction, is_elementary_component, is_end, is_idle, is_jump_list, is_load_or_transfer, is_number_instruction, is_plain_jump, is_relay, is_shift, is_timing, is_variable, stays_inside}
-use Rattle.statement_laws.specs.Named.{NamedItem}
-use Rattle.statement_laws.specs.Named as named
+use Rattle.statement_laws.specs.NamedOperands.{NamedItem}
+use Rattle.statement_laws.specs.NamedOperands as named
 use Rattle.statement_laws.specs.Operands.{is_fc, named_by, with_instance}
 use Rattle.statement_laws.proofs.CallLemmas.{calls_act}
 use Rattle.statement_laws.proofs.CoverLemmas.{has_no_name, named_there, operands_are_named}

@@ -18,15 +18,15 @@ use Rattle.status_word.specs.declared.registers.Regs.{Regs}
 use Rattle.alu.specs.Accumulators as accumulators
 use Rattle.timers_counters.specs.Counter as counters
 use Rattle.timers_counters.specs.Counter.{Counter}
-use Rattle.timers_counters.specs.Numbered.{change_at_number}
+use Rattle.timers_counters.specs.ByNumber.{change_at_number}
 use Rattle.timers_counters.specs.Timer as timers
 use Rattle.timers_counters.specs.Timer.{Timer}
 use Rattle.timers_counters.specs.declared.faults.TimerFault.{TimerFault}
 use Rattle.timers_counters.specs.declared.faults.TimerFault.TheVariants.{BadBcd, NoNumber}
 use Rattle.frames.specs.Relay.{zone_ended, zone_opened}
-use Rattle.flat_code.specs.Placed.{is_empty_list}
+use Rattle.flat_code.specs.PlacedOps.{is_empty_list}
 use Rattle.flat_code.specs.declared.operands.Operand.{Operand}
-use Rattle.flat_code.specs.declared.operations.AddConstant.TheVariants as adding
+use Rattle.flat_code.specs.declared.operations.AddConstant.TheVariants as add_constant
 use Rattle.flat_code.specs.declared.operations.Logic.{Logic}
 use Rattle.flat_code.specs.declared.operations.Operation.{Operation}
 use Rattle.flat_code.specs.declared.operations.Operation.TheVariants as operation
@@ -49,8 +49,8 @@ use Rattle.machine.specs.Values as values
 use Rattle.machine.specs.declared.places.Access.TheVariants.{Writing}
 use Rattle.machine.specs.declared.places.Location.{Location}
 use Rattle.statement_laws.specs.Effects as own
-use Rattle.statement_laws.specs.Named.{NamedItem, ItemNumber, OpenBlock, OperandPlace}
-use Rattle.statement_laws.specs.Named as named
+use Rattle.statement_laws.specs.NamedOperands.{NamedItem, ItemNumber, OpenBlock, OperandPlace}
+use Rattle.statement_laws.specs.NamedOperands as named
 use Rattle.statement_laws.specs.Reading as reading
 use Rattle.statement_laws.proofs.FlatLemmas.{bcd_same, flat_number, flat_of, flat_place, is_read, loaded_same, number_same, numbered_same, place_same, tested_same}
 use Rattle.statement_laws.proofs.PlaceLemmas.{standing_same, then_same, there_same, written_same}
@@ -637,18 +637,18 @@ is_shift_count x = is_constant x
 
 -- + by its constant
 abbrev pub add_operation_for : NamedItem → Operation
-add_operation_for (named.Constant (literal.Long value)) = operation.Add adding.Dword
-add_operation_for _ = operation.Add adding.Word
+add_operation_for (named.Constant (literal.Long value)) = operation.Add add_constant.Dword
+add_operation_for _ = operation.Add add_constant.Word
 
 pub inc_same : (x : NamedItem) (p : ExecState) → is_constant x ≡ true
-    → effect.operation_effect (operation.Add adding.Inc) (flat_of x) p
+    → effect.operation_effect (operation.Add add_constant.Inc) (flat_of x) p
     ≡ own.on_regs (accumulators.accumulator_increased 8 (own.constant_bits_or_zero 8 x)) p
 unfolding effect.operation_effect numbers.with_constant
 inc_same (named.Constant value) p e = refl
 inc_same _ p e = absurd (false≢true e)
 
 pub dec_same : (x : NamedItem) (p : ExecState) → is_constant x ≡ true
-    → effect.operation_effect (operation.Add adding.Dec) (flat_of x) p
+    → effect.operation_effect (operation.Add add_constant.Dec) (flat_of x) p
     ≡ own.on_regs (accumulators.accumulator_decreased 8 (own.constant_bits_or_zero 8 x)) p
 unfolding effect.operation_effect numbers.with_constant
 dec_same (named.Constant value) p e = refl

@@ -50,7 +50,7 @@ use Rattle.stl_types.specs.declared.views.ResolvedOperand.{ResolvedOperand}
 use Rattle.stl_types.specs.declared.views.ResolvedOperand.TheVariants as resolved
 use Rattle.stl_codegen.specs.Instruction.{source_block_at, call_instr, in_parameter_order, instr_by, instruction, passings_to, resolved_instr, return_last, operand_instr}
 use Rattle.stl_codegen.specs.Operations.{call_operation_of, jump_operation_of}
-use Rattle.stl_codegen.specs.Passed.{passed_actual, passed_place, passed_resolution, passed_by_operand, passings_from, with_index}
+use Rattle.stl_codegen.specs.PassedParameters.{passed_actual, passed_place, passed_resolution, passed_by_operand, passings_from, with_index}
 use Rattle.machine.specs.Bindings as bindings
 use Rattle.machine.specs.Code.{Code, BlockHead}
 use Rattle.machine.specs.DataBlocks as data_blocks
@@ -65,8 +65,8 @@ use Rattle.machine.specs.declared.places.Location.{Location}
 use Rattle.statement_laws.specs.Calls as own
 use Rattle.statement_laws.specs.Jumps.{with_rlo_1, standing_at}
 use Rattle.statement_laws.specs.Laws.{CallsAct, IsNamedActual, is_call_instruction}
-use Rattle.statement_laws.specs.Named.{NamedItem}
-use Rattle.statement_laws.specs.Named as named
+use Rattle.statement_laws.specs.NamedOperands.{NamedItem}
+use Rattle.statement_laws.specs.NamedOperands as named
 use Rattle.statement_laws.specs.Operands.{block_id_of_name, block_number, named_fixed_place, has_result, named_by, place_by, with_instance}
 use Rattle.statement_laws.specs.Reading as reading
 use Rattle.statement_laws.proofs.PlaceLemmas.{absent_same, fixed_same, of_area, then_same}

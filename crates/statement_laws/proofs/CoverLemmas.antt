@@ -22,8 +22,8 @@ use Rattle.stl_types.specs.declared.views.Resolution.TheVariants.{Resolved}
 use Rattle.stl_types.specs.declared.views.ResolvedOperand.{ResolvedOperand}
 use Rattle.stl_types.specs.declared.views.ResolvedOperand.TheVariants as resolved
 use Rattle.statement_laws.specs.Laws.{OperandsAreNamed, has_fixed_name}
-use Rattle.statement_laws.specs.Named.{NamedItem}
-use Rattle.statement_laws.specs.Named as named
+use Rattle.statement_laws.specs.NamedOperands.{NamedItem}
+use Rattle.statement_laws.specs.NamedOperands as named
 use Rattle.statement_laws.specs.Operands.{block_number, named_by, place_by, register_named, target_named}
 use Rattle.statement_laws.specs.Operands as own
 use Rattle.statement_laws.proofs.RuleLemmas.{some_is_not_none}

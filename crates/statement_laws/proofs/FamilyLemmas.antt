@@ -19,7 +19,7 @@ use Rattle.stl_ast.specs.declared.operands.Operand.{Operand}
 use Rattle.stl_ast.specs.declared.statements.Statement.{Statement}
 use Rattle.stl_types.specs.Context.{Context}
 use Rattle.stl_types.specs.Forms.{form_of}
-use Rattle.stl_types.specs.Resolved.{resolved_operand}
+use Rattle.stl_types.specs.ResolvedStatement.{resolved_operand}
 use Rattle.stl_types.specs.declared.views.ResolvedOperand.{ResolvedOperand}
 use Rattle.stl_codegen.specs.Instruction.{end_instr, instr_by, instruction, resolved_instr, operand_instr}
 use Rattle.stl_codegen.specs.Operands as codegen
@@ -33,8 +33,8 @@ use Rattle.machine.specs.Statement.{instruction_step, continue_with}
 use Rattle.statement_laws.specs.Effects.{effect_of_operation, effect_of_statement}
 use Rattle.statement_laws.specs.Effects as own
 use Rattle.statement_laws.specs.Laws.{Acts, BitLogicActs, ComparisonsAct, DataBlocksAct, IdleActs, LoadsAct, NumbersAct, RelayActs, ShiftsAct, TimingActs, is_bit_logic, is_comparison, is_data_block_instruction, is_idle, is_load_or_transfer, is_number_instruction, is_relay, is_shift, is_timing}
-use Rattle.statement_laws.specs.Named.{NamedItem}
-use Rattle.statement_laws.specs.Named as named
+use Rattle.statement_laws.specs.NamedOperands.{NamedItem}
+use Rattle.statement_laws.specs.NamedOperands as named
 use Rattle.statement_laws.specs.Operands.{named_fixed_place, named_by}
 use Rattle.statement_laws.proofs.ActionLemmas as action_lemmas
 use Rattle.statement_laws.proofs.FlatLemmas.{flat_of}

@@ -9,7 +9,7 @@ use Rattle.plc_base.specs.declared.places.Area.TheVariants as area
 use Rattle.plc_base.specs.declared.places.Width.TheVariants as widths
 use Rattle.status_word.specs.Flags.{flag_value}
 use Rattle.timers_counters.specs.Counter.{Counter, count_bcd, is_counting}
-use Rattle.timers_counters.specs.Numbered.{read_at_number}
+use Rattle.timers_counters.specs.ByNumber.{read_at_number}
 use Rattle.timers_counters.specs.Timer.{Timer, time_left, units_left}
 use Rattle.timers_counters.specs.declared.faults.TimerFault.TheVariants.{NoNumber}
 use Rattle.frames.specs.declared.bindings.Binding.{Binding}
@@ -22,8 +22,8 @@ use Rattle.machine.specs.Places as places
 use Rattle.machine.specs.Values as values
 use Rattle.machine.specs.declared.places.Access.{Access}
 use Rattle.machine.specs.declared.places.Access.TheVariants.{Reading}
-use Rattle.statement_laws.specs.Named.{NamedItem, ItemNumber, OpenBlock, OperandPlace}
-use Rattle.statement_laws.specs.Named as named
+use Rattle.statement_laws.specs.NamedOperands.{NamedItem, ItemNumber, OpenBlock, OperandPlace}
+use Rattle.statement_laws.specs.NamedOperands as named
 use Rattle.statement_laws.specs.Reading as own
 use Rattle.statement_laws.proofs.PlaceLemmas.{crossing_same, fixed_same, pointed_same, read_same, standing_same, then_same}
 

@@ -4,8 +4,8 @@ use Rattle.stl_ast.specs.Statements.{is_empty_statement}
 use Rattle.stl_ast.specs.declared.mnemonics.Mnemonic.TheVariants as code
 use Rattle.stl_ast.specs.declared.statements.Statement.{Statement}
 use Rattle.stl_types.specs.Context.{Context}
-use Rattle.stl_codegen.specs.Compiled.{SourceInstruction}
-use Rattle.stl_codegen.specs.Generated.{return_statement, stated_from, statements_of}
+use Rattle.stl_codegen.specs.CompiledBlock.{SourceInstruction}
+use Rattle.stl_codegen.specs.GeneratedProgram.{return_statement, stated_from, statements_of}
 use Rattle.sem_kept.proofs.accepted.Jumps.{statement_of_number}
 use Rattle.statement_laws.specs.Jumps.{numbered_statement_count}
 use Rattle.statement_laws.specs.Laws.{FamiliesAreAll, StatementsAreNumbered}

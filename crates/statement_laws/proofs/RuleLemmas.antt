@@ -3,7 +3,7 @@ use Rattle.std.proofs.Common.{ℕ, ◌≡◌, nat_eq, Bool, true, false, Option,
 use Rattle.plc_base.specs.declared.places.Area.{Area}
 use Rattle.plc_base.specs.declared.places.Area.TheVariants as area
 use Rattle.plc_base.specs.declared.places.Width.{Width}
-use Rattle.flat_code.specs.declared.operations.AddConstant.TheVariants as adding
+use Rattle.flat_code.specs.declared.operations.AddConstant.TheVariants as add_constant
 use Rattle.flat_code.specs.declared.operations.Operation.TheVariants as operation
 use Rattle.stl_ast.specs.declared.declarations.Simple.{Simple}
 use Rattle.stl_ast.specs.declared.literals.Literal.{Literal}
@@ -18,8 +18,8 @@ use Rattle.stl_types.specs.declared.views.Register.TheVariants as register
 use Rattle.stl_types.specs.declared.views.ResolvedOperand.{ResolvedOperand}
 use Rattle.stl_types.specs.declared.views.ResolvedOperand.TheVariants as resolved
 use Rattle.stl_codegen.specs.Operations as codegen
-use Rattle.statement_laws.specs.Named.{NamedItem}
-use Rattle.statement_laws.specs.Named as named
+use Rattle.statement_laws.specs.NamedOperands.{NamedItem}
+use Rattle.statement_laws.specs.NamedOperands as named
 use Rattle.statement_laws.specs.Operands.{named_fixed_place, place_by}
 use Rattle.statement_laws.proofs.ActionLemmas.{add_operation_for, is_added_address, is_address, is_address_place, is_constant, is_shift_count, names_counter, names_data_block, is_first_address, is_first_address_place, is_freed, is_loaded, is_reset, is_set, names_timer, is_transferred, is_place_to_write, load_address_operation, load_operation_for, or_operation_for, store_address_operation, transfer_operation_for}
 use Rattle.statement_laws.proofs.FlatLemmas.{is_read}
@@ -456,8 +456,8 @@ store_address_named k v x e =
     store_address_seen k v ∙ ap (on_named (codegen.store_pointer_operation v) (λ x. store_address_operation (as_open x))) e
 
 plain_add : (v : ResolvedOperand)
-    → operation.Add adding.Word
-    ≡ on_named (operation.Add adding.Word) (λ x. add_operation_for (as_open x)) (view_named None v)
+    → operation.Add add_constant.Word
+    ≡ on_named (operation.Add add_constant.Word) (λ x. add_operation_for (as_open x)) (view_named None v)
 plain_add (resolved.Direct place width side declared) =
     sym (ap add_operation_for (place_open place.area place.number width place.byte place.bit))
 plain_add (resolved.NumberBy numbered.Timer from byte) = refl

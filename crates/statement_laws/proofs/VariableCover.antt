@@ -43,8 +43,8 @@ use Rattle.stl_types.specs.declared.views.Resolution.TheVariants.{Resolved, Unkn
 use Rattle.stl_types.specs.declared.views.ResolvedOperand.{ResolvedOperand}
 use Rattle.stl_types.specs.declared.views.ResolvedOperand.TheVariants as resolved
 use Rattle.statement_laws.specs.Laws.{HasElementaryParameters, VariablesAreNamed, is_elementary_component, is_variable, stays_inside}
-use Rattle.statement_laws.specs.Named.{NamedItem}
-use Rattle.statement_laws.specs.Named as named_as
+use Rattle.statement_laws.specs.NamedOperands.{NamedItem}
+use Rattle.statement_laws.specs.NamedOperands as named_as
 use Rattle.statement_laws.specs.Operands.{block_id_of_name, cell_width, component_named, components_of_block, has_result, is_fc, named_by, parameter_named, named_place, place_in_layout, variable_by, variable_named}
 use Rattle.statement_laws.specs.Operands as own
 use Rattle.statement_laws.proofs.CoverLemmas.{IsSomeItem, has_no_name, name_left}

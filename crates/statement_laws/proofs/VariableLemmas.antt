@@ -40,8 +40,8 @@ use Rattle.stl_types.specs.declared.views.Resolution.TheVariants.{Resolved, Unju
 use Rattle.stl_types.specs.declared.views.Side.TheVariants as side
 use Rattle.stl_types.specs.declared.views.ResolvedOperand.{ResolvedOperand}
 use Rattle.stl_types.specs.declared.views.ResolvedOperand.TheVariants as resolved
-use Rattle.statement_laws.specs.Named.{NamedItem}
-use Rattle.statement_laws.specs.Named as named
+use Rattle.statement_laws.specs.NamedOperands.{NamedItem}
+use Rattle.statement_laws.specs.NamedOperands as named
 use Rattle.statement_laws.specs.Operands.{block_id_of_name, block_number, cell_width, component_named, components_of_block, named_fixed_place, has_result, is_fc, place_in_layout, named_by, numbered_item, parameter_named, named_place, pointer_constant_bits, variable_by, variable_named, with_instance}
 use Rattle.statement_laws.specs.Operands as own
 use Rattle.statement_laws.proofs.ResolutionLemmas.{about, block_same, carry, direct_named, in_block_same, left_same, letters_same, number_in_same, number_known, opened_named, pointer_same, register_same, resolved_same, symbol_same, view_named}

@@ -59,8 +59,8 @@ use Rattle.stl_parser.specs.declared.tables.Keyword.{Keyword}
 use Rattle.stl_parser.specs.declared.tables.Keyword.TheVariants as keyword
 use Rattle.stl_parser.proofs.FrameLemmas.{right_clause}
 use Rattle.stl_parser.proofs.OptionLemmas.{both, either, mapped, passed, some_holds}
-use Rattle.statement_laws.specs.Named.{NamedItem}
-use Rattle.statement_laws.specs.Named as named
+use Rattle.statement_laws.specs.NamedOperands.{NamedItem}
+use Rattle.statement_laws.specs.NamedOperands as named
 use Rattle.statement_laws.specs.Operands.{register_named}
 
 -- ---- letters of either case

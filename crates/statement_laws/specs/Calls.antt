@@ -38,8 +38,8 @@ use Rattle.machine.specs.declared.places.Access.TheVariants.{Reading, Writing}
 use Rattle.machine.specs.declared.places.Location.{Location}
 use Rattle.statement_laws.specs.Effects.{is_data_block_loaded}
 use Rattle.statement_laws.specs.Jumps.{with_rlo_1, standing_at}
-use Rattle.statement_laws.specs.Named.{NamedItem}
-use Rattle.statement_laws.specs.Named as named
+use Rattle.statement_laws.specs.NamedOperands.{NamedItem}
+use Rattle.statement_laws.specs.NamedOperands as named
 use Rattle.statement_laws.specs.Operands.{has_result, named_by}
 use Rattle.statement_laws.specs.Reading.{location_of_parts, bits_of_literal, fixed_place, missing_place_error, number_at_bound}
 

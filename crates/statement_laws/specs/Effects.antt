@@ -31,7 +31,7 @@ use Rattle.alu.specs.Shifts as shifts
 use Rattle.alu.specs.Sums as sums
 use Rattle.alu.specs.WordLogic as word_logic
 use Rattle.timers_counters.specs.Counter as counters
-use Rattle.timers_counters.specs.Numbered.{change_at_number}
+use Rattle.timers_counters.specs.ByNumber.{change_at_number}
 use Rattle.timers_counters.specs.Timer as timers
 use Rattle.timers_counters.specs.declared.faults.TimerFault.{TimerFault}
 use Rattle.timers_counters.specs.declared.faults.TimerFault.TheVariants.{BadBcd, NoNumber}
@@ -45,8 +45,8 @@ use Rattle.machine.specs.ExecState.{ExecState, then_ok}
 use Rattle.machine.specs.Places.{no_operand}
 use Rattle.machine.specs.declared.places.Access.TheVariants.{Writing}
 use Rattle.machine.specs.declared.places.Location.{Location}
-use Rattle.statement_laws.specs.Named.{NamedItem, ItemNumber, OpenBlock}
-use Rattle.statement_laws.specs.Named as named
+use Rattle.statement_laws.specs.NamedOperands.{NamedItem, ItemNumber, OpenBlock}
+use Rattle.statement_laws.specs.NamedOperands as named
 use Rattle.statement_laws.specs.Reading.{bcd_to_load, bit_of_operand, bits_of_literal, number_of_item, number_of_operand, number_or_error, number_to_load, place_of_operand, with_number_at}
 
 -- ---- registers, and what the block holds

@@ -20,9 +20,9 @@ use Rattle.stl_types.specs.Context.{Context, data_place}
 use Rattle.stl_types.specs.Parameters.{Callee, callee_of}
 use Rattle.stl_types.specs.Resolution.{resolution_of}
 use Rattle.stl_types.specs.declared.views.Resolution.TheVariants.{Resolved}
-use Rattle.stl_types.specs.Resolved.{resolved_operand}
+use Rattle.stl_types.specs.ResolvedStatement.{resolved_operand}
 use Rattle.stl_types.specs.declared.views.ResolvedOperand.{ResolvedOperand}
-use Rattle.stl_codegen.specs.Generated.{statements_of}
+use Rattle.stl_codegen.specs.GeneratedProgram.{statements_of}
 use Rattle.stl_codegen.specs.Instruction.{instruction}
 use Rattle.flat_code.specs.Instr.{Instr, Returns}
 use Rattle.flat_code.specs.declared.operations.EndOperation.TheVariants as end_word
@@ -31,8 +31,8 @@ use Rattle.machine.specs.Code.{Code}
 use Rattle.machine.specs.ExecState.{ExecState, exec_state_of}
 use Rattle.machine.specs.Statement.{GlobalStore, instruction_step, continue_with}
 use Rattle.statement_laws.specs.Calls.{bindings_of, calls_block, parameter_names}
-use Rattle.statement_laws.specs.Named.{NamedItem}
-use Rattle.statement_laws.specs.Named as named
+use Rattle.statement_laws.specs.NamedOperands.{NamedItem}
+use Rattle.statement_laws.specs.NamedOperands as named
 use Rattle.statement_laws.specs.Operands.{components_of_block, is_fc, named_by, register_named}
 use Rattle.statement_laws.specs.Effects.{effect_of_statement}
 use Rattle.statement_laws.specs.Jumps.{numbered_statement_count, ends_block, jumps_to_target, jumps_by_list, number_of_label}

@@ -1,9 +1,9 @@
 pub mod ErrorNumbers
-pub mod Named
+pub mod NamedOperands
 pub mod Operands
 pub mod Reading
 pub mod Effects
 pub mod Jumps
 pub mod Calls
 pub mod Laws
-pub mod Accepted
+pub mod AcceptedStatements

@@ -31,8 +31,8 @@ use Rattle.block_layout.specs.declared.blocks.Section.TheVariants as section
 use Rattle.block_layout.specs.declared.cells.Cell.{Cell}
 use Rattle.block_layout.specs.declared.members.Member.{Member}
 use Rattle.stl_types.specs.Context.{Context}
-use Rattle.statement_laws.specs.Named.{NamedItem, ItemNumber, OpenBlock}
-use Rattle.statement_laws.specs.Named as named
+use Rattle.statement_laws.specs.NamedOperands.{NamedItem, ItemNumber, OpenBlock}
+use Rattle.statement_laws.specs.NamedOperands as named
 
 -- ---- addresses
 

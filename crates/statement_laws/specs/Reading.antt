@@ -29,8 +29,8 @@ use Rattle.machine.specs.Places.{no_operand}
 use Rattle.machine.specs.declared.places.Access.{Access}
 use Rattle.machine.specs.declared.places.Access.TheVariants.{Reading, Writing}
 use Rattle.machine.specs.declared.places.Location.{Location}
-use Rattle.statement_laws.specs.Named.{NamedItem, ItemNumber, OperandPlace}
-use Rattle.statement_laws.specs.Named as named
+use Rattle.statement_laws.specs.NamedOperands.{NamedItem, ItemNumber, OperandPlace}
+use Rattle.statement_laws.specs.NamedOperands as named
 
 -- ---- constants
 

@@ -1,5 +1,5 @@
 //! Laws of statements: each function does nothing, and its contract is the law.
-ghost use Rattle.statement_laws.specs.Accepted.{AcceptedOperandsAreNamed, AcceptedStatementsAct};
+ghost use Rattle.statement_laws.specs.AcceptedStatements.{AcceptedOperandsAreNamed, AcceptedStatementsAct};
 ghost use Rattle.statement_laws.specs.Laws.{BitLogicActs, CallsAct, ComparisonsAct, DataBlocksAct, EndsAct, FamiliesAreAll, IdleActs, JumpListsAct, LoadsAct, NumbersAct, OperandsAreNamed, PlainJumpsAct, RelayActs, ShiftsAct, StatementsAreNumbered, TimingActs, VariablesAreNamed};
 
 /// Whatever its instruction takes, an operand that is no variable and no called block names

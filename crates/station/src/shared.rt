@@ -64,7 +64,7 @@ impl Shared {
     ghost use Rattle.std.specs.Prelude.{◌≡◌, ◌<◌, ◌∷◌, ◌++◌, [], length, IfOk, IfErr, OnOk};
     ghost use Rattle.var_access.specs.Entry.{IsRequest, IsValid};
     ghost use Rattle.var_access.specs.declared.entries.What.TheVariants.{Ask};
-    ghost use Rattle.controller.specs.Replayed.{next_result, final_state};
+    ghost use Rattle.controller.specs.ReplayResult.{next_result, final_state};
     ghost use Rattle.station.specs.Turns.{AddsEntry, MayFail};
     ghost use Rattle.station.specs.declared.shared.TheConstants.{FULL};
 

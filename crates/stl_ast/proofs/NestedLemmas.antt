@@ -8,7 +8,7 @@ use Rattle.stl_ast.specs.declared.declarations.Declaration.{Declaration}
 use Rattle.stl_ast.specs.declared.declarations.ElementType.{ElementType}
 use Rattle.stl_ast.specs.declared.declarations.ElementType.TheVariants.{Plain, Structure, Udt, DateAndTime}
 use Rattle.stl_ast.specs.Outline.{level_behind, IsOutline}
-use Rattle.stl_ast.specs.Nested.{Components, none, more, inner_components, outer_components, nested_declarations, flat_declarations, MayHoldComponents, AreAtLevel, IsSpelledByNested, AreLevelsOfNesting}
+use Rattle.stl_ast.specs.NestedDeclarations.{Components, none, more, inner_components, outer_components, nested_declarations, flat_declarations, MayHoldComponents, AreAtLevel, IsSpelledByNested, AreLevelsOfNesting}
 
 -- the inner ones and then the outer ones are all
 inner_and_outer_one : (level : ℕ) (d : Declaration) (components behind : Components) (deeper : Bool) →

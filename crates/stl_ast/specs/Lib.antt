@@ -6,4 +6,4 @@ pub mod Declarations
 pub mod Blocks
 pub mod WellFormed
 pub mod Sizes
-pub mod Nested
+pub mod NestedDeclarations

@@ -1,4 +1,4 @@
-ghost use Rattle.stl_ast.specs.Nested.{IsSpelledByNested, AreLevelsOfNesting};
+ghost use Rattle.stl_ast.specs.NestedDeclarations.{IsSpelledByNested, AreLevelsOfNesting};
 
 /// The nested view of a list of declarations, in which each has its components, is the list in
 /// another form: the declarations of the view in the order of the text are those of the list. In

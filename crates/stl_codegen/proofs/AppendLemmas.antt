@@ -8,7 +8,7 @@ use Rattle.plc_base.proofs.ListLemmas.{all_front, all_back}
 use Rattle.plc_base.proofs.TruthLemmas.{and_unmet, and_unmet_behind}
 use Rattle.flat_code.specs.Codes.{are_ops}
 use Rattle.flat_code.specs.Ops.{OpData, is_op}
-use Rattle.stl_codegen.specs.Compiled.{op_with_target}
+use Rattle.stl_codegen.specs.CompiledBlock.{op_with_target}
 use Rattle.stl_codegen.specs.Fitting.{AreItemsAppended, AreOpsAppended, HasNoOp}
 
 and_same : (a b c : Bool) → (a && (b && c)) ≡ ((a && b) && c)

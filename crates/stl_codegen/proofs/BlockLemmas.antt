@@ -13,10 +13,10 @@ use Rattle.stl_ast.specs.declared.statements.Statement.{Statement}
 use Rattle.block_layout.specs.declared.blocks.BlockLayout.{BlockLayout}
 use Rattle.stl_types.specs.Context.{Context}
 use Rattle.stl_codegen.specs.Bodies.{body_lines, body_ops, count_of_statements, line_here, ops_here}
-use Rattle.stl_codegen.specs.Compiled.{SourceInstruction, StatedBlock, op_with_target, code_in, compiled_block, lines_in, offset_of_statement, ops_in, placed_ops}
-use Rattle.stl_codegen.specs.Emitted.{ops_of}
+use Rattle.stl_codegen.specs.CompiledBlock.{SourceInstruction, StatedBlock, op_with_target, code_in, compiled_block, lines_in, offset_of_statement, ops_in, placed_ops}
+use Rattle.stl_codegen.specs.EmittedOps.{ops_of}
 use Rattle.stl_codegen.specs.Fitting.{CodeFits, HasNoOp}
-use Rattle.stl_codegen.specs.Generated.{each_block, return_statement, stated_from, statements_of}
+use Rattle.stl_codegen.specs.GeneratedProgram.{each_block, return_statement, stated_from, statements_of}
 use Rattle.stl_codegen.specs.Instruction.{instr_by, instruction, target_of}
 use Rattle.stl_codegen.specs.Operations.{jump_operation_of}
 use Rattle.stl_codegen.proofs.OpLemmas.{jump_ops}

@@ -12,7 +12,7 @@ use Rattle.flat_code.specs.Programs.{CodeBlock, Program}
 use Rattle.flat_code.specs.declared.programs.Param.{Param}
 use Rattle.flat_code.proofs.PartLemmas.{all_of_blocks, all_of_many, chain_parts, good_block, good_head, head_params, word_fits}
 use Rattle.stl_codegen.specs.Fitting.{BlockFits, ParamFits}
-use Rattle.stl_codegen.specs.Generated.{param_at_bits}
+use Rattle.stl_codegen.specs.GeneratedProgram.{param_at_bits}
 
 -- a number that fits a word, whatever else its field asks
 word : (n : ℕ) (checked : Bool) → (ltb n 65536 && checked) ≡ true → n < 65536

@@ -16,8 +16,8 @@ use Rattle.flat_code.specs.declared.operands.Passed.{Passed}
 use Rattle.flat_code.specs.declared.operands.Passed.TheVariants as passed
 use Rattle.flat_code.specs.declared.operations.Operation.{Operation}
 use Rattle.flat_code.specs.declared.operations.Operation.TheVariants as operation
-use Rattle.stl_codegen.specs.Compiled.{operand_with_target}
-use Rattle.stl_codegen.specs.Emitted.{jump_op, ops_of}
+use Rattle.stl_codegen.specs.CompiledBlock.{operand_with_target}
+use Rattle.stl_codegen.specs.EmittedOps.{jump_op, ops_of}
 use Rattle.stl_codegen.specs.Fitting.{HasNoOp, IsNoOperand, IsStill}
 use Rattle.stl_codegen.specs.Instruction.{jump_instr}
 

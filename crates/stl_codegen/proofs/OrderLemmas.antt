@@ -11,7 +11,7 @@ use Rattle.std.proofs.lemmas.List.Sorted.{IsStrictWeakOrder-by_number, ranks_by,
 use Rattle.plc_base.specs.Kinds.{kind_number}
 use Rattle.flat_code.specs.Programs.{CodeBlock, NameEntry}
 use Rattle.flat_code.proofs.NameLemmas.{before_is_less}
-use Rattle.stl_codegen.specs.Compiled.{StatedBlock, compiled_block}
+use Rattle.stl_codegen.specs.CompiledBlock.{StatedBlock, compiled_block}
 use Rattle.stl_codegen.specs.Order.{is_block_before, is_code_before, is_data_before, is_name_before, sorted_insertion, sorted_list}
 
 -- ---- in order, by recursion

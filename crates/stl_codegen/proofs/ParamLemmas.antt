@@ -8,7 +8,7 @@ use Rattle.stl_ast.specs.declared.blocks.Block.{Block}
 use Rattle.stl_ast.specs.declared.declarations.Simple.{Simple}
 use Rattle.block_layout.specs.declared.blocks.BlockLayout.{BlockLayout}
 use Rattle.stl_codegen.specs.Fitting.{ParamFits, ParamsFit}
-use Rattle.stl_codegen.specs.Generated.{param_here, params_of}
+use Rattle.stl_codegen.specs.GeneratedProgram.{param_here, params_of}
 use Rattle.stl_codegen.specs.Instruction.{in_parameter_order, return_last}
 
 first_back : {A : Type 0} (P : A → Type 0) (xs : List A) → AllByRecursion P (drop 1 xs ++ take 1 xs) → AllByRecursion P xs

@@ -16,8 +16,8 @@ use Rattle.stl_ast.specs.declared.statements.Actual.{Actual}
 use Rattle.plc_base.specs.Folding.{upper_case_name}
 use Rattle.stl_types.specs.Context.{Context}
 use Rattle.stl_types.specs.declared.parameters.Formal.{Formal}
-use Rattle.stl_codegen.specs.Emitted.{pass_ops, preparing_op}
-use Rattle.stl_codegen.specs.Passed.{passed_actual, passings_from, actual_of_formal}
+use Rattle.stl_codegen.specs.EmittedOps.{pass_ops, preparing_op}
+use Rattle.stl_codegen.specs.PassedParameters.{passed_actual, passings_from, actual_of_formal}
 
 passing_both : (xs ys : List Passing) → pass_ops (xs ++ ys) ≡ pass_ops xs ++ pass_ops ys
 passing_both [] ys = refl

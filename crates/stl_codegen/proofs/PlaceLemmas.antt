@@ -4,7 +4,7 @@ use Rattle.std.proofs.lemmas.Bool.{and_parts}
 use Rattle.std.proofs.lemmas.List.{drop_more}
 use Rattle.flat_code.specs.Codes.{are_ops, size_of_op}
 use Rattle.flat_code.specs.Ops.{OpData, IsOp, is_op}
-use Rattle.stl_codegen.specs.Compiled.{offset_from, offset_of_statement, op_with_target, placed_ops}
+use Rattle.stl_codegen.specs.CompiledBlock.{offset_from, offset_of_statement, op_with_target, placed_ops}
 use Rattle.stl_codegen.specs.Places.{offset_in_table, extended_starts, IsOffset, AreStatementOffsets}
 
 -- the offset of a statement behind others that begin at these offsets

@@ -9,9 +9,9 @@ use Rattle.stl_symbols.specs.Symbol.{Symbol}
 use Rattle.block_layout.specs.declared.blocks.BlockLayout.{BlockLayout}
 use Rattle.stl_types.specs.Bodies.{first_context}
 use Rattle.stl_types.specs.Context.{Context}
-use Rattle.stl_codegen.specs.Compiled.{compiled_block}
+use Rattle.stl_codegen.specs.CompiledBlock.{compiled_block}
 use Rattle.stl_codegen.specs.Fitting.{BlockFits}
-use Rattle.stl_codegen.specs.Generated.{code_block_of, code_blocks_of, each_block, program_of}
+use Rattle.stl_codegen.specs.GeneratedProgram.{code_block_of, code_blocks_of, each_block, program_of}
 use Rattle.stl_codegen.specs.Order.{sorted_insertion, is_block_before, sorted_list}
 use Rattle.stl_codegen.proofs.FitLemmas.{program_fits}
 use Rattle.stl_codegen.proofs.OrderLemmas.{compiled_sorted}

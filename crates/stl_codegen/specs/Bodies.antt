@@ -10,7 +10,7 @@ use Rattle.stl_ast.specs.declared.mnemonics.Mnemonic.{Mnemonic}
 use Rattle.stl_ast.specs.declared.statements.Statement.{Statement}
 use Rattle.stl_types.specs.Context.{Context}
 use Rattle.stl_types.specs.Labels.{labels_of}
-use Rattle.stl_codegen.specs.Emitted.{end_op, ops_of}
+use Rattle.stl_codegen.specs.EmittedOps.{end_op, ops_of}
 use Rattle.stl_codegen.specs.Instruction.{count_of_statement, instruction}
 
 -- the ops that a statement of this body adds to the code; its number has no part in them

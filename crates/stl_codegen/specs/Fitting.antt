@@ -9,7 +9,7 @@ use Rattle.flat_code.specs.Programs.{CodeBlock}
 use Rattle.flat_code.specs.declared.operands.Operand.{Operand}
 use Rattle.flat_code.specs.declared.operands.Operand.TheVariants as operand
 use Rattle.flat_code.specs.declared.programs.Param.{Param}
-use Rattle.stl_codegen.specs.Compiled.{op_with_target}
+use Rattle.stl_codegen.specs.CompiledBlock.{op_with_target}
 
 -- an operand that isn't a jump's: it stays the same whatever targets the ops get
 abbrev pub IsStill : Operand → Type 0

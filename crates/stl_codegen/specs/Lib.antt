@@ -1,11 +1,11 @@
 pub mod Operations
 pub mod Operands
-pub mod Passed
+pub mod PassedParameters
 pub mod Instruction
-pub mod Emitted
-pub mod Compiled
+pub mod EmittedOps
+pub mod CompiledBlock
 pub mod Order
 pub mod Places
-pub mod Generated
+pub mod GeneratedProgram
 pub mod Fitting
 pub mod Bodies

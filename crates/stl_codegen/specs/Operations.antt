@@ -2,7 +2,7 @@
 use Rattle.std.specs.Prelude.{true, false, Option, Some, None}
 use Rattle.flat_code.specs.declared.kinds.JumpOperation.{JumpOperation}
 use Rattle.flat_code.specs.declared.kinds.JumpOperation.TheVariants as jump
-use Rattle.flat_code.specs.declared.operations.AddConstant.TheVariants as adding
+use Rattle.flat_code.specs.declared.operations.AddConstant.TheVariants as add_constant
 use Rattle.flat_code.specs.declared.operations.CallOperation.{CallOperation}
 use Rattle.flat_code.specs.declared.operations.CallOperation.TheVariants as calls
 use Rattle.plc_base.specs.declared.Compare.TheVariants as compare
@@ -95,8 +95,8 @@ store_pointer_operation _ = operation.Pointer pointers.Tar1
 -- the operation of `+`: with a decimal number it adds to the low word of accumulator 1, with L# to
 -- the whole
 abbrev pub add_operation : Operand → Operation
-add_operation (operand.Constant (literal.Long value)) = operation.Add adding.Dword
-add_operation _ = operation.Add adding.Word
+add_operation (operand.Constant (literal.Long value)) = operation.Add add_constant.Dword
+add_operation _ = operation.Add add_constant.Word
 
 -- the operation of an instruction that goes on to the next statement, by what its operand names. No
 -- other comes to code
@@ -144,8 +144,8 @@ operation_for code.Push o v = operation.Number accu_operation.Push
 operation_for code.Pop o v = operation.Number accu_operation.Pop
 operation_for code.Caw o v = operation.Number accu_operation.Caw
 operation_for code.Cad o v = operation.Number accu_operation.Cad
-operation_for code.Inc o v = operation.Add adding.Inc
-operation_for code.Dec o v = operation.Add adding.Dec
+operation_for code.Inc o v = operation.Add add_constant.Inc
+operation_for code.Dec o v = operation.Add add_constant.Dec
 operation_for code.Add o v = add_operation o
 operation_for code.AddI o v = operation.Number accu_operation.AddI
 operation_for code.SubI o v = operation.Number accu_operation.SubI

@@ -4,7 +4,7 @@ use Rattle.plc_base.specs.Kinds.{kind_number}
 use Rattle.plc_base.specs.declared.blocks.BlockId.{BlockId}
 use Rattle.flat_code.specs.Faults.{is_earlier_name}
 use Rattle.flat_code.specs.Programs.{CodeBlock, DataBlock, NameEntry}
-use Rattle.stl_codegen.specs.Compiled.{StatedBlock}
+use Rattle.stl_codegen.specs.CompiledBlock.{StatedBlock}
 
 -- a block's kind and number stand before another's: by the number of the kind, then by its own
 abbrev pub is_id_before : BlockId → BlockId → Bool

@@ -1,7 +1,7 @@
 -- A table of the offsets of statements.
 use Rattle.std.specs.Prelude.{◌≡◌, ◌≤◌, ℕ, Bool, true, false, List, [], ◌∷◌, ◌++◌, Option, Some, None, slice_get}
 use Rattle.flat_code.specs.Ops.{OpData}
-use Rattle.stl_codegen.specs.Compiled.{offset_of_statement}
+use Rattle.stl_codegen.specs.CompiledBlock.{offset_of_statement}
 
 -- where a statement begins, by the starts of statements and the end of the code
 abbrev pub start_or_end : Option ℕ → Option ℕ → Option ℕ

@@ -2,9 +2,9 @@ ghost use Rattle.std.specs.Prelude.{◌≡◌, ◌≤◌, IfOk, IfSome, Some, ma
 ghost use Rattle.std.specs.List.{AllByRecursion};
 ghost use Rattle.std.specs.Option.{IfNone};
 ghost use Rattle.plc_base.specs.Kinds.{is_code};
-ghost use Rattle.stl_codegen.specs.Compiled.{compiled_block};
+ghost use Rattle.stl_codegen.specs.CompiledBlock.{compiled_block};
 ghost use Rattle.stl_codegen.specs.Fitting.{AreItemsAppended, BlockFits};
-ghost use Rattle.stl_codegen.specs.Generated.{
+ghost use Rattle.stl_codegen.specs.GeneratedProgram.{
   code_block,
   code_block_of,
   each_block,

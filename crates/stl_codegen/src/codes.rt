@@ -1,9 +1,9 @@
 ghost use Rattle.std.specs.Prelude.{◌≡◌, ◌<◌, IfOk, IfSome};
 ghost use Rattle.std.specs.Option.{IfNone};
 ghost use Rattle.stl_codegen.specs.Bodies.{body_lines, body_ops, count_of_statements};
-ghost use Rattle.stl_codegen.specs.Compiled.{code_in, lines_in, placed_ops};
+ghost use Rattle.stl_codegen.specs.CompiledBlock.{code_in, lines_in, placed_ops};
 ghost use Rattle.stl_codegen.specs.Fitting.{CodeFits, HasNoOp};
-ghost use Rattle.stl_codegen.specs.Generated.{statements_of};
+ghost use Rattle.stl_codegen.specs.GeneratedProgram.{statements_of};
 
 use crate::bodies::{Body, lines_of};
 use crate::emitting::append_end;

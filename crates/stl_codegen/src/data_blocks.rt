@@ -1,6 +1,6 @@
 ghost use Rattle.std.specs.Prelude.{◌≡◌, ◌++◌, IfOk, Some};
 ghost use Rattle.block_layout.specs.declared.blocks.Shape.TheVariants as shapes;
-ghost use Rattle.stl_codegen.specs.Generated.{
+ghost use Rattle.stl_codegen.specs.GeneratedProgram.{
   generated_data_block,
   data_block_of,
   each_block,

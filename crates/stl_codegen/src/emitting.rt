@@ -4,7 +4,7 @@ ghost use Rattle.flat_code.specs.Ops.{op_of};
 ghost use Rattle.flat_code.specs.declared.operands.Operand.TheVariants as operands;
 ghost use Rattle.flat_code.specs.declared.operands.Passed.TheVariants as passed;
 ghost use Rattle.flat_code.specs.declared.operations.Operation.TheVariants as operations;
-ghost use Rattle.stl_codegen.specs.Emitted.{
+ghost use Rattle.stl_codegen.specs.EmittedOps.{
   call_op,
   end_op,
   instance_number_or_zero,

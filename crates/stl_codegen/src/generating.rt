@@ -1,7 +1,7 @@
 ghost use Rattle.std.specs.Prelude.{◌≡◌, IfOk, IfSome};
 ghost use Rattle.std.specs.Option.{IfNone};
 ghost use Rattle.flat_code.specs.Image.{IsProgram};
-ghost use Rattle.stl_codegen.specs.Generated.{data_blocks_of, name_entries_of, program_of};
+ghost use Rattle.stl_codegen.specs.GeneratedProgram.{data_blocks_of, name_entries_of, program_of};
 ghost use Rattle.stl_codegen.specs.Order.{is_block_before, is_code_before, sorted_list};
 
 use crate::code_blocks::code_blocks;
@@ -37,7 +37,7 @@ fn ordered_code_blocks(
     Ok(Some(list))
 }
 
-#[tactic(auto, unfolding(crate::specs::Generated::data_blocks_of))]
+#[tactic(auto, unfolding(crate::specs::GeneratedProgram::data_blocks_of))]
 fn ordered_data_blocks(
     alloc: Global,
     tree: &Tree,

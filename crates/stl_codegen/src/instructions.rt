@@ -3,7 +3,7 @@ ghost use Rattle.std.specs.Option.{option_copied};
 ghost use Rattle.stl_types.specs.Parameters.{callee_of};
 ghost use Rattle.stl_types.specs.declared.views.ResolvedOperand.TheVariants as resolved;
 ghost use Rattle.flat_code.specs.Instr.{Calls, Does};
-ghost use Rattle.stl_codegen.specs.Emitted.{ops_of, pass_ops};
+ghost use Rattle.stl_codegen.specs.EmittedOps.{ops_of, pass_ops};
 ghost use Rattle.stl_codegen.specs.Fitting.{AreOpsAppended};
 ghost use Rattle.stl_codegen.specs.Instruction.{
   source_block_at,
@@ -44,7 +44,7 @@ pub(crate) fn append_jump_to(
 }
 
 /// Appends NOP 0, for a statement that doesn't name what its instruction takes.
-#[tactic(auto, unfolding(crate::specs::Emitted::ops_of))]
+#[tactic(auto, unfolding(crate::specs::EmittedOps::ops_of))]
 fn append_filler(ops: &mut Vec<Op>) -> Result<Option<()>, AllocError>
     ensures { IfOk result (λ done. AreOpsAppended ops.old.items ops.new.items
         (ops_of filler_instruction) done) }
@@ -54,7 +54,7 @@ fn append_filler(ops: &mut Vec<Op>) -> Result<Option<()>, AllocError>
 
 /// Appends an instruction that goes on to the next statement, and the op that opens a data block
 /// before it.
-#[tactic(auto, unfolding(crate::specs::Emitted::ops_of), using(crate::proofs::AppendLemmas::front_has_none, crate::proofs::AppendLemmas::back_has_none, crate::proofs::AppendLemmas::appended_then, crate::proofs::OpLemmas::no_operand))]
+#[tactic(auto, unfolding(crate::specs::EmittedOps::ops_of), using(crate::proofs::AppendLemmas::front_has_none, crate::proofs::AppendLemmas::back_has_none, crate::proofs::AppendLemmas::appended_then, crate::proofs::OpLemmas::no_operand))]
 fn append_operation(
     ops: &mut Vec<Op>,
     statement: &Statement,
@@ -146,7 +146,7 @@ fn append_arguments(
 }
 
 /// Appends the call of a block, with what it passes.
-#[tactic(auto, unfolding(crate::specs::Emitted::ops_of), using(crate::proofs::AppendLemmas::front_has_none, crate::proofs::AppendLemmas::appended_then))]
+#[tactic(auto, unfolding(crate::specs::EmittedOps::ops_of), using(crate::proofs::AppendLemmas::front_has_none, crate::proofs::AppendLemmas::appended_then))]
 fn append_called(
     alloc: Global,
     ops: &mut Vec<Op>,
@@ -187,7 +187,7 @@ fn append_call_by(
 }
 
 /// Appends an instruction that is no call.
-#[tactic(auto, unfolding(crate::specs::Emitted::ops_of))]
+#[tactic(auto, unfolding(crate::specs::EmittedOps::ops_of))]
 fn append_plain(
     ops: &mut Vec<Op>,
     statement: &Statement,

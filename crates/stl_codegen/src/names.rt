@@ -1,7 +1,7 @@
 ghost use Rattle.std.specs.Prelude.{◌≡◌, ◌++◌, IfOk};
 ghost use Rattle.std.specs.List.{flat_map};
 ghost use Rattle.stl_symbols.specs.declared.targets.Target.TheVariants as targets;
-ghost use Rattle.stl_codegen.specs.Generated.{has_name, name_entry};
+ghost use Rattle.stl_codegen.specs.GeneratedProgram.{has_name, name_entry};
 
 use flat_code::NameEntry;
 use plc_base::{Area, Place, Width};

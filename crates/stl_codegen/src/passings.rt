@@ -3,9 +3,9 @@ ghost use Rattle.std.specs.Option.{option_copied};
 ghost use Rattle.std.specs.Str.{bytes_eq};
 ghost use Rattle.plc_base.specs.Folding.{upper_case_name};
 ghost use Rattle.stl_types.specs.Resolution.{resolution_of};
-ghost use Rattle.stl_codegen.specs.Emitted.{pass_ops};
+ghost use Rattle.stl_codegen.specs.EmittedOps.{pass_ops};
 ghost use Rattle.stl_codegen.specs.Fitting.{AreOpsAppended};
-ghost use Rattle.stl_codegen.specs.Passed.{
+ghost use Rattle.stl_codegen.specs.PassedParameters.{
   passed_actual,
   passed_place,
   passed_resolution,

@@ -2,7 +2,7 @@
 ghost use Rattle.std.specs.Prelude.{◌≡◌, List, false, IfOk, IfSome, IfNone, OnOk};
 ghost use Rattle.flat_code.specs.Codes.{are_ops};
 ghost use Rattle.flat_code.specs.Ops.{IsOp, OpData};
-ghost use Rattle.stl_codegen.specs.Compiled.{op_with_target, offset_of_statement, placed_ops};
+ghost use Rattle.stl_codegen.specs.CompiledBlock.{op_with_target, offset_of_statement, placed_ops};
 ghost use Rattle.stl_codegen.specs.Places.{AreStatementOffsets, extended_starts};
 
 use flat_code::{Op, Operand};

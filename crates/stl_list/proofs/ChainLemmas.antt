@@ -4,7 +4,7 @@ use Rattle.std.proofs.lemmas.Bool.Decides.{nat_tests}
 use Rattle.std.proofs.lemmas.List.{append-nil, drop_all, take_all}
 use Rattle.std.proofs.lemmas.List.Edits.{map_over_more}
 use Rattle.std.proofs.lemmas.List.{get_or_default}
-use Rattle.stl_list.specs.Joined.{replaced_label}
+use Rattle.stl_list.specs.JoinedParameters.{replaced_label}
 
 replaced_here : (a label : ℕ) → (b : Bool) → eqb label a ≡ b → cond b a label ≡ label
 replaced_here a label true e = let same : label ≡ a = grind (arith, nat_tests) in sym same

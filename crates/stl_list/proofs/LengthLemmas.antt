@@ -36,7 +36,7 @@ use Rattle.stl_print.specs.declared.gaps.Gap.{Gap}
 use Rattle.stl_print.specs.declared.gaps.Gap.TheVariants as gap
 use Rattle.stl_list.specs.CodeBlocks.{in_lines, line_reached, listed_block, listed_blocks}
 use Rattle.stl_list.specs.DataBlocks.{listed_data_blocks}
-use Rattle.stl_list.specs.Joined.{chains_of}
+use Rattle.stl_list.specs.JoinedParameters.{chains_of}
 use Rattle.stl_list.specs.Lines.{last_statement_line, line_of_statement, line_behind_statements as line_behind_all, stands_before}
 use Rattle.stl_list.specs.Listing.{listed_source, listed_tree}
 use Rattle.stl_list.specs.Signatures.{Signature, signatures}

@@ -13,7 +13,7 @@ use Rattle.stl_ast.specs.declared.operands.Operand.TheVariants as operand
 use Rattle.stl_ast.specs.declared.statements.Actual.{Actual}
 use Rattle.stl_types.specs.declared.parameters.Formal.{Formal}
 use Rattle.stl_list.specs.Constants.{typed_constant}
-use Rattle.stl_list.specs.Joined.{called_id}
+use Rattle.stl_list.specs.JoinedParameters.{called_id}
 use Rattle.stl_list.specs.Operands.{direct_operand, own_parameter}
 use Rattle.stl_list.specs.Signatures.{Signature, called_formals}
 

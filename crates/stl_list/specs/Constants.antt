@@ -4,7 +4,7 @@ use Rattle.std.specs.Int.{cast_signed, w16, w32}
 use Rattle.plc_base.specs.declared.places.Area.TheVariants as area
 use Rattle.plc_base.specs.Bits.{has_bit}
 use Rattle.plc_base.specs.Pointer.{area_number}
-use Rattle.flat_code.specs.declared.operations.AddConstant.TheVariants as adding
+use Rattle.flat_code.specs.declared.operations.AddConstant.TheVariants as add_constant
 use Rattle.flat_code.specs.declared.operations.Logic.TheVariants as logic
 use Rattle.flat_code.specs.declared.operations.Operation.{Operation}
 use Rattle.flat_code.specs.declared.operations.Operation.TheVariants as operation
@@ -64,7 +64,7 @@ instruction_constant (operation.Logic logic.Od) bits = operand.Constant (literal
 instruction_constant (operation.Logic logic.Xod) bits = operand.Constant (literal.Dword bits)
 instruction_constant (operation.Logic _) bits = word_constant bits
 instruction_constant (operation.Pointer which) bits = pointer_constant bits
-instruction_constant (operation.Add adding.Dword) bits =
+instruction_constant (operation.Add add_constant.Dword) bits =
     operand.Constant (literal.Long (cast_signed w32 bits))
 instruction_constant operation.LoadOpenBlock bits = operand.Other (open_block_name bits)
 instruction_constant _ bits = decimal_constant bits

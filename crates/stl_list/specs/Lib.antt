@@ -3,7 +3,7 @@ pub mod Parameters
 pub mod Constants
 pub mod Runs
 pub mod Labels
-pub mod Joined
+pub mod JoinedParameters
 pub mod Signatures
 pub mod Operands
 pub mod Actuals

@@ -6,7 +6,7 @@ use Rattle.stl_ast.specs.declared.blocks.Tree.{Tree}
 use Rattle.stl_print.specs.Trees.{printed_text}
 use Rattle.stl_list.specs.CodeBlocks.{in_lines, line_reached, listed_blocks}
 use Rattle.stl_list.specs.DataBlocks.{listed_data_blocks}
-use Rattle.stl_list.specs.Joined.{chains_of}
+use Rattle.stl_list.specs.JoinedParameters.{chains_of}
 use Rattle.stl_list.specs.Signatures.{Signature, signatures}
 
 -- the blocks of a source: the code blocks by their lines, then the data blocks on the last line

@@ -24,7 +24,7 @@ use Rattle.stl_ast.specs.declared.operands.Operand.TheVariants as operand
 use Rattle.stl_ast.specs.declared.operands.PathHead.TheVariants as head
 use Rattle.stl_types.specs.declared.parameters.Formal.{Formal}
 use Rattle.stl_list.specs.Constants.{instruction_constant}
-use Rattle.stl_list.specs.Joined.{called_id}
+use Rattle.stl_list.specs.JoinedParameters.{called_id}
 use Rattle.stl_list.specs.Labels.{label_of_number}
 use Rattle.stl_list.specs.Parameters.{parameter_name}
 use Rattle.stl_list.specs.Runs.{Run, number_at}

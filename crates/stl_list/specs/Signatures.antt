@@ -7,7 +7,7 @@ use Rattle.flat_code.specs.declared.image_fields.TheConstants.{SECTION_OUT, SECT
 use Rattle.flat_code.specs.declared.programs.Param.{Param}
 use Rattle.stl_types.specs.Parameters.{formal}
 use Rattle.stl_types.specs.declared.parameters.Formal.{Formal}
-use Rattle.stl_list.specs.Joined.{Chains, kind_at, system_parameters}
+use Rattle.stl_list.specs.JoinedParameters.{Chains, kind_at, system_parameters}
 use Rattle.stl_list.specs.Parameters.{name_of, section_of}
 
 -- a block by kind and number, the bytes of its instances, its parameters with their places, and the

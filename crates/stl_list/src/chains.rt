@@ -1,7 +1,7 @@
 //! Which parameters a chain of passings joins to an INT or a TIME of a system function.
 ghost use Rattle.std.specs.Prelude.{◌≡◌, ◌<◌, false, length, map, unwrap_or, IfOk, slice_get};
 ghost use Rattle.std.specs.List.{range_with_len};
-ghost use Rattle.stl_list.specs.Joined.{
+ghost use Rattle.stl_list.specs.JoinedParameters.{
   chains_by,
   chains_of,
   is_int_kind,
@@ -94,7 +94,7 @@ fn first_labels(alloc: Global, count: usize) -> Result<Vec<usize>, NoMemory>
 }
 
 /// Labels of so many parameters: those that a chain of passings joins have the same.
-#[tactic(auto, unfolding(crate::specs::Joined::chain_labels))]
+#[tactic(auto, unfolding(crate::specs::JoinedParameters::chain_labels))]
 fn labels_of(alloc: Global, count: usize, links: &[Link]) -> Result<Vec<usize>, NoMemory>
     ensures { IfOk result (λ v. v.items ≡ chain_labels count links.now) }
 {
@@ -157,7 +157,7 @@ fn mark_time(marks: &mut [bool], labels: &[usize], link: Link)
 }
 
 /// The labels that a chain joins to INT.
-#[tactic(auto, unfolding(crate::specs::Joined::marks_of))]
+#[tactic(auto, unfolding(crate::specs::JoinedParameters::marks_of))]
 fn int_marks(alloc: Global, labels: &[usize], links: &[Link]) -> Result<Vec<bool>, NoMemory>
     ensures { IfOk result (λ v. v.items ≡ marks_of is_int_kind labels.now links.now) }
 {
@@ -169,7 +169,7 @@ fn int_marks(alloc: Global, labels: &[usize], links: &[Link]) -> Result<Vec<bool
 }
 
 /// The labels that a chain joins to TIME.
-#[tactic(auto, unfolding(crate::specs::Joined::marks_of))]
+#[tactic(auto, unfolding(crate::specs::JoinedParameters::marks_of))]
 fn time_marks(alloc: Global, labels: &[usize], links: &[Link]) -> Result<Vec<bool>, NoMemory>
     ensures { IfOk result (λ v. v.items ≡ marks_of is_time_kind labels.now links.now) }
 {
@@ -189,7 +189,7 @@ pub(crate) struct Chains {
 }
 
 impl Model for Chains {
-    ghost use Rattle.stl_list.specs.Joined.{Chains as ChainsData};
+    ghost use Rattle.stl_list.specs.JoinedParameters.{Chains as ChainsData};
 
     ghost Value = { ChainsData };
 
@@ -231,10 +231,10 @@ fn chains_by(alloc: Global, count: usize, links: &[Link]) -> Result<Chains, NoMe
 
 impl Chains {
     ghost use Rattle.std.specs.Prelude.{◌≡◌, ◌<◌, length, IfOk};
-    ghost use Rattle.stl_list.specs.Joined.{chains_of, kind_at};
+    ghost use Rattle.stl_list.specs.JoinedParameters.{chains_of, kind_at};
 
     /// The chains of a program.
-    #[tactic(auto, unfolding(crate::specs::Joined::chains_of))]
+    #[tactic(auto, unfolding(crate::specs::JoinedParameters::chains_of))]
     pub(crate) fn of(alloc: Global, blocks: &[CodeBlock]) -> Result<Chains, NoMemory>
         requires { length blocks.now < 65536 }
         ensures { IfOk result (λ c. c ≡ chains_of blocks.now) }
@@ -244,7 +244,7 @@ impl Chains {
     }
 
     /// The type of the parameter of a number.
-    #[tactic(auto, unfolding(crate::specs::Joined::kind_at))]
+    #[tactic(auto, unfolding(crate::specs::JoinedParameters::kind_at))]
     pub(crate) fn kind_at(&self, parameter: usize, width: Width) -> Simple
         ensures { result ≡ kind_at self.now parameter width }
     {

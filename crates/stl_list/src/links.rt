@@ -3,7 +3,7 @@ ghost use Rattle.std.specs.Prelude.{◌≡◌, ◌<◌, ◌^◌, ◌++◌, ◌�
 ghost use Rattle.flat_code.specs.Ops.{OpData};
 ghost use Rattle.stl_list.specs.Runs.{runs_from};
 ghost use Rattle.plc_base.specs.Kinds.{is_same_block};
-ghost use Rattle.stl_list.specs.Joined.{
+ghost use Rattle.stl_list.specs.JoinedParameters.{
   block_links,
   call_links,
   called_id,
@@ -302,7 +302,7 @@ fn add_block(
 }
 
 /// The links of a program.
-#[tactic(auto, unfolding(crate::specs::Joined::links))]
+#[tactic(auto, unfolding(crate::specs::JoinedParameters::links))]
 pub(crate) fn links(alloc: Global, blocks: &[CodeBlock]) -> Result<Vec<Link>, NoMemory>
     requires { length blocks.now < 65536 }
     ensures { IfOk result (λ v. v.items ≡ links blocks.now) }

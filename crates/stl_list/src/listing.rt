@@ -3,7 +3,7 @@ ghost use Rattle.std.specs.List.{All, list_any};
 ghost use Rattle.std.specs.Option.{IfNone};
 ghost use Rattle.image_file.specs.Writing.{BlockFitsFields, DataFitsFields};
 ghost use Rattle.stl_list.specs.CodeBlocks.{in_lines as sorted_by_lines};
-ghost use Rattle.stl_list.specs.Joined.{chains_of};
+ghost use Rattle.stl_list.specs.JoinedParameters.{chains_of};
 ghost use Rattle.stl_list.specs.Listing.{
   blocks_by as blocks_from,
   listed_source as source_of,

@@ -28,7 +28,7 @@ use Rattle.stl_lexer.specs.declared.marks.Mark.TheVariants as mark
 use Rattle.stl_parser.specs.declared.keywords.ClauseWord.TheVariants as key
 use Rattle.stl_parser.specs.declared.statements.BareStatement.{BareStatement}
 use Rattle.stl_parser.specs.declared.tables.OperandSyntax.{OperandSyntax}
-use Rattle.stl_parser.specs.declared.tables.OperandSyntax.TheVariants as form
+use Rattle.stl_parser.specs.declared.tables.OperandSyntax.TheVariants as operand_syntax
 use Rattle.stl_parser.specs.Terminals.{has_kind, is_mark, is_key}
 use Rattle.stl_parser.specs.Tables.{look_up, mnemonics, opening_mnemonics}
 use Rattle.stl_parser.specs.Parts.{parts_from, complete_reading}
@@ -55,11 +55,11 @@ pub record IsInstruction (more : ℕ) (i : BareStatement) : Type 0 where
 
 -- an instruction word goes with what may stand behind it
 abbrev goes_with : Mnemonic → OperandSyntax → Bool
-goes_with m form.Operand = not (is_call m)
-goes_with m form.Jump = is_jump m
-goes_with m form.Open = not (is_call m)
-goes_with m form.BlockCall = is_call m && not (has_actuals m)
-goes_with m form.Call = has_actuals m
+goes_with m operand_syntax.Operand = not (is_call m)
+goes_with m operand_syntax.Jump = is_jump m
+goes_with m operand_syntax.Open = not (is_call m)
+goes_with m operand_syntax.BlockCall = is_call m && not (has_actuals m)
+goes_with m operand_syntax.Call = has_actuals m
 
 all_go : list_all (λ e. goes_with e.1.0 e.1.1 && not (is_empty_statement e.1.0)) mnemonics ≡ true
 unfolding mnemonics
@@ -329,13 +329,13 @@ call_holds source code tokens has some =
 behind_word_holds : (source : List ℕ) (f : OperandSyntax) (code : Mnemonic) (tokens : List Token) → goes_with code f ≡ true → is_empty_statement code ≡ false →
     IfSome (spec.behind_word source f code tokens) (IsInstruction (length tokens))
 unfolding spec.behind_word
-behind_word_holds source form.Operand code tokens goes some = with_operand_holds source code tokens (not-true (is_call code) goes) some
-behind_word_holds source form.Jump code tokens goes some = jump_holds source code tokens goes some
-behind_word_holds source form.Open code tokens goes some = open_holds source code tokens (not-true (is_call code) goes) some
-behind_word_holds source form.BlockCall code tokens goes some =
+behind_word_holds source operand_syntax.Operand code tokens goes some = with_operand_holds source code tokens (not-true (is_call code) goes) some
+behind_word_holds source operand_syntax.Jump code tokens goes some = jump_holds source code tokens goes some
+behind_word_holds source operand_syntax.Open code tokens goes some = open_holds source code tokens (not-true (is_call code) goes) some
+behind_word_holds source operand_syntax.BlockCall code tokens goes some =
     block_call_holds source code tokens (and_first (is_call code) _ goes)
     (not-true (has_actuals code) (and_second (is_call code) _ goes)) some
-behind_word_holds source form.Call code tokens goes some = call_holds source code tokens goes some
+behind_word_holds source operand_syntax.Call code tokens goes some = call_holds source code tokens goes some
 
 paren_holds : (source : List ℕ) (tokens : List Token) → IfSome (spec.after_paren source tokens) (λ rest. length rest < length tokens)
 unfolding spec.after_paren

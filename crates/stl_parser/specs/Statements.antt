@@ -18,7 +18,7 @@ use Rattle.stl_lexer.specs.declared.marks.Mark.TheVariants as mark
 use Rattle.stl_parser.specs.declared.keywords.ClauseWord.TheVariants as key
 use Rattle.stl_parser.specs.declared.statements.BareStatement.{BareStatement}
 use Rattle.stl_parser.specs.declared.tables.OperandSyntax.{OperandSyntax}
-use Rattle.stl_parser.specs.declared.tables.OperandSyntax.TheVariants as form
+use Rattle.stl_parser.specs.declared.tables.OperandSyntax.TheVariants as operand_syntax
 use Rattle.stl_parser.specs.Terminals.{has_kind, is_mark, is_key}
 use Rattle.stl_parser.specs.Tables.{look_up, mnemonics, opening_mnemonics}
 use Rattle.stl_parser.specs.Parts.{parts_from, complete_reading}
@@ -161,11 +161,11 @@ open_of source code tokens = statement_with_operand source code tokens
 
 -- what may stand behind an instruction word of this form
 unfoldable pub behind_word : List ℕ → OperandSyntax → Mnemonic → List Token → Option BareStatement
-behind_word source form.Operand code tokens = statement_with_operand source code tokens
-behind_word source form.Jump code tokens = jump_of source code tokens
-behind_word source form.Open code tokens = open_of source code tokens
-behind_word source form.BlockCall code tokens = block_call_of source code tokens
-behind_word source form.Call code tokens = call_of source code tokens
+behind_word source operand_syntax.Operand code tokens = statement_with_operand source code tokens
+behind_word source operand_syntax.Jump code tokens = jump_of source code tokens
+behind_word source operand_syntax.Open code tokens = open_of source code tokens
+behind_word source operand_syntax.BlockCall code tokens = block_call_of source code tokens
+behind_word source operand_syntax.Call code tokens = call_of source code tokens
 
 -- a `(` at the front, and what follows
 unfoldable pub after_paren : List ℕ → List Token → Option (List Token)

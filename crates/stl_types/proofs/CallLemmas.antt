@@ -9,7 +9,7 @@ use Rattle.stl_ast.specs.declared.statements.Actual.{Actual}
 use Rattle.stl_ast.specs.declared.statements.Statement.{Statement}
 use Rattle.plc_base.specs.Least.{broken_if, least, lesser}
 use Rattle.plc_base.proofs.LeastLemmas.{least-append, lesser_assoc, lesser_nothing}
-use Rattle.stl_types.specs.Joined.{broken_call, broken_statement, dates_of, in_statements, rules_of_calls, rules_of_jumps, rules_of_zones}
+use Rattle.stl_types.specs.RuleGroups.{broken_call, broken_statement, dates_of, in_statements, rules_of_calls, rules_of_jumps, rules_of_zones}
 use Rattle.stl_types.specs.Actuals.{formal_named}
 use Rattle.stl_types.specs.Calls.{by_callee, call_37, calls_unknown, has_wrong_instance, is_bare_call, lacks_actual, misfits_formal, rule_24_of_actuals, rule_34, rule_35, rule_36, rule_37, rule_38, rule_40, rule_46, is_resolved_date, actuals_supplied_twice, actuals_without_formal}
 use Rattle.stl_types.specs.Resolution.{resolution_of}

@@ -15,7 +15,7 @@ use Rattle.stl_ast.specs.declared.statements.Actual.{Actual}
 use Rattle.stl_ast.specs.declared.statements.Statement.{Statement}
 use Rattle.stl_ast.specs.Statements.{has_actuals}
 use Rattle.plc_base.specs.Folding.{upper_case_name}
-use Rattle.plc_base.specs.Gathered.{refusals_along}
+use Rattle.plc_base.specs.RefusalsAlong.{refusals_along}
 use Rattle.plc_base.specs.Least.{broken_if}
 use Rattle.stl_symbols.specs.Names.{name_place}
 use Rattle.block_layout.specs.Blocks.{named_block}

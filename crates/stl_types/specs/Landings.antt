@@ -9,7 +9,7 @@ use Rattle.stl_ast.specs.declared.blocks.Block.{Block}
 use Rattle.stl_ast.specs.declared.operands.Operand.{Operand}
 use Rattle.stl_ast.specs.declared.operands.Operand.TheVariants as operand
 use Rattle.stl_ast.specs.declared.statements.Statement.{Statement}
-use Rattle.plc_base.specs.Gathered.{refusals_along}
+use Rattle.plc_base.specs.RefusalsAlong.{refusals_along}
 use Rattle.plc_base.specs.Least.{broken_if}
 use Rattle.stl_symbols.specs.Names.{name_place}
 use Rattle.stl_types.specs.Bodies.{in_bodies}

@@ -16,6 +16,6 @@ pub mod Landings
 pub mod Parameters
 pub mod Actuals
 pub mod Calls
-pub mod Joined
+pub mod RuleGroups
 pub mod Table
-pub mod Resolved
+pub mod ResolvedStatement

@@ -2,7 +2,7 @@ ghost use Rattle.std.specs.Prelude.{◌≡◌, ◌++◌, IfOk};
 ghost use Rattle.std.specs.List.{flat_map};
 ghost use Rattle.plc_base.specs.Least.{least};
 ghost use Rattle.stl_types.specs.Bodies.{first_context};
-ghost use Rattle.stl_types.specs.Joined.{broken_call, broken_statement, rules_of_calls};
+ghost use Rattle.stl_types.specs.RuleGroups.{broken_call, broken_statement, rules_of_calls};
 ghost use Rattle.stl_types.specs.Calls.{by_callee};
 
 use crate::calls::{lacks_actual, least_supplied_twice, least_unnamed};

@@ -1,6 +1,6 @@
 ghost use Rattle.std.specs.Prelude.{◌≡◌, IfOk};
 ghost use Rattle.plc_base.specs.Least.{least};
-ghost use Rattle.stl_types.specs.Joined.{rules_of_jumps, rules_of_zones};
+ghost use Rattle.stl_types.specs.RuleGroups.{rules_of_jumps, rules_of_zones};
 ghost use Rattle.stl_types.specs.Table.{ChecksTree, statement_refusals};
 
 use crate::brackets::{least_closed_without, least_eighth, least_left_open};

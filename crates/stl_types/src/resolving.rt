@@ -10,7 +10,7 @@ ghost use Rattle.stl_types.specs.Operands.{
   rules_24_25_39,
   statement_rule,
 };
-ghost use Rattle.stl_types.specs.Resolved.{resolved_operand, operand_if_resolved};
+ghost use Rattle.stl_types.specs.ResolvedStatement.{resolved_operand, operand_if_resolved};
 ghost use Rattle.stl_types.specs.Resolution.{resolution_of};
 
 use crate::constants::takes_constant;
@@ -78,7 +78,7 @@ impl<'a> Context<'a> {
     /// # Errors
     ///
     /// Want of memory.
-    #[tactic(auto, unfolding(crate::specs::Resolved::resolved_operand))]
+    #[tactic(auto, unfolding(crate::specs::ResolvedStatement::resolved_operand))]
     pub fn resolved(
         &self,
         alloc: Global,

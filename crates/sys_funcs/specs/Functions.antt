@@ -5,7 +5,7 @@ use Rattle.frames.specs.declared.activation.Activation.{Activation}
 use Rattle.ob_sched.specs.OrganizationBlock.{is_delay}
 use Rattle.ob_sched.specs.Scheduler.{Scheduler, delay_of, delay_started, delay_cancelled}
 use Rattle.sys_funcs.specs.Disabling.{selection_error_code, selected_disabled}
-use Rattle.sys_funcs.specs.Returned.{SystemFunctionResult, int_result, with_br_set}
+use Rattle.sys_funcs.specs.Results.{SystemFunctionResult, int_result, with_br_set}
 
 -- the activation with another delay count: how often DIS_AIRT delays interrupts in it
 abbrev pub with_delay : ℕ → Activation → Activation

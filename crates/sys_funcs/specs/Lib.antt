@@ -1,3 +1,3 @@
-pub mod Returned
+pub mod Results
 pub mod Disabling
 pub mod Functions

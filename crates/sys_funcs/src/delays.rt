@@ -1,6 +1,6 @@
 ghost use Rattle.std.specs.Prelude.{◌≡◌};
 ghost use Rattle.ob_sched.specs.Views.{scheduler_of};
-ghost use Rattle.sys_funcs.specs.Returned.{LeavesSystemFunctionResult};
+ghost use Rattle.sys_funcs.specs.Results.{LeavesSystemFunctionResult};
 ghost use Rattle.sys_funcs.specs.Functions.{IsDelayOb, srt_dint as starts, can_dint as cancels};
 
 use crate::returns::returned_value;

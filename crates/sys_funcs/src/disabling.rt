@@ -2,7 +2,7 @@ ghost use Rattle.std.specs.Prelude.{◌≡◌, true, false};
 ghost use Rattle.ob_sched.specs.OrganizationBlock.{is_interrupt as interrupts};
 ghost use Rattle.ob_sched.specs.Views.{scheduler_of};
 ghost use Rattle.sys_funcs.specs.Disabling.{selected_disabled, first_of_group, is_interrupt_selected, selection_error_code, disabled_if_selected};
-ghost use Rattle.sys_funcs.specs.Returned.{LeavesSystemFunctionResult};
+ghost use Rattle.sys_funcs.specs.Results.{LeavesSystemFunctionResult};
 ghost use Rattle.sys_funcs.specs.Functions.{dis_irt as disables, en_irt as enables, disabled_or_error};
 
 use crate::returns::returned_value;

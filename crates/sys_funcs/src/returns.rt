@@ -1,5 +1,5 @@
 ghost use Rattle.std.specs.Prelude.{◌≡◌};
-ghost use Rattle.sys_funcs.specs.Returned.{br_of, with_br};
+ghost use Rattle.sys_funcs.specs.Results.{br_of, with_br};
 
 use frames::Activation;
 

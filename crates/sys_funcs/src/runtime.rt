@@ -3,7 +3,7 @@ ghost use Rattle.plc_base.specs.StopCauses.{by_program};
 ghost use Rattle.ob_sched.specs.Scheduler.{cycle_retriggered};
 ghost use Rattle.ob_sched.specs.Views.{scheduler_of};
 ghost use Rattle.sys_funcs.specs.Functions.{time_tck as tells};
-ghost use Rattle.sys_funcs.specs.Returned.{LeavesSystemFunctionResult, with_br_set};
+ghost use Rattle.sys_funcs.specs.Results.{LeavesSystemFunctionResult, with_br_set};
 
 use crate::returns::set_br;
 use frames::Activation;

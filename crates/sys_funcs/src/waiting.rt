@@ -1,6 +1,6 @@
 ghost use Rattle.std.specs.Prelude.{◌≡◌, ◌≤◌};
 ghost use Rattle.ob_sched.specs.Views.{scheduler_of};
-ghost use Rattle.sys_funcs.specs.Returned.{LeavesSystemFunctionResult};
+ghost use Rattle.sys_funcs.specs.Results.{LeavesSystemFunctionResult};
 ghost use Rattle.sys_funcs.specs.Functions.{dis_airt as disables, en_airt as enables};
 
 use crate::returns::returned_value;

@@ -3,7 +3,7 @@ use Rattle.std.proofs.Common.{◌≡◌, ℕ, zero, suc, ◌∙◌, refl, ap, ar
 use Rattle.std.proofs.lemmas.List.{length-map, length-set}
 use Rattle.std.proofs.lemmas.Grind.{common_steps}
 use Rattle.std.specs.Fn.{iterate}
-use Rattle.timers_counters.specs.Numbered.{LeavesTable, change_found, put_at_number}
+use Rattle.timers_counters.specs.ByNumber.{LeavesTable, change_found, put_at_number}
 use Rattle.timers_counters.specs.Sizes.{InstructionsKeepSize, TimeKeepsSize, RestartKeepsSize}
 use Rattle.timers_counters.specs.Timer.{timer_after_ms}
 use Rattle.timers_counters.specs.declared.faults.TimerFault.{TimerFault}

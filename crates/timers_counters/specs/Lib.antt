@@ -1,5 +1,5 @@
 pub mod Counter
-pub mod Numbered
+pub mod ByNumber
 pub mod Restart
 pub mod Sizes
 pub mod Timer

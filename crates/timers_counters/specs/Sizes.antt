@@ -2,7 +2,7 @@
 use Rattle.std.specs.Prelude.{◌≡◌, ℕ, Option, Result, List, map, length}
 use Rattle.std.specs.Fn.{iterate}
 use Rattle.timers_counters.specs.Counter.{Counter}
-use Rattle.timers_counters.specs.Numbered.{LeavesTable, change_at_number}
+use Rattle.timers_counters.specs.ByNumber.{LeavesTable, change_at_number}
 use Rattle.timers_counters.specs.Restart.{counters_retained}
 use Rattle.timers_counters.specs.Timer.{Timer, timer_after_ms}
 use Rattle.timers_counters.specs.declared.faults.TimerFault.{TimerFault}

@@ -2,7 +2,7 @@ ghost use Rattle.plc_base.specs.Profiles.{counter_count};
 ghost use Rattle.std.specs.Prelude.{◌++◌, ◌+◌, ◌≡◌, ◌≤◌, ◌<◌, ◌↔◌, Some, None, Err, MatchResult, slice_get, slice_set, replicate, length};
 ghost use Rattle.timers_counters.specs.Counter.{counter_at_rest, count_up, count_down, set_counter, reset_counter, free_counter, is_counting, count_bcd, Counter as CounterValue};
 ghost use Rattle.timers_counters.specs.Restart.{counters_retained};
-ghost use Rattle.timers_counters.specs.Numbered.{LeavesTable, change_at_number, change_always, read_at_number};
+ghost use Rattle.timers_counters.specs.ByNumber.{LeavesTable, change_at_number, change_always, read_at_number};
 ghost use Rattle.timers_counters.specs.declared.faults.TimerFault.TheVariants.{NoNumber};
 
 use crate::counting::Counter;

@@ -1,7 +1,7 @@
 ghost use Rattle.plc_base.specs.Profiles.{timer_count};
 ghost use Rattle.std.specs.Prelude.{◌++◌, ◌+◌, slice_set, ◌≡◌, ◌≤◌, ◌<◌, ◌↔◌, Some, None, Err, MatchResult, map, slice_get, replicate, length};
 ghost use Rattle.std.specs.Fn.{iterate};
-ghost use Rattle.timers_counters.specs.Numbered.{LeavesTable, change_at_number, change_always, read_at_number};
+ghost use Rattle.timers_counters.specs.ByNumber.{LeavesTable, change_at_number, change_always, read_at_number};
 ghost use Rattle.timers_counters.specs.Timer.{timer_at_rest, start_timer, reset_timer, free_timer, timer_after_ms, units_left, time_left, Timer as TimerValue};
 ghost use Rattle.timers_counters.specs.declared.faults.TimerFault.TheVariants.{NoNumber};
 

@@ -12,7 +12,7 @@ use Rattle.stl_lexer.specs.Forms.{has_form, is_word, is_number, begins_with, bas
 use Rattle.stl_lexer.specs.Longest.{IsLongestToken}
 use Rattle.stl_lexer.specs.Marks.{marks, mark_text}
 use Rattle.stl_lexer.specs.Pieces.{Piece, ArePiecesStanding, text_of_pieces}
-use Rattle.translation_laws.specs.Rewritten.{IsRewrittenText, kind_of_rewritten}
+use Rattle.translation_laws.specs.RewrittenText.{IsRewrittenText, kind_of_rewritten}
 use Rattle.translation_laws.proofs.GapsLemmas.{IsGapFront, end_front, gap_front}
 use Rattle.translation_laws.proofs.TextLemmas.{heads, start_word}
 

@@ -21,7 +21,7 @@ use Rattle.de_mnemonics.specs.Places.{place_behind, place_behind_sign, place_beh
 use Rattle.de_mnemonics.specs.Words.{exchanged_word, marked_name, operand_partner, translated_word}
 use Rattle.de_mnemonics.proofs.CaseLemmas.{same_to}
 use Rattle.de_mnemonics.proofs.WordLemmas.{instructions_come_back, operands_come_back}
-use Rattle.translation_laws.specs.Rewritten.{IsOtherWord, kind_of_rewritten}
+use Rattle.translation_laws.specs.RewrittenText.{IsOtherWord, kind_of_rewritten}
 use Rattle.translation_laws.proofs.RoleLemmas.{IsNear, Keeps, behind_plain, exchanged_or, instruction_exchanges, instruction_keeps, is_plain_class, is_word_kind, keeps_same, kind_plain, name_keeps, operand_keeps, role_plain, same_behind_word, same_role_word}
 
 -- a word of one of the languages stands in an operand place

@@ -18,7 +18,7 @@ use Rattle.stl_lexer.specs.Marks.{marks, mark_text}
 use Rattle.stl_lexer.specs.Pieces.{Piece, ArePiecesStanding, text_of_pieces}
 use Rattle.stl_lexer.specs.Tokens.{is_minus}
 use Rattle.de_mnemonics.specs.Places.{is_word_in_list}
-use Rattle.translation_laws.specs.Rewritten.{IsRewrittenText, is_non_joining_word, joining_words}
+use Rattle.translation_laws.specs.RewrittenText.{IsRewrittenText, is_non_joining_word, joining_words}
 use Rattle.translation_laws.proofs.TextLemmas.{alike_fronts, among_alike, begins_fronts, first_same, fronts, fronts_back, fronts_cut, fronts_over, fronts_trans, fronts_within, heads, run_words, same_start, same_word_byte, whole_word, word_fronts}
 use Rattle.translation_laws.proofs.GapsLemmas.{IsGapFront, gap_front}
 use Rattle.translation_laws.proofs.AheadLemmas.{Front, ArePiecesAnew, anew, fits_here, front_of, gap_word, heads_back, heads_same, word_of}

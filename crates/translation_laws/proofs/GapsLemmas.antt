@@ -16,7 +16,7 @@ use Rattle.stl_lexer.specs.Marks.{marks, mark_text}
 use Rattle.stl_lexer.specs.Pieces.{Piece, ArePiecesStanding, StandsBefore}
 use Rattle.stl_lexer.specs.Rules.{earlier_fault, fault_of, rule_broken_by_token}
 use Rattle.stl_lexer.proofs.GapLemmas.{comment_gap}
-use Rattle.translation_laws.specs.Rewritten.{IsRewrittenText, kind_of_rewritten}
+use Rattle.translation_laws.specs.RewrittenText.{IsRewrittenText, kind_of_rewritten}
 
 -- a walk over a gap: outside of comments and inside of one
 pub record Walks {P : Type 0} (g : P → List ℕ → List ℕ) (blanks comment : P) : Type 0 where

@@ -19,7 +19,7 @@ use Rattle.stl_lexer.specs.Tokens.{AreTokens, TokensFollow, IsEndOfTokens, IsNex
 use Rattle.stl_lexer.proofs.LineLemmas.{line_at_end}
 use Rattle.stl_lexer.proofs.PieceLemmas.{pieces_read}
 use Rattle.stl_lexer.proofs.PlainLemmas.{no_lines, none_foreign, plain_word}
-use Rattle.translation_laws.specs.Rewritten.{AreRewrittenTexts, IsRewrittenText, RewritingKeepsTokens, ShowRewrittenTexts, kind_of_rewritten, rewritten_source}
+use Rattle.translation_laws.specs.RewrittenText.{AreRewrittenTexts, IsRewrittenText, RewritingKeepsTokens, ShowRewrittenTexts, kind_of_rewritten, rewritten_source}
 use Rattle.translation_laws.proofs.TextLemmas.{alike_self, fronts_alike}
 use Rattle.translation_laws.proofs.GapsLemmas.{piece_anew}
 use Rattle.translation_laws.proofs.AheadLemmas.{ArePiecesAnew, Front, IsNameFront, anew, fits_here, front_of, heads_same, name_of, start_hash, word_of}

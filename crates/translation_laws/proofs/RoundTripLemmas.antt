@@ -25,7 +25,7 @@ use Rattle.de_mnemonics.specs.Places.{place_behind, class_of, role_of, role_of_w
 use Rattle.de_mnemonics.specs.Translation.{class_in, front_position, next_class, with_bytes_before, with_word_before, role_at, position_behind, translation_of, translation_from}
 use Rattle.de_mnemonics.specs.Words.{marked_name, operand_partner, translated_word}
 use Rattle.translation_laws.specs.Alike.{AreTokensAlike, ComesBackInRole, IsSameWordButForCase, IsOperandWordAsLocal as IsNamedToken, IsSameToken, TreesAlike}
-use Rattle.translation_laws.specs.Rewritten.{AreRewrittenTexts, IsRewrittenText, RewritingKeepsTokens, RewritesSource, ShowRewrittenTexts, kind_of_rewritten, rewritten_source}
+use Rattle.translation_laws.specs.RewrittenText.{AreRewrittenTexts, IsRewrittenText, RewritingKeepsTokens, RewritesSource, ShowRewrittenTexts, kind_of_rewritten, rewritten_source}
 use Rattle.translation_laws.specs.RoundTrip.{ComesBackWithTree, RoundTrips}
 use Rattle.translation_laws.specs.Statements.{is_number_class}
 use Rattle.translation_laws.proofs.RoleLemmas.{IsFit, IsNear, fits_next, is_word_kind, kind_plain, path_no_number, role_plain}

@@ -18,7 +18,7 @@ use Rattle.stl_lexer.proofs.FrontLemmas.{attribute_alone, best_found, characters
 use Rattle.stl_lexer.proofs.QuoteLemmas.{not_opened, not_quoted}
 use Rattle.stl_lexer.proofs.RunLemmas.{run_none}
 use Rattle.de_mnemonics.specs.Places.{is_word_in_list}
-use Rattle.translation_laws.specs.Rewritten.{is_non_joining_word, joining_words}
+use Rattle.translation_laws.specs.RewrittenText.{is_non_joining_word, joining_words}
 use Rattle.translation_laws.proofs.TextLemmas.{alike_fronts, among_alike, first_same, fronts, fronts_back, fronts_cons, fronts_cut, fronts_join, fronts_trans, fronts_within, goes_heads, heads, lower_hash, run_words, same_digit, same_start, split_word, whole_word}
 use Rattle.translation_laws.proofs.AheadLemmas.{Front, Over, Same, Words, Named, IsNameFront, fits_here, heads_other, heads_same}
 use Rattle.translation_laws.proofs.EndingLemmas.{Tail, Nothing, Apart, Run, SignedRun, Line, is_tail, all_rows, is_table, row_of, run_form, word_ends}

@@ -16,7 +16,7 @@ use Rattle.stl_lexer.specs.Marks.{marks, mark_text}
 use Rattle.stl_lexer.specs.Pieces.{Piece, ArePiecesStanding, text_of_pieces}
 use Rattle.stl_lexer.specs.Tokens.{is_minus}
 use Rattle.de_mnemonics.specs.Places.{is_word_in_list}
-use Rattle.translation_laws.specs.Rewritten.{IsRewrittenText, joining_words}
+use Rattle.translation_laws.specs.RewrittenText.{IsRewrittenText, joining_words}
 use Rattle.translation_laws.proofs.GapsLemmas.{IsGapFront, gap_front}
 use Rattle.translation_laws.proofs.TextLemmas.{first_same, fronts, fronts_both, fronts_cons, fronts_cut, fronts_join, fronts_over, fronts_within, goes_heads, heads, lower_hash, same_start, same_word_byte, start_word}
 use Rattle.translation_laws.proofs.AheadLemmas.{ArePiecesAnew, Front, anew, fits_here, heads_more, heads_other}

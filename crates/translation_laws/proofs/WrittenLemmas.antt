@@ -13,7 +13,7 @@ use Rattle.stl_symbols.specs.declared.languages.Language.TheVariants.{English, G
 use Rattle.de_mnemonics.specs.Places.{is_word_in_list}
 use Rattle.de_mnemonics.specs.Tables.{WordPairs, instruction_pairs, jump_pairs, operand_pairs, result_pairs}
 use Rattle.de_mnemonics.specs.Words.{digits_of_word, exchanged_word, instruction_partner, letters_of_word, numbered_partner, operand_partner, partner_in_table}
-use Rattle.translation_laws.specs.Rewritten.{IsOtherWord, is_non_joining_word, joining_words}
+use Rattle.translation_laws.specs.RewrittenText.{IsOtherWord, is_non_joining_word, joining_words}
 use Rattle.translation_laws.proofs.TextLemmas.{alike_fronts, alike_self, first_same, fronts, fronts_alike, same_digit}
 
 none≢some : {A : Type 0} (a : A) → None ≡ Some a → ⊥

@@ -1,4 +1,4 @@
 pub mod Alike
-pub mod Rewritten
+pub mod RewrittenText
 pub mod RoundTrip
 pub mod Statements

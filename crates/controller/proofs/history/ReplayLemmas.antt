@@ -11,11 +11,11 @@ use Rattle.var_access.specs.declared.What.{What}
 use Rattle.var_access.specs.Entry.{IsInRange}
 use Rattle.controller.specs.Fitting.{EntriesKeepFit, IsFit, StartIsFit}
 use Rattle.controller.specs.Replay.{ContinuesReplay, ContinuesLastObserved, entry_result, last_observed, replay}
-use Rattle.controller.specs.Shown.{WatchedState, observed_changes, nothing_shown, entry_shown, watched_state, watched_next}
+use Rattle.controller.specs.ShownEntry.{WatchedState, observed_changes, nothing_shown, entry_shown, watched_state, watched_next}
 use Rattle.controller.specs.Start.{initial_state}
 use Rattle.controller.specs.State.{State}
 use Rattle.controller.specs.declared.observing.Observed.{Observed}
-use Rattle.controller.specs.Replayed.{entry_events}
+use Rattle.controller.specs.ReplayResult.{entry_events}
 
 -- ---- at the start
 

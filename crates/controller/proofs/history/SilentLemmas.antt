@@ -12,10 +12,10 @@ use Rattle.var_access.specs.declared.What.TheVariants.{Step}
 use Rattle.controller.specs.Fitting.{EntriesKeepFit, IsFit}
 use Rattle.controller.specs.SilentSteps.{ShowNothing}
 use Rattle.controller.specs.Replay.{ContinuesByMore, LastObservedByMore, entry_result, last_observed, replay, state_after_entries, last_observed_from}
-use Rattle.controller.specs.Shown.{WatchedState, nothing_shown, watched_state}
+use Rattle.controller.specs.ShownEntry.{WatchedState, nothing_shown, watched_state}
 use Rattle.controller.specs.State.{State}
 use Rattle.controller.specs.declared.observing.Observed.{Observed}
-use Rattle.controller.specs.Replayed.{entry_events}
+use Rattle.controller.specs.ReplayResult.{entry_events}
 
 -- ---- entries behind others
 

@@ -36,19 +36,19 @@ use Rattle.stl_types.specs.Kinds.{is_operand_of_call}
 use Rattle.stl_types.specs.Operands.{operand_rule, rule_of_resolved_operand, rule_of_resolution, statement_rule, takes_operand}
 use Rattle.stl_types.specs.Parameters.{Callee, callee_at, callee_by, callee_of, formals_of, is_sound_formal, source_callee, system_callee, system_formals}
 use Rattle.stl_types.specs.Resolution.{resolution_of_call, id_at, instance_number, resolution_of, whole_called_block}
-use Rattle.stl_types.specs.Resolved.{resolved_operand, operand_if_resolved}
+use Rattle.stl_types.specs.ResolvedStatement.{resolved_operand, operand_if_resolved}
 use Rattle.stl_types.specs.declared.forms.OperandRule.{OperandRule}
-use Rattle.stl_types.specs.declared.forms.OperandRule.TheVariants as form
+use Rattle.stl_types.specs.declared.forms.OperandRule.TheVariants as operand_rules
 use Rattle.stl_types.specs.declared.parameters.Formal.{Formal}
 use Rattle.stl_types.specs.declared.views.Resolution.{Resolution}
 use Rattle.stl_types.specs.declared.views.Resolution.TheVariants.{Resolved, Unknown, Unjudged}
 use Rattle.stl_types.specs.declared.views.ResolvedOperand.{ResolvedOperand}
-use Rattle.stl_types.specs.declared.views.ResolvedOperand.TheVariants as view
-use Rattle.stl_codegen.specs.Compiled.{StatedBlock, compiled_block}
-use Rattle.stl_codegen.specs.Generated.{code_blocks_of, params_of}
+use Rattle.stl_types.specs.declared.views.ResolvedOperand.TheVariants as resolved
+use Rattle.stl_codegen.specs.CompiledBlock.{StatedBlock, compiled_block}
+use Rattle.stl_codegen.specs.GeneratedProgram.{code_blocks_of, params_of}
 use Rattle.stl_codegen.specs.Instruction.{in_parameter_order}
-use Rattle.stl_list.specs.Joined.{system_parameters}
-use Rattle.sem_kept.specs.Settled.{context_at}
+use Rattle.stl_list.specs.JoinedParameters.{system_parameters}
+use Rattle.sem_kept.specs.SettledStatements.{context_at}
 use Rattle.sem_kept.proofs.accepted.Accepted.{AllLaid, IsSoundBlock, IsSoundStatement, IsSoundTree, right_tree}
 use Rattle.block_layout.proofs.SoundnessLemmas.{block_unbroken}
 use Rattle.sem_kept.proofs.accepted.OperandsCells.{cells_are}
@@ -62,7 +62,7 @@ use Rattle.sem_kept.proofs.accepted.OperandsViews.{IsThere, id_there, id_there_i
 use Rattle.sem_kept.proofs.accepted.Shared.{callable_by}
 use Rattle.listing_laws.specs.AcceptedTypes.{AreAcceptedTypesKept, AreAcceptedTypesOwed, declared_kinds, kinds_at}
 use Rattle.listing_laws.specs.HandedOn.{IsFoundAmong, SeesOwn, called_kinds, formals_by_index}
-use Rattle.listing_laws.specs.Owned.{IsParameterCell, own_kinds}
+use Rattle.listing_laws.specs.OwnParameterTypes.{IsParameterCell, own_kinds}
 use Rattle.listing_laws.specs.SourceTypes.{BodiesOweTypes, BodyOwesTypes, StatementOwesTypes}
 use Rattle.listing_laws.proofs.IdLemmas.{id_itself}
 use Rattle.listing_laws.proofs.called.Owned.{own_seen}
@@ -78,18 +78,18 @@ record IsNamed (c : Context) (o : Operand) (id : BlockId) : Type 0 where
   named : named_block c.symbols name ≡ Some id
   whole : is_system_function id.kind ≡ false → (p : ℕ) × (whole_place c id ≡ Some p)
 
-pub taken_calls : (f : OperandRule) (id : BlockId) (instance : Option ℕ) → takes_operand f (view.Called id instance) ≡ true
-    → f ≡ form.Calls
+pub taken_calls : (f : OperandRule) (id : BlockId) (instance : Option ℕ) → takes_operand f (resolved.Called id instance) ≡ true
+    → f ≡ operand_rules.Calls
 unfolding takes_operand
-taken_calls form.Calls id instance e = refl
+taken_calls operand_rules.Calls id instance e = refl
 taken_calls _ id instance e = absurd cc
 
-pub calls_take : (id : BlockId) (instance : Option ℕ) → takes_operand form.Calls (view.Called id instance) ≡ true
-    → is_operand_of_call (view.Called id instance) ≡ true
+pub calls_take : (id : BlockId) (instance : Option ℕ) → takes_operand operand_rules.Calls (resolved.Called id instance) ≡ true
+    → is_operand_of_call (resolved.Called id instance) ≡ true
 unfolding takes_operand
 calls_take id instance e = e
 
-pub form_calls : (m : Mnemonic) → form_of m ≡ form.Calls → is_call m ≡ true
+pub form_calls : (m : Mnemonic) → form_of m ≡ operand_rules.Calls → is_call m ≡ true
 unfolding form_of
 form_calls code.Call e = refl
 form_calls code.Uc e = refl
@@ -101,11 +101,11 @@ pub operand_called : (o : Operand) → is_called_operand o ≡ true
 operand_called (operand.Called name inst) e = (name, inst, refl)
 operand_called _ e = absurd cc
 
-called_same : (a b : BlockId) (m n : Option ℕ) → Resolved (view.Called a m) ≡ Resolved (view.Called b n) → a ≡ b
+called_same : (a b : BlockId) (m n : Option ℕ) → Resolved (resolved.Called a m) ≡ Resolved (resolved.Called b n) → a ≡ b
 called_same a b m n e = cc
 
 seen_id : (x id : BlockId) (inst : Option BlockName) (n instance : Option ℕ)
-    → resolution_of_call (Some x) inst n ≡ Resolved (view.Called id instance) → x ≡ id
+    → resolution_of_call (Some x) inst n ≡ Resolved (resolved.Called id instance) → x ≡ id
 seen_id x id None n instance e = called_same x id None instance e
 seen_id x id (Some name) None instance e = absurd cc
 seen_id x id (Some name) (Some n) instance e = called_same x id (Some n) instance e
@@ -115,7 +115,7 @@ abbrev pub IsWhole : Context → BlockId → Option BlockId → Type 0
 IsWhole c id o = (o ≡ Some id) × (is_system_function id.kind ≡ false → (p : ℕ) × (whole_place c id ≡ Some p))
 
 pub seen_named : (c : Context) (name : BlockName) (inst : Option BlockName) (id : BlockId) (instance : Option ℕ)
-    → resolution_of c (operand.Called name inst) ≡ Resolved (view.Called id instance)
+    → resolution_of c (operand.Called name inst) ≡ Resolved (resolved.Called id instance)
     → IsWhole c id (named_block c.symbols name)
 unfolding resolution_of
 seen_named c name inst id instance e = by (named_block c.symbols name) e
@@ -124,16 +124,16 @@ seen_named c name inst id instance e = by (named_block c.symbols name) e
     made x same whole = (ap (λ (z : BlockId). Some z) same, subst (λ (z : BlockId). is_system_function z.kind ≡ false → (p : ℕ) × (whole_place c z ≡ Some p)) same whole)
 
     placed : (x : BlockId) (o : Option ℕ) → whole_place c x ≡ o
-        → resolution_of_call (id_at x o) inst (instance_number c inst) ≡ Resolved (view.Called id instance) → IsWhole c id (Some x)
+        → resolution_of_call (id_at x o) inst (instance_number c inst) ≡ Resolved (resolved.Called id instance) → IsWhole c id (Some x)
     placed x None w h = absurd cc
     placed x (Some p) w h = made x (seen_id x id inst (instance_number c inst) instance h) (λ k. (p, w))
 
     whether : (x : BlockId) (t : Bool) → is_system_function x.kind ≡ t
-        → resolution_of_call (if t then Some x else id_at x (whole_place c x)) inst (instance_number c inst) ≡ Resolved (view.Called id instance) → IsWhole c id (Some x)
+        → resolution_of_call (if t then Some x else id_at x (whole_place c x)) inst (instance_number c inst) ≡ Resolved (resolved.Called id instance) → IsWhole c id (Some x)
     whether x true sys h = made x (seen_id x id inst (instance_number c inst) instance h) (λ k. absurd cc)
     whether x false sys h = placed x (whole_place c x) refl h
 
-    by : (o : Option BlockId) → resolution_of_call (whole_called_block c o) inst (instance_number c inst) ≡ Resolved (view.Called id instance) → IsWhole c id o
+    by : (o : Option BlockId) → resolution_of_call (whole_called_block c o) inst (instance_number c inst) ≡ Resolved (resolved.Called id instance) → IsWhole c id o
     by None h = absurd cc
     by (Some x) h = whether x (is_system_function x.kind) refl h
 
@@ -151,7 +151,7 @@ resolved_seen c s v e = by (is_none (statement_rule c s)) e
     by false h = absurd cc
 
 pub rule_called : (c : Context) (f : OperandRule) (o : Operand) (id : BlockId) (instance : Option ℕ)
-    → resolution_of c o ≡ Resolved (view.Called id instance) → operand_rule c f o ≡ None → rule_of_resolved_operand f (view.Called id instance) ≡ None
+    → resolution_of c o ≡ Resolved (resolved.Called id instance) → operand_rule c f o ≡ None → rule_of_resolved_operand f (resolved.Called id instance) ≡ None
 unfolding resolution_of
 rule_called c f (operand.Constant value) id instance e h = absurd cc
 rule_called c f _ id instance e h = sym (ap (λ (r : Resolution). rule_of_resolution f r) e) ∙ h
@@ -402,17 +402,17 @@ module _ (symbols : List Symbol) (t : Tree) (tree : IsSoundTree symbols t) where
           (right.0, (h.calls callee is).fits, right.1),
     )
       where
-        at : resolution_of c s.operand ≡ Resolved (view.Called id instance)
-        at = resolved_seen c s (view.Called id instance) e
+        at : resolution_of c s.operand ≡ Resolved (resolved.Called id instance)
+        at = resolved_seen c s (resolved.Called id instance) e
 
-        taken : takes_operand (form_of s.code) (view.Called id instance) ≡ true
-        taken = (taken_by_rule (form_of s.code) (view.Called id instance) (rule_called c (form_of s.code) s.operand id instance at h.allowed)).taken
+        taken : takes_operand (form_of s.code) (resolved.Called id instance) ≡ true
+        taken = (taken_by_rule (form_of s.code) (resolved.Called id instance) (rule_called c (form_of s.code) s.operand id instance at h.allowed)).taken
 
-        calls : form_of s.code ≡ form.Calls
+        calls : form_of s.code ≡ operand_rules.Calls
         calls = taken_calls (form_of s.code) id instance taken
 
         callable : is_callable id.kind ≡ true
-        callable = callable_by id instance (calls_take id instance (ap (λ (f : OperandRule). takes_operand f (view.Called id instance)) (sym calls) ∙ taken))
+        callable = callable_by id instance (calls_take id instance (ap (λ (f : OperandRule). takes_operand f (resolved.Called id instance)) (sym calls) ∙ taken))
 
         o : (name : BlockName) × (inst : Option BlockName) × (s.operand ≡ operand.Called name inst)
         o = operand_called s.operand (h.well_formed.called ∙ form_calls s.code calls)

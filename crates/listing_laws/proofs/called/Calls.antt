@@ -17,13 +17,13 @@ use Rattle.stl_types.specs.Calls.{has_formals, has_no_instance, is_instance, is_
 use Rattle.stl_types.specs.Context.{whole_data_place}
 use Rattle.stl_types.specs.Parameters.{Callee}
 use Rattle.stl_types.specs.declared.parameters.Formal.{Formal}
-use Rattle.stl_types.specs.declared.views.ResolvedOperand.TheVariants as view
-use Rattle.stl_codegen.specs.Emitted.{instance_number_or_zero}
+use Rattle.stl_types.specs.declared.views.ResolvedOperand.TheVariants as resolved
+use Rattle.stl_codegen.specs.EmittedOps.{instance_number_or_zero}
 use Rattle.stl_codegen.specs.Instruction.{instr_by, instruction, passings_to, resolved_instr, operand_instr}
 use Rattle.stl_codegen.specs.Operations.{call_operation_of, jump_operation_of}
 use Rattle.stl_list.specs.Operands.{name_of_data_block, instance_name, operand_by, plain_operand}
 use Rattle.listing_laws.specs.Calls.{AreCallsKept, AreCallsListed, AreCallsWhole, AreFunctionsKnown, AreInstancesRight, AreStatementsListed, IsInstanceNumbered}
-use Rattle.stl_codegen.specs.Emitted.{pass_ops}
+use Rattle.stl_codegen.specs.EmittedOps.{pass_ops}
 use Rattle.stl_list.specs.Actuals.{actuals_before, actuals_by}
 use Rattle.stl_list.specs.Lines.{line_of_statement}
 use Rattle.stl_list.specs.Signatures.{called_formals}
@@ -65,7 +65,7 @@ unfolding instruction
 calls_kept c body n s how id instance own called callee ps call seen found listed =
     ap (instr_by c body n s) (no_jump s.code how call)
     ∙ ap (resolved_instr c s) seen
-    ∙ ap (operand_instr c s (view.Called id instance)) call
+    ∙ ap (operand_instr c s (resolved.Called id instance)) call
     ∙ ap (λ (o : Option Callee). Calls how id instance (passings_to c s o)) found
     ∙ ap (Calls how id instance) (passings_kept c own called callee ps s listed)
 

@@ -13,7 +13,7 @@ use Rattle.stl_ast.specs.declared.declarations.Simple.TheVariants as simple
 use Rattle.block_layout.specs.Offsets.{width_of}
 use Rattle.stl_list.specs.declared.links.Link.{Link}
 use Rattle.stl_list.specs.declared.links.Link.TheVariants.{Joins, Has}
-use Rattle.stl_list.specs.Joined.{chains_of, is_int_kind, is_time_kind, kind_at, kind_by, chain_labels, links, mark_at, marks_after_link, marks_of, total_parameter_count, merged_labels, labels_after_link, replaced_label, set_label}
+use Rattle.stl_list.specs.JoinedParameters.{chains_of, is_int_kind, is_time_kind, kind_at, kind_by, chain_labels, links, mark_at, marks_after_link, marks_of, total_parameter_count, merged_labels, labels_after_link, replaced_label, set_label}
 use Rattle.stl_list.specs.Parameters.{kind_of_width}
 use Rattle.listing_laws.specs.Chains.{AreChained, AreLabelsJoined, AreMarksHanded, AreTypesKept, HasSeed, HasStep, LinksHaveType, IsLinkBelow, IsPassingChain, IsHandedType, IsKeptBy, IsSeed, IsPassingStep, is_listed_type}
 

@@ -19,11 +19,11 @@ use Rattle.flat_code.specs.declared.operands.Passed.TheVariants as passed
 use Rattle.stl_ast.specs.declared.declarations.Simple.{Simple}
 use Rattle.stl_ast.specs.declared.declarations.Simple.TheVariants as simple
 use Rattle.stl_types.specs.declared.parameters.Formal.{Formal}
-use Rattle.stl_codegen.specs.Compiled.{SourceInstruction, StatedBlock, operand_with_target, code_in, compiled_block}
-use Rattle.stl_codegen.specs.Emitted.{use_db_ops, pass_ops}
+use Rattle.stl_codegen.specs.CompiledBlock.{SourceInstruction, StatedBlock, operand_with_target, code_in, compiled_block}
+use Rattle.stl_codegen.specs.EmittedOps.{use_db_ops, pass_ops}
 use Rattle.stl_list.specs.declared.links.Link.{Link}
 use Rattle.stl_list.specs.declared.links.Link.TheVariants.{Joins, Has}
-use Rattle.stl_list.specs.Joined.{block_links, call_links, called_id, first_of, joined_link, joined_links, links, links_from, links_of_runs, total_parameter_count, passed_own, run_links, system_link, system_links, system_parameters, typed_link}
+use Rattle.stl_list.specs.JoinedParameters.{block_links, call_links, called_id, first_of, joined_link, joined_links, links, links_from, links_of_runs, total_parameter_count, passed_own, run_links, system_link, system_links, system_parameters, typed_link}
 use Rattle.stl_list.specs.Runs.{Run}
 use Rattle.listing_laws.specs.Chains.{IsLinkBelow, IsKeptBy}
 use Rattle.listing_laws.specs.HandedOn.{AreLinksHandedOn, AreTypesListed, BlocksHandTypesOn, HandsTypesOn, IsCallable, IsHandedOn, called_kinds, declared_type_in, kinds_in}

@@ -10,11 +10,11 @@ use Rattle.flat_code.specs.Programs.{CodeBlock}
 use Rattle.flat_code.specs.declared.programs.Param.{Param}
 use Rattle.block_layout.specs.Offsets.{width_of}
 use Rattle.stl_types.specs.declared.parameters.Formal.{Formal}
-use Rattle.stl_list.specs.Joined.{Chains, chains_of, first_of, kind_at, kind_by, mark_at, total_parameter_count}
+use Rattle.stl_list.specs.JoinedParameters.{Chains, chains_of, first_of, kind_at, kind_by, mark_at, total_parameter_count}
 use Rattle.stl_list.specs.Parameters.{section_of}
 use Rattle.stl_list.specs.Signatures.{formals_from, formals_of_block, is_behind, signatures, signatures_from}
 use Rattle.listing_laws.specs.Chains.{is_listed_type}
-use Rattle.listing_laws.specs.Listed.{AreEndsAlike, AreListedAs, AreParametersListed, params_in}
+use Rattle.listing_laws.specs.ListingParameters.{AreEndsAlike, AreListedAs, AreParametersListed, params_in}
 
 -- a parameter among those of a block, whose first has a number
 record IsAt (c : Chains) (first : ℕ) (ps : List Param) (i : ℕ) (f : Formal) : Type 0 where

@@ -14,11 +14,11 @@ use Rattle.flat_code.specs.declared.programs.Param.{Param}
 use Rattle.stl_ast.specs.declared.declarations.Simple.TheVariants as simple
 use Rattle.stl_types.specs.Parameters.{dtime_formal, mode_formal, ob_nr_formal, return_value_formal, sign_formal, system_formals}
 use Rattle.stl_types.specs.declared.parameters.Formal.{Formal}
-use Rattle.stl_list.specs.Joined.{Chains}
+use Rattle.stl_list.specs.JoinedParameters.{Chains}
 use Rattle.stl_list.specs.Parameters.{name_of, parameter_name, return_name}
 use Rattle.stl_list.specs.Signatures.{formals_from, is_behind}
 use Rattle.print_laws.proofs.lexing.Numerals.{numeral}
-use Rattle.listing_laws.specs.Called.{AreOwnNamesApart, AreSystemNamesApart, ReturnsLast}
+use Rattle.listing_laws.specs.ParameterNames.{AreOwnNamesApart, AreSystemNamesApart, ReturnsLast}
 use Rattle.listing_laws.specs.Passings.{AreNamedApart}
 
 -- ---- names by numbers

@@ -42,9 +42,9 @@ use Rattle.stl_types.specs.declared.parameters.Formal.{Formal}
 use Rattle.stl_types.specs.declared.views.Resolution.{Resolution}
 use Rattle.stl_types.specs.declared.views.Resolution.TheVariants.{Resolved}
 use Rattle.stl_types.specs.declared.views.ResolvedOperand.{ResolvedOperand}
-use Rattle.stl_types.specs.declared.views.ResolvedOperand.TheVariants as view
+use Rattle.stl_types.specs.declared.views.ResolvedOperand.TheVariants as resolved
 use Rattle.stl_codegen.specs.Instruction.{in_parameter_order, return_last}
-use Rattle.listing_laws.specs.Owned.{AreOwnSeen, IsParameterCell}
+use Rattle.listing_laws.specs.OwnParameterTypes.{AreOwnSeen, IsParameterCell}
 use Rattle.listing_laws.proofs.NameLemmas.{either_way}
 
 -- ---- the parameter at a place
@@ -115,7 +115,7 @@ kind_at (g ∷ fs) (suc i) f e = kind_at fs i f e
 
 module _ (c : Context) (own : in_function c ≡ true → AllByRecursion IsParameterCell (cells_at c.layouts c.block false)) where
   abbrev IsOwn : ResolvedOperand → Type 0
-  IsOwn (view.Parameter index section kind) =
+  IsOwn (resolved.Parameter index section kind) =
       (f : Formal) × (slice_get (in_parameter_order (slice_get c.blocks c.block) (formals_of (cells_at c.layouts c.block false))) index ≡ Some f)
       × (f.kind ≡ kind) × (f.section ≡ section)
   IsOwn _ = Unit {0}
@@ -348,7 +348,7 @@ module _ (c : Context) (own : in_function c ≡ true → AllByRecursion IsParame
 -- ---- outside of functions
 
 abbrev IsNoParameter : ResolvedOperand → Type 0
-IsNoParameter (view.Parameter index section kind) = ⊥
+IsNoParameter (resolved.Parameter index section kind) = ⊥
 IsNoParameter _ = Unit {0}
 
 abbrev NoParameter : Resolution → Type 0
@@ -393,14 +393,14 @@ own_seen c own o index section kind e =
 -- it is one of the parameters that the block declares
 pub own_formal : (c : Context) → (in_function c ≡ true → AllByRecursion IsParameterCell (cells_at c.layouts c.block false))
     → (name : List ℕ) (steps : List PathStep) (index : ℕ) (section : PartKind) (kind : Simple)
-    → own_variable c name steps ≡ Resolved (view.Parameter index section kind)
+    → own_variable c name steps ≡ Resolved (resolved.Parameter index section kind)
     → (f : Formal) × (slice_get (in_parameter_order (slice_get c.blocks c.block) (formals_of (cells_at c.layouts c.block false))) index ≡ Some f)
     × (f.kind ≡ kind) × (f.section ≡ section)
 own_formal c own name steps index section kind e = subst (SeenOwn c own) e (variable_own c own name steps)
 
 -- and only a function has one
 pub own_function : (c : Context) (name : List ℕ) (steps : List PathStep) (index : ℕ) (section : PartKind) (kind : Simple)
-    → own_variable c name steps ≡ Resolved (view.Parameter index section kind) → in_function c ≡ true
+    → own_variable c name steps ≡ Resolved (resolved.Parameter index section kind) → in_function c ≡ true
 own_function c name steps index section kind e = by (in_function c) refl
   where
     never : ⊥ → false ≡ true

@@ -26,16 +26,16 @@ use Rattle.stl_types.specs.Calls.{misfits_formal}
 use Rattle.stl_types.specs.Context.{Context}
 use Rattle.stl_types.specs.Parameters.{Callee, callee_of}
 use Rattle.stl_types.specs.Resolution.{resolution_of}
-use Rattle.stl_types.specs.Resolved.{resolved_operand}
+use Rattle.stl_types.specs.ResolvedStatement.{resolved_operand}
 use Rattle.stl_codegen.specs.Instruction.{end_instr, instr_by, instruction, jump_instr, passings_to, resolved_instr, target_of, operand_instr}
 use Rattle.stl_codegen.specs.Operations.{call_operation_of, end_operation_of, jump_operation_of}
 use Rattle.stl_types.specs.declared.parameters.Formal.{Formal}
 use Rattle.stl_types.specs.declared.views.Resolution.{Resolution}
 use Rattle.stl_types.specs.declared.views.Resolution.TheVariants.{Resolved, Unknown, Unjudged}
 use Rattle.stl_types.specs.declared.views.ResolvedOperand.{ResolvedOperand}
-use Rattle.stl_types.specs.declared.views.ResolvedOperand.TheVariants as view
+use Rattle.stl_types.specs.declared.views.ResolvedOperand.TheVariants as resolved
 use Rattle.stl_codegen.specs.Operands.{is_in_named_block}
-use Rattle.stl_codegen.specs.Passed.{passed_actual, passed_resolution, passed_by_operand, passings_from, actual_of_formal, with_index}
+use Rattle.stl_codegen.specs.PassedParameters.{passed_actual, passed_resolution, passed_by_operand, passings_from, actual_of_formal, with_index}
 use Rattle.listing_laws.specs.HandedOn.{ArePassedOn, AreStatementsHandedOn, HandsTypesOn, CallOwesTypes, IsFoundAmong, IsHandedOn, SeesOwn, formals_by_index}
 
 same_types : (a b : Simple) → is_same_type a b ≡ true → a ≡ b
@@ -62,15 +62,15 @@ same_types a b e = by a b (eqb-true (type_number a) (type_number b) e)
     by simple.Time _ e = absurd cc
 
 -- a parameter that fits has the type that is asked for
-constant_seen : (c : Context) (value : Literal) → resolution_of c (operand.Constant value) ≡ Resolved view.Constant
+constant_seen : (c : Context) (value : Literal) → resolution_of c (operand.Constant value) ≡ Resolved resolved.Constant
 unfolding resolution_of
 constant_seen c value = refl
 
-no_parameter : (index : ℕ) (section : PartKind) (kind : Simple) → Resolved view.Constant ≡ Resolved (view.Parameter index section kind) → ⊥
+no_parameter : (index : ℕ) (section : PartKind) (kind : Simple) → Resolved resolved.Constant ≡ Resolved (resolved.Parameter index section kind) → ⊥
 no_parameter index section kind e = absurd cc
 
 own_type : (c : Context) (f : Formal) (o : Operand) (index : ℕ) (section : PartKind) (kind : Simple)
-    → resolution_of c o ≡ Resolved (view.Parameter index section kind) → fits_operand c f o ≡ true → kind ≡ f.kind
+    → resolution_of c o ≡ Resolved (resolved.Parameter index section kind) → fits_operand c f o ≡ true → kind ≡ f.kind
 unfolding fits_operand fits_resolved_operand
 own_type c f (operand.Constant value) index section kind e h = absurd (no_parameter index section kind (sym (constant_seen c value) ∙ e))
 own_type c f o index section kind e h =
@@ -105,14 +105,14 @@ module _ (c : Context) (own : List Simple) (own_seen : SeesOwn c own) (all : Lis
   -- what an operand that fits passes
   view_handed : (f : Formal) (i : ℕ) (o : Operand) (v : ResolvedOperand) → resolution_of c o ≡ Resolved v → fits_operand c f o ≡ true
       → slice_get (map (λ (f : Formal). f.kind) all) i ≡ Some f.kind → AreHanded (with_index i (passed_by_operand o v))
-  view_handed f i o (view.Parameter index section kind) e h at =
+  view_handed f i o (resolved.Parameter index section kind) e h at =
       ((kind, own_seen o index section kind e, at ∙ ap Some (sym (own_type c f o index section kind e h))), tt)
-  view_handed f i o (view.Direct place w side declared) e h at = by (is_in_named_block place)
+  view_handed f i o (resolved.Direct place w side declared) e h at = by (is_in_named_block place)
     where
       by : (t : Bool) → AreHanded (with_index i (Some (if t then passed.InBlock place.number place.area w place.byte place.bit else passed.Direct place.area w place.byte place.bit)))
       by true = (tt, tt)
       by false = (tt, tt)
-  view_handed f i o view.Constant e h at = (tt, tt)
+  view_handed f i o resolved.Constant e h at = (tt, tt)
   view_handed f i o _ e h at = tt
 
   seen_handed : (f : Formal) (i : ℕ) (o : Operand) (r : Resolution) → resolution_of c o ≡ r → fits_operand c f o ≡ true
@@ -162,14 +162,14 @@ module _ (types : BlockId → List Simple) (blocks : List CodeBlock) (c : Contex
       )
 
   view_handed_on : (s : Statement) (v : ResolvedOperand) (how : Option CallOperation)
-      → ((id : BlockId) (instance : Option ℕ) → v ≡ view.Called id instance → CallOwesTypes types blocks c s id)
+      → ((id : BlockId) (instance : Option ℕ) → v ≡ resolved.Called id instance → CallOwesTypes types blocks c s id)
       → HandsTypesOn types blocks own (operand_instr c s v how)
   view_handed_on s v None owes = ended (end_operation_of s.code)
     where
       ended : (e : Option EndOperation) → HandsTypesOn types blocks own (end_instr s v e)
       ended None = tt
       ended (Some how) = tt
-  view_handed_on s (view.Called id instance) (Some how) owes = callee_handed s how id instance (owes id instance refl) (callee_of c s.operand) refl
+  view_handed_on s (resolved.Called id instance) (Some how) owes = callee_handed s how id instance (owes id instance refl) (callee_of c s.operand) refl
   view_handed_on s _ (Some how) owes = tt
 
   jump_handed : (how : JumpOperation) (n target : ℕ) → HandsTypesOn types blocks own (jump_instr how n target)
@@ -177,7 +177,7 @@ module _ (types : BlockId → List Simple) (blocks : List CodeBlock) (c : Contex
   jump_handed _ n target = tt
 
   statement_handed : (body : List Statement) (n : ℕ) (s : Statement)
-      → ((id : BlockId) (instance : Option ℕ) → resolved_operand c s ≡ Some (view.Called id instance) → CallOwesTypes types blocks c s id)
+      → ((id : BlockId) (instance : Option ℕ) → resolved_operand c s ≡ Some (resolved.Called id instance) → CallOwesTypes types blocks c s id)
       → HandsTypesOn types blocks own (instruction c body n s)
   unfolding instruction
   statement_handed body n s owes = by (jump_operation_of s.code)

@@ -34,11 +34,11 @@ use Rattle.stl_types.specs.Context.{Context, data_number}
 use Rattle.stl_types.specs.Resolution.{resolution_of}
 use Rattle.stl_types.specs.declared.parameters.Formal.{Formal}
 use Rattle.stl_types.specs.declared.views.Resolution.TheVariants.{Resolved}
-use Rattle.stl_types.specs.declared.views.ResolvedOperand.TheVariants as view
+use Rattle.stl_types.specs.declared.views.ResolvedOperand.TheVariants as resolved
 use Rattle.stl_types.specs.declared.views.Side.TheVariants as side
-use Rattle.stl_codegen.specs.Emitted.{pass_ops}
+use Rattle.stl_codegen.specs.EmittedOps.{pass_ops}
 use Rattle.stl_codegen.specs.Instruction.{source_block_at, in_parameter_order, return_last}
-use Rattle.stl_codegen.specs.Passed.{passed_actual, passed_resolution, passings_from, actual_of_formal, with_index}
+use Rattle.stl_codegen.specs.PassedParameters.{passed_actual, passed_resolution, passings_from, actual_of_formal, with_index}
 use Rattle.stl_list.specs.Actuals.{actual_of_passed, actual_for, actuals_before, is_written, passed_operand}
 use Rattle.stl_list.specs.Constants.{typed_constant}
 use Rattle.stl_list.specs.Operands.{name_of_data_block, direct_operand, letters_for_area, own_parameter}
@@ -125,7 +125,7 @@ direct_sees c false area.P w byte bit = refl
 
 in_block_seen : (c : Context) (writes : Bool) (number : ℕ) (w : Width) (byte bit : ℕ) → data_number c (name_of_data_block number) ≡ Some number
     → resolution_of c (direct_operand (Some number) writes area.Db w byte bit)
-    ≡ Resolved (view.Direct (record { area = area.Db; number = number; byte = byte; bit = bit }) w side.Both None)
+    ≡ Resolved (resolved.Direct (record { area = area.Db; number = number; byte = byte; bit = bit }) w side.Both None)
 unfolding resolution_of
 in_block_seen c writes number w byte bit e = ap (λ (o : Option ℕ). address_in_block o letters.Db w byte bit) e
 
@@ -183,7 +183,7 @@ in_block_fits c f number w byte bit e there =
     ap (fits_resolution f) (in_block_seen c (is_written f.section) number w byte bit there)
     ∙ both (is_same_width w (width_of f.kind)) true (same_width w (width_of f.kind) e) refl
 
-own_fits : (c : Context) (own : List Formal) (f g : Formal) (index : ℕ) → resolution_of c (own_parameter own index) ≡ Resolved (view.Parameter index g.section g.kind)
+own_fits : (c : Context) (own : List Formal) (f g : Formal) (index : ℕ) → resolution_of c (own_parameter own index) ≡ Resolved (resolved.Parameter index g.section g.kind)
     → g.kind ≡ f.kind → takes_section f.section g.section ≡ true → fits_operand c f (own_parameter own index) ≡ true
 unfolding fits_operand fits_resolved_operand
 own_fits c own f g index there kind section =

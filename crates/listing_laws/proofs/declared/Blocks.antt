@@ -35,17 +35,17 @@ use Rattle.block_layout.specs.Rule44.{is_number_beyond_limits}
 use Rattle.block_layout.specs.Types.{Types}
 use Rattle.block_layout.specs.declared.blocks.BlockLayout.{BlockLayout}
 use Rattle.block_layout.specs.declared.cells.Cell.{Cell}
-use Rattle.stl_codegen.specs.Compiled.{StatedBlock, compiled_block}
-use Rattle.stl_codegen.specs.Generated.{code_block, generated_data_block, code_blocks_of, instance_len, param_at_bits, param_here, params_of}
+use Rattle.stl_codegen.specs.CompiledBlock.{StatedBlock, compiled_block}
+use Rattle.stl_codegen.specs.GeneratedProgram.{code_block, generated_data_block, code_blocks_of, instance_len, param_at_bits, param_here, params_of}
 use Rattle.stl_codegen.specs.Instruction.{return_last}
 use Rattle.stl_codegen.specs.Order.{is_code_before, is_id_before}
 use Rattle.stl_list.specs.CodeBlocks.{listed_block}
 use Rattle.stl_list.specs.DataBlocks.{listed_data}
-use Rattle.stl_list.specs.Joined.{Chains, chains_of, links, total_parameter_count}
+use Rattle.stl_list.specs.JoinedParameters.{Chains, chains_of, links, total_parameter_count}
 use Rattle.stl_list.specs.Lines.{lines_from}
 use Rattle.stl_list.specs.Signatures.{Signature, formals_from, formals_of_block, signature, signatures, signatures_from}
-use Rattle.sem_kept.specs.Accepted.{IsAccepted, program_in}
-use Rattle.sem_kept.specs.Settled.{context_at}
+use Rattle.sem_kept.specs.AcceptedSource.{IsAccepted, program_in}
+use Rattle.sem_kept.specs.SettledStatements.{context_at}
 use Rattle.sem_kept.proofs.accepted.Accepted.{IsSoundBlock, all_both, right_tree, sound_code_blocks, sound_data_blocks}
 use Rattle.sem_kept.proofs.accepted.RecordBlocks.{code_blocks_rise}
 use Rattle.sem_kept.proofs.accepted.RecordData.{id_there}
@@ -53,7 +53,7 @@ use Rattle.sem_kept.proofs.accepted.RecordOrder.{Rise, RiseFrom}
 use Rattle.sem_kept.proofs.accepted.RecordParams.{AllBefore, Covers, IsNew, declarations_new, params_right, sections_once}
 use Rattle.block_layout.proofs.BlockLemmas.{kind_there, same_kind}
 use Rattle.sem_kept.proofs.accepted.Verified.{accepted_verifies}
-use Rattle.listing_laws.specs.Declared.{AreChainsWide, AreDeclaredAgain, AreKindsWide, AreWide, IsDeclaredAgain, signatures_in}
+use Rattle.listing_laws.specs.ListedDeclarations.{AreChainsWide, AreDeclaredAgain, AreKindsWide, AreWide, IsDeclaredAgain, signatures_in}
 use Rattle.listing_laws.proofs.declared.Chains.{signatures_wide, widths}
 use Rattle.listing_laws.proofs.declared.Links.{program_good}
 use Rattle.listing_laws.proofs.declared.Groups.{AreListed, AreOf, Ends, HasGroups, Returns, all_listed}

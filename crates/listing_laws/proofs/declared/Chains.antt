@@ -13,12 +13,12 @@ use Rattle.flat_code.specs.declared.programs.Param.{Param}
 use Rattle.stl_ast.specs.declared.declarations.Simple.{Simple}
 use Rattle.stl_ast.specs.declared.declarations.Simple.TheVariants as simple
 use Rattle.block_layout.specs.Offsets.{width_of}
-use Rattle.stl_list.specs.Joined.{chains_by, is_int_kind, is_time_kind, kind_at, kind_by, chain_labels, mark_at, marks_after_link, marks_of, merged_labels, labels_after_link, replaced_label, set_label}
+use Rattle.stl_list.specs.JoinedParameters.{chains_by, is_int_kind, is_time_kind, kind_at, kind_by, chain_labels, mark_at, marks_after_link, marks_of, merged_labels, labels_after_link, replaced_label, set_label}
 use Rattle.stl_list.specs.Parameters.{kind_of_width}
 use Rattle.stl_list.specs.Signatures.{formals_from, is_behind, signatures_from}
 use Rattle.stl_list.specs.declared.links.Link.{Link}
 use Rattle.stl_list.specs.declared.links.Link.TheVariants.{Joins, Has}
-use Rattle.listing_laws.specs.Declared.{AreWide}
+use Rattle.listing_laws.specs.ListedDeclarations.{AreWide}
 
 -- the widths of the parameters of all blocks
 abbrev pub widths : List CodeBlock → List Width

@@ -7,10 +7,10 @@ use Rattle.flat_code.specs.declared.programs.Param.{Param}
 use Rattle.stl_ast.specs.declared.blocks.PartKind.{PartKind}
 use Rattle.stl_ast.specs.declared.blocks.PartKind.TheVariants as part
 use Rattle.stl_types.specs.declared.parameters.Formal.{Formal}
-use Rattle.stl_list.specs.Joined.{Chains}
+use Rattle.stl_list.specs.JoinedParameters.{Chains}
 use Rattle.stl_list.specs.Parameters.{name_of, section_of}
 use Rattle.stl_list.specs.Signatures.{formal_of_param, formals_from, is_behind}
-use Rattle.listing_laws.specs.Declared.{AreWide}
+use Rattle.listing_laws.specs.ListedDeclarations.{AreWide}
 use Rattle.listing_laws.proofs.declared.Cells.{AreNumbered}
 use Rattle.listing_laws.proofs.declared.Sections.{AreGrouped, IsLast, Nothing as NoLast, Returned as LastReturned}
 

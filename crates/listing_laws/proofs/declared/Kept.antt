@@ -20,7 +20,7 @@ use Rattle.stl_ast.specs.declared.blocks.PartKind.TheVariants as part
 use Rattle.stl_ast.specs.declared.declarations.Simple.{Simple}
 use Rattle.block_layout.specs.Cells.{components_of, returned_cells, temps_of}
 use Rattle.block_layout.specs.Lengths.{farthest_operand_end, is_structured, least_local, length_of_block, local_len}
-use Rattle.block_layout.specs.Listed.{AreAlike, CellNamesDiffer}
+use Rattle.block_layout.specs.ListedParameters.{AreAlike, CellNamesDiffer}
 use Rattle.block_layout.specs.Offsets.{width_of}
 use Rattle.block_layout.specs.Sizes.{capped_size, cell_bits, element_of, components_end, largest_size, structure_bits, next_multiple}
 use Rattle.block_layout.specs.Types.{Types}
@@ -28,14 +28,14 @@ use Rattle.block_layout.specs.declared.blocks.BlockLayout.{BlockLayout}
 use Rattle.block_layout.specs.declared.cells.Cell.{Cell}
 use Rattle.block_layout.specs.declared.cells.Element.TheVariants.{Plain}
 use Rattle.block_layout.proofs.ListedLemmas.{length_stays, offsets_stay}
-use Rattle.stl_codegen.specs.Generated.{param_at_bits, param_here, params_of, section_number}
+use Rattle.stl_codegen.specs.GeneratedProgram.{param_at_bits, param_here, params_of, section_number}
 use Rattle.stl_codegen.specs.Instruction.{return_last}
 use Rattle.stl_types.specs.declared.parameters.Formal.{Formal}
 use Rattle.stl_list.specs.CodeBlocks.{listed_block}
 use Rattle.stl_list.specs.Sections.{static_bytes, static_len, static_name, static_start, temporary_name}
 use Rattle.stl_list.specs.Signatures.{Signature, formals_of_block}
 use Rattle.sem_kept.proofs.accepted.RecordParams.{end_behind, end_step}
-use Rattle.listing_laws.specs.Declared.{AreWide}
+use Rattle.listing_laws.specs.ListedDeclarations.{AreWide}
 use Rattle.listing_laws.proofs.declared.Cells.{byte_cell, byte_cells, bytes_count, plain_cell, plain_cells}
 use Rattle.listing_laws.proofs.declared.Groups.{AreListed, AreOf, Ends, HasGroups}
 use Rattle.listing_laws.proofs.declared.Placed.{AreNamed, AreSame, alike_of, end_alike, end_append, end_near, look_in, named_append, named_apart, named_section, params_made, plain_length, same_append, same_section, static_is}

@@ -20,7 +20,7 @@ use Rattle.flat_code.specs.Image.{record_of_block, record_of_param}
 use Rattle.flat_code.specs.Loading.{AreVerified, Verifies, environment_of_block, lens_of}
 use Rattle.flat_code.specs.OpCodes.{op_code_of}
 use Rattle.flat_code.specs.Ops.{OpData}
-use Rattle.flat_code.specs.Placed.{PlacedOp, StatementSpot, before_next, ending_op, last_op, brackets_after, ops_placed, statement_spots, zones_behind_op}
+use Rattle.flat_code.specs.PlacedOps.{PlacedOp, StatementSpot, before_next, ending_op, last_op, brackets_after, ops_placed, statement_spots, zones_behind_op}
 use Rattle.flat_code.specs.Programs.{CodeBlock, Program}
 use Rattle.flat_code.specs.declared.image_fields.OpenBracket.{OpenBracket}
 use Rattle.flat_code.specs.declared.image_fields.ParameterRecord.{ParameterRecord}
@@ -33,7 +33,7 @@ use Rattle.flat_code.specs.declared.programs.Param.{Param}
 use Rattle.stl_types.specs.Parameters.{system_formals}
 use Rattle.stl_types.specs.declared.parameters.Formal.{Formal}
 use Rattle.block_layout.specs.Offsets.{width_of}
-use Rattle.stl_list.specs.Joined.{block_links, call_links, called_id, called_kind, first_of, joined_link, joined_links, links, links_from, links_of_runs, passed_parameter, run_links, system_link, system_links, system_parameters, typed_link}
+use Rattle.stl_list.specs.JoinedParameters.{block_links, call_links, called_id, called_kind, first_of, joined_link, joined_links, links, links_from, links_of_runs, passed_parameter, run_links, system_link, system_links, system_parameters, typed_link}
 use Rattle.stl_list.specs.Runs.{Run, runs, runs_from}
 use Rattle.block_layout.proofs.CommonLemmas.{none_left, none_right, or_first, or_second}
 use Rattle.sem_kept.proofs.accepted.OperandsFormals.{Matched, system_matched}

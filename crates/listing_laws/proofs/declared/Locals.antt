@@ -13,14 +13,14 @@ use Rattle.flat_code.specs.Blocks.{Environment, at_offset, block_faults, faults_
 use Rattle.flat_code.specs.Operations.{operation_of}
 use Rattle.flat_code.specs.Ops.{OpData}
 use Rattle.flat_code.specs.Codes.{size_of_op}
-use Rattle.flat_code.specs.Placed.{PlacedOp, StatementSpot, before_next, brackets_after, ops_placed, statement_spots, zones_behind_op}
+use Rattle.flat_code.specs.PlacedOps.{PlacedOp, StatementSpot, before_next, brackets_after, ops_placed, statement_spots, zones_behind_op}
 use Rattle.flat_code.specs.declared.image_fields.OpenBracket.{OpenBracket}
 use Rattle.flat_code.specs.Programs.{CodeBlock}
 use Rattle.flat_code.specs.declared.operands.Operand.TheVariants as flat
 use Rattle.flat_code.specs.declared.operands.Operand.{Operand as FlatOperand}
 use Rattle.flat_code.specs.declared.operands.Passed.TheVariants as passed
 use Rattle.flat_code.specs.declared.operands.Passed.{Passed}
-use Rattle.flat_code.specs.declared.operations.AddConstant.TheVariants as adding
+use Rattle.flat_code.specs.declared.operations.AddConstant.TheVariants as add_constant
 use Rattle.flat_code.specs.declared.operations.Logic.TheVariants as logic
 use Rattle.flat_code.specs.declared.operations.Operation.TheVariants as operation
 use Rattle.flat_code.specs.declared.operations.Operation.{Operation}
@@ -32,7 +32,7 @@ use Rattle.block_layout.specs.Lengths.{farthest_actual_end, farthest_operand_end
 use Rattle.stl_types.specs.declared.parameters.Formal.{Formal}
 use Rattle.stl_list.specs.Actuals.{actual_for, actual_here, actuals_by, is_written, passed_operand}
 use Rattle.stl_list.specs.Constants.{instruction_constant, pointer_constant}
-use Rattle.stl_list.specs.Joined.{called_id}
+use Rattle.stl_list.specs.JoinedParameters.{called_id}
 use Rattle.stl_list.specs.Lines.{line_of_statement}
 use Rattle.stl_list.specs.Operands.{implied_operand, letters_for_area, block_opened_by_ops, operand_by, plain_operand, timer_or_counter, operation_writes_operand}
 use Rattle.stl_list.specs.Runs.{Run, runs, runs_from}
@@ -136,7 +136,7 @@ literal_end most (operation.Logic logic.Od) bits = omega arith
 literal_end most (operation.Logic logic.Xod) bits = omega arith
 literal_end most (operation.Logic _) bits = omega arith
 literal_end most (operation.Pointer which) bits = omega arith
-literal_end most (operation.Add adding.Dword) bits = omega arith
+literal_end most (operation.Add add_constant.Dword) bits = omega arith
 literal_end most operation.LoadOpenBlock bits = omega arith
 literal_end most _ bits = omega arith
 

@@ -17,7 +17,7 @@ use Rattle.block_layout.specs.Declarations.{element_count, fit_or_none, init_fit
 use Rattle.block_layout.specs.Fits.{bits_of, fits_elementary_type}
 use Rattle.block_layout.specs.InitialBytes.{Write, big_endian_bytes, initial_bytes, preset_values, bytes_with_write, setting_writes, settings_at, structure_writes, type_writes, writes_at, writes_from}
 use Rattle.block_layout.specs.Paths.{cells_at}
-use Rattle.block_layout.specs.Rebuilt.{InBytes, IsTrueOf, OfBytes, OneReaches, bit_in}
+use Rattle.block_layout.specs.RebuiltBytes.{InBytes, IsTrueOf, OfBytes, OneReaches, bit_in}
 use Rattle.block_layout.specs.Sizes.{capped_size, element_of, next_multiple}
 use Rattle.block_layout.specs.Types.{Types}
 use Rattle.block_layout.specs.declared.blocks.BlockLayout.{BlockLayout}

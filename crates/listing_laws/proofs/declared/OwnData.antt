@@ -26,18 +26,18 @@ use Rattle.block_layout.specs.declared.blocks.BlockLayout.{BlockLayout}
 use Rattle.block_layout.specs.declared.blocks.Shape.{Shape}
 use Rattle.block_layout.specs.declared.blocks.Shape.TheVariants as shape
 use Rattle.block_layout.specs.declared.cells.Cell.{Cell}
-use Rattle.stl_codegen.specs.Generated.{generated_data_block, data_block_of, instance_in}
+use Rattle.stl_codegen.specs.GeneratedProgram.{generated_data_block, data_block_of, instance_in}
 use Rattle.stl_list.specs.DataBlocks.{listed_data}
 use Rattle.stl_list.specs.Initial.{values_of}
 use Rattle.stl_list.specs.Signatures.{Signature}
-use Rattle.sem_kept.specs.Accepted.{program_in}
-use Rattle.sem_kept.specs.Settled.{context_at}
+use Rattle.sem_kept.specs.AcceptedSource.{program_in}
+use Rattle.sem_kept.specs.SettledStatements.{context_at}
 use Rattle.sem_kept.proofs.accepted.Accepted.{IsSoundBlock, right_tree, sound_data_blocks}
 use Rattle.sem_kept.proofs.accepted.RecordData.{length_there}
 use Rattle.sem_kept.proofs.accepted.RecordParams.{end_step}
 use Rattle.block_layout.proofs.FillLemmas.{written_length}
 use Rattle.sem_kept.proofs.accepted.Verified.{accepted_verifies}
-use Rattle.listing_laws.specs.Declared.{signatures_in}
+use Rattle.listing_laws.specs.ListedDeclarations.{signatures_in}
 use Rattle.listing_laws.specs.OwnData.{AreOwnDataAgain, IsOwnDataAgain}
 use Rattle.listing_laws.proofs.CompiledLemmas.{written_compiled}
 use Rattle.listing_laws.proofs.RangeLemmas.{IsListedData, program_listed}

@@ -11,17 +11,17 @@ use Rattle.block_layout.specs.Layouts.{block_layout, layouts_by, layouts_from, l
 use Rattle.block_layout.specs.Measures.{types_of_source}
 use Rattle.block_layout.specs.Types.{Types}
 use Rattle.block_layout.specs.declared.blocks.BlockLayout.{BlockLayout}
-use Rattle.stl_codegen.specs.Generated.{data_block_of, data_blocks_of, each_block}
+use Rattle.stl_codegen.specs.GeneratedProgram.{data_block_of, data_blocks_of, each_block}
 use Rattle.stl_codegen.specs.Order.{is_data_before}
 use Rattle.stl_codegen.proofs.ProgramLemmas.{all_before}
 use Rattle.stl_list.specs.CodeBlocks.{in_lines, line_reached, listed_blocks}
 use Rattle.stl_list.specs.DataBlocks.{listed_data}
 use Rattle.stl_list.specs.Listing.{listed_tree}
 use Rattle.stl_list.specs.Signatures.{Signature}
-use Rattle.sem_kept.specs.Accepted.{program_in}
-use Rattle.sem_kept.specs.Settled.{context_at}
+use Rattle.sem_kept.specs.AcceptedSource.{program_in}
+use Rattle.sem_kept.specs.SettledStatements.{context_at}
 use Rattle.sem_kept.proofs.accepted.RecordData.{holds_at}
-use Rattle.listing_laws.specs.Declared.{signatures_in}
+use Rattle.listing_laws.specs.ListedDeclarations.{signatures_in}
 use Rattle.listing_laws.specs.OwnData.{AreOwnDataKept, IsOneOfDataBlocks, IsOwnDataAgain}
 use Rattle.listing_laws.proofs.declared.OwnData.{own_data}
 

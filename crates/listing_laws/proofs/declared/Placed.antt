@@ -10,18 +10,18 @@ use Rattle.stl_ast.specs.Blocks.{is_parameter}
 use Rattle.stl_ast.specs.declared.blocks.PartKind.{PartKind}
 use Rattle.stl_ast.specs.declared.declarations.Simple.{Simple}
 use Rattle.stl_ast.specs.declared.declarations.Simple.TheVariants as simple
-use Rattle.block_layout.specs.Listed.{AreAlike, CellNamesDiffer, IsAlike, IsElementary, offset_named}
+use Rattle.block_layout.specs.ListedParameters.{AreAlike, CellNamesDiffer, IsAlike, IsElementary, offset_named}
 use Rattle.block_layout.specs.Members.{component_of_name}
 use Rattle.block_layout.specs.Offsets.{width_of}
 use Rattle.block_layout.specs.Sizes.{alignment, capped_size, cell_bits, element_of, components_end, largest_size, plain_bits, end_behind_cell, next_multiple}
 use Rattle.block_layout.specs.declared.cells.Cell.{Cell}
 use Rattle.block_layout.specs.declared.members.Member.{Member}
-use Rattle.stl_codegen.specs.Generated.{offset_of_member as offset_of, param_at_bits, param_here, param_of, section_number}
+use Rattle.stl_codegen.specs.GeneratedProgram.{offset_of_member as offset_of, param_at_bits, param_here, param_of, section_number}
 use Rattle.stl_types.specs.declared.parameters.Formal.{Formal}
 use Rattle.stl_list.specs.Parameters.{parameter_name}
 use Rattle.stl_list.specs.Sections.{even_end, static_start}
 use Rattle.sem_kept.proofs.accepted.RecordParams.{end_step, found_here, not_both, passed_by, past_behind}
-use Rattle.listing_laws.specs.Declared.{AreWide}
+use Rattle.listing_laws.specs.ListedDeclarations.{AreWide}
 use Rattle.listing_laws.proofs.declared.Apart.{parameters_apart}
 use Rattle.listing_laws.proofs.declared.Cells.{AreNumbered, plain_cell, plain_cells}
 use Rattle.listing_laws.proofs.declared.Sources.{AreParameters, IsSectionCell, cell_width, section_params}

@@ -4,7 +4,7 @@ use Rattle.std.specs.Prelude.{◌==◌, ◌&&◌, if◌then◌else◌, int_lt, n
 use Rattle.std.proofs.lemmas.Bool.Decides.{nat_tests}
 use Rattle.plc_base.proofs.ListLemmas.{all_append}
 use Rattle.plc_base.specs.Folding.{upper_case_name}
-use Rattle.plc_base.specs.Gathered.{refusals_along}
+use Rattle.plc_base.specs.RefusalsAlong.{refusals_along}
 use Rattle.plc_base.specs.Least.{broken_if}
 use Rattle.flat_code.specs.Programs.{CodeBlock}
 use Rattle.stl_ast.specs.declared.blocks.Block.{Block}

@@ -22,13 +22,13 @@ use Rattle.stl_ast.specs.declared.declarations.Declaration.{Declaration}
 use Rattle.stl_ast.specs.declared.declarations.Simple.{Simple}
 use Rattle.block_layout.specs.Around.{Outside, declarations_before_next}
 use Rattle.block_layout.specs.Cells.{cell_of, cells_of, is_temp, layout_element, with_first_cell_opening, section_cells}
-use Rattle.block_layout.specs.Listed.{CellNamesDiffer, IsElementary}
+use Rattle.block_layout.specs.ListedParameters.{CellNamesDiffer, IsElementary}
 use Rattle.block_layout.specs.Offsets.{width_of}
 use Rattle.block_layout.specs.Types.{Types}
 use Rattle.block_layout.specs.declared.cells.Cell.{Cell}
 use Rattle.block_layout.specs.declared.cells.Element.{Element}
 use Rattle.block_layout.specs.declared.cells.Element.TheVariants.{Plain}
-use Rattle.stl_codegen.specs.Generated.{param_at_bits, param_bits, param_here, param_of, section_number}
+use Rattle.stl_codegen.specs.GeneratedProgram.{param_at_bits, param_bits, param_here, param_of, section_number}
 use Rattle.sem_kept.proofs.accepted.RecordParams.{AllBefore, AreCellsOnce, IsElementaryDeclaration, IsNew, NotIn, before_front, before_rest, outer_levels, parameter_sound, seen_by}
 
 -- ---- cells of parameters

@@ -5,7 +5,7 @@ use Rattle.std.specs.Str.{bytes_eq}
 use Rattle.stl_ast.specs.declared.blocks.PathStep.{PathStep}
 use Rattle.stl_ast.specs.declared.blocks.PathStep.TheVariants as step
 use Rattle.stl_ast.specs.declared.declarations.Simple.{Simple}
-use Rattle.block_layout.specs.Listed.{IsElementary}
+use Rattle.block_layout.specs.ListedParameters.{IsElementary}
 use Rattle.block_layout.specs.Members.{component_of_name}
 use Rattle.block_layout.specs.Paths.{cells_at, elementary_at, path_end_at_cell, path_end_at_member, path_end_by_index, indexed_behind, kind_of, path_end_by_name, named_behind, named_in, plain_kind, path_end_by_step, path_end_in_bounds}
 use Rattle.block_layout.specs.Sizes.{alignment, capped_size, largest_size, next_multiple}

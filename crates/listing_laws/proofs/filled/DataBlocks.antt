@@ -14,20 +14,20 @@ use Rattle.block_layout.specs.Layouts.{block_layout, layouts_of}
 use Rattle.block_layout.specs.Measures.{types_of_source}
 use Rattle.block_layout.specs.Types.{Types}
 use Rattle.block_layout.specs.declared.blocks.BlockLayout.{BlockLayout}
-use Rattle.stl_codegen.specs.Compiled.{compiled_block}
-use Rattle.stl_codegen.specs.Generated.{code_blocks_of, generated_data_block, data_block_of, data_blocks_of, each_block}
+use Rattle.stl_codegen.specs.CompiledBlock.{compiled_block}
+use Rattle.stl_codegen.specs.GeneratedProgram.{code_blocks_of, generated_data_block, data_block_of, data_blocks_of, each_block}
 use Rattle.stl_codegen.specs.Order.{is_data_before, sorted_list}
 use Rattle.stl_list.specs.CodeBlocks.{in_lines, line_reached, listed_block, listed_blocks}
 use Rattle.stl_list.specs.DataBlocks.{listed_data}
 use Rattle.stl_list.specs.Lines.{line_behind_statements, stands_before}
 use Rattle.stl_list.specs.Listing.{listed_tree}
 use Rattle.stl_list.specs.Signatures.{Signature}
-use Rattle.sem_kept.specs.Accepted.{program_in}
-use Rattle.sem_kept.specs.Settled.{context_at}
+use Rattle.sem_kept.specs.AcceptedSource.{program_in}
+use Rattle.sem_kept.specs.SettledStatements.{context_at}
 use Rattle.sem_kept.proofs.accepted.Accepted.{right_tree, sound_code_blocks}
 use Rattle.block_layout.proofs.CommonLemmas.{all_there}
-use Rattle.listing_laws.specs.Again.{listed_again}
-use Rattle.listing_laws.specs.Declared.{signatures_in}
+use Rattle.listing_laws.specs.ListedSource.{listed_again}
+use Rattle.listing_laws.specs.ListedDeclarations.{signatures_in}
 use Rattle.listing_laws.specs.Instances.{AreDataBlocksAgain, data_again}
 use Rattle.listing_laws.specs.OwnData.{IsOwnDataAgain}
 use Rattle.listing_laws.proofs.OrderLemmas.{all_sorted, in_order, order_sorted}

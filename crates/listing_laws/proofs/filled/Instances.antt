@@ -24,9 +24,9 @@ use Rattle.block_layout.specs.InitialBytes.{Write, component_starts, cell_writes
 use Rattle.block_layout.specs.Layouts.{block_layout, layouts_of}
 use Rattle.block_layout.specs.Lengths.{block_bits, length_of_block, shape_at, shape_bits, shape_of}
 use Rattle.block_layout.specs.Measures.{types_of_source}
-use Rattle.block_layout.specs.Listed.{AreAlike}
+use Rattle.block_layout.specs.ListedParameters.{AreAlike}
 use Rattle.block_layout.specs.Paths.{cells_at, cells_in, setting_structure, shape_block, structure_of}
-use Rattle.block_layout.specs.Rebuilt.{OneReaches, bit_in}
+use Rattle.block_layout.specs.RebuiltBytes.{OneReaches, bit_in}
 use Rattle.block_layout.specs.Sizes.{cell_bits, element_of, components_end, largest_size, plain_bits, end_behind_cell, structure_bits, next_multiple}
 use Rattle.block_layout.specs.Types.{Types}
 use Rattle.block_layout.specs.declared.blocks.BlockLayout.{BlockLayout}
@@ -34,19 +34,19 @@ use Rattle.block_layout.specs.declared.blocks.Shape.TheVariants as shape
 use Rattle.block_layout.specs.declared.cells.Cell.{Cell}
 use Rattle.block_layout.proofs.RebuiltLemmas.{rebuilt}
 use Rattle.stl_types.specs.declared.parameters.Formal.{Formal}
-use Rattle.stl_codegen.specs.Generated.{data_block_of, function_block_number, instance_in}
+use Rattle.stl_codegen.specs.GeneratedProgram.{data_block_of, function_block_number, instance_in}
 use Rattle.stl_list.specs.CodeBlocks.{in_lines, listed_block, listed_blocks}
 use Rattle.stl_list.specs.DataBlocks.{function_block, known_settings, listed_data}
 use Rattle.stl_list.specs.Initial.{byte_settings, parameter_settings, settings_of}
-use Rattle.stl_list.specs.Joined.{Chains}
+use Rattle.stl_list.specs.JoinedParameters.{Chains}
 use Rattle.stl_list.specs.Lines.{line_behind_statements}
 use Rattle.stl_list.specs.Sections.{static_len, static_name, static_start}
 use Rattle.stl_list.specs.Signatures.{Signature, formals_from, formals_of_block, is_behind, signature, signatures_from}
-use Rattle.sem_kept.specs.Settled.{context_at}
+use Rattle.sem_kept.specs.SettledStatements.{context_at}
 use Rattle.block_layout.proofs.CommonLemmas.{all_there}
 use Rattle.sem_kept.proofs.accepted.OperandsViews.{data_length, whole_is}
 use Rattle.listing_laws.specs.Chains.{is_listed_type}
-use Rattle.listing_laws.specs.Declared.{AreWide}
+use Rattle.listing_laws.specs.ListedDeclarations.{AreWide}
 use Rattle.listing_laws.proofs.IdLemmas.{source_ids}
 use Rattle.listing_laws.proofs.called.Listed.{kind_listed}
 use Rattle.listing_laws.proofs.declared.Blocks.{AreAfter, all_not_same, same_self}

@@ -14,26 +14,26 @@ use Rattle.block_layout.specs.Rule22.{rule_22}
 use Rattle.block_layout.specs.Rule44.{rule_44}
 use Rattle.block_layout.specs.Sizes.{structure_bits}
 use Rattle.block_layout.specs.declared.blocks.BlockLayout.{BlockLayout}
-use Rattle.stl_codegen.specs.Compiled.{StatedBlock, compiled_block}
-use Rattle.stl_codegen.specs.Generated.{code_block, code_blocks_of, generated_data_block, data_block_of}
+use Rattle.stl_codegen.specs.CompiledBlock.{StatedBlock, compiled_block}
+use Rattle.stl_codegen.specs.GeneratedProgram.{code_block, code_blocks_of, generated_data_block, data_block_of}
 use Rattle.stl_codegen.specs.Order.{sorted_list}
 use Rattle.stl_codegen.proofs.ProgramLemmas.{all_before}
 use Rattle.stl_list.specs.CodeBlocks.{in_lines, line_reached}
 use Rattle.stl_list.specs.DataBlocks.{function_block, listed_data, listed_data_blocks}
-use Rattle.stl_list.specs.Joined.{Chains, chains_of}
+use Rattle.stl_list.specs.JoinedParameters.{Chains, chains_of}
 use Rattle.stl_list.specs.Lines.{stands_before}
 use Rattle.stl_list.specs.Listing.{listed_tree}
 use Rattle.stl_list.specs.Signatures.{Signature, signatures}
-use Rattle.sem_kept.specs.Accepted.{IsAccepted, program_in}
-use Rattle.sem_kept.specs.Settled.{context_at}
+use Rattle.sem_kept.specs.AcceptedSource.{IsAccepted, program_in}
+use Rattle.sem_kept.specs.SettledStatements.{context_at}
 use Rattle.sem_kept.proofs.accepted.Accepted.{IsSoundTree, right_tree, sound_code_blocks, sound_data_blocks}
 use Rattle.sem_kept.proofs.accepted.OperandsMembers.{code_block_there, data_block_there}
 use Rattle.block_layout.proofs.AlignmentLemmas.{structure_even}
 use Rattle.sem_kept.proofs.accepted.RecordBlocks.{code_blocks_rise}
 use Rattle.sem_kept.proofs.accepted.Verified.{accepted_verifies}
-use Rattle.listing_laws.specs.Again.{IsWholeAgain, listed_again}
+use Rattle.listing_laws.specs.ListedSource.{IsWholeAgain, listed_again}
 use Rattle.listing_laws.specs.Chains.{is_listed_type}
-use Rattle.listing_laws.specs.Declared.{AreWide, signatures_in}
+use Rattle.listing_laws.specs.ListedDeclarations.{AreWide, signatures_in}
 use Rattle.listing_laws.specs.Ids.{data_id}
 use Rattle.listing_laws.specs.Instances.{AreInstancesAgain, AreInstancesLong, IsInstanceAgain, IsInstanceLong, data_again}
 use Rattle.listing_laws.proofs.CompiledLemmas.{written_compiled}

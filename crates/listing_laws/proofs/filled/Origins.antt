@@ -16,18 +16,18 @@ use Rattle.stl_symbols.specs.Symbol.{Symbol}
 use Rattle.block_layout.specs.InitialBytes.{Write, initial_bytes, setting_write, setting_writes, settings_at, structure_writes, type_writes, writes_from}
 use Rattle.block_layout.specs.Layouts.{layouts_of}
 use Rattle.block_layout.specs.Paths.{cells_at, cells_in, folded_path, shape_block, structure_of, path_end_in_data_block, path_end_or_unjudged}
-use Rattle.block_layout.specs.Rebuilt.{OneReaches, Reaches, bit_in}
+use Rattle.block_layout.specs.RebuiltBytes.{OneReaches, Reaches, bit_in}
 use Rattle.block_layout.specs.Sizes.{alignment, element_alignment, components_end, largest_size, structure_bits, next_multiple}
 use Rattle.block_layout.specs.declared.blocks.BlockLayout.{BlockLayout}
 use Rattle.block_layout.specs.declared.blocks.Shape.{Shape}
 use Rattle.block_layout.specs.declared.blocks.Shape.TheVariants as shape
 use Rattle.block_layout.specs.declared.cells.Cell.{Cell}
-use Rattle.stl_codegen.specs.Compiled.{compiled_block}
-use Rattle.stl_codegen.specs.Generated.{code_block, generated_data_block, function_block_number, instance_in, instance_len}
+use Rattle.stl_codegen.specs.CompiledBlock.{compiled_block}
+use Rattle.stl_codegen.specs.GeneratedProgram.{code_block, generated_data_block, function_block_number, instance_in, instance_len}
 use Rattle.stl_list.specs.DataBlocks.{function_block}
-use Rattle.sem_kept.specs.Accepted.{IsAccepted}
+use Rattle.sem_kept.specs.AcceptedSource.{IsAccepted}
 use Rattle.sem_kept.specs.Initial.{HasRoom, IsMadeByWrites, writes_of}
-use Rattle.sem_kept.specs.Settled.{context_at}
+use Rattle.sem_kept.specs.SettledStatements.{context_at}
 use Rattle.sem_kept.proofs.accepted.Accepted.{IsSoundBlock, IsSoundTree, right_tree}
 use Rattle.sem_kept.proofs.accepted.Initial.{initial_values_are_whole}
 use Rattle.sem_kept.proofs.accepted.OperandsCells.{IsLaid as LaidBlock, block_of_layout}

@@ -13,10 +13,10 @@ use Rattle.stl_ast.specs.declared.declarations.Simple.{Simple}
 use Rattle.stl_ast.specs.declared.literals.Literal.{Literal}
 use Rattle.block_layout.specs.Fits.{bits_of}
 use Rattle.block_layout.specs.InitialBytes.{Write, component_starts, cell_writes, component_writes, element_starts, preset_values, setting_write, type_writes, write_of, writes_at, writes_from}
-use Rattle.block_layout.specs.Listed.{AreAlike, CellNamesDiffer, IsElementary, offset_named}
+use Rattle.block_layout.specs.ListedParameters.{AreAlike, CellNamesDiffer, IsElementary, offset_named}
 use Rattle.block_layout.specs.Members.{component_of_name}
 use Rattle.block_layout.specs.Paths.{cells_at, path_end_at_member, path_end_and_then, outermost_path_end, path_end_behind, path_end_in_block}
-use Rattle.block_layout.specs.Rebuilt.{OneReaches, Reaches}
+use Rattle.block_layout.specs.RebuiltBytes.{OneReaches, Reaches}
 use Rattle.block_layout.specs.Sizes.{alignment, capped_size, cell_bits, element_of, components_end, largest_size, plain_bits, end_behind_cell, next_multiple}
 use Rattle.block_layout.specs.declared.blocks.BlockLayout.{BlockLayout}
 use Rattle.block_layout.specs.declared.cells.Cell.{Cell}

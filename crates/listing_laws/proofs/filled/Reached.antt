@@ -7,7 +7,7 @@ use Rattle.std.proofs.lemmas.Bool.{cases_Bool, cases_lt, eq-eqb, eqb-true, false
 use Rattle.std.proofs.lemmas.List.{get_or-set_other, get_or-set_same, get_or_past, length-set}
 use Rattle.std.proofs.lemmas.Nat.Bits.{bit_at-lt, bit_at-pow_other, bit_at-zero, bit_at_and, bit_at_or}
 use Rattle.block_layout.specs.InitialBytes.{Write, big_endian_bytes, bytes_with_write, with_bit, with_bytes}
-use Rattle.block_layout.specs.Rebuilt.{InBit, InBytes, IsTrueOf, OfBit, OfBytes, OneReaches, Reaches, bit_in}
+use Rattle.block_layout.specs.RebuiltBytes.{InBit, InBytes, IsTrueOf, OfBit, OfBytes, OneReaches, Reaches, bit_in}
 
 -- ---- one write
 

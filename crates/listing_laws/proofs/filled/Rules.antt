@@ -18,10 +18,10 @@ use Rattle.stl_list.specs.DataBlocks.{listed_data}
 use Rattle.stl_list.specs.Lines.{line_behind_statements}
 use Rattle.stl_list.specs.Listing.{listed_tree}
 use Rattle.stl_list.specs.Signatures.{Signature}
-use Rattle.sem_kept.specs.Accepted.{program_in}
+use Rattle.sem_kept.specs.AcceptedSource.{program_in}
 use Rattle.sem_kept.proofs.accepted.Accepted.{all_mapped}
-use Rattle.listing_laws.specs.Again.{listed_again}
-use Rattle.listing_laws.specs.Declared.{signatures_in}
+use Rattle.listing_laws.specs.ListedSource.{listed_again}
+use Rattle.listing_laws.specs.ListedDeclarations.{signatures_in}
 use Rattle.listing_laws.specs.Instances.{AreListedSettingsRight, data_again}
 use Rattle.listing_laws.proofs.declared.OwnKept.{HasLayout, layout_there}
 use Rattle.listing_laws.proofs.filled.Listed.{IsAgain, all_instances}

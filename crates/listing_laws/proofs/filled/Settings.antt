@@ -20,7 +20,7 @@ use Rattle.block_layout.specs.Fits.{bits_of, fits_elementary_type}
 use Rattle.block_layout.specs.InitialBytes.{Write, big_endian_bytes, setting_write, setting_writes, write_of}
 use Rattle.block_layout.specs.Offsets.{width_of}
 use Rattle.block_layout.specs.Paths.{folded_path, path_end_in_data_block}
-use Rattle.block_layout.specs.Rebuilt.{InBytes, IsTrueOf, OfBytes, OneReaches, Reaches, bit_in}
+use Rattle.block_layout.specs.RebuiltBytes.{InBytes, IsTrueOf, OfBytes, OneReaches, Reaches, bit_in}
 use Rattle.block_layout.specs.Rule41.{fits_kind, misfits_component, setting_misfits}
 use Rattle.block_layout.specs.Rule42.{setting_is_outside}
 use Rattle.block_layout.specs.Sizes.{plain_bits}

@@ -13,7 +13,7 @@ use Rattle.stl_ast.specs.declared.declarations.Simple.{Simple}
 use Rattle.block_layout.specs.Fits.{bits_of}
 use Rattle.block_layout.specs.InitialBytes.{Write, big_endian_bytes}
 use Rattle.block_layout.specs.Offsets.{width_of}
-use Rattle.block_layout.specs.Rebuilt.{IsTrueOf, OfBit, OfBytes, bit_in}
+use Rattle.block_layout.specs.RebuiltBytes.{IsTrueOf, OfBit, OfBytes, bit_in}
 use Rattle.stl_list.specs.Constants.{typed_constant}
 use Rattle.stl_list.specs.Initial.{byte_at, value_in, word_in_bytes}
 use Rattle.listing_laws.specs.Chains.{is_listed_type}

@@ -12,7 +12,7 @@ use Rattle.stl_ast.specs.declared.blocks.PathStep.{PathStep}
 use Rattle.stl_ast.specs.declared.blocks.PathStep.TheVariants as step
 use Rattle.stl_ast.specs.declared.declarations.Simple.{Simple}
 use Rattle.stl_ast.specs.declared.declarations.Simple.TheVariants as simple
-use Rattle.block_layout.specs.Listed.{CellNamesDiffer, IsElementary}
+use Rattle.block_layout.specs.ListedParameters.{CellNamesDiffer, IsElementary}
 use Rattle.block_layout.specs.Members.{component_of_name}
 use Rattle.block_layout.specs.Paths.{cells_at, elementary_at, path_end_at_member, holds_where_reached, path_end_and_then, path_end_by_index, indexed_behind, is_beyond, is_beyond_in, is_checkable, kind_of, leaves_array, leaves_structure, outermost_path_end, setting_structure, path_end_by_step, structure_of, path_end_behind, path_end_in_data_block, path_end_in_block, path_end_or_unjudged, path_end_of_setting}
 use Rattle.block_layout.specs.Sizes.{alignment, capped_size, cell_bits, element_alignment, element_of, components_end, largest_size, next_multiple}

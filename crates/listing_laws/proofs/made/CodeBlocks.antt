@@ -25,8 +25,8 @@ use Rattle.block_layout.specs.Types.{Types}
 use Rattle.block_layout.specs.declared.blocks.BlockLayout.{BlockLayout}
 use Rattle.stl_types.specs.Bodies.{first_context}
 use Rattle.stl_types.specs.Context.{Context}
-use Rattle.stl_codegen.specs.Compiled.{SourceInstruction, StatedBlock, compiled_block, lines_in}
-use Rattle.stl_codegen.specs.Generated.{code_block, code_block_of, code_blocks_of, each_block, instance_len, params_of, return_statement, stated_from, statements_of}
+use Rattle.stl_codegen.specs.CompiledBlock.{SourceInstruction, StatedBlock, compiled_block, lines_in}
+use Rattle.stl_codegen.specs.GeneratedProgram.{code_block, code_block_of, code_blocks_of, each_block, instance_len, params_of, return_statement, stated_from, statements_of}
 use Rattle.stl_codegen.specs.Order.{is_block_before, is_code_before, is_id_before, sorted_list}
 use Rattle.stl_codegen.proofs.ProgramLemmas.{blocks_sorted}
 use Rattle.stl_list.specs.CodeBlocks.{in_lines, line_reached, listed_block, listed_blocks}
@@ -34,7 +34,7 @@ use Rattle.stl_list.specs.DataBlocks.{listed_data, listed_data_blocks}
 use Rattle.stl_list.specs.Lines.{line_of_statement, stands_before}
 use Rattle.stl_list.specs.Signatures.{Signature}
 use Rattle.stl_list.specs.Statements.{body_of, listing_context}
-use Rattle.sem_kept.specs.Accepted.{program_in}
+use Rattle.sem_kept.specs.AcceptedSource.{program_in}
 use Rattle.sem_kept.proofs.accepted.Accepted.{IsSoundTree, right_tree, sound_at}
 use Rattle.block_layout.proofs.CommonLemmas.{all_there, origin}
 use Rattle.block_layout.proofs.LayoutLemmas.{measured_symbols}
@@ -42,9 +42,9 @@ use Rattle.sem_kept.proofs.accepted.RecordBlocks.{code_blocks_rise}
 use Rattle.sem_kept.proofs.accepted.RecordData.{id_there}
 use Rattle.sem_kept.proofs.accepted.RecordOrder.{Rise, RiseFrom}
 use Rattle.block_layout.proofs.BlockLemmas.{kind_there}
-use Rattle.listing_laws.specs.Again.{IsCodeAt, IsMadeOf, again_at, context_at, listed_again}
+use Rattle.listing_laws.specs.ListedSource.{IsCodeAt, IsMadeOf, again_at, context_at, listed_again}
 use Rattle.listing_laws.specs.AgainBodies.{AreCodeBlocksKept, IsBodyKept, made_block}
-use Rattle.listing_laws.specs.Declared.{IsDeclaredAgain, signatures_in}
+use Rattle.listing_laws.specs.ListedDeclarations.{IsDeclaredAgain, signatures_in}
 use Rattle.listing_laws.specs.Ids.{data_id}
 use Rattle.listing_laws.specs.Lines.{StandsBehind}
 use Rattle.listing_laws.specs.ListedBodies.{AreKeptFrom}

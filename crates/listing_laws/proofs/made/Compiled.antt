@@ -12,13 +12,13 @@ use Rattle.block_layout.specs.Layouts.{layouts_of}
 use Rattle.block_layout.specs.Measures.{types_of_source}
 use Rattle.stl_types.specs.Bodies.{first_context}
 use Rattle.stl_types.specs.Table.{statement_refusals}
-use Rattle.stl_codegen.specs.Generated.{data_blocks_of, name_entries_of}
+use Rattle.stl_codegen.specs.GeneratedProgram.{data_blocks_of, name_entries_of}
 use Rattle.stl_list.specs.Listing.{listed_source, listed_tree}
-use Rattle.sem_kept.specs.Accepted.{IsAccepted, program_in}
+use Rattle.sem_kept.specs.AcceptedSource.{IsAccepted, program_in}
 use Rattle.sem_kept.proofs.accepted.Accepted.{LaysOutRight, StatesRight}
-use Rattle.listing_laws.specs.Again.{AreWholeAgain, IsWholeAgain, listed_again}
+use Rattle.listing_laws.specs.ListedSource.{AreWholeAgain, IsWholeAgain, listed_again}
 use Rattle.listing_laws.specs.AgainBodies.{AreBodiesKeptAgain}
-use Rattle.listing_laws.specs.Compiled.{AreListingsCompiled}
+use Rattle.listing_laws.specs.ListingCompiles.{AreListingsCompiled}
 use Rattle.listing_laws.specs.Names.{symbol_of}
 use Rattle.listing_laws.proofs.SymbolOrderLemmas.{names_kept, names_read}
 use Rattle.listing_laws.proofs.made.CodeBlocks.{code_blocks_kept}

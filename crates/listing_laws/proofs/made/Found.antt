@@ -18,7 +18,7 @@ use Rattle.stl_types.specs.Context.{number_of_block}
 use Rattle.stl_types.specs.Resolution.{id_at}
 use Rattle.block_layout.proofs.CommonLemmas.{all_there, origin}
 use Rattle.block_layout.proofs.BlockLemmas.{known_there}
-use Rattle.listing_laws.specs.Again.{listed_again}
+use Rattle.listing_laws.specs.ListedSource.{listed_again}
 use Rattle.listing_laws.specs.Found.{AreCalledFound, AreDataFound}
 use Rattle.listing_laws.specs.Ids.{data_id}
 use Rattle.listing_laws.proofs.IdLemmas.{blocks_kept}

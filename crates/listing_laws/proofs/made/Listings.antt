@@ -17,8 +17,8 @@ use Rattle.stl_list.specs.Listing.{listed_source}
 use Rattle.stl_list.specs.Symbols.{listed_names}
 use Rattle.sem_kept.specs.Compiles.{CompilesTo}
 use Rattle.sem_kept.proofs.RunLemmas.{accepted}
-use Rattle.listing_laws.specs.Again.{listed_again}
-use Rattle.listing_laws.specs.Compiled.{AreListingsCompiled, ListingsCompile}
+use Rattle.listing_laws.specs.ListedSource.{listed_again}
+use Rattle.listing_laws.specs.ListingCompiles.{AreListingsCompiled, ListingsCompile}
 use Rattle.listing_laws.specs.Instances.{AreListedSettingsRight}
 use Rattle.listing_laws.specs.RightBodies.{AreListedBodiesRight}
 use Rattle.listing_laws.specs.Whole.{AreBlocksRightAgain}

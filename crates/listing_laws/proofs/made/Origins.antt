@@ -9,18 +9,18 @@ use Rattle.stl_ast.specs.declared.blocks.Tree.{Tree}
 use Rattle.stl_symbols.specs.Symbol.{Symbol}
 use Rattle.block_layout.specs.Layouts.{layouts_of}
 use Rattle.block_layout.specs.declared.blocks.BlockLayout.{BlockLayout}
-use Rattle.stl_codegen.specs.Compiled.{StatedBlock, compiled_block}
-use Rattle.stl_codegen.specs.Generated.{code_block, code_blocks_of}
+use Rattle.stl_codegen.specs.CompiledBlock.{StatedBlock, compiled_block}
+use Rattle.stl_codegen.specs.GeneratedProgram.{code_block, code_blocks_of}
 use Rattle.stl_list.specs.CodeBlocks.{in_lines, line_reached, listed_block, listed_blocks}
 use Rattle.stl_list.specs.DataBlocks.{listed_data, listed_data_blocks}
 use Rattle.stl_list.specs.Lines.{line_behind_statements, stands_before}
 use Rattle.stl_list.specs.Listing.{listed_tree}
 use Rattle.stl_list.specs.Signatures.{Signature}
-use Rattle.sem_kept.specs.Accepted.{program_in}
+use Rattle.sem_kept.specs.AcceptedSource.{program_in}
 use Rattle.sem_kept.proofs.accepted.Accepted.{IsSoundBlock, IsSoundTree, right_tree, sound_code_blocks}
 use Rattle.block_layout.proofs.CommonLemmas.{all_there}
-use Rattle.listing_laws.specs.Again.{AreMadeOfSource, IsCodeAt, IsMadeOf, context_at, listed_again}
-use Rattle.listing_laws.specs.Declared.{signatures_in}
+use Rattle.listing_laws.specs.ListedSource.{AreMadeOfSource, IsCodeAt, IsMadeOf, context_at, listed_again}
+use Rattle.listing_laws.specs.ListedDeclarations.{signatures_in}
 use Rattle.listing_laws.specs.Lines.{StandBehind, StandsBehind}
 use Rattle.listing_laws.specs.Origins.{AreDataListed}
 use Rattle.listing_laws.proofs.LineLemmas.{lines_kept}

@@ -65,24 +65,24 @@ use Rattle.stl_types.specs.Kinds.{is_operand_of_call as is_called_view}
 use Rattle.stl_types.specs.Operands.{operand_rule, statement_rule}
 use Rattle.stl_types.specs.Parameters.{Callee, callee_of}
 use Rattle.stl_types.specs.Resolution.{resolution_of_call, resolution_of_address, instance_number as number_of_instance, resolution_of_opened_block, resolution_of_path, resolution_of, resolution_of_symbol, resolved_target, whole_called_block}
-use Rattle.stl_types.specs.Resolved.{resolved_operand, operand_if_resolved}
+use Rattle.stl_types.specs.ResolvedStatement.{resolved_operand, operand_if_resolved}
 use Rattle.stl_types.specs.Variables.{composite_operand, data_at, data_path, data_variable, data_at_path_end, date_or_composite, variable_in_area, is_temporary_variable, own_at, own_elementary, own_variable, own_at_path_end, parameter_resolution, parameter_at, parameter_index}
-use Rattle.stl_types.specs.declared.forms.OperandRule.TheVariants as form
+use Rattle.stl_types.specs.declared.forms.OperandRule.TheVariants as operand_rules
 use Rattle.stl_types.specs.declared.forms.OperandRule.{OperandRule}
 use Rattle.stl_types.specs.declared.parameters.Formal.{Formal}
 use Rattle.stl_types.specs.declared.views.Register.TheVariants as register
 use Rattle.stl_types.specs.declared.views.Resolution.{Resolution}
 use Rattle.stl_types.specs.declared.views.Resolution.TheVariants.{Resolved, Unjudged, Unknown}
 use Rattle.stl_types.specs.declared.views.ResolvedOperand.{ResolvedOperand}
-use Rattle.stl_types.specs.declared.views.ResolvedOperand.TheVariants as view
-use Rattle.stl_codegen.specs.Compiled.{SourceInstruction, StatedBlock, operand_with_target, compiled_block}
-use Rattle.stl_codegen.specs.Emitted.{instance_number_or_zero, pass_ops}
-use Rattle.stl_codegen.specs.Generated.{code_block, code_block_of, code_blocks_of, each_block, return_statement, stated_from, statements_of}
+use Rattle.stl_types.specs.declared.views.ResolvedOperand.TheVariants as resolved
+use Rattle.stl_codegen.specs.CompiledBlock.{SourceInstruction, StatedBlock, operand_with_target, compiled_block}
+use Rattle.stl_codegen.specs.EmittedOps.{instance_number_or_zero, pass_ops}
+use Rattle.stl_codegen.specs.GeneratedProgram.{code_block, code_block_of, code_blocks_of, each_block, return_statement, stated_from, statements_of}
 use Rattle.stl_codegen.specs.Instruction.{source_block_at, call_instr, end_instr, in_parameter_order, instr_by, instruction, jump_instr, passings_to, resolved_instr, target_of, operand_instr}
 use Rattle.stl_codegen.specs.Operands.{is_in_named_block, flat_operand_of}
 use Rattle.stl_codegen.specs.Operations.{call_operation_of, end_operation_of, jump_operation_of}
 use Rattle.stl_codegen.specs.Order.{is_code_before}
-use Rattle.stl_codegen.specs.Passed.{passed_actual, passed_place, passed_resolution, passed_by_operand, passings_from, actual_of_formal, with_index}
+use Rattle.stl_codegen.specs.PassedParameters.{passed_actual, passed_place, passed_resolution, passed_by_operand, passings_from, actual_of_formal, with_index}
 use Rattle.stl_list.specs.Runs.{Run, runs}
 use Rattle.sem_kept.proofs.accepted.OperandsCalls.{none_passed}
 use Rattle.sem_kept.proofs.accepted.Shared.{call_form, calls_called, no_call_constant, rule_there}
@@ -99,7 +99,7 @@ use Rattle.listing_laws.specs.Statements.{statement_offset, run_of}
 -- ---- what operands name
 
 abbrev ViewIsNoBit : ResolvedOperand → Type 0
-ViewIsNoBit (view.Direct place w side declared) = IsNoBit place.area w
+ViewIsNoBit (resolved.Direct place w side declared) = IsNoBit place.area w
 ViewIsNoBit _ = Unit {0}
 
 abbrev SeenIsNoBit : Resolution → Type 0
@@ -211,9 +211,9 @@ place_passed place w h =
     either_way PassedIsNoBit (is_in_named_block place) (passed.InBlock place.number place.area w place.byte place.bit) (passed.Direct place.area w place.byte place.bit) h h
 
 view_passed : (index : ℕ) (o : Operand) (v : ResolvedOperand) → ViewIsNoBit v → ArePassed (with_index index (passed_by_operand o v))
-view_passed index o (view.Direct place w side declared) h = (place_passed place w h, tt)
-view_passed index o (view.Parameter own section declared) h = (tt, tt)
-view_passed index o view.Constant h = (tt, tt)
+view_passed index o (resolved.Direct place w side declared) h = (place_passed place w h, tt)
+view_passed index o (resolved.Parameter own section declared) h = (tt, tt)
+view_passed index o resolved.Constant h = (tt, tt)
 view_passed index o _ h = tt
 
 seen_passed : (index : ℕ) (o : Operand) (r : Resolution) → SeenIsNoBit r → ArePassed (with_index index (passed_resolution o r))
@@ -245,7 +245,7 @@ to_none c s (Some callee) e =
 -- ---- calls
 
 abbrev HasNoInstance : Resolution → Type 0
-HasNoInstance (Resolved (view.Called id instance)) = instance ≡ None
+HasNoInstance (Resolved (resolved.Called id instance)) = instance ≡ None
 HasNoInstance _ = Unit {0}
 
 -- a call that names no instance has none
@@ -267,7 +267,7 @@ fb_number kinds.Db e = absurd (false≢true e)
 fb_number kinds.Sfc e = absurd (false≢true e)
 fb_number kinds.Udt e = absurd (false≢true e)
 
-instance_of : (id : BlockId) (instance : Option ℕ) → is_called_view (view.Called id instance) ≡ true → (instance_number_or_zero instance ≡ 0) ⊎ (kind_number id.kind ≡ kind_number kinds.Fb)
+instance_of : (id : BlockId) (instance : Option ℕ) → is_called_view (resolved.Called id instance) ≡ true → (instance_number_or_zero instance ≡ 0) ⊎ (kind_number id.kind ≡ kind_number kinds.Fb)
 instance_of id None e = inl refl
 instance_of id (Some n) e = inr (fb_number id.kind e)
 
@@ -308,10 +308,10 @@ InstrIsNamed _ = Unit {0}
 record IsCaller (c : Context) (s : Statement) (how : CallOperation) (id : BlockId) (instance : Option ℕ) : Type 0 where
   is : IsStatement s
   word : call_operation_of s.code ≡ Some how
-  named : resolution_of c s.operand ≡ Resolved (view.Called id instance)
+  named : resolution_of c s.operand ≡ Resolved (resolved.Called id instance)
   right : statement_rule c s ≡ None
 
-no_instance : (r : Resolution) (id : BlockId) (instance : Option ℕ) → HasNoInstance r → r ≡ Resolved (view.Called id instance) → instance ≡ None
+no_instance : (r : Resolution) (id : BlockId) (instance : Option ℕ) → HasNoInstance r → r ≡ Resolved (resolved.Called id instance) → instance ≡ None
 no_instance r id instance h e = subst HasNoInstance e h
 
 bare_call : (c : Context) (s : Statement) (how : CallOperation) (id : BlockId) (instance : Option ℕ) (callee : Option Callee) → IsBare how → IsCaller c s how id instance
@@ -323,10 +323,10 @@ bare_call c s how id instance callee b h =
       ap pass_ops (to_none c s callee (h.is.no_actuals none)),
     )
 
-view_called : (c : Context) (s : Statement) (how : CallOperation) (id : BlockId) (instance : Option ℕ) → IsCaller c s how id instance → is_called_view (view.Called id instance) ≡ true
+view_called : (c : Context) (s : Statement) (how : CallOperation) (id : BlockId) (instance : Option ℕ) → IsCaller c s how id instance → is_called_view (resolved.Called id instance) ≡ true
 view_called c s how id instance h =
-    calls_called (view.Called id instance)
-    (rule_there c form.Calls s.operand (view.Called id instance) no_call_constant (ap (λ (f : OperandRule). operand_rule c f s.operand) (sym (call_form s.code how h.word)) ∙ h.right) h.named)
+    calls_called (resolved.Called id instance)
+    (rule_there c operand_rules.Calls s.operand (resolved.Called id instance) no_call_constant (ap (λ (f : OperandRule). operand_rule c f s.operand) (sym (call_form s.code how h.word)) ∙ h.right) h.named)
 
 called_by : (c : Context) (s : Statement) (how : CallOperation) (id : BlockId) (instance : Option ℕ) (callee : Option Callee) → IsCaller c s how id instance
     → IsCallTo how id instance (passings_to c s callee)
@@ -338,16 +338,16 @@ called_by c s calls.Cc id instance callee h = inr (bare_call c s calls.Cc id ins
 
 operand_acts : (o : Operand) (v : ResolvedOperand) → ViewIsNoBit v → OperandActs (flat_operand_of o v)
 unfolding flat_operand_of
-operand_acts o (view.Direct place w side declared) h = h
-operand_acts o (view.NumberBy numbered.Timer from byte) h = tt
-operand_acts o (view.NumberBy numbered.Counter from byte) h = tt
-operand_acts o (view.NumberBy numbered.Db from byte) h = tt
-operand_acts o (view.NumberBy numbered.Di from byte) h = tt
-operand_acts o (view.Register register.Dblg) h = tt
-operand_acts o (view.Register register.Dbno) h = tt
-operand_acts o (view.Register register.Dilg) h = tt
-operand_acts o (view.Register register.Dino) h = tt
-operand_acts o (view.Register _) h = tt
+operand_acts o (resolved.Direct place w side declared) h = h
+operand_acts o (resolved.NumberBy numbered.Timer from byte) h = tt
+operand_acts o (resolved.NumberBy numbered.Counter from byte) h = tt
+operand_acts o (resolved.NumberBy numbered.Db from byte) h = tt
+operand_acts o (resolved.NumberBy numbered.Di from byte) h = tt
+operand_acts o (resolved.Register register.Dblg) h = tt
+operand_acts o (resolved.Register register.Dbno) h = tt
+operand_acts o (resolved.Register register.Dilg) h = tt
+operand_acts o (resolved.Register register.Dino) h = tt
+operand_acts o (resolved.Register _) h = tt
 operand_acts o _ h = tt
 
 end_named : (s : Statement) (v : ResolvedOperand) (how : Option EndOperation) → ViewIsNoBit v → InstrIsNamed (end_instr s v how)
@@ -366,7 +366,7 @@ record IsRight (c : Context) (s : Statement) : Type 0 where
 
 call_named : (c : Context) (s : Statement) (how : CallOperation) (v : ResolvedOperand) → IsRight c s → call_operation_of s.code ≡ Some how → resolution_of c s.operand ≡ Resolved v → statement_rule c s ≡ None
     → InstrIsNamed (call_instr c s how v)
-call_named c s how (view.Called id instance) h word named right = (
+call_named c s how (resolved.Called id instance) h word named right = (
   called_by c s how id instance (callee_of c s.operand) (record { is = h.is; word = word; named = named; right = right }),
   to_passed c s (callee_of c s.operand) h.symbols h.no_bit.1,
 )

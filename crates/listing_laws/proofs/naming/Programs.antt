@@ -9,14 +9,14 @@ use Rattle.flat_code.specs.declared.operands.Operand.{Operand as FlatOperand}
 use Rattle.flat_code.specs.declared.operands.Passed.TheVariants as passed
 use Rattle.flat_code.specs.declared.operands.Passed.{Passed}
 use Rattle.stl_list.specs.Runs.{Run, runs}
-use Rattle.sem_kept.specs.Accepted.{program_in}
+use Rattle.sem_kept.specs.AcceptedSource.{program_in}
 use Rattle.sem_kept.proofs.accepted.Accepted.{right_tree}
 use Rattle.sem_kept.proofs.accepted.Verified.{accepted_verifies}
 use Rattle.listing_laws.proofs.naming.Bits.{OperandBit, PassedBit, RunBit, program_bits}
 use Rattle.listing_laws.proofs.naming.Coded.{ActsOnNoBit, PassedIsNoBit, PreparesNoBit, RunIsNoBit, program_named}
 use Rattle.listing_laws.proofs.naming.Symbols.{symbols_no_bits}
 use Rattle.listing_laws.proofs.naming.Trees.{tree_plain}
-use Rattle.listing_laws.specs.Named.{AreAcceptedRead, AreSourcesNamed}
+use Rattle.listing_laws.specs.NamedProgram.{AreAcceptedRead, AreSourcesNamed}
 use Rattle.listing_laws.specs.Sources.{ActsOnNamed, AreSourcesRead, IsRunNamed, PassesNamedPlace, PreparesOnNamed}
 
 passes_on : (p : Passed) → PassedIsNoBit p → PassedBit p → PassesNamedPlace p

@@ -22,19 +22,19 @@ use Rattle.block_layout.specs.Types.{Types}
 use Rattle.block_layout.specs.declared.blocks.BlockLayout.{BlockLayout}
 use Rattle.stl_types.specs.Parameters.{formals_of as formals_in}
 use Rattle.stl_types.specs.declared.parameters.Formal.{Formal}
-use Rattle.stl_codegen.specs.Compiled.{compiled_block}
-use Rattle.stl_codegen.specs.Generated.{code_block}
+use Rattle.stl_codegen.specs.CompiledBlock.{compiled_block}
+use Rattle.stl_codegen.specs.GeneratedProgram.{code_block}
 use Rattle.stl_codegen.specs.Instruction.{in_parameter_order}
 use Rattle.stl_list.specs.CodeBlocks.{in_lines, listed_block}
-use Rattle.stl_list.specs.Joined.{Chains, chains_of}
+use Rattle.stl_list.specs.JoinedParameters.{Chains, chains_of}
 use Rattle.stl_list.specs.Lines.{stands_before}
 use Rattle.stl_list.specs.Parameters.{name_of, parameter_name, return_name, section_of}
 use Rattle.stl_list.specs.Signatures.{Signature, formals_from, formals_of_block, is_behind}
-use Rattle.sem_kept.specs.Accepted.{IsAccepted, program_in}
+use Rattle.sem_kept.specs.AcceptedSource.{IsAccepted, program_in}
 use Rattle.block_layout.proofs.CommonLemmas.{all_there}
-use Rattle.listing_laws.specs.Again.{IsMadeOf, IsWholeAgain, context_at, listed_again}
-use Rattle.listing_laws.specs.Called.{ReturnsLast}
-use Rattle.listing_laws.specs.Declared.{signatures_in}
+use Rattle.listing_laws.specs.ListedSource.{IsMadeOf, IsWholeAgain, context_at, listed_again}
+use Rattle.listing_laws.specs.ParameterNames.{ReturnsLast}
+use Rattle.listing_laws.specs.ListedDeclarations.{signatures_in}
 use Rattle.listing_laws.specs.Passings.{AreNamedApart, in_upper_case}
 use Rattle.listing_laws.proofs.BlockLemmas.{all_sorted}
 use Rattle.listing_laws.proofs.called.Names.{own_names_apart}

@@ -29,10 +29,10 @@ use Rattle.stl_types.specs.Parameters.{callee_of}
 use Rattle.stl_types.specs.Resolution.{resolution_of, whole_called_block}
 use Rattle.stl_types.specs.declared.parameters.Formal.{Formal}
 use Rattle.stl_types.specs.declared.views.Resolution.TheVariants.{Resolved}
-use Rattle.stl_types.specs.declared.views.ResolvedOperand.TheVariants as view
-use Rattle.stl_codegen.specs.Compiled.{SourceInstruction, StatedBlock, lines_in}
-use Rattle.stl_codegen.specs.Emitted.{pass_ops}
-use Rattle.stl_codegen.specs.Generated.{stated_from, statements_of}
+use Rattle.stl_types.specs.declared.views.ResolvedOperand.TheVariants as resolved
+use Rattle.stl_codegen.specs.CompiledBlock.{SourceInstruction, StatedBlock, lines_in}
+use Rattle.stl_codegen.specs.EmittedOps.{pass_ops}
+use Rattle.stl_codegen.specs.GeneratedProgram.{stated_from, statements_of}
 use Rattle.stl_codegen.specs.Instruction.{instruction, jump_instr, passings_to, target_in, target_of}
 use Rattle.stl_codegen.specs.Operations.{call_operation_of, jump_operation_of}
 use Rattle.stl_list.specs.Actuals.{actuals_before}
@@ -42,17 +42,17 @@ use Rattle.stl_list.specs.Operands.{name_of_data_block}
 use Rattle.stl_list.specs.Runs.{number_at}
 use Rattle.stl_list.specs.Signatures.{Signature, called_formals, formals_of_block}
 use Rattle.stl_list.specs.Statements.{ListingContext, listed_statement}
-use Rattle.sem_kept.specs.Accepted.{IsAccepted, program_in}
-use Rattle.sem_kept.specs.Settled.{HasCalled, HasInstruction, HasOperand, IsResolvedStatement}
+use Rattle.sem_kept.specs.AcceptedSource.{IsAccepted, program_in}
+use Rattle.sem_kept.specs.SettledStatements.{HasCalled, HasInstruction, HasOperand, IsResolvedStatement}
 use Rattle.sem_kept.proofs.accepted.Accepted.{IsSoundBlock, IsSoundStatement, IsSoundTree, right_tree}
 use Rattle.block_layout.proofs.CommonLemmas.{all_there}
 use Rattle.sem_kept.proofs.accepted.Settled.{statements_settle}
 use Rattle.sem_kept.proofs.accepted.SizesOps.{whole_count}
-use Rattle.listing_laws.specs.Again.{IsMadeOf, IsWholeAgain, again_at, context_at}
+use Rattle.listing_laws.specs.ListedSource.{IsMadeOf, IsWholeAgain, again_at, context_at}
 use Rattle.listing_laws.specs.AgainBodies.{AreBodiesKeptAgain, around_again, body_again, made_block}
 use Rattle.listing_laws.specs.CallsAgain.{AreStatementsAgain, IsFoundAgain, IsRightStatement}
 use Rattle.listing_laws.specs.Calls.{IsInstanceNumbered}
-use Rattle.listing_laws.specs.Declared.{signatures_in}
+use Rattle.listing_laws.specs.ListedDeclarations.{signatures_in}
 use Rattle.listing_laws.specs.Instructions.{HasAgain, IsInstructionKept}
 use Rattle.listing_laws.specs.LabelRules.{LeadsWithin}
 use Rattle.listing_laws.specs.ListedBodies.{AreKeptFrom}
@@ -114,10 +114,10 @@ instance_numbered listed (Some n) h e = no_zero listed (subst (λ m. data_number
     same : (m : ℕ) → Some m ≡ Some 0 → m ≡ 0
     same m e = cc
 
-same_id : (i j : BlockId) (m n : Option ℕ) → view.Called i m ≡ view.Called j n → i ≡ j
+same_id : (i j : BlockId) (m n : Option ℕ) → resolved.Called i m ≡ resolved.Called j n → i ≡ j
 same_id i j m n e = cc
 
-same_instance : (i j : BlockId) (m n : Option ℕ) → view.Called i m ≡ view.Called j n → m ≡ n
+same_instance : (i j : BlockId) (m n : Option ℕ) → resolved.Called i m ≡ resolved.Called j n → m ≡ n
 same_instance i j m n e = cc
 
 module _ (source file : List ℕ) (symbols : List Symbol) (t : Tree) (accepted : IsAccepted source file symbols t) (bytes : AreBytes source) (file_bytes : AreBytes file)
@@ -218,8 +218,8 @@ module _ (source file : List ℕ) (symbols : List Symbol) (t : Tree) (accepted :
         listing : Statement
         listing = listed_statement sur k (run_of f (Calls how h.id h.instance ps))
 
-        sees : resolution_of c s.operand ≡ Resolved (view.Called h.id h.instance)
-        sees = what_seen c s (view.Called h.id h.instance) h.called
+        sees : resolution_of c s.operand ≡ Resolved (resolved.Called h.id h.instance)
+        sees = what_seen c s (resolved.Called h.id h.instance) h.called
 
         is_called : is_called_operand s.operand ≡ true
         is_called = sound_here.well_formed.called ∙ word_calls s.code how is
@@ -230,15 +230,15 @@ module _ (source file : List ℕ) (symbols : List Symbol) (t : Tree) (accepted :
             word_calls code.Cc how e = refl
             word_calls _ how e = absurd cc
 
-        st : StandsCalled listed (view.Called h.id h.instance)
-        st = sees_called c listed own s.operand (view.Called h.id h.instance) stands_again
+        st : StandsCalled listed (resolved.Called h.id h.instance)
+        st = sees_called c listed own s.operand (resolved.Called h.id h.instance) stands_again
             (calls source file symbols t accepted bytes file_bytes others clean again place b l id made) is_called sees
 
-        rule : rule_of_resolved_operand (form_of s.code) (view.Called h.id h.instance) ≡ None
-        rule = rule_called c (form_of s.code) s.operand (view.Called h.id h.instance) is_called (rule_broken c s (view.Called h.id h.instance) h.called) sees
+        rule : rule_of_resolved_operand (form_of s.code) (resolved.Called h.id h.instance) ≡ None
+        rule = rule_called c (form_of s.code) s.operand (resolved.Called h.id h.instance) is_called (rule_broken c s (resolved.Called h.id h.instance) h.called) sees
 
         plain : is_data_type h.id.kind ≡ false
-        plain = called_plain h.id h.instance (same_kind s.code how (view.Called h.id h.instance) is (taken_view (form_of s.code) (view.Called h.id h.instance) rule))
+        plain = called_plain h.id h.instance (same_kind s.code how (resolved.Called h.id h.instance) is (taken_view (form_of s.code) (resolved.Called h.id h.instance) rule))
 
         whole : whole_called_block listed (Some h.id) ≡ Some h.id
         whole =
@@ -259,7 +259,7 @@ module _ (source file : List ℕ) (symbols : List Symbol) (t : Tree) (accepted :
         operand_is : listing.operand ≡ operand.Called (block.Number h.id) (option_map name_of_data_block h.instance)
         operand_is = calls_listed sur.formals sur.starts f how h.id h.instance ps callable (instance_numbered listed h.instance instance_there)
 
-        listing_sees : resolution_of listed listing.operand ≡ Resolved (view.Called h.id h.instance)
+        listing_sees : resolution_of listed listing.operand ≡ Resolved (resolved.Called h.id h.instance)
         listing_sees =
             ap (resolution_of listed) operand_is
             ∙ ap (λ (x : Option BlockName). resolution_of listed (operand.Called (block.Number h.id) x)) (sym (instance_is h.instance (instance_numbered listed h.instance instance_there)))
@@ -276,7 +276,7 @@ module _ (source file : List ℕ) (symbols : List Symbol) (t : Tree) (accepted :
           word = made_words.0;
           right = right_again;
           instr = calls_kept listed body n listing how h.id h.instance own (called_formals ss h.id) found.found ps (ap call_operation_of made_words.0 ∙ is)
-              (resolves listed listing (view.Called h.id h.instance) right_again listing_sees) (ap (callee_of listed) operand_is ∙ found.is)
+              (resolves listed listing (resolved.Called h.id h.instance) right_again listing_sees) (ap (callee_of listed) operand_is ∙ found.is)
               (record { actuals = made_words.1; order = found.order; named = found.named; passable = found.passable; rising = found.rising });
         }
 

@@ -30,22 +30,22 @@ use Rattle.stl_types.specs.Context.{Context, source_block_ids, whole_place}
 use Rattle.stl_types.specs.Parameters.{Callee, callee_at, callee_by, dtime_formal, formals_of as formals_in, is_sound_formal, mode_formal, ob_nr_formal, return_value_formal, sign_formal, sound_formals, source_callee, system_callee, system_formals}
 use Rattle.stl_types.specs.Resolution.{id_at, whole_called_block}
 use Rattle.stl_types.specs.declared.parameters.Formal.{Formal}
-use Rattle.stl_codegen.specs.Compiled.{compiled_block}
-use Rattle.stl_codegen.specs.Generated.{code_block, params_of, section_number}
+use Rattle.stl_codegen.specs.CompiledBlock.{compiled_block}
+use Rattle.stl_codegen.specs.GeneratedProgram.{code_block, params_of, section_number}
 use Rattle.stl_codegen.specs.Instruction.{source_block_at, in_parameter_order}
 use Rattle.stl_list.specs.CodeBlocks.{in_lines}
-use Rattle.stl_list.specs.Joined.{Chains, chains_of, system_parameters}
+use Rattle.stl_list.specs.JoinedParameters.{Chains, chains_of, system_parameters}
 use Rattle.stl_list.specs.Parameters.{section_of}
 use Rattle.stl_list.specs.Signatures.{Signature, called_formals, formals_of_block}
-use Rattle.sem_kept.specs.Accepted.{IsAccepted, program_in}
+use Rattle.sem_kept.specs.AcceptedSource.{IsAccepted, program_in}
 use Rattle.sem_kept.proofs.accepted.Accepted.{IsSoundTree, right_tree}
 use Rattle.block_layout.proofs.BlockLemmas.{known_there}
 use Rattle.sem_kept.proofs.accepted.OperandsFormals.{IsRecordOf, Matched, system_matched}
 use Rattle.sem_kept.proofs.accepted.OperandsMembers.{called_block}
 use Rattle.listing_laws.specs.AcceptedTypes.{declared_kinds}
-use Rattle.listing_laws.specs.Again.{IsMadeOf, IsWholeAgain, again_at, context_at, listed_again}
+use Rattle.listing_laws.specs.ListedSource.{IsMadeOf, IsWholeAgain, again_at, context_at, listed_again}
 use Rattle.listing_laws.specs.Chains.{is_listed_type}
-use Rattle.listing_laws.specs.Declared.{signatures_in}
+use Rattle.listing_laws.specs.ListedDeclarations.{signatures_in}
 use Rattle.listing_laws.specs.Fitting.{IsListedAs}
 use Rattle.listing_laws.specs.HandedOn.{called_kinds}
 use Rattle.listing_laws.specs.Ids.{data_id, program_ids}

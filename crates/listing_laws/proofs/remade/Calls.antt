@@ -45,23 +45,23 @@ use Rattle.stl_types.specs.Context.{Context, data_number}
 use Rattle.stl_types.specs.Forms.{form_of}
 use Rattle.stl_types.specs.Parameters.{Callee, callee_by, callee_of, system_formals}
 use Rattle.stl_types.specs.Resolution.{resolution_of, whole_called_block}
-use Rattle.stl_types.specs.Resolved.{resolved_operand}
+use Rattle.stl_types.specs.ResolvedStatement.{resolved_operand}
 use Rattle.stl_types.specs.Variables.{own_variable}
 use Rattle.stl_types.specs.declared.parameters.Formal.{Formal}
 use Rattle.stl_types.specs.declared.views.Resolution.TheVariants.{Resolved}
-use Rattle.stl_types.specs.declared.views.ResolvedOperand.TheVariants as view
-use Rattle.stl_codegen.specs.Compiled.{StatedBlock, compiled_block}
-use Rattle.stl_codegen.specs.Emitted.{instance_number_or_zero, ops_of, pass_ops}
-use Rattle.stl_codegen.specs.Generated.{code_block, code_blocks_of, data_blocks_of, params_of}
+use Rattle.stl_types.specs.declared.views.ResolvedOperand.TheVariants as resolved
+use Rattle.stl_codegen.specs.CompiledBlock.{StatedBlock, compiled_block}
+use Rattle.stl_codegen.specs.EmittedOps.{instance_number_or_zero, ops_of, pass_ops}
+use Rattle.stl_codegen.specs.GeneratedProgram.{code_block, code_blocks_of, data_blocks_of, params_of}
 use Rattle.stl_codegen.specs.Instruction.{source_block_at, in_parameter_order, instr_by, instruction, passings_to, resolved_instr, return_last, operand_instr}
 use Rattle.stl_codegen.specs.Operations.{call_operation_of}
-use Rattle.stl_list.specs.Joined.{system_parameters}
+use Rattle.stl_list.specs.JoinedParameters.{system_parameters}
 use Rattle.stl_list.specs.Operands.{name_of_data_block, name_at, own_parameter as own_named}
 use Rattle.stl_list.specs.Signatures.{Signature, called_formals, formals_of_block}
-use Rattle.sem_kept.specs.Accepted.{IsAccepted, program_in}
-use Rattle.sem_kept.specs.Coded.{StatementHasBytes}
+use Rattle.sem_kept.specs.AcceptedSource.{IsAccepted, program_in}
+use Rattle.sem_kept.specs.CodedBlocks.{StatementHasBytes}
 use Rattle.sem_kept.specs.Operands.{ArePassed, InstrFits}
-use Rattle.sem_kept.specs.Settled.{HasCalled, HasOperand, HasInstruction, IsResolvedStatement}
+use Rattle.sem_kept.specs.SettledStatements.{HasCalled, HasOperand, HasInstruction, IsResolvedStatement}
 use Rattle.sem_kept.proofs.accepted.Accepted.{IsSoundBlock, IsSoundStatement, IsSoundTree, right_tree}
 use Rattle.sem_kept.proofs.accepted.CodedBytes.{tree_has}
 use Rattle.sem_kept.proofs.accepted.CodedOps.{IsGoodStatement, statement_good}
@@ -74,10 +74,10 @@ use Rattle.sem_kept.proofs.accepted.OperandsSymbols.{symbols_fit}
 use Rattle.sem_kept.proofs.accepted.OperandsViews.{EndsBy, Surrounds, ends_by, holds_locals}
 use Rattle.sem_kept.proofs.accepted.Settled.{statements_settle}
 use Rattle.listing_laws.specs.AcceptedTypes.{declared_kinds}
-use Rattle.listing_laws.specs.Again.{IsMadeOf, IsWholeAgain, again_at, context_at}
+use Rattle.listing_laws.specs.ListedSource.{IsMadeOf, IsWholeAgain, again_at, context_at}
 use Rattle.listing_laws.specs.Calling.{AreCalledAgain}
 use Rattle.listing_laws.specs.CallsAgain.{AreCallsAgain, IsCalledAgain, IsFoundAgain, IsRightStatement}
-use Rattle.listing_laws.specs.Declared.{signatures_in}
+use Rattle.listing_laws.specs.ListedDeclarations.{signatures_in}
 use Rattle.listing_laws.specs.Fitting.{IsBacked, IsListedAs}
 use Rattle.listing_laws.specs.HandedOn.{CallOwesTypes, formals_by_index}
 use Rattle.listing_laws.specs.Instructions.{HasAgain}
@@ -128,10 +128,10 @@ other_number kinds.Udt e f = absurd cc
 -- ---- what a call passes
 
 pub called_instr : (c : Context) (body : List Statement) (n : ℕ) (s : Statement) (how : CallOperation) (id : BlockId) (instance : Option ℕ) (callee : Callee) → call_operation_of s.code ≡ Some how
-    → resolved_operand c s ≡ Some (view.Called id instance) → callee_of c s.operand ≡ Some callee → instruction c body n s ≡ Calls how id instance (passings_to c s (Some callee))
+    → resolved_operand c s ≡ Some (resolved.Called id instance) → callee_of c s.operand ≡ Some callee → instruction c body n s ≡ Calls how id instance (passings_to c s (Some callee))
 unfolding instruction
 called_instr c body n s how id instance callee word e found =
-    ap (instr_by c body n s) (no_jump s.code how word) ∙ ap (resolved_instr c s) e ∙ ap (operand_instr c s (view.Called id instance)) word
+    ap (instr_by c body n s) (no_jump s.code how word) ∙ ap (resolved_instr c s) e ∙ ap (operand_instr c s (resolved.Called id instance)) word
     ∙ ap (λ (o : Option Callee). Calls how id instance (passings_to c s o)) found
 
 not_true : (t : Bool) → not t ≡ false → t ≡ true
@@ -266,7 +266,7 @@ module _ (source file : List ℕ) (symbols : List Symbol) (t : Tree) (accepted :
     formal : Formal
     there : slice_get own index ≡ Some formal
     as_listed : IsListedAs formal r
-    sees : resolution_of listed (own_named own index) ≡ Resolved (view.Parameter index formal.section formal.kind)
+    sees : resolution_of listed (own_named own index) ≡ Resolved (resolved.Parameter index formal.section formal.kind)
 
   own_there : (index : ℕ) (r : ParameterRecord) → parameter_meant here index ≡ Some r → IsOwn index r
   own_there index r e = by (kind_number b.kind == kind_number kinds.Fc) refl e
@@ -287,7 +287,7 @@ module _ (source file : List ℕ) (symbols : List Symbol) (t : Tree) (accepted :
   -- ---- a statement that calls
 
   module _ (s : Statement) (front rest : List Statement) (split : b.body ≡ front ++ s ∷ rest) (cid : BlockId) (instance : Option ℕ) (callee : Callee)
-      (res : resolved_operand c s ≡ Some (view.Called cid instance)) (found : callee_of c s.operand ≡ Some callee) where
+      (res : resolved_operand c s ≡ Some (resolved.Called cid instance)) (found : callee_of c s.operand ≡ Some callee) where
     abbrev called : List Formal
     called = called_formals ss cid
 
@@ -297,12 +297,12 @@ module _ (source file : List ℕ) (symbols : List Symbol) (t : Tree) (accepted :
     sound_here : IsSoundStatement (types_of_source symbols t.blocks) c s
     sound_here = split_holds (IsSoundStatement (types_of_source symbols t.blocks) c) b.body front s rest sound.statements split
 
-    sees : resolution_of c s.operand ≡ Resolved (view.Called cid instance)
-    sees = resolved_seen c s (view.Called cid instance) res
+    sees : resolution_of c s.operand ≡ Resolved (resolved.Called cid instance)
+    sees = resolved_seen c s (resolved.Called cid instance) res
 
     is_word : is_call s.code ≡ true
     is_word = form_calls s.code
-        (taken_calls (form_of s.code) cid instance (taken_by_rule (form_of s.code) (view.Called cid instance) (rule_called c (form_of s.code) s.operand cid instance sees sound_here.allowed)).taken)
+        (taken_calls (form_of s.code) cid instance (taken_by_rule (form_of s.code) (resolved.Called cid instance) (rule_called c (form_of s.code) s.operand cid instance sees sound_here.allowed)).taken)
 
     how : (how : CallOperation) × (call_operation_of s.code ≡ Some how)
     how = call_word s.code is_word
@@ -326,17 +326,17 @@ module _ (source file : List ℕ) (symbols : List Symbol) (t : Tree) (accepted :
         ap (λ (z : Callee). z.id) (same_Some callee has_called.callee (sym found ∙ has_called.found)) ∙ has_called.same
         ∙ sym (same cid has_called.id instance has_called.instance (sym res ∙ has_called.called))
       where
-        same : (i j : BlockId) (m n : Option ℕ) → Some (view.Called i m) ≡ Some (view.Called j n) → i ≡ j
+        same : (i j : BlockId) (m n : Option ℕ) → Some (resolved.Called i m) ≡ Some (resolved.Called j n) → i ≡ j
         same i j m n e = cc
 
     -- the block in the listing
     whole_again : is_data_type cid.kind ≡ false → whole_called_block listed (Some cid) ≡ Some cid
     whole_again plain =
-        let st = sees_called c listed own s.operand (view.Called cid instance) has calls is_called sees in
+        let st = sees_called c listed own s.operand (resolved.Called cid instance) has calls is_called sees in
         let one : cid ≡ st.id = same cid st.id instance st.instance st.is in
         subst (λ (i : BlockId). is_data_type i.kind ≡ false → whole_called_block listed (Some i) ≡ Some i) (sym one) st.whole plain
       where
-        same : (i j : BlockId) (m n : Option ℕ) → view.Called i m ≡ view.Called j n → i ≡ j
+        same : (i j : BlockId) (m n : Option ℕ) → resolved.Called i m ≡ resolved.Called j n → i ≡ j
         same i j m n e = cc
 
     plain_kind : (k : BlockKind) → is_callable k ≡ true → is_data_type k ≡ false

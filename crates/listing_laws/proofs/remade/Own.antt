@@ -12,7 +12,7 @@ use Rattle.stl_types.specs.Parameters.{formal, formal_here, formal_of, formals_o
 use Rattle.stl_types.specs.Variables.{behind_others, own_variable}
 use Rattle.stl_types.specs.declared.parameters.Formal.{Formal}
 use Rattle.stl_types.specs.declared.views.Resolution.TheVariants.{Resolved}
-use Rattle.stl_types.specs.declared.views.ResolvedOperand.TheVariants as view
+use Rattle.stl_types.specs.declared.views.ResolvedOperand.TheVariants as resolved
 use Rattle.stl_codegen.specs.Instruction.{in_parameter_order, return_last}
 use Rattle.listing_laws.specs.OwnParameters.{IsFunctionAt}
 use Rattle.listing_laws.specs.Passings.{AreNamedApart, in_upper_case}
@@ -132,7 +132,7 @@ module _ (c : Context) (b : Block) (l : BlockLayout) (at : IsFunctionAt c b l) (
           ∙ named index (behind_others (length fs) k b.result) f found.0 there found.1
           ∙ ne_eqb index (behind_others (length fs) k b.result) (λ same. places_apart b.result (length fs) j k within less (place ∙ same))
 
-  pub own_again : (index : ℕ) (f : Formal) → slice_get called index ≡ Some f → own_variable c (upper_case_name f.name) [] ≡ Resolved (view.Parameter index f.section f.kind)
+  pub own_again : (index : ℕ) (f : Formal) → slice_get called index ≡ Some f → own_variable c (upper_case_name f.name) [] ≡ Resolved (resolved.Parameter index f.section f.kind)
   own_again index f there =
       ap (λ (n : List ℕ). own_variable c n []) (sym name)
       ∙ own_parameters_found c b l spot.0 found.cell found.plain.kind at (levels l.components cells)
@@ -143,7 +143,7 @@ module _ (c : Context) (b : Block) (l : BlockLayout) (at : IsFunctionAt c b l) (
         of_kind = found.plain.of_kind;
         first = firsts index spot.0 f found.cell.name there name spot.2 (slice_get_within fs spot.0 (in_upper_case f) spot.1);
       })
-      ∙ (λ i. Resolved (view.Parameter (index_is i) (section i) (kind i)))
+      ∙ (λ i. Resolved (resolved.Parameter (index_is i) (section i) (kind i)))
     where
       spot : (j : ℕ) × (slice_get fs j ≡ Some (in_upper_case f)) × (behind_others (length fs) j b.result ≡ index)
       spot = place_from b.result fs index (in_upper_case f) (ap (λ (z : List Formal). slice_get z index) order ∙ mapped_at in_upper_case called index f there)

@@ -29,23 +29,23 @@ use Rattle.stl_types.specs.Parameters.{formals_of as formals_in}
 use Rattle.stl_types.specs.Variables.{own_variable}
 use Rattle.stl_types.specs.declared.parameters.Formal.{Formal}
 use Rattle.stl_types.specs.declared.views.Resolution.TheVariants.{Resolved}
-use Rattle.stl_types.specs.declared.views.ResolvedOperand.TheVariants as view
-use Rattle.stl_codegen.specs.Compiled.{compiled_block}
-use Rattle.stl_codegen.specs.Generated.{code_block, params_of, section_number}
+use Rattle.stl_types.specs.declared.views.ResolvedOperand.TheVariants as resolved
+use Rattle.stl_codegen.specs.CompiledBlock.{compiled_block}
+use Rattle.stl_codegen.specs.GeneratedProgram.{code_block, params_of, section_number}
 use Rattle.stl_codegen.specs.Instruction.{in_parameter_order}
 use Rattle.stl_list.specs.CodeBlocks.{listed_block}
-use Rattle.stl_list.specs.Joined.{Chains, chains_of}
+use Rattle.stl_list.specs.JoinedParameters.{Chains, chains_of}
 use Rattle.stl_list.specs.Operands.{name_at}
 use Rattle.stl_list.specs.Parameters.{section_of}
 use Rattle.stl_list.specs.Signatures.{formals_from, formals_of_block, is_behind}
-use Rattle.sem_kept.specs.Accepted.{program_in}
+use Rattle.sem_kept.specs.AcceptedSource.{program_in}
 use Rattle.sem_kept.proofs.accepted.Accepted.{IsSoundBlock, IsSoundTree, right_tree, sound_at}
 use Rattle.sem_kept.proofs.accepted.OperandsCells.{cells_are}
 use Rattle.sem_kept.proofs.accepted.OperandsFormals.{IsRecordOf, Matched, source_matched}
 use Rattle.sem_kept.proofs.accepted.OperandsViews.{layout_id}
 use Rattle.block_layout.proofs.BlockLemmas.{kind_there}
-use Rattle.listing_laws.specs.Again.{IsMadeOf, again_at, context_at, listed_again}
-use Rattle.listing_laws.specs.Declared.{AreWide, signatures_in}
+use Rattle.listing_laws.specs.ListedSource.{IsMadeOf, again_at, context_at, listed_again}
+use Rattle.listing_laws.specs.ListedDeclarations.{AreWide, signatures_in}
 use Rattle.listing_laws.specs.ParametersAgain.{AreParametersAgain}
 use Rattle.listing_laws.proofs.called.AcceptedTypes.{components_same, own_parameters}
 use Rattle.listing_laws.proofs.called.Fitting.{same_widths}
@@ -98,11 +98,11 @@ name_there fs index f e = rw e refl
 
 -- an input stays one
 input_again : (index : ℕ) (p : ℕ) (own section again : PartKind) (a b : Simple) → own ≡ section → is_parameter own ≡ true → p ≡ section_number own → again ≡ section_of p
-    → is_input (view.Parameter index again a) ≡ is_input (view.Parameter index section b)
+    → is_input (resolved.Parameter index again a) ≡ is_input (resolved.Parameter index section b)
 input_again index p own section again a b same parameter number is =
-    ap (λ z. is_input (view.Parameter index z a)) (is ∙ ap section_of number) ∙ by own parameter ∙ ap (λ z. is_input (view.Parameter index z b)) same
+    ap (λ z. is_input (resolved.Parameter index z a)) (is ∙ ap section_of number) ∙ by own parameter ∙ ap (λ z. is_input (resolved.Parameter index z b)) same
   where
-    by : (k : PartKind) → is_parameter k ≡ true → is_input (view.Parameter index (section_of (section_number k)) a) ≡ is_input (view.Parameter index k b)
+    by : (k : PartKind) → is_parameter k ≡ true → is_input (resolved.Parameter index (section_of (section_number k)) a) ≡ is_input (resolved.Parameter index k b)
     by part.Input e = refl
     by part.Output e = refl
     by part.InOut e = refl
@@ -121,7 +121,7 @@ function_no_block kinds.Sfc e = refl
 
 pub formal_again : (symbols : List Symbol) (t : Tree) (others : List Symbol) (again : ℕ) (b : CodeBlock) → IsListedCode symbols t others again b → is_function b.id.kind ≡ true
     → (index : ℕ) (f : Formal) → slice_get (formals_of_block (signatures_in (program_in symbols t)) b.id) index ≡ Some f
-    → own_variable (again_at symbols t others again) (upper_case_name f.name) [] ≡ Resolved (view.Parameter index f.section f.kind)
+    → own_variable (again_at symbols t others again) (upper_case_name f.name) [] ≡ Resolved (resolved.Parameter index f.section f.kind)
 formal_again symbols t others again b h function index f there =
     own_again (again_at symbols t others again) (listed_block (signatures_in (program_in symbols t)) h.reached b) h.layout
     (record { block = h.block; kind = function; layout = h.there; whole = h.whole })

@@ -27,11 +27,11 @@ use Rattle.stl_types.specs.declared.parameters.Formal.{Formal}
 use Rattle.stl_types.specs.declared.views.Resolution.{Resolution}
 use Rattle.stl_types.specs.declared.views.Resolution.TheVariants.{Resolved, Unknown, Unjudged}
 use Rattle.stl_types.specs.declared.views.ResolvedOperand.{ResolvedOperand}
-use Rattle.stl_types.specs.declared.views.ResolvedOperand.TheVariants as view
+use Rattle.stl_types.specs.declared.views.ResolvedOperand.TheVariants as resolved
 use Rattle.flat_code.specs.Instr.{Calls}
-use Rattle.stl_codegen.specs.Emitted.{call_op, ops_of, pass_ops}
+use Rattle.stl_codegen.specs.EmittedOps.{call_op, ops_of, pass_ops}
 use Rattle.stl_codegen.specs.Operands.{is_in_named_block, opened_by_place}
-use Rattle.stl_codegen.specs.Passed.{passed_actual, passed_place, passed_resolution, passed_by_operand, passings_from, actual_of_formal, with_index}
+use Rattle.stl_codegen.specs.PassedParameters.{passed_actual, passed_place, passed_resolution, passed_by_operand, passings_from, actual_of_formal, with_index}
 use Rattle.sem_kept.specs.Operands.{ArePassed}
 use Rattle.sem_kept.proofs.accepted.CodedOps.{IsGoodPart, IsGoodStatement}
 use Rattle.sem_kept.proofs.accepted.CodedViews.{found_holds}
@@ -60,9 +60,9 @@ place_stored listed place w h = by (is_in_named_block place) h
 
 module _ (c listed : Context) (formals : List Formal) (has : HasAgain c listed formals) where
   view_stored : (i : ℕ) (o : Operand) (v : ResolvedOperand) → StandsAgain listed formals v → AreStored listed (with_index i (passed_by_operand o v))
-  view_stored i o (view.Direct place w side declared) h = (place_stored listed place w h, tt)
-  view_stored i o (view.Parameter index section declared) h = (tt, tt)
-  view_stored i o view.Constant h = (tt, tt)
+  view_stored i o (resolved.Direct place w side declared) h = (place_stored listed place w h, tt)
+  view_stored i o (resolved.Parameter index section declared) h = (tt, tt)
+  view_stored i o resolved.Constant h = (tt, tt)
   view_stored i o _ h = tt
 
   seen_stored : (i : ℕ) (o : Operand) → IsRightOperand c.symbols o → (r : Resolution) → resolution_of c o ≡ r → AreStored listed (with_index i (passed_resolution o r))

@@ -25,11 +25,11 @@ use Rattle.block_layout.specs.Measures.{types_of_source}
 use Rattle.block_layout.specs.declared.blocks.BlockLayout.{BlockLayout}
 use Rattle.stl_types.specs.Addresses.{area_of_pointer, area_for_letters}
 use Rattle.stl_types.specs.Context.{Context}
-use Rattle.sem_kept.specs.Coded.{HasBytes, OperandHasBytes, StatementHasBytes}
+use Rattle.sem_kept.specs.CodedBlocks.{HasBytes, OperandHasBytes, StatementHasBytes}
 use Rattle.sem_kept.proofs.accepted.Accepted.{AllLaid, IsSoundBlock, IsSoundStatement, right_tree}
 use Rattle.sem_kept.proofs.accepted.CodedBits.{value_fits}
 use Rattle.sem_kept.proofs.accepted.CodedBytes.{tree_has}
-use Rattle.listing_laws.specs.Again.{context_at}
+use Rattle.listing_laws.specs.ListedSource.{context_at}
 use Rattle.listing_laws.specs.Bodies.{IsNoBit}
 use Rattle.listing_laws.specs.CallsAgain.{AreOperandsRight, IsRightStatement}
 use Rattle.listing_laws.specs.Instructions.{IsCodedOperand, IsRightOperand}

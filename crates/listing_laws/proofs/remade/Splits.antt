@@ -11,12 +11,12 @@ use Rattle.stl_symbols.specs.Symbol.{Symbol}
 use Rattle.block_layout.specs.Layouts.{layouts_of}
 use Rattle.block_layout.specs.declared.blocks.BlockLayout.{BlockLayout}
 use Rattle.stl_types.specs.Context.{Context}
-use Rattle.stl_codegen.specs.Compiled.{SourceInstruction, StatedBlock}
-use Rattle.stl_codegen.specs.Generated.{code_block, code_blocks_of, return_statement, stated_from, statements_of}
+use Rattle.stl_codegen.specs.CompiledBlock.{SourceInstruction, StatedBlock}
+use Rattle.stl_codegen.specs.GeneratedProgram.{code_block, code_blocks_of, return_statement, stated_from, statements_of}
 use Rattle.stl_codegen.specs.Instruction.{instruction}
 use Rattle.sem_kept.proofs.accepted.Accepted.{IsSoundBlock}
 use Rattle.sem_kept.proofs.accepted.OperandsMembers.{code_block_there}
-use Rattle.listing_laws.specs.Again.{context_at}
+use Rattle.listing_laws.specs.ListedSource.{context_at}
 
 -- what holds of each element, where it stands, holds of all
 split_from : {A : Type 0} (P : A → Type 0) (xs front rest : List A) → ((front : List A) (x : A) (back : List A) → xs ≡ front ++ x ∷ back → P x) → xs ≡ front ++ rest → AllByRecursion P rest

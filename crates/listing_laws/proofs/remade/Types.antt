@@ -12,20 +12,20 @@ use Rattle.stl_symbols.specs.Symbol.{Symbol}
 use Rattle.block_layout.specs.Layouts.{layouts_of}
 use Rattle.block_layout.specs.Offsets.{width_of}
 use Rattle.stl_types.specs.declared.parameters.Formal.{Formal}
-use Rattle.stl_codegen.specs.Compiled.{StatedBlock, compiled_block}
-use Rattle.stl_codegen.specs.Generated.{code_blocks_of}
+use Rattle.stl_codegen.specs.CompiledBlock.{StatedBlock, compiled_block}
+use Rattle.stl_codegen.specs.GeneratedProgram.{code_blocks_of}
 use Rattle.stl_codegen.specs.Order.{is_code_before}
-use Rattle.stl_list.specs.Joined.{Chains, chains_of, first_of, kind_at, links, total_parameter_count, system_parameters}
+use Rattle.stl_list.specs.JoinedParameters.{Chains, chains_of, first_of, kind_at, links, total_parameter_count, system_parameters}
 use Rattle.stl_list.specs.Signatures.{formals_from, formals_of_block, signatures, signatures_from}
-use Rattle.sem_kept.specs.Accepted.{IsAccepted, program_in}
+use Rattle.sem_kept.specs.AcceptedSource.{IsAccepted, program_in}
 use Rattle.sem_kept.proofs.accepted.Accepted.{right_tree}
 use Rattle.sem_kept.proofs.accepted.RecordBlocks.{code_blocks_rise}
 use Rattle.sem_kept.proofs.accepted.RecordOrder.{Rise}
 use Rattle.listing_laws.specs.AcceptedTypes.{declared_kinds}
 use Rattle.listing_laws.specs.Chains.{AreTypesAsDeclared, HasStep, LinksHaveType, is_listed_type}
-use Rattle.listing_laws.specs.Declared.{AreWide, signatures_in}
+use Rattle.listing_laws.specs.ListedDeclarations.{AreWide, signatures_in}
 use Rattle.listing_laws.specs.HandedOn.{declared_type_in}
-use Rattle.listing_laws.specs.Listed.{IsParameterOf, params_in}
+use Rattle.listing_laws.specs.ListingParameters.{IsParameterOf, params_in}
 use Rattle.listing_laws.specs.Steps.{PassesParameterOn}
 use Rattle.listing_laws.proofs.called.AcceptedTypes.{accepted_types_kept}
 use Rattle.listing_laws.proofs.called.Listed.{ends_alike, parameters_listed}

@@ -31,15 +31,15 @@ use Rattle.stl_types.specs.Resolution.{resolution_of}
 use Rattle.stl_types.specs.Unknown.{is_unknown, operand_20}
 use Rattle.stl_types.specs.Zones.{ends_no_zone, is_ninth_zone, with_zones, zones_left_open}
 use Rattle.stl_types.specs.declared.parameters.Formal.{Formal}
-use Rattle.stl_codegen.specs.Compiled.{SourceInstruction, StatedBlock, compiled_block, lines_in}
-use Rattle.stl_codegen.specs.Generated.{code_block, statements_of}
+use Rattle.stl_codegen.specs.CompiledBlock.{SourceInstruction, StatedBlock, compiled_block, lines_in}
+use Rattle.stl_codegen.specs.GeneratedProgram.{code_block, statements_of}
 use Rattle.stl_list.specs.Signatures.{Signature, formals_of_block}
 use Rattle.stl_list.specs.Statements.{ListingContext, body_of, listing_context}
-use Rattle.sem_kept.specs.Accepted.{IsAccepted, program_in}
-use Rattle.sem_kept.specs.Settled.{IsResolvedStatement}
+use Rattle.sem_kept.specs.AcceptedSource.{IsAccepted, program_in}
+use Rattle.sem_kept.specs.SettledStatements.{IsResolvedStatement}
 use Rattle.sem_kept.proofs.accepted.Accepted.{IsSoundActual, IsSoundBody, IsSoundCall, IsSoundStatement, IsSoundTree, right_tree}
-use Rattle.listing_laws.specs.Again.{IsMadeOf, again_at, context_at}
-use Rattle.listing_laws.specs.Declared.{signatures_in}
+use Rattle.listing_laws.specs.ListedSource.{IsMadeOf, again_at, context_at}
+use Rattle.listing_laws.specs.ListedDeclarations.{signatures_in}
 use Rattle.listing_laws.specs.Instructions.{HasAgain, IsRightOperand}
 use Rattle.listing_laws.specs.LabelRules.{LeadsWithin}
 use Rattle.listing_laws.specs.Nesting.{AreNestedAlike}

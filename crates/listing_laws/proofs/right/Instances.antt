@@ -35,27 +35,27 @@ use Rattle.stl_types.specs.Context.{Context, data_number, data_place, source_blo
 use Rattle.stl_types.specs.Forms.{form_of}
 use Rattle.stl_types.specs.Parameters.{Callee, callee_at, callee_by, callee_of, source_callee, system_callee}
 use Rattle.stl_types.specs.Resolution.{resolution_of_call, instance_number, resolution_of, whole_called_block}
-use Rattle.stl_types.specs.Resolved.{resolved_operand}
+use Rattle.stl_types.specs.ResolvedStatement.{resolved_operand}
 use Rattle.stl_types.specs.declared.parameters.Formal.{Formal}
 use Rattle.stl_types.specs.declared.views.Resolution.TheVariants.{Resolved}
-use Rattle.stl_types.specs.declared.views.ResolvedOperand.TheVariants as view
-use Rattle.stl_codegen.specs.Generated.{generated_data_block, function_block_number, instance_in}
+use Rattle.stl_types.specs.declared.views.ResolvedOperand.TheVariants as resolved
+use Rattle.stl_codegen.specs.GeneratedProgram.{generated_data_block, function_block_number, instance_in}
 use Rattle.stl_codegen.specs.Operations.{call_operation_of}
 use Rattle.stl_list.specs.CodeBlocks.{in_lines, line_reached}
 use Rattle.stl_list.specs.DataBlocks.{function_block, listed_data}
 use Rattle.stl_list.specs.Operands.{name_of_data_block}
 use Rattle.stl_list.specs.Signatures.{Signature}
-use Rattle.sem_kept.specs.Accepted.{program_in}
-use Rattle.sem_kept.specs.Settled.{context_at}
+use Rattle.sem_kept.specs.AcceptedSource.{program_in}
+use Rattle.sem_kept.specs.SettledStatements.{context_at}
 use Rattle.sem_kept.proofs.accepted.Accepted.{IsSoundStatement, IsSoundTree}
 use Rattle.block_layout.proofs.BlockLemmas.{known_there}
 use Rattle.block_layout.proofs.LayoutLemmas.{measured_symbols}
 use Rattle.block_layout.proofs.CommonLemmas.{origin, or_second}
 use Rattle.sem_kept.proofs.accepted.OperandsMembers.{data_block_there}
 use Rattle.sem_kept.proofs.accepted.OperandsViews.{IsKnownDataBlock, data_there, ids_same, whole_is}
-use Rattle.listing_laws.specs.Again.{listed_again}
+use Rattle.listing_laws.specs.ListedSource.{listed_again}
 use Rattle.listing_laws.specs.Calls.{IsInstanceAt}
-use Rattle.listing_laws.specs.Declared.{signatures_in}
+use Rattle.listing_laws.specs.ListedDeclarations.{signatures_in}
 use Rattle.listing_laws.specs.Ids.{data_id, program_ids}
 use Rattle.listing_laws.specs.Instructions.{HasAgain}
 use Rattle.listing_laws.proofs.IdLemmas.{blocks_found, source_ids}
@@ -201,23 +201,23 @@ record NamesInstance (c : Context) (o : Operand) (callee : Callee) (n : ℕ) : T
   id : BlockId
   found : callee_by c id id.kind ≡ Some callee
 
-some_called : (x y : BlockId) (i : Option ℕ) (n : ℕ) → Resolved (view.Called x i) ≡ Resolved (view.Called y (Some n)) → i ≡ Some n
+some_called : (x y : BlockId) (i : Option ℕ) (n : ℕ) → Resolved (resolved.Called x i) ≡ Resolved (resolved.Called y (Some n)) → i ≡ Some n
 some_called x y i n e = cc
 
 found_named : (c : Context) (o : Option BlockId) (callee : Callee) → option_and_then (λ (id : BlockId). callee_by c id id.kind) o ≡ Some callee → (id : BlockId) × (callee_by c id id.kind ≡ Some callee)
 found_named c None callee e = absurd cc
 found_named c (Some id) callee e = (id, e)
 
-names_numbered : (c : Context) (w : Option BlockId) (i : Option BlockName) (id : BlockId) (n : ℕ) → resolution_of_call w i (instance_number c i) ≡ Resolved (view.Called id (Some n)) → (name : BlockName) × (i ≡ Some name) × (data_number c name ≡ Some n)
+names_numbered : (c : Context) (w : Option BlockId) (i : Option BlockName) (id : BlockId) (n : ℕ) → resolution_of_call w i (instance_number c i) ≡ Resolved (resolved.Called id (Some n)) → (name : BlockName) × (i ≡ Some name) × (data_number c name ≡ Some n)
 names_numbered c None i id n e = absurd cc
 names_numbered c (Some x) None id n e = let no = some_called x id None n e in absurd cc
 names_numbered c (Some x) (Some name) id n e = by (data_number c name) refl e
   where
-    by : (o : Option ℕ) → data_number c name ≡ o → resolution_of_call (Some x) (Some name) o ≡ Resolved (view.Called id (Some n)) → (other : BlockName) × (Some name ≡ Some other) × (data_number c other ≡ Some n)
+    by : (o : Option ℕ) → data_number c name ≡ o → resolution_of_call (Some x) (Some name) o ≡ Resolved (resolved.Called id (Some n)) → (other : BlockName) × (Some name ≡ Some other) × (data_number c other ≡ Some n)
     by None is e = absurd cc
     by (Some m) is e = (name, refl, is ∙ some_called x id (Some m) n e)
 
-names_instance : (c : Context) (o : Operand) (id : BlockId) (n : ℕ) (callee : Callee) → resolution_of c o ≡ Resolved (view.Called id (Some n)) → callee_of c o ≡ Some callee → NamesInstance c o callee n
+names_instance : (c : Context) (o : Operand) (id : BlockId) (n : ℕ) (callee : Callee) → resolution_of c o ≡ Resolved (resolved.Called id (Some n)) → callee_of c o ≡ Some callee → NamesInstance c o callee n
 unfolding resolution_of callee_of
 names_instance c (operand.Called name i) id n callee e f =
     let numbered = names_numbered c (whole_called_block c (named_block c.symbols name)) i id n e in
@@ -392,7 +392,7 @@ callee_is c id instance callee e = e
 pub instance_there : (symbols : List Symbol) (t : Tree) → IsSoundTree symbols t → (k : ℕ) (s : Statement) → IsSoundStatement (types_of_source symbols t.blocks) (context_at symbols t k) s
     → (others : List Symbol) (again : ℕ) (own : List Formal) → HasAgain (context_at symbols t k) (context_at others (listed_again symbols t) again) own
     → (how : CallOperation) (id : BlockId) (instance : Option ℕ) (callee found : Callee)
-    → call_operation_of s.code ≡ Some how → names_called_block s.operand ≡ true → resolved_operand (context_at symbols t k) s ≡ Some (view.Called id instance)
+    → call_operation_of s.code ≡ Some how → names_called_block s.operand ≡ true → resolved_operand (context_at symbols t k) s ≡ Some (resolved.Called id instance)
     → callee_of (context_at symbols t k) s.operand ≡ Some callee → callee.id ≡ id
     → callee_of (context_at others (listed_again symbols t) again) (operand.Called (block.Number id) (option_map name_of_data_block instance)) ≡ Some found
     → IsInstanceAt (context_at others (listed_again symbols t) again) found.place (option_map name_of_data_block instance)
@@ -400,9 +400,9 @@ instance_there symbols t tree k s sound others again own has how id None callee 
 instance_there symbols t tree k s sound others again own has how id (Some n) callee found h is_call e f same g =
     let c = context_at symbols t k in
     let listed = context_at others (listed_again symbols t) again in
-    let sees = what_seen c s (view.Called id (Some n)) e in
-    let rule = rule_called c (form_of s.code) s.operand (view.Called id (Some n)) is_call (rule_broken c s (view.Called id (Some n)) e) sees in
-    let fb : is_function_block id.kind ≡ true = same_kind s.code how (view.Called id (Some n)) h (taken_view (form_of s.code) (view.Called id (Some n)) rule) in
+    let sees = what_seen c s (resolved.Called id (Some n)) e in
+    let rule = rule_called c (form_of s.code) s.operand (resolved.Called id (Some n)) is_call (rule_broken c s (resolved.Called id (Some n)) e) sees in
+    let fb : is_function_block id.kind ≡ true = same_kind s.code how (resolved.Called id (Some n)) h (taken_view (form_of s.code) (resolved.Called id (Some n)) rule) in
     let names = names_instance c s.operand id n callee sees f in
     instance_placed symbols t tree others again id n found fb
     (source_instance symbols t tree k s sound id n callee fb same names (sound.calls callee f).instance)

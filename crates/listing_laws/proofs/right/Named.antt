@@ -11,7 +11,7 @@ use Rattle.flat_code.specs.declared.operands.Operand.{Operand as FlatOperand}
 use Rattle.flat_code.specs.declared.operands.Operand.TheVariants as flat
 use Rattle.flat_code.specs.declared.operands.Passed.{Passed}
 use Rattle.flat_code.specs.declared.operands.Passed.TheVariants as passed
-use Rattle.flat_code.specs.declared.operations.AddConstant.TheVariants as adding
+use Rattle.flat_code.specs.declared.operations.AddConstant.TheVariants as add_constant
 use Rattle.flat_code.specs.declared.operations.Logic.TheVariants as logic
 use Rattle.flat_code.specs.declared.operations.Operation.{Operation}
 use Rattle.flat_code.specs.declared.operations.Operation.TheVariants as operation
@@ -162,7 +162,7 @@ constant_bare (operation.Logic logic.Od) bits = tt
 constant_bare (operation.Logic logic.Xod) bits = tt
 constant_bare (operation.Logic _) bits = tt
 constant_bare (operation.Pointer which) bits = tt
-constant_bare (operation.Add adding.Dword) bits = tt
+constant_bare (operation.Add add_constant.Dword) bits = tt
 constant_bare operation.LoadOpenBlock bits = tt
 constant_bare _ bits = tt
 

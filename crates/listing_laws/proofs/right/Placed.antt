@@ -23,13 +23,13 @@ use Rattle.block_layout.specs.declared.blocks.BlockLayout.{BlockLayout}
 use Rattle.plc_base.specs.declared.blocks.BlockId.{BlockId}
 use Rattle.stl_types.specs.Context.{Context}
 use Rattle.stl_types.specs.Resolution.{resolution_of}
-use Rattle.stl_types.specs.Resolved.{resolved_operand, operand_if_resolved}
+use Rattle.stl_types.specs.ResolvedStatement.{resolved_operand, operand_if_resolved}
 use Rattle.stl_types.specs.declared.views.Resolution.TheVariants.{Resolved}
 use Rattle.stl_types.specs.declared.views.ResolvedOperand.{ResolvedOperand}
-use Rattle.stl_types.specs.declared.views.ResolvedOperand.TheVariants as view
+use Rattle.stl_types.specs.declared.views.ResolvedOperand.TheVariants as resolved
 use Rattle.stl_codegen.specs.Bodies.{count_of_statements}
-use Rattle.stl_codegen.specs.Compiled.{SourceInstruction, StatedBlock, compiled_block, lines_in}
-use Rattle.stl_codegen.specs.Generated.{code_block, return_statement, stated_from, statements_of}
+use Rattle.stl_codegen.specs.CompiledBlock.{SourceInstruction, StatedBlock, compiled_block, lines_in}
+use Rattle.stl_codegen.specs.GeneratedProgram.{code_block, return_statement, stated_from, statements_of}
 use Rattle.stl_codegen.specs.Instruction.{instr_by, instruction, jump_instr, resolved_instr, target_in, target_of}
 use Rattle.stl_codegen.specs.Operations.{call_operation_of, jump_operation_of}
 use Rattle.stl_list.specs.CodeBlocks.{listed_block}
@@ -38,14 +38,14 @@ use Rattle.stl_list.specs.Lines.{line_of_statement}
 use Rattle.stl_list.specs.Runs.{Run}
 use Rattle.stl_list.specs.Signatures.{Signature}
 use Rattle.stl_list.specs.Statements.{ListingContext, body_of, label_at, label_of_end, listed_statement, statement_at, statements_from, listing_context}
-use Rattle.sem_kept.specs.Accepted.{IsAccepted, program_in}
-use Rattle.sem_kept.specs.Settled.{HasInstruction, HasLabel, HasOperand, IsResolvedStatement}
+use Rattle.sem_kept.specs.AcceptedSource.{IsAccepted, program_in}
+use Rattle.sem_kept.specs.SettledStatements.{HasInstruction, HasLabel, HasOperand, IsResolvedStatement}
 use Rattle.sem_kept.proofs.accepted.Accepted.{IsSoundBlock, IsSoundStatement, right_tree, sound_at}
 use Rattle.sem_kept.proofs.accepted.OperandsInstr.{resolved_is}
 use Rattle.sem_kept.proofs.accepted.Settled.{statements_settle}
 use Rattle.sem_kept.proofs.accepted.Shared.{stated_count as source_count}
-use Rattle.listing_laws.specs.Again.{IsMadeOf, context_at}
-use Rattle.listing_laws.specs.Declared.{signatures_in}
+use Rattle.listing_laws.specs.ListedSource.{IsMadeOf, context_at}
+use Rattle.listing_laws.specs.ListedDeclarations.{signatures_in}
 use Rattle.listing_laws.specs.Nesting.{IsReadable}
 use Rattle.listing_laws.specs.Statements.{jumps_to, statement_offset, run_of}
 use Rattle.listing_laws.proofs.EndLemmas.{statements_free}
@@ -58,7 +58,7 @@ use Rattle.listing_laws.proofs.ruled.Within.{Stays, resolved_stays, stated_count
 
 -- ---- a statement that is settled
 
-pub labels_seen : (c : Context) (name : List ℕ) → resolution_of c (operand.Label name) ≡ Resolved view.Label
+pub labels_seen : (c : Context) (name : List ℕ) → resolution_of c (operand.Label name) ≡ Resolved resolved.Label
 unfolding resolution_of
 labels_seen c name = refl
 
@@ -67,11 +67,11 @@ some_view c body s h e = by (jump_operation_of s.code) h.instruction
   where
     by_call : (how : Option CallOperation) → HasOperand c s how → (v : ResolvedOperand) × (resolved_operand c s ≡ Some v)
     by_call None o = o
-    by_call (Some how) o = (view.Called o.id o.instance, o.called)
+    by_call (Some how) o = (resolved.Called o.id o.instance, o.called)
 
     by : (how : Option JumpOperation) → HasInstruction c body s how → (v : ResolvedOperand) × (resolved_operand c s ≡ Some v)
     by None o = by_call (call_operation_of s.code) o
-    by (Some how) o = (view.Label, e ∙ ap (λ (x : Operand). operand_if_resolved (resolution_of c x)) o.is ∙ ap operand_if_resolved (labels_seen c o.name))
+    by (Some how) o = (resolved.Label, e ∙ ap (λ (x : Operand). operand_if_resolved (resolution_of c x)) o.is ∙ ap operand_if_resolved (labels_seen c o.name))
 
 not_none : {A : Type 0} (x : A) → None ≡ Some x → ⊥
 not_none x e = absurd cc

@@ -14,7 +14,7 @@ use Rattle.flat_code.specs.declared.kinds.JumpOperation.TheVariants as jump
 use Rattle.flat_code.specs.declared.operands.Operand.{Operand as FlatOperand}
 use Rattle.flat_code.specs.declared.operands.Operand.TheVariants as flat
 use Rattle.flat_code.specs.declared.operands.Passed.{Passed}
-use Rattle.flat_code.specs.declared.operations.AddConstant.TheVariants as adding
+use Rattle.flat_code.specs.declared.operations.AddConstant.TheVariants as add_constant
 use Rattle.flat_code.specs.declared.operations.CallOperation.{CallOperation}
 use Rattle.flat_code.specs.declared.operations.EndOperation.{EndOperation}
 use Rattle.flat_code.specs.declared.operations.Logic.TheVariants as logic
@@ -39,20 +39,20 @@ use Rattle.stl_types.specs.Forms.{form_of}
 use Rattle.stl_types.specs.Operands.{operand_rule, rule_of_resolved_operand, rule_of_resolution, statement_rule}
 use Rattle.stl_types.specs.Parameters.{Callee, callee_at, callee_by, callee_of, source_callee, system_callee, system_formals}
 use Rattle.stl_types.specs.Resolution.{resolution_of_call, id_at, instance_number, resolution_of, whole_called_block}
-use Rattle.stl_types.specs.Resolved.{resolved_operand}
+use Rattle.stl_types.specs.ResolvedStatement.{resolved_operand}
 use Rattle.stl_types.specs.Unknown.{is_unknown}
 use Rattle.stl_types.specs.declared.parameters.Formal.{Formal}
 use Rattle.stl_types.specs.declared.views.Register.TheVariants as register
 use Rattle.stl_types.specs.declared.views.Resolution.{Resolution}
 use Rattle.stl_types.specs.declared.views.Resolution.TheVariants.{Resolved, Unknown, Unjudged}
 use Rattle.stl_types.specs.declared.views.ResolvedOperand.{ResolvedOperand}
-use Rattle.stl_types.specs.declared.views.ResolvedOperand.TheVariants as view
-use Rattle.stl_codegen.specs.Compiled.{operand_with_target}
-use Rattle.stl_codegen.specs.Emitted.{pass_ops}
+use Rattle.stl_types.specs.declared.views.ResolvedOperand.TheVariants as resolved
+use Rattle.stl_codegen.specs.CompiledBlock.{operand_with_target}
+use Rattle.stl_codegen.specs.EmittedOps.{pass_ops}
 use Rattle.stl_codegen.specs.Instruction.{instruction, jump_instr, passings_to, target_of}
 use Rattle.stl_codegen.specs.Operands.{flat_operand_of}
 use Rattle.stl_codegen.specs.Operations.{call_operation_of, end_operation_of, jump_operation_of}
-use Rattle.stl_codegen.specs.Passed.{passed_resolution}
+use Rattle.stl_codegen.specs.PassedParameters.{passed_resolution}
 use Rattle.stl_list.specs.Actuals.{actual_of_passed, actuals_before, actuals_by, passed_operand}
 use Rattle.stl_list.specs.Constants.{instruction_constant}
 use Rattle.stl_list.specs.Labels.{label_of_number}
@@ -60,7 +60,7 @@ use Rattle.stl_list.specs.Operands.{name_of_data_block, implied_operand, operand
 use Rattle.stl_list.specs.Runs.{number_at}
 use Rattle.stl_list.specs.Signatures.{called_formals}
 use Rattle.stl_list.specs.Statements.{ListingContext, listed_statement}
-use Rattle.sem_kept.specs.Settled.{HasCalled, HasInstruction, HasOperand, IsResolvedStatement}
+use Rattle.sem_kept.specs.SettledStatements.{HasCalled, HasInstruction, HasOperand, IsResolvedStatement}
 use Rattle.sem_kept.proofs.accepted.Accepted.{IsSoundActual, IsSoundCall, IsSoundStatement}
 use Rattle.sem_kept.proofs.accepted.Shared.{callable_by}
 use Rattle.listing_laws.specs.Calls.{IsInstanceAt}
@@ -152,7 +152,7 @@ constant_none (operation.Logic logic.Od) bits = refl
 constant_none (operation.Logic logic.Xod) bits = refl
 constant_none (operation.Logic _) bits = refl
 constant_none (operation.Pointer which) bits = refl
-constant_none (operation.Add adding.Dword) bits = refl
+constant_none (operation.Add add_constant.Dword) bits = refl
 constant_none operation.LoadOpenBlock bits = refl
 constant_none _ bits = refl
 
@@ -179,15 +179,15 @@ jump_none _ k n = tt
 
 acting_none : (o : Operand) (v : ResolvedOperand) → IsNoCalled (flat_operand_of o v)
 unfolding flat_operand_of
-acting_none o (view.NumberBy numbered.Timer from byte) = tt
-acting_none o (view.NumberBy numbered.Counter from byte) = tt
-acting_none o (view.NumberBy numbered.Db from byte) = tt
-acting_none o (view.NumberBy numbered.Di from byte) = tt
-acting_none o (view.Register register.Dblg) = tt
-acting_none o (view.Register register.Dbno) = tt
-acting_none o (view.Register register.Dilg) = tt
-acting_none o (view.Register register.Dino) = tt
-acting_none o (view.Register _) = tt
+acting_none o (resolved.NumberBy numbered.Timer from byte) = tt
+acting_none o (resolved.NumberBy numbered.Counter from byte) = tt
+acting_none o (resolved.NumberBy numbered.Db from byte) = tt
+acting_none o (resolved.NumberBy numbered.Di from byte) = tt
+acting_none o (resolved.Register register.Dblg) = tt
+acting_none o (resolved.Register register.Dbno) = tt
+acting_none o (resolved.Register register.Dilg) = tt
+acting_none o (resolved.Register register.Dino) = tt
+acting_none o (resolved.Register _) = tt
 acting_none o _ = tt
 
 -- by its instruction
@@ -207,7 +207,7 @@ jump_right : (y : Types) (c listed : Context) (sur : ListingContext) (f : ℕ �
     → AreTypesOf y listed → jump_operation_of s.code ≡ Some how → (listed_as sur f c body k s).code ≡ s.code → IsRightAgain y listed (listed_as sur f c body k s)
 jump_right y c listed sur f body k s how types h word =
     subst (IsShownAgain y listed sur f k) (sym is)
-    (right_instr y listed sur f k (jump_instr how k n) view.Label types (jump_none how k n) (ap (resolution_of listed) shown ∙ labels_seen listed name) rule)
+    (right_instr y listed sur f k (jump_instr how k n) resolved.Label types (jump_none how k n) (ap (resolution_of listed) shown ∙ labels_seen listed name) rule)
   where
     n : ℕ
     n = target_of body s.operand
@@ -246,7 +246,7 @@ does_right y c listed sur f k s v types has right some jumps calls ends e =
 end_right : (y : Types) (listed : Context) (sur : ListingContext) (f : ℕ → ℕ) (k : ℕ) (m : Mnemonic) (how : EndOperation)
     → AreTypesOf y listed → end_operation_of m ≡ Some how → (listed_statement sur k (run_of f (Returns how))).code ≡ m → IsShownAgain y listed sur f k (Returns how)
 end_right y listed sur f k m how types ends word =
-    right_instr y listed sur f k (Returns how) view.Nothing types tt (ap (resolution_of listed) (end_operand sur k f how) ∙ nothing_seen listed)
+    right_instr y listed sur f k (Returns how) resolved.Nothing types tt (ap (resolution_of listed) (end_operand sur k f how) ∙ nothing_seen listed)
     (ap (λ (x : Mnemonic). operand_rule listed (form_of x) (listed_statement sur k (run_of f (Returns how))).operand) word
     ∙ ap (operand_rule listed (form_of m)) (end_operand sur k f how) ∙ end_taken listed m how ends)
 
@@ -308,13 +308,13 @@ record NamesInstance (c : Context) (o : Operand) (instance : Option ℕ) : Type 
   none : has_no_instance o ≡ is_none instance
   number : (n : ℕ) → instance ≡ Some n → (name : BlockName) × (data_number c name ≡ Some n)
 
-called_views : (x y : BlockId) (i j : Option ℕ) → Resolved (view.Called x i) ≡ Resolved (view.Called y j) → i ≡ j
+called_views : (x y : BlockId) (i j : Option ℕ) → Resolved (resolved.Called x i) ≡ Resolved (resolved.Called y j) → i ≡ j
 called_views x y i j e = cc
 
 no_number : (n : ℕ) → None ≡ Some n → ⊥
 no_number n e = absurd cc
 
-names_by : (c : Context) (name : BlockName) (w : Option BlockId) (i : Option BlockName) (id : BlockId) (instance : Option ℕ) → resolution_of_call w i (instance_number c i) ≡ Resolved (view.Called id instance)
+names_by : (c : Context) (name : BlockName) (w : Option BlockId) (i : Option BlockName) (id : BlockId) (instance : Option ℕ) → resolution_of_call w i (instance_number c i) ≡ Resolved (resolved.Called id instance)
     → NamesInstance c (operand.Called name i) instance
 names_by c name None i id instance e = absurd cc
 names_by c name (Some x) None id instance e =
@@ -322,13 +322,13 @@ names_by c name (Some x) None id instance e =
     record { none = ap is_none is; number = λ n at. absurd (no_number n (is ∙ at)) }
 names_by c name (Some x) (Some i) id instance e = by (data_number c i) refl e
   where
-    by : (n : Option ℕ) → data_number c i ≡ n → resolution_of_call (Some x) (Some i) n ≡ Resolved (view.Called id instance) → NamesInstance c (operand.Called name (Some i)) instance
+    by : (n : Option ℕ) → data_number c i ≡ n → resolution_of_call (Some x) (Some i) n ≡ Resolved (resolved.Called id instance) → NamesInstance c (operand.Called name (Some i)) instance
     by None is e = absurd cc
     by (Some m) is e =
         let same : Some m ≡ instance = called_views x id (Some m) instance e in
         record { none = ap is_none same; number = λ n at. (i, is ∙ same ∙ at) }
 
-names_instance : (c : Context) (o : Operand) (id : BlockId) (instance : Option ℕ) → names_called_block o ≡ true → resolution_of c o ≡ Resolved (view.Called id instance) → NamesInstance c o instance
+names_instance : (c : Context) (o : Operand) (id : BlockId) (instance : Option ℕ) → names_called_block o ≡ true → resolution_of c o ≡ Resolved (resolved.Called id instance) → NamesInstance c o instance
 unfolding resolution_of
 names_instance c (operand.Called name i) id instance is e = names_by c name (whole_called_block c (named_block c.symbols name)) i id instance e
 names_instance c _ id instance is e = absurd cc
@@ -344,7 +344,7 @@ zero_none listed e = no e
     no e = absurd cc
 
 called_seen_again : (listed : Context) (id : BlockId) (instance : Option ℕ) → whole_called_block listed (Some id) ≡ Some id → IsInstanceThere listed instance
-    → resolution_of listed (operand.Called (block.Number id) (option_map name_of_data_block instance)) ≡ Resolved (view.Called id instance)
+    → resolution_of listed (operand.Called (block.Number id) (option_map name_of_data_block instance)) ≡ Resolved (resolved.Called id instance)
 unfolding resolution_of
 called_seen_again listed id None h k = ap (λ (x : Option BlockId). resolution_of_call x None None) h
 called_seen_again listed id (Some number) h k =
@@ -378,19 +378,19 @@ actual_sound y c own line f p types fits undated =
 abbrev pub IsInstanceKept : (c listed : Context) → Statement → Type 0
 IsInstanceKept c listed s =
     (how : CallOperation) (id : BlockId) (instance : Option ℕ) (callee found : Callee)
-    → call_operation_of s.code ≡ Some how → names_called_block s.operand ≡ true → resolved_operand c s ≡ Some (view.Called id instance)
+    → call_operation_of s.code ≡ Some how → names_called_block s.operand ≡ true → resolved_operand c s ≡ Some (resolved.Called id instance)
     → callee_of c s.operand ≡ Some callee → callee.id ≡ id
     → callee_of listed (operand.Called (block.Number id) (option_map name_of_data_block instance)) ≡ Some found
     → IsInstanceAt listed found.place (option_map name_of_data_block instance)
 
 called_right : (y : Types) (c listed : Context) (sur : ListingContext) (f : ℕ → ℕ) (k : ℕ) (s : Statement) (how : CallOperation) (id : BlockId) (instance : Option ℕ) (callee : Callee)
-    → AreTypesOf y listed → HasAgain c listed sur.formals → call_operation_of s.code ≡ Some how → resolved_operand c s ≡ Some (view.Called id instance) → names_called_block s.operand ≡ true
+    → AreTypesOf y listed → HasAgain c listed sur.formals → call_operation_of s.code ≡ Some how → resolved_operand c s ≡ Some (resolved.Called id instance) → names_called_block s.operand ≡ true
     → IsSoundCall c callee s → (q : IsFoundAgain c listed sur.formals (called_formals sur.signatures id) s id instance callee)
     → IsInstanceAt listed q.found.place (option_map name_of_data_block instance)
     → IsShownAgain y listed sur f k (Calls how id instance (passings_to c s (Some callee)))
 called_right y c listed sur f k s how id instance callee types has h e is_call sound q instances = record {
-  known = known_by (resolution_of listed again.operand) (view.Called id instance) sees_again;
-  there = seen_there y listed again.operand (view.Called id instance) types sees_again;
+  known = known_by (resolution_of listed again.operand) (resolved.Called id instance) sees_again;
+  there = seen_there y listed again.operand (resolved.Called id instance) types sees_again;
   inside = ap (operand_is_outside y listed.layouts listed.block) shown;
   allowed =
       ap (λ (m : Mnemonic). operand_rule listed (form_of m) again.operand) word
@@ -413,14 +413,14 @@ called_right y c listed sur f k s how id instance callee types has h e is_call s
     again : Statement
     again = listed_statement sur k (run_of f (Calls how id instance ps))
 
-    sees_source : resolution_of c s.operand ≡ Resolved (view.Called id instance)
-    sees_source = what_seen c s (view.Called id instance) e
+    sees_source : resolution_of c s.operand ≡ Resolved (resolved.Called id instance)
+    sees_source = what_seen c s (resolved.Called id instance) e
 
-    rule : rule_of_resolved_operand (form_of s.code) (view.Called id instance) ≡ None
-    rule = rule_called c (form_of s.code) s.operand (view.Called id instance) is_call (rule_broken c s (view.Called id instance) e) sees_source
+    rule : rule_of_resolved_operand (form_of s.code) (resolved.Called id instance) ≡ None
+    rule = rule_called c (form_of s.code) s.operand (resolved.Called id instance) is_call (rule_broken c s (resolved.Called id instance) e) sees_source
 
     callable : is_callable id.kind ≡ true
-    callable = callable_by id instance (same_kind s.code how (view.Called id instance) h (taken_view (form_of s.code) (view.Called id instance) rule))
+    callable = callable_by id instance (same_kind s.code how (resolved.Called id instance) h (taken_view (form_of s.code) (resolved.Called id instance) rule))
 
     names : NamesInstance c s.operand instance
     names = names_instance c s.operand id instance is_call sees_source
@@ -440,10 +440,10 @@ called_right y c listed sur f k s how id instance callee types has h e is_call s
     there : IsThere listed id
     there = callee_there listed id q.found (callee_is listed id (option_map name_of_data_block instance) q.found q.is)
 
-    sees_called : resolution_of listed (operand.Called (block.Number id) (option_map name_of_data_block instance)) ≡ Resolved (view.Called id instance)
+    sees_called : resolution_of listed (operand.Called (block.Number id) (option_map name_of_data_block instance)) ≡ Resolved (resolved.Called id instance)
     sees_called = called_seen_again listed id instance there.whole instance_there
 
-    sees_again : resolution_of listed again.operand ≡ Resolved (view.Called id instance)
+    sees_again : resolution_of listed again.operand ≡ Resolved (resolved.Called id instance)
     sees_again = ap (resolution_of listed) shown ∙ sees_called
 
     is_listed : IsListedCall listed sur.formals called q.found ps again
@@ -487,7 +487,7 @@ call_right y y' c listed sur f body k s how types has h called sound kept instan
 
     is : instruction c body k s ≡ Calls how called.id called.instance (passings_to c s (Some called.callee))
     is =
-        call_comes c body k s (view.Called called.id called.instance) how h called.called
+        call_comes c body k s (resolved.Called called.id called.instance) how h called.called
         ∙ ap (λ (x : Option Callee). Calls how called.id called.instance (passings_to c s x)) called.found
 
 -- ---- any statement

@@ -34,15 +34,15 @@ use Rattle.stl_list.specs.CodeBlocks.{in_lines, line_reached, listed_blocks}
 use Rattle.stl_list.specs.DataBlocks.{listed_data, listed_data_blocks}
 use Rattle.stl_list.specs.Listing.{listed_tree}
 use Rattle.stl_list.specs.Signatures.{Signature, formals_of_block}
-use Rattle.sem_kept.specs.Accepted.{IsAccepted, program_in}
-use Rattle.sem_kept.specs.Settled.{context_at}
+use Rattle.sem_kept.specs.AcceptedSource.{IsAccepted, program_in}
+use Rattle.sem_kept.specs.SettledStatements.{context_at}
 use Rattle.sem_kept.proofs.accepted.Accepted.{AllFrom}
 use Rattle.block_layout.proofs.CommonLemmas.{all_there}
 use Rattle.block_layout.proofs.LayoutLemmas.{measured_symbols}
 use Rattle.sem_kept.proofs.accepted.OperandsViews.{ids_same}
-use Rattle.listing_laws.specs.Again.{IsMadeOf, IsWholeAgain, again_at, context_at as source_at, listed_again}
+use Rattle.listing_laws.specs.ListedSource.{IsMadeOf, IsWholeAgain, again_at, context_at as source_at, listed_again}
 use Rattle.listing_laws.specs.CallsAgain.{IsRightStatement}
-use Rattle.listing_laws.specs.Declared.{signatures_in}
+use Rattle.listing_laws.specs.ListedDeclarations.{signatures_in}
 use Rattle.listing_laws.specs.Instructions.{IsRightOperand}
 use Rattle.listing_laws.specs.RightBodies.{AreBodiesRight, AreListedBodiesRight}
 use Rattle.listing_laws.proofs.made.Found.{data_found}

@@ -12,15 +12,15 @@ use Rattle.block_layout.specs.declared.blocks.BlockLayout.{BlockLayout}
 use Rattle.stl_types.specs.Labels.{labels_of}
 use Rattle.stl_types.specs.Landings.{crossing_jumps, landings_at_labels, empty_nesting}
 use Rattle.stl_types.specs.Lists.{lists_from}
-use Rattle.stl_codegen.specs.Compiled.{compiled_block, lines_in}
-use Rattle.stl_codegen.specs.Generated.{code_block}
+use Rattle.stl_codegen.specs.CompiledBlock.{compiled_block, lines_in}
+use Rattle.stl_codegen.specs.GeneratedProgram.{code_block}
 use Rattle.stl_list.specs.CodeBlocks.{listed_block}
 use Rattle.stl_list.specs.Statements.{listing_context}
-use Rattle.sem_kept.specs.Accepted.{program_in}
+use Rattle.sem_kept.specs.AcceptedSource.{program_in}
 use Rattle.sem_kept.proofs.accepted.Accepted.{IsSoundBody}
 use Rattle.sem_kept.proofs.accepted.JumpsRules.{AreRightFrom, right_body}
-use Rattle.listing_laws.specs.Again.{IsMadeOf, context_at, listed_again}
-use Rattle.listing_laws.specs.Declared.{signatures_in}
+use Rattle.listing_laws.specs.ListedSource.{IsMadeOf, context_at, listed_again}
+use Rattle.listing_laws.specs.ListedDeclarations.{signatures_in}
 use Rattle.listing_laws.specs.JumpLists.{AreListsKept}
 use Rattle.listing_laws.specs.ListedLandings.{AreLandingsKept}
 use Rattle.listing_laws.specs.Statements.{statement_offset}

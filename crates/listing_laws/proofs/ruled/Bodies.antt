@@ -5,8 +5,8 @@ use Rattle.flat_code.specs.Instr.{Instr}
 use Rattle.stl_ast.specs.Statements.{is_empty_statement}
 use Rattle.stl_ast.specs.declared.statements.Statement.{Statement}
 use Rattle.stl_types.specs.Context.{Context}
-use Rattle.stl_codegen.specs.Compiled.{SourceInstruction, compiled_block, lines_in}
-use Rattle.stl_codegen.specs.Generated.{stated_from}
+use Rattle.stl_codegen.specs.CompiledBlock.{SourceInstruction, compiled_block, lines_in}
+use Rattle.stl_codegen.specs.GeneratedProgram.{stated_from}
 use Rattle.stl_codegen.specs.Instruction.{instruction}
 use Rattle.stl_list.specs.Lines.{line_of_statement}
 use Rattle.stl_list.specs.Runs.{Run}

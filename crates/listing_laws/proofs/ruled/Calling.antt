@@ -23,18 +23,18 @@ use Rattle.stl_types.specs.Kinds.{is_operand_of_call as is_called_view}
 use Rattle.stl_types.specs.Operands.{operand_rule, rule_of_resolved_operand, rule_of_resolution, statement_rule, takes_operand}
 use Rattle.stl_types.specs.Parameters.{Callee, callee_of}
 use Rattle.stl_types.specs.Resolution.{resolution_of_call, id_at, instance_number, resolution_of, whole_called_block}
-use Rattle.stl_types.specs.Resolved.{resolved_operand}
+use Rattle.stl_types.specs.ResolvedStatement.{resolved_operand}
 use Rattle.stl_types.specs.declared.forms.OperandRule.{OperandRule}
 use Rattle.stl_types.specs.declared.parameters.Formal.{Formal}
 use Rattle.stl_types.specs.declared.views.Resolution.TheVariants.{Resolved}
 use Rattle.stl_types.specs.declared.views.ResolvedOperand.{ResolvedOperand}
-use Rattle.stl_types.specs.declared.views.ResolvedOperand.TheVariants as view
-use Rattle.stl_codegen.specs.Emitted.{instance_number_or_zero as instance_of}
+use Rattle.stl_types.specs.declared.views.ResolvedOperand.TheVariants as resolved
+use Rattle.stl_codegen.specs.EmittedOps.{instance_number_or_zero as instance_of}
 use Rattle.stl_codegen.specs.Instruction.{source_block_at, in_parameter_order, instr_by, instruction, passings_to, resolved_instr, operand_instr}
 use Rattle.stl_codegen.specs.Operations.{call_operation_of, jump_operation_of}
-use Rattle.stl_codegen.specs.Passed.{passings_from}
+use Rattle.stl_codegen.specs.PassedParameters.{passings_from}
 use Rattle.stl_list.specs.Actuals.{actuals_by}
-use Rattle.stl_list.specs.Joined.{called_id}
+use Rattle.stl_list.specs.JoinedParameters.{called_id}
 use Rattle.stl_list.specs.Operands.{name_of_data_block, instance_name, operand_by, plain_operand}
 use Rattle.stl_list.specs.Statements.{ListingContext, listed_statement}
 use Rattle.listing_laws.specs.Calling.{AreCalledAgain, AreBareCallsKept}
@@ -63,11 +63,11 @@ no_jump code.Uc how h = refl
 no_jump code.Cc how h = refl
 no_jump _ how h = absurd cc
 
-calls_to : (c : Context) (body : List Statement) (n : ℕ) (s : Statement) (how : CallOperation) (id : BlockId) (instance : Option ℕ) → call_operation_of s.code ≡ Some how → s.actuals ≡ [] → resolved_operand c s ≡ Some (view.Called id instance)
+calls_to : (c : Context) (body : List Statement) (n : ℕ) (s : Statement) (how : CallOperation) (id : BlockId) (instance : Option ℕ) → call_operation_of s.code ≡ Some how → s.actuals ≡ [] → resolved_operand c s ≡ Some (resolved.Called id instance)
     → instruction c body n s ≡ Calls how id instance []
 unfolding instruction
 calls_to c body n s how id instance h none e =
-    ap (instr_by c body n s) (no_jump s.code how h) ∙ ap (resolved_instr c s) e ∙ ap (operand_instr c s (view.Called id instance)) h
+    ap (instr_by c body n s) (no_jump s.code how h) ∙ ap (resolved_instr c s) e ∙ ap (operand_instr c s (resolved.Called id instance)) h
     ∙ ap (λ (ps : List Passing). Calls how id instance ps) (none_passed c s (callee_of c s.operand) none)
 
 -- ---- the block that is called
@@ -99,11 +99,11 @@ block_plain : (kind : BlockKind) → is_function_block kind ≡ true → is_data
 block_plain kinds.Udt h = absurd cc
 block_plain _ h = refl
 
-pub called_plain : (id : BlockId) (instance : Option ℕ) → is_called_view (view.Called id instance) ≡ true → is_data_type id.kind ≡ false
+pub called_plain : (id : BlockId) (instance : Option ℕ) → is_called_view (resolved.Called id instance) ≡ true → is_data_type id.kind ≡ false
 called_plain id None h = callable_plain id.kind h
 called_plain id (Some number) h = block_plain id.kind h
 
-id_again : (id : BlockId) (instance : Option ℕ) → is_called_view (view.Called id instance) ≡ true → called_id (kind_number id.kind) id.number ≡ id
+id_again : (id : BlockId) (instance : Option ℕ) → is_called_view (resolved.Called id instance) ≡ true → called_id (kind_number id.kind) id.number ≡ id
 id_again id None h = callable_again id.kind id.number h
 id_again id (Some number) h = block_again id.kind id.number h
 
@@ -130,7 +130,7 @@ named_instance listed zero e = absurd (no_zero listed e)
 named_instance listed (suc n) e = rw (ne_eqb (suc n) 0 (λ h. omega (arith, h))) refl
 
 pub called_again : (listed : Context) (id : BlockId) (instance : Option ℕ) → whole_called_block listed (Some id) ≡ Some id → IsOpenedAgain listed instance
-    → resolution_of listed (operand.Called (block.Number id) (instance_name (instance_of instance))) ≡ Resolved (view.Called id instance)
+    → resolution_of listed (operand.Called (block.Number id) (instance_name (instance_of instance))) ≡ Resolved (resolved.Called id instance)
 unfolding resolution_of
 called_again listed id None h k = ap (λ (x : Option BlockId). resolution_of_call x None None) h
 called_again listed id (Some number) h k =
@@ -144,7 +144,7 @@ called_again listed id (Some number) h k =
 pub record StandsCalled (listed : Context) (v : ResolvedOperand) : Type 0 where
   pub id : BlockId
   pub instance : Option ℕ
-  pub is : v ≡ view.Called id instance
+  pub is : v ≡ resolved.Called id instance
   pub whole : is_data_type id.kind ≡ false → whole_called_block listed (Some id) ≡ Some id
   pub again : IsOpenedAgain listed instance
 
@@ -157,10 +157,10 @@ found_called c listed formals x named v has called e = by (whole_called_block c 
   where
     by : (y : Option BlockId) (i : Option BlockName) (number : Option ℕ) → whole_called_block c x ≡ y → instance_number c i ≡ number → resolution_of_call y i number ≡ Resolved v → StandsCalled listed v
     by None i number g k e = absurd cc
-    by (Some id) None number g k e = record { id = id; instance = None; is = view_is (view.Called id None) v e; whole = λ plain. called id plain (whole_id c x id g); again = tt }
+    by (Some id) None number g k e = record { id = id; instance = None; is = view_is (resolved.Called id None) v e; whole = λ plain. called id plain (whole_id c x id g); again = tt }
     by (Some id) (Some name) None g k e = absurd cc
     by (Some id) (Some name) (Some number) g k e =
-        record { id = id; instance = Some number; is = view_is (view.Called id (Some number)) v e; whole = λ plain. called id plain (whole_id c x id g); again = has.data_blocks name number k }
+        record { id = id; instance = Some number; is = view_is (resolved.Called id (Some number)) v e; whole = λ plain. called id plain (whole_id c x id g); again = has.data_blocks name number k }
 
 pub sees_called : (c listed : Context) (formals : List Formal) (o : Operand) (v : ResolvedOperand) → HasAgain c listed formals → AreCalledAgain c listed → names_called_block o ≡ true → resolution_of c o ≡ Resolved v → StandsCalled listed v
 unfolding resolution_of
@@ -171,7 +171,7 @@ pub rule_called : (c : Context) (f : OperandRule) (o : Operand) (v : ResolvedOpe
 rule_called c f (operand.Called name instance) v is h e = sym (ap (rule_of_resolution f) e) ∙ h
 rule_called c f _ v is h e = absurd cc
 
-call_operand : (sur : ListingContext) (k : ℕ) (f : ℕ → ℕ) (how : CallOperation) (id : BlockId) (instance : Option ℕ) → is_called_view (view.Called id instance) ≡ true
+call_operand : (sur : ListingContext) (k : ℕ) (f : ℕ → ℕ) (how : CallOperation) (id : BlockId) (instance : Option ℕ) → is_called_view (resolved.Called id instance) ≡ true
     → (listed_statement sur k (run_of f (Calls how id instance []))).operand ≡ operand.Called (block.Number id) (instance_name (instance_of instance))
 unfolding operand_by plain_operand
 call_operand sur k f how id instance h = ap (λ (i : BlockId). operand.Called (block.Number i) (instance_name (instance_of instance))) (id_again id instance h)
@@ -181,12 +181,12 @@ unfolding actuals_by
 no_actuals sur k f how id instance = refl
 
 calls_again : (listed : Context) (sur : ListingContext) (f : ℕ → ℕ) (again : List Statement) (n k : ℕ) (m : Mnemonic) (how : CallOperation) (id : BlockId) (instance : Option ℕ)
-    → call_operation_of m ≡ Some how → rule_of_resolved_operand (form_of m) (view.Called id instance) ≡ None → whole_called_block listed (Some id) ≡ Some id → IsOpenedAgain listed instance
+    → call_operation_of m ≡ Some how → rule_of_resolved_operand (form_of m) (resolved.Called id instance) ≡ None → whole_called_block listed (Some id) ≡ Some id → IsOpenedAgain listed instance
     → IsInstructionKept listed again n m (Calls how id instance []) (listed_statement sur k (run_of f (Calls how id instance [])))
 calls_again listed sur f again n k m how id instance h rule whole stands = record {
   word = word;
   right = right;
-  instr = calls_to listed again n listing how id instance (ap call_operation_of word ∙ h) (no_actuals sur k f how id instance) (resolves listed listing (view.Called id instance) right (ap (resolution_of listed) is ∙ sees));
+  instr = calls_to listed again n listing how id instance (ap call_operation_of word ∙ h) (no_actuals sur k f how id instance) (resolves listed listing (resolved.Called id instance) right (ap (resolution_of listed) is ∙ sees));
 }
   where
     listing : Statement
@@ -196,9 +196,9 @@ calls_again listed sur f again n k m how id instance h rule whole stands = recor
     word = call_words_found m how h
 
     is : listing.operand ≡ operand.Called (block.Number id) (instance_name (instance_of instance))
-    is = call_operand sur k f how id instance (same_kind m how (view.Called id instance) h (taken_view (form_of m) (view.Called id instance) rule))
+    is = call_operand sur k f how id instance (same_kind m how (resolved.Called id instance) h (taken_view (form_of m) (resolved.Called id instance) rule))
 
-    sees : resolution_of listed (operand.Called (block.Number id) (instance_name (instance_of instance))) ≡ Resolved (view.Called id instance)
+    sees : resolution_of listed (operand.Called (block.Number id) (instance_name (instance_of instance))) ≡ Resolved (resolved.Called id instance)
     sees = called_again listed id instance whole stands
 
     right : statement_rule listed listing ≡ None
@@ -210,8 +210,8 @@ calls_kept c listed sur f body again n k s v how has called is none h e =
   where
     by : StandsCalled listed v → IsInstructionKept listed again n s.code (instruction c body n s) (listed_statement sur k (run_of f (instruction c body n s)))
     by st =
-        let rule : rule_of_resolved_operand (form_of s.code) (view.Called st.id st.instance) ≡ None =
+        let rule : rule_of_resolved_operand (form_of s.code) (resolved.Called st.id st.instance) ≡ None =
         ap (rule_of_resolved_operand (form_of s.code)) (sym st.is) ∙ rule_called c (form_of s.code) s.operand v is (rule_broken c s v e) (what_seen c s v e) in
-        let plain = called_plain st.id st.instance (same_kind s.code how (view.Called st.id st.instance) h (taken_view (form_of s.code) (view.Called st.id st.instance) rule)) in
+        let plain = called_plain st.id st.instance (same_kind s.code how (resolved.Called st.id st.instance) h (taken_view (form_of s.code) (resolved.Called st.id st.instance) rule)) in
         rw (calls_to c body n s how st.id st.instance h none (e ∙ ap (λ (x : ResolvedOperand). Some x) st.is))
         (calls_again listed sur f again n k s.code how st.id st.instance h rule (st.whole plain) st.again)

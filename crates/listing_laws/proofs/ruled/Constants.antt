@@ -24,7 +24,7 @@ use Rattle.stl_types.specs.Forms.{form_of}
 use Rattle.stl_types.specs.Operands.{rule_of_resolved_operand, takes_operand}
 use Rattle.stl_types.specs.Resolution.{resolution_of}
 use Rattle.stl_types.specs.declared.views.Resolution.TheVariants.{Resolved}
-use Rattle.stl_types.specs.declared.views.ResolvedOperand.TheVariants as view
+use Rattle.stl_types.specs.declared.views.ResolvedOperand.TheVariants as resolved
 use Rattle.stl_codegen.specs.Operands.{flat_operand_of, pointer_bits}
 use Rattle.stl_codegen.specs.Operations.{operation_for}
 use Rattle.stl_list.specs.Constants.{instruction_constant, pointer_area, pointer_constant, pointer_letters}
@@ -32,11 +32,11 @@ use Rattle.listing_laws.specs.Operands.{IsActedAgain, IsConstantCoded, IsPointer
 use Rattle.listing_laws.proofs.ruled.Rules.{operand_unchanged}
 
 constant_acted : (c : Context) (m : Mnemonic) (value again : Literal) → takes_constant (form_of m) again ≡ true → bits_of again ≡ bits_of value
-    → operation_for m (operand.Constant again) view.Constant ≡ operation_for m (operand.Constant value) view.Constant
-    → IsActedAgain c m (operand.Constant value) (operand.Constant again) view.Constant
+    → operation_for m (operand.Constant again) resolved.Constant ≡ operation_for m (operand.Constant value) resolved.Constant
+    → IsActedAgain c m (operand.Constant value) (operand.Constant again) resolved.Constant
 unfolding resolution_of flat_operand_of
 constant_acted c m value again taken bits operation = record {
-  found = view.Constant;
+  found = resolved.Constant;
   resolves = refl;
   right = rw taken refl;
   opened = refl;
@@ -77,7 +77,7 @@ long_again : (v : ℤ) → IsLong v → twos_complement_bits 32 (cast_signed w32
 long_again v h = bits_unsigned (cast_signed w32 (twos_complement_bits 32 v)) ∙ of_z-to_z w32 (twos_complement_bits 32 v) (long_low v h)
 
 adds_again : (c : Context) (value : Literal) → IsConstantCoded value → takes_constant (form_of code.Add) value ≡ true
-    → IsActedAgain c code.Add (operand.Constant value) (instruction_constant (operation_for code.Add (operand.Constant value) view.Constant) (bits_of value)) view.Constant
+    → IsActedAgain c code.Add (operand.Constant value) (instruction_constant (operation_for code.Add (operand.Constant value) resolved.Constant) (bits_of value)) resolved.Constant
 unfolding takes_constant form_of operation_for bits_of
 adds_again c (literal.Number v) h e = constant_acted c code.Add (literal.Number v) (literal.Number (pos (twos_complement_bits 16 v % 65536))) refl (decimal_low v h.literal) refl
 adds_again c (literal.Long v) h e = constant_acted c code.Add (literal.Long v) (literal.Long (cast_signed w32 (twos_complement_bits 32 v))) refl (long_again v h.literal) refl
@@ -88,7 +88,7 @@ word_again value h e = low (bits_of value) 65535 (h.word e) (omega arith)
 
 -- an instruction takes the constant that its listing has
 pub constant_again : (c : Context) (m : Mnemonic) (value : Literal) → IsConstantCoded value → takes_constant (form_of m) value ≡ true
-    → IsActedAgain c m (operand.Constant value) (instruction_constant (operation_for m (operand.Constant value) view.Constant) (bits_of value)) view.Constant
+    → IsActedAgain c m (operand.Constant value) (instruction_constant (operation_for m (operand.Constant value) resolved.Constant) (bits_of value)) resolved.Constant
 unfolding takes_constant form_of operation_for fits_elementary_type bits_of
 constant_again c code.L value h e = constant_acted c code.L value (literal.Dword (bits_of value)) refl refl refl
 constant_again c code.Nop value h e = let k = counted_again 1 value (omega arith) e in constant_acted c code.Nop value (decimal value) k.0 k.1 refl
@@ -150,19 +150,19 @@ bit_again : (a : Option Area) (byte bit : ℕ) → IsPointer a byte bit → poin
 bit_again None byte bit h = let g = h.low_bit in omega (arith, g)
 bit_again (Some a) byte bit h = crossing_bit (area_number a) byte bit h.low_bit
 
-pub pointer_seen : (c : Context) (a : Option Area) (byte bit : ℕ) → IsPointer a byte bit → resolution_of c (pointer_constant (pointer_bits a byte bit)) ≡ Resolved (view.Pointer a byte bit)
+pub pointer_seen : (c : Context) (a : Option Area) (byte bit : ℕ) → IsPointer a byte bit → resolution_of c (pointer_constant (pointer_bits a byte bit)) ≡ Resolved (resolved.Pointer a byte bit)
 unfolding resolution_of
 pointer_seen c a byte bit h =
-    ap (λ (x : Option Area). Resolved (view.Pointer x (pointer_bits a byte bit / 8 % 65536) (pointer_bits a byte bit % 8))) (area_again a byte bit h)
-    ∙ ap (λ (x : ℕ). Resolved (view.Pointer a x (pointer_bits a byte bit % 8))) (byte_again a byte bit h)
-    ∙ ap (λ (x : ℕ). Resolved (view.Pointer a byte x)) (bit_again a byte bit h)
+    ap (λ (x : Option Area). Resolved (resolved.Pointer x (pointer_bits a byte bit / 8 % 65536) (pointer_bits a byte bit % 8))) (area_again a byte bit h)
+    ∙ ap (λ (x : ℕ). Resolved (resolved.Pointer a x (pointer_bits a byte bit % 8))) (byte_again a byte bit h)
+    ∙ ap (λ (x : ℕ). Resolved (resolved.Pointer a byte x)) (bit_again a byte bit h)
 
 -- a pointer that L loads is a constant there
 pub pointer_loaded : (c : Context) (o : Operand) (a : Option Area) (byte bit : ℕ)
-    → IsActedAgain c code.L o (operand.Constant (literal.Dword (pointer_bits a byte bit))) (view.Pointer a byte bit)
+    → IsActedAgain c code.L o (operand.Constant (literal.Dword (pointer_bits a byte bit))) (resolved.Pointer a byte bit)
 unfolding resolution_of flat_operand_of operation_for form_of takes_constant bits_of
 pointer_loaded c o a byte bit = record {
-  found = view.Constant;
+  found = resolved.Constant;
   resolves = refl;
   right = refl;
   opened = refl;
@@ -171,12 +171,12 @@ pointer_loaded c o a byte bit = record {
 }
 
 pub pointer_acts : (c : Context) (m : Mnemonic) (o : Operand) (a : Option Area) (byte bit : ℕ) → IsPointer a byte bit
-    → rule_of_resolved_operand (form_of m) (view.Pointer a byte bit) ≡ None → takes_operand (form_of m) (view.Pointer a byte bit) ≡ true
-    → IsActedAgain c m o (instruction_constant (operation_for m o (view.Pointer a byte bit)) (pointer_bits a byte bit)) (view.Pointer a byte bit)
+    → rule_of_resolved_operand (form_of m) (resolved.Pointer a byte bit) ≡ None → takes_operand (form_of m) (resolved.Pointer a byte bit) ≡ true
+    → IsActedAgain c m o (instruction_constant (operation_for m o (resolved.Pointer a byte bit)) (pointer_bits a byte bit)) (resolved.Pointer a byte bit)
 unfolding takes_operand form_of operation_for
 pointer_acts c code.L o a byte bit h e k = pointer_loaded c o a byte bit
-pointer_acts c code.Lar1 o a byte bit h e k = operand_unchanged c code.Lar1 o (pointer_constant (pointer_bits a byte bit)) (view.Pointer a byte bit) tt e refl (pointer_seen c a byte bit h)
-pointer_acts c code.Lar2 o a byte bit h e k = operand_unchanged c code.Lar2 o (pointer_constant (pointer_bits a byte bit)) (view.Pointer a byte bit) tt e refl (pointer_seen c a byte bit h)
-pointer_acts c code.AddAr1 o a byte bit h e k = operand_unchanged c code.AddAr1 o (pointer_constant (pointer_bits a byte bit)) (view.Pointer a byte bit) tt e refl (pointer_seen c a byte bit h)
-pointer_acts c code.AddAr2 o a byte bit h e k = operand_unchanged c code.AddAr2 o (pointer_constant (pointer_bits a byte bit)) (view.Pointer a byte bit) tt e refl (pointer_seen c a byte bit h)
+pointer_acts c code.Lar1 o a byte bit h e k = operand_unchanged c code.Lar1 o (pointer_constant (pointer_bits a byte bit)) (resolved.Pointer a byte bit) tt e refl (pointer_seen c a byte bit h)
+pointer_acts c code.Lar2 o a byte bit h e k = operand_unchanged c code.Lar2 o (pointer_constant (pointer_bits a byte bit)) (resolved.Pointer a byte bit) tt e refl (pointer_seen c a byte bit h)
+pointer_acts c code.AddAr1 o a byte bit h e k = operand_unchanged c code.AddAr1 o (pointer_constant (pointer_bits a byte bit)) (resolved.Pointer a byte bit) tt e refl (pointer_seen c a byte bit h)
+pointer_acts c code.AddAr2 o a byte bit h e k = operand_unchanged c code.AddAr2 o (pointer_constant (pointer_bits a byte bit)) (resolved.Pointer a byte bit) tt e refl (pointer_seen c a byte bit h)
 pointer_acts c _ o a byte bit h e k = absurd cc

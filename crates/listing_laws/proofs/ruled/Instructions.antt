@@ -20,11 +20,11 @@ use Rattle.stl_types.specs.Context.{Context}
 use Rattle.stl_types.specs.Forms.{form_of}
 use Rattle.stl_types.specs.Operands.{operand_rule, rule_of_resolved_operand, statement_rule, takes_operand, takes_width}
 use Rattle.stl_types.specs.Resolution.{resolution_of}
-use Rattle.stl_types.specs.Resolved.{resolved_operand, operand_if_resolved}
+use Rattle.stl_types.specs.ResolvedStatement.{resolved_operand, operand_if_resolved}
 use Rattle.stl_types.specs.declared.views.Resolution.{Resolution}
 use Rattle.stl_types.specs.declared.views.Resolution.TheVariants.{Resolved, Unjudged, Unknown}
 use Rattle.stl_types.specs.declared.views.ResolvedOperand.{ResolvedOperand}
-use Rattle.stl_types.specs.declared.views.ResolvedOperand.TheVariants as view
+use Rattle.stl_types.specs.declared.views.ResolvedOperand.TheVariants as resolved
 use Rattle.stl_codegen.specs.Instruction.{end_instr, instr_by, instruction, jump_instr, resolved_instr, target_in, target_of, operand_instr}
 use Rattle.stl_codegen.specs.Operands.{block_opened_by_operand, flat_operand_of}
 use Rattle.stl_codegen.specs.Operations.{call_operation_of, end_operation_of, jump_operation_of, operation_for}
@@ -134,7 +134,7 @@ pub end_operand : (sur : ListingContext) (k : ℕ) (f : ℕ → ℕ) (how : EndO
 unfolding operand_by
 end_operand sur k f how = ap implied_operand (operation_again (operation.End how))
 
-pub nothing_seen : (c : Context) → resolution_of c operand.Nothing ≡ Resolved view.Nothing
+pub nothing_seen : (c : Context) → resolution_of c operand.Nothing ≡ Resolved resolved.Nothing
 unfolding resolution_of
 nothing_seen c = refl
 
@@ -144,8 +144,8 @@ ends_again : (listed : Context) (sur : ListingContext) (f : ℕ → ℕ) (again 
 ends_again listed sur f again n k m how jumps calls ends = record {
   word = word;
   right = rule;
-  instr = comes_to listed again n listing view.Nothing (Some how) (ap jump_operation_of word ∙ jumps) (ap call_operation_of word ∙ calls) (ap end_operation_of word ∙ ends)
-      (resolves listed listing view.Nothing rule (ap (resolution_of listed) (end_operand sur k f how) ∙ nothing_seen listed));
+  instr = comes_to listed again n listing resolved.Nothing (Some how) (ap jump_operation_of word ∙ jumps) (ap call_operation_of word ∙ calls) (ap end_operation_of word ∙ ends)
+      (resolves listed listing resolved.Nothing rule (ap (resolution_of listed) (end_operand sur k f how) ∙ nothing_seen listed));
 }
   where
     listing : Statement

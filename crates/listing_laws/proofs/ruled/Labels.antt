@@ -11,7 +11,7 @@ use Rattle.plc_base.specs.declared.refusals.Refusal.{Refusal}
 use Rattle.stl_ast.specs.declared.statements.Statement.{Statement}
 use Rattle.stl_symbols.specs.Names.{name_place}
 use Rattle.stl_types.specs.Labels.{is_repeated_label, label_of as label_list, labels_twice}
-use Rattle.stl_codegen.specs.Compiled.{compiled_block}
+use Rattle.stl_codegen.specs.CompiledBlock.{compiled_block}
 use Rattle.stl_list.specs.Labels.{label_of_number}
 use Rattle.stl_list.specs.Lines.{line_of_statement}
 use Rattle.stl_list.specs.Runs.{Run}

@@ -14,11 +14,11 @@ use Rattle.stl_ast.specs.declared.statements.Statement.{Statement}
 use Rattle.stl_types.specs.Context.{Context}
 use Rattle.stl_types.specs.Forms.{form_of}
 use Rattle.stl_types.specs.Kinds.{is_operand_of_call as is_called_view}
-use Rattle.stl_types.specs.Resolved.{resolved_operand}
+use Rattle.stl_types.specs.ResolvedStatement.{resolved_operand}
 use Rattle.stl_types.specs.declared.views.ResolvedOperand.{ResolvedOperand}
-use Rattle.stl_types.specs.declared.views.ResolvedOperand.TheVariants as view
-use Rattle.stl_codegen.specs.Compiled.{SourceInstruction, StatedBlock, compiled_block, lines_in}
-use Rattle.stl_codegen.specs.Generated.{return_statement, stated_from, statements_of}
+use Rattle.stl_types.specs.declared.views.ResolvedOperand.TheVariants as resolved
+use Rattle.stl_codegen.specs.CompiledBlock.{SourceInstruction, StatedBlock, compiled_block, lines_in}
+use Rattle.stl_codegen.specs.GeneratedProgram.{return_statement, stated_from, statements_of}
 use Rattle.stl_codegen.specs.Instruction.{call_instr, instr_by, instruction, resolved_instr, target_of, operand_instr}
 use Rattle.stl_codegen.specs.Operations.{call_operation_of, end_operation_of, jump_operation_of}
 use Rattle.stl_list.specs.Lines.{line_of_statement}
@@ -47,7 +47,7 @@ calls_block code.Cc how h = refl
 calls_block _ how h = absurd cc
 
 called_word : (c : Context) (f : ℕ → ℕ) (s : Statement) (how : CallOperation) (v : ResolvedOperand) → call_operation_of s.code ≡ Some how → is_called_view v ≡ true → IsWorded f s.code (call_instr c s how v)
-called_word c f s how (view.Called id instance) h e = call_words_found s.code how h
+called_word c f s how (resolved.Called id instance) h e = call_words_found s.code how h
 called_word c f s how _ h e = absurd cc
 
 pub call_comes : (c : Context) (body : List Statement) (n : ℕ) (s : Statement) (v : ResolvedOperand) (how : CallOperation) → call_operation_of s.code ≡ Some how → resolved_operand c s ≡ Some v → instruction c body n s ≡ call_instr c s how v

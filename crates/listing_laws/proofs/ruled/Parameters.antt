@@ -21,7 +21,7 @@ use Rattle.block_layout.specs.declared.walks.PathEnd.TheVariants as path_end
 use Rattle.stl_types.specs.Context.{Context, in_function, is_of_function}
 use Rattle.stl_types.specs.Variables.{behind_others, variable_in_area, own_at, own_variable, own_at_path_end, parameter_resolution, parameter_at, parameter_index}
 use Rattle.stl_types.specs.declared.views.Resolution.TheVariants.{Resolved}
-use Rattle.stl_types.specs.declared.views.ResolvedOperand.TheVariants as view
+use Rattle.stl_types.specs.declared.views.ResolvedOperand.TheVariants as resolved
 use Rattle.listing_laws.specs.OwnParameters.{AreOwnParametersFound}
 
 -- ---- the component of a name
@@ -111,7 +111,7 @@ own_parameters_found c b l j cell kind at flat own = by (component_found 0 0 cel
     cells : cells_at c.layouts c.block false ≡ l.components
     cells = ap (cells_in false) at.layout
 
-    by : HasMember (component_of_name 0 0 0 cell.name l.components) (0 + j) → own_variable c cell.name [] ≡ Resolved (view.Parameter (behind_others (length l.components) j b.result) cell.section kind)
+    by : HasMember (component_of_name 0 0 0 cell.name l.components) (0 + j) → own_variable c cell.name [] ≡ Resolved (resolved.Parameter (behind_others (length l.components) j b.result) cell.section kind)
     by h =
         let m = h.member in
         let found : component_of_name 0 0 0 cell.name (cells_at c.layouts c.block false) ≡ Some m = ap (component_of_name 0 0 0 cell.name) cells ∙ h.is in
@@ -126,6 +126,6 @@ own_parameters_found c b l j cell kind at flat own = by (component_found 0 0 cel
         ∙ ap (own_at c false component) kinds
         ∙ ap (λ (t : Bool). if t then parameter_at c component kind else variable_in_area kind (elementary_place area.Di 0 component.offset (Some kind))) function
         ∙ ap (λ (x : Option Cell). parameter_resolution (parameter_index (length (cells_at c.layouts c.block false)) (0 + m.place) (slice_get c.blocks c.block)) kind x) there
-        ∙ ap (λ (x : Option Block). Resolved (view.Parameter (parameter_index (length (cells_at c.layouts c.block false)) (0 + m.place) x) cell.section kind)) at.block
-        ∙ ap (λ (xs : List Cell). Resolved (view.Parameter (behind_others (length xs) (0 + m.place) b.result) cell.section kind)) cells
-        ∙ ap (λ (p : ℕ). Resolved (view.Parameter (behind_others (length l.components) p b.result) cell.section kind)) place
+        ∙ ap (λ (x : Option Block). Resolved (resolved.Parameter (parameter_index (length (cells_at c.layouts c.block false)) (0 + m.place) x) cell.section kind)) at.block
+        ∙ ap (λ (xs : List Cell). Resolved (resolved.Parameter (behind_others (length xs) (0 + m.place) b.result) cell.section kind)) cells
+        ∙ ap (λ (p : ℕ). Resolved (resolved.Parameter (behind_others (length l.components) p b.result) cell.section kind)) place

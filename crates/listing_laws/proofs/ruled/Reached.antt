@@ -12,7 +12,7 @@ use Rattle.flat_code.specs.Kinds.{timer_kind}
 use Rattle.flat_code.specs.Instr.{Calls, Does, Instr, Jumps, JumpsByList, Returns}
 use Rattle.flat_code.specs.declared.operands.Operand.{Operand as FlatOperand}
 use Rattle.flat_code.specs.declared.operands.Operand.TheVariants as flat
-use Rattle.flat_code.specs.declared.operations.AddConstant.TheVariants as adding
+use Rattle.flat_code.specs.declared.operations.AddConstant.TheVariants as add_constant
 use Rattle.flat_code.specs.declared.operations.Logic.TheVariants as logic
 use Rattle.flat_code.specs.declared.operations.Operation.{Operation}
 use Rattle.flat_code.specs.declared.operations.Operation.TheVariants as operation
@@ -23,7 +23,7 @@ use Rattle.stl_ast.specs.declared.statements.Statement.{Statement}
 use Rattle.stl_symbols.specs.Names.{name_place}
 use Rattle.stl_types.specs.Labels.{is_unknown_label, label_of as label_list, labels_of, unknown_labels}
 use Rattle.stl_types.specs.declared.parameters.Formal.{Formal}
-use Rattle.stl_codegen.specs.Compiled.{SourceInstruction, compiled_block}
+use Rattle.stl_codegen.specs.CompiledBlock.{SourceInstruction, compiled_block}
 use Rattle.stl_list.specs.Constants.{instruction_constant}
 use Rattle.stl_list.specs.Labels.{label_of_number}
 use Rattle.stl_list.specs.Lines.{line_of_statement}
@@ -110,7 +110,7 @@ constant_no (operation.Logic logic.Od) bits labels = refl
 constant_no (operation.Logic logic.Xod) bits labels = refl
 constant_no (operation.Logic _) bits labels = refl
 constant_no (operation.Pointer which) bits labels = refl
-constant_no (operation.Add adding.Dword) bits labels = refl
+constant_no (operation.Add add_constant.Dword) bits labels = refl
 constant_no operation.LoadOpenBlock bits labels = refl
 constant_no _ bits labels = refl
 

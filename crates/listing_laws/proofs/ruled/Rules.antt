@@ -12,7 +12,7 @@ use Rattle.stl_types.specs.Resolution.{resolution_of}
 use Rattle.stl_types.specs.declared.forms.OperandRule.{OperandRule}
 use Rattle.stl_types.specs.declared.views.Resolution.TheVariants.{Resolved}
 use Rattle.stl_types.specs.declared.views.ResolvedOperand.{ResolvedOperand}
-use Rattle.stl_types.specs.declared.views.ResolvedOperand.TheVariants as view
+use Rattle.stl_types.specs.declared.views.ResolvedOperand.TheVariants as resolved
 use Rattle.stl_codegen.specs.Operands.{flat_operand_of}
 use Rattle.stl_codegen.specs.Operations.{operation_for}
 use Rattle.listing_laws.specs.Operands.{IsActedAgain}
@@ -75,12 +75,12 @@ same_operation _ o again v h = refl
 
 -- what isn't a constant
 abbrev pub IsOther : ResolvedOperand → Type 0
-IsOther view.Constant = ⊥
+IsOther resolved.Constant = ⊥
 IsOther _ = Unit {0}
 
 same_operand : (o again : Operand) (v : ResolvedOperand) → IsOther v → flat_operand_of again v ≡ flat_operand_of o v
 unfolding flat_operand_of
-same_operand o again view.Constant h = absurd h
+same_operand o again resolved.Constant h = absurd h
 same_operand o again _ h = refl
 
 -- where a listing's operand names the very same

@@ -34,18 +34,18 @@ use Rattle.stl_types.specs.declared.parameters.Formal.{Formal}
 use Rattle.stl_types.specs.declared.views.Resolution.{Resolution}
 use Rattle.stl_types.specs.declared.views.Resolution.TheVariants.{Resolved}
 use Rattle.stl_types.specs.declared.views.ResolvedOperand.{ResolvedOperand}
-use Rattle.stl_types.specs.declared.views.ResolvedOperand.TheVariants as view
+use Rattle.stl_types.specs.declared.views.ResolvedOperand.TheVariants as resolved
 use Rattle.stl_codegen.specs.Operands.{is_db, opened_by_place}
 use Rattle.listing_laws.specs.Instructions.{HasAgain, IsRightOperand}
 use Rattle.listing_laws.specs.Operands.{IsConstantCoded, IsConstantResolved, IsOpenedAgain, IsPointer, StandsAgain}
 
 -- what is known of what is named. Only a path into the block's own variables may name a parameter
 abbrev IsSeen : (own : Bool) → Context → ResolvedOperand → Type 0
-IsSeen own listed (view.Direct place width side declared) = IsOpenedAgain listed (opened_by_place place)
-IsSeen own listed (view.Parameter index section declared) = own ≡ true
-IsSeen own listed (view.OpenBlock di number) = IsOpenedAgain listed (Some number)
-IsSeen own listed view.Constant = ⊥
-IsSeen own listed (view.Pointer a byte bit) = ⊥
+IsSeen own listed (resolved.Direct place width side declared) = IsOpenedAgain listed (opened_by_place place)
+IsSeen own listed (resolved.Parameter index section declared) = own ≡ true
+IsSeen own listed (resolved.OpenBlock di number) = IsOpenedAgain listed (Some number)
+IsSeen own listed resolved.Constant = ⊥
+IsSeen own listed (resolved.Pointer a byte bit) = ⊥
 IsSeen own listed _ = Unit {0}
 
 abbrev IfSeen : (own : Bool) → Context → Resolution → Type 0
@@ -218,22 +218,22 @@ IsPlain _ = Unit {0}
 
 other_by : (own : Bool) (listed : Context) (o : Operand) (v : ResolvedOperand) → IsPlain o → IsSeen own listed v → IsConstantResolved o v
 other_by own listed (operand.Constant value) v n h = absurd n
-other_by own listed _ view.Constant n h = h
+other_by own listed _ resolved.Constant n h = h
 other_by own listed _ _ n h = tt
 
 named_stands : (listed : Context) (formals : List Formal) (v : ResolvedOperand) → IsSeen false listed v → StandsAgain listed formals v
-named_stands listed formals (view.Direct place width side declared) h = h
-named_stands listed formals (view.Parameter index section declared) h = absurd cc
-named_stands listed formals (view.OpenBlock di number) h = h
-named_stands listed formals (view.Pointer a byte bit) h = absurd h
+named_stands listed formals (resolved.Direct place width side declared) h = h
+named_stands listed formals (resolved.Parameter index section declared) h = absurd cc
+named_stands listed formals (resolved.OpenBlock di number) h = h
+named_stands listed formals (resolved.Pointer a byte bit) h = absurd h
 named_stands listed formals _ h = tt
 
 own_stands : (c listed : Context) (formals : List Formal) (name : List ℕ) (steps : List PathStep) (v : ResolvedOperand) → HasAgain c listed formals → own_variable c name steps ≡ Resolved v → IsSeen true listed v
     → StandsAgain listed formals v
-own_stands c listed formals name steps (view.Direct place width side declared) has e h = h
-own_stands c listed formals name steps (view.Parameter index section declared) has e h = has.parameter name steps index section declared e
-own_stands c listed formals name steps (view.OpenBlock di number) has e h = h
-own_stands c listed formals name steps (view.Pointer a byte bit) has e h = absurd h
+own_stands c listed formals name steps (resolved.Direct place width side declared) has e h = h
+own_stands c listed formals name steps (resolved.Parameter index section declared) has e h = has.parameter name steps index section declared e
+own_stands c listed formals name steps (resolved.OpenBlock di number) has e h = h
+own_stands c listed formals name steps (resolved.Pointer a byte bit) has e h = absurd h
 own_stands c listed formals name steps _ has e h = tt
 
 both_named : (c listed : Context) (formals : List Formal) (o : Operand) (v : ResolvedOperand) → HasAgain c listed formals → IsRightOperand c.symbols o → IsNamed o → IsPlain o → resolution_of c o ≡ Resolved v → Both listed formals o v
@@ -251,13 +251,13 @@ both_own c listed formals name steps v has e =
 both_constant : (c listed : Context) (formals : List Formal) (value : Literal) (v : ResolvedOperand) → IsConstantCoded value → resolution_of c (operand.Constant value) ≡ Resolved v → Both listed formals (operand.Constant value) v
 unfolding resolution_of
 both_constant c listed formals value v h e =
-    let is : view.Constant ≡ v = view_is view.Constant v e in
+    let is : resolved.Constant ≡ v = view_is resolved.Constant v e in
     (subst (StandsAgain listed formals) is tt, (sym is, h))
 
 both_pointer : (c listed : Context) (formals : List Formal) (a : Option Letters) (byte bit : ℕ) (v : ResolvedOperand) → IsPointer (area_of_pointer a) byte bit → resolution_of c (operand.Pointer a byte bit) ≡ Resolved v
     → Both listed formals (operand.Pointer a byte bit) v
 unfolding resolution_of
-both_pointer c listed formals a byte bit v h e = subst (Both listed formals (operand.Pointer a byte bit)) (view_is (view.Pointer (area_of_pointer a) byte bit) v e) (h, tt)
+both_pointer c listed formals a byte bit v h e = subst (Both listed formals (operand.Pointer a byte bit)) (view_is (resolved.Pointer (area_of_pointer a) byte bit) v e) (h, tt)
 
 pub stands : (c listed : Context) (formals : List Formal) (o : Operand) (v : ResolvedOperand) → HasAgain c listed formals → IsRightOperand c.symbols o → resolution_of c o ≡ Resolved v → Both listed formals o v
 stands c listed formals (operand.Constant value) v has h e = both_constant c listed formals value v h.coded e

@@ -18,13 +18,13 @@ use Rattle.stl_ast.specs.declared.operands.Operand.TheVariants as operand
 use Rattle.stl_ast.specs.declared.statements.Statement.{Statement}
 use Rattle.stl_types.specs.Context.{Context}
 use Rattle.stl_types.specs.Lists.{has_label}
-use Rattle.stl_types.specs.Resolved.{resolved_operand}
+use Rattle.stl_types.specs.ResolvedStatement.{resolved_operand}
 use Rattle.stl_types.specs.declared.views.Register.{Register}
 use Rattle.stl_types.specs.declared.views.Register.TheVariants as register
 use Rattle.stl_types.specs.declared.views.ResolvedOperand.{ResolvedOperand}
-use Rattle.stl_types.specs.declared.views.ResolvedOperand.TheVariants as view
+use Rattle.stl_types.specs.declared.views.ResolvedOperand.TheVariants as resolved
 use Rattle.stl_codegen.specs.Bodies.{count_of_statements}
-use Rattle.stl_codegen.specs.Generated.{return_statement, stated_from, statements_of}
+use Rattle.stl_codegen.specs.GeneratedProgram.{return_statement, stated_from, statements_of}
 use Rattle.stl_codegen.specs.Instruction.{call_instr, count_of_statement, end_instr, instr_by, instruction, jump_instr, resolved_instr, target_in, target_of, operand_instr}
 use Rattle.stl_codegen.specs.Operands.{numbered_operand, flat_operand_of, register_operand}
 use Rattle.stl_codegen.specs.Operations.{call_operation_of, end_operation_of, jump_operation_of}
@@ -76,8 +76,8 @@ number_stays numbered.Di from byte n = refl
 
 operand_stays : (o : Operand) (v : ResolvedOperand) (n : ℕ) → goes_to n (flat_operand_of o v) ≡ false
 unfolding flat_operand_of
-operand_stays o (view.Register which) n = register_stays which n
-operand_stays o (view.NumberBy what from byte) n = number_stays what from byte n
+operand_stays o (resolved.Register which) n = register_stays which n
+operand_stays o (resolved.NumberBy what from byte) n = number_stays what from byte n
 operand_stays o _ n = refl
 
 abbrev pub Stays : Instr → Type 0
@@ -88,7 +88,7 @@ end_stays s v None n = operand_stays s.operand v n
 end_stays s v (Some how) n = refl
 
 call_stays : (c : Context) (s : Statement) (how : CallOperation) (v : ResolvedOperand) → Stays (call_instr c s how v)
-call_stays c s how (view.Called id instance) n = refl
+call_stays c s how (resolved.Called id instance) n = refl
 call_stays c s how _ n = refl
 
 view_stays : (c : Context) (s : Statement) (v : ResolvedOperand) (how : Option CallOperation) → Stays (operand_instr c s v how)

@@ -9,7 +9,7 @@ use Rattle.flat_code.specs.Programs.{CodeBlock}
 use Rattle.stl_ast.specs.Statements.{is_empty_statement}
 use Rattle.stl_ast.specs.declared.statements.Statement.{Statement}
 use Rattle.block_layout.specs.Rule55.{has_too_many_statements}
-use Rattle.stl_codegen.specs.Compiled.{StatedBlock, compiled_block}
+use Rattle.stl_codegen.specs.CompiledBlock.{StatedBlock, compiled_block}
 use Rattle.stl_list.specs.CodeBlocks.{listed_block}
 use Rattle.stl_list.specs.Lines.{line_of_statement, lines_from}
 use Rattle.stl_list.specs.Runs.{Run, runs}

@@ -27,15 +27,15 @@ use Rattle.block_layout.specs.Types.{Types}
 use Rattle.block_layout.specs.declared.blocks.BlockLayout.{BlockLayout}
 use Rattle.block_layout.specs.declared.blocks.Shape.{Shape}
 use Rattle.block_layout.specs.declared.blocks.Shape.TheVariants as shape
-use Rattle.stl_codegen.specs.Compiled.{StatedBlock, compiled_block}
-use Rattle.stl_codegen.specs.Generated.{code_block, code_block_of, code_blocks_of, generated_data_block, each_block, function_block_number, instance_in, instance_len}
+use Rattle.stl_codegen.specs.CompiledBlock.{StatedBlock, compiled_block}
+use Rattle.stl_codegen.specs.GeneratedProgram.{code_block, code_block_of, code_blocks_of, generated_data_block, each_block, function_block_number, instance_in, instance_len}
 use Rattle.stl_codegen.specs.Order.{is_code_before}
 use Rattle.stl_codegen.proofs.ProgramLemmas.{all_before}
 use Rattle.stl_list.specs.CodeBlocks.{in_lines}
 use Rattle.stl_list.specs.DataBlocks.{function_block}
 use Rattle.stl_list.specs.Lines.{stands_before}
-use Rattle.sem_kept.specs.Accepted.{program_in}
-use Rattle.sem_kept.specs.Settled.{context_at}
+use Rattle.sem_kept.specs.AcceptedSource.{program_in}
+use Rattle.sem_kept.specs.SettledStatements.{context_at}
 use Rattle.sem_kept.proofs.accepted.Accepted.{IsSoundBlock, IsSoundTree, sound_at, sound_data_blocks}
 use Rattle.sem_kept.proofs.accepted.RecordData.{id_there, length_there}
 use Rattle.block_layout.proofs.BlockLemmas.{kind_there}

@@ -31,22 +31,22 @@ use Rattle.block_layout.specs.Rule55.{has_too_many_statements}
 use Rattle.block_layout.specs.Types.{Types}
 use Rattle.block_layout.specs.declared.blocks.BlockLayout.{BlockLayout}
 use Rattle.block_layout.specs.declared.blocks.Shape.TheVariants as shape
-use Rattle.stl_codegen.specs.Compiled.{StatedBlock, compiled_block}
-use Rattle.stl_codegen.specs.Generated.{code_blocks_of}
+use Rattle.stl_codegen.specs.CompiledBlock.{StatedBlock, compiled_block}
+use Rattle.stl_codegen.specs.GeneratedProgram.{code_blocks_of}
 use Rattle.stl_list.specs.CodeBlocks.{in_lines, line_reached, listed_block, listed_blocks}
 use Rattle.stl_list.specs.DataBlocks.{function_block, listed_data, listed_data_blocks}
-use Rattle.stl_list.specs.Joined.{chains_of}
+use Rattle.stl_list.specs.JoinedParameters.{chains_of}
 use Rattle.stl_list.specs.Lines.{line_behind_statements, stands_before}
 use Rattle.stl_list.specs.Listing.{listed_tree}
 use Rattle.stl_list.specs.Signatures.{Signature, formals_of_block, signatures}
-use Rattle.sem_kept.specs.Accepted.{IsAccepted, program_in}
+use Rattle.sem_kept.specs.AcceptedSource.{IsAccepted, program_in}
 use Rattle.sem_kept.specs.Sizes.{IsSmall, IsSmallBlock}
 use Rattle.block_layout.proofs.HeadLemmas.{AllHeads, heads_none}
 use Rattle.sem_kept.proofs.accepted.Accepted.{IsSoundHead, IsSoundTree, all_mapped, right_tree, sound_code_blocks}
 use Rattle.sem_kept.proofs.accepted.Sizes.{accepted_is_small}
 use Rattle.sem_kept.proofs.accepted.SizesSums.{summed_ones}
-use Rattle.listing_laws.specs.Again.{AreWholeAgain, listed_again}
-use Rattle.listing_laws.specs.Declared.{IsDeclaredAgain, signatures_in}
+use Rattle.listing_laws.specs.ListedSource.{AreWholeAgain, listed_again}
+use Rattle.listing_laws.specs.ListedDeclarations.{IsDeclaredAgain, signatures_in}
 use Rattle.listing_laws.specs.Ids.{data_id, program_ids}
 use Rattle.listing_laws.specs.OwnData.{IsOwnDataAgain}
 use Rattle.listing_laws.specs.Rules.{AreDeclarationsRight, IsHeadRight}

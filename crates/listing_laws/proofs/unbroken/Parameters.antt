@@ -17,7 +17,7 @@ use Rattle.stl_ast.specs.declared.declarations.Declaration.{Declaration}
 use Rattle.block_layout.specs.Rule52.{parameters_in_section as counted_in, has_too_many_parameters, parameter_count, return_value_count}
 use Rattle.stl_types.specs.declared.parameters.Formal.{Formal}
 use Rattle.stl_list.specs.CodeBlocks.{listed_block, result_of}
-use Rattle.stl_list.specs.Joined.{Chains}
+use Rattle.stl_list.specs.JoinedParameters.{Chains}
 use Rattle.stl_list.specs.Lines.{first_statement_line}
 use Rattle.stl_list.specs.Parameters.{is_return}
 use Rattle.stl_list.specs.Sections.{bytes_here, declared_here, declarations_of_section, plain_declaration, section_part, section_parts, static_bytes, static_name, temporary_name}

@@ -18,10 +18,10 @@ use Rattle.block_layout.specs.Rule54.{data_length, exceeds_total, rule_54, total
 use Rattle.block_layout.specs.Types.{Types}
 use Rattle.block_layout.specs.declared.blocks.BlockLayout.{BlockLayout}
 use Rattle.stl_types.specs.Context.{Context}
-use Rattle.stl_codegen.specs.Generated.{generated_data_block, data_block_of, data_blocks_of, each_block}
+use Rattle.stl_codegen.specs.GeneratedProgram.{generated_data_block, data_block_of, data_blocks_of, each_block}
 use Rattle.stl_codegen.specs.Order.{is_data_before}
 use Rattle.block_layout.proofs.HeadLemmas.{AllHeads, heads_none}
-use Rattle.sem_kept.specs.Settled.{context_at}
+use Rattle.sem_kept.specs.SettledStatements.{context_at}
 use Rattle.sem_kept.proofs.accepted.Accepted.{IsSoundBlock, IsSoundTree}
 use Rattle.sem_kept.proofs.accepted.RecordData.{id_there}
 use Rattle.block_layout.proofs.BlockLemmas.{kind_there}

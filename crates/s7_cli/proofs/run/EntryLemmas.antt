@@ -5,9 +5,9 @@ use Rattle.std.proofs.lemmas.List.{length-replicate, map-append, replicate-appen
 use Rattle.std.proofs.lemmas.List.Elements.{All-head, All-tail}
 use Rattle.plc_base.proofs.ListLemmas.{drop_next}
 use Rattle.plc_io.specs.Moments.{SinkAt}
-use Rattle.plc_io.specs.Taken.{WroteText}
+use Rattle.plc_io.specs.SinkBytes.{WroteText}
 use Rattle.plc_io.specs.declared.faults.IoFault.{IoFault}
-use Rattle.image_file.specs.Loaded.{LoadedProgram}
+use Rattle.image_file.specs.LoadedProgram.{LoadedProgram}
 use Rattle.machine.specs.Code.{Code}
 use Rattle.machine.specs.Flat.{code_of}
 use Rattle.var_access.specs.Entry.{IsValid}
@@ -23,10 +23,10 @@ use Rattle.controller.specs.declared.Observed.{Observed}
 use Rattle.controller.specs.SilentSteps.{ShowNothing}
 use Rattle.controller.specs.Replay.{ContinuesByMore, entry_result, replay, reply_to, state_after_entries}
 use Rattle.event_text.specs.Replies.{reply_text}
-use Rattle.controller.specs.Shown.{nothing_shown}
+use Rattle.controller.specs.ShownEntry.{nothing_shown}
 use Rattle.controller.specs.State.{State}
 use Rattle.controller.specs.Recording.{Recording}
-use Rattle.controller.specs.Replayed.{entry_events, next_result, final_state}
+use Rattle.controller.specs.ReplayResult.{entry_events, next_result, final_state}
 use Rattle.s7_cli.specs.run_text.Behind.{closing_of, lines_behind, with_entries}
 use Rattle.s7_cli.specs.run_text.RunText.{closing_text, entry_text, entry_lines_from, replied_text, run_text, shown_text}
 use Rattle.s7_cli.proofs.run.WritingLemmas.{GoesOn, goes-cut, goes-end, goes-first, goes-next}

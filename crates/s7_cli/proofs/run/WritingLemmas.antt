@@ -6,7 +6,7 @@ use Rattle.std.proofs.lemmas.List.{take-append-le}
 use Rattle.std.proofs.lemmas.Grind.{common_steps}
 use Rattle.plc_io.specs.Counts.{CountRose}
 use Rattle.plc_io.specs.Moments.{SinkAt}
-use Rattle.plc_io.specs.Taken.{TookBytes, TookPrefix, WroteText}
+use Rattle.plc_io.specs.SinkBytes.{TookBytes, TookPrefix, WroteText}
 use Rattle.plc_io.specs.declared.faults.IoFault.{IoFault}
 use Rattle.plc_io.specs.declared.faults.IoFault.TheVariants.{Failed, NoMemory}
 

@@ -1,10 +1,10 @@
 -- The lines of a run as a controller that has a history shows them.
 use Rattle.std.specs.Prelude.{ℕ, ◌-◌, List, ◌++◌, length}
-use Rattle.image_file.specs.Loaded.{LoadedProgram}
+use Rattle.image_file.specs.LoadedProgram.{LoadedProgram}
 use Rattle.var_access.specs.declared.Entry.{Entry}
 use Rattle.machine.specs.Flat.{code_of}
 use Rattle.controller.specs.Recording.{Recording}
-use Rattle.controller.specs.Replayed.{final_state}
+use Rattle.controller.specs.ReplayResult.{final_state}
 use Rattle.s7_cli.specs.run_text.RunText.{closing_text, entry_lines_from}
 
 -- a controller with further entries in its history

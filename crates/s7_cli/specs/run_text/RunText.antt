@@ -17,7 +17,7 @@ use Rattle.controller.specs.declared.Observed.{Observed}
 use Rattle.controller.specs.Replay.{EntryResult, entry_result, replay}
 use Rattle.controller.specs.Start.{initial_state}
 use Rattle.controller.specs.State.{State}
-use Rattle.controller.specs.Replayed.{entry_events}
+use Rattle.controller.specs.ReplayResult.{entry_events}
 use Rattle.monitor.specs.LineText.{end_text, mode_text, mon_text, output_text, row_text}
 use Rattle.event_text.specs.Replies.{reply_text}
 

@@ -1,7 +1,7 @@
 ghost use Rattle.std.specs.Prelude.{◌≡◌, ◌≤◌, length, take, drop};
 ghost use Rattle.std.specs.List.{flat_map};
-ghost use Rattle.plc_io.specs.Taken.{WroteText};
-ghost use Rattle.controller.specs.Replayed.{final_data_blocks as blocks_after};
+ghost use Rattle.plc_io.specs.SinkBytes.{WroteText};
+ghost use Rattle.controller.specs.ReplayResult.{final_data_blocks as blocks_after};
 ghost use Rattle.s7_cli.specs.run_text.Behind.{closing_of};
 ghost use Rattle.s7_cli.specs.run_text.RunText.{data_block_text};
 

@@ -1,12 +1,12 @@
 ghost use Rattle.std.specs.Prelude.{◌≡◌, ◌≤◌, [], ◌∷◌, ◌++◌, length, replicate, true, All, OnOk};
 ghost use Rattle.std.specs.List.{flat_map};
-ghost use Rattle.plc_io.specs.Taken.{WroteText};
+ghost use Rattle.plc_io.specs.SinkBytes.{WroteText};
 ghost use Rattle.monitor.specs.LineText.{output_text};
 ghost use Rattle.var_access.specs.Entry.{IsValid};
 ghost use Rattle.var_access.specs.Runs.{IsHistoryRun, AreRuns, entries_of_runs};
 ghost use Rattle.var_access.specs.declared.What.TheVariants.{Ask, Step};
-ghost use Rattle.controller.specs.Replayed.{next_result};
-ghost use Rattle.controller.specs.Shown.{nothing_shown};
+ghost use Rattle.controller.specs.ReplayResult.{next_result};
+ghost use Rattle.controller.specs.ShownEntry.{nothing_shown};
 ghost use Rattle.s7_cli.specs.run_text.Behind.{lines_behind, with_entries};
 ghost use Rattle.s7_cli.specs.run_text.RunText.{changed_mode_text, entry_text, monitored_text, shown_text};
 

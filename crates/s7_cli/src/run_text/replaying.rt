@@ -1,5 +1,5 @@
 ghost use Rattle.std.specs.Prelude.{◌≡◌, [], All, IfOk, IfErr};
-ghost use Rattle.plc_io.specs.Taken.{WroteText};
+ghost use Rattle.plc_io.specs.SinkBytes.{WroteText};
 ghost use Rattle.plc_io.specs.declared.faults.IoFault.TheVariants.{NoMemory};
 ghost use Rattle.var_access.specs.Entry.{IsValid};
 ghost use Rattle.machine.specs.Flat.{code_of};

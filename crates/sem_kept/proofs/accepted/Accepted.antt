@@ -57,16 +57,16 @@ use Rattle.stl_types.specs.Resolution.{resolution_of}
 use Rattle.stl_types.specs.Table.{statement_refusals_by, statement_refusals}
 use Rattle.stl_types.specs.Unknown.{is_unknown, operand_20, rule_20, sets_unknown}
 use Rattle.stl_types.specs.Zones.{ends_no_zone, is_ninth_zone, rule_47, rule_48, rule_49, with_zones, zones_left_open}
-use Rattle.stl_codegen.specs.Compiled.{StatedBlock}
-use Rattle.stl_codegen.specs.Generated.{code_block, code_block_of, code_blocks_of, generated_data_block, data_block_of, data_blocks_of, each_block}
+use Rattle.stl_codegen.specs.CompiledBlock.{StatedBlock}
+use Rattle.stl_codegen.specs.GeneratedProgram.{code_block, code_block_of, code_blocks_of, generated_data_block, data_block_of, data_blocks_of, each_block}
 use Rattle.stl_codegen.specs.Order.{sorted_insertion, is_code_before, is_data_before, sorted_list}
 use Rattle.flat_code.specs.Programs.{DataBlock}
 use Rattle.block_layout.proofs.CommonLemmas.{none_left, none_right, not_broken}
 use Rattle.block_layout.proofs.HeadLemmas.{AllHeads, heads_none}
 use Rattle.block_layout.proofs.SoundnessLemmas.{AreSoundDeclarations}
 use Rattle.block_layout.proofs.LayoutLemmas.{layouts_are}
-use Rattle.sem_kept.specs.Settled.{context_at}
-use Rattle.sem_kept.specs.Accepted.{IsAccepted}
+use Rattle.sem_kept.specs.SettledStatements.{context_at}
+use Rattle.sem_kept.specs.AcceptedSource.{IsAccepted}
 
 -- ---- lists of which nothing is left
 

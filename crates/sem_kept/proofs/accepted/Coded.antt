@@ -17,11 +17,11 @@ use Rattle.block_layout.specs.Measures.{types_of_source}
 use Rattle.block_layout.specs.Rule55.{has_too_many_statements}
 use Rattle.block_layout.specs.declared.blocks.BlockLayout.{BlockLayout}
 use Rattle.stl_types.specs.Context.{Context}
-use Rattle.stl_codegen.specs.Compiled.{StatedBlock, compiled_block}
-use Rattle.stl_codegen.specs.Emitted.{ops_of}
-use Rattle.stl_codegen.specs.Generated.{code_block, code_blocks_of, return_statement, stated_from, statements_of}
+use Rattle.stl_codegen.specs.CompiledBlock.{StatedBlock, compiled_block}
+use Rattle.stl_codegen.specs.EmittedOps.{ops_of}
+use Rattle.stl_codegen.specs.GeneratedProgram.{code_block, code_blocks_of, return_statement, stated_from, statements_of}
 use Rattle.stl_codegen.specs.Instruction.{instruction}
-use Rattle.sem_kept.specs.Settled.{context_at}
+use Rattle.sem_kept.specs.SettledStatements.{context_at}
 use Rattle.sem_kept.proofs.accepted.Accepted.{IsSoundBlock, IsSoundStatement, IsSoundTree, right_tree, sound_code_blocks}
 use Rattle.sem_kept.proofs.accepted.CodedBlocks.{AreGood, block_coded}
 use Rattle.sem_kept.proofs.accepted.CodedBytes.{block_has_bytes}
@@ -30,7 +30,7 @@ use Rattle.sem_kept.proofs.accepted.CodedSources.{context_fit, formals_few}
 use Rattle.sem_kept.proofs.accepted.CodedSymbols.{symbols_fit}
 use Rattle.sem_kept.proofs.accepted.CodedViews.{ContextFits, SymbolFits}
 use Rattle.sem_kept.proofs.accepted.Shared.{stated_count}
-use Rattle.sem_kept.specs.Coded.{AreCoded, CodedIsGood, IsBlockCoded, StatementHasBytes}
+use Rattle.sem_kept.specs.CodedBlocks.{AreCoded, CodedIsGood, IsBlockCoded, StatementHasBytes}
 
 -- ---- the statements of a body
 

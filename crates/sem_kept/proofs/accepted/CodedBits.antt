@@ -19,7 +19,7 @@ use Rattle.stl_types.specs.Constants.{takes_constant}
 use Rattle.stl_types.specs.Forms.{form_of}
 use Rattle.stl_types.specs.declared.views.ResolvedOperand.TheVariants as resolved
 use Rattle.stl_codegen.specs.Operations.{operation_for}
-use Rattle.sem_kept.specs.Coded.{HasBytes}
+use Rattle.sem_kept.specs.CodedBlocks.{HasBytes}
 
 -- ---- bits
 

@@ -10,13 +10,13 @@ use Rattle.flat_code.specs.Forms.{passed_coding, direct_coding}
 use Rattle.flat_code.specs.Instr.{Returns}
 use Rattle.flat_code.specs.Ops.{OpData, is_op, op_bytes}
 use Rattle.flat_code.specs.declared.operands.Operand.{Operand as FlatOperand}
-use Rattle.stl_codegen.specs.Compiled.{SourceInstruction, StatedBlock, operand_with_target, op_with_target, compiled_block, offset_from, offset_of_statement, ops_in, placed_ops}
-use Rattle.stl_codegen.specs.Emitted.{ops_of}
+use Rattle.stl_codegen.specs.CompiledBlock.{SourceInstruction, StatedBlock, operand_with_target, op_with_target, compiled_block, offset_from, offset_of_statement, ops_in, placed_ops}
+use Rattle.stl_codegen.specs.EmittedOps.{ops_of}
 use Rattle.sem_kept.proofs.compiled.Reading.{return_at}
 use Rattle.sem_kept.proofs.compiled.Runs.{total, total_append}
 use Rattle.sem_kept.proofs.accepted.Accepted.{all_mapped}
 use Rattle.sem_kept.proofs.accepted.CodedOps.{IsOpAtAnyTarget, IsGoodPart, IsGoodStatement}
-use Rattle.sem_kept.specs.Coded.{IsBlockCoded}
+use Rattle.sem_kept.specs.CodedBlocks.{IsBlockCoded}
 
 abbrev pub AreGood : List SourceInstruction → Type 0
 AreGood ss = AllByRecursion (λ s. IsGoodStatement (ops_of s.instr)) ss

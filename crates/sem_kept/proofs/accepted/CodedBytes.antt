@@ -44,7 +44,7 @@ use Rattle.stl_parser.specs.Spelling.{is_kept_by_tree, spelled_block, spelled_pa
 use Rattle.stl_parser.specs.declared.places.ClausePlace.TheVariants as place
 use Rattle.stl_parser.proofs.FrameLemmas.{right_clause}
 use Rattle.sem_kept.proofs.accepted.CodedViews.{got_holds}
-use Rattle.sem_kept.specs.Coded.{ActualHasBytes, BlockHasBytes, DeclarationHasBytes, HasBytes, InitHasBytes, OperandHasBytes, PartHasBytes, SettingHasBytes, StatementHasBytes, TreeHasBytes}
+use Rattle.sem_kept.specs.CodedBlocks.{ActualHasBytes, BlockHasBytes, DeclarationHasBytes, HasBytes, InitHasBytes, OperandHasBytes, PartHasBytes, SettingHasBytes, StatementHasBytes, TreeHasBytes}
 
 -- ---- texts
 

@@ -39,7 +39,7 @@ use Rattle.block_layout.specs.declared.cells.Cell.{Cell}
 use Rattle.stl_types.specs.Context.{Context, in_function, is_of_function}
 use Rattle.stl_types.specs.Parameters.{Callee, callee_by, callee_of, formal_here, formals_of, source_callee, system_formals}
 use Rattle.stl_types.specs.declared.parameters.Formal.{Formal}
-use Rattle.sem_kept.specs.Settled.{context_at}
+use Rattle.sem_kept.specs.SettledStatements.{context_at}
 use Rattle.sem_kept.proofs.accepted.Accepted.{AllLaid, IsSoundBlock, IsSoundTree, all_mapped}
 use Rattle.sem_kept.proofs.accepted.CodedOps.{HasFewFormals}
 use Rattle.sem_kept.proofs.accepted.CodedViews.{ContextFits, IsWord, LayoutFits, SymbolFits, block_fits, got_holds}

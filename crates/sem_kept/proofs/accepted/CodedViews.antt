@@ -43,7 +43,7 @@ use Rattle.stl_types.specs.declared.views.ResolvedOperand.{ResolvedOperand}
 use Rattle.stl_types.specs.declared.views.ResolvedOperand.TheVariants as resolved
 use Rattle.stl_codegen.specs.Operands.{constant_bits, flat_operand_of}
 use Rattle.stl_parser.proofs.OptionLemmas.{both}
-use Rattle.sem_kept.specs.Coded.{OperandHasBytes}
+use Rattle.sem_kept.specs.CodedBlocks.{OperandHasBytes}
 use Rattle.sem_kept.proofs.accepted.CodedBits.{bits_small}
 use Rattle.sem_kept.proofs.accepted.CodedTables.{PointerFits, pointer_near}
 

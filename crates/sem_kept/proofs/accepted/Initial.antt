@@ -53,8 +53,8 @@ use Rattle.block_layout.specs.declared.walks.ComponentAt.{ComponentAt}
 use Rattle.block_layout.specs.declared.walks.PathEnd.{PathEnd}
 use Rattle.block_layout.specs.declared.walks.PathEnd.TheVariants as path_end
 use Rattle.stl_types.specs.Unknown.{leads_nowhere, sets_unknown}
-use Rattle.sem_kept.specs.Accepted.{IsAccepted}
-use Rattle.sem_kept.specs.Coded.{BlockHasBytes, DeclarationHasBytes, HasBytes, InitHasBytes, PartHasBytes, SettingHasBytes}
+use Rattle.sem_kept.specs.AcceptedSource.{IsAccepted}
+use Rattle.sem_kept.specs.CodedBlocks.{BlockHasBytes, DeclarationHasBytes, HasBytes, InitHasBytes, PartHasBytes, SettingHasBytes}
 use Rattle.sem_kept.specs.Initial.{HasElements, HasRoom, InitialValuesAreWhole, IsSettingWritten, IsWhole, IsMadeByWrites, writes_of}
 use Rattle.sem_kept.proofs.accepted.Accepted.{IsSoundBlock, IsSoundTree, all_both, each_passes, right_tree}
 use Rattle.sem_kept.proofs.accepted.CodedBits.{value_fits}

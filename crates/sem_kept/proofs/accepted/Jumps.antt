@@ -9,7 +9,7 @@ use Rattle.flat_code.specs.Codes.{size_of_op}
 use Rattle.flat_code.specs.Instr.{Instr, Jumps, Returns}
 use Rattle.flat_code.specs.Kinds.{jump_number}
 use Rattle.flat_code.specs.Ops.{OpData}
-use Rattle.flat_code.specs.Placed.{PlacedOp, StatementSpot, bracket_codes, codes_of_few_brackets, open_behind, brackets_after, ops_placed, spot_at, statement_spots, zones_behind_op as zones_past, zones_left}
+use Rattle.flat_code.specs.PlacedOps.{PlacedOp, StatementSpot, bracket_codes, codes_of_few_brackets, open_behind, brackets_after, ops_placed, spot_at, statement_spots, zones_behind_op as zones_past, zones_left}
 use Rattle.flat_code.specs.declared.image_fields.OpenBracket.{OpenBracket}
 use Rattle.flat_code.specs.declared.kinds.JumpOperation.{JumpOperation}
 use Rattle.flat_code.specs.declared.kinds.JumpOperation.TheVariants as jump
@@ -35,9 +35,9 @@ use Rattle.stl_types.specs.Lists.{list_goes_on, has_label, is_list_jump, is_list
 use Rattle.stl_types.specs.Zones.{ends_zone, opens_zone, zones_behind, zones_behind_all, zones_left_open}
 use Rattle.stl_types.specs.declared.brackets.SourceBracket.{SourceBracket}
 use Rattle.stl_codegen.specs.Bodies.{count_of_statements}
-use Rattle.stl_codegen.specs.Compiled.{SourceInstruction, operand_with_target, op_with_target, code_in}
-use Rattle.stl_codegen.specs.Emitted.{jump_op}
-use Rattle.stl_codegen.specs.Generated.{stated_from, statements_of}
+use Rattle.stl_codegen.specs.CompiledBlock.{SourceInstruction, operand_with_target, op_with_target, code_in}
+use Rattle.stl_codegen.specs.EmittedOps.{jump_op}
+use Rattle.stl_codegen.specs.GeneratedProgram.{stated_from, statements_of}
 use Rattle.stl_codegen.specs.Instruction.{count_of_statement, instr_by, instruction, target_in, target_of}
 use Rattle.stl_codegen.specs.Operations.{jump_operation_of}
 use Rattle.sem_kept.specs.Back.{is_target}

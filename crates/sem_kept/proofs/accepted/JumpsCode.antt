@@ -5,7 +5,7 @@ use Rattle.std.proofs.lemmas.Bool.{eq-eqb, ne_eqb}
 use Rattle.std.specs.List.{AllByRecursion}
 use Rattle.flat_code.specs.Codes.{size_of_op}
 use Rattle.flat_code.specs.Ops.{OpData}
-use Rattle.flat_code.specs.Placed.{PlacedOp, StatementSpot, before_next, bracket_codes, codes_of_few_brackets, open_behind, brackets_after, is_opening, ops_placed, spot_at, spots_from, zones_behind_op, zones_left}
+use Rattle.flat_code.specs.PlacedOps.{PlacedOp, StatementSpot, before_next, bracket_codes, codes_of_few_brackets, open_behind, brackets_after, is_opening, ops_placed, spot_at, spots_from, zones_behind_op, zones_left}
 use Rattle.flat_code.specs.declared.image_fields.OpenBracket.{OpenBracket}
 use Rattle.flat_code.specs.OpCodes.{op_code_of}
 use Rattle.flat_code.specs.declared.operations.Operation.TheVariants as operation

@@ -8,7 +8,7 @@ use Rattle.flat_code.specs.Instr.{Instr, Passing, Does, Calls}
 use Rattle.flat_code.specs.Kinds.{jump_number}
 use Rattle.flat_code.specs.OpCodes.{op_code_of}
 use Rattle.flat_code.specs.Ops.{OpData}
-use Rattle.flat_code.specs.Placed.{is_empty_list}
+use Rattle.flat_code.specs.PlacedOps.{is_empty_list}
 use Rattle.flat_code.specs.declared.kinds.JumpOperation.{JumpOperation}
 use Rattle.flat_code.specs.declared.kinds.JumpOperation.TheVariants as jump
 use Rattle.flat_code.specs.declared.operands.Operand.{Operand as FlatOperand}
@@ -29,7 +29,7 @@ use Rattle.stl_types.specs.Brackets.{brackets_behind, is_closing_bracket, closes
 use Rattle.stl_types.specs.Context.{Context}
 use Rattle.stl_types.specs.Forms.{form_of}
 use Rattle.stl_types.specs.Operands.{operand_rule, rule_of_resolved_operand, takes_operand}
-use Rattle.stl_types.specs.Resolved.{resolved_operand, operand_if_resolved}
+use Rattle.stl_types.specs.ResolvedStatement.{resolved_operand, operand_if_resolved}
 use Rattle.stl_types.specs.Resolution.{resolution_of}
 use Rattle.stl_types.specs.Zones.{ends_no_zone, ends_zone, is_ninth_zone, opens_zone, zones_behind}
 use Rattle.stl_types.specs.declared.brackets.SourceBracket.{SourceBracket}
@@ -37,7 +37,7 @@ use Rattle.stl_types.specs.declared.forms.OperandRule.{OperandRule}
 use Rattle.stl_types.specs.declared.forms.OperandRule.TheVariants as operand_rules
 use Rattle.stl_types.specs.declared.views.ResolvedOperand.{ResolvedOperand}
 use Rattle.stl_types.specs.declared.views.ResolvedOperand.TheVariants as resolved
-use Rattle.stl_codegen.specs.Emitted.{use_db_ops as opening_op, pass_ops}
+use Rattle.stl_codegen.specs.EmittedOps.{use_db_ops as opening_op, pass_ops}
 use Rattle.stl_codegen.specs.Instruction.{call_instr, end_instr, instr_by, instruction, jump_instr, resolved_instr, target_of, operand_instr}
 use Rattle.stl_codegen.specs.Operations.{call_operation_of, end_operation_of, jump_operation_of}
 use Rattle.sem_kept.specs.Back.{is_target}

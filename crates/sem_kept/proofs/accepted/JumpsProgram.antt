@@ -11,15 +11,15 @@ use Rattle.block_layout.specs.Types.{Types}
 use Rattle.block_layout.specs.declared.blocks.BlockLayout.{BlockLayout}
 use Rattle.stl_types.specs.Context.{Context}
 use Rattle.stl_types.specs.Resolution.{resolution_of}
-use Rattle.stl_codegen.specs.Compiled.{code_in}
+use Rattle.stl_codegen.specs.CompiledBlock.{code_in}
 use Rattle.stl_codegen.specs.Fitting.{IsStill}
 use Rattle.flat_code.specs.Blocks.{Environment, block_faults, call_fault, faults_over, op_faults, operand_fault}
-use Rattle.flat_code.specs.Placed.{PlacedOp, StatementSpot, code_places, statement_spots}
+use Rattle.flat_code.specs.PlacedOps.{PlacedOp, StatementSpot, code_places, statement_spots}
 use Rattle.flat_code.specs.declared.operands.Operand.{Operand as FlatOperand}
 use Rattle.flat_code.specs.declared.operands.Operand.TheVariants as flat
 use Rattle.sem_kept.specs.Jumps.{AllLandRight, NoOperandFaultIsNoFault, JumpsLandRight, LandsRight, jump_fault_of}
 use Rattle.sem_kept.specs.Operands.{HaveNoOperandFaults, HasNoOperandFault}
-use Rattle.sem_kept.specs.Settled.{context_at}
+use Rattle.sem_kept.specs.SettledStatements.{context_at}
 use Rattle.sem_kept.proofs.accepted.Accepted.{IsSoundBlock, IsSoundStatement, right_tree, sound_code_blocks}
 use Rattle.sem_kept.proofs.accepted.Jumps.{IsRightBody, lands_right}
 use Rattle.sem_kept.proofs.accepted.JumpsOperands.{Settles, takes_right}

@@ -14,9 +14,9 @@ use Rattle.block_layout.specs.Measures.{types_of_source}
 use Rattle.block_layout.specs.declared.blocks.BlockLayout.{BlockLayout}
 use Rattle.stl_types.specs.Resolution.{resolution_of}
 use Rattle.stl_types.specs.declared.views.Resolution.{Resolution}
-use Rattle.stl_codegen.specs.Generated.{params_of}
-use Rattle.sem_kept.specs.Accepted.{IsAccepted}
-use Rattle.sem_kept.specs.Settled.{context_at}
+use Rattle.stl_codegen.specs.GeneratedProgram.{params_of}
+use Rattle.sem_kept.specs.AcceptedSource.{IsAccepted}
+use Rattle.sem_kept.specs.SettledStatements.{context_at}
 use Rattle.sem_kept.proofs.accepted.Accepted.{IsSoundBlock, IsSoundStatement, IsSoundTree, right_tree}
 use Rattle.sem_kept.proofs.accepted.JumpsOperands.{Settles}
 use Rattle.sem_kept.proofs.accepted.OperandsCells.{layout_of_block}

@@ -7,7 +7,7 @@ use Rattle.plc_base.proofs.ListLemmas.{all_append}
 use Rattle.flat_code.specs.Blocks.{Environment}
 use Rattle.flat_code.specs.Image.{record_of_block}
 use Rattle.flat_code.specs.Loading.{environment_of_block, lens_of}
-use Rattle.flat_code.specs.Placed.{statement_spots}
+use Rattle.flat_code.specs.PlacedOps.{statement_spots}
 use Rattle.flat_code.specs.Programs.{Program}
 use Rattle.stl_ast.specs.Statements.{is_empty_statement}
 use Rattle.stl_ast.specs.declared.blocks.Block.{Block}
@@ -18,13 +18,13 @@ use Rattle.block_layout.specs.Layouts.{layouts_of}
 use Rattle.block_layout.specs.Lengths.{farthest_operand_end, local_len}
 use Rattle.block_layout.specs.Measures.{types_of_source}
 use Rattle.block_layout.specs.declared.blocks.BlockLayout.{BlockLayout}
-use Rattle.stl_codegen.specs.Compiled.{SourceInstruction, StatedBlock, compiled_block}
-use Rattle.stl_codegen.specs.Generated.{code_block, code_blocks_of, return_statement, stated_from, statements_of}
+use Rattle.stl_codegen.specs.CompiledBlock.{SourceInstruction, StatedBlock, compiled_block}
+use Rattle.stl_codegen.specs.GeneratedProgram.{code_block, code_blocks_of, return_statement, stated_from, statements_of}
 use Rattle.stl_codegen.specs.Instruction.{instruction}
-use Rattle.sem_kept.specs.Accepted.{program_in}
-use Rattle.sem_kept.specs.Coded.{StatementHasBytes}
+use Rattle.sem_kept.specs.AcceptedSource.{program_in}
+use Rattle.sem_kept.specs.CodedBlocks.{StatementHasBytes}
 use Rattle.sem_kept.specs.Operands.{BlockHasNoOperandFault, InstrFits, OperandsAreFine}
-use Rattle.sem_kept.specs.Settled.{context_at}
+use Rattle.sem_kept.specs.SettledStatements.{context_at}
 use Rattle.sem_kept.proofs.accepted.Accepted.{IsSoundBlock, IsSoundStatement, IsSoundTree, right_tree, sound_code_blocks}
 use Rattle.sem_kept.proofs.accepted.CodedBytes.{block_has_bytes}
 use Rattle.sem_kept.proofs.accepted.OperandsCalls.{call_fits}

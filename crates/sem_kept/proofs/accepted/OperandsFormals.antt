@@ -42,7 +42,7 @@ use Rattle.block_layout.specs.declared.cells.Element.{Element}
 use Rattle.block_layout.specs.declared.cells.Element.TheVariants.{Plain, Structure, DateAndTime, Udt, Unknown}
 use Rattle.stl_types.specs.Parameters.{dtime_formal, formal, formal_here, formal_of, formals_of, mode_formal, ob_nr_formal, return_value_formal, sign_formal, system_formals}
 use Rattle.stl_types.specs.declared.parameters.Formal.{Formal}
-use Rattle.stl_codegen.specs.Generated.{param_here, param_of, params_of, section_number}
+use Rattle.stl_codegen.specs.GeneratedProgram.{param_here, param_of, params_of, section_number}
 use Rattle.stl_codegen.specs.Instruction.{in_parameter_order, return_last}
 use Rattle.sem_kept.proofs.accepted.Accepted.{all_both, all_mapped}
 use Rattle.block_layout.proofs.SoundnessLemmas.{IsUnbroken, Unbroken}

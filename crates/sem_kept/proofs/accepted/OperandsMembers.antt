@@ -27,11 +27,11 @@ use Rattle.block_layout.specs.Paths.{structure_of}
 use Rattle.block_layout.specs.Rule22.{is_block_twice, is_earlier}
 use Rattle.block_layout.specs.declared.blocks.BlockLayout.{BlockLayout}
 use Rattle.stl_types.specs.Context.{Context}
-use Rattle.stl_codegen.specs.Compiled.{StatedBlock, compiled_block}
-use Rattle.stl_codegen.specs.Generated.{code_block, code_block_of, code_blocks_of, generated_data_block, data_block_of, data_blocks_of, each_block, instance_len, params_of}
+use Rattle.stl_codegen.specs.CompiledBlock.{StatedBlock, compiled_block}
+use Rattle.stl_codegen.specs.GeneratedProgram.{code_block, code_block_of, code_blocks_of, generated_data_block, data_block_of, data_blocks_of, each_block, instance_len, params_of}
 use Rattle.stl_codegen.specs.Order.{is_code_before, is_data_before}
 use Rattle.stl_codegen.proofs.ProgramLemmas.{all_before}
-use Rattle.sem_kept.specs.Settled.{context_at}
+use Rattle.sem_kept.specs.SettledStatements.{context_at}
 use Rattle.sem_kept.proofs.accepted.Accepted.{IsSoundBlock, IsSoundTree, sound_code_blocks, sound_data_blocks}
 use Rattle.block_layout.proofs.LayoutLemmas.{measured_ids, measured_symbols}
 use Rattle.sem_kept.proofs.accepted.OperandsViews.{data_block_kind, layout_id}

@@ -7,7 +7,7 @@ use Rattle.plc_base.specs.declared.places.Width.{Width}
 use Rattle.plc_base.specs.declared.places.Width.TheVariants as width
 use Rattle.flat_code.specs.Blocks.{Environment, is_bad_place, is_in_parameter as is_input_parameter, lacks_own_parameter, lacks_width, parameter_meant, prepares_statement, writes_operand as writes_code}
 use Rattle.flat_code.specs.OpCodes.{op_code_of}
-use Rattle.flat_code.specs.Placed.{is_opening}
+use Rattle.flat_code.specs.PlacedOps.{is_opening}
 use Rattle.flat_code.specs.Table.{has_memory_width as has_width_of, takes_of}
 use Rattle.flat_code.specs.Operations.{operation_of as operation_of_code}
 use Rattle.flat_code.specs.declared.table.OperandForms.{OperandForms}
@@ -40,7 +40,7 @@ use Rattle.stl_types.specs.declared.views.Register.TheVariants as register
 use Rattle.stl_types.specs.declared.views.Side.TheVariants as side
 use Rattle.stl_types.specs.declared.views.ResolvedOperand.{ResolvedOperand}
 use Rattle.stl_types.specs.declared.views.ResolvedOperand.TheVariants as resolved
-use Rattle.stl_codegen.specs.Emitted.{op_with_end_mark}
+use Rattle.stl_codegen.specs.EmittedOps.{op_with_end_mark}
 use Rattle.stl_codegen.specs.Operands.{is_db, numbered_operand, block_opened_by_operand, flat_operand_of, register_operand}
 use Rattle.stl_codegen.specs.Operations.{add_operation, load_pointer_operation, load_operation, or_operation, store_pointer_operation, transfer_operation, operation_for}
 use Rattle.sem_kept.specs.Back.{goes_to_next_statement}

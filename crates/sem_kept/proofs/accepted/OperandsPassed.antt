@@ -41,10 +41,10 @@ use Rattle.stl_types.specs.declared.parameters.Formal.{Formal}
 use Rattle.stl_types.specs.declared.views.Resolution.TheVariants.{Resolved}
 use Rattle.stl_types.specs.declared.views.ResolvedOperand.{ResolvedOperand}
 use Rattle.stl_types.specs.declared.views.ResolvedOperand.TheVariants as resolved
-use Rattle.stl_codegen.specs.Generated.{section_number}
-use Rattle.stl_codegen.specs.Passed.{passed_actual, passed_place, passed_resolution, passings_from, actual_of_formal, with_index}
+use Rattle.stl_codegen.specs.GeneratedProgram.{section_number}
+use Rattle.stl_codegen.specs.PassedParameters.{passed_actual, passed_place, passed_resolution, passings_from, actual_of_formal, with_index}
 use Rattle.stl_codegen.specs.Operations.{operation_for}
-use Rattle.sem_kept.specs.Coded.{HasBytes, OperandHasBytes}
+use Rattle.sem_kept.specs.CodedBlocks.{HasBytes, OperandHasBytes}
 use Rattle.sem_kept.specs.Operands.{ArePassed}
 use Rattle.sem_kept.proofs.accepted.Accepted.{there}
 use Rattle.sem_kept.proofs.accepted.CodedBits.{constant_taken}

@@ -13,7 +13,7 @@ use Rattle.flat_code.specs.Instr.{Instr, Passing, Does, Jumps, JumpsByList, Call
 use Rattle.flat_code.specs.Kinds.{jump_number}
 use Rattle.flat_code.specs.OpCodes.{op_code_of}
 use Rattle.flat_code.specs.Ops.{OpData}
-use Rattle.flat_code.specs.Placed.{PlacedOp, StatementSpot, before_next, ending_op, last_op, brackets_after, ops_placed, zones_behind_op}
+use Rattle.flat_code.specs.PlacedOps.{PlacedOp, StatementSpot, before_next, ending_op, last_op, brackets_after, ops_placed, zones_behind_op}
 use Rattle.flat_code.specs.declared.image_fields.OpenBracket.{OpenBracket}
 use Rattle.flat_code.specs.declared.operands.Operand.{Operand}
 use Rattle.flat_code.specs.declared.operands.Operand.TheVariants as operand
@@ -23,8 +23,8 @@ use Rattle.flat_code.specs.declared.operations.EndOperation.{EndOperation}
 use Rattle.flat_code.specs.declared.operations.EndOperation.TheVariants as ends
 use Rattle.flat_code.specs.declared.operations.Operation.{Operation}
 use Rattle.flat_code.specs.declared.operations.Operation.TheVariants as operation
-use Rattle.stl_codegen.specs.Compiled.{SourceInstruction, operand_with_target, op_with_target, ops_in, placed_ops}
-use Rattle.stl_codegen.specs.Emitted.{call_op, end_op, op_with_end_mark, instance_number_or_zero, ops_of, pass_ops, preparing_op}
+use Rattle.stl_codegen.specs.CompiledBlock.{SourceInstruction, operand_with_target, op_with_target, ops_in, placed_ops}
+use Rattle.stl_codegen.specs.EmittedOps.{call_op, end_op, op_with_end_mark, instance_number_or_zero, ops_of, pass_ops, preparing_op}
 use Rattle.sem_kept.specs.Operands.{ArePassed, HaveNoOperandFaults, InstrFits, HasNoOperandFault, IsOperandRightFor}
 
 seven_none : (b : Bool) → b ≡ false → seven_if b ≡ None

@@ -78,9 +78,9 @@ use Rattle.stl_types.specs.declared.views.Resolution.TheVariants.{Resolved}
 use Rattle.stl_types.specs.declared.views.Side.TheVariants as side
 use Rattle.stl_types.specs.declared.views.ResolvedOperand.{ResolvedOperand}
 use Rattle.stl_types.specs.declared.views.ResolvedOperand.TheVariants as resolved
-use Rattle.stl_codegen.specs.Generated.{param_at_bits, param_here, param_of, params_of, section_number}
+use Rattle.stl_codegen.specs.GeneratedProgram.{param_at_bits, param_here, param_of, params_of, section_number}
 use Rattle.stl_codegen.specs.Instruction.{return_last}
-use Rattle.sem_kept.specs.Settled.{context_at}
+use Rattle.sem_kept.specs.SettledStatements.{context_at}
 use Rattle.sem_kept.proofs.accepted.Accepted.{IsSoundBlock, IsSoundTree}
 use Rattle.block_layout.proofs.BlockLemmas.{IsFoundBlock, found_there, kind_there}
 use Rattle.block_layout.proofs.CommonLemmas.{IsOrigin, all_there, origin, or_second}

@@ -39,13 +39,13 @@ use Rattle.flat_code.specs.declared.image_fields.Field.TheVariants as field
 use Rattle.flat_code.specs.declared.programs.Param.{Param}
 use Rattle.flat_code.proofs.CheckLemmas.{zero_word_good}
 use Rattle.stl_types.specs.Context.{Context}
-use Rattle.stl_codegen.specs.Compiled.{SourceInstruction, StatedBlock, op_with_target, compiled_block, lines_in, offset_of_statement, ops_in, placed_ops}
-use Rattle.stl_codegen.specs.Emitted.{call_op, ops_of, pass_ops}
-use Rattle.stl_codegen.specs.Generated.{code_block, code_block_of, code_blocks_of, generated_data_block, data_block_of, data_blocks_of, each_block, instance_len, return_statement, stated_from, statements_of}
+use Rattle.stl_codegen.specs.CompiledBlock.{SourceInstruction, StatedBlock, op_with_target, compiled_block, lines_in, offset_of_statement, ops_in, placed_ops}
+use Rattle.stl_codegen.specs.EmittedOps.{call_op, ops_of, pass_ops}
+use Rattle.stl_codegen.specs.GeneratedProgram.{code_block, code_block_of, code_blocks_of, generated_data_block, data_block_of, data_blocks_of, each_block, instance_len, return_statement, stated_from, statements_of}
 use Rattle.stl_codegen.specs.Instruction.{instruction}
 use Rattle.stl_codegen.specs.Order.{is_code_before, is_data_before, is_id_before}
 use Rattle.sem_kept.specs.Records.{HasFaultlessCode}
-use Rattle.sem_kept.specs.Settled.{context_at}
+use Rattle.sem_kept.specs.SettledStatements.{context_at}
 use Rattle.sem_kept.proofs.accepted.Accepted.{AllLaid, IsSoundBlock, IsSoundTree}
 use Rattle.sem_kept.proofs.accepted.RecordData.{holds_at, id_there, length_there, types_symbols}
 use Rattle.sem_kept.proofs.accepted.RecordOrder.{AreApart, Differ, Rise, rise_sorted}

@@ -33,11 +33,11 @@ use Rattle.flat_code.specs.Faults.{field_fault}
 use Rattle.flat_code.specs.Image.{after_data, bytes_fit, data_block_layout as data_layout, data_length_layout, data_number_layout, instance_field, number_of_instance, data_rows}
 use Rattle.flat_code.specs.Programs.{DataBlock}
 use Rattle.flat_code.proofs.CheckLemmas.{contents_good, zero_word_good}
-use Rattle.stl_codegen.specs.Generated.{generated_data_block, data_block_of, data_blocks_of, each_block, function_block_number, instance_in}
+use Rattle.stl_codegen.specs.GeneratedProgram.{generated_data_block, data_block_of, data_blocks_of, each_block, function_block_number, instance_in}
 use Rattle.stl_codegen.specs.Order.{is_data_before}
 use Rattle.block_layout.proofs.HeadLemmas.{AllHeads, heads_none}
 use Rattle.sem_kept.specs.Initial.{writes_of}
-use Rattle.sem_kept.specs.Settled.{context_at}
+use Rattle.sem_kept.specs.SettledStatements.{context_at}
 use Rattle.sem_kept.proofs.accepted.Accepted.{AllLaid, IsSoundBlock, IsSoundTree, sound_data_blocks}
 use Rattle.sem_kept.proofs.accepted.RecordNames.{IsByte, OfBytes}
 use Rattle.sem_kept.proofs.accepted.RecordOrder.{Rise, RiseFrom, sum_sorted}

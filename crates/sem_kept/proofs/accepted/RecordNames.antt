@@ -28,7 +28,7 @@ use Rattle.stl_symbols.specs.declared.languages.Language.{Language}
 use Rattle.stl_symbols.specs.declared.targets.Target.{Target}
 use Rattle.stl_symbols.specs.declared.targets.Target.TheVariants as target
 use Rattle.stl_symbols.proofs.FileLemmas.{symbols_right}
-use Rattle.stl_codegen.specs.Generated.{has_name, name_entry, name_entries_of}
+use Rattle.stl_codegen.specs.GeneratedProgram.{has_name, name_entry, name_entries_of}
 use Rattle.stl_codegen.specs.Order.{is_name_before}
 use Rattle.sem_kept.proofs.accepted.Accepted.{all_mapped, all_sorted}
 use Rattle.sem_kept.proofs.accepted.RecordOrder.{AreApart, Differ, rise_sorted, good_all}

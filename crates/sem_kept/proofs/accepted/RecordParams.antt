@@ -31,7 +31,7 @@ use Rattle.stl_ast.specs.declared.declarations.ElementType.TheVariants as type
 use Rattle.stl_ast.specs.declared.declarations.Simple.{Simple}
 use Rattle.stl_ast.specs.declared.declarations.Simple.TheVariants as simple
 use Rattle.plc_base.specs.Folding.{upper_case_name}
-use Rattle.plc_base.specs.Gathered.{refusals_along}
+use Rattle.plc_base.specs.RefusalsAlong.{refusals_along}
 use Rattle.plc_base.specs.Least.{broken_if}
 use Rattle.plc_base.proofs.ListLemmas.{all_front, all_back, all_append}
 use Rattle.stl_symbols.specs.Names.{name_place}
@@ -61,7 +61,7 @@ use Rattle.flat_code.specs.Faults.{field_fault}
 use Rattle.flat_code.specs.Image.{parameter_layout, parameter_bit, parameter_byte, parameter_rows, record_of_param, section_field}
 use Rattle.flat_code.specs.declared.programs.Param.{Param}
 use Rattle.flat_code.proofs.CheckLemmas.{zero_byte_good}
-use Rattle.stl_codegen.specs.Generated.{instance_len, offset_of_member, param_here, param_of, params_of, section_number}
+use Rattle.stl_codegen.specs.GeneratedProgram.{instance_len, offset_of_member, param_here, param_of, params_of, section_number}
 use Rattle.stl_codegen.specs.Instruction.{return_last}
 use Rattle.sem_kept.proofs.accepted.Accepted.{IsSoundBlock}
 use Rattle.block_layout.proofs.CommonLemmas.{none_left, none_right, not_broken}

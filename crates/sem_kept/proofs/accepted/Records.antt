@@ -17,10 +17,10 @@ use Rattle.stl_symbols.specs.Symbol.{Symbol}
 use Rattle.stl_symbols.specs.Symbols.{symbols_in}
 use Rattle.stl_symbols.specs.declared.languages.Language.{Language}
 use Rattle.block_layout.specs.Layouts.{layouts_of}
-use Rattle.stl_codegen.specs.Compiled.{compiled_block}
-use Rattle.stl_codegen.specs.Generated.{code_blocks_of}
+use Rattle.stl_codegen.specs.CompiledBlock.{compiled_block}
+use Rattle.stl_codegen.specs.GeneratedProgram.{code_blocks_of}
 use Rattle.stl_codegen.specs.Order.{is_code_before}
-use Rattle.sem_kept.specs.Accepted.{program_in}
+use Rattle.sem_kept.specs.AcceptedSource.{program_in}
 use Rattle.sem_kept.specs.Records.{HasFaultlessCode, HasCounts, IsOfBytes, RecordsAreRight}
 use Rattle.sem_kept.proofs.accepted.Accepted.{IsSoundTree, all_both, right_tree, sound_code_blocks}
 use Rattle.sem_kept.proofs.accepted.RecordBlocks.{HasFields, IsRightBlock, code_blocks_rise, all_counted_by, data_blocks_rise, fields_of, first_good, next_good}

@@ -22,12 +22,12 @@ use Rattle.block_layout.specs.Measures.{types_of_source}
 use Rattle.block_layout.specs.declared.blocks.BlockLayout.{BlockLayout}
 use Rattle.stl_types.specs.Labels.{is_unknown_label, labels_of}
 use Rattle.stl_types.specs.Resolution.{resolution_of}
-use Rattle.stl_types.specs.Resolved.{resolved_operand, operand_if_resolved}
-use Rattle.stl_codegen.specs.Compiled.{compiled_block}
-use Rattle.stl_codegen.specs.Generated.{code_blocks_of, params_of}
+use Rattle.stl_types.specs.ResolvedStatement.{resolved_operand, operand_if_resolved}
+use Rattle.stl_codegen.specs.CompiledBlock.{compiled_block}
+use Rattle.stl_codegen.specs.GeneratedProgram.{code_blocks_of, params_of}
 use Rattle.stl_codegen.specs.Operations.{call_operation_of, jump_operation_of}
-use Rattle.sem_kept.specs.Coded.{StatementHasBytes}
-use Rattle.sem_kept.specs.Settled.{HasInstruction, HasLabel, HasOperand, NamesWhatIsPassed, IsResolvedStatement, StatementsSettle, context_at}
+use Rattle.sem_kept.specs.CodedBlocks.{StatementHasBytes}
+use Rattle.sem_kept.specs.SettledStatements.{HasInstruction, HasLabel, HasOperand, NamesWhatIsPassed, IsResolvedStatement, StatementsSettle, context_at}
 use Rattle.sem_kept.proofs.accepted.Accepted.{IsSoundBlock, IsSoundStatement, IsSoundTree, each_passes, right_tree}
 use Rattle.sem_kept.proofs.accepted.CodedBytes.{block_has_bytes}
 use Rattle.sem_kept.proofs.accepted.JumpsOperands.{takes_right}

@@ -45,13 +45,13 @@ use Rattle.block_layout.specs.declared.blocks.BlockLayout.{BlockLayout}
 use Rattle.block_layout.specs.declared.cells.Cell.{Cell}
 use Rattle.stl_types.specs.Context.{Context}
 use Rattle.stl_types.specs.Parameters.{formals_of}
-use Rattle.stl_codegen.specs.Compiled.{StatedBlock, compiled_block}
-use Rattle.stl_codegen.specs.Generated.{code_block, code_block_of, code_blocks_of, generated_data_block, data_block_of, data_blocks_of, each_block, name_entries_of, param_here, param_of, params_of}
+use Rattle.stl_codegen.specs.CompiledBlock.{StatedBlock, compiled_block}
+use Rattle.stl_codegen.specs.GeneratedProgram.{code_block, code_block_of, code_blocks_of, generated_data_block, data_block_of, data_blocks_of, each_block, name_entries_of, param_here, param_of, params_of}
 use Rattle.stl_codegen.specs.Instruction.{return_last}
 use Rattle.stl_codegen.specs.Order.{is_code_before, is_data_before}
 use Rattle.sem_kept.specs.Sizes.{AcceptedIsSmall, IsSmallBlock}
 use Rattle.block_layout.proofs.HeadLemmas.{AllHeads, heads_none}
-use Rattle.sem_kept.specs.Settled.{context_at}
+use Rattle.sem_kept.specs.SettledStatements.{context_at}
 use Rattle.sem_kept.proofs.accepted.Accepted.{AllLaid, IsSoundBlock, IsSoundStatement, IsSoundTree, right_tree, sound_code_blocks}
 use Rattle.block_layout.proofs.LayoutLemmas.{measured_ids, measured_symbols}
 use Rattle.sem_kept.proofs.accepted.OperandsMembers.{initial_long}

@@ -30,7 +30,7 @@ use Rattle.stl_types.specs.Resolution.{resolution_of}
 use Rattle.stl_types.specs.declared.parameters.Formal.{Formal}
 use Rattle.stl_parser.proofs.OptionLemmas.{both, chained, mapped, none_holds, passed}
 use Rattle.stl_codegen.specs.Instruction.{source_block_at, in_parameter_order, passings_to, return_last}
-use Rattle.stl_codegen.specs.Passed.{passed_actual, passed_resolution, passings_from, actual_of_formal, with_index}
+use Rattle.stl_codegen.specs.PassedParameters.{passed_actual, passed_resolution, passings_from, actual_of_formal, with_index}
 use Rattle.sem_kept.proofs.accepted.Accepted.{IsSoundBlock}
 use Rattle.block_layout.proofs.SoundnessLemmas.{block_unbroken}
 use Rattle.sem_kept.proofs.accepted.OperandsFormals.{Distinct, FreshFrom, block_formals, fresh_distinct, same_bytes, system_matched}

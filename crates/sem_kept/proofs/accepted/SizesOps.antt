@@ -49,7 +49,7 @@ use Rattle.stl_types.specs.Context.{Context, data_number}
 use Rattle.stl_types.specs.Kinds.{is_operand_of_call}
 use Rattle.stl_types.specs.Operands.{operand_rule, rule_of_resolved_operand, statement_rule, takes_operand}
 use Rattle.stl_types.specs.Parameters.{callee_of}
-use Rattle.stl_types.specs.Resolved.{operand_if_resolved}
+use Rattle.stl_types.specs.ResolvedStatement.{operand_if_resolved}
 use Rattle.stl_types.specs.Resolution.{resolution_of_call, resolution_of_address, resolution_of_opened_block, resolution_of_path, register_for_word, resolution_of}
 use Rattle.stl_types.specs.declared.forms.OperandRule.{OperandRule}
 use Rattle.stl_types.specs.declared.forms.OperandRule.TheVariants as operand_rules
@@ -59,9 +59,9 @@ use Rattle.stl_types.specs.declared.views.Resolution.{Resolution}
 use Rattle.stl_types.specs.declared.views.Resolution.TheVariants.{Unjudged, Resolved, Unknown}
 use Rattle.stl_types.specs.declared.views.ResolvedOperand.{ResolvedOperand}
 use Rattle.stl_types.specs.declared.views.ResolvedOperand.TheVariants as resolved
-use Rattle.stl_codegen.specs.Compiled.{SourceInstruction, operand_with_target, op_with_target, code_in, lines_in, ops_in, placed_ops}
-use Rattle.stl_codegen.specs.Emitted.{call_op, op_with_end_mark, use_db_ops, ops_of, pass_ops, preparing_op}
-use Rattle.stl_codegen.specs.Generated.{return_statement, stated_from, statements_of}
+use Rattle.stl_codegen.specs.CompiledBlock.{SourceInstruction, operand_with_target, op_with_target, code_in, lines_in, ops_in, placed_ops}
+use Rattle.stl_codegen.specs.EmittedOps.{call_op, op_with_end_mark, use_db_ops, ops_of, pass_ops, preparing_op}
+use Rattle.stl_codegen.specs.GeneratedProgram.{return_statement, stated_from, statements_of}
 use Rattle.stl_codegen.specs.Instruction.{call_instr, end_instr, filler_instruction, instr_by, instruction, jump_instr, passings_to, resolved_instr, target_of, operand_instr}
 use Rattle.stl_codegen.specs.Operands.{is_db, is_in_named_block, numbered_operand, block_opened_by_operand, opened_by_place, flat_operand_of, register_operand}
 use Rattle.stl_codegen.specs.Operations.{call_operation_of, end_operation_of, jump_operation_of, operation_for}

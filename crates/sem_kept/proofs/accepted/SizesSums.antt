@@ -8,9 +8,9 @@ use Rattle.stl_ast.specs.declared.blocks.Tree.{Tree}
 use Rattle.stl_symbols.specs.Symbol.{Symbol}
 use Rattle.block_layout.specs.declared.blocks.BlockLayout.{BlockLayout}
 use Rattle.stl_types.specs.Context.{Context}
-use Rattle.stl_codegen.specs.Generated.{each_block}
+use Rattle.stl_codegen.specs.GeneratedProgram.{each_block}
 use Rattle.stl_codegen.specs.Order.{sorted_insertion, sorted_list}
-use Rattle.sem_kept.specs.Settled.{context_at}
+use Rattle.sem_kept.specs.SettledStatements.{context_at}
 use Rattle.sem_kept.proofs.accepted.Accepted.{AllLaid}
 
 -- ---- sums by parts

@@ -5,16 +5,16 @@ use Rattle.std.specs.List.{AllByRecursion}
 use Rattle.flat_code.specs.Checking.{good_blocks}
 use Rattle.flat_code.specs.Image.{record_of_block}
 use Rattle.flat_code.specs.Loading.{AreVerified, environment_of_block, lens_of}
-use Rattle.flat_code.specs.Placed.{code_places, statement_spots}
+use Rattle.flat_code.specs.PlacedOps.{code_places, statement_spots}
 use Rattle.flat_code.specs.Programs.{CodeBlock}
 use Rattle.flat_code.specs.Records.{BlockRecord}
 use Rattle.stl_ast.specs.Literals.{AreBytes}
-use Rattle.stl_codegen.specs.Compiled.{StatedBlock, code_in, compiled_block}
-use Rattle.stl_codegen.specs.Generated.{code_blocks_of}
+use Rattle.stl_codegen.specs.CompiledBlock.{StatedBlock, code_in, compiled_block}
+use Rattle.stl_codegen.specs.GeneratedProgram.{code_blocks_of}
 use Rattle.stl_parser.proofs.RiseLemmas.{lines_rise}
 use Rattle.block_layout.specs.Layouts.{layouts_of}
-use Rattle.sem_kept.specs.Accepted.{AcceptedVerifies, program_in}
-use Rattle.sem_kept.specs.Coded.{IsBlockCoded}
+use Rattle.sem_kept.specs.AcceptedSource.{AcceptedVerifies, program_in}
+use Rattle.sem_kept.specs.CodedBlocks.{IsBlockCoded}
 use Rattle.sem_kept.specs.Jumps.{AllLandRight}
 use Rattle.sem_kept.specs.Operands.{HaveNoOperandFaults}
 use Rattle.sem_kept.specs.Records.{HasFaultlessCode}

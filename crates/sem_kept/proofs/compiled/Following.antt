@@ -5,8 +5,8 @@ use Rattle.plc_base.specs.declared.blocks.BlockId.{BlockId}
 use Rattle.flat_code.specs.Laws.{OperationsHaveTheirCodes, JumpsHaveTheirKinds}
 use Rattle.image_file.specs.Readers.{block_by_id, is_same_id}
 use Rattle.machine.specs.Flat.{statement_fetched, block_head_of}
-use Rattle.machine.specs.Moved.{moved_fetched}
-use Rattle.stl_codegen.specs.Compiled.{SourceInstruction, StatedBlock, ops_in, offset_from, offset_of_statement, compiled_block}
+use Rattle.machine.specs.MovedCode.{moved_fetched}
+use Rattle.stl_codegen.specs.CompiledBlock.{SourceInstruction, StatedBlock, ops_in, offset_from, offset_of_statement, compiled_block}
 use Rattle.flat_code.specs.Ops.{OpData}
 use Rattle.sem_kept.specs.Back.{aimed_statement}
 use Rattle.sem_kept.specs.Statements.{stated_block_named, fetched_statement, numbered_statement, stated_head, position_in, statement_position, IsCompilable, ProgramsFollow}

@@ -25,7 +25,7 @@ use Rattle.block_layout.specs.declared.blocks.BlockLayout.{BlockLayout}
 use Rattle.stl_types.specs.Context.{Context, source_block_ids, number_of_block, data_place, data_number}
 use Rattle.stl_types.specs.Forms.{form_of}
 use Rattle.stl_types.specs.Operands.{rule_of_resolved_operand, rule_of_resolution, operand_rule, statement_rule}
-use Rattle.stl_types.specs.Resolved.{operand_if_resolved, resolved_operand}
+use Rattle.stl_types.specs.ResolvedStatement.{operand_if_resolved, resolved_operand}
 use Rattle.stl_types.specs.Resolution.{resolution_of_path, resolution_of_address, resolution_of_opened_block, resolution_of_call, instance_number, whole_called_block as whole_called, resolution_of}
 use Rattle.stl_types.specs.declared.forms.OperandRule.{OperandRule}
 use Rattle.stl_types.specs.declared.forms.OperandRule.TheVariants as operand_rules

@@ -12,7 +12,7 @@ use Rattle.flat_code.specs.Forms.{kind_of_code}
 use Rattle.flat_code.specs.Instr.{Instr, Passing, Does, Jumps, JumpsByList, Calls, Returns}
 use Rattle.flat_code.specs.Laws.{OperationsHaveTheirCodes, JumpsHaveTheirKinds}
 use Rattle.flat_code.specs.Ops.{OpData}
-use Rattle.flat_code.specs.Placed.{op_placed, line_placed}
+use Rattle.flat_code.specs.PlacedOps.{op_placed, line_placed}
 use Rattle.flat_code.specs.Programs.{CodeBlock}
 use Rattle.flat_code.specs.Operations.{operation_of}
 use Rattle.flat_code.specs.declared.kinds.JumpOperation.TheVariants as jump
@@ -21,11 +21,11 @@ use Rattle.flat_code.specs.declared.operands.Operand.TheVariants as operand
 use Rattle.flat_code.specs.declared.operations.Operation.{Operation}
 use Rattle.flat_code.specs.declared.operations.Operation.TheVariants as operation
 use Rattle.machine.specs.Flat.{OpRun, op_run_at, with_op, most_ops_of_statement, use_db_of, passings_of, list_of, most_listed, instance_named, instr_of, fetched_of, statement_fetched}
-use Rattle.stl_codegen.specs.Emitted.{ops_of, op_with_end_mark, use_db_ops, pass_ops, jump_op, call_op, end_op, instance_number_or_zero}
+use Rattle.stl_codegen.specs.EmittedOps.{ops_of, op_with_end_mark, use_db_ops, pass_ops, jump_op, call_op, end_op, instance_number_or_zero}
 use Rattle.flat_code.specs.declared.operations.EndOperation.TheVariants as ends
-use Rattle.stl_codegen.specs.Compiled.{SourceInstruction, ops_in, offset_from, offset_of_statement, operand_with_target, op_with_target, placed_ops, code_in, lines_in}
+use Rattle.stl_codegen.specs.CompiledBlock.{SourceInstruction, ops_in, offset_from, offset_of_statement, operand_with_target, op_with_target, placed_ops, code_in, lines_in}
 use Rattle.stl_codegen.specs.Instruction.{numbers_from}
-use Rattle.machine.specs.Moved.{aimed_instr}
+use Rattle.machine.specs.MovedCode.{aimed_instr}
 use Rattle.sem_kept.specs.Back.{aimed_statement, goes_to_next_statement, is_target, IsInstanceNumber, is_ju, IsJu, IsList, IsGeneratedInstruction, AreCompiled, IsReadBack}
 use Rattle.sem_kept.proofs.compiled.Runs.{total, total_append, op_behind, op_at_end, size_aimed, total_aimed, InstrParts, IsPreparing, IsPartedStatement, AreStatements, flat, bytes_of, bytes_long, extent, total_flat, extent_append, flat_append, line_at, line_at_end, offset_is, offset_past}
 

@@ -4,10 +4,10 @@ use Rattle.std.proofs.lemmas.Bool.{eq-eqb, ne_eqb}
 use Rattle.std.specs.List.{AllByRecursion}
 use Rattle.flat_code.specs.Codes.{size_of_op}
 use Rattle.flat_code.specs.Ops.{OpData, op_bytes}
-use Rattle.flat_code.specs.Placed.{op_placed, line_placed}
+use Rattle.flat_code.specs.PlacedOps.{op_placed, line_placed}
 use Rattle.flat_code.specs.declared.operands.Operand.{Operand}
 use Rattle.flat_code.specs.declared.operands.Operand.TheVariants as operand
-use Rattle.stl_codegen.specs.Compiled.{offset_from, operand_with_target, op_with_target}
+use Rattle.stl_codegen.specs.CompiledBlock.{offset_from, operand_with_target, op_with_target}
 
 pub op_long : (op : OpData) → 0 < size_of_op op
 unfolding size_of_op op_bytes

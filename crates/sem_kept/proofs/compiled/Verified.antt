@@ -15,7 +15,7 @@ use Rattle.flat_code.specs.Layout.{good_many}
 use Rattle.flat_code.specs.Loading.{AreVerified, lens_of, environment_of_block}
 use Rattle.flat_code.specs.OpCodes.{op_code_of as code_of_operation}
 use Rattle.flat_code.specs.Ops.{OpData}
-use Rattle.flat_code.specs.Placed.{PlacedOp, StatementSpot, ops_placed, brackets_after, before_next, statement_spots, zones_behind_op}
+use Rattle.flat_code.specs.PlacedOps.{PlacedOp, StatementSpot, ops_placed, brackets_after, before_next, statement_spots, zones_behind_op}
 use Rattle.flat_code.specs.Programs.{Program}
 use Rattle.flat_code.specs.Records.{BlockRecord}
 use Rattle.flat_code.specs.declared.image_fields.OpenBracket.{OpenBracket}
@@ -38,14 +38,14 @@ use Rattle.block_layout.proofs.CommonLemmas.{none_left, none_right}
 use Rattle.plc_base.proofs.TruthLemmas.{and_first, and_second}
 use Rattle.stl_types.specs.Bodies.{first_context}
 use Rattle.stl_types.specs.Context.{Context}
-use Rattle.stl_codegen.specs.Compiled.{SourceInstruction, StatedBlock, compiled_block, code_in, ops_in, offset_from, offset_of_statement, operand_with_target, op_with_target}
-use Rattle.stl_codegen.specs.Emitted.{preparing_op, op_with_end_mark, pass_ops, jump_op, call_op, end_op}
-use Rattle.stl_codegen.specs.Generated.{stated_from, statements_of, code_block, code_block_of, each_block, code_blocks_of, program_of}
+use Rattle.stl_codegen.specs.CompiledBlock.{SourceInstruction, StatedBlock, compiled_block, code_in, ops_in, offset_from, offset_of_statement, operand_with_target, op_with_target}
+use Rattle.stl_codegen.specs.EmittedOps.{preparing_op, op_with_end_mark, pass_ops, jump_op, call_op, end_op}
+use Rattle.stl_codegen.specs.GeneratedProgram.{stated_from, statements_of, code_block, code_block_of, each_block, code_blocks_of, program_of}
 use Rattle.stl_codegen.specs.Order.{is_code_before}
 use Rattle.stl_codegen.specs.Instruction.{numbers_from, instruction}
 use Rattle.sem_kept.specs.Back.{is_target, is_ju, IsJu, IsList, IsGeneratedInstruction, AreCompiled}
 use Rattle.sem_kept.specs.Statements.{IsCompilable}
-use Rattle.sem_kept.specs.Verified.{VerifiedIsCompilable}
+use Rattle.sem_kept.specs.VerifiedBlocks.{VerifiedIsCompilable}
 use Rattle.sem_kept.proofs.compiled.Instructions.{IsMade, instruction_made}
 use Rattle.sem_kept.proofs.compiled.Reading.{parts_of_instr, parts, is_statement, ops_in_parts, parts_append, parts_count, parts_are, aimed_part, aimed_is, the_code, ends_at, ends_append, position, the_code_is, ops_with, return_at}
 use Rattle.sem_kept.proofs.compiled.Runs.{total, size_aimed, total_aimed, InstrParts, IsPreparing, IsPartedStatement, AreStatements, flat, bytes_of, bytes_long, extent, offset_next}

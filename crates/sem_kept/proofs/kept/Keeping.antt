@@ -3,11 +3,11 @@ use Rattle.std.proofs.Common.{ℕ, ap, ◌∙◌}
 use Rattle.plc_base.specs.declared.BlockId.{BlockId}
 use Rattle.plc_base.specs.declared.Profile.{Profile}
 use Rattle.machine.specs.Code.{Code}
-use Rattle.machine.specs.Moved.{FollowsCode}
-use Rattle.controller.specs.Moved.{EntriesMove, HistoriesMove}
+use Rattle.machine.specs.MovedCode.{FollowsCode}
+use Rattle.controller.specs.MovedCode.{EntriesMove, HistoriesMove}
 use Rattle.controller.specs.Replay.{EntryResult, entry_result, replay}
 use Rattle.controller.specs.State.{State}
-use Rattle.sem_kept.specs.Kept.{BehavesAlike}
+use Rattle.sem_kept.specs.KeptProgram.{BehavesAlike}
 
 pub kept_by :
     (profile : Profile) (f : BlockId → ℕ → ℕ) (c d : Code)

@@ -1,5 +1,5 @@
 use Rattle.std.proofs.Common.{◌≡◌, drop, ◌++◌}
-use Rattle.block_layout.specs.Numbered.{numbers_of_kind}
+use Rattle.block_layout.specs.BlockNumbers.{numbers_of_kind}
 use Rattle.block_layout.proofs.directory.numbers_of.Given as goal
 
 abbrev pub invariant-loop-id : goal.invariant-loop-id

@@ -1,5 +1,5 @@
 use Rattle.std.proofs.Common.{◌≡◌, ◌++◌, length, drop}
-use Rattle.flat_code.specs.Placed.{bracket_codes}
+use Rattle.flat_code.specs.PlacedOps.{bracket_codes}
 use Rattle.image_file.proofs.checking.codes_of_few_brackets.Given as goal
 
 abbrev pub invariant-loop-bracket : goal.invariant-loop-bracket

@@ -1,5 +1,5 @@
 use Rattle.std.proofs.Common.{◌≡◌, drop}
-use Rattle.flat_code.specs.Placed.{ending_op}
+use Rattle.flat_code.specs.PlacedOps.{ending_op}
 use Rattle.image_file.proofs.operands.ending_op.Given as goal
 
 abbrev pub invariant-loop-next : goal.invariant-loop-next

@@ -1,6 +1,6 @@
 use Rattle.std.proofs.Common.{◌≡◌, ◌+◌, ◌++◌, length, drop}
 use Rattle.flat_code.specs.Codes.{code_bytes}
-use Rattle.flat_code.specs.Placed.{statement_spots, spots_from}
+use Rattle.flat_code.specs.PlacedOps.{statement_spots, spots_from}
 use Rattle.image_file.proofs.statement_table.statement_list.Given as goal
 
 abbrev pub invariant-loop-op : goal.invariant-loop-op

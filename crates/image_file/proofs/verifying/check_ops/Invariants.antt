@@ -1,6 +1,6 @@
 use Rattle.std.proofs.Common.{◌≡◌, ◌+◌, length, drop, []}
 use Rattle.flat_code.specs.Codes.{code_bytes}
-use Rattle.flat_code.specs.Placed.{ops_placed, code_places, open_behind, zones_left}
+use Rattle.flat_code.specs.PlacedOps.{ops_placed, code_places, open_behind, zones_left}
 use Rattle.flat_code.specs.Blocks.{faults_over}
 use Rattle.image_file.specs.Least.{with_faults}
 use Rattle.image_file.specs.OpChecking.{AllUpTo, ZonesUpTo, environment_of}

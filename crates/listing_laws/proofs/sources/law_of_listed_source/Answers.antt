@@ -1,4 +1,4 @@
-use Rattle.stl_codegen.specs.Generated.{program_of}
+use Rattle.stl_codegen.specs.GeneratedProgram.{program_of}
 use Rattle.stl_list.specs.Listing.{listed_tree}
 use Rattle.listing_laws.proofs.CompiledLemmas.{written_compiled}
 use Rattle.listing_laws.proofs.SourceLemmas.{source_blocks, source_printable}

@@ -1,5 +1,5 @@
 use Rattle.std.proofs.Common.{◌≡◌, true, false, is_some, refl, rules}
-use Rattle.flat_code.specs.Placed.{line_placed}
+use Rattle.flat_code.specs.PlacedOps.{line_placed}
 use Rattle.machine.proofs.FetchLemmas.{found_at, no_line, no_run}
 use Rattle.machine.proofs.readiness.is_complete_at.Goals as goal
 

@@ -1,6 +1,6 @@
 use Rattle.std.proofs.Common.{sym, ap, ◌∙◌, Some, arith, slice_get}
 use Rattle.plc_mem.proofs.Numbers.{run_number, run_none}
-use Rattle.plc_mem.proofs.Kept.{over_fits}
+use Rattle.plc_mem.proofs.KeptMemory.{over_fits}
 use Rattle.plc_mem.proofs.operands.number.Goals as goal
 
 pub returns-then-not-is_within-clause-value : goal.returns-then-not-is_within-clause-value

@@ -1,6 +1,6 @@
 use Rattle.std.proofs.Common.{◌∙◌, Bool, IfOk, ap, refl, sym, subst, ℕ, List, Err}
 use Rattle.std.proofs.lemmas.Result.{err_from_is_err_and}
-use Rattle.image_file.specs.Loaded.{LoadedProgram}
+use Rattle.image_file.specs.LoadedProgram.{LoadedProgram}
 use Rattle.plc_base.specs.declared.Profile.TheVariants.{Large}
 use Rattle.sem_kept.specs.Agreement.{KeepsSource}
 use Rattle.s7_cli.specs.Inner.{SaysRefusal}

@@ -1,7 +1,7 @@
 use Rattle.std.proofs.Common.{◌∙◌, ap, subst, Err, List}
 use Rattle.std.proofs.lemmas.Result.{err_from_is_err_and}
 use Rattle.flat_code.specs.Programs.{NameEntry}
-use Rattle.image_file.specs.Loaded.{LoadedProgram}
+use Rattle.image_file.specs.LoadedProgram.{LoadedProgram}
 use Rattle.var_access.specs.History.{History}
 use Rattle.event_text.specs.TextFault.{IsTextFault}
 use Rattle.event_text.specs.Texts.{history_of_text}

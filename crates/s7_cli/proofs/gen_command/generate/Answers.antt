@@ -3,12 +3,12 @@ use Rattle.std.proofs.lemmas.Result.{err_from_is_err_and}
 use Rattle.plc_base.specs.declared.Profile.{Profile}
 use Rattle.plc_base.specs.declared.Profile.TheVariants.{Large}
 use Rattle.generator.specs.History.{generated_history}
-use Rattle.image_file.specs.Loaded.{LoadedProgram}
+use Rattle.image_file.specs.LoadedProgram.{LoadedProgram}
 use Rattle.machine.specs.Flat.{code_of}
 use Rattle.var_access.specs.declared.Entry.{Entry}
 use Rattle.controller.specs.Recording.{Recording}
 use Rattle.controller.specs.Replay.{replay}
-use Rattle.controller.specs.Replayed.{entry_events, final_state}
+use Rattle.controller.specs.ReplayResult.{entry_events, final_state}
 use Rattle.s7_cli.specs.Answer.{CallAnswer}
 use Rattle.s7_cli.specs.Command.{Gen}
 use Rattle.s7_cli.specs.Ends.{sink_moments}

@@ -1,6 +1,6 @@
 use Rattle.std.proofs.Common.{◌∙◌, ap, ap₂, ℕ, List, Err}
 use Rattle.std.proofs.lemmas.Result.{err_from_is_err_and}
-use Rattle.image_file.specs.Loaded.{LoadedProgram}
+use Rattle.image_file.specs.LoadedProgram.{LoadedProgram}
 use Rattle.machine.specs.Flat.{code_of}
 use Rattle.var_access.specs.declared.Entry.{Entry}
 use Rattle.s7_cli.specs.run_text.Behind.{program_of_recording}

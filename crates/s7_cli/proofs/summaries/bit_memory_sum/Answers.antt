@@ -1,6 +1,6 @@
 use Rattle.std.proofs.Common.{◌≡◌, ◌+◌, ◌*◌, ℕ, List, ap, arith, take}
 use Rattle.std.proofs.Common.{sum as sum_of}
-use Rattle.controller.specs.Replayed.{final_state}
+use Rattle.controller.specs.ReplayResult.{final_state}
 use Rattle.s7_cli.proofs.SummaryLemmas.{sum-on}
 use Rattle.s7_cli.proofs.summaries.bit_memory_sum.Goals as goal
 

@@ -1,6 +1,6 @@
 use Rattle.std.proofs.Common.{◌≡◌, ◌≤◌, ◌*◌, ◌^◌, take}
 use Rattle.std.proofs.Common.{sum as sum_of}
-use Rattle.controller.specs.Replayed.{final_state}
+use Rattle.controller.specs.ReplayResult.{final_state}
 use Rattle.s7_cli.proofs.summaries.bit_memory_sum.Given as goal
 
 -- the bytes before this part are added up

@@ -1,7 +1,7 @@
 use Rattle.std.proofs.Common.{refl}
 use Rattle.flat_code.specs.Stamps.{profile_of}
 use Rattle.stl_symbols.specs.declared.languages.Language.TheVariants.{German}
-use Rattle.sem_kept.specs.Accepted.{program_in}
+use Rattle.sem_kept.specs.AcceptedSource.{program_in}
 use Rattle.sem_kept.proofs.laws.compiled_is_kept_german.Goals as goal
 
 pub returns : goal.returns

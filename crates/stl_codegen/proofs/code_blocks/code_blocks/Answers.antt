@@ -1,8 +1,8 @@
 use Rattle.std.proofs.Common.{◌<◌, ◌≤◌, List, [], length, min, map, ap, subst, arith}
 use Rattle.stl_types.specs.Context.{Context}
-use Rattle.stl_codegen.specs.Compiled.{StatedBlock, compiled_block}
+use Rattle.stl_codegen.specs.CompiledBlock.{StatedBlock, compiled_block}
 use Rattle.stl_codegen.specs.Fitting.{AreItemsAppended, BlockFits}
-use Rattle.stl_codegen.specs.Generated.{code_block_of}
+use Rattle.stl_codegen.specs.GeneratedProgram.{code_block_of}
 use Rattle.stl_codegen.proofs.AppendLemmas.{added_none, added_some, between_end, between_misfit, between_turn}
 use Rattle.stl_codegen.proofs.BlockLemmas.{each_compiled_turn, each_end}
 use Rattle.stl_codegen.proofs.code_blocks.code_blocks.Goals as goal

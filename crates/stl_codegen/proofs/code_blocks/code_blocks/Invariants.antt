@@ -1,6 +1,6 @@
 use Rattle.std.proofs.Common.{[], drop, map}
-use Rattle.stl_codegen.specs.Compiled.{compiled_block}
-use Rattle.stl_codegen.specs.Generated.{code_block_of, each_block}
+use Rattle.stl_codegen.specs.CompiledBlock.{compiled_block}
+use Rattle.stl_codegen.specs.GeneratedProgram.{code_block_of, each_block}
 use Rattle.stl_codegen.proofs.AppendLemmas.{Between}
 use Rattle.stl_codegen.proofs.code_blocks.code_blocks.Given as goal
 

@@ -2,7 +2,7 @@ use Rattle.std.proofs.Common.{[], ◌∷◌}
 use Rattle.std.specs.List.{flat_map}
 use Rattle.flat_code.specs.declared.operations.EndOperation.TheVariants as ends
 use Rattle.stl_codegen.specs.Bodies.{ops_here}
-use Rattle.stl_codegen.specs.Emitted.{end_op}
+use Rattle.stl_codegen.specs.EmittedOps.{end_op}
 use Rattle.stl_codegen.proofs.AppendLemmas.{appended_none, back_has_none}
 use Rattle.stl_codegen.proofs.codes.ops_of.Goals as goal
 

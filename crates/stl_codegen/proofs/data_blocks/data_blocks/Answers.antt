@@ -1,6 +1,6 @@
 use Rattle.std.proofs.Common.{◌<◌, ◌≤◌, ◌++◌, [], length, min, ap, ◌∙◌, arith}
 use Rattle.stl_types.specs.Context.{Context}
-use Rattle.stl_codegen.specs.Generated.{data_block_of}
+use Rattle.stl_codegen.specs.GeneratedProgram.{data_block_of}
 use Rattle.stl_codegen.proofs.AppendLemmas.{between_end, between_turn}
 use Rattle.stl_codegen.proofs.BlockLemmas.{each_end, each_layout_turn}
 use Rattle.stl_codegen.proofs.data_blocks.data_blocks.Goals as goal

@@ -1,5 +1,5 @@
 use Rattle.std.proofs.Common.{[], drop}
-use Rattle.stl_codegen.specs.Generated.{data_block_of, each_block}
+use Rattle.stl_codegen.specs.GeneratedProgram.{data_block_of, each_block}
 use Rattle.stl_codegen.proofs.AppendLemmas.{Between}
 use Rattle.stl_codegen.proofs.data_blocks.data_blocks.Given as goal
 

@@ -1,6 +1,6 @@
 use Rattle.std.proofs.Common.{[], drop}
 use Rattle.std.specs.List.{flat_map}
-use Rattle.stl_codegen.specs.Generated.{name_entry}
+use Rattle.stl_codegen.specs.GeneratedProgram.{name_entry}
 use Rattle.stl_codegen.proofs.AppendLemmas.{Between}
 use Rattle.stl_codegen.proofs.names.names_of.Given as goal
 

@@ -1,6 +1,6 @@
 use Rattle.std.proofs.Common.{◌≡◌, ◌<◌, [], length, get_or, ap, arith}
 use Rattle.stl_codegen.specs.Fitting.{ParamFits}
-use Rattle.stl_codegen.specs.Generated.{param_here}
+use Rattle.stl_codegen.specs.GeneratedProgram.{param_here}
 use Rattle.stl_codegen.proofs.AppendLemmas.{added_none, between_misfit, flat_turn, item_is}
 use Rattle.stl_codegen.proofs.params.declared_params.Goals as goal
 

@@ -1,6 +1,6 @@
 use Rattle.std.proofs.Common.{[], drop}
 use Rattle.std.specs.List.{flat_map}
-use Rattle.stl_codegen.specs.Generated.{param_here}
+use Rattle.stl_codegen.specs.GeneratedProgram.{param_here}
 use Rattle.stl_codegen.proofs.AppendLemmas.{Between}
 use Rattle.stl_codegen.proofs.params.declared_params.Given as goal
 

@@ -1,7 +1,7 @@
 use Rattle.std.proofs.Common.{◌≡◌, ◌≤◌, List, length, subst, ◌∙◌}
 use Rattle.std.specs.Prelude.{IfSome}
 use Rattle.flat_code.specs.declared.programs.Param.{Param}
-use Rattle.stl_codegen.specs.Generated.{params_of}
+use Rattle.stl_codegen.specs.GeneratedProgram.{params_of}
 use Rattle.stl_codegen.proofs.AppendLemmas.{if_none, none_from}
 use Rattle.stl_codegen.proofs.ParamLemmas.{far_misfits, many_misfit, params_are}
 use Rattle.stl_codegen.proofs.params.params_of.Goals as goal

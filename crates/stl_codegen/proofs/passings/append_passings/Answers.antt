@@ -1,8 +1,8 @@
 use Rattle.std.proofs.Common.{◌<◌, Option, length, subst, arith}
 use Rattle.stl_ast.specs.declared.statements.Actual.{Actual}
-use Rattle.stl_codegen.specs.Emitted.{pass_ops}
+use Rattle.stl_codegen.specs.EmittedOps.{pass_ops}
 use Rattle.stl_codegen.specs.Fitting.{AreOpsAppended}
-use Rattle.stl_codegen.specs.Passed.{passed_actual, actual_of_formal}
+use Rattle.stl_codegen.specs.PassedParameters.{passed_actual, actual_of_formal}
 use Rattle.stl_codegen.proofs.AppendLemmas.{appended_none, appended_some, between_stop, between_turn}
 use Rattle.stl_codegen.proofs.PassingLemmas.{passings_turn}
 use Rattle.stl_codegen.proofs.passings.append_passings.Goals as goal

@@ -1,5 +1,5 @@
-use Rattle.stl_codegen.specs.Emitted.{pass_ops}
-use Rattle.stl_codegen.specs.Passed.{passings_from}
+use Rattle.stl_codegen.specs.EmittedOps.{pass_ops}
+use Rattle.stl_codegen.specs.PassedParameters.{passings_from}
 use Rattle.std.proofs.Common.{drop}
 use Rattle.stl_codegen.proofs.AppendLemmas.{Between}
 use Rattle.stl_codegen.proofs.passings.append_passings.Given as goal

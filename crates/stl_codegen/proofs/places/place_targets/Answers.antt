@@ -2,7 +2,7 @@ use Rattle.std.proofs.Common.{◌++◌, List, map, sym, ap, ◌∙◌}
 use Rattle.std.proofs.Math.ListN.{drop_of_length-le}
 use Rattle.std.proofs.lemmas.List.{append-nil}
 use Rattle.flat_code.specs.Ops.{OpData}
-use Rattle.stl_codegen.specs.Compiled.{op_with_target, offset_of_statement, placed_ops}
+use Rattle.stl_codegen.specs.CompiledBlock.{op_with_target, offset_of_statement, placed_ops}
 use Rattle.stl_codegen.proofs.PlaceLemmas.{are_none}
 use Rattle.stl_codegen.proofs.places.place_targets.Goals as goal
 

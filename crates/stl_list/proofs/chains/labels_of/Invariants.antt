@@ -1,6 +1,6 @@
 use Rattle.std.proofs.Common.{◌≡◌, drop}
 use Rattle.std.specs.List.{fold, range_with_len}
-use Rattle.stl_list.specs.Joined.{labels_after_link}
+use Rattle.stl_list.specs.JoinedParameters.{labels_after_link}
 use Rattle.stl_list.proofs.chains.labels_of.Given as goal
 
 abbrev pub invariant-loop-link : goal.invariant-loop-link

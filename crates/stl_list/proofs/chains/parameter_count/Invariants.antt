@@ -1,5 +1,5 @@
 use Rattle.std.proofs.Common.{◌≡◌, ◌≤◌, ◌+◌, ◌*◌, drop}
-use Rattle.stl_list.specs.Joined.{total_parameter_count}
+use Rattle.stl_list.specs.JoinedParameters.{total_parameter_count}
 use Rattle.stl_list.proofs.chains.parameter_count.Given as goal
 
 abbrev pub invariant-loop-block : goal.invariant-loop-block

@@ -1,5 +1,5 @@
 use Rattle.std.proofs.Common.{◌∙◌, ap, set}
-use Rattle.stl_list.specs.Joined.{replaced_label}
+use Rattle.stl_list.specs.JoinedParameters.{replaced_label}
 use Rattle.stl_list.proofs.ChainLemmas.{mapped_all, mapped_more}
 use Rattle.stl_list.proofs.chains.relabel.Goals as goal
 

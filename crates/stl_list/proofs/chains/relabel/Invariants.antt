@@ -1,5 +1,5 @@
 use Rattle.std.proofs.Common.{◌≡◌, ◌++◌, map, take, drop}
-use Rattle.stl_list.specs.Joined.{replaced_label}
+use Rattle.stl_list.specs.JoinedParameters.{replaced_label}
 use Rattle.stl_list.proofs.chains.relabel.Given as goal
 
 -- those below the index are done

@@ -3,7 +3,7 @@ use Rattle.std.proofs.Math.ListN.{drop_of_length-le}
 use Rattle.std.proofs.lemmas.List.{append-nil}
 use Rattle.plc_base.proofs.ListLemmas.{drop_next}
 use Rattle.flat_code.specs.Ops.{OpData}
-use Rattle.stl_list.specs.Joined.{links_of_runs}
+use Rattle.stl_list.specs.JoinedParameters.{links_of_runs}
 use Rattle.stl_list.specs.Runs.{runs, runs_from}
 use Rattle.stl_list.proofs.links.add_block.Goals as goal
 

@@ -1,5 +1,5 @@
 use Rattle.std.proofs.Common.{◌≡◌, ◌++◌, drop}
-use Rattle.stl_list.specs.Joined.{block_links, links_of_runs}
+use Rattle.stl_list.specs.JoinedParameters.{block_links, links_of_runs}
 use Rattle.stl_list.specs.Runs.{runs_from}
 use Rattle.stl_list.proofs.links.add_block.Given as goal
 

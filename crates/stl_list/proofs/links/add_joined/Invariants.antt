@@ -1,6 +1,6 @@
 use Rattle.std.proofs.Common.{drop}
 use Rattle.stl_codegen.proofs.AppendLemmas.{Between}
-use Rattle.stl_list.specs.Joined.{joined_links}
+use Rattle.stl_list.specs.JoinedParameters.{joined_links}
 use Rattle.stl_list.proofs.links.add_joined.Given as goal
 
 abbrev pub invariant-loop-op : goal.invariant-loop-op

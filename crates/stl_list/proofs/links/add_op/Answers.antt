@@ -1,6 +1,6 @@
 use Rattle.std.proofs.Common.{◌++◌, ◌∙◌, List, [], ap, sym, append_assoc}
 use Rattle.flat_code.specs.Ops.{OpData}
-use Rattle.stl_list.specs.Joined.{links_of_runs, run_links}
+use Rattle.stl_list.specs.JoinedParameters.{links_of_runs, run_links}
 use Rattle.stl_list.specs.Runs.{Run, runs_from}
 use Rattle.stl_list.specs.declared.links.Link.{Link}
 use Rattle.stl_list.proofs.RunLemmas.{run_ends, run_goes}

@@ -1,7 +1,7 @@
 use Rattle.std.proofs.Common.{◌++◌, ◌∙◌, Option, ap, sym}
 use Rattle.std.proofs.lemmas.List.{append-nil}
 use Rattle.stl_types.specs.declared.parameters.Formal.{Formal}
-use Rattle.stl_list.specs.Joined.{typed_link}
+use Rattle.stl_list.specs.JoinedParameters.{typed_link}
 use Rattle.stl_list.proofs.links.add_typed.Goals as goal
 
 pub returns-in-None : goal.returns-in-None

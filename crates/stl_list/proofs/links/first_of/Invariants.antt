@@ -1,5 +1,5 @@
 use Rattle.std.proofs.Common.{◌≡◌, ◌≤◌, ◌+◌, ◌*◌, drop}
-use Rattle.stl_list.specs.Joined.{first_of}
+use Rattle.stl_list.specs.JoinedParameters.{first_of}
 use Rattle.stl_list.proofs.links.first_of.Given as goal
 
 abbrev pub invariant-loop-block : goal.invariant-loop-block

@@ -1,6 +1,6 @@
 use Rattle.std.proofs.Common.{[], drop, ◌≤◌, ◌*◌}
 use Rattle.stl_codegen.proofs.AppendLemmas.{Between}
-use Rattle.stl_list.specs.Joined.{links_from}
+use Rattle.stl_list.specs.JoinedParameters.{links_from}
 use Rattle.stl_list.proofs.links.links.Given as goal
 
 abbrev pub invariant-loop-block : goal.invariant-loop-block

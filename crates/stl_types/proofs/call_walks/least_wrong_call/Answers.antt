@@ -6,7 +6,7 @@ use Rattle.plc_base.specs.Least.{least}
 use Rattle.plc_base.proofs.LeastLemmas.{lesser_first}
 use Rattle.stl_types.specs.Bodies.{first_context}
 use Rattle.stl_types.specs.Context.{Context}
-use Rattle.stl_types.specs.Joined.{broken_statement, in_statements}
+use Rattle.stl_types.specs.RuleGroups.{broken_statement, in_statements}
 use Rattle.stl_types.proofs.CallLemmas.{contexts_end, contexts_turn, rules_joined}
 use Rattle.stl_types.proofs.call_walks.least_wrong_call.Goals as goal
 

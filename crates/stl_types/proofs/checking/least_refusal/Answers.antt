@@ -2,7 +2,7 @@ use Rattle.std.proofs.Common.{List, ◌∙◌, ap}
 use Rattle.stl_ast.specs.declared.blocks.Block.{Block}
 use Rattle.plc_base.specs.Least.{least}
 use Rattle.stl_types.specs.Bodies.{first_context}
-use Rattle.stl_types.specs.Joined.{rules_of_jumps, rules_of_zones}
+use Rattle.stl_types.specs.RuleGroups.{rules_of_jumps, rules_of_zones}
 use Rattle.stl_types.specs.Table.{statement_refusals}
 use Rattle.stl_types.proofs.CallLemmas.{table_joined}
 use Rattle.stl_types.proofs.checking.least_refusal.Goals as goal

@@ -1,5 +1,5 @@
 use Rattle.block_layout.proofs.HeadLemmas.{three_lists}
-use Rattle.stl_types.specs.Joined.{rules_of_zones}
+use Rattle.stl_types.specs.RuleGroups.{rules_of_zones}
 use Rattle.stl_types.specs.Zones.{rule_47, rule_48, rule_49}
 use Rattle.stl_types.proofs.checking.least_wrong_zone.Goals as goal
 

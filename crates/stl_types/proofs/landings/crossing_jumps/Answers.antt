@@ -1,6 +1,6 @@
 use Rattle.std.proofs.Common.{Bool, false, refl, ◌∙◌, ap, List}
 use Rattle.stl_ast.specs.declared.statements.Statement.{Statement}
-use Rattle.plc_base.specs.Gathered.{refusals_along}
+use Rattle.plc_base.specs.RefusalsAlong.{refusals_along}
 use Rattle.plc_base.specs.Least.{broken_if, least}
 use Rattle.plc_base.proofs.GatheredLemmas.{gathered_done, gathered_next}
 use Rattle.plc_base.proofs.LeastLemmas.{lesser_first}

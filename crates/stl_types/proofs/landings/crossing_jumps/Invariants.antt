@@ -1,5 +1,5 @@
 use Rattle.std.proofs.Common.{◌≡◌, drop, false}
-use Rattle.plc_base.specs.Gathered.{refusals_along}
+use Rattle.plc_base.specs.RefusalsAlong.{refusals_along}
 use Rattle.plc_base.specs.Least.{broken_if, least, lesser}
 use Rattle.stl_types.specs.Landings.{crosses_nesting, crossing_jumps, nesting_behind}
 use Rattle.stl_types.proofs.landings.crossing_jumps.Given as goal

@@ -1,6 +1,6 @@
 use Rattle.std.proofs.Common.{◌≡◌, List, ◌∷◌, drop, length, false}
 use Rattle.stl_ast.specs.declared.blocks.Block.{Block}
-use Rattle.plc_base.specs.Gathered.{refusals_along}
+use Rattle.plc_base.specs.RefusalsAlong.{refusals_along}
 use Rattle.plc_base.specs.Least.{broken_if, least, lesser}
 use Rattle.block_layout.specs.Heads.{on_heads}
 use Rattle.block_layout.specs.Rule22.{is_block_twice}

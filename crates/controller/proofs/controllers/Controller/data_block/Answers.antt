@@ -5,7 +5,7 @@ use Rattle.controller.specs.Starting.{data_block_numbers}
 use Rattle.controller.specs.State.{State}
 use Rattle.controller.specs.Views.{cpu_state}
 use Rattle.controller.specs.Recording.{Recording}
-use Rattle.controller.specs.Replayed.{final_state}
+use Rattle.controller.specs.ReplayResult.{final_state}
 use Rattle.controller.proofs.history.BlockLemmas.{block_there, memory_numbers, no_block_there}
 use Rattle.controller.proofs.controllers.Controller.data_block.Goals as goal
 

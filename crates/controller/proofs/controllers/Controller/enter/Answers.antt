@@ -6,11 +6,11 @@ use Rattle.machine.specs.Flat.{code_of}
 use Rattle.var_access.specs.History.{History}
 use Rattle.var_access.specs.declared.Entry.{Entry}
 use Rattle.controller.specs.Replay.{entry_result, last_observed, replay}
-use Rattle.controller.specs.Shown.{watched_state}
+use Rattle.controller.specs.ShownEntry.{watched_state}
 use Rattle.controller.specs.State.{State}
 use Rattle.controller.specs.Views.{cpu_state}
 use Rattle.controller.specs.declared.observing.Observed.{Observed}
-use Rattle.controller.specs.Replayed.{entry_events}
+use Rattle.controller.specs.ReplayResult.{entry_events}
 use Rattle.controller.proofs.history.ReplayLemmas.{fits_next, observer_next, seen_next, state_next}
 use Rattle.controller.proofs.controllers.Controller.enter.Goals as goal
 

@@ -6,12 +6,12 @@ use Rattle.machine.specs.Flat.{code_of}
 use Rattle.var_access.specs.History.{History}
 use Rattle.var_access.specs.declared.Entry.{Entry}
 use Rattle.controller.specs.Replay.{last_observed, replay}
-use Rattle.controller.specs.Shown.{nothing_shown, watched_state}
+use Rattle.controller.specs.ShownEntry.{nothing_shown, watched_state}
 use Rattle.controller.specs.Start.{initial_state}
 use Rattle.controller.specs.State.{State}
 use Rattle.controller.specs.Views.{cpu_state}
 use Rattle.controller.specs.declared.observing.Observed.{Observed}
-use Rattle.controller.specs.Replayed.{entry_events}
+use Rattle.controller.specs.ReplayResult.{entry_events}
 use Rattle.controller.proofs.history.ReplayLemmas.{none_seen, start_fits, starts}
 use Rattle.controller.proofs.controllers.Controller.new.Goals as goal
 

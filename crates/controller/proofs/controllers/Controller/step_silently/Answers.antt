@@ -8,12 +8,12 @@ use Rattle.var_access.specs.declared.Entry.{Entry}
 use Rattle.var_access.specs.declared.What.TheVariants.{Step}
 use Rattle.controller.specs.SilentSteps.{ShowNothing, steps_silently}
 use Rattle.controller.specs.Replay.{last_observed, replay, state_after_entries}
-use Rattle.controller.specs.Shown.{watched_state}
+use Rattle.controller.specs.ShownEntry.{watched_state}
 use Rattle.controller.specs.State.{State}
 use Rattle.controller.specs.Views.{cpu_state}
 use Rattle.controller.specs.declared.observing.Observed.{Observed}
 use Rattle.controller.specs.Recording.{Recording}
-use Rattle.controller.specs.Replayed.{entry_events, final_state}
+use Rattle.controller.specs.ReplayResult.{entry_events, final_state}
 use Rattle.controller.proofs.history.SilentLemmas.{fits-behind, observer-behind, silent-behind, replay-more, seen-behind, state-behind, steps-are}
 use Rattle.controller.proofs.controllers.Controller.step_silently.Goals as goal
 

@@ -1,5 +1,5 @@
 use Rattle.std.proofs.Common.{◌≡◌, ◌≤◌, ◌+◌, ◌-◌, ◌++◌, length, min}
-use Rattle.controller.specs.Shown.{changed_outputs}
+use Rattle.controller.specs.ShownEntry.{changed_outputs}
 use Rattle.controller.proofs.ObservingLemmas.{changes_from}
 use Rattle.controller.proofs.observing.Outputs.find.Given as goal
 

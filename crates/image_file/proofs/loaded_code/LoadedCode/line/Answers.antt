@@ -1,5 +1,5 @@
 use Rattle.std.proofs.Common.{ℕ, option_and_then, slice_get, true, ap, sym, ◌∙◌}
-use Rattle.flat_code.specs.Placed.{line_placed}
+use Rattle.flat_code.specs.PlacedOps.{line_placed}
 use Rattle.flat_code.specs.Programs.{CodeBlock}
 use Rattle.image_file.proofs.MarkLemmas.{line_by_mark}
 use Rattle.image_file.proofs.loaded_code.LoadedCode.line.Goals as goal

@@ -1,5 +1,5 @@
 use Rattle.std.proofs.Common.{ap, sym, ◌∙◌}
-use Rattle.flat_code.specs.Placed.{op_placed}
+use Rattle.flat_code.specs.PlacedOps.{op_placed}
 use Rattle.flat_code.specs.Programs.{CodeBlock}
 use Rattle.image_file.proofs.MarkLemmas.{op_known, op_missing, op_nowhere, op_there}
 use Rattle.image_file.proofs.loaded_code.LoadedCode.op.Goals as goal

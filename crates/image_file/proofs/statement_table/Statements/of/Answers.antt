@@ -1,5 +1,5 @@
 use Rattle.std.proofs.Common.{◌∙◌, ap, map, List}
-use Rattle.flat_code.specs.Placed.{StatementSpot}
+use Rattle.flat_code.specs.PlacedOps.{StatementSpot}
 use Rattle.image_file.proofs.TableLemmas.{finds_statements}
 use Rattle.image_file.proofs.statement_table.Statements.of.Goals as goal
 

@@ -3,7 +3,7 @@ use Rattle.std.specs.FinMap as map
 use Rattle.std.specs.List.{IsDistinct}
 use Rattle.plc_mem.specs.Blocks.{data_block_map, bytes_by_number, block_numbers}
 use Rattle.plc_mem.specs.Places.{AreByteValues}
-use Rattle.plc_mem.proofs.Kept.{no_blocks, block_more}
+use Rattle.plc_mem.proofs.KeptMemory.{no_blocks, block_more}
 use Rattle.plc_mem.proofs.BlockLemmas.{inserted_bytes, one_more, split_at_item, take_item}
 use Rattle.plc_mem.proofs.data_blocks.DataBlocks.new.Goals as goal
 

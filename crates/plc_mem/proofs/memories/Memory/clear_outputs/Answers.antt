@@ -1,4 +1,4 @@
-use Rattle.plc_mem.proofs.Kept.{clear_is}
+use Rattle.plc_mem.proofs.KeptMemory.{clear_is}
 use Rattle.plc_mem.proofs.memories.Memory.clear_outputs.Goals as goal
 
 pub invariant_of-self : goal.invariant_of-self

@@ -1,5 +1,5 @@
 use Rattle.plc_mem.proofs.Lawful.{zero_count}
-use Rattle.plc_mem.proofs.Kept.{retained_is}
+use Rattle.plc_mem.proofs.KeptMemory.{retained_is}
 use Rattle.plc_mem.proofs.memories.Memory.clear_unretained.Goals as goal
 
 pub invariant_of-self : goal.invariant_of-self

@@ -1,4 +1,4 @@
-use Rattle.plc_mem.proofs.Kept.{bits_kept}
+use Rattle.plc_mem.proofs.KeptMemory.{bits_kept}
 use Rattle.plc_mem.proofs.memories.Memory.put_bit_memory.Goals as goal
 
 pub invariant_of-self : goal.invariant_of-self

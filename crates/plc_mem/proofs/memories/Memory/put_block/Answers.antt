@@ -1,4 +1,4 @@
-use Rattle.plc_mem.proofs.Kept.{blocks_kept}
+use Rattle.plc_mem.proofs.KeptMemory.{blocks_kept}
 use Rattle.plc_mem.proofs.memories.Memory.put_block.Goals as goal
 
 pub invariant_of-self : goal.invariant_of-self

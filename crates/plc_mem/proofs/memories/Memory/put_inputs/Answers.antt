@@ -1,4 +1,4 @@
-use Rattle.plc_mem.proofs.Kept.{run_kept}
+use Rattle.plc_mem.proofs.KeptMemory.{run_kept}
 use Rattle.plc_mem.proofs.memories.Memory.put_inputs.Goals as goal
 
 pub invariant_of-self : goal.invariant_of-self

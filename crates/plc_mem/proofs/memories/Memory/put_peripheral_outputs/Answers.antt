@@ -1,4 +1,4 @@
-use Rattle.plc_mem.proofs.Kept.{run_kept, peripheral_kept}
+use Rattle.plc_mem.proofs.KeptMemory.{run_kept, peripheral_kept}
 use Rattle.plc_mem.proofs.memories.Memory.put_peripheral_outputs.Goals as goal
 
 pub invariant_of-self-2 : goal.invariant_of-self-2

@@ -1,6 +1,6 @@
 use Rattle.std.proofs.Common.{rules}
 use Rattle.plc_mem.proofs.Lawful.{read_answers}
-use Rattle.plc_mem.proofs.Kept.{read_fits}
+use Rattle.plc_mem.proofs.KeptMemory.{read_fits}
 use Rattle.plc_mem.proofs.memories.Memory.read.Goals as goal
 
 pub returns-clause-exists : goal.returns-clause-exists

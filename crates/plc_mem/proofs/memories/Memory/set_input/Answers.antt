@@ -2,7 +2,7 @@ use Rattle.std.proofs.Common.{arith, ℕ, subst, IsOk, IsTrue, ◌↔◌}
 use Rattle.plc_base.specs.declared.Width.TheVariants.{Byte}
 use Rattle.plc_base.specs.AreaBytes.{is_peripheral_byte}
 use Rattle.plc_mem.proofs.Lawful.{input_answers}
-use Rattle.plc_mem.proofs.Kept.{peripheral_kept, has_parts}
+use Rattle.plc_mem.proofs.KeptMemory.{peripheral_kept, has_parts}
 use Rattle.plc_mem.proofs.memories.Memory.set_input.Goals as goal
 
 pub returns-clause-exists : goal.returns-clause-exists

@@ -1,5 +1,5 @@
 use Rattle.plc_mem.proofs.Lawful.{zero_count, zero_memory}
-use Rattle.plc_mem.proofs.Kept.{clear_is}
+use Rattle.plc_mem.proofs.KeptMemory.{clear_is}
 use Rattle.plc_mem.proofs.memories.Memory.with_data_blocks.Goals as goal
 
 pub invariant_of-result : goal.invariant_of-result

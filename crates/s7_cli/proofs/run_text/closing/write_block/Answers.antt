@@ -1,7 +1,7 @@
 use Rattle.std.proofs.Common.{◌<◌, ◌≤◌, ◌*◌, ◌∙◌, ap, subst, sym, ℕ, List, Err, Ok, length, arith}
 use Rattle.std.specs.Int.{div_ceil}
 use Rattle.std.proofs.lemmas.Result.{err_from_is_err_and}
-use Rattle.plc_io.specs.Taken.{WroteText}
+use Rattle.plc_io.specs.SinkBytes.{WroteText}
 use Rattle.monitor.specs.LineText.{row_text}
 use Rattle.s7_cli.specs.run_text.RunText.{row_of}
 use Rattle.s7_cli.proofs.run.ListLemmas.{block-is, counted-end, counted-next}

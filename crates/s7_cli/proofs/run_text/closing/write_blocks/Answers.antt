@@ -1,7 +1,7 @@
 use Rattle.std.proofs.Common.{◌≡◌, ◌+◌, ◌∙◌, ap, refl, sym, subst, ℕ, drop, Err, arith}
 use Rattle.std.specs.List.{flat_map}
 use Rattle.std.proofs.lemmas.Result.{err_from_is_err_and}
-use Rattle.controller.specs.Replayed.{final_data_blocks}
+use Rattle.controller.specs.ReplayResult.{final_data_blocks}
 use Rattle.s7_cli.specs.run_text.RunText.{data_block_text}
 use Rattle.s7_cli.proofs.run.ListLemmas.{found-last, found-more, found-next}
 use Rattle.s7_cli.proofs.run.WritingLemmas.{GoesOn, goes-cut, goes-end, goes-next, goes-wanting}

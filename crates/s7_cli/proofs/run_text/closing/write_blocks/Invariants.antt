@@ -1,6 +1,6 @@
 use Rattle.std.proofs.Common.{◌-◌, drop, length}
 use Rattle.std.specs.List.{flat_map}
-use Rattle.controller.specs.Replayed.{final_data_blocks}
+use Rattle.controller.specs.ReplayResult.{final_data_blocks}
 use Rattle.s7_cli.specs.run_text.RunText.{data_block_text}
 use Rattle.s7_cli.proofs.run.WritingLemmas.{GoesOn}
 use Rattle.s7_cli.proofs.run_text.closing.write_blocks.Given as goal

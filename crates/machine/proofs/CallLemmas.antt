@@ -33,7 +33,7 @@ use Rattle.machine.proofs.Errors.{IfKnownError}
 use Rattle.machine.proofs.FrameBytes.{locals_moved, locals_opened}
 use Rattle.machine.proofs.Keeping.{IfDone, KeepsLocalMemory, open_after}
 use Rattle.machine.proofs.Moving.{some_there, stands_of, fits_of, frames_are, frame_open, frame_follows, activation_follows}
-use Rattle.machine.proofs.Returned.{params_in_kept}
+use Rattle.machine.proofs.ReturnLemmas.{params_in_kept}
 use Rattle.machine.proofs.Sizes.{same_sizes}
 use Rattle.machine.proofs.Standing.{StatementStart, statement_start_there, nothing_open, entry_start, opens_there, statement_there}
 

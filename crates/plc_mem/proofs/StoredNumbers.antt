@@ -15,7 +15,7 @@ use Rattle.plc_mem.specs.Bits.{is_bit_one, bit_of_byte}
 use Rattle.plc_base.specs.Widths.{bit_count, byte_count}
 use Rattle.plc_mem.specs.Run.{number_over, operand_bit_of}
 use Rattle.plc_mem.specs.Writing.{is_within, bytes_with_number, byte_with_bit}
-use Rattle.plc_mem.specs.Written.{weight_in, value_of_bit}
+use Rattle.plc_mem.specs.WrittenBits.{weight_in, value_of_bit}
 use Rattle.plc_mem.proofs.Numbers.{byte_bits, byte_bit, weights_value, stands, bit_in_some}
 
 -- ---- one bit of a byte

@@ -4,10 +4,10 @@ use Rattle.flat_code.specs.Loading.{Verifies}
 use Rattle.machine.specs.Flat.{code_of}
 use Rattle.controller.specs.Fitting.{IsFit}
 use Rattle.controller.specs.Replay.{last_observed, replay}
-use Rattle.controller.specs.Shown.{watched_state}
+use Rattle.controller.specs.ShownEntry.{watched_state}
 use Rattle.controller.specs.Starting.{data_block_numbers}
 use Rattle.controller.specs.Views.{cpu_state}
-use Rattle.controller.specs.Replayed.{entry_events}
+use Rattle.controller.specs.ReplayResult.{entry_events}
 use Rattle.controller.specs.declared.controllers.Controller.TheInside.{Inside}
 
 -- the program verifies; the state is the replay of the history at its profile, and fits it;

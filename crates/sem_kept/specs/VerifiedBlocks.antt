@@ -6,7 +6,7 @@ use Rattle.flat_code.specs.Loading.{Verifies}
 use Rattle.stl_ast.specs.declared.blocks.Tree.{Tree}
 use Rattle.stl_symbols.specs.Symbol.{Symbol}
 use Rattle.block_layout.specs.declared.blocks.BlockLayout.{BlockLayout}
-use Rattle.stl_codegen.specs.Generated.{code_blocks_of, program_of}
+use Rattle.stl_codegen.specs.GeneratedProgram.{code_blocks_of, program_of}
 use Rattle.sem_kept.specs.Statements.{IsCompilable}
 
 -- where the program verifies, each code block of its source is compilable

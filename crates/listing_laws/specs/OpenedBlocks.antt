@@ -8,7 +8,7 @@ use Rattle.flat_code.specs.declared.operands.Passed.{Passed}
 use Rattle.flat_code.specs.declared.operands.Passed.TheVariants as passed
 use Rattle.block_layout.specs.declared.blocks.BlockLayout.{BlockLayout}
 use Rattle.stl_ast.specs.declared.blocks.Tree.{Tree}
-use Rattle.stl_codegen.specs.Generated.{program_of}
+use Rattle.stl_codegen.specs.GeneratedProgram.{program_of}
 use Rattle.stl_list.specs.Operands.{block_opened_by_ops}
 use Rattle.stl_list.specs.Runs.{Run, runs}
 use Rattle.stl_symbols.specs.Symbol.{Symbol}

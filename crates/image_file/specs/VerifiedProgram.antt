@@ -28,7 +28,7 @@ use Rattle.flat_code.specs.Image.{record_of_block, record_of_param, kind_of_numb
 use Rattle.flat_code.specs.Loading.{Verifies, lens_of, environment_of_block}
 use Rattle.flat_code.specs.Records.{section_in}
 use Rattle.flat_code.specs.Table.{takes_of, has_memory_width}
-use Rattle.flat_code.specs.Placed.{PlacedOp, op_placed, line_placed, code_places, begins_its_statement, bracket_codes, is_opening, brackets_after, zones_behind_op, most_brackets, most_zones, before_next, last_op}
+use Rattle.flat_code.specs.PlacedOps.{PlacedOp, op_placed, line_placed, code_places, begins_its_statement, bracket_codes, is_opening, brackets_after, zones_behind_op, most_brackets, most_zones, before_next, last_op}
 use Rattle.flat_code.specs.Blocks.{BlockSignature, signature_of, CalleeSeen, callee_among, writes_operand, prepares_statement, is_odd_bit, is_in_db, is_above, pass_before, are_all_passed, is_bad_instance, misfits_parameter, leads_to_target}
 use Rattle.image_file.specs.Readers.{block_by_id}
 

@@ -3,7 +3,7 @@ use Rattle.std.specs.Prelude.{◌≡◌, ℕ, List, map}
 use Rattle.plc_base.specs.declared.Profile.{Profile}
 use Rattle.plc_base.specs.declared.BlockId.{BlockId}
 use Rattle.machine.specs.Code.{Code}
-use Rattle.machine.specs.Moved.{FollowsCode, moved_activation}
+use Rattle.machine.specs.MovedCode.{FollowsCode, moved_activation}
 use Rattle.var_access.specs.declared.What.{What}
 use Rattle.controller.specs.Replay.{EntryResult, entry_result, replay}
 use Rattle.controller.specs.State.{State}

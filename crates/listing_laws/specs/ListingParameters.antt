@@ -8,7 +8,7 @@ use Rattle.flat_code.specs.declared.programs.Param.{Param}
 use Rattle.stl_ast.specs.declared.declarations.Simple.{Simple}
 use Rattle.block_layout.specs.Offsets.{width_of}
 use Rattle.stl_types.specs.declared.parameters.Formal.{Formal}
-use Rattle.stl_list.specs.Joined.{Chains, chains_of, first_of, kind_at, links, total_parameter_count}
+use Rattle.stl_list.specs.JoinedParameters.{Chains, chains_of, first_of, kind_at, links, total_parameter_count}
 use Rattle.stl_list.specs.Parameters.{section_of}
 use Rattle.stl_list.specs.Signatures.{formals_of_block, signatures}
 use Rattle.listing_laws.specs.Chains.{AreTypesAsDeclared, HasStep}

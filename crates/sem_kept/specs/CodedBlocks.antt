@@ -18,7 +18,7 @@ use Rattle.stl_ast.specs.declared.operands.Operand.TheVariants as operand
 use Rattle.stl_ast.specs.declared.statements.Actual.{Actual}
 use Rattle.stl_ast.specs.declared.statements.Statement.{Statement}
 use Rattle.stl_symbols.specs.Symbol.{Symbol}
-use Rattle.sem_kept.specs.Accepted.{IsAccepted, program_in}
+use Rattle.sem_kept.specs.AcceptedSource.{IsAccepted, program_in}
 
 -- the characters of a constant are bytes
 abbrev pub HasBytes : Literal → Type 0

@@ -10,7 +10,7 @@ use Rattle.flat_code.specs.Programs.{CodeBlock}
 use Rattle.flat_code.specs.declared.programs.Param.{Param}
 use Rattle.flat_code.specs.declared.operands.Operand.{Operand}
 use Rattle.flat_code.specs.declared.operands.Operand.TheVariants as operand
-use Rattle.stl_codegen.specs.Emitted.{ops_of}
+use Rattle.stl_codegen.specs.EmittedOps.{ops_of}
 
 -- a statement of a block, empty ones left out: its instruction and its line
 pub record SourceInstruction : Type 0 where

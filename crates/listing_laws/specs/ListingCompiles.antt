@@ -10,7 +10,7 @@ use Rattle.stl_symbols.specs.declared.languages.Language.TheVariants.{English}
 use Rattle.flat_code.specs.Programs.{Program}
 use Rattle.stl_list.specs.Listing.{listed_source}
 use Rattle.stl_list.specs.Symbols.{listed_names}
-use Rattle.sem_kept.specs.Accepted.{IsAccepted, program_in}
+use Rattle.sem_kept.specs.AcceptedSource.{IsAccepted, program_in}
 use Rattle.sem_kept.specs.Agreement.{AreFiles}
 use Rattle.sem_kept.specs.Compiles.{CompilesTo}
 

@@ -15,11 +15,11 @@ use Rattle.block_layout.specs.Offsets.{width_of}
 use Rattle.block_layout.specs.Types.{Types}
 use Rattle.block_layout.specs.declared.blocks.BlockLayout.{BlockLayout}
 use Rattle.stl_types.specs.declared.parameters.Formal.{Formal}
-use Rattle.stl_codegen.specs.Generated.{params_of}
+use Rattle.stl_codegen.specs.GeneratedProgram.{params_of}
 use Rattle.stl_list.specs.CodeBlocks.{listed_block}
-use Rattle.stl_list.specs.Joined.{chains_of}
+use Rattle.stl_list.specs.JoinedParameters.{chains_of}
 use Rattle.stl_list.specs.Signatures.{Signature, signatures}
-use Rattle.sem_kept.specs.Accepted.{IsAccepted, program_in}
+use Rattle.sem_kept.specs.AcceptedSource.{IsAccepted, program_in}
 
 -- the types of formal parameters have the widths of the parameters
 abbrev pub AreWide : List Param → List Formal → Type 0

@@ -34,7 +34,7 @@ use Rattle.block_layout.specs.declared.members.Member.{Member}
 use Rattle.stl_types.specs.Bodies.{first_context}
 use Rattle.stl_types.specs.Context.{Context}
 use Rattle.stl_ast.specs.Blocks.{is_parameter}
-use Rattle.stl_codegen.specs.Compiled.{SourceInstruction, StatedBlock, compiled_block}
+use Rattle.stl_codegen.specs.CompiledBlock.{SourceInstruction, StatedBlock, compiled_block}
 use Rattle.stl_codegen.specs.Instruction.{instruction, in_parameter_order}
 use Rattle.stl_codegen.specs.Order.{is_code_before, is_data_before, is_name_before, sorted_list}
 

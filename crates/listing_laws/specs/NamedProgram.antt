@@ -8,7 +8,7 @@ use Rattle.stl_lexer.specs.declared.kinds.Token.{Token}
 use Rattle.stl_parser.specs.Source.{IsTree}
 use Rattle.stl_symbols.specs.Symbol.{Symbol}
 use Rattle.stl_list.specs.Listing.{listed_source, listed_tree}
-use Rattle.sem_kept.specs.Accepted.{IsAccepted, program_in}
+use Rattle.sem_kept.specs.AcceptedSource.{IsAccepted, program_in}
 use Rattle.listing_laws.specs.Sources.{IsNamedProgram}
 
 -- what each statement of an accepted source's program acts on, calls and passes is named as in a

@@ -7,7 +7,7 @@ use Rattle.machine.specs.Code.{Code}
 use Rattle.machine.specs.Flat.{code_of}
 use Rattle.var_access.specs.declared.What.{What}
 use Rattle.controller.specs.Replay.{entry_result, replay}
-use Rattle.stl_codegen.specs.Compiled.{StatedBlock}
+use Rattle.stl_codegen.specs.CompiledBlock.{StatedBlock}
 use Rattle.sem_kept.specs.Statements.{stated_code, IsCompilable, program_with}
 
 -- of two codes the second does at a profile what the first one means: after every history the mode,

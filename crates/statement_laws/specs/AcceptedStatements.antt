@@ -19,14 +19,14 @@ use Rattle.flat_code.specs.Instr.{Instr}
 use Rattle.frames.specs.declared.Activation.{Activation}
 use Rattle.machine.specs.Code.{Code}
 use Rattle.machine.specs.Statement.{GlobalStore, StatementStep, instruction_step}
-use Rattle.sem_kept.specs.Accepted.{IsAccepted}
-use Rattle.sem_kept.specs.Settled.{HasLabel, context_at}
+use Rattle.sem_kept.specs.AcceptedSource.{IsAccepted}
+use Rattle.sem_kept.specs.SettledStatements.{HasLabel, context_at}
 use Rattle.statement_laws.specs.Calls.{bindings_of, calls_block, parameter_names}
 use Rattle.statement_laws.specs.Effects.{effect_of_statement}
 use Rattle.statement_laws.specs.Jumps.{ends_block, jumps_by_list, jumps_to_target, number_of_label}
 use Rattle.statement_laws.specs.Laws.{Acts, IsNamedActual, is_bit_logic, is_call_instruction, is_comparison, is_data_block_instruction, is_end, is_idle, is_in_family, is_jump_list, is_load_or_transfer, is_number_instruction, is_plain_jump, is_relay, is_shift, is_timing}
-use Rattle.statement_laws.specs.Named.{NamedItem}
-use Rattle.statement_laws.specs.Named as named
+use Rattle.statement_laws.specs.NamedOperands.{NamedItem}
+use Rattle.statement_laws.specs.NamedOperands as named
 use Rattle.statement_laws.specs.Operands.{named_by}
 
 -- ---- what is named

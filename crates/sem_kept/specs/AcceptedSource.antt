@@ -7,7 +7,7 @@ use Rattle.flat_code.specs.Loading.{Verifies}
 use Rattle.flat_code.specs.Programs.{Program}
 use Rattle.stl_ast.specs.Literals.{AreBytes}
 use Rattle.stl_ast.specs.declared.blocks.Tree.{Tree}
-use Rattle.stl_codegen.specs.Generated.{program_of}
+use Rattle.stl_codegen.specs.GeneratedProgram.{program_of}
 use Rattle.stl_lexer.specs.Limits.{source_limit}
 use Rattle.stl_lexer.specs.Tokens.{AreTokens}
 use Rattle.stl_lexer.specs.declared.kinds.Token.{Token}

@@ -27,10 +27,10 @@ use Rattle.flat_code.specs.Forms.{payload_fits, passed_coding as flat_actual, wi
 use Rattle.flat_code.specs.Image.{record_of_block, record_of_param, param_of_record}
 use Rattle.flat_code.specs.Loading.{lens_of, environment_of_block}
 use Rattle.flat_code.specs.Ops.{OpData, is_op}
-use Rattle.flat_code.specs.Placed.{PlacedOp, last_op}
+use Rattle.flat_code.specs.PlacedOps.{PlacedOp, last_op}
 use Rattle.flat_code.specs.Programs.{CodeBlock, DataBlock, Program}
 use Rattle.flat_code.specs.Table.{admits, takes_of}
-use Rattle.image_file.specs.Verified.{IsVerifiedOp, HasParam, FitsPassed, FitsPrepared, block_signatures}
+use Rattle.image_file.specs.VerifiedProgram.{IsVerifiedOp, HasParam, FitsPassed, FitsPrepared, block_signatures}
 use Rattle.machine.specs.Flat.{passings_of, with_passing, numbered_bytes}
 use Rattle.machine.specs.Fitting.{SameSizes, HasLength, len_in}
 use Rattle.machine.specs.ImageLaws.{ImageLaws}

@@ -20,12 +20,12 @@ use Rattle.stl_types.specs.Context.{Context}
 use Rattle.stl_types.specs.Labels.{labels_of}
 use Rattle.stl_types.specs.Parameters.{Callee, callee_of}
 use Rattle.stl_types.specs.Resolution.{resolution_of}
-use Rattle.stl_types.specs.Resolved.{resolved_operand}
+use Rattle.stl_types.specs.ResolvedStatement.{resolved_operand}
 use Rattle.stl_types.specs.declared.views.ResolvedOperand.{ResolvedOperand}
 use Rattle.stl_types.specs.declared.views.ResolvedOperand.TheVariants as resolved
 use Rattle.stl_codegen.specs.Operations.{call_operation_of, jump_operation_of}
-use Rattle.stl_codegen.specs.Passed.{passed_resolution}
-use Rattle.sem_kept.specs.Accepted.{IsAccepted}
+use Rattle.stl_codegen.specs.PassedParameters.{passed_resolution}
+use Rattle.sem_kept.specs.AcceptedSource.{IsAccepted}
 
 -- a jump: its operand is a label of its body
 pub record HasLabel (body : List Statement) (s : Statement) : Type 0 where

@@ -4,7 +4,7 @@ use Rattle.flat_code.specs.declared.image_fields.TheConstants.{SECTION_OUT}
 use Rattle.flat_code.specs.declared.programs.Param.{Param}
 use Rattle.stl_types.specs.Parameters.{system_formals}
 use Rattle.stl_types.specs.declared.parameters.Formal.{Formal}
-use Rattle.stl_list.specs.Joined.{Chains}
+use Rattle.stl_list.specs.JoinedParameters.{Chains}
 use Rattle.stl_list.specs.Signatures.{formals_from, is_behind}
 use Rattle.listing_laws.specs.Passings.{AreNamedApart}
 
