@@ -11,7 +11,7 @@ ghost use Rattle.image_file.specs.OpChecking.{environment_of};
 
 use crate::environments::BlockEnvironment;
 use crate::numbers::{CALL, EDGE_NEGATIVE, JUMP, TRANSFER};
-use flat_code::{Op, Operand, ParameterRecord, Passed, SECTION_IN, taken_by};
+use flat_code::{FUNCTION, Op, Operand, ParameterRecord, Passed, SECTION_IN, taken_by};
 use plc_base::{Area, Width};
 
 /// Whether a bit number stands where no bit is meant.
