@@ -30,8 +30,8 @@ abbrev pub frame_bytes_start : LocalData → ℕ → ℕ
 frame_bytes_start l frame = unwrap_or (slice_get l.starts frame) (length l.bytes)
 
 -- The frames' local bytes lie one behind the other: the outermost frame's begin at 0, and each
--- frame's begin where those of the frame before it end, which is never before its own begin. So
--- none begin past the end of all, and without a frame there are none.
+-- frame's begin where those of the frame before it end, and no frame's bytes end before they begin.
+-- So none begin past the end of all, and without a frame there are none.
 pub record IsLaidOut (l : LocalData) : Type 0 where
   -- the outermost frame's local bytes begin at index 0
   pub begins : frame_bytes_start l 0 ≡ 0

@@ -214,9 +214,9 @@ impl Activation {
         }
     }
 
-    /// Enters the block of the innermost frame once more, with so many local bytes, all 0: its
-    /// frame is there twice, and its block's caller makes the upper one that of another block.
-    /// There is room.
+    /// Puts the frame of the last block once more, as the innermost one, with so many local bytes,
+    /// all 0; whoever calls this makes it the frame of another block. `entry_fault` has nothing
+    /// against it.
     pub fn enter_again(&mut self, local_len: u16)
         requires depth { length self.old.running.locals.starts ≡ length (frames_of self.old) }
         requires few { length (frames_of self.old) < 24 }
@@ -252,7 +252,8 @@ impl Activation {
         Ok(())
     }
 
-    /// Exits the innermost block; the answer says whether its caller goes on. One stands.
+    /// Exits the innermost block; the answer says whether its caller goes on. At
+    /// least one frame stands.
     pub fn exit_block(&mut self) -> bool
         requires { self.old.ended ≡ false }
         ensures { ExitsBlock self.old.below self.old self.new result }

@@ -52,7 +52,7 @@ impl Zones {
         Zones { values }
     }
 
-    // Becomes the same as others. Mostly there are none.
+    // Makes these zones a copy of others. Mostly there are none.
     #[inline(always)]
     #[tactic(auto, using(crate::proofs::Nothing::none_there))]
     fn copy_from(&mut self, other: &Zones)
@@ -117,8 +117,8 @@ impl Relay {
         self.zones.copy_from(&other.zones);
     }
 
-    /// `MCR(`: a zone opens, whose value is RLO and the value of the zone around it. False, with
-    /// nothing changed, where eight are open.
+    /// `MCR(`: a zone opens, whose value is the RLO AND the value of the zone around it. False,
+    /// with nothing changed, where eight are open.
     pub fn open(&mut self, rlo: bool) -> bool
         ensures full { IsFalse result ↔ (length self.old.zones ≡ 8) }
         ensures open { OnTrue result (self.new ≡ zone_opened rlo self.old) }
@@ -132,7 +132,7 @@ impl Relay {
         true
     }
 
-    /// `)MCR`: the last zone ends. False, with nothing changed, where none is open.
+    /// `)MCR`: the innermost open zone ends. False, with nothing changed, where none is open.
     pub fn end(&mut self) -> bool
         ensures none { IsFalse result ↔ (self.old.zones ≡ []) }
         ensures ended { self.new ≡ zone_ended self.old }

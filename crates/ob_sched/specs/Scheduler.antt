@@ -16,8 +16,8 @@ pub record Countdowns : Type 0 where
 
 -- how long the running cycle of OB 1 takes
 pub record CycleTime : Type 0 where
-  -- the cycle counter: milliseconds since the last cycle point, RE_TRIGR or excess of the cycle
-  -- time, from 0 to 150
+  -- the cycle counter: milliseconds since the last cycle point, RE_TRIGR, excess of the cycle time,
+  -- begin of RUN or start of the controller, from 0 to 150
   pub counter : ℕ
   -- the cycle time of 150 ms was exceeded in this cycle
   pub exceeded : Bool

@@ -67,9 +67,9 @@ impl Sched {
         self.disabled.contains(ob)
     }
 
-    /// A request of an organization block: it waits, or it is dropped since the block is disabled, or
-    /// the block isn't loaded, or its queue is full, tested in this order. Only a request that waits
-    /// changes anything.
+    /// A request of an organization block: `Dropped` where the block is disabled, else `NotLoaded`
+    /// where it isn't loaded, else `Full` where its queue is full; else it waits. Only a request that
+    /// waits changes anything.
     pub fn arrive(&mut self, ob: u16, info: StartInfo) -> Arrived
         requires { IsTrue (can_wait ob) }
         ensures answer { result ≡ arrival (scheduler_of self.old) ob }

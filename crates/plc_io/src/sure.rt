@@ -45,7 +45,7 @@ impl Files for SureFiles {
             (ReadsFrom (sure_contents_of self.old.files) name.now at into.new) }
         ensures leaves { LeavesRead (sure_files self.old.files) (sure_files self.new.files)
             name.now result }
-        // Exactly what.
+        // The answer: the number of bytes read. No file changes.
         ensures answer { let rest = length (bytes_or_empty self.old.files name.now) - at in
             result ≡ Ok (min (length into.new) rest) }
         ensures after { self.new.files ≡ self.old.files }
@@ -58,7 +58,7 @@ impl Files for SureFiles {
     fn write_whole(&mut self, name: &str, bytes: &[u8]) -> Result<(), IoFault>
         ensures leaves { LeavesWritten (sure_files self.old.files) (sure_files self.new.files)
             name.now bytes.now result }
-        // Exactly when and what.
+        // Ok: the file has the new bytes. Err, only for want of memory: nothing changed.
         ensures ok { OnOk result (self.new.files ≡ with_file self.old.files name.now bytes.now) }
         ensures err { OnErr result (self.new.files ≡ self.old.files) }
         ensures only_memory { IfErr result (λ fault. fault ≡ IoFault.NoMemory) }
@@ -93,7 +93,7 @@ impl Sink for SureSink {
     fn push(&mut self, bytes: &[u8]) -> Result<usize, IoFault>
         ensures offered { OfferedPiece (told_sink self.old.taken 0) (told_sink self.new.taken 0)
             bytes.now result }
-        // Exactly when and what.
+        // Ok: the whole piece is taken. Err, only for want of memory: nothing is taken.
         ensures whole { IfOk result (λ n. n ≡ length bytes.now) }
         ensures ok { OnOk result (self.new.taken ≡ self.old.taken ++ bytes.now) }
         ensures err { OnErr result (self.new.taken ≡ self.old.taken) }

@@ -90,8 +90,8 @@ fn clear_other_bytes(bytes: &mut [u8])
     bytes[kept..].fill(0);
 }
 
-// The same for a vector of bytes.
-fn clear_other_bits(bytes: &mut Vec<u8>)
+// Makes each byte of a vector 0 but those that a warm restart retains.
+fn clear_other_bytes_in(bytes: &mut Vec<u8>)
     ensures { bytes.new.items ≡ retained_bit_memory bytes.old.items }
 {
     clear_other_bytes(bytes.as_mut_slice());
@@ -211,7 +211,7 @@ impl Memory {
     {
         self.inputs = [0; LOW_BYTES];
         self.outputs = [0; LOW_BYTES];
-        clear_other_bits(&mut self.bit_memory);
+        clear_other_bytes_in(&mut self.bit_memory);
     }
 
     // Memory with these data blocks, in which all else is 0.

@@ -98,7 +98,8 @@ impl PeripheralArea {
         }
     }
 
-    // The same for the upper part, of which the first `skip` bytes are passed over.
+    // The number of the first byte of the upper part that differs from that of `before`, the first
+    // `skip` bytes passed over, if there is one.
     fn next_high_change(&self, before: &PeripheralArea, skip: usize) -> Option<u16>
         ensures first { IsFirstHighChange before.now self.now skip result }
         ensures exists { IfSome result (λ byte. IsTrue (is_peripheral_byte byte)) }

@@ -10,15 +10,15 @@ use Rattle.plc_base.specs.declared.instructions.TimerKind.TheVariants.{Sp, Se, S
 -- a timer of STEP 7: how it was started, the time left, its output, and the edge bits of the start
 -- instructions and of FR, by which these find a rising RLO
 pub record Timer : Type 0 where
-  -- the start instruction that started it: SP, SE, SD, SS or SF
+  -- the start instruction that started the timer: SP, SE, SD, SS or SF
   pub kind : TimerKind
-  -- the time base of its S5TIME: 10 ms, 100 ms, 1 s or 10 s
+  -- the time base of the timer's S5TIME: 10 ms, 100 ms, 1 s or 10 s
   pub base : TimeBase
   -- the time left, in milliseconds
   pub left : ℕ
-  -- whether its time runs
+  -- whether the timer's time runs down
   pub running : Bool
-  -- its output bit, which A, O and X check
+  -- the output bit of the timer, which A, O and X check
   pub output : Bool
   -- the edge bit of the start instructions (SP, SE, SD, SS and SF): the RLO at the last of them, or
   -- 0 after FR cleared it

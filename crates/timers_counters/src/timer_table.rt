@@ -114,7 +114,8 @@ impl Timers {
         Ok(())
     }
 
-    /// `R`: with RLO 1 the timer stops with output 0 and no time left. Its edges stay.
+    /// `R`: with RLO 1 the timer stops with output 0, no time left and time base 10 ms. Its edge
+    /// bits stay.
     ///
     /// # Errors
     ///
@@ -131,7 +132,7 @@ impl Timers {
     }
 
     /// `FR`: on a rising RLO of its own edge clears the start edge, so that the next start
-    /// instruction with RLO 1 starts the timer again.
+    /// instruction with RLO 1 finds a rising RLO.
     ///
     /// # Errors
     ///

@@ -10,15 +10,15 @@ use std::marker::Model;
 /// start instructions and FR find a rising RLO.
 #[derive(Clone, Copy, Debug)]
 pub struct Timer {
-    /// The start instruction that started it: SP, SE, SD, SS or SF.
+    /// The start instruction that started the timer: SP, SE, SD, SS or SF.
     kind: TimerKind,
-    /// The time base of its S5TIME: 10 ms, 100 ms, 1 s or 10 s.
+    /// The time base of the timer's S5TIME: 10 ms, 100 ms, 1 s or 10 s.
     base: TimeBase,
     /// The time left, in milliseconds.
     left: u32,
-    /// Whether its time runs.
+    /// Whether the timer's time runs down.
     running: bool,
-    /// Its output bit, which `A`, `O` and `X` check.
+    /// The output bit of the timer, which `A`, `O` and `X` check.
     output: bool,
     /// The edge bit of the start instructions.
     start_edge: bool,
@@ -141,7 +141,8 @@ impl Timer {
         Ok(())
     }
 
-    /// `R`: with RLO 1 the timer stops with output 0 and no time left. Its edge bits stay.
+    /// `R`: with RLO 1 the timer stops with output 0, no time left and time base 10 ms. Its edge
+    /// bits stay.
     #[tactic(auto, unfolding(crate::specs::Timer::reset_timer))]
     pub fn reset(&mut self, rlo: bool)
         ensures { self.new ≡ reset_timer rlo self.old }

@@ -46,7 +46,7 @@ abbrev pub is_arrivable : ℕ → Bool
 is_arrivable ob = nat_le 10 ob && nat_le ob 17 || nat_le 40 ob && nat_le ob 47
 
 -- what happens is in the ranges: an input is of a peripheral byte that exists, an arrival of an OB
--- that it may request, and a tick has 1 to 60,000 ms
+-- that it may request, a tick has 1 to 60,000 ms, and a request is valid
 abbrev pub IsInRange : What → Type 0
 IsInRange Step = Unit {0}
 IsInRange (Input byte value) = IsTrue (is_peripheral_byte byte)

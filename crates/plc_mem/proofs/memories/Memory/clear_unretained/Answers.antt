@@ -6,7 +6,7 @@ pub invariant_of-self : goal.invariant_of-self
 invariant_of-self c = record {
   inputs = zero_count 128;
   outputs = zero_count 128;
-  bit_memory = rw c.clear_other_bits.ensures (retained_is _ c.self.invariant.bit_memory);
+  bit_memory = rw c.clear_other_bytes_in.ensures (retained_is _ c.self.invariant.bit_memory);
   peripheral_inputs = c.self.invariant.peripheral_inputs;
   peripheral_outputs = c.self.invariant.peripheral_outputs;
   data_blocks = c.self.invariant.data_blocks;
