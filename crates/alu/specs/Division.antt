@@ -33,8 +33,8 @@ abbrev pub with_result : (accumulator : ℕ) → Codes → Regs → Regs
 with_result accumulator codes r = record r { a1 = accumulator; status = codes_shown codes r.status }
 
 -- a division by zero: accumulator 1 stays, CC 1/1, OV 1, OS 1
-abbrev pub divided_by_zero : Regs → Regs
-divided_by_zero r = with_result r.a1 unordered_codes r
+abbrev pub accumulators_divided_by_zero : Regs → Regs
+accumulators_divided_by_zero r = with_result r.a1 unordered_codes r
 
 -- an overflow of the quotient: CC 1/0 and OV 1
 abbrev pub quotient_overflow : Codes
@@ -44,7 +44,7 @@ quotient_overflow = record { cc1 = true; cc0 = false; ov = true }
 -- 1, CC by the quotient; -32768 by -1 gives 16#8000 and 0
 unfoldable pub with_words : (dividend divisor : ℤ) → Regs → Regs
 with_words dividend divisor r =
-    if is_zero divisor then divided_by_zero r
+    if is_zero divisor then accumulators_divided_by_zero r
     else if is_least_by_minus_one 16 dividend divisor then with_result (2 ^ 15) quotient_overflow r
     else with_result
     (modulo 16 (remainder dividend divisor) * 2 ^ 16 + modulo 16 (quotient dividend divisor))
@@ -54,7 +54,7 @@ with_words dividend divisor r =
 -- the result of /D: the quotient in accumulator 1, CC by it; -2147483648 by -1 gives 16#80000000
 unfoldable pub with_quotient : (dividend divisor : ℤ) → Regs → Regs
 with_quotient dividend divisor r =
-    if is_zero divisor then divided_by_zero r
+    if is_zero divisor then accumulators_divided_by_zero r
     else if is_least_by_minus_one 32 dividend divisor then with_result (2 ^ 31) quotient_overflow r
     else with_result (modulo 32 (quotient dividend divisor))
     (of_sign (quotient dividend divisor) false) r
@@ -63,17 +63,17 @@ with_quotient dividend divisor r =
 -- with no overflow
 unfoldable pub with_remainder : (dividend divisor : ℤ) → Regs → Regs
 with_remainder dividend divisor r =
-    if is_zero divisor then divided_by_zero r
+    if is_zero divisor then accumulators_divided_by_zero r
     else with_result (modulo 32 (remainder dividend divisor))
     (of_sign (remainder dividend divisor) false) r
 
 -- /I: the low word of accumulator 2 divided by that of accumulator 1
-abbrev pub divided_i : Regs → Regs
-divided_i r = with_words (signed_value 16 r.a2) (signed_value 16 r.a1) r
+abbrev pub accumulators_divided_i : Regs → Regs
+accumulators_divided_i r = with_words (signed_value 16 r.a2) (signed_value 16 r.a1) r
 
 -- /D: accumulator 2 divided by accumulator 1
-abbrev pub divided_d : Regs → Regs
-divided_d r = with_quotient (signed_value 32 r.a2) (signed_value 32 r.a1) r
+abbrev pub accumulators_divided_d : Regs → Regs
+accumulators_divided_d r = with_quotient (signed_value 32 r.a2) (signed_value 32 r.a1) r
 
 -- MOD: the remainder of accumulator 2 divided by accumulator 1
 abbrev pub remainder_d : Regs → Regs

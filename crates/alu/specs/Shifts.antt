@@ -22,8 +22,8 @@ with_shifted w bits last r = record r {
 
 -- the lowest w bits of accumulator 1 n places left: zeros move in from the right; bit w - n is the
 -- last one out
-unfoldable pub shifted_left : (w n : ℕ) → Regs → Regs
-shifted_left w n r =
+unfoldable pub accumulator_shifted_left : (w n : ℕ) → Regs → Regs
+accumulator_shifted_left w n r =
     let bits = r.a1 % 2 ^ w
     in if n == 0 then r
     else if nat_lt w n then with_shifted w 0 false r
@@ -31,8 +31,8 @@ shifted_left w n r =
 
 -- the lowest w bits of accumulator 1 n places right: zeros move in from the left; bit n - 1 is the
 -- last one out
-unfoldable pub shifted_right : (w n : ℕ) → Regs → Regs
-shifted_right w n r =
+unfoldable pub accumulator_shifted_right : (w n : ℕ) → Regs → Regs
+accumulator_shifted_right w n r =
     let bits = r.a1 % 2 ^ w
     in if n == 0 then r
     else if nat_lt w n then with_shifted w 0 false r
@@ -40,8 +40,8 @@ shifted_right w n r =
 
 -- the integer in the lowest w bits of accumulator 1 n places right: its sign moves in from the
 -- left, so that it is divided by 2 ^ n and rounded down
-unfoldable pub shifted_signed : (w n : ℕ) → Regs → Regs
-shifted_signed w n r =
+unfoldable pub accumulator_shifted_signed : (w n : ℕ) → Regs → Regs
+accumulator_shifted_signed w n r =
     let places = min n w
     in if n == 0 then r
     else with_shifted w (modulo w (int_shr (signed_value w r.a1) places))

@@ -4,7 +4,7 @@ ghost use Rattle.alu.specs.Signed.{format_width};
 ghost use Rattle.plc_base.specs.Changes.{ChangesOrStays};
 ghost use Rattle.alu.specs.Conversions.{accumulator_inverted, accumulator_widened, from_bcd_word, from_bcd_dword, to_bcd_word, to_bcd_dword, with_bcd, with_overflow};
 
-use crate::formats::{Format, dint_of, int_of, low_dword, word_of};
+use crate::formats::{Format, dint_of, int_of, low_dword, accumulator_word};
 use plc_base::{BadBcd, bcd_to_int, bcd7_to_dint, dint_to_bcd7, int_to_bcd};
 use status_word::{Regs, Status};
 
@@ -13,7 +13,7 @@ use status_word::{Regs, Status};
 pub fn inv_i(r: &mut Regs)
     ensures { r.new ≡ accumulator_inverted 16 r.old }
 {
-    let word = word_of(r.a1);
+    let word = accumulator_word(r.a1);
     r.a1 = Format::Int.replace(r.a1, u32::from(!word));
 }
 
@@ -43,7 +43,7 @@ pub fn itd(r: &mut Regs)
 pub fn bti(r: &mut Regs) -> Result<(), BadBcd>
     ensures { ChangesOrStays (from_bcd_word r.old) r.old r.new result }
 {
-    let number = bcd_to_int(word_of(r.a1))?;
+    let number = bcd_to_int(accumulator_word(r.a1))?;
     r.a1 = Format::Int.put(r.a1, i64::from(number));
     Ok(())
 }

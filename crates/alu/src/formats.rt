@@ -115,7 +115,7 @@ pub(crate) fn low_dword(number: i64) -> u32
 }
 
 /// The low word of an accumulator.
-pub(crate) fn word_of(accumulator: u32) -> u16
+pub(crate) fn accumulator_word(accumulator: u32) -> u16
     ensures { result ≡ accumulator % 2 ^ 16 }
 {
     (accumulator % 0x1_0000) as u16
@@ -126,7 +126,7 @@ pub(crate) fn word_of(accumulator: u32) -> u16
 pub(crate) fn int_of(accumulator: u32) -> i16
     ensures { result ≡ signed_value 16 accumulator }
 {
-    word_of(accumulator).cast_signed()
+    accumulator_word(accumulator).cast_signed()
 }
 
 /// The integer of 32 bits in an accumulator.

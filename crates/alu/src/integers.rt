@@ -2,7 +2,7 @@ ghost use Rattle.std.specs.Prelude.{◌≡◌, ◌<◌, ◌≤◌, ◌+◌, ◌*
 ghost use Rattle.alu.specs.Signed.{format_width, signed_value};
 ghost use Rattle.alu.specs.Sums.{with_sum, accumulators_added, accumulators_subtracted, accu_negated};
 ghost use Rattle.alu.specs.Products.{with_product, accumulators_multiplied};
-ghost use Rattle.alu.specs.Division.{quotient, remainder, is_zero, is_least_by_minus_one, with_result, divided_by_zero, divided_i, divided_d, remainder_d};
+ghost use Rattle.alu.specs.Division.{quotient, remainder, is_zero, is_least_by_minus_one, with_result, accumulators_divided_by_zero, accumulators_divided_i, accumulators_divided_d, remainder_d};
 
 use crate::codes::Codes;
 use crate::formats::{Format, low_dword, low_word};
@@ -146,7 +146,7 @@ fn put_result(r: &mut Regs, accumulator: u32, codes: Codes)
 
 /// Shows a division by zero, which leaves accumulator 1.
 fn divide_by_zero(r: &mut Regs)
-    ensures { r.new ≡ divided_by_zero r.old }
+    ensures { r.new ≡ accumulators_divided_by_zero r.old }
 {
     Codes::unordered_codes().show(&mut r.status);
 }
@@ -155,7 +155,7 @@ fn divide_by_zero(r: &mut Regs)
 /// remainder to ACCU 1-H.
 #[tactic(auto, unfolding(crate::specs::Division::with_words))]
 pub fn div_i(r: &mut Regs)
-    ensures { r.new ≡ divided_i r.old }
+    ensures { r.new ≡ accumulators_divided_i r.old }
 {
     let dividend = Format::Int.read(r.a2);
     let divisor = Format::Int.read(r.a1);
@@ -181,7 +181,7 @@ fn two_words(high: u16, low: u16) -> u32
 /// accumulator 1.
 #[tactic(auto, unfolding(crate::specs::Division::with_quotient))]
 pub fn div_d(r: &mut Regs)
-    ensures { r.new ≡ divided_d r.old }
+    ensures { r.new ≡ accumulators_divided_d r.old }
 {
     let dividend = Format::Dint.read(r.a2);
     let divisor = Format::Dint.read(r.a1);

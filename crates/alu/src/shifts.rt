@@ -1,7 +1,7 @@
 ghost use Rattle.std.specs.Prelude.{◌≡◌, ◌<◌, ◌≤◌, ◌%◌, ◌^◌, ◌*◌, ◌+◌, ◌-◌, ◌/◌};
 ghost use Rattle.alu.specs.Signed.{format_width};
-ghost use Rattle.alu.specs.Shifts.{places_of, with_shifted, shifted_left, shifted_right, shifted_signed};
-ghost use Rattle.alu.specs.Rotations.{rotated_left, rotated_right, rotated_left_through, rotated_right_through, turn_of};
+ghost use Rattle.alu.specs.Shifts.{places_of, with_shifted, accumulator_shifted_left, accumulator_shifted_right, accumulator_shifted_signed};
+ghost use Rattle.alu.specs.Rotations.{accumulator_rotated_left, accumulator_rotated_right, accumulator_rotated_left_through, accumulator_rotated_right_through, turn_of};
 
 use crate::codes::Codes;
 use crate::formats::Format;
@@ -35,9 +35,9 @@ fn low_half(wide: u64) -> u32
     (wide % 0x1_0000_0000) as u32
 }
 
-#[tactic(auto, unfolding(crate::specs::Shifts::shifted_left))]
+#[tactic(auto, unfolding(crate::specs::Shifts::accumulator_shifted_left))]
 fn shift_left(r: &mut Regs, format: Format, places: u32)
-    ensures { r.new ≡ shifted_left (format_width format) places r.old }
+    ensures { r.new ≡ accumulator_shifted_left (format_width format) places r.old }
 {
     let bits = format.low_bits(r.a1);
     let width = format.width();
@@ -52,9 +52,9 @@ fn shift_left(r: &mut Regs, format: Format, places: u32)
     put_shifted(r, format, shifted, has_bit(bits, width - places));
 }
 
-#[tactic(auto, unfolding(crate::specs::Shifts::shifted_right))]
+#[tactic(auto, unfolding(crate::specs::Shifts::accumulator_shifted_right))]
 fn shift_right(r: &mut Regs, format: Format, places: u32)
-    ensures { r.new ≡ shifted_right (format_width format) places r.old }
+    ensures { r.new ≡ accumulator_shifted_right (format_width format) places r.old }
 {
     let bits = format.low_bits(r.a1);
     if places == 0 {
@@ -68,9 +68,9 @@ fn shift_right(r: &mut Regs, format: Format, places: u32)
     put_shifted(r, format, shifted, has_bit(bits, places - 1));
 }
 
-#[tactic(auto, unfolding(crate::specs::Shifts::shifted_signed))]
+#[tactic(auto, unfolding(crate::specs::Shifts::accumulator_shifted_signed))]
 fn shift_signed(r: &mut Regs, format: Format, places: u32)
-    ensures { r.new ≡ shifted_signed (format_width format) places r.old }
+    ensures { r.new ≡ accumulator_shifted_signed (format_width format) places r.old }
 {
     let bits = format.low_bits(r.a1);
     let number = format.read(r.a1);
@@ -84,7 +84,7 @@ fn shift_signed(r: &mut Regs, format: Format, places: u32)
 
 /// SSI: shifts ACCU 1-L right as an integer of 16 bits.
 pub fn ssi(r: &mut Regs, count: Option<u8>)
-    ensures { r.new ≡ shifted_signed 16 (places_of count r.old) r.old }
+    ensures { r.new ≡ accumulator_shifted_signed 16 (places_of count r.old) r.old }
 {
     let places = places(r, count);
     shift_signed(r, Format::Int, places);
@@ -92,7 +92,7 @@ pub fn ssi(r: &mut Regs, count: Option<u8>)
 
 /// SSD: shifts accumulator 1 right as an integer of 32 bits.
 pub fn ssd(r: &mut Regs, count: Option<u8>)
-    ensures { r.new ≡ shifted_signed 32 (places_of count r.old) r.old }
+    ensures { r.new ≡ accumulator_shifted_signed 32 (places_of count r.old) r.old }
 {
     let places = places(r, count);
     shift_signed(r, Format::Dint, places);
@@ -100,7 +100,7 @@ pub fn ssd(r: &mut Regs, count: Option<u8>)
 
 /// SLW: shifts ACCU 1-L left.
 pub fn slw(r: &mut Regs, count: Option<u8>)
-    ensures { r.new ≡ shifted_left 16 (places_of count r.old) r.old }
+    ensures { r.new ≡ accumulator_shifted_left 16 (places_of count r.old) r.old }
 {
     let places = places(r, count);
     shift_left(r, Format::Int, places);
@@ -108,7 +108,7 @@ pub fn slw(r: &mut Regs, count: Option<u8>)
 
 /// SRW: shifts ACCU 1-L right.
 pub fn srw(r: &mut Regs, count: Option<u8>)
-    ensures { r.new ≡ shifted_right 16 (places_of count r.old) r.old }
+    ensures { r.new ≡ accumulator_shifted_right 16 (places_of count r.old) r.old }
 {
     let places = places(r, count);
     shift_right(r, Format::Int, places);
@@ -116,7 +116,7 @@ pub fn srw(r: &mut Regs, count: Option<u8>)
 
 /// SLD: shifts accumulator 1 left.
 pub fn sld(r: &mut Regs, count: Option<u8>)
-    ensures { r.new ≡ shifted_left 32 (places_of count r.old) r.old }
+    ensures { r.new ≡ accumulator_shifted_left 32 (places_of count r.old) r.old }
 {
     let places = places(r, count);
     shift_left(r, Format::Dint, places);
@@ -124,7 +124,7 @@ pub fn sld(r: &mut Regs, count: Option<u8>)
 
 /// SRD: shifts accumulator 1 right.
 pub fn srd(r: &mut Regs, count: Option<u8>)
-    ensures { r.new ≡ shifted_right 32 (places_of count r.old) r.old }
+    ensures { r.new ≡ accumulator_shifted_right 32 (places_of count r.old) r.old }
 {
     let places = places(r, count);
     shift_right(r, Format::Dint, places);
@@ -142,7 +142,7 @@ fn turn(places: u32) -> u32
 
 /// The bits shifted left, with room for those that leave.
 #[tactic(auto, using(crate::proofs::Rotations::shifted_fits))]
-fn shifted_wide(bits: u32, places: u32) -> u64
+fn bits_shifted_wide(bits: u32, places: u32) -> u64
     requires { places ≤ 32 }
     ensures { result ≡ bits * 2 ^ places }
 {
@@ -151,28 +151,28 @@ fn shifted_wide(bits: u32, places: u32) -> u64
 
 /// The bits turned left by `places`: what leaves on the left moves in from the right.
 #[tactic(auto, using(crate::proofs::Rotations::turned_bound, crate::proofs::Rotations::turned_left_lem))]
-fn turned_left(bits: u32, places: u32) -> u32
+fn bits_turned_left(bits: u32, places: u32) -> u32
     requires { places ≤ 32 }
     ensures { result ≡ bits * 2 ^ places % 2 ^ 32 + bits / 2 ^ (32 - places) }
 {
-    let wide = shifted_wide(bits, places);
+    let wide = bits_shifted_wide(bits, places);
     low_half(wide) + (wide >> 32) as u32
 }
 
 /// The bits turned right by `places`: what leaves on the right moves in from the left.
 #[tactic(auto, using(crate::proofs::Rotations::turned_bound, crate::proofs::Rotations::turned_right_lem))]
-fn turned_right(bits: u32, places: u32) -> u32
+fn bits_turned_right(bits: u32, places: u32) -> u32
     requires { places ≤ 32 }
     ensures { result ≡ bits / 2 ^ places + bits % 2 ^ places * 2 ^ (32 - places) }
 {
-    let wide = shifted_wide(bits, 32 - places);
+    let wide = bits_shifted_wide(bits, 32 - places);
     low_half(wide) + (wide >> 32) as u32
 }
 
 /// RLD: rotates accumulator 1 left.
-#[tactic(auto, unfolding(crate::specs::Rotations::rotated_left))]
+#[tactic(auto, unfolding(crate::specs::Rotations::accumulator_rotated_left))]
 pub fn rld(r: &mut Regs, count: Option<u8>)
-    ensures { r.new ≡ rotated_left (places_of count r.old) r.old }
+    ensures { r.new ≡ accumulator_rotated_left (places_of count r.old) r.old }
 {
     let places = places(r, count);
     if places == 0 {
@@ -183,15 +183,15 @@ pub fn rld(r: &mut Regs, count: Option<u8>)
     put_shifted(
         r,
         Format::Dint,
-        turned_left(bits, places),
+        bits_turned_left(bits, places),
         has_bit(bits, 32 - places),
     );
 }
 
 /// RRD: rotates accumulator 1 right.
-#[tactic(auto, unfolding(crate::specs::Rotations::rotated_right))]
+#[tactic(auto, unfolding(crate::specs::Rotations::accumulator_rotated_right))]
 pub fn rrd(r: &mut Regs, count: Option<u8>)
-    ensures { r.new ≡ rotated_right (places_of count r.old) r.old }
+    ensures { r.new ≡ accumulator_rotated_right (places_of count r.old) r.old }
 {
     let places = places(r, count);
     if places == 0 {
@@ -202,15 +202,15 @@ pub fn rrd(r: &mut Regs, count: Option<u8>)
     put_shifted(
         r,
         Format::Dint,
-        turned_right(bits, places),
+        bits_turned_right(bits, places),
         has_bit(bits, places - 1),
     );
 }
 
 /// RLDA: rotates accumulator 1 left by one place through CC 1.
-#[tactic(auto, unfolding(crate::specs::Rotations::rotated_left_through))]
+#[tactic(auto, unfolding(crate::specs::Rotations::accumulator_rotated_left_through))]
 pub fn rlda(r: &mut Regs)
-    ensures { r.new ≡ rotated_left_through r.old }
+    ensures { r.new ≡ accumulator_rotated_left_through r.old }
 {
     let bits = r.a1;
     let shifted = low_half(u64::from(bits) * 2) + u32::from(r.status.cc1);
@@ -218,9 +218,9 @@ pub fn rlda(r: &mut Regs)
 }
 
 /// RRDA: rotates accumulator 1 right by one place through CC 1.
-#[tactic(auto, unfolding(crate::specs::Rotations::rotated_right_through))]
+#[tactic(auto, unfolding(crate::specs::Rotations::accumulator_rotated_right_through))]
 pub fn rrda(r: &mut Regs)
-    ensures { r.new ≡ rotated_right_through r.old }
+    ensures { r.new ≡ accumulator_rotated_right_through r.old }
 {
     let bits = r.a1;
     let shifted = bits / 2 + u32::from(r.status.cc1) * 0x8000_0000;

@@ -3,7 +3,7 @@ ghost use Rattle.alu.specs.Signed.{format_width};
 ghost use Rattle.alu.specs.WordLogic.{logic_operand, with_combined, accumulator_anded, accumulator_ored, accumulator_xored};
 
 use crate::codes::Codes;
-use crate::formats::{Format, word_of};
+use crate::formats::{Format, accumulator_word};
 use status_word::Regs;
 
 /// The lowest bits of accumulator 1 and the second operand.
@@ -11,7 +11,7 @@ fn operands(r: &Regs, constant: Option<u16>) -> (u16, u16)
     ensures first { result.0 ≡ r.now.a1 % 2 ^ 16 }
     ensures second { result.1 ≡ logic_operand 16 constant r.now }
 {
-    (word_of(r.a1), constant.unwrap_or(word_of(r.a2)))
+    (accumulator_word(r.a1), constant.unwrap_or(accumulator_word(r.a2)))
 }
 
 /// The bits of accumulator 1 and the second operand.

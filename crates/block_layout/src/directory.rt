@@ -73,7 +73,7 @@ fn number_of(kind: BlockKind, id: Option<BlockId>) -> Option<u16>
     ensures { result ≡ number_of_kind kind id }
 {
     match id {
-        Some(id) if kind.is_same(id.kind) => Some(id.number),
+        Some(id) if kind.is_same_kind(id.kind) => Some(id.number),
         _ => None,
     }
 }

@@ -28,7 +28,7 @@ pub(crate) fn id_of(symbols: &Symbols, block: &Block) -> Option<BlockId>
     ensures { result ≡ id_of symbols.now block.now }
 {
     let id = named_block(symbols, &block.name)?;
-    if block.kind.is_same(id.kind) {
+    if block.kind.is_same_kind(id.kind) {
         Some(id)
     } else {
         None

@@ -22,7 +22,7 @@ use Rattle.machine.specs.Values.{with_locals, number_written_at}
 use Rattle.ob_sched.specs.OrganizationBlock.{is_delay}
 use Rattle.ob_sched.specs.Scheduler.{Scheduler, delay_of, delay_started, delay_cancelled, cycle_retriggered}
 use Rattle.sys_funcs.specs.Disabling.{selection_error_code}
-use Rattle.sys_funcs.specs.Functions.{dis_airt, en_airt, disabled_or_error, dis_irt, en_irt, srt_dint, can_dint, time_tck, with_delay}
+use Rattle.sys_funcs.specs.Functions.{dis_airt, en_airt, interrupts_disabled_or_error, dis_irt, en_irt, srt_dint, can_dint, time_tck, with_delay}
 use Rattle.sys_funcs.specs.Results.{SystemFunctionResult, int_result, with_br_set}
 use Rattle.controller.specs.Leaves.{call_finished, regs_called, running_of, ServesTo, ServesRunning}
 use Rattle.controller.specs.Monitoring.{regs_served}
@@ -51,7 +51,7 @@ en_airt_same s a =
     (int_result s (with_delay (a.delay - 1) a) (a.delay - 1)) (refl, refl) (refl, refl)
 
 set_same : (code : Option ℕ) (disabled : Bool) (mode ob_nr : ℕ) (s : Scheduler) (a : Activation)
-    → Same a (disabled_or_error code disabled mode ob_nr s a).activation
+    → Same a (interrupts_disabled_or_error code disabled mode ob_nr s a).activation
 set_same (Some code) disabled mode ob_nr s a = (refl, refl)
 set_same None disabled mode ob_nr s a = (refl, refl)
 

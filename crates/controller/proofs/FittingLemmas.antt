@@ -37,8 +37,8 @@ use Rattle.ob_sched.specs.StartInformation.{ob_of_error, start_info}
 use Rattle.ob_sched.specs.declared.requests.Pending.{Pending}
 use Rattle.ob_sched.specs.declared.start_infos.StartEvent.TheVariants.{Arrival}
 use Rattle.ob_sched.specs.declared.start_infos.StartInfo.{StartInfo}
-use Rattle.sys_funcs.specs.Disabling.{selection_error_code, selected_disabled}
-use Rattle.sys_funcs.specs.Functions.{dis_airt, en_airt, disabled_or_error, dis_irt, en_irt, srt_dint, can_dint, time_tck, with_delay}
+use Rattle.sys_funcs.specs.Disabling.{selection_error_code, interrupts_disabled}
+use Rattle.sys_funcs.specs.Functions.{dis_airt, en_airt, interrupts_disabled_or_error, dis_irt, en_irt, srt_dint, can_dint, time_tck, with_delay}
 use Rattle.sys_funcs.specs.Results.{SystemFunctionResult, int_result, with_br_set}
 use Rattle.var_access.specs.declared.Request.{Request}
 use Rattle.var_access.specs.declared.Request.TheVariants as ask
@@ -285,10 +285,10 @@ en_airt_fits l p m s a fit is =
 
 set_fits : (l : MachineLaws) (p : Program) (m : Areas) (code : Option ℕ) (disabled : Bool)
     (mode ob_nr : ℕ) (s : Scheduler) (a : Activation) → FitsProgram p m a → HasWholeSchedule s
-    → KeepsReturned p m (disabled_or_error code disabled mode ob_nr s a)
+    → KeepsReturned p m (interrupts_disabled_or_error code disabled mode ob_nr s a)
 set_fits l p m (Some code) disabled mode ob_nr s a fit is = returns l p m s a code fit is
 set_fits l p m None disabled mode ob_nr s a fit is =
-    returns l p m (selected_disabled disabled mode ob_nr s) a 0 fit (all_schedule disabled mode ob_nr s is)
+    returns l p m (interrupts_disabled disabled mode ob_nr s) a 0 fit (all_schedule disabled mode ob_nr s is)
 
 dis_irt_fits : (l : MachineLaws) (p : Program) (m : Areas) (s : Scheduler) (a : Activation)
     (mode ob_nr : ℕ) → FitsProgram p m a → HasWholeSchedule s

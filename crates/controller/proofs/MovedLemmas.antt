@@ -26,7 +26,7 @@ use Rattle.ob_sched.specs.declared.requests.Pending.{Pending}
 use Rattle.ob_sched.specs.declared.start_infos.StartEvent.TheVariants.{Arrival}
 use Rattle.ob_sched.specs.declared.start_infos.StartInfo.{StartInfo}
 use Rattle.sys_funcs.specs.Disabling.{selection_error_code}
-use Rattle.sys_funcs.specs.Functions.{dis_airt, en_airt, dis_irt, en_irt, srt_dint, can_dint, time_tck, disabled_or_error, with_delay}
+use Rattle.sys_funcs.specs.Functions.{dis_airt, en_airt, dis_irt, en_irt, srt_dint, can_dint, time_tck, interrupts_disabled_or_error, with_delay}
 use Rattle.sys_funcs.specs.Results.{SystemFunctionResult, int_result, with_br_set}
 use Rattle.var_access.specs.declared.Reply.{Reply}
 use Rattle.var_access.specs.declared.Request.{Request}
@@ -189,7 +189,7 @@ can_moves f s a n = by (not (is_delay n)) (is_some (delay_of s.countdowns n))
 
 set_moves :
     (f : Positions) (refused : Option ℕ) (disabled : Bool) (mode n : ℕ) (s : Scheduler) (a : Activation)
-    → disabled_or_error refused disabled mode n s (moved_activation f a) ≡ moved_returned f (disabled_or_error refused disabled mode n s a)
+    → interrupts_disabled_or_error refused disabled mode n s (moved_activation f a) ≡ moved_returned f (interrupts_disabled_or_error refused disabled mode n s a)
 set_moves f (Some code) disabled mode n s a = refl
 set_moves f None disabled mode n s a = refl
 

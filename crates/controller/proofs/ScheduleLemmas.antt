@@ -8,11 +8,11 @@ use Rattle.std.proofs.lemmas.Bool.Decides.{nat_tests}
 use Rattle.std.proofs.lemmas.List.{length-set, length-map}
 use Rattle.plc_base.specs.declared.Mode.{Mode}
 use Rattle.plc_base.specs.declared.Mode.TheVariants.{Run, Startup, Stop}
-use Rattle.ob_sched.specs.TickState.{TickState, after_error, time_error, ob_not_loaded, after_request, ob_requested, record_made, stopped_by, lost_event}
+use Rattle.ob_sched.specs.TickState.{TickState, after_error, time_error, ob_not_loaded, after_request, ob_requested, record_made, tick_stopped_by, lost_event}
 use Rattle.ob_sched.specs.Millisecond.{unless_stopped, each_ob, delay_ended, delay_counted, ending_from, period_ended, is_waiting_or_active, period_queued, periods_counted_from, due_from, with_cycle, cycle_counted, time_counted, delays_passed, periods_passed, run_passed, after_ms, tick_begun, after_tick}
 use Rattle.ob_sched.specs.OrganizationBlock.{priority_class, priority_class_in, can_wait, is_delay, is_cyclic, is_time_of_day, is_hardware}
 use Rattle.ob_sched.specs.StartRequest.{StartRequest, request_queued, best_of}
-use Rattle.ob_sched.specs.Scheduler.{Scheduler, arrival, request_arrived, after_arrival, is_ob_disabled, is_ob_loaded, best_removed, delay_started, delay_cancelled, disabled_as, run_begun, sched_stopped, cycle_begun, sched_restarted, cycle_retriggered, sched_at_rest}
+use Rattle.ob_sched.specs.Scheduler.{Scheduler, arrival, request_arrived, after_arrival, is_ob_disabled, is_ob_loaded, best_removed, delay_started, delay_cancelled, ob_disabled_as, run_begun, sched_stopped, cycle_begun, sched_restarted, cycle_retriggered, sched_at_rest}
 use Rattle.ob_sched.specs.StartInformation.{start_info}
 use Rattle.ob_sched.specs.declared.requests.Arrived.{Arrived}
 use Rattle.ob_sched.specs.declared.requests.Arrived.TheVariants.{Queued, Dropped, NotLoaded, Full}
@@ -21,7 +21,7 @@ use Rattle.ob_sched.specs.declared.start_infos.StartInfo.{StartInfo}
 use Rattle.ob_sched.specs.declared.start_infos.StartEvent.{StartEvent}
 use Rattle.ob_sched.specs.declared.start_infos.StartEvent.TheVariants.{CycleTime, Missed, Delay, Period, NotLoaded as OfNotLoaded}
 use Rattle.ob_sched.proofs.CountdownLemmas.{ending_known, due_known, delay_number, cyclic_number}
-use Rattle.sys_funcs.specs.Disabling.{is_interrupt_selected, disabled_if_selected, selected_disabled_from, selected_disabled}
+use Rattle.sys_funcs.specs.Disabling.{is_interrupt_selected, ob_disabled_if_selected, interrupts_disabled_from, interrupts_disabled}
 use Rattle.controller.specs.Fitting.{HasWholeSchedule}
 
 -- what holds of both branches holds of a choice
@@ -108,21 +108,21 @@ cancelled_schedule ob s h = record {
 }
 
 disabled_schedule : (disabled : Bool) (ob : ℕ) (s : Scheduler) → HasWholeSchedule s
-    → HasWholeSchedule (disabled_as disabled ob s)
+    → HasWholeSchedule (ob_disabled_as disabled ob s)
 disabled_schedule disabled ob s h =
     record { pending = h.pending; delays = h.delays; periods = h.periods }
 
 each_schedule : (disabled : Bool) (mode ob_nr ob count : ℕ) (s : Scheduler) → HasWholeSchedule s
-    → HasWholeSchedule (selected_disabled_from disabled mode ob_nr ob count s)
+    → HasWholeSchedule (interrupts_disabled_from disabled mode ob_nr ob count s)
 each_schedule disabled mode ob_nr ob zero s h = h
 each_schedule disabled mode ob_nr ob (suc n) s h =
-    each_schedule disabled mode ob_nr (ob + 1) n (disabled_if_selected (is_interrupt_selected mode ob_nr ob) disabled ob s)
-    (of_either HasWholeSchedule (is_interrupt_selected mode ob_nr ob) (disabled_as disabled ob s) s
+    each_schedule disabled mode ob_nr (ob + 1) n (ob_disabled_if_selected (is_interrupt_selected mode ob_nr ob) disabled ob s)
+    (of_either HasWholeSchedule (is_interrupt_selected mode ob_nr ob) (ob_disabled_as disabled ob s) s
     (disabled_schedule disabled ob s h) h)
 
 pub all_schedule : (disabled : Bool) (mode ob_nr : ℕ) (s : Scheduler) → HasWholeSchedule s
-    → HasWholeSchedule (selected_disabled disabled mode ob_nr s)
-unfolding selected_disabled
+    → HasWholeSchedule (interrupts_disabled disabled mode ob_nr s)
+unfolding interrupts_disabled
 all_schedule disabled mode ob_nr s h = each_schedule disabled mode ob_nr 10 38 s h
 
 -- ---- requests and what they lead to
@@ -284,7 +284,7 @@ cycle_known mode c h =
     of_either TickHasWholeSchedule (nat_lt (c.sched.cycle.counter + 1) 151)
     (with_cycle (c.sched.cycle.counter + 1) c.sched.cycle.exceeded c) _
     (with_cycle_known (c.sched.cycle.counter + 1) c.sched.cycle.exceeded c h)
-    (of_either TickHasWholeSchedule c.sched.cycle.exceeded (stopped_by 10 (with_cycle 0 true c))
+    (of_either TickHasWholeSchedule c.sched.cycle.exceeded (tick_stopped_by 10 (with_cycle 0 true c))
     (time_error mode CycleTime 1 (with_cycle 0 true c))
     (with_cycle_known 0 true c h)
     (time_error_known mode CycleTime 1 (with_cycle 0 true c) (with_cycle_known 0 true c h)))

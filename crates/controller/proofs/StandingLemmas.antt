@@ -10,7 +10,7 @@ use Rattle.plc_base.specs.declared.Mode.TheVariants.{Run, Startup, Stop}
 use Rattle.frames.specs.Activations.{activation_begun}
 use Rattle.frames.specs.declared.Activation.{Activation}
 use Rattle.machine.specs.Code.{Code, BlockHead}
-use Rattle.ob_sched.specs.OrganizationBlock.{can_wait, priority_class_in, is_error}
+use Rattle.ob_sched.specs.OrganizationBlock.{can_wait, priority_class_in, is_asynchronous_error}
 use Rattle.ob_sched.specs.StartRequest.{StartRequest, best_of}
 use Rattle.ob_sched.specs.StartInformation.{ob_of_error}
 use Rattle.ob_sched.specs.declared.requests.Pending.{Pending}
@@ -78,7 +78,7 @@ no_synchronous : (ob : ℕ) → IsTrue (can_wait ob) → is_synchronous ob ≡ f
 no_synchronous ob h = grind (arith, nat_tests)
 
 above_27 : (ob class : ℕ) → IsTrue (can_wait ob) → class ≡ priority_class_in Startup ob → 27 < class
-    → IsTrue (is_error ob)
+    → IsTrue (is_asynchronous_error ob)
 above_27 ob class waits is above = grind (arith, nat_tests)
 
 started_above : (mode : Mode) (class ob : ℕ) (below : List Activation) → is_stop mode ≡ false

@@ -13,7 +13,7 @@ use Rattle.machine.specs.Code.{Code}
 use Rattle.machine.specs.Statement.{GlobalStore, StatementStep, Went, Ended, SyncError, SysCall, Stop as Stops, statement_step}
 use Rattle.machine.specs.declared.outcomes.Outcome.{Outcome}
 use Rattle.machine.specs.declared.outcomes.Outcome.TheVariants as outcome
-use Rattle.ob_sched.specs.OrganizationBlock.{can_wait, is_error}
+use Rattle.ob_sched.specs.OrganizationBlock.{can_wait, is_asynchronous_error}
 use Rattle.controller.specs.CyclePoint.{cycle_point}
 use Rattle.controller.specs.Errors.{error_raised, error_ob_started, error_in, is_synchronous}
 use Rattle.controller.specs.Leaves.{LeavesStatementStep, LeavesStepOf, position_of_running_statement, mode_after, statement_finished}
@@ -169,7 +169,7 @@ is_startup ob h = grind (arith, nat_tests)
 no_startup_waits : (ob : ℕ) → (ob == 100) ≡ true → can_wait ob ≡ true → ⊥
 no_startup_waits ob h waits = grind (arith, nat_tests)
 
-no_startup_error : (ob : ℕ) → (ob == 100) ≡ true → is_error ob ≡ true → ⊥
+no_startup_error : (ob : ℕ) → (ob == 100) ≡ true → is_asynchronous_error ob ≡ true → ⊥
 no_startup_error ob h waits = grind (arith, nat_tests)
 
 -- OB 100 is the lowest one

@@ -6,7 +6,7 @@ use Rattle.std.specs.Prelude.{◌≡◌, ℕ, ◌<◌, ◌≤◌, Bool, true, fa
 use Rattle.plc_base.specs.declared.Mode.{Mode}
 use Rattle.plc_base.specs.declared.Mode.TheVariants.{Run, Startup, Stop}
 use Rattle.frames.specs.declared.Activation.{Activation}
-use Rattle.ob_sched.specs.OrganizationBlock.{can_wait, priority_class_in, is_error}
+use Rattle.ob_sched.specs.OrganizationBlock.{can_wait, priority_class_in, is_asynchronous_error}
 use Rattle.controller.specs.Errors.{is_synchronous}
 
 -- an organization block may be started above these activations: in RUN each that can wait, in
@@ -14,7 +14,7 @@ use Rattle.controller.specs.Errors.{is_synchronous}
 abbrev pub may_ob_be_started : Mode → (ob : ℕ) → (below : List Activation) → Bool
 may_ob_be_started Run ob below = can_wait ob
 may_ob_be_started Startup ob [] = ob == 100
-may_ob_be_started Startup ob (b ∷ below) = is_error ob
+may_ob_be_started Startup ob (b ∷ below) = is_asynchronous_error ob
 may_ob_be_started (Stop cause at) ob below = false
 
 -- a priority class is above that of the first of these activations, if there is one

@@ -143,7 +143,7 @@ impl Relay {
     /// Whether the relay is active and the innermost zone has the value 0, so that writing
     /// instructions write 0 or nothing.
     #[inline(always)]
-    pub fn is_closed(&self) -> bool
+    pub fn is_zone_closed(&self) -> bool
         ensures { result ≡ is_zone_closed self.now }
     {
         self.active && !self.zones.value()

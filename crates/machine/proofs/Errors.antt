@@ -43,7 +43,7 @@ use Rattle.machine.specs.Lasting.{is_error_code}
 use Rattle.machine.specs.Loads.{regs_after_load, regs_after_bcd_load, number_transferred}
 use Rattle.machine.specs.Nesting.{with_open_brackets, nesting_opened, nesting_closed, bracket_closed}
 use Rattle.machine.specs.Relay.{is_writing_off, opening_zone, ending_zone, relay_effect}
-use Rattle.status_word.specs.Brackets.{entry_of, bracket_begun}
+use Rattle.status_word.specs.Brackets.{bracket_entry, bracket_begun}
 use Rattle.machine.specs.Numbers.{from_bcd, number_effect}
 use Rattle.machine.specs.ExecState.{Local, LocalMemory, ExecState, then_ok}
 use Rattle.machine.specs.Places.{error_of, open_block_location, open_area_location, error_of_absent_place, location_number, number_read_at, direct_number, pointer_number, is_aligned, location_at_pointer, pointer_location, is_bit_width, is_area_p, area_location, location_in_named_area, area_crossing_location, register_address, register_location, binding_location, operand_location, no_operand}
@@ -531,7 +531,7 @@ nest_done : (p : ExecState) (with : _) → (length p.local.inner.brackets ≡ 7 
 unfolding nesting_opened
 nest_done p with room = by (length p.local.inner.brackets == 7) refl
   where
-    by : (t : Bool) → (length p.local.inner.brackets == 7) ≡ t → IfKnownError (cond t (Err no_operand) (Ok (with_open_brackets (entry_of with p.local.regs ∷ p.local.inner.brackets) (record p.local { regs = bracket_begun p.local.regs }))))
+    by : (t : Bool) → (length p.local.inner.brackets == 7) ≡ t → IfKnownError (cond t (Err no_operand) (Ok (with_open_brackets (bracket_entry with p.local.regs ∷ p.local.inner.brackets) (record p.local { regs = bracket_begun p.local.regs }))))
     by true e = absurd (room (eqb-true (length p.local.inner.brackets) 7 e))
     by false e = tt
 

@@ -9,7 +9,7 @@ use Rattle.plc_base.specs.declared.BlockId.{BlockId}
 use Rattle.plc_base.specs.declared.blocks.BlockKind.{BlockKind}
 use Rattle.plc_base.specs.declared.blocks.BlockKind.TheVariants as kinds
 use Rattle.plc_mem.specs.Areas.{Areas}
-use Rattle.status_word.specs.Brackets.{entry_of, bracket_begun}
+use Rattle.status_word.specs.Brackets.{bracket_entry, bracket_begun}
 use Rattle.status_word.specs.declared.Bracket.{Bracket}
 use Rattle.plc_base.specs.declared.Check.{Check}
 use Rattle.frames.specs.declared.Activation.{Activation}
@@ -846,7 +846,7 @@ unfolding operation_effect nesting_opened
 nest_erring with o q room = by (eqb (length q.local.inner.brackets) 7) refl
   where
     by : (t : Bool) → eqb (length q.local.inner.brackets) 7 ≡ t
-        → IfErring (operation.Nest with) (on_local q (cond t (Err no_operand) (Ok (with_open_brackets (entry_of with q.local.regs ∷ q.local.inner.brackets) (record q.local { regs = bracket_begun q.local.regs })))))
+        → IfErring (operation.Nest with) (on_local q (cond t (Err no_operand) (Ok (with_open_brackets (bracket_entry with q.local.regs ∷ q.local.inner.brackets) (record q.local { regs = bracket_begun q.local.regs })))))
     by true e = absurd (room (eqb-true (length q.local.inner.brackets) 7 e))
     by false e = tt
 

@@ -7,7 +7,7 @@ use Rattle.plc_base.specs.declared.Width.TheVariants as widths
 use Rattle.plc_mem.specs.Areas.{Areas}
 use Rattle.plc_mem.specs.Writing.{put_number, number_written}
 use Rattle.plc_mem.proofs.Runs.{length-put, mapped_value, chained_value}
-use Rattle.status_word.specs.Brackets.{entry_of, bracket_begun}
+use Rattle.status_word.specs.Brackets.{bracket_entry, bracket_begun}
 use Rattle.status_word.specs.Store.{after_store}
 use Rattle.status_word.specs.declared.Bracket.{Bracket}
 use Rattle.plc_base.specs.declared.Check.{Check}
@@ -300,7 +300,7 @@ nesting_keeps with p = by (length p.local.inner.brackets == 7)
   where
     by : (full : Bool)
         → IfDone (Keeps (operation.Nest with) p) (on_local p (if full then Err no_operand
-        else Ok (with_open_brackets (entry_of with p.local.regs ∷ p.local.inner.brackets) (record p.local { regs = bracket_begun p.local.regs }))))
+        else Ok (with_open_brackets (bracket_entry with p.local.regs ∷ p.local.inner.brackets) (record p.local { regs = bracket_begun p.local.regs }))))
     by true = tt
     by false = record {
       memory = same_sizes p.memory;

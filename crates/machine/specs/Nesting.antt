@@ -3,7 +3,7 @@
 use Rattle.std.specs.Prelude.{ℕ, ◌==◌, length, if◌then◌else◌, List, [], ◌∷◌, Result, Ok, Err}
 use Rattle.plc_base.specs.declared.Check.{Check}
 use Rattle.flat_code.specs.PlacedOps.{most_brackets}
-use Rattle.status_word.specs.Brackets.{entry_of, bracket_begun, bracket_ended}
+use Rattle.status_word.specs.Brackets.{bracket_entry, bracket_begun, bracket_ended}
 use Rattle.status_word.specs.declared.Bracket.{Bracket}
 use Rattle.machine.specs.ExecState.{Local}
 use Rattle.machine.specs.Places.{no_operand}
@@ -17,7 +17,7 @@ with_open_brackets brackets s = record s { inner = record s.inner { brackets = b
 unfoldable pub nesting_opened : Check → Local → Result Local ℕ
 nesting_opened with s =
     if length s.inner.brackets == most_brackets then Err no_operand
-    else Ok (with_open_brackets (entry_of with s.regs ∷ s.inner.brackets)
+    else Ok (with_open_brackets (bracket_entry with s.regs ∷ s.inner.brackets)
     (record s { regs = bracket_begun s.regs }))
 
 -- the innermost of these open brackets is closed; a `)` without an open bracket stands in no

@@ -16,11 +16,11 @@ use Rattle.flat_code.specs.declared.operations.Shift.TheVariants as shift
 use Rattle.alu.specs.Accumulators.{accumulators_toggled, accumulator_pushed, accumulator_popped, with_word_reversed, with_bytes_reversed, accumulator_increased, accumulator_decreased}
 use Rattle.alu.specs.Sums.{accumulators_added, accumulators_subtracted, accu_negated}
 use Rattle.alu.specs.Products.{accumulators_multiplied}
-use Rattle.alu.specs.Division.{divided_i, divided_d, remainder_d}
+use Rattle.alu.specs.Division.{accumulators_divided_i, accumulators_divided_d, remainder_d}
 use Rattle.alu.specs.Conversions.{accumulator_inverted, accumulator_widened, from_bcd_word, from_bcd_dword, to_bcd_word, to_bcd_dword}
 use Rattle.alu.specs.WordLogic.{accumulator_anded, accumulator_ored, accumulator_xored}
-use Rattle.alu.specs.Shifts.{places_of, shifted_left, shifted_right, shifted_signed}
-use Rattle.alu.specs.Rotations.{rotated_left, rotated_right, rotated_left_through, rotated_right_through}
+use Rattle.alu.specs.Shifts.{places_of, accumulator_shifted_left, accumulator_shifted_right, accumulator_shifted_signed}
+use Rattle.alu.specs.Rotations.{accumulator_rotated_left, accumulator_rotated_right, accumulator_rotated_left_through, accumulator_rotated_right_through}
 
 -- registers after a conversion from BCD; error code 21 where a digit or the sign isn't one of BCD
 abbrev pub from_bcd : Option Regs → Result Regs ℕ
@@ -36,11 +36,11 @@ number_effect accu_operation.Cad r = Ok (with_bytes_reversed r)
 number_effect accu_operation.AddI r = Ok (accumulators_added 16 r)
 number_effect accu_operation.SubI r = Ok (accumulators_subtracted 16 r)
 number_effect accu_operation.MulI r = Ok (accumulators_multiplied 16 r)
-number_effect accu_operation.DivI r = Ok (divided_i r)
+number_effect accu_operation.DivI r = Ok (accumulators_divided_i r)
 number_effect accu_operation.AddD r = Ok (accumulators_added 32 r)
 number_effect accu_operation.SubD r = Ok (accumulators_subtracted 32 r)
 number_effect accu_operation.MulD r = Ok (accumulators_multiplied 32 r)
-number_effect accu_operation.DivD r = Ok (divided_d r)
+number_effect accu_operation.DivD r = Ok (accumulators_divided_d r)
 number_effect accu_operation.Mod r = Ok (remainder_d r)
 number_effect accu_operation.Bti r = from_bcd (from_bcd_word r)
 number_effect accu_operation.Itb r = Ok (to_bcd_word r)
@@ -51,8 +51,8 @@ number_effect accu_operation.Invi r = Ok (accumulator_inverted 16 r)
 number_effect accu_operation.Invd r = Ok (accumulator_inverted 32 r)
 number_effect accu_operation.Negi r = Ok (accu_negated 16 r)
 number_effect accu_operation.Negd r = Ok (accu_negated 32 r)
-number_effect accu_operation.Rlda r = Ok (rotated_left_through r)
-number_effect accu_operation.Rrda r = Ok (rotated_right_through r)
+number_effect accu_operation.Rlda r = Ok (accumulator_rotated_left_through r)
+number_effect accu_operation.Rrda r = Ok (accumulator_rotated_right_through r)
 
 -- the constant of an operand, cut to w bits; None where there is no operand
 abbrev pub constant_in : (w : ℕ) → Operand → Option ℕ
@@ -83,11 +83,11 @@ word_logic_effect logic.Xod o r = accumulator_xored 32 (constant_in 32 o) r
 
 -- registers after a shift or rotation, by a constant or the lowest byte of accumulator 2
 unfoldable pub shift_effect : Shift → Operand → Regs → Regs
-shift_effect shift.Ssi o r = shifted_signed 16 (places_of (constant_in 8 o) r) r
-shift_effect shift.Ssd o r = shifted_signed 32 (places_of (constant_in 8 o) r) r
-shift_effect shift.Slw o r = shifted_left 16 (places_of (constant_in 8 o) r) r
-shift_effect shift.Srw o r = shifted_right 16 (places_of (constant_in 8 o) r) r
-shift_effect shift.Sld o r = shifted_left 32 (places_of (constant_in 8 o) r) r
-shift_effect shift.Srd o r = shifted_right 32 (places_of (constant_in 8 o) r) r
-shift_effect shift.Rld o r = rotated_left (places_of (constant_in 8 o) r) r
-shift_effect shift.Rrd o r = rotated_right (places_of (constant_in 8 o) r) r
+shift_effect shift.Ssi o r = accumulator_shifted_signed 16 (places_of (constant_in 8 o) r) r
+shift_effect shift.Ssd o r = accumulator_shifted_signed 32 (places_of (constant_in 8 o) r) r
+shift_effect shift.Slw o r = accumulator_shifted_left 16 (places_of (constant_in 8 o) r) r
+shift_effect shift.Srw o r = accumulator_shifted_right 16 (places_of (constant_in 8 o) r) r
+shift_effect shift.Sld o r = accumulator_shifted_left 32 (places_of (constant_in 8 o) r) r
+shift_effect shift.Srd o r = accumulator_shifted_right 32 (places_of (constant_in 8 o) r) r
+shift_effect shift.Rld o r = accumulator_rotated_left (places_of (constant_in 8 o) r) r
+shift_effect shift.Rrd o r = accumulator_rotated_right (places_of (constant_in 8 o) r) r

@@ -114,7 +114,7 @@ pub(crate) fn transfer(operand: &Operand, s: &mut Running, m: &mut Memory) -> Re
     ensures { ChangesLocalMemory (local_memory_after_transfer operand.now (local_of s.old) m.old)
         s.old s.new m.old m.new result }
 {
-    let number = if s.frame.relay.is_closed() {
+    let number = if s.frame.relay.is_zone_closed() {
         0
     } else {
         s.regs.a1

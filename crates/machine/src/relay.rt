@@ -12,7 +12,7 @@ use frames::Running;
 pub(crate) fn power_flow(s: &Running) -> bool
     ensures { result ≡ power_flow_of (local_of s.now) }
 {
-    s.regs.status.rlo && !s.frame.relay.is_closed()
+    s.regs.status.rlo && !s.frame.relay.is_zone_closed()
 }
 
 // MCR(. The status bits change once the zone is open.

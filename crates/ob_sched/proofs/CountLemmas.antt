@@ -4,7 +4,7 @@ use Rattle.std.specs.Prelude.{is_some, nat_lt}
 use Rattle.std.specs.Fn.{iterate}
 use Rattle.plc_base.specs.declared.Mode.{Mode}
 use Rattle.plc_base.specs.declared.Mode.TheVariants.{Run, Startup, Stop}
-use Rattle.ob_sched.specs.TickState.{TickState, after_error, time_error, ob_not_loaded, after_request, ob_requested, record_made, stopped_by, lost_event}
+use Rattle.ob_sched.specs.TickState.{TickState, after_error, time_error, ob_not_loaded, after_request, ob_requested, record_made, tick_stopped_by, lost_event}
 use Rattle.ob_sched.specs.Millisecond.{unless_stopped, each_ob, delay_ended, delay_counted, ending_from, period_ended, is_waiting_or_active, period_queued, periods_counted_from, due_from, with_cycle, cycle_counted, time_counted, delays_passed, periods_passed, run_passed, after_ms}
 use Rattle.ob_sched.specs.OrganizationBlock.{priority_class_in}
 use Rattle.ob_sched.specs.Scheduler.{arrival, request_arrived, is_ob_disabled, is_ob_loaded}
@@ -61,7 +61,7 @@ cycle_counted-keeps : (mode : Mode) (c : TickState) → KeepsMs (cycle_counted m
 unfolding cycle_counted
 cycle_counted-keeps mode c = by (nat_lt (c.sched.cycle.counter + 1) 151) c.sched.cycle.exceeded
   where
-    by : (a b : Bool) → KeepsMs (if a then with_cycle (c.sched.cycle.counter + 1) c.sched.cycle.exceeded c else if b then stopped_by 10 (with_cycle 0 true c) else time_error mode CycleTime 1 (with_cycle 0 true c)) c
+    by : (a b : Bool) → KeepsMs (if a then with_cycle (c.sched.cycle.counter + 1) c.sched.cycle.exceeded c else if b then tick_stopped_by 10 (with_cycle 0 true c) else time_error mode CycleTime 1 (with_cycle 0 true c)) c
     by true b = refl
     by false true = refl
     by false false = time_error-keeps mode CycleTime 1 (with_cycle 0 true c)

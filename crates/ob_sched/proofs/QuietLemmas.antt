@@ -8,7 +8,7 @@ use Rattle.std.proofs.lemmas.List.{drop_all}
 use Rattle.std.proofs.Math.Seq.{drop-cons}
 use Rattle.plc_base.specs.declared.Mode.{Mode}
 use Rattle.plc_base.specs.declared.Mode.TheVariants.{Run, Startup, Stop}
-use Rattle.ob_sched.specs.TickState.{TickState, stopped_by, time_error}
+use Rattle.ob_sched.specs.TickState.{TickState, tick_stopped_by, time_error}
 use Rattle.ob_sched.specs.OrganizationBlock.{period_of}
 use Rattle.ob_sched.specs.declared.start_infos.StartEvent.TheVariants.{CycleTime}
 use Rattle.ob_sched.specs.Millisecond.{delay_counted, is_ending, ending_from, periods_counted_from, due_from, delays_passed, periods_passed, cycle_counted, with_cycle, run_passed, time_counted, after_ms, unless_stopped, delay_ended, period_ended, each_ob, clock_counted}
@@ -94,7 +94,7 @@ cycle_quiet : (mode : Mode) (c : TickState) → c.sched.cycle.counter + 2 ≤ 15
 unfolding cycle_counted
 cycle_quiet mode c h =
     let counter = c.sched.cycle.counter in
-    let later : TickState = if c.sched.cycle.exceeded then stopped_by 10 (with_cycle 0 true c) else time_error mode CycleTime 1 (with_cycle 0 true c) in
+    let later : TickState = if c.sched.cycle.exceeded then tick_stopped_by 10 (with_cycle 0 true c) else time_error mode CycleTime 1 (with_cycle 0 true c) in
     ap (λ (b : Bool). if b then with_cycle (counter + 1) c.sched.cycle.exceeded c else later) (within counter h)
   where
     within : (a : ℕ) → a + 2 ≤ 151 → nat_lt (a + 1) 151 ≡ true

@@ -7,15 +7,15 @@ use Rattle.std.proofs.lemmas.Bool.Decides.{nat_tests}
 use Rattle.std.proofs.lemmas.List.Sorted.{IsPermutation-insert}
 use Rattle.plc_base.specs.declared.Mode.{Mode}
 use Rattle.plc_base.specs.declared.Mode.TheVariants.{Run, Startup, Stop}
-use Rattle.ob_sched.specs.OrganizationBlock.{can_wait, is_error, priority_class, priority_class_in}
+use Rattle.ob_sched.specs.OrganizationBlock.{can_wait, is_asynchronous_error, priority_class, priority_class_in}
 use Rattle.ob_sched.specs.Ranking.{NumberedRequest, rank_in, Outranks, OutranksAll, IsRanked, ArrivedBefore, QueuedJoins, BestOutranksAll, StartedLeaves}
 use Rattle.ob_sched.specs.StartRequest.{StartRequest, request_queued, best_of}
 use Rattle.ob_sched.specs.declared.requests.Pending.{Pending}
 
 -- the class of those that can wait, with the class in STARTUP
 pub record Classes (ob : ℕ) : Type 0 where
-  pub errors : is_error ob ≡ true → priority_class ob ≡ 26
-  pub others : is_error ob ≡ false → priority_class ob ≤ 23
+  pub errors : is_asynchronous_error ob ≡ true → priority_class ob ≡ 26
+  pub others : is_asynchronous_error ob ≡ false → priority_class ob ≤ 23
 
 classes : (ob : ℕ) → can_wait ob ≡ true → Classes ob
 classes ob h = record { errors = λ e. grind (arith, nat_tests, e); others = λ e. grind (arith, nat_tests, h, e) }
@@ -40,7 +40,7 @@ lower_in Run a b h k lt = lt
 lower_in Startup a b h k lt =
     let x = classes a h in
     let y = classes b k in
-    startup_lower (is_error a) (is_error b) (priority_class a) (priority_class b) x.errors x.others y.errors y.others lt
+    startup_lower (is_asynchronous_error a) (is_asynchronous_error b) (priority_class a) (priority_class b) x.errors x.others y.errors y.others lt
 lower_in (Stop cause at) a b h k lt = lt
 
 same_in : (mode : Mode) (a b : ℕ) → can_wait a ≡ true → can_wait b ≡ true → priority_class a ≡ priority_class b → priority_class_in mode a ≡ priority_class_in mode b
@@ -48,7 +48,7 @@ same_in Run a b h k e = e
 same_in Startup a b h k e =
     let x = classes a h in
     let y = classes b k in
-    startup_same (is_error a) (is_error b) (priority_class a) (priority_class b) x.errors x.others y.errors y.others e
+    startup_same (is_asynchronous_error a) (is_asynchronous_error b) (priority_class a) (priority_class b) x.errors x.others y.errors y.others e
 same_in (Stop cause at) a b h k e = e
 
 -- the place of a request that arrives last: before the first of a lower class

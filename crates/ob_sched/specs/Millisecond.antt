@@ -9,7 +9,7 @@ use Rattle.ob_sched.specs.OrganizationBlock.{priority_class_in, period_of}
 use Rattle.ob_sched.specs.StartRequest.{waiting_count, request_queued}
 use Rattle.ob_sched.specs.Scheduler.{Scheduler, Countdowns, is_ob_loaded, is_ob_disabled}
 use Rattle.ob_sched.specs.StartInformation.{start_info}
-use Rattle.ob_sched.specs.TickState.{TickState, stopped_by, time_error, ob_requested}
+use Rattle.ob_sched.specs.TickState.{TickState, tick_stopped_by, time_error, ob_requested}
 use Rattle.ob_sched.specs.declared.start_infos.StartEvent.TheVariants.{Delay, Period, CycleTime, Missed}
 
 -- a step of a tick that is left out once the tick has a stop cause
@@ -104,7 +104,7 @@ unfoldable pub cycle_counted : Mode → TickState → TickState
 cycle_counted mode c =
     let counter : ℕ = c.sched.cycle.counter + 1 in
     if nat_lt counter 151 then with_cycle counter c.sched.cycle.exceeded c
-    else if c.sched.cycle.exceeded then stopped_by causes.cycle_time_twice (with_cycle 0 true c)
+    else if c.sched.cycle.exceeded then tick_stopped_by causes.cycle_time_twice (with_cycle 0 true c)
     else time_error mode CycleTime 1 (with_cycle 0 true c)
 
 -- a tick with one millisecond more, in which the clock of TIME_TCK counts it

@@ -25,12 +25,12 @@ abbrev pub is_interrupt : ℕ → Bool
 is_interrupt ob = is_time_of_day ob || is_delay ob || is_cyclic ob || is_hardware ob
 
 -- the OB is one of an asynchronous error: OB 80, time error, or OB 85, program sequence error
-abbrev pub is_error : ℕ → Bool
-is_error ob = ob == 80 || ob == 85
+abbrev pub is_asynchronous_error : ℕ → Bool
+is_asynchronous_error ob = ob == 80 || ob == 85
 
 -- requests of the OB can be pending: the program cycle OB 1, the interrupts, OB 80 and OB 85
 abbrev pub can_wait : ℕ → Bool
-can_wait ob = ob == 1 || is_interrupt ob || is_error ob
+can_wait ob = ob == 1 || is_interrupt ob || is_asynchronous_error ob
 
 -- the OB has a priority class of its own: each OB whose requests can be pending, and OB 100,
 -- startup, which starts at once
@@ -58,7 +58,7 @@ priority_class ob =
 -- it is the one in RUN
 abbrev pub priority_class_in : Mode → ℕ → ℕ
 priority_class_in Run ob = priority_class ob
-priority_class_in Startup ob = if is_error ob then 28 else priority_class ob
+priority_class_in Startup ob = if is_asynchronous_error ob then 28 else priority_class ob
 priority_class_in (Stop cause at) ob = priority_class ob
 
 -- how many requests of an OB can be pending at once

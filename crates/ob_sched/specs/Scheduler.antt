@@ -99,8 +99,8 @@ abbrev pub best_removed : Scheduler → Scheduler
 best_removed s = record s { pending = drop 1 s.pending }
 
 -- the scheduler in which one OB is disabled (SFC 39, DIS_IRT) or enabled (SFC 40, EN_IRT)
-abbrev pub disabled_as : Bool → ℕ → Scheduler → Scheduler
-disabled_as disabled ob s = record s { disabled = slice_set s.disabled ob disabled }
+abbrev pub ob_disabled_as : Bool → ℕ → Scheduler → Scheduler
+ob_disabled_as disabled ob s = record s { disabled = slice_set s.disabled ob disabled }
 
 -- the countdowns in which the delay of an OB from 20 to 23 has so many milliseconds left, or isn't
 -- started

@@ -1,7 +1,7 @@
 -- The start information of an organization block: its first 20 local bytes.
 use Rattle.std.specs.Prelude.{ℕ, ◌+◌, ◌-◌, ◌/◌, ◌%◌, ◌||◌, ◌==◌, nat_lt, IsTrue, List, [], ◌∷◌, ◌++◌, replicate, if◌then◌else◌}
 use Rattle.plc_base.specs.ErrorCodes as errors
-use Rattle.ob_sched.specs.OrganizationBlock.{is_error, is_time_of_day, is_delay, is_cyclic, is_hardware}
+use Rattle.ob_sched.specs.OrganizationBlock.{is_asynchronous_error, is_time_of_day, is_delay, is_cyclic, is_hardware}
 use Rattle.ob_sched.specs.declared.start_infos.StartInfo.{StartInfo}
 use Rattle.ob_sched.specs.declared.start_infos.StartEvent.{StartEvent}
 use Rattle.ob_sched.specs.declared.start_infos.StartEvent.TheVariants.{Cycle, Startup, Arrival, Delay, Period, CycleTime, Missed, QueueFull, NotLoaded, Synchronous}
@@ -36,7 +36,7 @@ IsEvent event = Unit {0}
 -- byte 0 of the start information, the event class, by the OB that starts
 abbrev pub event_class : ℕ → ℕ
 event_class ob =
-    if is_error ob then 0x35
+    if is_asynchronous_error ob then 0x35
     else if ob == 100 then 0x13
     else if ob == 121 then 0x25
     else if ob == 122 then 0x29

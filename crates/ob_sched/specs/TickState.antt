@@ -40,8 +40,8 @@ abbrev pub with_stop : ℕ → TickResult → TickResult
 with_stop cause passed = record passed { stop = Some cause }
 
 -- a tick that ends in STOP by a cause; its scheduler, milliseconds and records stay
-abbrev pub stopped_by : ℕ → TickState → TickState
-stopped_by cause c = record c { passed = with_stop cause c.passed }
+abbrev pub tick_stopped_by : ℕ → TickState → TickState
+tick_stopped_by cause c = record c { passed = with_stop cause c.passed }
 
 -- a tick after a request of an error OB, by what became of the request: where the OB isn't loaded
 -- the controller stops with the cause; where one request of the OB is pending already the new one
@@ -49,7 +49,7 @@ stopped_by cause c = record c { passed = with_stop cause c.passed }
 abbrev pub after_error : ℕ → ℕ → Arrived → TickState → TickState
 after_error ob cause Queued c = c
 after_error ob cause Dropped c = c
-after_error ob cause NotLoaded c = stopped_by cause c
+after_error ob cause NotLoaded c = tick_stopped_by cause c
 after_error ob cause Full c = record_made 2 ob c
 
 -- a tick after a request of OB 80 or OB 85, whose start information has the OB's priority class in

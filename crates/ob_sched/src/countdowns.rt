@@ -119,7 +119,7 @@ fn shorten_periods(periods: &mut [u32], ms: u32)
 
 /// The lesser of a number and the milliseconds left of a delay; the number where the delay isn't
 /// started.
-fn lesser(least: u32, delay: Option<u32>) -> u32
+fn lesser_left(least: u32, delay: Option<u32>) -> u32
     ensures bound { result ≤ least }
     ensures lasts { DelayLasts result delay }
 {
@@ -135,7 +135,7 @@ fn least_delay(delays: &[Option<u32>]) -> u32
 {
     let mut least = u32::MAX;
     for delay in delays {
-        least = lesser(least, *delay);
+        least = lesser_left(least, *delay);
     }
     least
 }

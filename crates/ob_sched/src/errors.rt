@@ -1,6 +1,6 @@
 ghost use Rattle.std.specs.Prelude.{◌≡◌, IsTrue};
 ghost use Rattle.ob_sched.specs.TickState.{time_error, ob_not_loaded, ob_requested, error_requested, lost_event};
-ghost use Rattle.ob_sched.specs.OrganizationBlock.{can_wait, is_error};
+ghost use Rattle.ob_sched.specs.OrganizationBlock.{can_wait, is_asynchronous_error};
 ghost use Rattle.ob_sched.specs.StartInformation.{IsEvent};
 ghost use Rattle.ob_sched.specs.Views.{tick_state_of};
 
@@ -44,7 +44,7 @@ impl Sched {
         event: StartEvent,
         passed: &mut TickResult,
     )
-        requires error { IsTrue (is_error ob) }
+        requires error { IsTrue (is_asynchronous_error ob) }
         requires event { IsEvent event }
         ensures { tick_state_of self.new passed.new
             ≡ error_requested mode ob cause event (tick_state_of self.old passed.old) }
@@ -78,7 +78,7 @@ impl Sched {
     /// A request of an organization block that isn't loaded, which is recorded, and requests OB
     /// 85.
     #[tactic(auto, unfolding(crate::specs::TickState::ob_not_loaded))]
-    fn not_loaded(&mut self, mode: Mode, ob: u16, passed: &mut TickResult)
+    fn request_not_loaded(&mut self, mode: Mode, ob: u16, passed: &mut TickResult)
         ensures { tick_state_of self.new passed.new
             ≡ ob_not_loaded mode ob (tick_state_of self.old passed.old) }
     {
@@ -104,7 +104,7 @@ impl Sched {
     {
         match self.arrive(ob, info) {
             Arrived::Queued | Arrived::Dropped => {}
-            Arrived::NotLoaded => self.not_loaded(mode, ob, passed),
+            Arrived::NotLoaded => self.request_not_loaded(mode, ob, passed),
             Arrived::Full => self.time_error(mode, lost_event(ob), ob, passed),
         }
     }

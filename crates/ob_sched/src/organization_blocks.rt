@@ -1,5 +1,5 @@
 ghost use Rattle.std.specs.Prelude.{◌≡◌, ◌<◌, IsTrue};
-ghost use Rattle.ob_sched.specs.OrganizationBlock.{is_ob, has_priority_class, is_error, is_hardware, can_wait, priority_class, priority_class_in, queue_length, period_of};
+ghost use Rattle.ob_sched.specs.OrganizationBlock.{is_ob, has_priority_class, is_asynchronous_error, is_hardware, can_wait, priority_class, priority_class_in, queue_length, period_of};
 
 use plc_base::Mode;
 
@@ -19,8 +19,8 @@ pub fn is_ob(ob: u16) -> bool
 }
 
 /// Whether it is the organization block of an asynchronous error, OB 80 or OB 85.
-pub(crate) fn is_error(ob: u16) -> bool
-    ensures { result ≡ is_error ob }
+pub(crate) fn is_asynchronous_error(ob: u16) -> bool
+    ensures { result ≡ is_asynchronous_error ob }
 {
     ob == 80 || ob == 85
 }
@@ -56,7 +56,7 @@ pub fn class_in(mode: Mode, ob: u16) -> u8
     ensures { result ≡ priority_class_in mode ob }
 {
     match mode {
-        Mode::Startup if is_error(ob) => 28,
+        Mode::Startup if is_asynchronous_error(ob) => 28,
         _ => class_of(ob),
     }
 }

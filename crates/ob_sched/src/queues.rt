@@ -17,7 +17,7 @@ use std::alloc::Global;
 const BINS: usize = 32;
 
 /// The bit of bin n in the bitmap.
-fn bit(n: usize) -> u32
+fn bin_bit(n: usize) -> u32
     requires { n < 32 }
     ensures { result ≡ 2 ^ n }
 {
@@ -66,7 +66,7 @@ impl Bins {
         let n = usize::from(class_of(ob));
         let bin = &mut self.bins[n];
         bin.waiting.push((ob, info));
-        self.map |= bit(n);
+        self.map |= bin_bit(n);
     }
 
     /// The number of the highest bin in which a request waits.
@@ -115,7 +115,7 @@ impl Bins {
             let bin = &mut self.bins[n];
             bin.waiting.remove(0);
             if bin.waiting.is_empty() {
-                self.map &= !bit(n);
+                self.map &= !bin_bit(n);
             }
         }
     }

@@ -2,7 +2,7 @@ ghost use Rattle.std.specs.Prelude.{◌≡◌, ◌≤◌, ◌<◌, ◌^◌, IsTr
 ghost use Rattle.ob_sched.specs.Bin.{IsListedByClass, IsBitmapOf};
 ghost use Rattle.ob_sched.specs.OrganizationBlock.{can_wait, is_ob, is_delay};
 ghost use Rattle.ob_sched.specs.StartRequest.{best_of, IsBest};
-ghost use Rattle.ob_sched.specs.Scheduler.{sched_at_rest, is_ob_loaded, is_ob_disabled, arrival, request_arrived, best_removed, disabled_as, delay_of, delay_started, delay_cancelled, cycle_retriggered, cycle_begun, run_begun, sched_stopped, sched_restarted};
+ghost use Rattle.ob_sched.specs.Scheduler.{sched_at_rest, is_ob_loaded, is_ob_disabled, arrival, request_arrived, best_removed, ob_disabled_as, delay_of, delay_started, delay_cancelled, cycle_retriggered, cycle_begun, run_begun, sched_stopped, sched_restarted};
 ghost use Rattle.ob_sched.specs.Views.{scheduler_of, pending_of};
 
 use crate::bins::Bins;
@@ -111,7 +111,7 @@ impl Sched {
     /// Disables an organization block (SFC 39, DIS_IRT): its requests are dropped from now on.
     pub fn disable(&mut self, ob: u16)
         requires { IsTrue (is_ob ob) }
-        ensures { scheduler_of self.new ≡ disabled_as true ob (scheduler_of self.old) }
+        ensures { scheduler_of self.new ≡ ob_disabled_as true ob (scheduler_of self.old) }
     {
         self.disabled.set(ob, true);
     }
@@ -119,7 +119,7 @@ impl Sched {
     /// Enables an organization block (SFC 40, EN_IRT): its requests are taken from now on.
     pub fn enable(&mut self, ob: u16)
         requires { IsTrue (is_ob ob) }
-        ensures { scheduler_of self.new ≡ disabled_as false ob (scheduler_of self.old) }
+        ensures { scheduler_of self.new ≡ ob_disabled_as false ob (scheduler_of self.old) }
     {
         self.disabled.set(ob, false);
     }

@@ -2,7 +2,7 @@ ghost use Rattle.std.specs.Prelude.{◌≡◌, ◌≤◌, ◌<◌, IsTrue};
 ghost use Rattle.ob_sched.specs.OrganizationBlock.{is_interrupt};
 ghost use Rattle.ob_sched.specs.StartInformation.{IsEvent, event_ob, ob_of_error, event_class, interrupt_code, start_code, event_block_kind, event_number, event_value, start_info};
 
-use crate::organization_blocks::is_error;
+use crate::organization_blocks::is_asynchronous_error;
 use plc_base::error_codes;
 
 /// The start information of an organization block: its first 20 local bytes.
@@ -75,7 +75,7 @@ fn ob_of_error(code: u8) -> u16
 fn event_class(ob: u16) -> u8
     ensures { result ≡ event_class ob }
 {
-    if is_error(ob) {
+    if is_asynchronous_error(ob) {
         return 0x35;
     }
     match ob {

@@ -54,7 +54,7 @@ impl BlockKind {
     }
 
     /// Whether two kinds are the same.
-    pub fn is_same(self, other: BlockKind) -> bool
+    pub fn is_same_kind(self, other: BlockKind) -> bool
         ensures { result ≡ is_same_kind self other }
     {
         match self {

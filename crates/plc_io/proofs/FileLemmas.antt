@@ -4,7 +4,7 @@ use Rattle.std.specs.List.{position_from}
 use Rattle.std.specs.Prelude.{if◌then◌else◌, position, unwrap_or}
 use Rattle.std.proofs.lemmas.Iterator.Adapters.{position_from-zero}
 use Rattle.std.proofs.lemmas.Slice.Eq.{bytes_eq-Decides}
-use Rattle.plc_io.specs.NamedFiles.{bytes_of, contents_of, sure_contents_of, with_file, EachNameOnce}
+use Rattle.plc_io.specs.NamedFiles.{bytes_of_file, contents_of, sure_contents_of, with_file, EachNameOnce}
 use Rattle.plc_io.specs.Contents.{FileHoldsBytes, SameElsewhere}
 
 -- names that the test calls equal are equal, and a name equals itself
@@ -19,25 +19,25 @@ other_name a b ne =
     elim (bytes_eq a b) as (λ t. bytes_eq a b ≡ t → t ≡ false) [ true ↦ λ e. absurd (ne (sym (same_name a b e))) | false ↦ λ e. refl ] refl
 
 -- the name that was put has the bytes
-pub bytes_of-with_file : (files : List (List ℕ × List ℕ)) (name bytes : List ℕ) → bytes_of (with_file files name bytes) name ≡ Some bytes
-bytes_of-with_file [] name bytes = rw (is_itself name) refl
-bytes_of-with_file (f ∷ fs) name bytes =
-    elim (bytes_eq f.0 name) as (λ t. bytes_eq f.0 name ≡ t → bytes_of (if t then (f.0, bytes) ∷ fs else f ∷ with_file fs name bytes) name ≡ Some bytes) [
+pub bytes_of_file-with_file : (files : List (List ℕ × List ℕ)) (name bytes : List ℕ) → bytes_of_file (with_file files name bytes) name ≡ Some bytes
+bytes_of_file-with_file [] name bytes = rw (is_itself name) refl
+bytes_of_file-with_file (f ∷ fs) name bytes =
+    elim (bytes_eq f.0 name) as (λ t. bytes_eq f.0 name ≡ t → bytes_of_file (if t then (f.0, bytes) ∷ fs else f ∷ with_file fs name bytes) name ≡ Some bytes) [
       | true ↦ λ e. rw e refl
-      | false ↦ λ e. rw e (bytes_of-with_file fs name bytes)
+      | false ↦ λ e. rw e (bytes_of_file-with_file fs name bytes)
     ] refl
 
 -- every other name has what it had
-pub bytes_of-with_file-other : (files : List (List ℕ × List ℕ)) (name bytes other : List ℕ) → other ≢ name
-    → bytes_of (with_file files name bytes) other ≡ bytes_of files other
-bytes_of-with_file-other [] name bytes other ne = rw (other_name name other ne) refl
-bytes_of-with_file-other (f ∷ fs) name bytes other ne =
+pub bytes_of_file-with_file-other : (files : List (List ℕ × List ℕ)) (name bytes other : List ℕ) → other ≢ name
+    → bytes_of_file (with_file files name bytes) other ≡ bytes_of_file files other
+bytes_of_file-with_file-other [] name bytes other ne = rw (other_name name other ne) refl
+bytes_of_file-with_file-other (f ∷ fs) name bytes other ne =
     elim (bytes_eq f.0 name) as (λ t. bytes_eq f.0 name ≡ t
-    → bytes_of (if t then (f.0, bytes) ∷ fs else f ∷ with_file fs name bytes) other ≡ bytes_of (f ∷ fs) other) [
+    → bytes_of_file (if t then (f.0, bytes) ∷ fs else f ∷ with_file fs name bytes) other ≡ bytes_of_file (f ∷ fs) other) [
       | true ↦ λ e. let far : other ≢ f.0 = λ h. ne (h ∙ same_name f.0 name e) in rw (other_name f.0 other far) refl
-      | false ↦ λ e. elim (bytes_eq f.0 other) as (λ t. bytes_eq f.0 other ≡ t → bytes_of (f ∷ with_file fs name bytes) other ≡ bytes_of (f ∷ fs) other) [
+      | false ↦ λ e. elim (bytes_eq f.0 other) as (λ t. bytes_eq f.0 other ≡ t → bytes_of_file (f ∷ with_file fs name bytes) other ≡ bytes_of_file (f ∷ fs) other) [
         | true ↦ λ h. rw h refl
-        | false ↦ λ h. rw h (bytes_of-with_file-other fs name bytes other ne)
+        | false ↦ λ h. rw h (bytes_of_file-with_file-other fs name bytes other ne)
       ] refl
     ] refl
 
@@ -49,7 +49,7 @@ EachNameOnce-with_file (f ∷ fs) name bytes once =
       | true ↦ λ e. once
       | false ↦ λ e.
           let far : f.0 ≢ name = λ h. let bad : true ≡ false = sym ((bytes_eq-Decides f.0 name).1 h) ∙ e in cc in
-          (bytes_of-with_file-other fs name bytes f.0 far ∙ once.0, EachNameOnce-with_file fs name bytes once.1)
+          (bytes_of_file-with_file-other fs name bytes f.0 far ∙ once.0, EachNameOnce-with_file fs name bytes once.1)
     ] refl
 
 -- a file that was found is the one to replace
@@ -103,7 +103,7 @@ pub contents_of-with_file : (old new : List (List ℕ × List ℕ)) (name bytes 
     → SameElsewhere (contents_of old) (contents_of new) name
 contents_of-with_file old new name bytes put = record {
   told = refl;
-  at = λ other ne. ap (λ (files : List (List ℕ × List ℕ)). bytes_of files other) put ∙ bytes_of-with_file-other old name bytes other ne;
+  at = λ other ne. ap (λ (files : List (List ℕ × List ℕ)). bytes_of_file files other) put ∙ bytes_of_file-with_file-other old name bytes other ne;
 }
 
 pub sure_contents_of-with_file : (old new : List (List ℕ × List ℕ)) (name bytes : List ℕ) → new ≡ with_file old name bytes
@@ -117,7 +117,7 @@ sure_contents_of-with_file old new name bytes put = record {
 pub Agrees-with_file : (old new : List (List ℕ × List ℕ)) (name bytes : List ℕ) → new ≡ with_file old name bytes
     → FileHoldsBytes (contents_of new) name bytes
 Agrees-with_file old new name bytes put told =
-    ap (λ (files : List (List ℕ × List ℕ)). bytes_of files name) put ∙ bytes_of-with_file old name bytes
+    ap (λ (files : List (List ℕ × List ℕ)). bytes_of_file files name) put ∙ bytes_of_file-with_file old name bytes
 
 pub sure_Agrees-with_file : (old new : List (List ℕ × List ℕ)) (name bytes : List ℕ) → new ≡ with_file old name bytes
     → FileHoldsBytes (sure_contents_of new) name bytes

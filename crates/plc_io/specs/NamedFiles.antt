@@ -5,8 +5,8 @@ use Rattle.plc_io.specs.Counts.{for_every_name}
 use Rattle.plc_io.specs.Moments.{FilesAt}
 
 -- the bytes under a name in a list of files; `None` where no file has the name
-abbrev pub bytes_of : List (List ℕ × List ℕ) → List ℕ → Option (List ℕ)
-bytes_of files name = option_map (λ f. f.1) (find (λ f. bytes_eq f.0 name) files)
+abbrev pub bytes_of_file : List (List ℕ × List ℕ) → List ℕ → Option (List ℕ)
+bytes_of_file files name = option_map (λ f. f.1) (find (λ f. bytes_eq f.0 name) files)
 
 -- a list of files with these bytes under this name: in place of those that stood there, else at the
 -- end
@@ -17,11 +17,11 @@ with_file (f ∷ fs) name bytes =
 
 -- the contents of a list of files, which are told name by name
 abbrev pub contents_of : List (List ℕ × List ℕ) → Contents
-contents_of files = record { told = true; at = bytes_of files }
+contents_of files = record { told = true; at = bytes_of_file files }
 
 -- the bytes under a name in a list of files; no bytes where no file has the name
 abbrev pub bytes_or_empty : List (List ℕ × List ℕ) → List ℕ → List ℕ
-bytes_or_empty files name = unwrap_or (bytes_of files name) []
+bytes_or_empty files name = unwrap_or (bytes_of_file files name) []
 
 -- the contents of named files where an absent name is an empty file
 abbrev pub sure_contents_of : List (List ℕ × List ℕ) → Contents
@@ -30,7 +30,7 @@ sure_contents_of files = record { told = true; at = λ name. Some (bytes_or_empt
 -- no name stands twice in a list of files
 abbrev pub EachNameOnce : List (List ℕ × List ℕ) → Type 0
 EachNameOnce [] = Unit {0}
-EachNameOnce (f ∷ fs) = (bytes_of fs f.0 ≡ None) × EachNameOnce fs
+EachNameOnce (f ∷ fs) = (bytes_of_file fs f.0 ≡ None) × EachNameOnce fs
 
 -- what files show that tell these contents, with one count of failed reads and one of failed writes
 -- for all names

@@ -1,5 +1,5 @@
 ghost use Rattle.std.specs.Prelude.{◌≡◌, [], ◌++◌, length, bytes_eq, option_map, position, ◌<◌, IfSome, IfOk, OnOk, OnErr};
-ghost use Rattle.plc_io.specs.NamedFiles.{EachNameOnce, bytes_of, with_file};
+ghost use Rattle.plc_io.specs.NamedFiles.{EachNameOnce, bytes_of_file, with_file};
 
 use crate::faults::NoMemory;
 use std::alloc::Global;
@@ -94,7 +94,7 @@ impl NamedFiles {
 
     /// The bytes of the file of this name.
     pub fn get(&self, name: &str) -> Option<&[u8]>
-        ensures bytes { option_map (λ r. r.now) result ≡ bytes_of self.now name.now }
+        ensures bytes { option_map (λ r. r.now) result ≡ bytes_of_file self.now name.now }
         ensures once { EachNameOnce self.now }
     {
         self.files

@@ -17,7 +17,7 @@ ghost use Rattle.std.specs.Prelude.{
 ghost use Rattle.plc_io.specs.Calls.{NoCalls, after_call, is_next_to_fail, read_answer};
 ghost use Rattle.plc_io.specs.Contents.{IsPiece, ReadsFrom};
 ghost use Rattle.plc_io.specs.FileCalls.{LeavesRead, LeavesWritten};
-ghost use Rattle.plc_io.specs.NamedFiles.{bytes_of, contents_of, memory_files, with_file};
+ghost use Rattle.plc_io.specs.NamedFiles.{bytes_of_file, contents_of, memory_files, with_file};
 ghost use Rattle.plc_io.specs.SinkBytes.{OfferedPiece, told_sink};
 
 use crate::calls::Calls;
@@ -95,7 +95,7 @@ impl Files for MemFiles {
         // The answer: a failure where this read is chosen to fail or there is no such file, else the
         // number of bytes read. Only the count of reads changes.
         ensures answer { let fails = is_next_to_fail self.old.reads in
-            result ≡ read_answer fails (bytes_of self.old.files name.now) at (length into.new) }
+            result ≡ read_answer fails (bytes_of_file self.old.files name.now) at (length into.new) }
         ensures after { self.new ≡ record self.old {
           reads = after_call self.old.reads (is_err result);
         } }

@@ -24,7 +24,7 @@ use Rattle.plc_mem.proofs.Numbers.{byte_bits, byte_bit, weights_value, stands, b
 number_in_parts : (n k : ℕ) → n ≡ n / 2 ^ k * 2 ^ k + n % 2 ^ k
 number_in_parts n k = omega (arith, div-add-mod n (2 ^ k))
 
--- with_bit, in parts: the bits above k, the new bit, the bits below
+-- byte_with_bit, in parts: the bits above k, the new bit, the bits below
 with_bit_parts : (n k v : ℕ) → byte_with_bit n k v ≡ (n / 2 ^ k / 2 * 2 ^ 1 + v) * 2 ^ k + n % 2 ^ k
 with_bit_parts n k v =
     let q : n / 2 ^ k ≡ n / 2 ^ k / 2 * 2 + n / 2 ^ k % 2 = omega arith in

@@ -40,7 +40,7 @@ impl Model for DataBlocks {
 }
 
 /// A copy of a list of bytes, or `NoMemory` where no memory for it is left.
-fn copied(alloc: Global, bytes: &[u8]) -> Result<Vec<u8>, NoMemory>
+fn copy_of_bytes(alloc: Global, bytes: &[u8]) -> Result<Vec<u8>, NoMemory>
     ensures items { IfOk result (λ copy. copy.items ≡ bytes.now) }
     ensures bytes { AreByteValues bytes.now }
 {
@@ -57,7 +57,7 @@ impl DataBlocks {
     {
         let mut by_number = BTreeMap::new(alloc);
         for (number, bytes) in blocks {
-            by_number.insert(*number, copied(alloc, bytes)?)?;
+            by_number.insert(*number, copy_of_bytes(alloc, bytes)?)?;
         }
         Ok(DataBlocks { by_number })
     }

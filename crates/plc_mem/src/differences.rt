@@ -27,14 +27,14 @@ fn skip_equal_blocks(old: &[u8], new: &[u8], from: usize) -> usize
         slice_get new.now n ≡ slice_get old.now n }
 {
     let mut at = from;
-    while at < old.len() && old.len() - at >= BLOCK && is_same_block(old, new, at) {
+    while at < old.len() && old.len() - at >= BLOCK && are_equal_bytes(old, new, at) {
         at += BLOCK;
     }
     at
 }
 
-// Whether a block of the two runs is the same.
-fn is_same_block(old: &[u8], new: &[u8], at: usize) -> bool
+// Whether the 64 bytes from an index on are the same in the two runs.
+fn are_equal_bytes(old: &[u8], new: &[u8], at: usize) -> bool
     requires old { at + 64 ≤ length old.now }
     requires new { at + 64 ≤ length new.now }
     ensures { IsTrue result → (n : ℕ) → at ≤ n → n < at + 64 →

@@ -3,7 +3,7 @@ ghost use Rattle.std.specs.Prelude.{◌≡◌, ◌+◌, ◌*◌, ◌^◌, ◌<�
 ghost use Rattle.plc_base.specs.Changes.{ChangesOrStays};
 ghost use Rattle.plc_base.specs.Widths.{bit_count};
 ghost use Rattle.plc_mem.specs.Run.{number_of_bytes, number_over};
-ghost use Rattle.plc_mem.specs.Writing.{is_within as is_within_spec, put_number as put_spec, bytes_with_number, byte_with_bit as with_bit_spec};
+ghost use Rattle.plc_mem.specs.Writing.{is_within as is_within_spec, put_number as put_spec, bytes_with_number, byte_with_bit as byte_with_bit_of};
 
 use crate::faults::Missing;
 use plc_base::Width;
@@ -92,7 +92,7 @@ fn store(bytes: &mut [u8], at: usize, bit: u8, width: Width, value: u32)
     ensures { bytes.new ≡ bytes_with_number bytes.old at bit width value }
 {
     match width {
-        Width::Bit => bytes[at] = with_bit(bytes[at], bit, value == 1),
+        Width::Bit => bytes[at] = byte_with_bit(bytes[at], bit, value == 1),
         Width::Byte => bytes[at] = value as u8,
         Width::Word => {
             bytes[at] = (value >> 8) as u8;
@@ -110,9 +110,9 @@ fn store(bytes: &mut [u8], at: usize, bit: u8, width: Width, value: u32)
 // The byte with another value of one bit.
 #[tactic(auto, using(crate::proofs::OneBit::bit_set, crate::proofs::OneBit::bit_clear))]
 #[inline(always)]
-fn with_bit(byte: u8, bit: u8, one: bool) -> u8
+fn byte_with_bit(byte: u8, bit: u8, one: bool) -> u8
     requires { bit < 8 }
-    ensures { result ≡ with_bit_spec byte bit (if one then 1 else 0) }
+    ensures { result ≡ byte_with_bit_of byte bit (if one then 1 else 0) }
 {
     let mask = 1 << bit;
     if one { byte | mask } else { byte & !mask }

@@ -24,7 +24,7 @@ use Rattle.ob_sched.specs.declared.requests.Pending.{Pending}
 use Rattle.ob_sched.specs.declared.start_infos.StartEvent.TheVariants.{Arrival}
 use Rattle.ob_sched.specs.declared.start_infos.StartInfo.{StartInfo}
 use Rattle.sys_funcs.specs.Disabling.{selection_error_code}
-use Rattle.sys_funcs.specs.Functions.{dis_airt, en_airt, disabled_or_error, dis_irt, en_irt, srt_dint, can_dint, time_tck, with_delay}
+use Rattle.sys_funcs.specs.Functions.{dis_airt, en_airt, interrupts_disabled_or_error, dis_irt, en_irt, srt_dint, can_dint, time_tck, with_delay}
 use Rattle.sys_funcs.specs.Results.{SystemFunctionResult, int_result, with_br_set}
 use Rattle.var_access.specs.declared.What.{What}
 use Rattle.var_access.specs.declared.What.TheVariants as what
@@ -195,7 +195,7 @@ unfolding dis_airt
 dis_airt_same s a = (refl, refl)
 
 set_same : (code : Option ℕ) (disabled : Bool) (mode ob_nr : ℕ) (s : Scheduler) (a : Activation)
-    → SameStack a (disabled_or_error code disabled mode ob_nr s a).activation
+    → SameStack a (interrupts_disabled_or_error code disabled mode ob_nr s a).activation
 set_same (Some code) disabled mode ob_nr s a = (refl, refl)
 set_same None disabled mode ob_nr s a = (refl, refl)
 

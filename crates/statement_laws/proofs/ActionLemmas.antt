@@ -9,7 +9,7 @@ use Rattle.plc_base.specs.declared.instructions.TimerKind.{TimerKind}
 use Rattle.plc_base.specs.declared.places.Width.TheVariants as widths
 use Rattle.plc_base.specs.Widths.{bit_count}
 use Rattle.plc_mem.specs.Areas.{Areas}
-use Rattle.status_word.specs.Brackets.{bracket_begun, entry_of}
+use Rattle.status_word.specs.Brackets.{bracket_begun, bracket_entry}
 use Rattle.status_word.specs.Check.{after_check}
 use Rattle.status_word.specs.Edge.{after_edge}
 use Rattle.status_word.specs.Store.{after_store}
@@ -100,7 +100,7 @@ pub nest_same : (with : Check) (o : Operand) (p : ExecState)
 unfolding effect.operation_effect nesting.nesting_opened
 nest_same with o p =
     own_if p (length p.local.inner.brackets == 7)
-    (nesting.with_open_brackets (entry_of with p.local.regs ∷ p.local.inner.brackets)
+    (nesting.with_open_brackets (bracket_entry with p.local.regs ∷ p.local.inner.brackets)
     (record p.local { regs = bracket_begun p.local.regs }))
 
 pub unnest_same : (o : Operand) (p : ExecState)

@@ -414,42 +414,42 @@ shift : (m : Mnemonic) (o : Operand) (v : ResolvedOperand) (x : NamedItem) → i
 unfolding operation_for effect_of_operation form_of effect.operation_effect numbers.number_effect numbers.shift_effect
 shift code.Ssi o v x is g =
     action_of code.Ssi o v x refl refl refl
-    (λ q. action_lemmas.shift_same shift_word.Ssi (shifts.shifted_signed 16) (as_open x) q
+    (λ q. action_lemmas.shift_same shift_word.Ssi (shifts.accumulator_shifted_signed 16) (as_open x) q
     (holds action_lemmas.is_shift_count (about o) v x (rules.shifts 15 (about o) v g.rule) g.there)
     (λ k. refl))
 shift code.Ssd o v x is g =
     action_of code.Ssd o v x refl refl refl
-    (λ q. action_lemmas.shift_same shift_word.Ssd (shifts.shifted_signed 32) (as_open x) q
+    (λ q. action_lemmas.shift_same shift_word.Ssd (shifts.accumulator_shifted_signed 32) (as_open x) q
     (holds action_lemmas.is_shift_count (about o) v x (rules.shifts 32 (about o) v g.rule) g.there)
     (λ k. refl))
 shift code.Slw o v x is g =
     action_of code.Slw o v x refl refl refl
-    (λ q. action_lemmas.shift_same shift_word.Slw (shifts.shifted_left 16) (as_open x) q
+    (λ q. action_lemmas.shift_same shift_word.Slw (shifts.accumulator_shifted_left 16) (as_open x) q
     (holds action_lemmas.is_shift_count (about o) v x (rules.shifts 15 (about o) v g.rule) g.there)
     (λ k. refl))
 shift code.Srw o v x is g =
     action_of code.Srw o v x refl refl refl
-    (λ q. action_lemmas.shift_same shift_word.Srw (shifts.shifted_right 16) (as_open x) q
+    (λ q. action_lemmas.shift_same shift_word.Srw (shifts.accumulator_shifted_right 16) (as_open x) q
     (holds action_lemmas.is_shift_count (about o) v x (rules.shifts 15 (about o) v g.rule) g.there)
     (λ k. refl))
 shift code.Sld o v x is g =
     action_of code.Sld o v x refl refl refl
-    (λ q. action_lemmas.shift_same shift_word.Sld (shifts.shifted_left 32) (as_open x) q
+    (λ q. action_lemmas.shift_same shift_word.Sld (shifts.accumulator_shifted_left 32) (as_open x) q
     (holds action_lemmas.is_shift_count (about o) v x (rules.shifts 32 (about o) v g.rule) g.there)
     (λ k. refl))
 shift code.Srd o v x is g =
     action_of code.Srd o v x refl refl refl
-    (λ q. action_lemmas.shift_same shift_word.Srd (shifts.shifted_right 32) (as_open x) q
+    (λ q. action_lemmas.shift_same shift_word.Srd (shifts.accumulator_shifted_right 32) (as_open x) q
     (holds action_lemmas.is_shift_count (about o) v x (rules.shifts 32 (about o) v g.rule) g.there)
     (λ k. refl))
 shift code.Rld o v x is g =
     action_of code.Rld o v x refl refl refl
-    (λ q. action_lemmas.shift_same shift_word.Rld rotations.rotated_left (as_open x) q
+    (λ q. action_lemmas.shift_same shift_word.Rld rotations.accumulator_rotated_left (as_open x) q
     (holds action_lemmas.is_shift_count (about o) v x (rules.shifts 32 (about o) v g.rule) g.there)
     (λ k. refl))
 shift code.Rrd o v x is g =
     action_of code.Rrd o v x refl refl refl
-    (λ q. action_lemmas.shift_same shift_word.Rrd rotations.rotated_right (as_open x) q
+    (λ q. action_lemmas.shift_same shift_word.Rrd rotations.accumulator_rotated_right (as_open x) q
     (holds action_lemmas.is_shift_count (about o) v x (rules.shifts 32 (about o) v g.rule) g.there)
     (λ k. refl))
 shift code.Rlda o v x is g =

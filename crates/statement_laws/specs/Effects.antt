@@ -13,7 +13,7 @@ use Rattle.plc_base.specs.declared.instructions.TimerKind.TheVariants as timer
 use Rattle.plc_base.specs.declared.places.Area.TheVariants as area
 use Rattle.plc_mem.specs.Areas.{Areas}
 use Rattle.status_word.specs.BareOr.{or_bare}
-use Rattle.status_word.specs.Brackets.{bracket_begun, bracket_ended, entry_of}
+use Rattle.status_word.specs.Brackets.{bracket_begun, bracket_ended, bracket_entry}
 use Rattle.status_word.specs.Check.{after_check}
 use Rattle.status_word.specs.Edge.{after_edge}
 use Rattle.status_word.specs.SetClear.{clr, rlo_negated, rlo_saved_in_br, rlo_set_to_1}
@@ -105,7 +105,7 @@ abbrev pub opens_bracket : Check → ExecState → Result ExecState ℕ
 opens_bracket with p =
     if length p.local.inner.brackets == errors.most_open_brackets then Err no_operand
     else on_regs bracket_begun
-    (with_bracket_list (entry_of with (registers_of p) ∷ p.local.inner.brackets) p)
+    (with_bracket_list (bracket_entry with (registers_of p) ∷ p.local.inner.brackets) p)
 
 -- ): the first bracket of the list, the innermost one, closes; an error where none is open
 abbrev pub closes_one : List Bracket → ExecState → Result ExecState ℕ
@@ -450,11 +450,11 @@ effect_of_operation code.Add x p = on_regs (adds_by x) p
 effect_of_operation code.AddI x p = on_regs (sums.accumulators_added 16) p
 effect_of_operation code.SubI x p = on_regs (sums.accumulators_subtracted 16) p
 effect_of_operation code.MulI x p = on_regs (products.accumulators_multiplied 16) p
-effect_of_operation code.DivI x p = on_regs division.divided_i p
+effect_of_operation code.DivI x p = on_regs division.accumulators_divided_i p
 effect_of_operation code.AddD x p = on_regs (sums.accumulators_added 32) p
 effect_of_operation code.SubD x p = on_regs (sums.accumulators_subtracted 32) p
 effect_of_operation code.MulD x p = on_regs (products.accumulators_multiplied 32) p
-effect_of_operation code.DivD x p = on_regs division.divided_d p
+effect_of_operation code.DivD x p = on_regs division.accumulators_divided_d p
 effect_of_operation code.Mod x p = on_regs division.remainder_d p
 effect_of_operation code.EqI x p = on_regs (comparison.accumulators_compared 16 compare.Eq) p
 effect_of_operation code.NeI x p = on_regs (comparison.accumulators_compared 16 compare.Ne) p
@@ -489,16 +489,16 @@ effect_of_operation code.Od x p =
     on_regs (word_logic.accumulator_ored 32 (constant_of_width 32 x)) p
 effect_of_operation code.Xod x p =
     on_regs (word_logic.accumulator_xored 32 (constant_of_width 32 x)) p
-effect_of_operation code.Ssi x p = on_regs (shifts.shifted_signed 16 (shift_count x p)) p
-effect_of_operation code.Ssd x p = on_regs (shifts.shifted_signed 32 (shift_count x p)) p
-effect_of_operation code.Slw x p = on_regs (shifts.shifted_left 16 (shift_count x p)) p
-effect_of_operation code.Srw x p = on_regs (shifts.shifted_right 16 (shift_count x p)) p
-effect_of_operation code.Sld x p = on_regs (shifts.shifted_left 32 (shift_count x p)) p
-effect_of_operation code.Srd x p = on_regs (shifts.shifted_right 32 (shift_count x p)) p
-effect_of_operation code.Rld x p = on_regs (rotations.rotated_left (shift_count x p)) p
-effect_of_operation code.Rrd x p = on_regs (rotations.rotated_right (shift_count x p)) p
-effect_of_operation code.Rlda x p = on_regs rotations.rotated_left_through p
-effect_of_operation code.Rrda x p = on_regs rotations.rotated_right_through p
+effect_of_operation code.Ssi x p = on_regs (shifts.accumulator_shifted_signed 16 (shift_count x p)) p
+effect_of_operation code.Ssd x p = on_regs (shifts.accumulator_shifted_signed 32 (shift_count x p)) p
+effect_of_operation code.Slw x p = on_regs (shifts.accumulator_shifted_left 16 (shift_count x p)) p
+effect_of_operation code.Srw x p = on_regs (shifts.accumulator_shifted_right 16 (shift_count x p)) p
+effect_of_operation code.Sld x p = on_regs (shifts.accumulator_shifted_left 32 (shift_count x p)) p
+effect_of_operation code.Srd x p = on_regs (shifts.accumulator_shifted_right 32 (shift_count x p)) p
+effect_of_operation code.Rld x p = on_regs (rotations.accumulator_rotated_left (shift_count x p)) p
+effect_of_operation code.Rrd x p = on_regs (rotations.accumulator_rotated_right (shift_count x p)) p
+effect_of_operation code.Rlda x p = on_regs rotations.accumulator_rotated_left_through p
+effect_of_operation code.Rrda x p = on_regs rotations.accumulator_rotated_right_through p
 effect_of_operation code.Sp x p = starts_timer timer.Sp x p
 effect_of_operation code.Se x p = starts_timer timer.Se x p
 effect_of_operation code.Sd x p = starts_timer timer.Sd x p

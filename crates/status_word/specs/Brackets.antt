@@ -8,8 +8,8 @@ use Rattle.status_word.specs.declared.registers.Regs.{Regs}
 use Rattle.status_word.specs.Check.{after_check}
 
 -- the entry of the nesting stack for a bracket that begins: RLO, OR, /FC and the function code
-abbrev pub entry_of : Check → Regs → Bracket
-entry_of code r = record { rlo = r.status.rlo; or = r.status.or; fc = r.status.fc; code = code }
+abbrev pub bracket_entry : Check → Regs → Bracket
+bracket_entry code r = record { rlo = r.status.rlo; or = r.status.or; fc = r.status.fc; code = code }
 
 -- the registers at the begin of a bracket, in which a new logic string begins: OR 0, STA 1, /FC 0
 unfoldable pub bracket_begun : Regs → Regs

@@ -5,15 +5,15 @@ use Rattle.plc_base.specs.Bits.{has_bit}
 use Rattle.status_word.specs.declared.statuses.Status.{Status}
 
 -- a bit as a number: 1 where it is 1, else 0
-abbrev pub bit : Bool → ℕ
-bit b = if b then 1 else 0
+abbrev pub bit_as_number : Bool → ℕ
+bit_as_number b = if b then 1 else 0
 
 -- the number of all nine bits of a status word: a bit k that is 1 weighs 2 ^ k
 unfoldable pub status_number : Status → ℕ
 status_number s =
-    bit s.fc + 2 * bit s.rlo + 4 * bit s.sta + 8 * bit s.or + 16 * bit s.os + 32 * bit s.ov
-    + 64 * bit s.cc0 + 128 * bit s.cc1
-    + 256 * bit s.br
+    bit_as_number s.fc + 2 * bit_as_number s.rlo + 4 * bit_as_number s.sta + 8 * bit_as_number s.or + 16 * bit_as_number s.os + 32 * bit_as_number s.ov
+    + 64 * bit_as_number s.cc0 + 128 * bit_as_number s.cc1
+    + 256 * bit_as_number s.br
 
 -- the status word whose nine bits are the lowest nine of a number, as T STW takes them
 unfoldable pub status_of : ℕ → Status

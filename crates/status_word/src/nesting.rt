@@ -1,6 +1,6 @@
 ghost use Rattle.std.specs.Prelude.{◌≡◌, ◌==◌, ◌↔◌, [], ◌∷◌, length, IsFalse};
 ghost use Rattle.std.specs.Bool.{OnTrue, OnFalse};
-ghost use Rattle.status_word.specs.Brackets.{entry_of, bracket_begun, bracket_ended, Closes};
+ghost use Rattle.status_word.specs.Brackets.{bracket_entry, bracket_begun, bracket_ended, Closes};
 
 use crate::registers::Regs;
 use crate::statuses::Status;
@@ -77,7 +77,7 @@ impl Brackets {
     #[tactic(auto, unfolding(crate::specs::Brackets::bracket_begun))]
     pub fn begin(&mut self, regs: &mut Regs, code: Check) -> bool
         ensures full { IsFalse result ↔ (length self.old ≡ 7) }
-        ensures open { OnTrue result (self.new ≡ entry_of code regs.old ∷ self.old) }
+        ensures open { OnTrue result (self.new ≡ bracket_entry code regs.old ∷ self.old) }
         ensures inside { OnTrue result (regs.new ≡ bracket_begun regs.old) }
         ensures unchanged { OnFalse result (self.new ≡ self.old) }
         ensures same_regs { OnFalse result (regs.new ≡ regs.old) }

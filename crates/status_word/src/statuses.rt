@@ -1,7 +1,7 @@
 ghost use Rattle.std.specs.Prelude.{◌≡◌, ◌<◌, ◌%◌, ◌*◌, ◌≤◌};
 ghost use Rattle.status_word.specs.Flags.{flag_value};
 ghost use Rattle.status_word.specs.Registers.{status_at_rest};
-ghost use Rattle.status_word.specs.StatusNumber.{bit as bit_value, status_number, status_of, status_shown};
+ghost use Rattle.status_word.specs.StatusNumber.{bit_as_number, status_number, status_of, status_shown};
 
 use plc_base::{Flag, has_bit};
 
@@ -112,7 +112,7 @@ impl Status {
 }
 
 fn weight(bit: bool, weight: u16) -> u16
-    ensures value { result ≡ weight * bit_value bit }
+    ensures value { result ≡ weight * bit_as_number bit }
     ensures bound { result ≤ weight }
 {
     if bit { weight } else { 0 }

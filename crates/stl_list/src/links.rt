@@ -64,7 +64,7 @@ pub(crate) fn called_id(kind: u8, number: u16) -> BlockId
 pub(crate) fn is_same(a: BlockId, b: BlockId) -> bool
     ensures { result ≡ is_same_block a b }
 {
-    a.kind.is_same(b.kind) && a.number == b.number
+    a.kind.is_same_kind(b.kind) && a.number == b.number
 }
 
 /// The parameters of a system function; none where there is no such function.

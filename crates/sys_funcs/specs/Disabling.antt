@@ -1,7 +1,7 @@
 -- Which organization blocks DIS_IRT and EN_IRT mean by MODE and OB_NR.
 use Rattle.std.specs.Prelude.{ℕ, zero, suc, ◌+◌, ◌*◌, ◌/◌, Bool, ◌&&◌, ◌||◌, ◌==◌, nat_lt, Option, Some, None, if◌then◌else◌}
 use Rattle.ob_sched.specs.OrganizationBlock.{is_interrupt}
-use Rattle.ob_sched.specs.Scheduler.{Scheduler, disabled_as}
+use Rattle.ob_sched.specs.Scheduler.{Scheduler, ob_disabled_as}
 
 -- the first OB number of the group of an interrupt: 10, 20, 30 or 40
 abbrev pub first_of_group : ℕ → ℕ
@@ -32,19 +32,19 @@ selection_error_code mode ob_nr =
     else Some 0x8090
 
 -- the scheduler in which an organization block is disabled or enabled, if it is meant
-abbrev pub disabled_if_selected : Bool → Bool → ℕ → Scheduler → Scheduler
-disabled_if_selected meant disabled ob s = if meant then disabled_as disabled ob s else s
+abbrev pub ob_disabled_if_selected : Bool → Bool → ℕ → Scheduler → Scheduler
+ob_disabled_if_selected meant disabled ob s = if meant then ob_disabled_as disabled ob s else s
 
 -- the scheduler in which of some OBs with consecutive numbers those that MODE and OB_NR mean are
 -- disabled or enabled
-abbrev pub selected_disabled_from :
+abbrev pub interrupts_disabled_from :
     (disabled : Bool) (mode ob_nr ob count : ℕ) → Scheduler → Scheduler
-selected_disabled_from disabled mode ob_nr ob zero s = s
-selected_disabled_from disabled mode ob_nr ob (suc n) s =
-    selected_disabled_from disabled mode ob_nr (ob + 1) n
-    (disabled_if_selected (is_interrupt_selected mode ob_nr ob) disabled ob s)
+interrupts_disabled_from disabled mode ob_nr ob zero s = s
+interrupts_disabled_from disabled mode ob_nr ob (suc n) s =
+    interrupts_disabled_from disabled mode ob_nr (ob + 1) n
+    (ob_disabled_if_selected (is_interrupt_selected mode ob_nr ob) disabled ob s)
 
 -- the scheduler in which the interrupts that MODE and OB_NR mean are disabled or enabled;
 -- interrupts have the numbers 10 to 47
-unfoldable pub selected_disabled : (disabled : Bool) (mode ob_nr : ℕ) → Scheduler → Scheduler
-selected_disabled disabled mode ob_nr s = selected_disabled_from disabled mode ob_nr 10 38 s
+unfoldable pub interrupts_disabled : (disabled : Bool) (mode ob_nr : ℕ) → Scheduler → Scheduler
+interrupts_disabled disabled mode ob_nr s = interrupts_disabled_from disabled mode ob_nr 10 38 s

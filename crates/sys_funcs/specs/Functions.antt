@@ -4,7 +4,7 @@ use Rattle.std.specs.Prelude.{◌≡◌, ℕ, ◌+◌, ◌-◌, min, Bool, true,
 use Rattle.frames.specs.declared.activation.Activation.{Activation}
 use Rattle.ob_sched.specs.OrganizationBlock.{is_delay}
 use Rattle.ob_sched.specs.Scheduler.{Scheduler, delay_of, delay_started, delay_cancelled}
-use Rattle.sys_funcs.specs.Disabling.{selection_error_code, selected_disabled}
+use Rattle.sys_funcs.specs.Disabling.{selection_error_code, interrupts_disabled}
 use Rattle.sys_funcs.specs.Results.{SystemFunctionResult, int_result, with_br_set}
 
 -- the activation with another delay count: how often DIS_AIRT delays interrupts in it
@@ -24,22 +24,22 @@ en_airt s a =
 
 -- what SFC 39 DIS_IRT and SFC 40 EN_IRT leave: an error code is returned; without one (None) the
 -- organization blocks that are meant are disabled or enabled, and 0 is returned
-abbrev pub disabled_or_error :
+abbrev pub interrupts_disabled_or_error :
     Option ℕ → (disabled : Bool) (mode ob_nr : ℕ) → Scheduler → Activation
     → SystemFunctionResult
-disabled_or_error (Some code) disabled mode ob_nr s a = int_result s a code
-disabled_or_error None disabled mode ob_nr s a =
-    int_result (selected_disabled disabled mode ob_nr s) a 0
+interrupts_disabled_or_error (Some code) disabled mode ob_nr s a = int_result s a code
+interrupts_disabled_or_error None disabled mode ob_nr s a =
+    int_result (interrupts_disabled disabled mode ob_nr s) a 0
 
 -- SFC 39 DIS_IRT: the interrupts that MODE and OB_NR mean are disabled; pending requests and
 -- started delays stay
 unfoldable pub dis_irt : Scheduler → Activation → (mode ob_nr : ℕ) → SystemFunctionResult
-dis_irt s a mode ob_nr = disabled_or_error (selection_error_code mode ob_nr) true mode ob_nr s a
+dis_irt s a mode ob_nr = interrupts_disabled_or_error (selection_error_code mode ob_nr) true mode ob_nr s a
 
 -- SFC 40 EN_IRT: the interrupts that MODE and OB_NR mean are enabled, with the error codes of
 -- DIS_IRT
 unfoldable pub en_irt : Scheduler → Activation → (mode ob_nr : ℕ) → SystemFunctionResult
-en_irt s a mode ob_nr = disabled_or_error (selection_error_code mode ob_nr) false mode ob_nr s a
+en_irt s a mode ob_nr = interrupts_disabled_or_error (selection_error_code mode ob_nr) false mode ob_nr s a
 
 -- an OB_NR is that of a time-delay interrupt, as the answer says: its OB, or None
 abbrev pub IsDelayOb : ℕ → Option ℕ → Type 0

@@ -1,9 +1,9 @@
 ghost use Rattle.std.specs.Prelude.{◌≡◌, true, false};
 ghost use Rattle.ob_sched.specs.OrganizationBlock.{is_interrupt as interrupts};
 ghost use Rattle.ob_sched.specs.Views.{scheduler_of};
-ghost use Rattle.sys_funcs.specs.Disabling.{selected_disabled, first_of_group, is_interrupt_selected, selection_error_code, disabled_if_selected};
+ghost use Rattle.sys_funcs.specs.Disabling.{interrupts_disabled, first_of_group, is_interrupt_selected, selection_error_code, ob_disabled_if_selected};
 ghost use Rattle.sys_funcs.specs.Results.{LeavesSystemFunctionResult};
-ghost use Rattle.sys_funcs.specs.Functions.{dis_irt as disables, en_irt as enables, disabled_or_error};
+ghost use Rattle.sys_funcs.specs.Functions.{dis_irt as disables, en_irt as enables, interrupts_disabled_or_error};
 
 use crate::returns::returned_value;
 use frames::Activation;
@@ -56,7 +56,7 @@ fn selection_error_code(mode: u32, ob_nr: u32) -> Option<u32>
 // Disables or enables one organization block, if MODE and OB_NR mean it.
 fn set_one(s: &mut Sched, mode: u32, ob_nr: u32, ob: u16, disabled: bool)
     ensures { scheduler_of s.new
-        ≡ disabled_if_selected (is_interrupt_selected mode ob_nr ob) disabled ob
+        ≡ ob_disabled_if_selected (is_interrupt_selected mode ob_nr ob) disabled ob
         (scheduler_of s.old) }
 {
     if !is_interrupt_selected(mode, ob_nr, u32::from(ob)) {
@@ -70,9 +70,9 @@ fn set_one(s: &mut Sched, mode: u32, ob_nr: u32, ob: u16, disabled: bool)
 }
 
 // Disables or enables the organization blocks that MODE and OB_NR mean.
-#[tactic(auto, unfolding(crate::specs::Disabling::selected_disabled))]
+#[tactic(auto, unfolding(crate::specs::Disabling::interrupts_disabled))]
 fn set_all(s: &mut Sched, mode: u32, ob_nr: u32, disabled: bool)
-    ensures { scheduler_of s.new ≡ selected_disabled disabled mode ob_nr (scheduler_of s.old) }
+    ensures { scheduler_of s.new ≡ interrupts_disabled disabled mode ob_nr (scheduler_of s.old) }
 {
     for ob in 10..48 {
         set_one(s, mode, ob_nr, ob, disabled);
@@ -82,7 +82,7 @@ fn set_all(s: &mut Sched, mode: u32, ob_nr: u32, disabled: bool)
 // DIS_IRT and EN_IRT: disables or enables what MODE and OB_NR mean, or returns their error code.
 fn disable_or_error(s: &mut Sched, a: &mut Activation, mode: u32, ob_nr: u32, disabled: bool) -> u32
     ensures { LeavesSystemFunctionResult
-        (disabled_or_error (selection_error_code mode ob_nr) disabled mode ob_nr
+        (interrupts_disabled_or_error (selection_error_code mode ob_nr) disabled mode ob_nr
         (scheduler_of s.old) a.old)
         (scheduler_of s.new) a.new result }
 {

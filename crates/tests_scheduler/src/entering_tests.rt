@@ -85,7 +85,7 @@ fn a_frame_is_copied_and_begins_anew(rt: HostRuntime) {
     has(&rt, &first, (ob, 0, 30), [None, None, None], (0, 0));
     let data = [Some(10), Some(11), Some(12)];
     has(&rt, &second, (fb, 20, 12), data, (1, 1));
-    let closed = (first.relay.is_closed(), second.relay.is_closed());
+    let closed = (first.relay.is_zone_closed(), second.relay.is_zone_closed());
     same(&rt, "relays", closed, (false, true));
     let zones = (first.relay.zones.len(), second.relay.zones.len());
     same(&rt, "zones", zones, (0, 1));
@@ -96,18 +96,18 @@ fn a_frame_is_copied_and_begins_anew(rt: HostRuntime) {
 #[test]
 fn zones_of_a_relay(rt: HostRuntime) {
     let mut relay = Relay::off();
-    same(&rt, "no zone", relay.is_closed(), false);
+    same(&rt, "no zone", relay.is_zone_closed(), false);
     relay.active = true;
     for (rlo, closed) in [(true, false), (false, true), (true, true)] {
-        let opened = (relay.open(rlo), relay.is_closed());
+        let opened = (relay.open(rlo), relay.is_zone_closed());
         same(&rt, rlo, opened, (true, closed));
     }
     let mut copy = relay.copied();
     copy.active = false;
-    same(&rt, "an inactive one", copy.is_closed(), false);
+    same(&rt, "an inactive one", copy.is_zone_closed(), false);
     for (ended, closed) in [(true, true), (true, false), (true, false), (false, false)] {
         same(&rt, "a zone ends", relay.end(), ended);
-        same(&rt, "what is left", relay.is_closed(), closed);
+        same(&rt, "what is left", relay.is_zone_closed(), closed);
     }
     let zones = (relay.zones.len(), copy.zones.len());
     same(&rt, "zones", zones, (0, 3));

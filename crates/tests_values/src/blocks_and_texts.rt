@@ -53,7 +53,7 @@ fn kinds_of_blocks(rt: HostRuntime) {
         same(&rt, *kind, (kind.number(), kind.order()), (*number, *order));
         for (other, _, place, _) in &KINDS {
             let same_place = *order == *place;
-            same(&rt, (*kind, *other), kind.is_same(*other), same_place);
+            same(&rt, (*kind, *other), kind.is_same_kind(*other), same_place);
         }
     }
 }

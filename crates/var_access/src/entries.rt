@@ -42,7 +42,7 @@ pub fn is_arrivable(ob: u16) -> bool
 impl What {
     /// Whether its numbers are in their ranges: an input byte that exists, an organization block that
     /// an interrupt may request, 1 to 60,000 milliseconds, a valid request.
-    fn is_in_range(&self) -> bool
+    fn has_valid_numbers(&self) -> bool
         ensures { IsTrue result ↔ IsInRange self.now }
     {
         match self {
@@ -60,7 +60,7 @@ impl Entry {
     pub fn is_valid(&self) -> bool
         ensures { IsTrue result ↔ IsValid self.now }
     {
-        self.who >= 1 && self.what.is_in_range()
+        self.who >= 1 && self.what.has_valid_numbers()
     }
 
     /// Whether it is a step, whoever makes it.

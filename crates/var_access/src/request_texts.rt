@@ -66,7 +66,7 @@ fn with_var(vars: Result<Vars, u16>, var: Result<Var, u16>) -> Result<Vars, u16>
 }
 
 /// The variables of a read, with commas between.
-fn read_vars(names: &Names, text: &[u8]) -> Result<Vars, u16>
+fn vars_of(names: &Names, text: &[u8]) -> Result<Vars, u16>
     ensures { result ≡ vars_of (find names.now) text.now }
 {
     let mut vars = Ok(Vars::new());
@@ -84,10 +84,10 @@ fn read_vars(names: &Names, text: &[u8]) -> Result<Vars, u16>
 
 /// `read V, V ..`, behind its first word.
 #[tactic(auto, unfolding(crate::specs::Requests::read_request))]
-fn read_of(names: &Names, text: &[u8]) -> Result<Request, u16>
+fn read_request(names: &Names, text: &[u8]) -> Result<Request, u16>
     ensures { result ≡ read_request (find names.now) text.now }
 {
-    let vars = read_vars(names, text)?;
+    let vars = vars_of(names, text)?;
     Ok(Request::ReadVars { vars })
 }
 
@@ -113,7 +113,7 @@ fn write_to(var: Result<Var, u16>, word: &[u8]) -> Result<Request, u16>
 
 /// `write V h`, behind its first word.
 #[tactic(auto, unfolding(crate::specs::Requests::write_request))]
-fn write_of(names: &Names, text: &[u8]) -> Result<Request, u16>
+fn write_request(names: &Names, text: &[u8]) -> Result<Request, u16>
     ensures { result ≡ write_request (find names.now) text.now }
 {
     let (var, value) = last_word(trim(text));
@@ -155,7 +155,7 @@ fn monitor_on(how: &[u8], kind: &[u8], number: &[u8]) -> Result<Request, u16>
 
 /// `monitor on KIND n` or `monitor off`, behind its first word.
 #[tactic(auto, unfolding(crate::specs::Requests::monitor_request))]
-fn monitor_of(text: &[u8]) -> Result<Request, u16>
+fn monitor_request(text: &[u8]) -> Result<Request, u16>
     ensures { result ≡ monitor_request (words_of text.now) }
 {
     let Some((how, rest)) = first_word(text) else {
@@ -207,15 +207,15 @@ fn request_by_word(names: &Names, word: &[u8], text: &[u8]) -> Result<Request, u
     ensures { result ≡ request_of (find names.now) word.now text.now }
 {
     if word == b"read".as_slice() {
-        read_of(names, text)
+        read_request(names, text)
     } else if word == b"write".as_slice() {
-        write_of(names, text)
+        write_request(names, text)
     } else if word == b"stop".as_slice() {
         one_word(Request::Stop, text)
     } else if word == b"restart".as_slice() {
         one_word(Request::Restart, text)
     } else if word == b"monitor".as_slice() {
-        monitor_of(text)
+        monitor_request(text)
     } else if word == b"diag".as_slice() {
         one_word(Request::Diag, text)
     } else {

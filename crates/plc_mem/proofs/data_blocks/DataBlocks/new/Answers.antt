@@ -17,14 +17,14 @@ loop-number-preserved c =
     let i = c.loop-number.number-index in
     let x = c.loop-number-item.result in
     let differ = subst (λ es. IsDistinct nat_eq (block_numbers es)) (sym (split_at_item xs i x c.loop-number-test.true c.loop-number-item.is)) c.requires in
-    let items = c.in_ok-copied.ensures.items ∙ c.deref.ensures.value in
-    let small = subst AreByteValues (sym c.in_ok-copied.ensures.items) c.in_ok-copied.ensures.bytes in
-    let more = one_more c.loop-number.by_number c.insert.new.self x.0 x.1 c.in_ok-copied.field-0 (take i xs) (drop (suc i) xs) differ c.loop-number.invariant.entries c.in_ok-insert.ensures.updates items in
+    let items = c.in_ok-copy_of_bytes.ensures.items ∙ c.deref.ensures.value in
+    let small = subst AreByteValues (sym c.in_ok-copy_of_bytes.ensures.items) c.in_ok-copy_of_bytes.ensures.bytes in
+    let more = one_more c.loop-number.by_number c.insert.new.self x.0 x.1 c.in_ok-copy_of_bytes.field-0 (take i xs) (drop (suc i) xs) differ c.loop-number.invariant.entries c.in_ok-insert.ensures.updates items in
     record {
       entries = more ∙ ap (λ es. map.from_entries (bytes_by_number es)) (take_item xs i x c.loop-number-test.true c.loop-number-item.is);
       bytes =
-          rw (inserted_bytes c.loop-number.by_number c.insert.new.self x.0 c.in_ok-copied.field-0 c.in_ok-insert.ensures.updates)
-          (block_more (data_block_map c.loop-number.by_number.entries) x.0 c.in_ok-copied.field-0.items c.loop-number.invariant.bytes small);
+          rw (inserted_bytes c.loop-number.by_number c.insert.new.self x.0 c.in_ok-copy_of_bytes.field-0 c.in_ok-insert.ensures.updates)
+          (block_more (data_block_map c.loop-number.by_number.entries) x.0 c.in_ok-copy_of_bytes.field-0.items c.loop-number.invariant.bytes small);
     }
 
 pub returns-clause-bytes : goal.returns-clause-bytes

@@ -4,7 +4,7 @@ use Rattle.flat_code.specs.Names.{find}
 use Rattle.var_access.specs.Readings.{all_readings, trim}
 use Rattle.var_access.specs.Requests.{comma_parts}
 use Rattle.var_access.specs.Variables.{var_of}
-use Rattle.var_access.proofs.request_texts.read_vars.Given as goal
+use Rattle.var_access.proofs.request_texts.vars_of.Given as goal
 
 -- so many parts were read, and the others are left
 abbrev pub invariant-loop : goal.invariant-loop

@@ -6,7 +6,7 @@ use Rattle.var_access.specs.Variables.{var_of}
 use Rattle.var_access.specs.declared.requests.Var.{Var}
 use Rattle.var_access.proofs.PartLemmas.{parts_some}
 use Rattle.var_access.proofs.RequestLemmas.{with_more, read_last, read_length, read_many, read_more, read_rest}
-use Rattle.var_access.proofs.request_texts.read_vars.Goals as goal
+use Rattle.var_access.proofs.request_texts.vars_of.Goals as goal
 
 pub returns-in-None : goal.returns-in-None
 returns-in-None c =
