@@ -4,7 +4,7 @@ ghost use Rattle.alu.specs.Signed.{format_width};
 ghost use Rattle.plc_base.specs.Changes.{ChangesOrStays};
 ghost use Rattle.alu.specs.Conversions.{accumulator_inverted, accumulator_widened, from_bcd_word, from_bcd_dword, to_bcd_word, to_bcd_dword, with_bcd, with_overflow};
 
-use crate::formats::{Format, dint_of, int_of, low_dword, accumulator_word};
+use crate::formats::{Format, accumulator_word, dint_of, int_of, low_dword};
 use plc_base::{BadBcd, bcd_to_int, bcd7_to_dint, dint_to_bcd7, int_to_bcd};
 use status_word::{Regs, Status};
 

@@ -11,7 +11,10 @@ fn operands(r: &Regs, constant: Option<u16>) -> (u16, u16)
     ensures first { result.0 ≡ r.now.a1 % 2 ^ 16 }
     ensures second { result.1 ≡ logic_operand 16 constant r.now }
 {
-    (accumulator_word(r.a1), constant.unwrap_or(accumulator_word(r.a2)))
+    (
+        accumulator_word(r.a1),
+        constant.unwrap_or(accumulator_word(r.a2)),
+    )
 }
 
 /// The bits of accumulator 1 and the second operand.
