@@ -2,6 +2,7 @@
 use Rattle.std.specs.Prelude.{ℕ, zero, suc, ◌+◌, ◌*◌, ◌/◌, Bool, ◌&&◌, ◌||◌, ◌==◌, nat_lt, Option, Some, None, if◌then◌else◌}
 use Rattle.ob_sched.specs.OrganizationBlock.{is_interrupt}
 use Rattle.ob_sched.specs.Scheduler.{Scheduler, ob_disabled_as}
+use Rattle.sys_funcs.specs.ErrorCodes as codes
 
 -- the first OB number of the group of an interrupt: 10, 20, 30 or 40
 abbrev pub first_of_group : ℕ → ℕ
@@ -27,9 +28,9 @@ selects_interrupts mode ob_nr =
 -- for an OB_NR that means no interrupt
 abbrev pub selection_error_code : (mode ob_nr : ℕ) → Option ℕ
 selection_error_code mode ob_nr =
-    if nat_lt 2 mode then Some 0x8091
+    if nat_lt 2 mode then Some codes.wrong_mode
     else if selects_interrupts mode ob_nr then None
-    else Some 0x8090
+    else Some codes.wrong_ob_nr
 
 -- the scheduler in which an organization block is disabled or enabled, if it is meant
 abbrev pub ob_disabled_if_selected : Bool → Bool → ℕ → Scheduler → Scheduler

@@ -4,6 +4,7 @@ use Rattle.std.specs.Prelude.{◌≡◌, ℕ, ◌+◌, ◌-◌, min, Bool, true,
 use Rattle.frames.specs.declared.activation.Activation.{Activation}
 use Rattle.ob_sched.specs.OrganizationBlock.{is_delay}
 use Rattle.ob_sched.specs.Scheduler.{Scheduler, delay_of, delay_started, delay_cancelled}
+use Rattle.sys_funcs.specs.ErrorCodes as codes
 use Rattle.sys_funcs.specs.Disabling.{selection_error_code, interrupts_disabled}
 use Rattle.sys_funcs.specs.Results.{SystemFunctionResult, int_result, with_br_set}
 
@@ -19,7 +20,7 @@ dis_airt s a = let n : ℕ = min (a.delay + 1) 32767 in int_result s (with_delay
 -- returned, and nothing changes but BR
 unfoldable pub en_airt : Scheduler → Activation → SystemFunctionResult
 en_airt s a =
-    if a.delay == 0 then int_result s a 0x8080
+    if a.delay == 0 then int_result s a codes.not_delayed
     else int_result s (with_delay (a.delay - 1) a) (a.delay - 1)
 
 -- what SFC 39 DIS_IRT and SFC 40 EN_IRT leave: an error code is returned; without one (None) the
@@ -50,17 +51,17 @@ IsDelayOb ob_nr None = is_delay ob_nr ≡ false
 -- than 1 to 60,000 ms; else the delay starts, or starts anew. SIGN doesn't count
 unfoldable pub srt_dint : Scheduler → Activation → (ob_nr dtime sign : ℕ) → SystemFunctionResult
 srt_dint s a ob_nr dtime sign =
-    if not (is_delay ob_nr) then int_result s a 0x8090
-    else if not (nat_le 1 dtime && nat_le dtime 60000) then int_result s a 0x8091
+    if not (is_delay ob_nr) then int_result s a codes.wrong_ob_nr
+    else if not (nat_le 1 dtime && nat_le dtime 60000) then int_result s a codes.wrong_dtime
     else int_result (delay_started ob_nr dtime s) a 0
 
 -- SFC 33 CAN_DINT: 16#8090 for an OB_NR other than 20 to 23; after that 16#80A0 where no delay is
 -- started; else the delay ends
 unfoldable pub can_dint : Scheduler → Activation → (ob_nr : ℕ) → SystemFunctionResult
 can_dint s a ob_nr =
-    if not (is_delay ob_nr) then int_result s a 0x8090
+    if not (is_delay ob_nr) then int_result s a codes.wrong_ob_nr
     else if is_some (delay_of s.countdowns ob_nr) then int_result (delay_cancelled ob_nr s) a 0
-    else int_result s a 0x80A0
+    else int_result s a codes.not_started
 
 -- SFC 64 TIME_TCK: the clock in milliseconds is returned; since it is a TIME and no error code, BR
 -- is 1

@@ -1,3 +1,4 @@
+pub mod ErrorCodes
 pub mod Results
 pub mod Disabling
 pub mod Functions

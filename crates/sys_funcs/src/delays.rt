@@ -3,18 +3,10 @@ ghost use Rattle.ob_sched.specs.Views.{scheduler_of};
 ghost use Rattle.sys_funcs.specs.Results.{LeavesSystemFunctionResult};
 ghost use Rattle.sys_funcs.specs.Functions.{IsDelayOb, srt_dint as starts, can_dint as cancels};
 
+use crate::error_codes::{NOT_STARTED, WRONG_DTIME, WRONG_OB_NR};
 use crate::returns::returned_value;
 use frames::Activation;
 use ob_sched::Sched;
-
-/// Another OB_NR than that of a time delay interrupt.
-const WRONG_OB_NR: u32 = 0x8090;
-
-/// A delay that isn't 1 to 60,000 ms.
-const WRONG_DTIME: u32 = 0x8091;
-
-/// No delay is started.
-const NOT_STARTED: u32 = 0x80A0;
 
 // The organization block of a time delay interrupt by its number.
 fn delay_ob(ob_nr: u32) -> Option<u16>

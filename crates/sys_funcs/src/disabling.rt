@@ -5,15 +5,10 @@ ghost use Rattle.sys_funcs.specs.Disabling.{interrupts_disabled, first_of_group,
 ghost use Rattle.sys_funcs.specs.Results.{LeavesSystemFunctionResult};
 ghost use Rattle.sys_funcs.specs.Functions.{dis_irt as disables, en_irt as enables, interrupts_disabled_or_error};
 
+use crate::error_codes::{WRONG_MODE, WRONG_OB_NR};
 use crate::returns::returned_value;
 use frames::Activation;
 use ob_sched::Sched;
-
-/// Another MODE than 0, 1 and 2.
-const WRONG_MODE: u32 = 0x8091;
-
-/// An OB_NR that means no interrupt.
-const WRONG_OB_NR: u32 = 0x8090;
 
 // Whether an organization block is that of an interrupt.
 fn is_interrupt(ob: u32) -> bool

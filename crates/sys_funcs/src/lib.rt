@@ -4,6 +4,7 @@
 
 mod delays;
 mod disabling;
+mod error_codes;
 mod returns;
 mod runtime;
 mod waiting;

@@ -3,15 +3,13 @@ ghost use Rattle.ob_sched.specs.Views.{scheduler_of};
 ghost use Rattle.sys_funcs.specs.Results.{LeavesSystemFunctionResult};
 ghost use Rattle.sys_funcs.specs.Functions.{dis_airt as disables, en_airt as enables};
 
+use crate::error_codes::NOT_DELAYED;
 use crate::returns::returned_value;
 use frames::Activation;
 use ob_sched::Sched;
 
 /// How often interrupts can be delayed.
 const MOST_DELAYS: u16 = 32_767;
-
-/// What EN_AIRT returns where interrupts aren't delayed.
-const NOT_DELAYED: u32 = 0x8080;
 
 /// SFC 41 DIS_AIRT: delays interrupts once more in the running activation, 32,767 times at most, and
 /// returns how often they are delayed.
