@@ -10,6 +10,7 @@ use Rattle.plc_base.specs.Pointer.{place_at_pointer}
 use Rattle.plc_mem.specs.Areas.{Areas}
 use Rattle.status_word.specs.declared.Bracket.{Bracket}
 use Rattle.status_word.specs.declared.Regs.{Regs}
+use Rattle.status_word.specs.StatusNumber.{bit_as_number}
 use Rattle.timers_counters.specs.Timer.{Timer}
 use Rattle.timers_counters.specs.Counter.{Counter}
 use Rattle.timers_counters.specs.declared.faults.TimerFault.{TimerFault}
@@ -36,7 +37,7 @@ use Rattle.flat_code.specs.Table.{admits, takes_of_operation, takes_timer, takes
 use Rattle.machine.specs.declared.places.Access.{Access}
 use Rattle.machine.specs.declared.places.Access.TheVariants.{Reading, Writing}
 use Rattle.machine.specs.declared.places.Location.{Location}
-use Rattle.machine.specs.BitLogic.{regs_after_bit_check, put_bit, bit_as_number, with_local_regs, bit_before, bit_assigned, assigned_at, bit_set, bit_set_at, local_memory_after_edge, local_memory_after_edge_at}
+use Rattle.machine.specs.BitLogic.{regs_after_bit_check, put_bit, with_local_regs, bit_before, bit_assigned, assigned_at, bit_set, bit_set_at, local_memory_after_edge, local_memory_after_edge_at}
 use Rattle.machine.specs.DataBlocks.{is_block_loaded, opened_if, block_opened_by, loading_open_block}
 use Rattle.machine.specs.Effect.{effect_on_regs, on_local, on_local_memory, on_timers, on_counters, kind_of_numbered_operand, set_effect, reset_effect, enable_effect, operation_effect}
 use Rattle.machine.specs.Lasting.{is_error_code}

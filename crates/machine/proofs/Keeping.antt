@@ -12,6 +12,7 @@ use Rattle.status_word.specs.Store.{after_store}
 use Rattle.status_word.specs.declared.Bracket.{Bracket}
 use Rattle.plc_base.specs.declared.Check.{Check}
 use Rattle.status_word.specs.declared.Regs.{Regs}
+use Rattle.status_word.specs.StatusNumber.{bit_as_number}
 use Rattle.timers_counters.specs.Timer.{Timer}
 use Rattle.timers_counters.specs.Counter.{Counter}
 use Rattle.frames.specs.FrameData.{FrameData}
@@ -33,7 +34,7 @@ use Rattle.machine.specs.declared.places.Location.{Location}
 use Rattle.machine.specs.ExecState.{Local, LocalMemory, ExecState, then_ok}
 use Rattle.machine.specs.Places.{operand_location, error_of_absent_place, is_area_l, pointer_number, no_operand}
 use Rattle.machine.specs.Values.{is_timer_kind, with_locals, stored_at, number_written_at}
-use Rattle.machine.specs.BitLogic.{put_bit, bit_as_number, with_local_regs, bit_before, bit_assigned, assigned_at, bit_set, bit_set_at, local_memory_after_edge, local_memory_after_edge_at}
+use Rattle.machine.specs.BitLogic.{put_bit, with_local_regs, bit_before, bit_assigned, assigned_at, bit_set, bit_set_at, local_memory_after_edge, local_memory_after_edge_at}
 use Rattle.machine.specs.Nesting.{with_open_brackets, nesting_opened, nesting_closed, bracket_closed}
 use Rattle.machine.specs.Relay.{is_writing_off, with_frame_relay, with_relay_zones, opening_zone, ending_zone, relay_effect}
 use Rattle.machine.specs.Loads.{number_transferred, local_memory_after_transfer}

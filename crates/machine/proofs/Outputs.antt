@@ -16,6 +16,7 @@ use Rattle.plc_mem.specs.Number.{region_of}
 use Rattle.plc_mem.specs.Writing.{put_number as put_bytes, put_peripheral, put_in_block, number_written, number_written_in}
 use Rattle.plc_mem.proofs.Runs.{mapped_value}
 use Rattle.status_word.specs.declared.Regs.{Regs}
+use Rattle.status_word.specs.StatusNumber.{bit_as_number}
 use Rattle.timers_counters.specs.Timer.{Timer}
 use Rattle.timers_counters.specs.Counter.{Counter}
 use Rattle.frames.specs.Locals.{LocalData, local_written}
@@ -34,7 +35,7 @@ use Rattle.machine.specs.declared.places.Location.{Location}
 use Rattle.machine.specs.ExecState.{Local, LocalMemory, ExecState, then_ok}
 use Rattle.machine.specs.Places.{error_of_absent_place, register_address, location_at_pointer, pointer_location, error_of, open_area_location, open_block_location, is_aligned, is_bit_width, is_area_l, is_area_p, operand_location, address_moved_by, binding_location, pointer_number}
 use Rattle.machine.specs.Values.{is_timer_kind, with_locals, stored_at, number_written_at}
-use Rattle.machine.specs.BitLogic.{put_bit, bit_as_number, with_local_regs, bit_before, bit_assigned, assigned_at, bit_set, bit_set_at, local_memory_after_edge, local_memory_after_edge_at}
+use Rattle.machine.specs.BitLogic.{put_bit, with_local_regs, bit_before, bit_assigned, assigned_at, bit_set, bit_set_at, local_memory_after_edge, local_memory_after_edge_at}
 use Rattle.machine.specs.Copies.{is_copied_in, instance_parameter_location, local_memory_or, number_stored, number_copied, actual_copied_to, param_in, params_copied_in}
 use Rattle.machine.specs.Relay.{is_writing_off, relay_effect}
 use Rattle.machine.specs.Loads.{number_transferred, local_memory_after_transfer}

@@ -5,6 +5,7 @@ use Rattle.plc_base.specs.declared.Check.{Check}
 use Rattle.plc_mem.specs.Areas.{Areas}
 use Rattle.status_word.specs.declared.Regs.{Regs}
 use Rattle.status_word.specs.Check.{after_check}
+use Rattle.status_word.specs.StatusNumber.{bit_as_number}
 use Rattle.status_word.specs.Store.{after_store}
 use Rattle.status_word.specs.Edge.{after_edge}
 use Rattle.timers_counters.specs.Timer.{Timer}
@@ -22,10 +23,6 @@ unfoldable pub regs_after_bit_check :
     Check → Operand → Local → Areas → List Timer → List Counter → Result Regs ℕ
 regs_after_bit_check with o s m t n =
     then_ok (checked_bit o s m t n) (λ bit. Ok (after_check with bit s.regs))
-
--- the number of a bit operand: 1 where the bit is true, else 0
-abbrev pub bit_as_number : Bool → ℕ
-bit_as_number bit = if bit then 1 else 0
 
 -- a running block with other registers; memory and all else of the block stay
 abbrev pub with_local_regs : Regs → LocalMemory → LocalMemory

@@ -2,7 +2,8 @@
 ghost use Rattle.std.specs.Prelude.{◌≡◌, ◌<◌};
 ghost use Rattle.machine.specs.ExecState.{local_of, then_ok};
 ghost use Rattle.machine.specs.Outcomes.{ChangesLocalMemory, ChangesRunningRegs};
-ghost use Rattle.machine.specs.BitLogic.{regs_after_bit_check, put_bit as put_bit_of, bit_before as bit_before_of, bit_after_set as bit_after_of, bit_as_number as number_of_bit, bit_assigned, assigned_at, bit_set_at as set_at_of, bit_set as bit_set_of, local_memory_after_edge as edge_of};
+ghost use Rattle.status_word.specs.StatusNumber.{bit_as_number as number_of_bit};
+ghost use Rattle.machine.specs.BitLogic.{regs_after_bit_check, put_bit as put_bit_of, bit_before as bit_before_of, bit_after_set as bit_after_of, bit_assigned, assigned_at, bit_set_at as set_at_of, bit_set as bit_set_of, local_memory_after_edge as edge_of};
 
 use crate::places::{Access, Location, area_location, number_at, operand_location};
 use crate::relay::power_flow;
