@@ -28,8 +28,10 @@ accumulator_rotated_right n r =
 
 -- RLDA: one place left through CC 1, which moves in from the right
 unfoldable pub accumulator_rotated_left_through : Regs → Regs
-accumulator_rotated_left_through r = with_shifted 32 (r.a1 * 2 % 2 ^ 32 + bit_as_number r.status.cc1) (has_bit r.a1 31) r
+accumulator_rotated_left_through r =
+    with_shifted 32 (r.a1 * 2 % 2 ^ 32 + bit_as_number r.status.cc1) (has_bit r.a1 31) r
 
 -- RRDA: one place right through CC 1, which moves in from the left
 unfoldable pub accumulator_rotated_right_through : Regs → Regs
-accumulator_rotated_right_through r = with_shifted 32 (r.a1 / 2 + bit_as_number r.status.cc1 * 2 ^ 31) (has_bit r.a1 0) r
+accumulator_rotated_right_through r =
+    with_shifted 32 (r.a1 / 2 + bit_as_number r.status.cc1 * 2 ^ 31) (has_bit r.a1 0) r

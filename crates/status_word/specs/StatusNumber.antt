@@ -11,7 +11,8 @@ bit_as_number b = if b then 1 else 0
 -- the number of all nine bits of a status word: a bit k that is 1 weighs 2 ^ k
 unfoldable pub status_number : Status → ℕ
 status_number s =
-    bit_as_number s.fc + 2 * bit_as_number s.rlo + 4 * bit_as_number s.sta + 8 * bit_as_number s.or + 16 * bit_as_number s.os + 32 * bit_as_number s.ov
+    bit_as_number s.fc + 2 * bit_as_number s.rlo + 4 * bit_as_number s.sta
+    + 8 * bit_as_number s.or + 16 * bit_as_number s.os + 32 * bit_as_number s.ov
     + 64 * bit_as_number s.cc0 + 128 * bit_as_number s.cc1
     + 256 * bit_as_number s.br
 

@@ -35,12 +35,14 @@ interrupts_disabled_or_error None disabled mode ob_nr s a =
 -- SFC 39 DIS_IRT: the interrupts that MODE and OB_NR mean are disabled; pending requests and
 -- started delays stay
 unfoldable pub dis_irt : Scheduler → Activation → (mode ob_nr : ℕ) → SystemFunctionResult
-dis_irt s a mode ob_nr = interrupts_disabled_or_error (selection_error_code mode ob_nr) true mode ob_nr s a
+dis_irt s a mode ob_nr =
+    interrupts_disabled_or_error (selection_error_code mode ob_nr) true mode ob_nr s a
 
 -- SFC 40 EN_IRT: the interrupts that MODE and OB_NR mean are enabled, with the error codes of
 -- DIS_IRT
 unfoldable pub en_irt : Scheduler → Activation → (mode ob_nr : ℕ) → SystemFunctionResult
-en_irt s a mode ob_nr = interrupts_disabled_or_error (selection_error_code mode ob_nr) false mode ob_nr s a
+en_irt s a mode ob_nr =
+    interrupts_disabled_or_error (selection_error_code mode ob_nr) false mode ob_nr s a
 
 -- an OB_NR is that of a time-delay interrupt, as the answer says: its OB, or None
 abbrev pub IsDelayOb : ℕ → Option ℕ → Type 0
