@@ -2,8 +2,8 @@
 //! alone. They are those of Siemens' "Statement List (STL) for S7-300 and S7-400 Programming".
 //!
 //! INT is a 16-bit integer in the low word of an accumulator (ACCU 1-L), DINT a 32-bit integer in
-//! the whole accumulator. In integer math and comparisons accumulator 2 is the left operand and stays
-//! as it is.
+//! the whole accumulator. In integer math and comparisons accumulator 2 is the left operand and
+//! stays as it is.
 #![tactic(auto)]
 
 mod accumulators;

@@ -6,7 +6,7 @@ use Rattle.std.proofs.lemmas.Grind.{common_steps}
 use Rattle.plc_base.specs.AreaBytes.{is_peripheral_byte}
 use Rattle.monitor.specs.LineText.{hex_text}
 use Rattle.var_access.specs.Entry.{is_arrivable}
-use Rattle.var_access.specs.Readings.{Reading, reading_map, number_in, address_number, hex_of}
+use Rattle.var_access.specs.Readings.{Reading, reading_map, number_reading, address_number, hex_of}
 use Rattle.var_access.specs.Requests.{request_line}
 use Rattle.var_access.specs.Runs.{is_step}
 use Rattle.var_access.specs.Variables.{Names}
@@ -120,7 +120,7 @@ op-line names before who r least most h =
     ∙ by-word names before (codes "op") (32 ∷ (decimal k ++ (32 ∷ request_text r))) (word-of (codes "op") (omega arith) (refl, (refl, tt))) refl (entry-line-taken 111 (codes "p" ++ (32 ∷ (decimal k ++ (32 ∷ request_text r)))) refl)
     ∙ ap (λ w. reading_map one_entry (operator_with names w)) (first-word-behind (decimal k) (32 ∷ request_text r) d refl)
     ∙ ap (λ x. reading_map one_entry (reading_map (λ p. request_entry (worker_of p.0) p.1) x))
-    (both-read (number_in 1 4 5 (decimal k)) (request_line names (32 ∷ request_text r)) k r (number_read 1 4 5 k (omega arith) (omega arith) (omega arith)) (request-read names r h))
+    (both-read (number_reading 1 4 5 (decimal k)) (request_line names (32 ∷ request_text r)) k r (number_read 1 4 5 k (omega arith) (omega arith) (omega arith)) (request-read names r h))
     ∙ ap (λ w. Ok (one_entry (request_entry w r))) back
 
 -- the line `step n`

@@ -7,7 +7,7 @@ use Rattle.std.proofs.lemmas.Int.Digits.{digits_value_push}
 use Rattle.std.proofs.lemmas.Bool.Decides.{nat_tests}
 use Rattle.std.proofs.lemmas.Grind.{common_steps}
 use Rattle.plc_base.specs.Decimal.{decimal_value, is_decimal}
-use Rattle.var_access.specs.Readings.{number_in, address_number, hex_of, is_hex}
+use Rattle.var_access.specs.Readings.{number_reading, address_number, hex_of, is_hex}
 use Rattle.monitor.specs.LineText.{hex_text, hex_digit}
 use Rattle.event_text.proofs.ByteLemmas.{Each, each-append, each-list_all}
 
@@ -48,8 +48,8 @@ decimal-is [] some h = absurd (omega arith)
 decimal-is (b ∷ t) some h = each-list_all is_ascii_digit (b ∷ t) h
 
 -- a number that is written is read, within its bounds
-pub number_read : (low high rule n : ℕ) → n < 2 ^ 64 → low ≤ n → n ≤ high → number_in low high rule (decimal n) ≡ Ok n
-unfolding number_in
+pub number_read : (low high rule n : ℕ) → n < 2 ^ 64 → low ≤ n → n ≤ high → number_reading low high rule (decimal n) ≡ Ok n
+unfolding number_reading
 number_read low high rule n small least most =
     let d : IsNumeral n (decimal n) = numeral n small in
     let is : is_decimal (decimal n) ≡ true = decimal-is (decimal n) d.some d.digits in

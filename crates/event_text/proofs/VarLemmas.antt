@@ -9,7 +9,7 @@ use Rattle.plc_base.specs.declared.places.Width.{Width}
 use Rattle.plc_base.specs.declared.places.Width.TheVariants.{Bit, Byte, Word, Dword}
 use Rattle.var_access.specs.declared.requests.Var.{Var}
 use Rattle.plc_base.specs.Texts.{is_blank}
-use Rattle.var_access.specs.Readings.{Reading, both_readings, reading_map, number_in, address_number, behind_blanks}
+use Rattle.var_access.specs.Readings.{Reading, both_readings, reading_map, number_reading, address_number, behind_blanks}
 use Rattle.var_access.specs.Variables.{Names, is_letter, leading_letters, behind_letters, area_of_letters, width_of_letters, wide_of, db_width_of, var_at, wide_var, bit_var, block_var, block_bit, two_parts, var_of_parts, is_point, is_quote, var_of}
 use Rattle.event_text.specs.HistoryText.{place_text, var_text}
 use Rattle.event_text.proofs.AddressLemmas.{HasArea, HasBit, IsAddress}
@@ -90,7 +90,7 @@ wide-read names area width b ls n h is small =
     ∙ ap (λ x. wide_var (Some (area, width)) x) l.behind
     ∙ ap (λ r. reading_map (λ m. var_at area 0 m 0 width) r) (number-of n small)
 
-bit-of : (k : ℕ) → k ≤ 7 → number_in 0 7 2 (decimal k) ≡ Ok k
+bit-of : (k : ℕ) → k ≤ 7 → number_reading 0 7 2 (decimal k) ≡ Ok k
 bit-of k few = number_read 0 7 2 k (omega arith) (omega arith) few
 
 pub both-read : {A B : Type 0} (x : Reading A) (y : Reading B) (a : A) (c : B) → x ≡ Ok a → y ≡ Ok c → both_readings x y ≡ Ok (a, c)
@@ -109,7 +109,7 @@ bit-read names area b n k h is small few =
     ∙ ap (λ x. two_parts (area_of_letters x) (b ∷ decimal n) (decimal k)) l.letters
     ∙ ap (λ x. two_parts x (b ∷ decimal n) (decimal k)) is
     ∙ ap (λ x. bit_var area x (decimal k)) l.behind
-    ∙ ap (λ r. reading_map (λ m. var_at area 0 m.0 m.1 Bit) r) (both-read (address_number (decimal n)) (number_in 0 7 2 (decimal k)) n k (number-of n small) (bit-of k few))
+    ∙ ap (λ r. reading_map (λ m. var_at area 0 m.0 m.1 Bit) r) (both-read (address_number (decimal n)) (number_reading 0 7 2 (decimal k)) n k (number-of n small) (bit-of k few))
 
 db : List ℕ
 db = 68 ∷ 66 ∷ []
@@ -150,7 +150,7 @@ block-bit-read names m n k ms ns few =
     ∙ ap (λ x. block_bit x (behind_letters second) (decimal k)) l.behind
     ∙ ap (λ x. block_bit (decimal m) x (decimal k)) r.behind
     ∙ ap (λ x. reading_map (λ p. var_at Db p.0 p.1.0 p.1.1 Bit) x)
-    (both-read (address_number (decimal m)) (both_readings (address_number (decimal n)) (number_in 0 7 2 (decimal k))) m (n, k) (number-of m ms) (both-read (address_number (decimal n)) (number_in 0 7 2 (decimal k)) n k (number-of n ns) (bit-of k few)))
+    (both-read (address_number (decimal m)) (both_readings (address_number (decimal n)) (number_reading 0 7 2 (decimal k))) m (n, k) (number-of m ms) (both-read (address_number (decimal n)) (number_reading 0 7 2 (decimal k)) n k (number-of n ns) (bit-of k few)))
 
 -- ---- every place
 

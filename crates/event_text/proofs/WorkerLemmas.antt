@@ -7,7 +7,7 @@ use Rattle.plc_base.specs.AreaBytes.{is_peripheral_byte}
 use Rattle.plc_base.specs.declared.refusals.Refusal.{Refusal}
 use Rattle.plc_base.proofs.ListLemmas.{all_append}
 use Rattle.var_access.specs.Entry.{IsValid, is_arrivable}
-use Rattle.var_access.specs.Readings.{Reading, address_number, both_readings, first_word, hex_of, number_in, reading_map, words_of}
+use Rattle.var_access.specs.Readings.{Reading, address_number, both_readings, first_word, hex_of, number_reading, reading_map, words_of}
 use Rattle.var_access.specs.Requests.{request_of}
 use Rattle.var_access.specs.Variables.{Names}
 use Rattle.var_access.specs.declared.entries.Entry.{Entry}
@@ -60,7 +60,7 @@ arrival_made (ob ∷ value ∷ word ∷ words) = tt
 tick_made : (words : List (List ℕ)) → IfOk (tick_line words) (IsMadeBy 2)
 unfolding tick_line
 tick_made [] = tt
-tick_made (number ∷ []) = ok_of_map (IsMadeBy 2) _ (number_in 1 60000 2 number) (λ n. (refl, refl))
+tick_made (number ∷ []) = ok_of_map (IsMadeBy 2) _ (number_reading 1 60000 2 number) (λ n. (refl, refl))
 tick_made (number ∷ word ∷ words) = tt
 
 script_made : (names : Names) (who : ℕ) (word rest : List ℕ) → (3 ≤ who) × (who ≤ 6) → IfOk (script_line names who word rest) (IsMadeBy who)

@@ -4,7 +4,7 @@ use Rattle.std.specs.Prelude.{ℕ, ◌==◌, ◌+◌, List, [], ◌∷◌, lengt
 use Rattle.std.specs.List.{starts_with}
 use Rattle.plc_base.specs.AreaBytes.{is_peripheral_byte}
 use Rattle.var_access.specs.Entry.{is_arrivable}
-use Rattle.var_access.specs.Readings.{Reading, both_readings, reading_map, no_line, number_in, address_number, hex_of, first_word, words_of}
+use Rattle.var_access.specs.Readings.{Reading, both_readings, reading_map, no_line, number_reading, address_number, hex_of, first_word, words_of}
 use Rattle.var_access.specs.Requests.{request_line, request_of}
 use Rattle.var_access.specs.Variables.{Names}
 use Rattle.var_access.specs.declared.entries.Entry.{Entry}
@@ -20,7 +20,7 @@ most_steps = 1000000
 -- how many steps the words behind `step` say: one without a word, else a number from 1 to 1,000,000
 abbrev pub step_count : List (List ℕ) → Reading ℕ
 step_count [] = Ok 1
-step_count (number ∷ []) = number_in 1 1000000 2 number
+step_count (number ∷ []) = number_reading 1 1000000 2 number
 step_count words = no_line
 
 -- the count of steps of a line, with `before` steps in the lines before it; rule 6 where the
@@ -57,7 +57,7 @@ arrival_line words = no_line
 
 -- `tick n`: 1 to 60,000 milliseconds pass
 unfoldable pub tick_line : List (List ℕ) → Reading Entry
-tick_line (number ∷ []) = reading_map (λ n. feeder_entry (Tick n)) (number_in 1 60000 2 number)
+tick_line (number ∷ []) = reading_map (λ n. feeder_entry (Tick n)) (number_reading 1 60000 2 number)
 tick_line words = no_line
 
 -- the entry of an operator's request, by the operator's number and the request behind it
@@ -65,7 +65,7 @@ abbrev pub operator_with : Names → Option (List ℕ × List ℕ) → Reading E
 operator_with names None = no_line
 operator_with names (Some w) =
     reading_map (λ p. request_entry (worker_of p.0) p.1)
-    (both_readings (number_in 1 4 5 w.0) (request_line names w.1))
+    (both_readings (number_reading 1 4 5 w.0) (request_line names w.1))
 
 -- `op k REQUEST`: operator k, 1 to 4, asks
 unfoldable pub operator_line : Names → (rest : List ℕ) → Reading Entry

@@ -2,7 +2,7 @@ ghost use Rattle.std.specs.Prelude.{◌≡◌, ◌+◌, ◌≤◌, true, Some, I
 ghost use Rattle.plc_base.specs.AreaBytes.{is_peripheral_byte as is_peripheral_byte_of};
 ghost use Rattle.flat_code.specs.Names.{find};
 ghost use Rattle.var_access.specs.Entry.{is_arrivable as is_arrivable_of, IsRequest};
-ghost use Rattle.var_access.specs.Readings.{address_number as address_number_of, number_in, words_of};
+ghost use Rattle.var_access.specs.Readings.{address_number as address_number_of, number_reading, words_of};
 ghost use Rattle.var_access.specs.Requests.{request_line};
 ghost use Rattle.event_text.specs.LineEntries.{entries_read, IsScriptLine, IsOtherEntry, IsOtherLine, IsLineAllowed};
 ghost use Rattle.event_text.specs.Workers.{feeder_entry as feeder_entry_of};
@@ -15,7 +15,7 @@ use var_access::text_rules::{
     NO_OPERATOR, NOT_IN_GRAMMAR, OTHER_FILE, OUT_OF_RANGE, TOO_MANY_STEPS,
 };
 use var_access::{
-    Entry, Request, What, address_number, both, first_word, hex_of, is_arrivable, number_in,
+    Entry, Request, What, address_number, both, first_word, hex_of, is_arrivable, number_reading,
     request_of,
 };
 
@@ -63,7 +63,7 @@ fn read_count(words: &[u8]) -> Result<u32, u16>
     if first_word(rest).is_some() {
         return Err(NOT_IN_GRAMMAR);
     }
-    number_in(number, 1, MOST_STEPS, OUT_OF_RANGE)
+    number_reading(number, 1, MOST_STEPS, OUT_OF_RANGE)
 }
 
 /// How many steps the words behind `step` say, where so many stand before the line.
@@ -160,16 +160,16 @@ fn read_tick(words: &[u8]) -> Result<Entry, u16>
     if first_word(rest).is_some() {
         return Err(NOT_IN_GRAMMAR);
     }
-    let ms = number_in(number, 1, LONGEST_TICK, OUT_OF_RANGE)?;
+    let ms = number_reading(number, 1, LONGEST_TICK, OUT_OF_RANGE)?;
     Ok(feeder_entry(What::Tick { ms }))
 }
 
 /// The operator's number that a word spells, 1 to 4.
 fn read_operator(word: &[u8]) -> Result<u8, u16>
-    ensures value { result ≡ number_in 1 4 5 word.now }
+    ensures value { result ≡ number_reading 1 4 5 word.now }
     ensures range { IfOk result (λ operator. (1 ≤ operator) × (operator ≤ 4)) }
 {
-    let operator = number_in(word, 1, OPERATORS, NO_OPERATOR)?;
+    let operator = number_reading(word, 1, OPERATORS, NO_OPERATOR)?;
     Ok(operator as u8)
 }
 

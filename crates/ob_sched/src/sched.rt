@@ -68,8 +68,8 @@ impl Sched {
     }
 
     /// A request of an organization block: `Dropped` where the block is disabled, else `NotLoaded`
-    /// where it isn't loaded, else `Full` where its queue is full; else it waits. Only a request that
-    /// waits changes anything.
+    /// where it isn't loaded, else `Full` where its queue is full; else it waits. Only a request
+    /// that waits changes anything.
     pub fn arrive(&mut self, ob: u16, info: StartInfo) -> Arrived
         requires { IsTrue (can_wait ob) }
         ensures answer { result ≡ arrival (scheduler_of self.old) ob }

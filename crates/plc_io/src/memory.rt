@@ -92,10 +92,11 @@ impl Files for MemFiles {
             memory_files self.old.files self.old.reads.failed self.old.writes.failed in
             let after = memory_files self.new.files self.new.reads.failed self.new.writes.failed in
             LeavesRead before after name.now result }
-        // The answer: a failure where this read is chosen to fail or there is no such file, else the
-        // number of bytes read. Only the count of reads changes.
+        // The answer: a failure where this read is chosen to fail or there is no such file, else
+        // the number of bytes read. Only the count of reads changes.
         ensures answer { let fails = is_next_to_fail self.old.reads in
-            result ≡ read_answer fails (bytes_of_file self.old.files name.now) at (length into.new) }
+            result ≡ read_answer fails (bytes_of_file self.old.files name.now) at
+            (length into.new) }
         ensures after { self.new ≡ record self.old {
           reads = after_call self.old.reads (is_err result);
         } }
@@ -116,8 +117,8 @@ impl Files for MemFiles {
             memory_files self.old.files self.old.reads.failed self.old.writes.failed in
             let after = memory_files self.new.files self.new.reads.failed self.new.writes.failed in
             LeavesWritten before after name.now bytes.now result }
-        // `Failed` exactly where this write is chosen to fail. Ok: the file has the new bytes. Err: no
-        // file changed. Else only the count of writes changes.
+        // `Failed` exactly where this write is chosen to fail. Ok: the file has the new bytes.
+        // Err: no file changed. Else only the count of writes changes.
         ensures fails { (result ≡ Err IoFault.Failed)
             ↔ IsTrue (is_next_to_fail self.old.writes) }
         ensures ok { OnOk result (self.new.files ≡ with_file self.old.files name.now bytes.now) }
@@ -194,8 +195,8 @@ impl Sink for MemSink {
         ensures offered { let before = told_sink self.old.taken self.old.pushes.failed in
             let after = told_sink self.new.taken self.new.pushes.failed in
             OfferedPiece before after bytes.now result }
-        // `Failed` exactly where this push is chosen to fail. Ok: as many first bytes as the sink takes
-        // at once are taken. Err: none is taken.
+        // `Failed` exactly where this push is chosen to fail. Ok: as many first bytes as the sink
+        // takes at once are taken. Err: none is taken.
         ensures fails { (result ≡ Err IoFault.Failed)
             ↔ IsTrue (is_next_to_fail self.old.pushes) }
         ensures count { IfOk result (λ n. n ≡ min self.old.most (length bytes.now)) }

@@ -9,26 +9,26 @@ use Rattle.std.proofs.lemmas.Bool.{and_parts}
 use Rattle.std.proofs.lemmas.Bool.Decides.{nat_tests}
 use Rattle.std.proofs.lemmas.Int.Digits.{digits_value_more}
 use Rattle.plc_base.specs.Decimal.{decimal_up_to, is_decimal}
-use Rattle.var_access.specs.Readings.{number_in}
+use Rattle.var_access.specs.Readings.{number_reading}
 
 -- ---- decimal digits
 
 -- a number in its range
 pub number_within : (low high rule : ℕ) (word : List ℕ) (n : ℕ) → Some n ≡ decimal_up_to high word → low ≤ n
-    → Ok n ≡ number_in low high rule word
-unfolding decimal_up_to number_in
+    → Ok n ≡ number_reading low high rule word
+unfolding decimal_up_to number_reading
 number_within low high rule word n is least = grind (arith, nat_tests, is)
 
 -- a number below its range
 pub number_below : (low high rule : ℕ) (word : List ℕ) (n : ℕ) → Some n ≡ decimal_up_to high word → n < low
-    → Err rule ≡ number_in low high rule word
-unfolding decimal_up_to number_in
+    → Err rule ≡ number_reading low high rule word
+unfolding decimal_up_to number_reading
 number_below low high rule word n is less = grind (arith, nat_tests, is)
 
 -- a number above its range, or no number
 pub number_above : (low high rule : ℕ) (word : List ℕ) → None ≡ decimal_up_to high word
-    → Err (if is_decimal word then rule else 1) ≡ number_in low high rule word
-unfolding decimal_up_to number_in
+    → Err (if is_decimal word then rule else 1) ≡ number_reading low high rule word
+unfolding decimal_up_to number_reading
 number_above low high rule word is = grind (arith, nat_tests, is)
 
 -- ---- hexadecimal digits, one more of them

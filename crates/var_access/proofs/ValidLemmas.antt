@@ -16,10 +16,10 @@ use Rattle.plc_base.specs.declared.places.Place.{Place}
 use Rattle.plc_base.specs.declared.places.Width.{Width}
 use Rattle.plc_base.specs.declared.places.Width.TheVariants.{Bit, Byte, Word, Dword}
 use Rattle.var_access.specs.Entry.{is_bit_of_width, has_variables, is_var, IsRequest}
-use Rattle.var_access.specs.Readings.{Reading, address_number, all_readings, both_readings, first_word, hex_of, is_hex, number_in, reading_map, trim, words_of}
+use Rattle.var_access.specs.Readings.{Reading, address_number, all_readings, both_readings, first_word, hex_of, is_hex, number_reading, reading_map, trim, words_of}
 use Rattle.std.proofs.lemmas.Result.{IfOk-weaker}
 use Rattle.var_access.specs.Requests.{few_vars, kind_of_word, monitor_request, monitor_on, one_word, comma_parts, read_request, request_by, request_line, request_of, vars_of, write_request, write_to}
-use Rattle.var_access.specs.Variables.{Names, area_of_letters, behind_letters, bit_number, bit_value, bit_var, block_bit, block_var, closed_name, db_width_of, is_point, is_quote, leading_letters, named_var, two_parts, var_at, var_of, var_of_parts, wide_in, wide_of, wide_var, width_of_letters, width_value}
+use Rattle.var_access.specs.Variables.{Names, area_of_letters, behind_letters, bit_number_reading, bit_value, bit_var, block_bit, block_var, closed_name, db_width_of, is_point, is_quote, leading_letters, named_var, two_parts, var_at, var_of, var_of_parts, wide_in, wide_of, wide_var, width_of_letters, width_value}
 use Rattle.var_access.specs.declared.requests.Request.{Request}
 use Rattle.var_access.specs.declared.requests.Request.TheVariants.{ReadVars, WriteVar, Stop, Restart, MonitorOff, Diag}
 use Rattle.var_access.specs.declared.requests.Var.{Var}
@@ -56,8 +56,8 @@ and-true : (a b : Bool) → a ≡ true → b ≡ true → (a && b) ≡ true
 and-true true b one other = other
 and-true false b one other = one
 
-number_range : (low high rule : ℕ) (word : List ℕ) → IfOk (number_in low high rule word) (λ n. (low ≤ n) × (n ≤ high))
-unfolding number_in
+number_range : (low high rule : ℕ) (word : List ℕ) → IfOk (number_reading low high rule word) (λ n. (low ≤ n) × (n ≤ high))
+unfolding number_reading
 number_range low high rule word =
     let n : ℕ = decimal_value word in
     if-valid _ (is_decimal word) _ _
@@ -99,8 +99,8 @@ wide_var-valid (Some w) byte is =
     map-valid (λ n. var_at w.0 0 n 0 w.1) (λ n. Unit {0}) IsVar (address_number byte)
     (λ n _. and-true (has_variables w.0 0) (is_bit_of_width w.1 0) is (first_bit w.1)) (any (address_number byte))
 
-bit-below : (word : List ℕ) → IfOk (bit_number word) (λ n. is_bit_of_width Bit n ≡ true)
-bit-below word = weaker (bit_number word) (number_range 0 7 2 word)
+bit-below : (word : List ℕ) → IfOk (bit_number_reading word) (λ n. is_bit_of_width Bit n ≡ true)
+bit-below word = weaker (bit_number_reading word) (number_range 0 7 2 word)
   where
     weaker : (r : Reading ℕ) → IfOk r (λ n. (0 ≤ n) × (n ≤ 7)) → IfOk r (λ n. is_bit_of_width Bit n ≡ true)
     weaker (Ok n) is = le-leb n 7 is.1
@@ -108,9 +108,9 @@ bit-below word = weaker (bit_number word) (number_range 0 7 2 word)
 
 bit_var-valid : (area : Area) (byte bit : List ℕ) → Whole area → IfOk (bit_var area byte bit) IsVar
 bit_var-valid area byte bit is =
-    map-valid (λ n. var_at area 0 n.0 n.1 Bit) (λ n. Unit {0} × (is_bit_of_width Bit n.1 ≡ true)) IsVar (both_readings (address_number byte) (bit_number bit))
+    map-valid (λ n. var_at area 0 n.0 n.1 Bit) (λ n. Unit {0} × (is_bit_of_width Bit n.1 ≡ true)) IsVar (both_readings (address_number byte) (bit_number_reading bit))
     (λ n within. and-true (has_variables area 0) (is_bit_of_width Bit n.1) is within.1)
-    (both-valid (λ n. Unit {0}) (λ n. is_bit_of_width Bit n ≡ true) (address_number byte) (bit_number bit) (any (address_number byte)) (bit-below bit))
+    (both-valid (λ n. Unit {0}) (λ n. is_bit_of_width Bit n ≡ true) (address_number byte) (bit_number_reading bit) (any (address_number byte)) (bit-below bit))
 
 block_var-valid : (width : Option Width) (number byte : List ℕ) → IfOk (block_var width number byte) IsVar
 block_var-valid None number byte = tt
@@ -121,10 +121,10 @@ block_var-valid (Some width) number byte =
 block_bit-valid : (number byte bit : List ℕ) → IfOk (block_bit number byte bit) IsVar
 block_bit-valid number byte bit =
     map-valid _ (λ n. Unit {0} × (Unit {0} × (is_bit_of_width Bit n.1.1 ≡ true))) IsVar
-    (both_readings (address_number number) (both_readings (address_number byte) (bit_number bit))) (λ n within. within.1.1)
-    (both-valid (λ n. Unit {0}) (λ n. Unit {0} × (is_bit_of_width Bit n.1 ≡ true)) (address_number number) (both_readings (address_number byte) (bit_number bit))
+    (both_readings (address_number number) (both_readings (address_number byte) (bit_number_reading bit))) (λ n within. within.1.1)
+    (both-valid (λ n. Unit {0}) (λ n. Unit {0} × (is_bit_of_width Bit n.1 ≡ true)) (address_number number) (both_readings (address_number byte) (bit_number_reading bit))
     (any (address_number number))
-    (both-valid (λ n. Unit {0}) (λ n. is_bit_of_width Bit n ≡ true) (address_number byte) (bit_number bit) (any (address_number byte)) (bit-below bit)))
+    (both-valid (λ n. Unit {0}) (λ n. is_bit_of_width Bit n ≡ true) (address_number byte) (bit_number_reading bit) (any (address_number byte)) (bit-below bit)))
 
 two_parts-valid : (area : Option Area) (first second : List ℕ) → IfSome area Whole → IfOk (two_parts area first second) IsVar
 two_parts-valid (Some area) first second is = bit_var-valid area (behind_letters first) second is

@@ -33,8 +33,8 @@ abbrev pub no_line : {A : Type 0} → Reading A
 no_line = Err rules.not_in_grammar
 
 -- a number in decimal digits, from `low` to `high`; a number outside this range breaks `rule`
-unfoldable pub number_in : (low high rule : ℕ) → List ℕ → Reading ℕ
-number_in low high rule word =
+unfoldable pub number_reading : (low high rule : ℕ) → List ℕ → Reading ℕ
+number_reading low high rule word =
     if is_decimal word
     then
     (if nat_le low (decimal_value word) && nat_le (decimal_value word) high
@@ -44,7 +44,7 @@ number_in low high rule word =
 
 -- the number of a byte or a block in decimal digits: 0 to 65,535, else it is out of range
 abbrev pub address_number : List ℕ → Reading ℕ
-address_number word = number_in 0 65535 rules.out_of_range word
+address_number word = number_reading 0 65535 rules.out_of_range word
 
 -- whether a word is one or more hexadecimal digits
 abbrev pub is_hex : List ℕ → Bool

@@ -8,7 +8,7 @@ use Rattle.plc_base.specs.declared.places.Place.{Place}
 use Rattle.plc_base.specs.declared.places.Width.{Width}
 use Rattle.plc_base.specs.declared.places.Width.TheVariants.{Bit, Byte, Word, Dword}
 use Rattle.var_access.specs.Entry.{is_var}
-use Rattle.var_access.specs.Readings.{Reading, both_readings, reading_map, no_line, number_in, address_number, hex_of, is_hex, behind_blanks}
+use Rattle.var_access.specs.Readings.{Reading, both_readings, reading_map, no_line, number_reading, address_number, hex_of, is_hex, behind_blanks}
 use Rattle.var_access.specs.TextRules as rules
 use Rattle.var_access.specs.declared.requests.Var.{Var}
 
@@ -65,8 +65,8 @@ var_at area number byte bit width =
     }
 
 -- the number of a bit in its byte: 0 to 7, else it is out of range
-abbrev pub bit_number : List ℕ → Reading ℕ
-bit_number word = number_in 0 7 rules.out_of_range word
+abbrev pub bit_number_reading : List ℕ → Reading ℕ
+bit_number_reading word = number_reading 0 7 rules.out_of_range word
 
 -- a byte, word or double word of an area, as `MW n`
 abbrev pub wide_var : Option (Area × Width) → List ℕ → Reading Var
@@ -77,7 +77,7 @@ wide_var (Some w) byte = reading_map (λ n. var_at w.0 0 n 0 w.1) (address_numbe
 abbrev pub bit_var : Area → (byte bit : List ℕ) → Reading Var
 bit_var area byte bit =
     reading_map (λ n. var_at area 0 n.0 n.1 Bit)
-    (both_readings (address_number byte) (bit_number bit))
+    (both_readings (address_number byte) (bit_number_reading bit))
 
 -- a byte, word or double word of a data block, as `DBn.DBW n`
 abbrev pub block_var : Option Width → (number byte : List ℕ) → Reading Var
@@ -91,7 +91,7 @@ abbrev pub block_bit : (number byte bit : List ℕ) → Reading Var
 block_bit number byte bit =
     reading_map (λ n. var_at Db n.0 n.1.0 n.1.1 Bit)
     (both_readings (address_number number)
-    (both_readings (address_number byte) (bit_number bit)))
+    (both_readings (address_number byte) (bit_number_reading bit)))
 
 -- a variable of two parts with a point between: a bit of an area, or a wider operand of a data
 -- block

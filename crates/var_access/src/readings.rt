@@ -5,7 +5,7 @@ ghost use Rattle.std.specs.List.{list_all, position_or_len, prefix_len};
 ghost use Rattle.std.specs.Str.Parse.{digits_value};
 ghost use Rattle.plc_base.specs.Decimal.{is_decimal};
 ghost use Rattle.plc_base.specs.Texts.{is_blank};
-ghost use Rattle.var_access.specs.Readings.{address_number, before_blanks, behind_blanks, both_readings, first_word, hex_of, is_hex, number_in, trim, words_of};
+ghost use Rattle.var_access.specs.Readings.{address_number, before_blanks, behind_blanks, both_readings, first_word, hex_of, is_hex, number_reading, trim, words_of};
 ghost use Rattle.var_access.specs.TextRules.{not_in_grammar};
 
 use crate::text_rules::{NOT_IN_GRAMMAR, OUT_OF_RANGE};
@@ -33,8 +33,8 @@ pub fn both<A: Drop, B: Drop>(a: Result<A, u16>, b: Result<B, u16>) -> Result<(A
 ///
 /// `rule` where it is another number, `NOT_IN_GRAMMAR` where it is none.
 #[tactic(auto, using(crate::proofs::NumberLemmas::number_below, crate::proofs::NumberLemmas::number_above, plc_base::proofs::DecimalLemmas::decimal_range))]
-pub fn number_in(word: &[u8], low: u32, high: u32, rule: u16) -> Result<u32, u16>
-    ensures value { result ≡ number_in low high rule word.now }
+pub fn number_reading(word: &[u8], low: u32, high: u32, rule: u16) -> Result<u32, u16>
+    ensures value { result ≡ number_reading low high rule word.now }
     ensures range { IfOk result (λ n. (low ≤ n) × (n ≤ high)) }
 {
     let Some(value) = decimal_up_to(word, high) else {
@@ -70,7 +70,7 @@ fn rule_of_other(word: &[u8], rule: u16) -> u16
 pub fn address_number(word: &[u8]) -> Result<u16, u16>
     ensures { result ≡ address_number word.now }
 {
-    let number = number_in(word, 0, 65_535, OUT_OF_RANGE)?;
+    let number = number_reading(word, 0, 65_535, OUT_OF_RANGE)?;
     Ok(number as u16)
 }
 

@@ -5,9 +5,9 @@ ghost use Rattle.plc_base.specs.Widths.{bit_count};
 ghost use Rattle.flat_code.specs.Names.{find};
 ghost use Rattle.var_access.specs.Entry.{is_var};
 ghost use Rattle.var_access.specs.Readings.{no_line};
-ghost use Rattle.var_access.specs.Variables.{area_of_letters, behind_letters, bit_number, bit_value, bit_var, block_bit, block_var, db_width_of, is_letter, is_point, is_quote, leading_letters, named_var, symbol_var, two_parts, var_at, var_of, var_of_parts, wide_of, wide_var, width_of_letters, width_value};
+ghost use Rattle.var_access.specs.Variables.{area_of_letters, behind_letters, bit_number_reading, bit_value, bit_var, block_bit, block_var, db_width_of, is_letter, is_point, is_quote, leading_letters, named_var, symbol_var, two_parts, var_at, var_of, var_of_parts, wide_of, wide_var, width_of_letters, width_value};
 
-use crate::readings::{address_number, behind_blanks, both, hex_of, is_hex, number_in};
+use crate::readings::{address_number, behind_blanks, both, hex_of, is_hex, number_reading};
 use crate::requests::Var;
 use crate::text_rules::{NOT_IN_GRAMMAR, OUT_OF_RANGE, UNKNOWN_NAME};
 use flat_code::Names;
@@ -99,10 +99,10 @@ fn var_at(area: Area, number: u16, byte: u16, bit: u8, width: Width) -> Var
 }
 
 /// The number of a bit in its byte.
-fn bit_number(word: &[u8]) -> Result<u8, u16>
-    ensures { result ≡ bit_number word.now }
+fn bit_number_reading(word: &[u8]) -> Result<u8, u16>
+    ensures { result ≡ bit_number_reading word.now }
 {
-    let number = number_in(word, 0, 7, OUT_OF_RANGE)?;
+    let number = number_reading(word, 0, 7, OUT_OF_RANGE)?;
     Ok(number as u8)
 }
 
@@ -122,7 +122,7 @@ fn wide_var(part: &[u8]) -> Result<Var, u16>
 fn bit_var(area: Area, byte: &[u8], bit: &[u8]) -> Result<Var, u16>
     ensures { result ≡ bit_var area byte.now bit.now }
 {
-    let (byte, bit) = both(address_number(byte), bit_number(bit))?;
+    let (byte, bit) = both(address_number(byte), bit_number_reading(bit))?;
     Ok(var_at(area, 0, byte, bit, Width::Bit))
 }
 
@@ -143,7 +143,7 @@ fn block_bit(number: &[u8], byte: &[u8], bit: &[u8]) -> Result<Var, u16>
 {
     let (number, (byte, bit)) = both(
         address_number(number),
-        both(address_number(byte), bit_number(bit)),
+        both(address_number(byte), bit_number_reading(bit)),
     )?;
     Ok(var_at(Area::Db, number, byte, bit, Width::Bit))
 }
