@@ -336,7 +336,7 @@ fn role_first(next: TokenClass) -> Role
     }
 }
 
-/// The role of the first word of a statement.
+/// The role of a word at the start of a statement: a keyword and a label stay.
 #[tactic(auto, unfolding(crate::specs::Places::role_at_start))]
 fn role_at_start(word: &[u8], next: TokenClass) -> Role
     ensures { result ≡ role_at_start word.now next }

@@ -166,7 +166,7 @@ unfoldable pub operand_by_register : List ℕ → Option Letters → Width → L
 operand_by_register source area w tokens =
     option_map (λ p. operand.ByRegister area w p.0 p.1) (register_pointer source tokens)
 
--- the places that may hold a pointer: a word or a double word of M, L, DB or DI
+-- the areas whose words may hold a pointer or a number: M, L, DB and DI
 unfoldable pub holds_pointer : Letters → Bool
 holds_pointer letters.M = true
 holds_pointer letters.L = true

@@ -416,7 +416,8 @@ fn is_variable_type(width: Width, kind: &[u8]) -> bool
     }
 }
 
-/// Whether an address may have the type of this name; a block's is any text.
+/// Whether an address may have the type of this name; that of a block, or of an address that gives
+/// no symbol, is any text.
 #[tactic(auto, unfolding(crate::specs::Address::has_type))]
 pub(crate) fn has_type(address: SymbolAddress, kind: &[u8]) -> bool
     ensures { result ≡ has_type address kind.now }
