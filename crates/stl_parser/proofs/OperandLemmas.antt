@@ -21,7 +21,7 @@ use Rattle.stl_ast.specs.declared.operands.Operand.TheVariants as operand
 use Rattle.stl_ast.specs.declared.operands.PathHead.TheVariants as head
 use Rattle.stl_ast.specs.Literals.{IsDecimal, IsLiteral}
 use Rattle.stl_ast.specs.Operands.{IsNumber, IsDataBlockName, IsBitOf, IsStep, AreSteps, BeginsByName, IsOperand}
-use Rattle.stl_ast.specs.Sizes.{op_size}
+use Rattle.stl_ast.specs.Sizes.{operand_ops_size}
 use Rattle.stl_ast.specs.Statements.{is_nothing, is_label, names_called_block}
 use Rattle.stl_parser.specs.declared.keywords.ClauseWord.TheVariants as key
 use Rattle.stl_lexer.specs.declared.marks.Mark.TheVariants as mark
@@ -42,7 +42,7 @@ use Rattle.stl_parser.proofs.AddressLemmas.{address_holds, bit_holds, place_bit_
 -- an operand that is read from a token and `more` behind it: no block that is called, no label, and not nothing
 abbrev pub IsRead : ℕ → Operand → Type 0
 IsRead more o =
-    IsOperand o × (op_size o ≤ 8 + 4 * more) × (names_called_block o ≡ false) × (is_label o ≡ false) × (is_nothing o ≡ false)
+    IsOperand o × (operand_ops_size o ≤ 8 + 4 * more) × (names_called_block o ≡ false) × (is_label o ≡ false) × (is_nothing o ≡ false)
 
 abbrev FirstIsStep : PathStep × List Token → Type 0
 FirstIsStep r = IsStep r.0

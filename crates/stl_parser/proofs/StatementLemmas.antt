@@ -22,7 +22,7 @@ use Rattle.stl_ast.specs.declared.operands.Operand.TheVariants as operand
 use Rattle.stl_ast.specs.declared.statements.Actual.{Actual}
 use Rattle.stl_ast.specs.declared.statements.Statement.{Statement}
 use Rattle.stl_ast.specs.Operands.{IsNameOf, IsAnyName, IsDataBlockName, IsInstance, IsOperand}
-use Rattle.stl_ast.specs.Sizes.{op_size, code_size, statement_size}
+use Rattle.stl_ast.specs.Sizes.{operand_ops_size, code_size, statement_size}
 use Rattle.stl_ast.specs.Statements.{is_jump, is_call, has_actuals, is_empty_statement, is_nothing, is_label, names_called_block, has_instance, IsTarget, IsLabelOf, IsActual, AreActuals, IsStatement}
 use Rattle.stl_lexer.specs.declared.marks.Mark.TheVariants as mark
 use Rattle.stl_parser.specs.declared.keywords.ClauseWord.TheVariants as key
@@ -51,7 +51,7 @@ pub record IsInstruction (more : ℕ) (i : BareStatement) : Type 0 where
   pub some : is_empty_statement i.code ≡ false
   pub actuals : AreActuals i.actuals
   pub no_actuals : has_actuals i.code ≡ false → i.actuals ≡ []
-  pub size : op_size i.operand + 11 * length i.actuals ≤ 4 + 4 * more
+  pub size : operand_ops_size i.operand + 11 * length i.actuals ≤ 4 + 4 * more
 
 -- an instruction word goes with what may stand behind it
 abbrev goes_with : Mnemonic → OperandSyntax → Bool
@@ -89,7 +89,7 @@ true_is_no_false false h k = cc
 
 -- an instruction that calls no block
 plain_instruction : (code : Mnemonic) (o : Operand) (more : ℕ) → is_call code ≡ false → is_empty_statement code ≡ false → IsOperand o →
-    names_called_block o ≡ false → is_label o ≡ false → op_size o ≤ 4 + 4 * more → IsInstruction more (spec.statement_without_actuals code o)
+    names_called_block o ≡ false → is_label o ≡ false → operand_ops_size o ≤ 4 + 4 * more → IsInstruction more (spec.statement_without_actuals code o)
 plain_instruction code o more call some value called label size =
     record {
       value = value;
@@ -398,7 +398,7 @@ instruction_holds source (t ∷ rest) =
     either (spec.opening_instruction source t rest) _ (IsInstruction (length rest)) (opening_holds source t rest)
     (either (spec.zone_end_of source t rest) _ (IsInstruction (length rest)) (zone_end_holds source t rest) (closed_holds source t rest))
 
-most_size : (code : Mnemonic) (o : Operand) (n : ℕ) → code_size code o n ≤ 4 + op_size o + 11 * n
+most_size : (code : Mnemonic) (o : Operand) (n : ℕ) → code_size code o n ≤ 4 + operand_ops_size o + 11 * n
 most_size mnemonic.Empty o n = omega arith
 most_size _ o n = omega arith
 

@@ -14,7 +14,7 @@ use Rattle.stl_lexer.specs.declared.kinds.TokenKind.{TokenKind}
 use Rattle.stl_lexer.specs.declared.kinds.TokenKind.TheVariants as kind
 use Rattle.stl_lexer.specs.declared.marks.Mark.TheVariants as mark
 use Rattle.stl_lexer.specs.Bytes.{close_brace, double_quote, hash, open_brace, single_quote}
-use Rattle.stl_lexer.specs.Forms.{based_prefixes, begins_with, count_prefixes, has_form, is_closed, is_enclosed, is_entry, is_inner, is_listed, long_prefixes, s5time_prefixes, sign_words, time_prefixes, title_words}
+use Rattle.stl_lexer.specs.Forms.{based_prefixes, begins_with, count_prefixes, has_form, is_closed_run, is_enclosed, is_entry, is_inner, is_listed, long_prefixes, s5time_prefixes, sign_words, time_prefixes, title_words}
 use Rattle.stl_lexer.specs.Marks.{mark_text, marks}
 use Rattle.stl_lexer.specs.Tokens.{AreTokens, TokensFollow, IsEndOfTokens, is_minus, text_of}
 use Rattle.stl_ast.specs.declared.mnemonics.Mnemonic.{Mnemonic}
@@ -86,7 +86,7 @@ not_enclosed : (opening close : ℕ) (one_line : Bool) (w : List ℕ) → is_in_
     → is_enclosed opening close one_line w ≡ true → are_letters w ≡ true → ⊥
 not_enclosed opening close one_line [] apart is all = false≢true is
 not_enclosed opening close one_line (b ∷ w) apart is all =
-    not_first opening b w apart (and_parts (b == opening) (is_closed (is_inner close one_line) close w) is).0 all
+    not_first opening b w apart (and_parts (b == opening) (is_closed_run (is_inner close one_line) close w) is).0 all
 
 not_listed : (table : List (List ℕ)) (w : List ℕ) (behind : List ℕ → Bool) → list_all (λ x. not (are_letters x)) table ≡ true
     → list_any (λ entry. begins_with entry w && behind entry) table ≡ true → are_letters w ≡ true → ⊥
