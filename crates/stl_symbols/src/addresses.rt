@@ -251,7 +251,7 @@ fn letters_in<'a>(language: Language, english: &'a [u8], german: &'a [u8]) -> &'
 }
 
 /// What stands beside letters in a table.
-fn entry_of(
+fn letters_entry(
     language: Language,
     table: &[(&[u8], &[u8], AddressLetters)],
     word: &[u8],
@@ -274,7 +274,7 @@ fn look_up(
     ensures { result
         ≡ letters_spelled_as language (map (λ e. (e.0.now, e.1.now, e.2)) table.now) word.now }
 {
-    entry_of(language, table, word)
+    letters_entry(language, table, word)
 }
 
 /// What the letters of an address stand for.

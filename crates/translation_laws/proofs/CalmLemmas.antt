@@ -50,9 +50,9 @@ use Rattle.stl_parser.specs.Types.{array_end, array_high, array_at, no_array, ar
 use Rattle.stl_parser.proofs.OptionLemmas.{mapped, chained, either, both, passed, none_holds, some_holds, found, weakened, failed}
 use Rattle.de_mnemonics.specs.declared.classes.TokenClass.{TokenClass}
 use Rattle.de_mnemonics.specs.declared.classes.TokenClass.TheVariants as class
-use Rattle.de_mnemonics.specs.Places.{class_of, class_of_mark, is_word_in_list, may_be_keyword}
+use Rattle.de_mnemonics.specs.Places.{token_class, class_of_mark, is_word_in_list, may_be_keyword}
 use Rattle.de_mnemonics.specs.Tables.{begin_words, code_openings, data_openings}
-use Rattle.de_mnemonics.specs.Translation.{class_in}
+use Rattle.de_mnemonics.specs.Translation.{token_class_in}
 use Rattle.de_mnemonics.proofs.CaseLemmas.{same_among, same_text}
 use Rattle.translation_laws.proofs.LetterLemmas.{same_letters}
 use Rattle.translation_laws.proofs.LookUpLemmas.{same_looked_up}
@@ -67,17 +67,17 @@ calm_of before class.Word text = not (may_be_keyword before) || not (is_block_wo
 calm_of before _ text = true
 
 abbrev pub is_calm : List ℕ → TokenClass → Token → Bool
-is_calm s before t = calm_of before (class_in s t) (text_of s t)
+is_calm s before t = calm_of before (token_class_in s t) (text_of s t)
 
 -- and at each of these
 abbrev pub AreCalm : List ℕ → TokenClass → List Token → Type 0
 AreCalm s before [] = Unit {0}
-AreCalm s before (t ∷ ts) = (is_calm s before t ≡ true) × AreCalm s (class_in s t) ts
+AreCalm s before (t ∷ ts) = (is_calm s before t ≡ true) × AreCalm s (token_class_in s t) ts
 
 -- the class of the last of these tokens, or the one before them
 abbrev pub last_class : List ℕ → TokenClass → List Token → TokenClass
 last_class s before [] = before
-last_class s before (t ∷ ts) = last_class s (class_in s t) ts
+last_class s before (t ∷ ts) = last_class s (token_class_in s t) ts
 
 -- a clause is a statement
 abbrev pub is_statement : Clause → Bool
@@ -89,20 +89,20 @@ pub record IsCalmClause (s : List ℕ) (ts rest : List Token) : Type 0 where
   pub first : Token
   pub front : List Token
   pub whole : ts ≡ first ∷ (front ++ rest)
-  pub calm : AreCalm s (class_in s first) front
-  pub ends : may_be_keyword (last_class s (class_in s first) front) ≡ true
+  pub calm : AreCalm s (token_class_in s first) front
+  pub ends : may_be_keyword (last_class s (token_class_in s first) front) ≡ true
 
 -- ---- what a token is
 
 -- whatever stands before it, the walk stays at this token, and a keyword may stand behind it
 record IsQuiet (s : List ℕ) (t : Token) : Type 0 where
   calm : (before : TokenClass) → is_calm s before t ≡ true
-  ends : may_be_keyword (class_in s t) ≡ true
+  ends : may_be_keyword (token_class_in s t) ≡ true
 
 -- `:` or `.`
 record IsSign (s : List ℕ) (t : Token) : Type 0 where
   calm : (before : TokenClass) → is_calm s before t ≡ true
-  opens : may_be_keyword (class_in s t) ≡ false
+  opens : may_be_keyword (token_class_in s t) ≡ false
 
 or_true : (b : Bool) → (b || true) ≡ true
 or_true true = refl
@@ -145,8 +145,8 @@ same_class a b e =
     ) refl
 
 -- the class of a token of a kind, by the rank of the kind
-mark_kind_class : (k : TokenKind) (text : List ℕ) → nat_eq (kind_rank k) (kind_rank kind.Mark) ≡ true → class_of k text ≡ class_of_mark text
-unfolding class_of
+mark_kind_class : (k : TokenKind) (text : List ℕ) → nat_eq (kind_rank k) (kind_rank kind.Mark) ≡ true → token_class k text ≡ class_of_mark text
+unfolding token_class
 mark_kind_class kind.Mark text e = refl
 mark_kind_class kind.Word text e = absurd (false≢true e)
 mark_kind_class kind.Number text e = absurd (false≢true e)
@@ -160,13 +160,13 @@ mark_kind_class kind.SignWord text e = absurd (false≢true e)
 mark_kind_class kind.Attribute text e = absurd (false≢true e)
 mark_kind_class kind.Title text e = absurd (false≢true e)
 
-class_of_token : (s : List ℕ) (t : Token) (m : Mark) → is_mark s t m ≡ true → class_in s t ≡ class_of_mark (mark_text m)
+class_of_token : (s : List ℕ) (t : Token) (m : Mark) → is_mark s t m ≡ true → token_class_in s t ≡ class_of_mark (mark_text m)
 unfolding is_mark has_kind
 class_of_token s t m e =
     let parts = and_parts (nat_eq (kind_rank t.kind) (kind_rank kind.Mark)) (str_eq_ignore_ascii_case (text_of s t) (mark_text m)) e in
     mark_kind_class t.kind (text_of s t) parts.0 ∙ same_class (text_of s t) (mark_text m) parts.1
 
-quiet_class : (s : List ℕ) (t : Token) (c : TokenClass) → class_in s t ≡ c → is_plain_class c ≡ true → may_be_keyword c ≡ true → IsQuiet s t
+quiet_class : (s : List ℕ) (t : Token) (c : TokenClass) → token_class_in s t ≡ c → is_plain_class c ≡ true → may_be_keyword c ≡ true → IsQuiet s t
 quiet_class s t c is plain ends = record {
   calm = λ before. ap (λ d. calm_of before d (text_of s t)) is ∙ calm_class before c (text_of s t) plain;
   ends = ap may_be_keyword is ∙ ends;
@@ -245,8 +245,8 @@ is_plain_kind kind.Mark = false
 is_plain_kind _ = true
 
 plain_kind_class : (k : TokenKind) (text : List ℕ) → is_plain_kind k ≡ true
-    → (is_plain_class (class_of k text) ≡ true) × (may_be_keyword (class_of k text) ≡ true)
-unfolding class_of
+    → (is_plain_class (token_class k text) ≡ true) × (may_be_keyword (token_class k text) ≡ true)
+unfolding token_class
 plain_kind_class kind.Word text e = absurd (false≢true e)
 plain_kind_class kind.Mark text e = absurd (false≢true e)
 plain_kind_class kind.Number text e = (refl, refl)
@@ -262,7 +262,7 @@ plain_kind_class kind.Title text e = (refl, refl)
 
 quiet_plain : (s : List ℕ) (t : Token) → is_plain_kind t.kind ≡ true → IsQuiet s t
 quiet_plain s t e =
-    let facts = plain_kind_class t.kind (text_of s t) e in quiet_class s t (class_in s t) refl facts.0 facts.1
+    let facts = plain_kind_class t.kind (text_of s t) e in quiet_class s t (token_class_in s t) refl facts.0 facts.1
 
 -- a kind of this rank is the kind
 plain_by_rank : (k : TokenKind) (n : ℕ) → nat_eq (kind_rank k) n ≡ true → nat_eq n (kind_rank kind.Word) ≡ false → nat_eq n (kind_rank kind.Mark) ≡ false
@@ -294,8 +294,8 @@ quiet_attribute s t e = quiet_plain s t (plain_by_rank t.kind 10 e refl refl)
 
 -- ---- words
 
-word_class_of_kind : (k : TokenKind) (text : List ℕ) → nat_eq (kind_rank k) (kind_rank kind.Word) ≡ true → class_of k text ≡ class.Word
-unfolding class_of
+word_class_of_kind : (k : TokenKind) (text : List ℕ) → nat_eq (kind_rank k) (kind_rank kind.Word) ≡ true → token_class k text ≡ class.Word
+unfolding token_class
 word_class_of_kind kind.Word text e = refl
 word_class_of_kind kind.Number text e = absurd (false≢true e)
 word_class_of_kind kind.Quoted text e = absurd (false≢true e)
@@ -309,7 +309,7 @@ word_class_of_kind kind.SignWord text e = absurd (false≢true e)
 word_class_of_kind kind.Attribute text e = absurd (false≢true e)
 word_class_of_kind kind.Title text e = absurd (false≢true e)
 
-word_class : (s : List ℕ) (t : Token) → has_kind t kind.Word ≡ true → class_in s t ≡ class.Word
+word_class : (s : List ℕ) (t : Token) → has_kind t kind.Word ≡ true → token_class_in s t ≡ class.Word
 unfolding has_kind
 word_class s t e = word_class_of_kind t.kind (text_of s t) e
 
@@ -384,8 +384,8 @@ simple_types_free = refl
 
 -- such a token, whatever its kind is
 quiet_by_kind : (k : TokenKind) (text : List ℕ) → is_free text ≡ true
-    → ((before : TokenClass) → calm_of before (class_of k text) text ≡ true) × (may_be_keyword (class_of k text) ≡ true)
-unfolding class_of
+    → ((before : TokenClass) → calm_of before (token_class k text) text ≡ true) × (may_be_keyword (token_class k text) ≡ true)
+unfolding token_class
 quiet_by_kind kind.Word text e =
     (λ before. calm_word before text (not-true (is_block_word text) (and_parts (not (is_block_word text)) (may_be_keyword (class_of_mark text)) e).0), refl)
 quiet_by_kind kind.Mark text e = (
@@ -1056,12 +1056,12 @@ module _ (s : List ℕ) (P Q : List Token → Type 0) (on : GoesOn s P Q) where
   word_read p t ts (Some k) h q = keyword_read s P Q on p t.line k ts q
   word_read p t ts None h q = free_word_read p t ts (look_up head_words (text_of s t)) h q
 
-  kind_read : (p : ClausePlace) (t : Token) (ts : List Token) (k : TokenKind) → t.kind ≡ k → P ts → (may_be_keyword (class_in s t) ≡ true → Q ts)
+  kind_read : (p : ClausePlace) (t : Token) (ts : List Token) (k : TokenKind) → t.kind ≡ k → P ts → (may_be_keyword (token_class_in s t) ≡ true → Q ts)
       → IfSome (clause_by_kind s p t ts (t ∷ ts) k) Leaves
-  unfolding clause_by_kind class_of
-  kind_read p t ts kind.Word is h q = word_read p t ts (look_up keywords (text_of s t)) h (q (ap (λ k. may_be_keyword (class_of k (text_of s t))) is))
-  kind_read p t ts kind.Attribute is h q = λ isnt. note s P Q on p ts (q (ap (λ k. may_be_keyword (class_of k (text_of s t))) is))
-  kind_read p t ts kind.Title is h q = λ isnt. note s P Q on p ts (q (ap (λ k. may_be_keyword (class_of k (text_of s t))) is))
+  unfolding clause_by_kind token_class
+  kind_read p t ts kind.Word is h q = word_read p t ts (look_up keywords (text_of s t)) h (q (ap (λ k. may_be_keyword (token_class k (text_of s t))) is))
+  kind_read p t ts kind.Attribute is h q = λ isnt. note s P Q on p ts (q (ap (λ k. may_be_keyword (token_class k (text_of s t))) is))
+  kind_read p t ts kind.Title is h q = λ isnt. note s P Q on p ts (q (ap (λ k. may_be_keyword (token_class k (text_of s t))) is))
   kind_read p t ts kind.Number is h q = other_read p t.line t ts h (λ quiet. q quiet.ends)
   kind_read p t ts kind.Quoted is h q = other_read p t.line t ts h (λ quiet. q quiet.ends)
   kind_read p t ts kind.Local is h q = other_read p t.line t ts h (λ quiet. q quiet.ends)
@@ -1072,7 +1072,7 @@ module _ (s : List ℕ) (P Q : List Token → Type 0) (on : GoesOn s P Q) where
   kind_read p t ts kind.Mark is h q = other_read p t.line t ts h (λ quiet. q quiet.ends)
   kind_read p t ts kind.SignWord is h q = other_read p t.line t ts h (λ quiet. q quiet.ends)
 
-  clause_read : (p : ClausePlace) (t : Token) (ts : List Token) → P ts → (may_be_keyword (class_in s t) ≡ true → Q ts) → IfSome (clause_at s p (t ∷ ts)) Leaves
+  clause_read : (p : ClausePlace) (t : Token) (ts : List Token) → P ts → (may_be_keyword (token_class_in s t) ≡ true → Q ts) → IfSome (clause_at s p (t ∷ ts)) Leaves
   unfolding clause_at
   clause_read p t ts h q = kind_read p t ts t.kind refl h q
 
@@ -1091,11 +1091,11 @@ record IsPassedWell (s : List ℕ) (before : TokenClass) (all rest : List Token)
 calm_more : (s : List ℕ) (before : TokenClass) (front : List Token) (t : Token) → AreCalm s before front
     → is_calm s (last_class s before front) t ≡ true → AreCalm s before (front ++ t ∷ [])
 calm_more s before [] t all one = (one, tt)
-calm_more s before (u ∷ front) t all one = (all.0, calm_more s (class_in s u) front t all.1 one)
+calm_more s before (u ∷ front) t all one = (all.0, calm_more s (token_class_in s u) front t all.1 one)
 
-last_more : (s : List ℕ) (before : TokenClass) (front : List Token) (t : Token) → last_class s before (front ++ t ∷ []) ≡ class_in s t
+last_more : (s : List ℕ) (before : TokenClass) (front : List Token) (t : Token) → last_class s before (front ++ t ∷ []) ≡ token_class_in s t
 last_more s before [] t = refl
-last_more s before (u ∷ front) t = last_more s (class_in s u) front t
+last_more s before (u ∷ front) t = last_more s (token_class_in s u) front t
 
 one_passed : (s : List ℕ) (before : TokenClass) (all : List Token) (t : Token) (ts : List Token)
     → (passed : IsPassed s before all (t ∷ ts)) → is_calm s (last_class s before passed.front) t ≡ true → IsPassed s before all ts
@@ -1105,7 +1105,7 @@ one_passed s before all t ts p one = record {
   calm = calm_more s before p.front t p.calm one;
 }
 
-calm_name : (s : List ℕ) (t u : Token) → IsSign s t → has_kind u kind.Word ≡ true → is_calm s (class_in s t) u ≡ true
+calm_name : (s : List ℕ) (t u : Token) → IsSign s t → has_kind u kind.Word ≡ true → is_calm s (token_class_in s t) u ≡ true
 calm_name s t u sign word = rw (word_class s u word, sign.opens) refl
 
 passes : (s : List ℕ) (before : TokenClass) (all : List Token) → GoesOn s (IsPassed s before all) (IsPassedWell s before all)
@@ -1125,7 +1125,7 @@ passes s before all = record {
       };
 }
 
-calm_from : (s : List ℕ) (t : Token) (ts rest : List Token) → IsPassedWell s (class_in s t) ts rest → IsCalmClause s (t ∷ ts) rest
+calm_from : (s : List ℕ) (t : Token) (ts rest : List Token) → IsPassedWell s (token_class_in s t) ts rest → IsCalmClause s (t ∷ ts) rest
 calm_from s t ts rest h = record {
   first = t;
   front = h.passed.front;
@@ -1140,8 +1140,8 @@ pub calm_clause : (s : List ℕ) (p : ClausePlace) (ts : List Token) (c : Clause
 unfolding clause_at
 calm_clause s p [] c rest long isnt e = absurd (none-some (c, rest, long) e)
 calm_clause s p (t ∷ ts) c rest long isnt e =
-    let start : IsPassed s (class_in s t) ts ts = record { front = []; whole = refl; calm = tt } in
+    let start : IsPassed s (token_class_in s t) ts ts = record { front = []; whole = refl; calm = tt } in
     calm_from s t ts rest
-    (some_holds (clause_at s p (t ∷ ts)) (c, rest, long) (λ r. is_statement r.0 ≡ false → IsPassedWell s (class_in s t) ts r.1) e
-    (clause_read s (IsPassed s (class_in s t) ts) (IsPassedWell s (class_in s t) ts) (passes s (class_in s t) ts) p t ts start
+    (some_holds (clause_at s p (t ∷ ts)) (c, rest, long) (λ r. is_statement r.0 ≡ false → IsPassedWell s (token_class_in s t) ts r.1) e
+    (clause_read s (IsPassed s (token_class_in s t) ts) (IsPassedWell s (token_class_in s t) ts) (passes s (token_class_in s t) ts) p t ts start
     (λ keyword_. record { passed = start; ends = keyword_ })) isnt)
