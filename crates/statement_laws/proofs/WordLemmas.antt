@@ -202,8 +202,8 @@ pointer_has source tokens =
     either (reads.plain_pointer source tokens) _ HasKnownWord (plain_pointer_has source tokens)
     (then_made (address_at source tokens) _ HasKnownWord (λ r. area_pointer_has source r.0 r.1 r.2))
 
-condition_has : (source : List ℕ) (t : Token) → IfSome (reads.condition_of source t) HasKnownWord
-unfolding reads.condition_of
+condition_has : (source : List ℕ) (t : Token) → IfSome (reads.condition_word_operand source t) HasKnownWord
+unfolding reads.condition_word_operand
 condition_has source t = mapped_holds (look_up flags (text_of source t)) _ HasKnownWord (λ flag. tt)
 
 -- ---- registers
@@ -270,7 +270,7 @@ alone_has : (source : List ℕ) (t : Token) (rest : List Token)
     → IfSome (reads.lone_word_operand source t rest) HasKnownWord
 unfolding reads.lone_word_operand
 alone_has source t [] =
-    either (reads.condition_of source t) (reads.register_name_operand source t) HasKnownWord (condition_has source t)
+    either (reads.condition_word_operand source t) (reads.register_name_operand source t) HasKnownWord (condition_has source t)
     (other_has source t)
 alone_has source t (u ∷ rest) = tt
 
@@ -282,8 +282,8 @@ plain_path_has source t rest =
     (path_has source (head.Local (text_of source t)) rest)
 
 sized_has : (source : List ℕ) (t : Token) (rest : List Token)
-    → IfSome (reads.sized_by_register source t rest) HasKnownWord
-unfolding reads.sized_by_register
+    → IfSome (reads.operand_by_sized_register source t rest) HasKnownWord
+unfolding reads.operand_by_sized_register
 sized_has source t rest =
     both (is_key source t key.B) _ _ HasKnownWord (register_has source None width.Byte rest)
     (both (is_key source t key.W) _ _ HasKnownWord (register_has source None width.Word rest)
@@ -308,7 +308,7 @@ word_has source t rest tokens =
     either (reads.lone_word_operand source t rest) _ HasKnownWord (alone_has source t rest)
     (either (reads.operand_with_number source tokens) _ HasKnownWord (with_number_has source tokens)
     (either (reads.operand_with_pointer source t rest) _ HasKnownWord (with_pointer_has source t rest)
-    (either (reads.sized_by_register source t rest) _ HasKnownWord (sized_has source t rest)
+    (either (reads.operand_by_sized_register source t rest) _ HasKnownWord (sized_has source t rest)
     (plain_path_has source t rest))))
 
 quoted_has : (source : List ℕ) (t : Token) (rest : List Token)

@@ -24,7 +24,7 @@ use Rattle.plc_base.proofs.DecimalLemmas.{decimal_range}
 use Rattle.plc_base.proofs.TruthLemmas.{and_first}
 use Rattle.stl_parser.specs.Numbers.{number_of}
 use Rattle.stl_parser.specs.Addresses.{letter_count, glued_letters_and_number, separate_letters_and_number, letters_and_number_at, address_at, block_number_at, quoted_block_at, block_at, bit_of}
-use Rattle.stl_parser.specs.Operands.{place_bit, register_of, offset_of, register_pointer, holds_pointer, pointer_close, pointer_end, memory_pointer}
+use Rattle.stl_parser.specs.Operands.{place_bit, register_number, offset_of, register_pointer, holds_pointer, pointer_close, pointer_end, memory_pointer}
 use Rattle.stl_parser.proofs.OptionLemmas.{found, mapped, chained, either, both, passed, also, none_holds, at_most}
 use Rattle.stl_parser.proofs.RangeLemmas.{number_holds}
 use Rattle.stl_parser.proofs.LengthLemmas.{numbered_rest}
@@ -99,8 +99,8 @@ place_bit_holds source width.Bit rest = bit_holds source rest
 place_bit_holds source _ [] = refl
 place_bit_holds source _ (t ∷ rest) = tt
 
-register_holds : (source : List ℕ) (t : Token) → IfSome (register_of source t) (λ r. (r ≡ 1) ⊎ (r ≡ 2))
-unfolding register_of
+register_holds : (source : List ℕ) (t : Token) → IfSome (register_number source t) (λ r. (r ≡ 1) ⊎ (r ≡ 2))
+unfolding register_number
 register_holds source t =
     both (is_key source t key.Ar1) _ _ (λ r. (r ≡ 1) ⊎ (r ≡ 2)) (inl refl)
     (both (is_key source t key.Ar2) _ _ (λ r. (r ≡ 1) ⊎ (r ≡ 2)) (inr refl) tt)
@@ -121,7 +121,7 @@ unfolding register_pointer
 register_pointer_holds source (open_ ∷ r ∷ comma ∷ prefix ∷ n ∷ dot ∷ b ∷ close ∷ []) =
     let P : ℕ × ℕ → Type 0 = λ p. ((p.0 ≡ 1) ⊎ (p.0 ≡ 2)) × (p.1 < 8 * 65536) × (8 ≤ 8) in
     passed (is_mark source open_ mark.OpenBracket && is_mark source comma mark.Comma && is_mark source close mark.CloseBracket) _ P
-    (λ test. chained (register_of source r) _ (λ r. (r ≡ 1) ⊎ (r ≡ 2)) P (register_holds source r)
+    (λ test. chained (register_number source r) _ (λ r. (r ≡ 1) ⊎ (r ≡ 2)) P (register_holds source r)
     (λ register h. mapped (offset_of source prefix n (dot ∷ b ∷ [])) _ (λ bits. bits < 8 * 65536) P (offset_holds source prefix n (dot ∷ b ∷ []))
     (λ bits k. (h, k, omega arith))))
 register_pointer_holds source _ = tt

@@ -220,8 +220,8 @@ pointer_holds source tokens more =
     (chained (address_at source tokens) _ (λ r. IsNumber r.1 × (length r.2 < length tokens)) (IsRead more) (address_holds source tokens)
     (λ r h. area_pointer_holds source r.0 r.1 r.2 more h.0))
 
-condition_holds : (source : List ℕ) (t : Token) (more : ℕ) → IfSome (spec.condition_of source t) (IsRead more)
-unfolding spec.condition_of
+condition_holds : (source : List ℕ) (t : Token) (more : ℕ) → IfSome (spec.condition_word_operand source t) (IsRead more)
+unfolding spec.condition_word_operand
 condition_holds source t more =
     mapped (look_up flags (text_of source t)) _ (λ f. Unit {0}) (IsRead more) (none_holds (look_up flags (text_of source t)))
     (λ f h. (tt, omega arith, refl, refl, refl))
@@ -238,7 +238,7 @@ other_holds source t more = other_if_holds (text_of source t) (look_up registers
 alone_holds : (source : List ℕ) (t : Token) (rest : List Token) (more : ℕ) → IfSome (spec.lone_word_operand source t rest) (IsRead more)
 unfolding spec.lone_word_operand
 alone_holds source t [] more =
-    either (spec.condition_of source t) _ (IsRead more) (condition_holds source t more) (other_holds source t more)
+    either (spec.condition_word_operand source t) _ (IsRead more) (condition_holds source t more) (other_holds source t more)
 alone_holds source t (u ∷ rest) more = tt
 
 plain_path_holds : (source : List ℕ) (t : Token) (rest : List Token) (more : ℕ) → IfSome (spec.plain_path source t rest) (IsRead more)
@@ -247,8 +247,8 @@ plain_path_holds source t rest more =
     both (spec.is_operand_word source t) _ _ (IsRead more) tt (path_holds source (text_of source t) rest more)
 
 sized_holds : (source : List ℕ) (t : Token) (rest : List Token) (more : ℕ) → length rest ≤ more →
-    IfSome (spec.sized_by_register source t rest) (IsRead more)
-unfolding spec.sized_by_register
+    IfSome (spec.operand_by_sized_register source t rest) (IsRead more)
+unfolding spec.operand_by_sized_register
 sized_holds source t rest more fits =
     both (is_key source t key.B) _ _ (IsRead more) (by_register_holds source None width.Byte rest more (omega (arith, fits)))
     (both (is_key source t key.W) _ _ (IsRead more) (by_register_holds source None width.Word rest more (omega (arith, fits)))
@@ -275,7 +275,7 @@ word_operand_holds source t rest tokens more fits all =
     either (spec.lone_word_operand source t rest) _ (IsRead more) (alone_holds source t rest more)
     (either (spec.operand_with_number source tokens) _ (IsRead more) (with_number_holds source tokens more all)
     (either (spec.operand_with_pointer source t rest) _ (IsRead more) (with_pointer_holds source t rest more fits)
-    (either (spec.sized_by_register source t rest) _ (IsRead more) (sized_holds source t rest more fits)
+    (either (spec.operand_by_sized_register source t rest) _ (IsRead more) (sized_holds source t rest more fits)
     (plain_path_holds source t rest more))))
 
 quoted_operand_holds : (source : List ℕ) (t : Token) (rest : List Token) (more : ℕ) → length rest ≤ more →

@@ -137,8 +137,8 @@ direct_address_operand source (address.Block true) n [] =
 direct_address_operand source (address.Block true) n (t ∷ rest) = None
 
 -- the number of the address register that a word is, AR1 or AR2
-unfoldable pub register_of : List ℕ → Token → Option ℕ
-register_of source t =
+unfoldable pub register_number : List ℕ → Token → Option ℕ
+register_number source t =
     if is_key source t key.Ar1 then Some ar1_register
     else (if is_key source t key.Ar2 then Some ar2_register else None)
 
@@ -157,7 +157,7 @@ register_pointer source (open_ ∷ r ∷ comma ∷ prefix ∷ n ∷ dot ∷ b �
     && is_mark source close mark.CloseBracket
     then option_and_then
     (λ register. option_map (λ bits. (register, bits)) (offset_of source prefix n (dot ∷ b ∷ [])))
-    (register_of source r)
+    (register_number source r)
     else None
 register_pointer source _ = None
 
@@ -241,8 +241,8 @@ pointer_constant_operand source tokens =
     (option_and_then (λ r. area_pointer source r.0 r.1 r.2) (address_at source tokens))
 
 -- the operand that is a condition of the status word
-unfoldable pub condition_of : List ℕ → Token → Option Operand
-condition_of source t = option_map operand.OfStatus (look_up flags (text_of source t))
+unfoldable pub condition_word_operand : List ℕ → Token → Option Operand
+condition_word_operand source t = option_map operand.OfStatus (look_up flags (text_of source t))
 
 -- a name of the table of registers as an operand; AR1 is there, but no instruction has it as one
 abbrev pub register_name_operand_if : List ℕ → Option Bool → Option Operand
@@ -257,7 +257,7 @@ register_name_operand source t =
 
 -- a word that stands alone as an operand: a condition of the status word or a register
 unfoldable pub lone_word_operand : List ℕ → Token → List Token → Option Operand
-lone_word_operand source t [] = option_or (condition_of source t) (register_name_operand source t)
+lone_word_operand source t [] = option_or (condition_word_operand source t) (register_name_operand source t)
 lone_word_operand source t (u ∷ rest) = None
 
 -- a word that means something as an operand, so that no path begins with it
@@ -273,8 +273,8 @@ plain_path source t rest =
     if is_operand_word source t then None else path_of source (head.Local (text_of source t)) rest
 
 -- an operand by a register that has the area, with B, W or D before the pointer
-unfoldable pub sized_by_register : List ℕ → Token → List Token → Option Operand
-sized_by_register source t rest =
+unfoldable pub operand_by_sized_register : List ℕ → Token → List Token → Option Operand
+operand_by_sized_register source t rest =
     if is_key source t key.B then operand_by_register source None width.Byte rest
     else (if is_key source t key.W then operand_by_register source None width.Word rest
     else (if is_key source t key.D then operand_by_register source None width.Dword rest else None))
@@ -295,7 +295,7 @@ word_operand source t rest tokens =
     option_or (lone_word_operand source t rest)
     (option_or (operand_with_number source tokens)
     (option_or (operand_with_pointer source t rest)
-    (option_or (sized_by_register source t rest) (plain_path source t rest))))
+    (option_or (operand_by_sized_register source t rest) (plain_path source t rest))))
 
 -- an operand that begins with a quoted name: a symbol, or what stands in a data block
 unfoldable pub quoted_operand : List ℕ → Token → List Token → Option Operand
@@ -312,7 +312,7 @@ mark_operand source t rest tokens =
 
 -- a sign word that stands alone as an operand
 unfoldable pub sign_operand : List ℕ → Token → List Token → Option Operand
-sign_operand source t [] = condition_of source t
+sign_operand source t [] = condition_word_operand source t
 sign_operand source t (u ∷ rest) = None
 
 -- a path that begins with a local name

@@ -171,8 +171,8 @@ pointer_plain source tokens =
     either (spec.plain_pointer source tokens) _ OperandIsNoBit (plain_pointer_plain source tokens)
     (chained (address_at source tokens) _ FirstIsNoBit OperandIsNoBit (address_plain source tokens) (λ r h. area_pointer_plain source r.0 r.1 r.2 h))
 
-condition_plain : (source : List ℕ) (t : Token) → IfSome (spec.condition_of source t) OperandIsNoBit
-unfolding spec.condition_of
+condition_plain : (source : List ℕ) (t : Token) → IfSome (spec.condition_word_operand source t) OperandIsNoBit
+unfolding spec.condition_word_operand
 condition_plain source t = mapped_holds (look_up flags (text_of source t)) _ OperandIsNoBit (λ f. tt)
 
 other_if_plain : (name : List ℕ) (o : Option Bool) → IfSome (spec.register_name_operand_if name o) OperandIsNoBit
@@ -183,15 +183,15 @@ other_if_plain name (Some false) = tt
 alone_plain : (source : List ℕ) (t : Token) (rest : List Token) → IfSome (spec.lone_word_operand source t rest) OperandIsNoBit
 unfolding spec.lone_word_operand spec.register_name_operand
 alone_plain source t [] =
-    either (spec.condition_of source t) _ OperandIsNoBit (condition_plain source t) (other_if_plain (text_of source t) (look_up registers (text_of source t)))
+    either (spec.condition_word_operand source t) _ OperandIsNoBit (condition_plain source t) (other_if_plain (text_of source t) (look_up registers (text_of source t)))
 alone_plain source t (u ∷ rest) = tt
 
 plain_path_plain : (source : List ℕ) (t : Token) (rest : List Token) → IfSome (spec.plain_path source t rest) OperandIsNoBit
 unfolding spec.plain_path
 plain_path_plain source t rest = both (spec.is_operand_word source t) _ _ OperandIsNoBit tt (path_plain source (head.Local (text_of source t)) rest)
 
-sized_plain : (source : List ℕ) (t : Token) (rest : List Token) → IfSome (spec.sized_by_register source t rest) OperandIsNoBit
-unfolding spec.sized_by_register
+sized_plain : (source : List ℕ) (t : Token) (rest : List Token) → IfSome (spec.operand_by_sized_register source t rest) OperandIsNoBit
+unfolding spec.operand_by_sized_register
 sized_plain source t rest =
     both (is_key source t key.B) _ _ OperandIsNoBit (by_register_plain source None width.Byte rest)
     (both (is_key source t key.W) _ _ OperandIsNoBit (by_register_plain source None width.Word rest)
@@ -212,7 +212,7 @@ word_operand_plain source t rest tokens =
     either (spec.lone_word_operand source t rest) _ OperandIsNoBit (alone_plain source t rest)
     (either (spec.operand_with_number source tokens) _ OperandIsNoBit (with_number_plain source tokens)
     (either (spec.operand_with_pointer source t rest) _ OperandIsNoBit (with_pointer_plain source t rest)
-    (either (spec.sized_by_register source t rest) _ OperandIsNoBit (sized_plain source t rest) (plain_path_plain source t rest))))
+    (either (spec.operand_by_sized_register source t rest) _ OperandIsNoBit (sized_plain source t rest) (plain_path_plain source t rest))))
 
 quoted_plain : (source : List ℕ) (t : Token) (rest : List Token) → IfSome (spec.quoted_operand source t rest) OperandIsNoBit
 unfolding spec.quoted_operand

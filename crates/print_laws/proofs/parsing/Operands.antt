@@ -36,7 +36,7 @@ use Rattle.stl_parser.specs.Numbers.{number_of, number_up_to, signed_number_at}
 use Rattle.stl_parser.specs.Parts.{parts_from}
 use Rattle.stl_parser.specs.Literals.{literal_of, literal_at, literal_token, truth_of, long_literal}
 use Rattle.stl_parser.specs.Addresses.{address_at, bit_of, letters_and_number_at, glued_letters_and_number, separate_letters_and_number, letter_count}
-use Rattle.stl_parser.specs.Operands.{operand_of, operand_by_kind, word_operand, lone_word_operand, operand_with_number, direct_address_operand, area_operand, place_bit, data_block_operand, operand_behind_block, operand_in_block, block_place, place_of_data_address, operand_with_pointer, indirect_operand, operand_by_pointer, memory_pointer, pointer_end, pointer_close, holds_pointer, operand_by_register, register_pointer, register_of, offset_of, operand_by_memory_number, mark_operand, sized_by_register, pointer_constant_operand, plain_pointer, area_pointer, local_path, path_of, steps_from, path_end, condition_of, register_name_operand, sign_operand}
+use Rattle.stl_parser.specs.Operands.{operand_of, operand_by_kind, word_operand, lone_word_operand, operand_with_number, direct_address_operand, area_operand, place_bit, data_block_operand, operand_behind_block, operand_in_block, block_place, place_of_data_address, operand_with_pointer, indirect_operand, operand_by_pointer, memory_pointer, pointer_end, pointer_close, holds_pointer, operand_by_register, register_pointer, register_number, offset_of, operand_by_memory_number, mark_operand, operand_by_sized_register, pointer_constant_operand, plain_pointer, area_pointer, local_path, path_of, steps_from, path_end, condition_word_operand, register_name_operand, sign_operand}
 use Rattle.stl_print.specs.Literals.{literal_pieces}
 use Rattle.stl_print.specs.Names.{block_name_pieces}
 use Rattle.stl_print.specs.Operands.{numbered_pieces, address_pieces, bit_pieces, direct_pieces, register_operand_pieces as register_pieces, operand_pieces, path_head_pieces, pointer_pieces, pointer_byte_pieces}
@@ -274,7 +274,7 @@ counted_found numbered_kind.Di = record { table = refl; whole = refl; no_true = 
 pub number_by_read : (source : List ℕ) (from line : ℕ) (g : _) (what : Numbered) (place : Letters) (byte : ℕ) → holds_pointer place ≡ true → byte ≤ 65535
     → Texts source from line (operand_pieces g (operand.NumberBy what place byte))
     → operand_of source (tokens_of from line (operand_pieces g (operand.NumberBy what place byte))) ≡ Some (operand.NumberBy what place byte)
-unfolding operand_of literal_of literal_at literal_token truth_of long_literal signed_number_at is_mark is_key has_kind key_text mark_text operand_by_kind word_operand lone_word_operand operand_with_number address_at letters_and_number_at separate_letters_and_number number_of number_up_to address_by operand_pieces operand_with_pointer indirect_operand operand_by_pointer memory_pointer pointer_end pointer_close operand_by_memory_number operand_by_register register_pointer register_of offset_of bit_of
+unfolding operand_of literal_of literal_at literal_token truth_of long_literal signed_number_at is_mark is_key has_kind key_text mark_text operand_by_kind word_operand lone_word_operand operand_with_number address_at letters_and_number_at separate_letters_and_number number_of number_up_to address_by operand_pieces operand_with_pointer indirect_operand operand_by_pointer memory_pointer pointer_end pointer_close operand_by_memory_number operand_by_register register_pointer register_number offset_of bit_of
 number_by_read source from line g numbered_kind.Timer place byte holds h (_, x1, (_, x2, (_, x3, (_, x4, (_, x5, _))))) =
     let l : AreLetters (numbered_letters numbered_kind.Timer) (address_by numbered_kind.Timer) = counted_found numbered_kind.Timer in
     let k : AreLetters (letters_of_address place width.Word) (address.Area place width.Word) = letters_found place width.Word (word_area place) in
@@ -339,7 +339,7 @@ letter_unknown width.Dword = refl
 first_register_read : (source : List ℕ) (from line : ℕ) (g : _) (area : Option Letters) (w : Width) (bits : ℕ)
     → IsAreaOf area w → bits < 8 * 65536 → Texts source from line (register_pieces g area w 1 bits)
     → operand_of source (tokens_of from line (register_pieces g area w 1 bits)) ≡ Some (operand.ByRegister area w 1 bits)
-unfolding operand_of literal_of literal_at literal_token truth_of long_literal signed_number_at is_mark is_key has_kind key_text mark_text operand_by_kind word_operand lone_word_operand operand_with_number address_at letters_and_number_at separate_letters_and_number number_of number_up_to register_pieces width_letter operand_with_pointer indirect_operand operand_by_pointer memory_pointer pointer_end pointer_close operand_by_memory_number operand_by_register register_pointer register_of offset_of bit_of mark_operand sized_by_register
+unfolding operand_of literal_of literal_at literal_token truth_of long_literal signed_number_at is_mark is_key has_kind key_text mark_text operand_by_kind word_operand lone_word_operand operand_with_number address_at letters_and_number_at separate_letters_and_number number_of number_up_to register_pieces width_letter operand_with_pointer indirect_operand operand_by_pointer memory_pointer pointer_end pointer_close operand_by_memory_number operand_by_register register_pointer register_number offset_of bit_of mark_operand operand_by_sized_register
 first_register_read source from line g (Some area) w bits is h (_, x1, (_, x2, (_, x3, (_, x4, (_, x5, (_, x6, (_, x7, (_, x8, (_, x9, _))))))))) =
     let l : AreLetters (letters_of_address area w) (address.Area area w) = letters_found area w is in
     rw (x1, l.no_true, l.no_false, no_glue l, l.table, x2, x3 ∙ first_text, no_register, no_word, x4, x9, x5, x6, read_number (bits / 8) (omega (arith, h)), x7, x8, read_number (bits % 8) (omega arith), at_most (bits % 8) 7 (omega arith), eighths bits) refl
@@ -355,7 +355,7 @@ first_register_read source from line g None width.Dword bits is h (_, x1, (_, x2
 second_register_read : (source : List ℕ) (from line : ℕ) (g : _) (area : Option Letters) (w : Width) (bits : ℕ)
     → IsAreaOf area w → bits < 8 * 65536 → Texts source from line (register_pieces g area w 2 bits)
     → operand_of source (tokens_of from line (register_pieces g area w 2 bits)) ≡ Some (operand.ByRegister area w 2 bits)
-unfolding operand_of literal_of literal_at literal_token truth_of long_literal signed_number_at is_mark is_key has_kind key_text mark_text operand_by_kind word_operand lone_word_operand operand_with_number address_at letters_and_number_at separate_letters_and_number number_of number_up_to register_pieces width_letter operand_with_pointer indirect_operand operand_by_pointer memory_pointer pointer_end pointer_close operand_by_memory_number operand_by_register register_pointer register_of offset_of bit_of mark_operand sized_by_register
+unfolding operand_of literal_of literal_at literal_token truth_of long_literal signed_number_at is_mark is_key has_kind key_text mark_text operand_by_kind word_operand lone_word_operand operand_with_number address_at letters_and_number_at separate_letters_and_number number_of number_up_to register_pieces width_letter operand_with_pointer indirect_operand operand_by_pointer memory_pointer pointer_end pointer_close operand_by_memory_number operand_by_register register_pointer register_number offset_of bit_of mark_operand operand_by_sized_register
 second_register_read source from line g (Some area) w bits is h (_, x1, (_, x2, (_, x3, (_, x4, (_, x5, (_, x6, (_, x7, (_, x8, (_, x9, _))))))))) =
     let l : AreLetters (letters_of_address area w) (address.Area area w) = letters_found area w is in
     rw (x1, l.no_true, l.no_false, no_glue l, l.table, x2, x3 ∙ second_text, no_second, no_second_word, x4, x9, x5, x6, read_number (bits / 8) (omega (arith, h)), x7, x8, read_number (bits % 8) (omega arith), at_most (bits % 8) 7 (omega arith), eighths bits) refl
@@ -395,7 +395,7 @@ pointer_read source from line g (Some area) byte bit is h small (_, x1, (_, x2, 
 
 pub status_read : (source : List ℕ) (from line : ℕ) (g : _) (f : Flag) → Texts source from line (operand_pieces g (operand.OfStatus f))
     → operand_of source (tokens_of from line (operand_pieces g (operand.OfStatus f))) ≡ Some (operand.OfStatus f)
-unfolding operand_of literal_of literal_at literal_token truth_of long_literal signed_number_at is_mark is_key has_kind key_text mark_text operand_by_kind word_operand lone_word_operand operand_with_number address_at letters_and_number_at separate_letters_and_number number_of number_up_to operand_pieces flag_kind flag_text look_up flags sign_operand condition_of
+unfolding operand_of literal_of literal_at literal_token truth_of long_literal signed_number_at is_mark is_key has_kind key_text mark_text operand_by_kind word_operand lone_word_operand operand_with_number address_at letters_and_number_at separate_letters_and_number number_of number_up_to operand_pieces flag_kind flag_text look_up flags sign_operand condition_word_operand
 status_read source from line g flag.Br (_, x1, _) = rw x1 refl
 status_read source from line g flag.Ov (_, x1, _) = rw x1 refl
 status_read source from line g flag.Os (_, x1, _) = rw x1 refl
@@ -409,7 +409,7 @@ status_read source from line g flag.Uo (_, x1, _) = rw x1 refl
 
 pub other_read : (source : List ℕ) (from line : ℕ) (g : _) (name : List ℕ) → IsRegister name → Texts source from line (operand_pieces g (operand.Other name))
     → operand_of source (tokens_of from line (operand_pieces g (operand.Other name))) ≡ Some (operand.Other name)
-unfolding operand_of literal_of literal_at literal_token truth_of long_literal signed_number_at is_mark is_key has_kind key_text mark_text operand_by_kind word_operand lone_word_operand operand_with_number address_at letters_and_number_at separate_letters_and_number number_of number_up_to operand_pieces condition_of register_name_operand
+unfolding operand_of literal_of literal_at literal_token truth_of long_literal signed_number_at is_mark is_key has_kind key_text mark_text operand_by_kind word_operand lone_word_operand operand_with_number address_at letters_and_number_at separate_letters_and_number number_of number_up_to operand_pieces condition_word_operand register_name_operand
 other_read source from line g name h (_, x1, _) = rw (x1, h.no_true, h.no_false, h.no_flag, h.found) refl
 
 -- ---- all of them

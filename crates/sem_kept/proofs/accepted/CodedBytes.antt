@@ -162,16 +162,16 @@ module _ (source : List ℕ) (bytes : AreBytes source) where
   pointer_has tokens = grind arith
 
   alone_has : (t : Token) (rest : List Token) → Has (reads.lone_word_operand source t rest)
-  unfolding reads.lone_word_operand reads.condition_of reads.register_name_operand
+  unfolding reads.lone_word_operand reads.condition_word_operand reads.register_name_operand
   alone_has t rest = grind arith
 
   word_has : (t : Token) (rest tokens : List Token) → Has (reads.word_operand source t rest tokens)
-  unfolding reads.word_operand reads.operand_with_number reads.operand_with_pointer reads.sized_by_register reads.plain_path
+  unfolding reads.word_operand reads.operand_with_number reads.operand_with_pointer reads.operand_by_sized_register reads.plain_path
   word_has t rest tokens = grind (arith, alone_has, direct_has, indirect_has, register_has, path_has)
 
   kind_has : (t : Token) (rest tokens : List Token) (k : TokenKind)
       → Has (reads.operand_by_kind source t rest tokens k)
-  unfolding reads.operand_by_kind reads.quoted_operand reads.local_path reads.mark_operand reads.sign_operand reads.condition_of
+  unfolding reads.operand_by_kind reads.quoted_operand reads.local_path reads.mark_operand reads.sign_operand reads.condition_word_operand
   kind_has t rest tokens k = grind (arith, word_has, behind_block_has, path_has, pointer_has, register_has)
 
   operand_has : (tokens : List Token) → Has (reads.operand_of source tokens)
