@@ -9,7 +9,7 @@ use Rattle.stl_lexer.specs.declared.marks.Mark.TheVariants as mark
 use Rattle.stl_parser.specs.Terminals.{is_mark}
 use Rattle.plc_base.proofs.DecimalLemmas.{decimal_range}
 use Rattle.stl_parser.specs.Numbers.{number_up_to, number_of, signed_number_at, int_at}
-use Rattle.stl_parser.proofs.OptionLemmas.{found, mapped, either, both}
+use Rattle.stl_parser.proofs.OptionLemmas.{search_holds, map_holds, either, both}
 
 number_within : (most : ℕ) (source : List ℕ) (t : Token) (n : ℕ) → number_up_to most source t ≡ Some n → n ≤ most
 unfolding number_up_to
@@ -29,21 +29,21 @@ negated_between low high zero within = omega arith
 negated_between low high (suc n) within = between_by_sign (nat_lt 0 (suc n)) low high (suc n - 1) (0 - suc n) (omega (arith, within)) (omega arith)
 
 pub number_holds : (source : List ℕ) (t : Token) → IfSome (number_of source t) IsNumber
-number_holds source t = found (number_of source t) IsNumber (number_range source t)
+number_holds source t = search_holds (number_of source t) IsNumber (number_range source t)
 
 abbrev pub FirstIsDecimal : ℤ × List Token → Type 0
 FirstIsDecimal r = IsDecimal r.0
 
 plain_decimal : (source : List ℕ) (t : Token) (rest : List Token) →
     IfSome (option_map (λ n. (pos n, rest)) (number_of source t)) FirstIsDecimal
-plain_decimal source t rest = mapped (number_of source t) _ IsNumber FirstIsDecimal (number_holds source t) (λ n h. h)
+plain_decimal source t rest = map_holds (number_of source t) _ IsNumber FirstIsDecimal (number_holds source t) (λ n h. h)
 
 pub signed_holds : (source : List ℕ) (sign : Token) (tokens : List Token) → IfSome (signed_number_at source sign tokens) FirstIsDecimal
 unfolding signed_number_at
 signed_holds source sign [] = tt
 signed_holds source sign (t ∷ rest) =
     both (is_mark source sign mark.Minus) _ _ FirstIsDecimal
-    (mapped (number_up_to 32768 source t) _ (λ n. n ≤ 32768) FirstIsDecimal (found (number_up_to 32768 source t) _ (number_within 32768 source t))
+    (map_holds (number_up_to 32768 source t) _ (λ n. n ≤ 32768) FirstIsDecimal (search_holds (number_up_to 32768 source t) _ (number_within 32768 source t))
     (λ n h. negated_between 32768 65535 n h))
     (both (is_mark source sign mark.Plus) _ _ FirstIsDecimal (plain_decimal source t rest) tt)
 

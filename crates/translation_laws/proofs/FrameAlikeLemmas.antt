@@ -34,7 +34,7 @@ use Rattle.stl_parser.specs.Frame.{next_place, next_place_between, next_place_in
 use Rattle.stl_parser.specs.Tables.{head_words, keywords, look_up}
 use Rattle.stl_parser.specs.Terminals.{has_kind, is_mark, kind_rank}
 use Rattle.stl_lexer.specs.declared.marks.Mark.TheVariants as mark
-use Rattle.stl_parser.proofs.OptionLemmas.{both, chained, either, failed, mapped, none_holds, passed, some_holds, weakened}
+use Rattle.stl_parser.proofs.OptionLemmas.{both, chain_holds, either, else_holds, map_holds, none_holds, then_holds, some_holds, weaker_holds}
 use Rattle.de_mnemonics.specs.declared.classes.TokenClass.{TokenClass}
 use Rattle.de_mnemonics.specs.declared.classes.TokenClass.TheVariants as class
 use Rattle.de_mnemonics.specs.declared.places.TokenPlace.{TokenPlace}
@@ -640,11 +640,11 @@ inside_plain : (s : List ℕ) (cp : ClausePlace) (line : ℕ) (inside : List Tok
 unfolding inside_clause declaration_clause statement_clause setting_clause
 inside_plain s cp line inside =
     either (declaration_clause s cp inside) _ (IsPlain {X = Bool})
-    (chained (declaration_of s (level_at cp) inside) _ (λ d. Unit {0}) (IsPlain {X = Bool}) (none_holds (declaration_of s (level_at cp) inside))
-    (λ d k. failed (takes_parameters cp && not (is_elementary d)) (Some (clause.Declares d, false)) (IsPlain {X = Bool}) (λ is. refl)))
+    (chain_holds (declaration_of s (level_at cp) inside) _ (λ d. Unit {0}) (IsPlain {X = Bool}) (none_holds (declaration_of s (level_at cp) inside))
+    (λ d k. else_holds (takes_parameters cp && not (is_elementary d)) (Some (clause.Declares d, false)) (IsPlain {X = Bool}) (λ is. refl)))
     (either (statement_clause s line inside) (setting_clause s line inside) (IsPlain {X = Bool})
-    (mapped (statement_of s line inside) (λ r. (clause.Runs r.0, r.1)) (λ r. Unit {0}) (IsPlain {X = Bool}) (none_holds (statement_of s line inside)) (λ r k. refl))
-    (mapped (setting_of s line inside) (λ v. (clause.Sets v, false)) (λ v. Unit {0}) (IsPlain {X = Bool}) (none_holds (setting_of s line inside)) (λ v k. refl)))
+    (map_holds (statement_of s line inside) (λ r. (clause.Runs r.0, r.1)) (λ r. Unit {0}) (IsPlain {X = Bool}) (none_holds (statement_of s line inside)) (λ r k. refl))
+    (map_holds (setting_of s line inside) (λ v. (clause.Sets v, false)) (λ v. Unit {0}) (IsPlain {X = Bool}) (none_holds (setting_of s line inside)) (λ v k. refl)))
 
 other_plain : (s : List ℕ) (cp : ClausePlace) (line : ℕ) (tokens : List Token) → IfSome (other_clause s cp line tokens) IsPlainRead
 unfolding other_clause plain_clause structure_clause semicolon_clause base_block_at
@@ -658,16 +658,16 @@ other_plain s cp line tokens =
     plain : IfSome (plain_clause s cp line tokens) IsPlainRead
     plain =
         either (structure_clause s cp tokens) (semicolon_clause s cp line tokens) IsPlainRead
-        (failed (takes_parameters cp) (option_map to_clause (structure_at s (level_at cp) tokens)) IsPlainRead
-        (λ is. mapped (structure_at s (level_at cp) tokens) to_clause (λ r. Unit {0}) IsPlainRead (none_holds (structure_at s (level_at cp) tokens)) (λ r k. refl)))
-        (chained (until_semicolon s tokens) (λ cut. option_map (λ c. (c.0, cut.1, c.1)) (inside_clause s cp line cut.0)) (λ cut. Unit {0}) IsPlainRead
+        (else_holds (takes_parameters cp) (option_map to_clause (structure_at s (level_at cp) tokens)) IsPlainRead
+        (λ is. map_holds (structure_at s (level_at cp) tokens) to_clause (λ r. Unit {0}) IsPlainRead (none_holds (structure_at s (level_at cp) tokens)) (λ r k. refl)))
+        (chain_holds (until_semicolon s tokens) (λ cut. option_map (λ c. (c.0, cut.1, c.1)) (inside_clause s cp line cut.0)) (λ cut. Unit {0}) IsPlainRead
         (none_holds (until_semicolon s tokens))
-        (λ cut k. mapped (inside_clause s cp line cut.0) (λ c. (c.0, cut.1, c.1)) (IsPlain {X = Bool}) IsPlainRead (inside_plain s cp line cut.0) (λ c i. i)))
+        (λ cut k. map_holds (inside_clause s cp line cut.0) (λ c. (c.0, cut.1, c.1)) (IsPlain {X = Bool}) IsPlainRead (inside_plain s cp line cut.0) (λ c i. i)))
 
     based : IfSome (base_block_at s tokens) IsPlainRead
     based =
-        chained (block_at s tokens) _ (λ r. Unit {0}) IsPlainRead (none_holds (block_at s tokens))
-        (λ r k. passed (is_base_block r.0) (Some (clause.Based r.0, r.1, false)) IsPlainRead (λ is. refl))
+        chain_holds (block_at s tokens) _ (λ r. Unit {0}) IsPlainRead (none_holds (block_at s tokens))
+        (λ r k. then_holds (is_base_block r.0) (Some (clause.Based r.0, r.1, false)) IsPlainRead (λ is. refl))
 
 plain_after : (c : Clause) (pl : TokenPlace) → is_plain c ≡ true → place_after c pl ≡ pl
 plain_after (clause.Head line e name result) pl h = absurd (false≢true h)
@@ -688,7 +688,7 @@ plain_after (clause.Runs y) pl h = refl
 inner_ends : (s : List ℕ) (ts : List Token) → IfSome (inner_end s ts) (λ r. r.0 ≡ clause.EndStructure)
 unfolding inner_end
 inner_ends s [] = tt
-inner_ends s (t ∷ ts) = passed (is_mark s t mark.Semicolon) (Some (clause.EndStructure, ts, false)) (λ r. r.0 ≡ clause.EndStructure) (λ is. refl)
+inner_ends s (t ∷ ts) = then_holds (is_mark s t mark.Semicolon) (Some (clause.EndStructure, ts, false)) (λ r. r.0 ≡ clause.EndStructure) (λ is. refl)
 
 note_none : (a b c d e f g h : Bool)
     → is_note (if a then class.Semicolon else (if b then class.Dot else (if c then class.Assign else (if d then class.Colon
@@ -722,7 +722,7 @@ mark_no_note x =
 note_read : (s : List ℕ) (cp : ClausePlace) (w : HeadWord) (rest : List Token) → IfSome (head_word_clause s cp w rest) (λ r. r.0 ≡ clause.Note)
 unfolding head_word_clause
 note_read s cp w rest =
-    mapped (head_word_at s w rest) (λ behind. (clause.Note, behind_note s cp behind, false)) (λ r. Unit {0}) (λ r. r.0 ≡ clause.Note) (none_holds (head_word_at s w rest)) (λ r k. refl)
+    map_holds (head_word_at s w rest) (λ behind. (clause.Note, behind_note s cp behind, false)) (λ r. Unit {0}) (λ r. r.0 ≡ clause.Note) (none_holds (head_word_at s w rest)) (λ r k. refl)
 
 module _ (s : List ℕ) (cp : ClausePlace) (pl : TokenPlace) (b : TokenClass) (nc : TokenClass) (quiet : is_quiet pl ≡ true) (may : may_be_keyword b ≡ true)
     (t : Token) (ts : List Token) where
@@ -735,11 +735,11 @@ module _ (s : List ℕ) (cp : ClausePlace) (pl : TokenPlace) (b : TokenClass) (n
   plain_leads stays r plain = λ isnt. stays ∙ sym (plain_after r.0 pl plain)
 
   other_leads : token_place_behind pl b (token_class_in s t) (text_of s t) nc ≡ pl → IfSome (other_clause s cp t.line (t ∷ ts)) Leads
-  other_leads stays = weakened (other_clause s cp t.line (t ∷ ts)) IsPlainRead Leads (other_plain s cp t.line (t ∷ ts)) (λ r plain. plain_leads stays r plain)
+  other_leads stays = weaker_holds (other_clause s cp t.line (t ∷ ts)) IsPlainRead Leads (other_plain s cp t.line (t ∷ ts)) (λ r plain. plain_leads stays r plain)
 
   note_leads : token_place_behind pl b (token_class_in s t) (text_of s t) nc ≡ pl → (w : HeadWord) → IfSome (head_word_clause s cp w ts) Leads
   note_leads stays w =
-      weakened (head_word_clause s cp w ts) (λ r. r.0 ≡ clause.Note) Leads (note_read s cp w ts) (λ r is isnt. stays ∙ sym (ap (λ c. place_after c pl) is))
+      weaker_holds (head_word_clause s cp w ts) (λ r. r.0 ≡ clause.Note) Leads (note_read s cp w ts) (λ r is isnt. stays ∙ sym (ap (λ c. place_after c pl) is))
 
   free_leads : token_place_behind pl b (token_class_in s t) (text_of s t) nc ≡ pl → (w : Option HeadWord) → IfSome (free_word_clause s cp t ts (t ∷ ts) w) Leads
   unfolding free_word_clause
@@ -780,13 +780,13 @@ module _ (s : List ℕ) (cp : ClausePlace) (pl : TokenPlace) (b : TokenClass) (n
   opens_leads : (k : BlockKind) → token_place_behind pl b (token_class_in s t) (text_of s t) nc ≡ quiet_place k → IfSome (head_clause s t.line k ts) Leads
   unfolding head_clause
   opens_leads k leads =
-      chained (block_of_kind_at s k ts) (λ n. option_map (λ r. (clause.Head t.line k n.0 r.0, r.1, false)) (result_at s k n.1)) (λ n. Unit {0}) Leads (none_holds (block_of_kind_at s k ts))
-      (λ n i. mapped (result_at s k n.1) (λ r. (clause.Head t.line k n.0 r.0, r.1, false)) (λ r. Unit {0}) Leads (none_holds (result_at s k n.1)) (λ r j isnt. leads))
+      chain_holds (block_of_kind_at s k ts) (λ n. option_map (λ r. (clause.Head t.line k n.0 r.0, r.1, false)) (result_at s k n.1)) (λ n. Unit {0}) Leads (none_holds (block_of_kind_at s k ts))
+      (λ n i. map_holds (result_at s k n.1) (λ r. (clause.Head t.line k n.0 r.0, r.1, false)) (λ r. Unit {0}) Leads (none_holds (result_at s k n.1)) (λ r j isnt. leads))
 
   -- the end of a structure
   ends_leads : token_place_behind pl b (token_class_in s t) (text_of s t) nc ≡ pl → IfSome (structure_end s cp ts) Leads
   ends_leads stays =
-      weakened (structure_end s cp ts) (λ r. r.0 ≡ clause.EndStructure) Leads (structure_ends s cp ts) (λ r e isnt. stays ∙ sym (ap (λ c. place_after c pl) e))
+      weaker_holds (structure_end s cp ts) (λ r. r.0 ≡ clause.EndStructure) Leads (structure_ends s cp ts) (λ r e isnt. stays ∙ sym (ap (λ c. place_after c pl) e))
 
   key_leads : (k : Keyword) → token_place_behind pl b (token_class_in s t) (text_of s t) nc ≡ walk_to pl (code_key k) (data_key k) (begin_key k)
       → IfSome (keyword_clause s cp t.line k ts) Leads
@@ -870,13 +870,13 @@ module _ (s : List ℕ) (cp : ClausePlace) (t : Token) (ts : List Token) where
 
   other_begun : IfSome (other_clause s cp t.line (t ∷ ts)) Begun
   other_begun =
-      weakened (other_clause s cp t.line (t ∷ ts)) IsPlainRead Begun (other_plain s cp t.line (t ∷ ts)) (λ r plain. no_begin r (plain_no_begins r.0 plain))
+      weaker_holds (other_clause s cp t.line (t ∷ ts)) IsPlainRead Begun (other_plain s cp t.line (t ∷ ts)) (λ r plain. no_begin r (plain_no_begins r.0 plain))
 
   key_begun : (k : Keyword) → IfSome (keyword_clause s cp t.line k ts) Begun
   unfolding keyword_clause head_clause structure_end
   key_begun (keyword.Opens k) =
-      chained (block_of_kind_at s k ts) (λ n. option_map (λ r. (clause.Head t.line k n.0 r.0, r.1, false)) (result_at s k n.1)) (λ n. Unit {0}) Begun (none_holds (block_of_kind_at s k ts))
-      (λ n i. mapped (result_at s k n.1) (λ r. (clause.Head t.line k n.0 r.0, r.1, false)) (λ r. Unit {0}) Begun (none_holds (result_at s k n.1)) (λ r j is. absurd (false≢true is)))
+      chain_holds (block_of_kind_at s k ts) (λ n. option_map (λ r. (clause.Head t.line k n.0 r.0, r.1, false)) (result_at s k n.1)) (λ n. Unit {0}) Begun (none_holds (block_of_kind_at s k ts))
+      (λ n i. map_holds (result_at s k n.1) (λ r. (clause.Head t.line k n.0 r.0, r.1, false)) (λ r. Unit {0}) Begun (none_holds (result_at s k n.1)) (λ r j is. absurd (false≢true is)))
   key_begun (keyword.Ends k) = λ is. absurd (false≢true is)
   key_begun (keyword.Section k) = λ is. absurd (false≢true is)
   key_begun keyword.EndSection = λ is. absurd (false≢true is)
@@ -884,13 +884,13 @@ module _ (s : List ℕ) (cp : ClausePlace) (t : Token) (ts : List Token) where
   key_begun keyword.Network = λ is. absurd (false≢true is)
   key_begun keyword.Structure = λ is. absurd (false≢true is)
   key_begun keyword.EndStructure =
-      weakened (structure_end s cp ts) (λ r. r.0 ≡ clause.EndStructure) Begun (structure_ends s cp ts) (λ r e is. absurd (true≢false (sym is ∙ ap is_begins e)))
+      weaker_holds (structure_end s cp ts) (λ r. r.0 ≡ clause.EndStructure) Begun (structure_ends s cp ts) (λ r e is. absurd (true≢false (sym is ∙ ap is_begins e)))
 
   free_begun : (w : Option HeadWord) → IfSome (free_word_clause s cp t ts (t ∷ ts) w) Begun
   unfolding free_word_clause
   free_begun (Some w) =
       both (is_outer cp) (head_word_clause s cp w ts) (other_clause s cp t.line (t ∷ ts)) Begun
-      (weakened (head_word_clause s cp w ts) (λ r. r.0 ≡ clause.Note) Begun (note_read s cp w ts) (λ r e is. absurd (true≢false (sym is ∙ ap is_begins e)))) other_begun
+      (weaker_holds (head_word_clause s cp w ts) (λ r. r.0 ≡ clause.Note) Begun (note_read s cp w ts) (λ r e is. absurd (true≢false (sym is ∙ ap is_begins e)))) other_begun
   free_begun None = other_begun
 
   word_begun : (o : Option Keyword) → IfSome (word_clause s cp t ts (t ∷ ts) o) Begun
@@ -1083,7 +1083,7 @@ module _ (s : List ℕ) (k : BlockKind) (code : is_code k ≡ true) (t : Token) 
 
   other_steps : IfSome (other_clause s (at.Body k) t.line (t ∷ ts)) Steps
   other_steps =
-      weakened (other_clause s (at.Body k) t.line (t ∷ ts)) IsPlainRead Steps (other_plain s (at.Body k) t.line (t ∷ ts))
+      weaker_holds (other_clause s (at.Body k) t.line (t ∷ ts)) IsPlainRead Steps (other_plain s (at.Body k) t.line (t ∷ ts))
       (λ r plain isnt next f. absurd (plain_no_step k r.0 next plain isnt f))
 
   ends_steps : (e : BlockKind) (rest : List Token) → rest ≡ ts → token_class_in s t ≡ class.Word → is_word_in_list block_end_words (text_of s t) ≡ is_code e
@@ -1118,8 +1118,8 @@ module _ (s : List ℕ) (k : BlockKind) (code : is_code k ≡ true) (t : Token) 
   key_steps : token_class_in s t ≡ class.Word → (j : Keyword) → KeyFits (text_of s t) j → IfSome (keyword_clause s (at.Body k) t.line j ts) Steps
   unfolding keyword_clause head_clause next_place next_place_in_body
   key_steps word (keyword.Opens e) h =
-      chained (block_of_kind_at s e ts) (λ n. option_map (λ r. (clause.Head t.line e n.0 r.0, r.1, false)) (result_at s e n.1)) (λ n. Unit {0}) Steps (none_holds (block_of_kind_at s e ts))
-      (λ n i. mapped (result_at s e n.1) (λ r. (clause.Head t.line e n.0 r.0, r.1, false)) (λ r. Unit {0}) Steps (none_holds (result_at s e n.1))
+      chain_holds (block_of_kind_at s e ts) (λ n. option_map (λ r. (clause.Head t.line e n.0 r.0, r.1, false)) (result_at s e n.1)) (λ n. Unit {0}) Steps (none_holds (block_of_kind_at s e ts))
+      (λ n i. map_holds (result_at s e n.1) (λ r. (clause.Head t.line e n.0 r.0, r.1, false)) (λ r. Unit {0}) Steps (none_holds (result_at s e n.1))
       (λ r j isnt next f. absurd (none-some next f)))
   key_steps word (keyword.Ends e) h = ends_steps e ts refl word h.ends
   key_steps word (keyword.Section q) h = λ isnt next f. absurd (none-some next f)
@@ -1128,7 +1128,7 @@ module _ (s : List ℕ) (k : BlockKind) (code : is_code k ≡ true) (t : Token) 
   key_steps word keyword.Network h = network_steps word h.ends h.network
   key_steps word keyword.Structure h = λ isnt next f. absurd (none-some next f)
   key_steps word keyword.EndStructure h =
-      weakened (structure_end s (at.Body k) ts) (λ r. r.0 ≡ clause.EndStructure) Steps (structure_ends s (at.Body k) ts)
+      weaker_holds (structure_end s (at.Body k) ts) (λ r. r.0 ≡ clause.EndStructure) Steps (structure_ends s (at.Body k) ts)
       (λ r e isnt next f. absurd (no_structure_step k r.0 next e f))
 
   free_steps : (w : Option HeadWord) → IfSome (free_word_clause s (at.Body k) t ts (t ∷ ts) w) Steps
@@ -1174,8 +1174,8 @@ body_step s k t ts c rest long next before nc code isnt e f =
 pub key_no_statement : (s : List ℕ) (cp : ClausePlace) (line : ℕ) (j : Keyword) (ts : List Token) → IfSome (keyword_clause s cp line j ts) (λ r. is_statement r.0 ≡ false)
 unfolding keyword_clause head_clause
 key_no_statement s cp line (keyword.Opens e) ts =
-    chained (block_of_kind_at s e ts) (λ n. option_map (λ r. (clause.Head line e n.0 r.0, r.1, false)) (result_at s e n.1)) (λ n. Unit {0}) (λ r. is_statement r.0 ≡ false) (none_holds (block_of_kind_at s e ts))
-    (λ n i. mapped (result_at s e n.1) (λ r. (clause.Head line e n.0 r.0, r.1, false)) (λ r. Unit {0}) (λ r. is_statement r.0 ≡ false) (none_holds (result_at s e n.1)) (λ r j. refl))
+    chain_holds (block_of_kind_at s e ts) (λ n. option_map (λ r. (clause.Head line e n.0 r.0, r.1, false)) (result_at s e n.1)) (λ n. Unit {0}) (λ r. is_statement r.0 ≡ false) (none_holds (block_of_kind_at s e ts))
+    (λ n i. map_holds (result_at s e n.1) (λ r. (clause.Head line e n.0 r.0, r.1, false)) (λ r. Unit {0}) (λ r. is_statement r.0 ≡ false) (none_holds (result_at s e n.1)) (λ r j. refl))
 key_no_statement s cp line (keyword.Ends e) ts = refl
 key_no_statement s cp line (keyword.Section q) ts = refl
 key_no_statement s cp line keyword.EndSection ts = refl
@@ -1183,7 +1183,7 @@ key_no_statement s cp line keyword.Begin ts = refl
 key_no_statement s cp line keyword.Network ts = refl
 key_no_statement s cp line keyword.Structure ts = refl
 key_no_statement s cp line keyword.EndStructure ts =
-    weakened (structure_end s cp ts) (λ r. r.0 ≡ clause.EndStructure) (λ r. is_statement r.0 ≡ false) (structure_ends s cp ts) (λ r e. ap is_statement e)
+    weaker_holds (structure_end s cp ts) (λ r. r.0 ≡ clause.EndStructure) (λ r. is_statement r.0 ≡ false) (structure_ends s cp ts) (λ r e. ap is_statement e)
 
 -- what is known of it
 abbrev IsFree : List ℕ → Token → Type 0
@@ -1214,7 +1214,7 @@ module _ (s : List ℕ) (k : BlockKind) (t : Token) (ts : List Token) where
   word_frees : token_class_in s t ≡ class.Word → (o : Option Keyword) → look_up keywords (text_of s t) ≡ o → IfSome (word_clause s (at.Body k) t ts (t ∷ ts) o) Frees
   unfolding word_clause
   word_frees word (Some j) e =
-      weakened (keyword_clause s (at.Body k) t.line j ts) (λ r. is_statement r.0 ≡ false) Frees (key_no_statement s (at.Body k) t.line j ts)
+      weaker_holds (keyword_clause s (at.Body k) t.line j ts) (λ r. is_statement r.0 ≡ false) Frees (key_no_statement s (at.Body k) t.line j ts)
       (λ r no_ is. absurd (true≢false (sym is ∙ no_)))
   word_frees word None e = always (free_word_clause s (at.Body k) t ts (t ∷ ts) (look_up head_words (text_of s t))) (free_word s t word e)
 
