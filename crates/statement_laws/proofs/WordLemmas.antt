@@ -36,7 +36,7 @@ use Rattle.stl_parser.specs.Addresses.{address_at, bit_of, block_at}
 use Rattle.stl_parser.specs.Clauses as clauses
 use Rattle.stl_parser.specs.Declarations.{declaration_of, structure_at}
 use Rattle.stl_parser.specs.Literals.{literal_of, text_between_quotes}
-use Rattle.stl_parser.specs.Numbers.{number_of}
+use Rattle.stl_parser.specs.Numbers.{number_of_token}
 use Rattle.stl_parser.specs.Operands as reads
 use Rattle.stl_parser.specs.Parts.{complete_reading}
 use Rattle.stl_parser.specs.Source.{IsTree, ReadsClauses}
@@ -194,7 +194,7 @@ plain_pointer_has : (source : List ℕ) (tokens : List Token)
 unfolding reads.plain_pointer
 plain_pointer_has source [] = tt
 plain_pointer_has source (n ∷ rest) =
-    then_made (number_of source n) _ HasKnownWord (λ byte. mapped_holds (bit_of source rest) _ HasKnownWord (λ bit. tt))
+    then_made (number_of_token source n) _ HasKnownWord (λ byte. mapped_holds (bit_of source rest) _ HasKnownWord (λ bit. tt))
 
 pointer_has : (source : List ℕ) (tokens : List Token) → IfSome (reads.pointer_constant_operand source tokens) HasKnownWord
 unfolding reads.pointer_constant_operand

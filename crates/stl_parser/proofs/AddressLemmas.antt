@@ -22,7 +22,7 @@ use Rattle.stl_parser.specs.Tables.{look_up, addresses}
 use Rattle.plc_base.specs.Decimal.{decimal_up_to}
 use Rattle.plc_base.proofs.DecimalLemmas.{decimal_range}
 use Rattle.plc_base.proofs.TruthLemmas.{and_first}
-use Rattle.stl_parser.specs.Numbers.{number_of}
+use Rattle.stl_parser.specs.Numbers.{number_of_token}
 use Rattle.stl_parser.specs.Addresses.{letter_count, glued_letters_and_number, separate_letters_and_number, letters_and_number_at, address_at, block_number_at, quoted_block_at, block_at, bit_of}
 use Rattle.stl_parser.specs.Operands.{place_bit, register_number, offset_of, register_pointer, holds_pointer, pointer_close, pointer_end, memory_pointer}
 use Rattle.stl_parser.proofs.OptionLemmas.{search_holds, map_holds, chain_holds, either, both, then_holds, also, none_holds, at_most}
@@ -44,7 +44,7 @@ unfolding separate_letters_and_number
 separate_holds table source text [] = tt
 separate_holds table source text (n ∷ rest) =
     chain_holds (look_up table text) _ (λ x. Unit {0}) (λ r. IsNumber r.1) (none_holds (look_up table text))
-    (λ x h. map_holds (number_of source n) _ IsNumber (λ r. IsNumber r.1) (number_holds source n) (λ n k. k))
+    (λ x h. map_holds (number_of_token source n) _ IsNumber (λ r. IsNumber r.1) (number_holds source n) (λ n k. k))
 
 numbered_holds : {X : Type 0} (table : List (List ℕ × X)) (source : List ℕ) (tokens : List Token) →
     IfSome (letters_and_number_at table source tokens) (λ r. IsNumber r.1)
@@ -89,7 +89,7 @@ pub bit_holds : (source : List ℕ) (tokens : List Token) → IfSome (bit_of sou
 unfolding bit_of
 bit_holds source (dot ∷ b ∷ []) =
     then_holds (is_mark source dot mark.Dot) _ (λ n. n ≤ 7)
-    (λ test. chain_holds (number_of source b) _ IsNumber (λ n. n ≤ 7) (number_holds source b)
+    (λ test. chain_holds (number_of_token source b) _ IsNumber (λ n. n ≤ 7) (number_holds source b)
     (λ n h. then_holds (nat_le n 7) _ (λ n. n ≤ 7) (λ small. at_most n 7 small)))
 bit_holds source _ = tt
 
@@ -110,7 +110,7 @@ offset_holds : (source : List ℕ) (prefix n : Token) (rest : List Token) →
 unfolding offset_of
 offset_holds source prefix n rest =
     then_holds (is_mark source prefix mark.Pointer) _ (λ bits. bits < 8 * 65536)
-    (λ test. chain_holds (number_of source n) _ IsNumber (λ bits. bits < 8 * 65536) (number_holds source n)
+    (λ test. chain_holds (number_of_token source n) _ IsNumber (λ bits. bits < 8 * 65536) (number_holds source n)
     (λ byte h. map_holds (bit_of source rest) _ (λ bit. bit ≤ 7) (λ bits. bits < 8 * 65536) (bit_holds source rest)
     (λ bit k. omega (arith, h, k))))
 

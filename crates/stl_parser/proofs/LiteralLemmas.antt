@@ -21,7 +21,7 @@ use Rattle.stl_ast.specs.Operands.{IsNumber}
 use Rattle.stl_parser.specs.declared.keywords.ClauseWord.TheVariants as key
 use Rattle.stl_lexer.specs.declared.marks.Mark.TheVariants as mark
 use Rattle.stl_parser.specs.Terminals.{is_mark, is_key}
-use Rattle.stl_parser.specs.Numbers.{number_of, signed_number_at}
+use Rattle.stl_parser.specs.Numbers.{number_of_token, signed_number_at}
 use Rattle.stl_parser.specs.Values.{value_from, based_literal, based_value, long_value, long_or_count, time_value, duration_literal}
 use Rattle.stl_parser.specs.Literals.{text_between_quotes, characters_of, truth_of, literal_token, byte_of, last_bytes, bytes_behind, bytes_at, long_literal, literal_at, literal_of}
 use Rattle.stl_parser.proofs.OptionLemmas.{map_holds, chain_holds, either, both, then_holds, at_most, whole_holds}
@@ -107,8 +107,8 @@ unfolding truth_of
 truth_holds source t =
     both (is_key source t key.True) _ _ IsLiteral tt (both (is_key source t key.False) _ _ IsLiteral tt tt)
 
-decimal_holds : (source : List ℕ) (t : Token) → IfSome (option_map (λ n. literal.Number (pos n)) (number_of source t)) IsLiteral
-decimal_holds source t = map_holds (number_of source t) _ IsNumber IsLiteral (number_holds source t) (λ n h. h)
+decimal_holds : (source : List ℕ) (t : Token) → IfSome (option_map (λ n. literal.Number (pos n)) (number_of_token source t)) IsLiteral
+decimal_holds source t = map_holds (number_of_token source t) _ IsNumber IsLiteral (number_holds source t) (λ n h. h)
 
 token_holds : (source : List ℕ) (t : Token) (k : TokenKind) → IfSome (literal_token source t k) IsLiteral
 unfolding literal_token
@@ -125,7 +125,7 @@ token_holds source t _ = tt
 byte_holds : (source : List ℕ) (t : Token) → IfSome (byte_of source t) (λ n. n ≤ 255)
 unfolding byte_of
 byte_holds source t =
-    chain_holds (number_of source t) _ IsNumber (λ n. n ≤ 255) (number_holds source t)
+    chain_holds (number_of_token source t) _ IsNumber (λ n. n ≤ 255) (number_holds source t)
     (λ n h. then_holds (nat_le n 255) _ (λ n. n ≤ 255) (λ test. at_most n 255 test))
 
 abbrev pub FirstIsLiteral : Literal × List Token → Type 0

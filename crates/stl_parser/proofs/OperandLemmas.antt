@@ -29,7 +29,7 @@ use Rattle.stl_parser.specs.declared.tables.AddressKind.{AddressKind}
 use Rattle.stl_parser.specs.declared.tables.AddressKind.TheVariants as address
 use Rattle.stl_parser.specs.Terminals.{has_kind, is_mark, is_key}
 use Rattle.stl_parser.specs.Tables.{look_up, addresses, flags, registers}
-use Rattle.stl_parser.specs.Numbers.{number_of, int_at}
+use Rattle.stl_parser.specs.Numbers.{number_of_token, int_at}
 use Rattle.stl_parser.specs.Parts.{complete_reading}
 use Rattle.stl_parser.specs.Literals.{text_between_quotes, literal_of}
 use Rattle.stl_parser.specs.Addresses.{address_at, bit_of}
@@ -209,7 +209,7 @@ plain_pointer_holds : (source : List ℕ) (tokens : List Token) (more : ℕ) →
 unfolding spec.plain_pointer
 plain_pointer_holds source [] more = tt
 plain_pointer_holds source (n ∷ rest) more =
-    chain_holds (number_of source n) _ IsNumber (IsRead more) (number_holds source n)
+    chain_holds (number_of_token source n) _ IsNumber (IsRead more) (number_holds source n)
     (λ byte h. map_holds (bit_of source rest) _ (λ bit. bit ≤ 7) (IsRead more) (bit_holds source rest)
     (λ bit k. ((h, k), omega arith, refl, refl, refl)))
 

@@ -40,7 +40,7 @@ use Rattle.stl_parser.specs.Addresses.{glued_letters_and_number, separate_letter
 use Rattle.stl_parser.specs.Clauses.{skip_semicolon, until_semicolon, behind_note, block_of_kind_at, result_type, result_at, head_clause, inner_end, structure_end, keyword_clause, version_at, colon_and_word_at, head_word_at, head_word_clause, base_block_at, structure_clause, declaration_clause, statement_clause, setting_clause, inside_clause, semicolon_clause, plain_clause, other_clause, free_word_clause, word_clause, clause_by_kind, clause_at, takes_parameters, level_at, is_base_block, setting_of}
 use Rattle.stl_parser.specs.Declarations.{after_attribute, after_colon, declared_name_at, after_struct, structure_at}
 use Rattle.stl_parser.specs.Lines.{AreRisingLines, statement_lines_of, LinesRise, LinesRiseAcross}
-use Rattle.stl_parser.specs.Numbers.{signed_number_at, int_at, number_of}
+use Rattle.stl_parser.specs.Numbers.{signed_number_at, int_at, number_of_token}
 use Rattle.stl_parser.specs.Tables.{look_up}
 use Rattle.stl_parser.specs.Parts.{parts_from}
 use Rattle.stl_parser.specs.Source.{IsTree, ReadsClauses}
@@ -106,7 +106,7 @@ module _ (P : List Token → Type 0) (closed : (t : Token) (ts : List Token) →
   separate {X = X} table source text (n ∷ rest) h =
       let letters = look_up table text in
       chain_holds letters _ (λ x. Unit {0}) (Third {X = X}) (none_holds letters)
-      (λ x k. map_holds (number_of source n) (λ m. (x, m, rest)) (λ m. Unit {0}) (Third {X = X}) (none_holds (number_of source n)) (λ m l. closed n rest h))
+      (λ x k. map_holds (number_of_token source n) (λ m. (x, m, rest)) (λ m. Unit {0}) (Third {X = X}) (none_holds (number_of_token source n)) (λ m l. closed n rest h))
 
   numbered : {X : Type 0} (table : List (List ℕ × X)) (source : List ℕ) (tokens : List Token) → P tokens → IfSome (letters_and_number_at table source tokens) Third
   unfolding letters_and_number_at

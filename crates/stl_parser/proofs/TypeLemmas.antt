@@ -23,7 +23,7 @@ use Rattle.stl_parser.specs.declared.keywords.ClauseWord.TheVariants as key
 use Rattle.stl_lexer.specs.declared.marks.Mark.TheVariants as mark
 use Rattle.stl_parser.specs.Terminals.{has_kind, is_mark, is_key}
 use Rattle.stl_parser.specs.Tables.{look_up, simple_types}
-use Rattle.stl_parser.specs.Numbers.{number_of, int_at}
+use Rattle.stl_parser.specs.Numbers.{number_of_token, int_at}
 use Rattle.stl_parser.specs.Parts.{parts_from}
 use Rattle.stl_parser.specs.Literals.{literal_at, literal_of}
 use Rattle.stl_parser.specs.Addresses.{block_at}
@@ -122,7 +122,7 @@ counted_holds : (source : List ℕ) (tokens : List Token) → IfSome (spec.count
 unfolding spec.counted_init_at
 counted_holds source (n ∷ open_ ∷ rest) =
     then_holds (is_mark source open_ mark.OpenParen) _ FirstIsInit
-    (λ test. chain_holds (number_of source n) _ IsNumber FirstIsInit (number_holds source n)
+    (λ test. chain_holds (number_of_token source n) _ IsNumber FirstIsInit (number_holds source n)
     (λ count h. chain_holds (literal_at source rest) _ FirstIsLiteral FirstIsInit (literal_at_holds source rest)
     (λ r k. counted_end_holds source count r.0 r.1 h k)))
 counted_holds source _ = tt

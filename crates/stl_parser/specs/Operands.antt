@@ -27,7 +27,7 @@ use Rattle.stl_parser.specs.declared.tables.AddressKind.{AddressKind}
 use Rattle.stl_parser.specs.declared.tables.AddressKind.TheVariants as address
 use Rattle.stl_parser.specs.Terminals.{has_kind, is_mark, is_key}
 use Rattle.stl_parser.specs.Tables.{look_up, addresses, flags, registers}
-use Rattle.stl_parser.specs.Numbers.{number_of, int_at}
+use Rattle.stl_parser.specs.Numbers.{number_of_token, int_at}
 use Rattle.stl_parser.specs.Parts.{parts_from, complete_reading}
 use Rattle.stl_parser.specs.Literals.{text_between_quotes, literal_of}
 use Rattle.stl_parser.specs.Addresses.{is_address_word, address_at, bit_of}
@@ -147,7 +147,7 @@ unfoldable pub offset_of : List ℕ → Token → Token → List Token → Optio
 offset_of source prefix n rest =
     if is_mark source prefix mark.Pointer
     then option_and_then (λ byte. option_map (λ bit. 8 * byte + bit) (bit_of source rest))
-    (number_of source n)
+    (number_of_token source n)
     else None
 
 -- `[AR1, P#n.b]` that is all of the tokens: the register, and the constant in bits
@@ -232,7 +232,7 @@ unfoldable pub plain_pointer : List ℕ → List Token → Option Operand
 plain_pointer source [] = None
 plain_pointer source (n ∷ rest) =
     option_and_then (λ byte. option_map (λ bit. operand.Pointer None byte bit) (bit_of source rest))
-    (number_of source n)
+    (number_of_token source n)
 
 -- the pointer constant that stands behind `P#`
 unfoldable pub pointer_constant_operand : List ℕ → List Token → Option Operand

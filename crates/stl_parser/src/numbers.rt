@@ -1,7 +1,7 @@
 ghost use Rattle.std.specs.Prelude.{◌≡◌, ◌≤◌, true, false};
 ghost use Rattle.plc_base.specs.Decimal.{decimal_up_to};
 ghost use Rattle.stl_lexer.specs.Limits.{greatest_number};
-ghost use Rattle.stl_parser.specs.Numbers.{number_up_to, number_of, signed_number_at, int_at};
+ghost use Rattle.stl_parser.specs.Numbers.{number_up_to, number_of_token, signed_number_at, int_at};
 
 use crate::keywords::{has_kind, is_mark};
 use crate::parsed_items::ParsedItem;
@@ -38,9 +38,9 @@ fn number_up_to(source: &[u8], token: &Token, most: u32) -> Option<u16>
 }
 
 /// The number of a number token; none where the token is another one, or above the greatest number.
-#[tactic(auto, unfolding(crate::specs::Numbers::number_of))]
+#[tactic(auto, unfolding(crate::specs::Numbers::number_of_token))]
 pub(crate) fn number(source: &[u8], token: &Token) -> Option<u16>
-    ensures { result ≡ number_of source.now token.now }
+    ensures { result ≡ number_of_token source.now token.now }
 {
     number_up_to(source, token, GREATEST_NUMBER)
 }

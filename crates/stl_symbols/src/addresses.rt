@@ -287,7 +287,7 @@ fn letters_of(language: Language, word: &[u8]) -> Option<AddressLetters>
 
 /// The number of an address.
 #[tactic(auto, using(plc_base::proofs::DecimalLemmas::decimal_range))]
-fn number_of(text: &[u8]) -> Option<u16>
+fn number_of_address(text: &[u8]) -> Option<u16>
     ensures { result ≡ number_of_address text.now }
 {
     let number = decimal_up_to(text, LAST_NUMBER)?;
@@ -337,7 +337,7 @@ fn bit_address(area: Area, text: &[u8]) -> Option<SymbolAddress>
     ensures { result ≡ bit_address area text.now }
 {
     let (number, behind) = text.split_at(point_of(text));
-    let byte = number_of(number)?;
+    let byte = number_of_address(number)?;
     let bit = bit_behind(behind)?;
     Some(variable(area, Width::Bit, byte, bit))
 }
@@ -354,23 +354,23 @@ fn numbered_address(letters: AddressLetters, text: &[u8]) -> Option<SymbolAddres
         AddressLetters::Variable { area, width } => return Some(variable(
             area,
             width,
-            number_of(text)?,
+            number_of_address(text)?,
             0,
         )),
         AddressLetters::Timer => Target::Timer {
-            number: number_of(text)?,
+            number: number_of_address(text)?,
         },
         AddressLetters::Counter => Target::Counter {
-            number: number_of(text)?,
+            number: number_of_address(text)?,
         },
         AddressLetters::Block { kind } => Target::Block {
             id: BlockId {
                 kind,
-                number: number_of(text)?,
+                number: number_of_address(text)?,
             },
         },
         AddressLetters::NoSymbol => {
-            number_of(text)?;
+            number_of_address(text)?;
             return Some(SymbolAddress::NoSymbol);
         }
     };

@@ -40,7 +40,7 @@ use Rattle.stl_parser.specs.Addresses.{letter_count, glued_letters_and_number, s
 use Rattle.stl_parser.specs.Clauses.{in_head, in_data_head, is_outer, level_at, takes_parameters, skip_semicolon, semicolon_place, until_semicolon, behind_note, is_of_kind, block_of_kind_at, result_type, result_at, head_clause, inner_end, structure_end, keyword_clause, version_at, colon_and_word_at, head_word_at, head_word_clause, is_base_block, base_block_at, structure_clause, declaration_clause, first_step, value_behind, setting_of, statement_clause, setting_clause, inside_clause, semicolon_clause, plain_clause, other_clause, free_word_clause, word_clause, clause_by_kind, clause_at}
 use Rattle.stl_parser.specs.Declarations.{after_attribute, after_colon, declared_name_at, after_struct, structure_at, init_behind, declaration_of}
 use Rattle.stl_parser.specs.Literals.{truth_of, literal_token, byte_of, last_bytes, bytes_behind, bytes_at, long_literal, literal_at, literal_of}
-use Rattle.stl_parser.specs.Numbers.{number_up_to, number_of, signed_number_at, int_at}
+use Rattle.stl_parser.specs.Numbers.{number_up_to, number_of_token, signed_number_at, int_at}
 use Rattle.stl_parser.specs.Operands.{index_end, name_step, step_at, path_end, steps_from}
 use Rattle.stl_parser.specs.Parts.{parts_from, value_if_nothing_left, complete_reading}
 use Rattle.stl_parser.specs.Statements.{statement_of}
@@ -511,8 +511,8 @@ module _ (s : List ℕ) (P Q : List Token → Type 0) (on : GoesOn s P Q) where
   unfolding number_up_to
   quiet_up_to most t = then_holds (has_kind t kind.Number) _ (λ n. IsQuiet s t) (λ is. search_holds _ (λ n. IsQuiet s t) (λ n e. quiet_number s t is))
 
-  quiet_of : (t : Token) → IfSome (number_of s t) (λ n. IsQuiet s t)
-  unfolding number_of
+  quiet_of : (t : Token) → IfSome (number_of_token s t) (λ n. IsQuiet s t)
+  unfolding number_of_token
   quiet_of t = quiet_up_to (greatest_number false) t
 
   signed : (sign : Token) (ts : List Token) → (IsQuiet s sign → P ts) → IfSome (signed_number_at s sign ts) EndBehind
@@ -521,21 +521,21 @@ module _ (s : List ℕ) (P Q : List Token → Type 0) (on : GoesOn s P Q) where
   signed sign (t ∷ rest) h =
       branch_holds (is_mark s sign mark.Minus) (option_map (λ n. (pos 0 -ℤ pos n, rest)) (number_up_to (greatest_number true) s t)) _ EndBehind
       (λ is. map_holds (number_up_to (greatest_number true) s t) (λ n. (pos 0 -ℤ pos n, rest)) (λ n. IsQuiet s t) EndBehind (quiet_up_to (greatest_number true) t) (λ n q. passed_quiet t rest q (h (quiet_minus s sign is))))
-      (λ isnt. then_holds (is_mark s sign mark.Plus) (option_map (λ n. (pos n, rest)) (number_of s t)) EndBehind
-      (λ is. map_holds (number_of s t) (λ n. (pos n, rest)) (λ n. IsQuiet s t) EndBehind (quiet_of t) (λ n q. passed_quiet t rest q (h (quiet_plus s sign is)))))
+      (λ isnt. then_holds (is_mark s sign mark.Plus) (option_map (λ n. (pos n, rest)) (number_of_token s t)) EndBehind
+      (λ is. map_holds (number_of_token s t) (λ n. (pos n, rest)) (λ n. IsQuiet s t) EndBehind (quiet_of t) (λ n q. passed_quiet t rest q (h (quiet_plus s sign is)))))
 
   int_behind : (ts : List Token) → P ts → IfSome (int_at s ts) EndBehind
   unfolding int_at
   int_behind [] h = tt
   int_behind (t ∷ rest) h =
-      either (option_map (λ n. (pos n, rest)) (number_of s t)) (signed_number_at s t rest) EndBehind
-      (map_holds (number_of s t) (λ n. (pos n, rest)) (λ n. IsQuiet s t) EndBehind (quiet_of t) (λ n q. passed_quiet t rest q h))
+      either (option_map (λ n. (pos n, rest)) (number_of_token s t)) (signed_number_at s t rest) EndBehind
+      (map_holds (number_of_token s t) (λ n. (pos n, rest)) (λ n. IsQuiet s t) EndBehind (quiet_of t) (λ n q. passed_quiet t rest q h))
       (signed t rest (λ q. step_quiet t rest q h))
 
   -- constants
   byte_quiet : (t : Token) → IfSome (byte_of s t) (λ n. IsQuiet s t)
   unfolding byte_of
-  byte_quiet t = chain_holds (number_of s t) _ (λ n. IsQuiet s t) (λ n. IsQuiet s t) (quiet_of t) (λ n q. then_holds (nat_le n 255) (Some n) (λ m. IsQuiet s t) (λ is. q))
+  byte_quiet t = chain_holds (number_of_token s t) _ (λ n. IsQuiet s t) (λ n. IsQuiet s t) (quiet_of t) (λ n q. then_holds (nat_le n 255) (Some n) (λ m. IsQuiet s t) (λ is. q))
 
   truth_quiet : (t : Token) → IfSome (truth_of s t) (λ l. IsQuiet s t)
   unfolding truth_of
@@ -546,7 +546,7 @@ module _ (s : List ℕ) (P Q : List Token → Type 0) (on : GoesOn s P Q) where
   literal_quiet : (t : Token) (k : TokenKind) → t.kind ≡ k → IfSome (literal_token s t k) (λ l. IsQuiet s t)
   unfolding literal_token
   literal_quiet t kind.Word is = truth_quiet t
-  literal_quiet t kind.Number is = map_holds (number_of s t) _ (λ n. IsQuiet s t) (λ l. IsQuiet s t) (quiet_of t) (λ n q. q)
+  literal_quiet t kind.Number is = map_holds (number_of_token s t) _ (λ n. IsQuiet s t) (λ l. IsQuiet s t) (quiet_of t) (λ n q. q)
   literal_quiet t kind.Characters is = search_holds _ (λ l. IsQuiet s t) (λ l e. quiet_plain s t (ap is_plain_kind is))
   literal_quiet t kind.Based is = search_holds _ (λ l. IsQuiet s t) (λ l e. quiet_plain s t (ap is_plain_kind is))
   literal_quiet t kind.NumberLiteral is = search_holds _ (λ l. IsQuiet s t) (λ l e. quiet_plain s t (ap is_plain_kind is))
@@ -631,9 +631,9 @@ module _ (s : List ℕ) (P Q : List Token → Type 0) (on : GoesOn s P Q) where
   unfolding separate_letters_and_number
   separate w [] h is = tt
   separate w (n ∷ rest) h is =
-      chain_holds (look_up block_kinds (text_of s w)) (λ x. option_map (λ m. (x, m, rest)) (number_of s n)) (λ x. is_free (text_of s w) ≡ true) (Third {X = BlockKind})
+      chain_holds (look_up block_kinds (text_of s w)) (λ x. option_map (λ m. (x, m, rest)) (number_of_token s n)) (λ x. is_free (text_of s w) ≡ true) (Third {X = BlockKind})
       (free_word block_kinds (text_of s w) block_kinds_free)
-      (λ x free. map_holds (number_of s n) (λ m. (x, m, rest)) (λ m. IsQuiet s n) (Third {X = BlockKind}) (quiet_of n) (λ m q. passed_quiet n rest q (weaker (n ∷ rest) (h (quiet_text s w free)))))
+      (λ x free. map_holds (number_of_token s n) (λ m. (x, m, rest)) (λ m. IsQuiet s n) (Third {X = BlockKind}) (quiet_of n) (λ m q. passed_quiet n rest q (weaker (n ∷ rest) (h (quiet_text s w free)))))
 
   -- a block that begins with this token
   block_first : (w : Token) (rest : List Token) → (IsQuiet s w → Q rest) → IfSome (block_at s (w ∷ rest)) EndBehind
@@ -729,7 +729,7 @@ module _ (s : List ℕ) (P Q : List Token → Type 0) (on : GoesOn s P Q) where
   counted (n ∷ []) h = tt
   counted (n ∷ open_ ∷ rest) h =
       then_holds (is_mark s open_ mark.OpenParen) _ EndBehind
-      (λ is. chain_holds (number_of s n) _ (λ m. IsQuiet s n) EndBehind (quiet_of n)
+      (λ is. chain_holds (number_of_token s n) _ (λ m. IsQuiet s n) EndBehind (quiet_of n)
       (λ count q. chain_holds (literal_at s rest) _ EndBehind EndBehind (literal_read rest (step_quiet open_ rest (quiet_open_paren s open_ is) (step_quiet n (open_ ∷ rest) q h)))
       (λ r k. counted_close count r.0 r.1 (weaker r.1 k))))
 

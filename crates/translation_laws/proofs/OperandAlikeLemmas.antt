@@ -27,7 +27,7 @@ use Rattle.stl_parser.specs.declared.tables.AddressKind.{AddressKind}
 use Rattle.stl_parser.specs.declared.tables.AddressKind.TheVariants as address
 use Rattle.stl_parser.specs.Addresses.{address_at, bit_of, is_address_word, letter_count}
 use Rattle.stl_parser.specs.Literals.{literal_at, literal_of, literal_token, long_literal, text_between_quotes}
-use Rattle.stl_parser.specs.Numbers.{number_of, signed_number_at}
+use Rattle.stl_parser.specs.Numbers.{number_of_token, signed_number_at}
 use Rattle.stl_parser.specs.Operands.{lone_word_operand, operand_by_pointer, area_operand, area_pointer, operand_behind_block, block_path, block_place, operand_by_register, condition_word_operand, data_block_operand, data_block_name, direct_address_operand, operand_in_block, index_end, indirect_operand, is_operand_word, local_path, mark_operand, memory_pointer, name_step, operand_by_memory_number, offset_of, operand_by_kind, operand_of, register_name_operand_if, register_name_operand, path_end, path_of, place_bit, place_of_data_address, plain_path, plain_pointer, pointer_close, pointer_end, pointer_constant_operand, quoted_operand, register_number, register_pointer, sign_operand, operand_by_sized_register, step_at, steps_from, operand_with_number, operand_with_pointer, word_operand}
 use Rattle.stl_parser.specs.Tables.{addresses, flags, look_up, registers}
 use Rattle.stl_parser.specs.Terminals.{has_kind, is_mark}
@@ -90,7 +90,7 @@ module _ (s e : List ℕ) where
   bits : (ps : List (Pair s e)) → bit_of s (lefts ps) ≡ bit_of e (rights ps)
   bits ps = bit_same s e (Fits s e) closed apart ps
 
-  counted : (p : Pair s e) → number_of s p.left ≡ number_of e p.right
+  counted : (p : Pair s e) → number_of_token s p.left ≡ number_of_token e p.right
   counted p = number_of_like s e (Fits s e) closed apart p
 
   -- ---- paths

@@ -27,7 +27,7 @@ use Rattle.stl_lexer.specs.declared.kinds.TokenKind.TheVariants as kind
 use Rattle.stl_lexer.specs.declared.marks.Mark.TheVariants as mark
 use Rattle.stl_parser.specs.Addresses.{address_at, bit_of, block_at, glued_letters_and_number, letter_count, letters_and_number_at, separate_letters_and_number}
 use Rattle.stl_parser.specs.Literals.{literal_of, text_between_quotes}
-use Rattle.stl_parser.specs.Numbers.{number_of}
+use Rattle.stl_parser.specs.Numbers.{number_of_token}
 use Rattle.stl_parser.specs.Operands as spec
 use Rattle.stl_parser.specs.Parts.{parts_from, complete_reading}
 use Rattle.stl_parser.specs.Statements as stated
@@ -82,7 +82,7 @@ unfolding separate_letters_and_number
 separate_plain source text [] = tt
 separate_plain source text (n ∷ rest) =
     chain_holds (look_up addresses text) _ (λ a. letters_no_bit a ≡ true) FirstIsNoBit (entry_passes addresses text letters_no_bit addresses_pass)
-    (λ a h. mapped_holds (number_of source n) (λ number. (a, number, rest)) FirstIsNoBit (λ number. h))
+    (λ a h. mapped_holds (number_of_token source n) (λ number. (a, number, rest)) FirstIsNoBit (λ number. h))
 
 address_plain : (source : List ℕ) (tokens : List Token) → IfSome (address_at source tokens) FirstIsNoBit
 unfolding address_at letters_and_number_at
@@ -163,7 +163,7 @@ plain_pointer_plain : (source : List ℕ) (tokens : List Token) → IfSome (spec
 unfolding spec.plain_pointer
 plain_pointer_plain source [] = tt
 plain_pointer_plain source (n ∷ rest) =
-    chain_holds (number_of source n) _ (λ byte. Unit {0}) OperandIsNoBit (none_holds (number_of source n)) (λ byte h. mapped_holds (bit_of source rest) _ OperandIsNoBit (λ bit. tt))
+    chain_holds (number_of_token source n) _ (λ byte. Unit {0}) OperandIsNoBit (none_holds (number_of_token source n)) (λ byte h. mapped_holds (bit_of source rest) _ OperandIsNoBit (λ bit. tt))
 
 pointer_plain : (source : List ℕ) (tokens : List Token) → IfSome (spec.pointer_constant_operand source tokens) OperandIsNoBit
 unfolding spec.pointer_constant_operand
