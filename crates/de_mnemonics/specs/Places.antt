@@ -37,13 +37,13 @@ class_of_mark text =
     else class.Other)))))))
 
 -- the class of a token
-unfoldable pub class_of : TokenKind → List ℕ → TokenClass
-class_of kind.Word text = class.Word
-class_of kind.Number text = class.Number
-class_of kind.Attribute text = class.Note
-class_of kind.Title text = class.Note
-class_of kind.Mark text = class_of_mark text
-class_of _ text = class.Other
+unfoldable pub token_class : TokenKind → List ℕ → TokenClass
+token_class kind.Word text = class.Word
+token_class kind.Number text = class.Number
+token_class kind.Attribute text = class.Note
+token_class kind.Title text = class.Note
+token_class kind.Mark text = class_of_mark text
+token_class _ text = class.Other
 
 -- a word is in the list, without case
 unfoldable pub is_word_in_list : List (List ℕ) → List ℕ → Bool
@@ -147,10 +147,10 @@ place_behind_sign place.Instruction c = place_behind_opening c
 place_behind_sign _ c = place_behind_part place.Inside c
 
 -- the place behind a token of this class, with the classes of the tokens before and behind it
-unfoldable pub place_behind : TokenPlace → TokenClass → TokenClass → List ℕ → TokenClass
+unfoldable pub token_place_behind : TokenPlace → TokenClass → TokenClass → List ℕ → TokenClass
     → TokenPlace
-place_behind p before class.Word text next = place_behind_word p before text next
-place_behind p before c text next = place_behind_sign p c
+token_place_behind p before class.Word text next = place_behind_word p before text next
+token_place_behind p before c text next = place_behind_sign p c
 
 -- a token of this class begins the number of an operand word: a number, or a `[` before a pointer
 abbrev pub opens_number : TokenClass → Bool
@@ -159,9 +159,9 @@ opens_number class.OpenBracket = true
 opens_number _ = false
 
 -- a token of this class is the `P#` of a pointer
-abbrev pub is_pointer : TokenClass → Bool
-is_pointer class.Pointer = true
-is_pointer _ = false
+abbrev pub is_pointer_mark : TokenClass → Bool
+is_pointer_mark class.Pointer = true
+is_pointer_mark _ = false
 
 -- a word is an operand word whose number stands in the same word or behind it
 unfoldable pub is_numbered_operand : List ℕ → TokenClass → Bool
@@ -174,7 +174,7 @@ is_numbered_operand word next =
 -- that stands alone
 unfoldable pub is_operand_place : TokenClass → List ℕ → TokenClass → Bool
 is_operand_place before word next =
-    is_pointer before || is_numbered_operand word next || is_word_in_pairs result_pairs word
+    is_pointer_mark before || is_numbered_operand word next || is_word_in_pairs result_pairs word
 
 -- a token of this class is a `.`
 abbrev pub is_dot : TokenClass → Bool
@@ -187,8 +187,8 @@ is_assign class.Assign = true
 is_assign _ = false
 
 -- `.` before a word, or `:=` behind it: the word is a component or a parameter
-abbrev pub is_component : TokenClass → TokenClass → Bool
-is_component before next = is_dot before || is_assign next
+abbrev pub is_component_word : TokenClass → TokenClass → Bool
+is_component_word before next = is_dot before || is_assign next
 
 -- the place is behind an instruction
 abbrev pub is_behind_instruction : TokenPlace → Bool
@@ -204,7 +204,7 @@ opens_path p before = is_behind_instruction p || is_assign before
 -- the role of a word behind the instruction of a statement
 unfoldable pub role_in : TokenPlace → TokenClass → List ℕ → TokenClass → Role
 role_in p before word next =
-    if is_component before next then role.Stays
+    if is_component_word before next then role.Stays
     else (if is_operand_place before word next then role.Operand
     else (if opens_path p before then role.Path else role.Stays))
 

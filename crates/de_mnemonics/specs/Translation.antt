@@ -10,7 +10,7 @@ use Rattle.de_mnemonics.specs.declared.classes.TokenClass.TheVariants as class
 use Rattle.de_mnemonics.specs.declared.places.TokenPlace.TheVariants as place
 use Rattle.de_mnemonics.specs.declared.roles.Role.{Role}
 use Rattle.de_mnemonics.specs.declared.translation.TranslationPosition.{TranslationPosition}
-use Rattle.de_mnemonics.specs.Places.{place_behind, class_of, role_of}
+use Rattle.de_mnemonics.specs.Places.{token_place_behind, token_class, role_of}
 use Rattle.de_mnemonics.specs.Words.{translated_word}
 
 -- the rule of a word of the other language
@@ -18,13 +18,13 @@ abbrev pub foreign_word_rule : ℕ
 foreign_word_rule = 17
 
 -- the class of a token of a source
-abbrev pub class_in : List ℕ → Token → TokenClass
-class_in source t = class_of t.kind (text_of source t)
+abbrev pub token_class_in : List ℕ → Token → TokenClass
+token_class_in source t = token_class t.kind (text_of source t)
 
 -- the class of the first of these tokens, where there is one
 abbrev pub next_class : List ℕ → List Token → TokenClass
 next_class source [] = class.Other
-next_class source (t ∷ ts) = class_in source t
+next_class source (t ∷ ts) = token_class_in source t
 
 -- a translation with these bytes in front; where there is none, its violation stays
 abbrev pub with_bytes_before : List ℕ → Result (List ℕ) ℕ → Result (List ℕ) ℕ
@@ -40,7 +40,7 @@ with_word_before (Some word) line rest = with_bytes_before word rest
 -- the role of a token at a position, with the tokens behind it
 abbrev pub role_at : List ℕ → TranslationPosition → Token → List Token → Role
 role_at source position t ts =
-    role_of position.place position.before (class_in source t) (text_of source t)
+    role_of position.place position.before (token_class_in source t) (text_of source t)
     (next_class source ts)
 
 -- the position behind a token at a position, with the tokens behind it
@@ -48,9 +48,9 @@ abbrev pub position_behind : List ℕ → TranslationPosition → Token → List
 position_behind source position t ts = record {
   from = t.end;
   place =
-      place_behind position.place position.before (class_in source t) (text_of source t)
+      token_place_behind position.place position.before (token_class_in source t) (text_of source t)
       (next_class source ts);
-  before = class_in source t;
+  before = token_class_in source t;
 }
 
 -- the translation of a source from a position on: what stands between tokens stays, and each token

@@ -1,5 +1,5 @@
 ghost use Rattle.std.specs.Prelude.{◌≡◌};
-ghost use Rattle.de_mnemonics.specs.Places.{class_of, class_of_mark, is_mark_text};
+ghost use Rattle.de_mnemonics.specs.Places.{token_class, class_of_mark, is_mark_text};
 
 use stl_lexer::{Mark, TokenKind, mark_text};
 
@@ -65,9 +65,9 @@ fn class_of_mark(text: &[u8]) -> TokenClass
 }
 
 /// The class of a token.
-#[tactic(auto, unfolding(crate::specs::Places::class_of))]
-pub(crate) fn class_of(kind: TokenKind, text: &[u8]) -> TokenClass
-    ensures { result ≡ class_of kind text.now }
+#[tactic(auto, unfolding(crate::specs::Places::token_class))]
+pub(crate) fn token_class(kind: TokenKind, text: &[u8]) -> TokenClass
+    ensures { result ≡ token_class kind text.now }
 {
     match kind {
         TokenKind::Word => TokenClass::Word,

@@ -10,4 +10,4 @@ mod translation;
 mod words;
 
 pub use translation::{law_of_translations, to_english, to_german};
-pub use words::law_of_words;
+pub use words::law_of_translated_words;

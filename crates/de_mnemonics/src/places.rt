@@ -1,6 +1,6 @@
 ghost use Rattle.std.specs.Prelude.{◌≡◌};
 ghost use Rattle.de_mnemonics.specs.Places.{
-  place_behind,
+  token_place_behind,
   place_behind_closing,
   place_behind_first,
   place_behind_front,
@@ -15,11 +15,11 @@ ghost use Rattle.de_mnemonics.specs.Places.{
   place_behind_word,
   is_assign,
   is_behind_instruction,
-  is_component,
+  is_component_word,
   is_dot,
   is_numbered_operand,
   is_operand_place,
-  is_pointer,
+  is_pointer_mark,
   may_be_keyword,
   opens_number,
   opens_path,
@@ -33,8 +33,8 @@ ghost use Rattle.de_mnemonics.specs.Places.{
 use crate::classes::TokenClass;
 use crate::roles::Role;
 use crate::words::{
-    begins_body, ends_code, ends_in_digits, ends_zone, has_digits, is_jump, is_result, opens_code,
-    opens_data, opens_network, takes_number,
+    begins_body, ends_code, ends_in_digits, has_digits, is_jump_word, is_result, is_zone_word,
+    opens_code, opens_data, opens_network, takes_number,
 };
 
 /// Where a token stands in a source.
@@ -71,7 +71,7 @@ fn may_be_keyword(before: TokenClass) -> bool
 
 /// The place behind a word outside of blocks, or in a block of data.
 #[tactic(auto, unfolding(crate::specs::Places::place_behind_outside))]
-fn behind_outside(before: TokenClass, word: &[u8]) -> TokenPlace
+fn place_behind_outside(before: TokenClass, word: &[u8]) -> TokenPlace
     ensures { result ≡ place_behind_outside before word.now }
 {
     if may_be_keyword(before) && opens_code(word) {
@@ -83,7 +83,7 @@ fn behind_outside(before: TokenClass, word: &[u8]) -> TokenPlace
 
 /// The place behind a word before the body of a block of statements.
 #[tactic(auto, unfolding(crate::specs::Places::place_behind_head))]
-fn behind_head(before: TokenClass, word: &[u8]) -> TokenPlace
+fn place_behind_head(before: TokenClass, word: &[u8]) -> TokenPlace
     ensures { result ≡ place_behind_head before word.now }
 {
     if !may_be_keyword(before) {
@@ -100,10 +100,10 @@ fn behind_head(before: TokenClass, word: &[u8]) -> TokenPlace
 
 /// The place behind an instruction word.
 #[tactic(auto, unfolding(crate::specs::Places::place_behind_instruction))]
-fn behind_instruction(word: &[u8]) -> TokenPlace
+fn place_behind_instruction(word: &[u8]) -> TokenPlace
     ensures { result ≡ place_behind_instruction word.now }
 {
-    if is_jump(word) {
+    if is_jump_word(word) {
         TokenPlace::Jump
     } else {
         TokenPlace::Instruction
@@ -111,18 +111,18 @@ fn behind_instruction(word: &[u8]) -> TokenPlace
 }
 
 /// The place behind the first word of a statement: a label, or else an instruction word.
-fn behind_first(next: TokenClass, word: &[u8]) -> TokenPlace
+fn place_behind_first(next: TokenClass, word: &[u8]) -> TokenPlace
     ensures { result ≡ place_behind_first next word.now }
 {
     match next {
         TokenClass::Colon => TokenPlace::Label,
-        _ => behind_instruction(word),
+        _ => place_behind_instruction(word),
     }
 }
 
 /// The place behind a word at the start of a statement.
 #[tactic(auto, unfolding(crate::specs::Places::place_behind_start))]
-fn behind_start(word: &[u8], next: TokenClass) -> TokenPlace
+fn place_behind_start(word: &[u8], next: TokenClass) -> TokenPlace
     ensures { result ≡ place_behind_start word.now next }
 {
     if ends_code(word) {
@@ -131,15 +131,15 @@ fn behind_start(word: &[u8], next: TokenClass) -> TokenPlace
     if opens_network(word) {
         return TokenPlace::Start;
     }
-    behind_first(next, word)
+    place_behind_first(next, word)
 }
 
 /// The place behind a word that follows a `)` at the front of an instruction.
 #[tactic(auto, unfolding(crate::specs::Places::place_behind_closing))]
-fn behind_closing(word: &[u8]) -> TokenPlace
+fn place_behind_closing(word: &[u8]) -> TokenPlace
     ensures { result ≡ place_behind_closing word.now }
 {
-    if ends_zone(word) {
+    if is_zone_word(word) {
         TokenPlace::Path
     } else {
         TokenPlace::Inside
@@ -149,22 +149,27 @@ fn behind_closing(word: &[u8]) -> TokenPlace
 /// The place behind a word, by the place of the word; behind one of an operand it is the rest of
 /// the statement.
 #[tactic(auto, unfolding(crate::specs::Places::place_behind_word))]
-fn behind_word(place: TokenPlace, before: TokenClass, word: &[u8], next: TokenClass) -> TokenPlace
+fn place_behind_word(
+    place: TokenPlace,
+    before: TokenClass,
+    word: &[u8],
+    next: TokenClass,
+) -> TokenPlace
     ensures { result ≡ place_behind_word place before word.now next }
 {
     match place {
-        TokenPlace::Outside => behind_outside(before, word),
-        TokenPlace::Head => behind_head(before, word),
-        TokenPlace::Start => behind_start(word, next),
-        TokenPlace::Label => behind_instruction(word),
-        TokenPlace::Labelled => behind_instruction(word),
-        TokenPlace::Closing => behind_closing(word),
+        TokenPlace::Outside => place_behind_outside(before, word),
+        TokenPlace::Head => place_behind_head(before, word),
+        TokenPlace::Start => place_behind_start(word, next),
+        TokenPlace::Label => place_behind_instruction(word),
+        TokenPlace::Labelled => place_behind_instruction(word),
+        TokenPlace::Closing => place_behind_closing(word),
         _ => TokenPlace::Inside,
     }
 }
 
 /// The place behind another token at the front of an instruction.
-fn behind_front(class: TokenClass) -> TokenPlace
+fn place_behind_front(class: TokenClass) -> TokenPlace
     ensures { result ≡ place_behind_front class }
 {
     match class {
@@ -176,17 +181,17 @@ fn behind_front(class: TokenClass) -> TokenPlace
 }
 
 /// The place behind a token that is no word, at the start of a statement.
-fn behind_open(class: TokenClass) -> TokenPlace
+fn place_behind_open(class: TokenClass) -> TokenPlace
     ensures { result ≡ place_behind_open class }
 {
     match class {
         TokenClass::Note => TokenPlace::Start,
-        _ => behind_front(class),
+        _ => place_behind_front(class),
     }
 }
 
 /// The place behind a token that is no word, within a statement.
-fn behind_part(place: TokenPlace, class: TokenClass) -> TokenPlace
+fn place_behind_part(place: TokenPlace, class: TokenClass) -> TokenPlace
     ensures { result ≡ place_behind_part place class }
 {
     match class {
@@ -196,7 +201,7 @@ fn behind_part(place: TokenPlace, class: TokenClass) -> TokenPlace
 }
 
 /// The place behind a token that follows an instruction word.
-fn behind_opening(class: TokenClass) -> TokenPlace
+fn place_behind_opening(class: TokenClass) -> TokenPlace
     ensures { result ≡ place_behind_opening class }
 {
     match class {
@@ -208,35 +213,35 @@ fn behind_opening(class: TokenClass) -> TokenPlace
 
 /// The place behind a token that is no word.
 #[tactic(auto, unfolding(crate::specs::Places::place_behind_sign))]
-fn behind_sign(place: TokenPlace, class: TokenClass) -> TokenPlace
+fn place_behind_sign(place: TokenPlace, class: TokenClass) -> TokenPlace
     ensures { result ≡ place_behind_sign place class }
 {
     match place {
         TokenPlace::Outside => TokenPlace::Outside,
         TokenPlace::Head => TokenPlace::Head,
-        TokenPlace::Start => behind_open(class),
+        TokenPlace::Start => place_behind_open(class),
         TokenPlace::Label => TokenPlace::Labelled,
-        TokenPlace::Labelled => behind_front(class),
-        TokenPlace::Jump => behind_part(TokenPlace::Jump, class),
-        TokenPlace::Instruction => behind_opening(class),
-        _ => behind_part(TokenPlace::Inside, class),
+        TokenPlace::Labelled => place_behind_front(class),
+        TokenPlace::Jump => place_behind_part(TokenPlace::Jump, class),
+        TokenPlace::Instruction => place_behind_opening(class),
+        _ => place_behind_part(TokenPlace::Inside, class),
     }
 }
 
 /// The place behind a token of this class, with the classes of the tokens before and behind it.
-#[tactic(auto, unfolding(crate::specs::Places::place_behind))]
-pub(crate) fn behind(
+#[tactic(auto, unfolding(crate::specs::Places::token_place_behind))]
+pub(crate) fn token_place_behind(
     place: TokenPlace,
     before: TokenClass,
     class: TokenClass,
     text: &[u8],
     next: TokenClass,
 ) -> TokenPlace
-    ensures { result ≡ place_behind place before class text.now next }
+    ensures { result ≡ token_place_behind place before class text.now next }
 {
     match class {
-        TokenClass::Word => behind_word(place, before, text, next),
-        _ => behind_sign(place, class),
+        TokenClass::Word => place_behind_word(place, before, text, next),
+        _ => place_behind_sign(place, class),
     }
 }
 
@@ -248,8 +253,8 @@ fn opens_number(next: TokenClass) -> bool
 }
 
 /// Whether a token of this class is `P#`.
-fn is_pointer(before: TokenClass) -> bool
-    ensures { result ≡ is_pointer before }
+fn is_pointer_mark(before: TokenClass) -> bool
+    ensures { result ≡ is_pointer_mark before }
 {
     matches!(before, TokenClass::Pointer)
 }
@@ -267,7 +272,7 @@ fn is_numbered(word: &[u8], next: TokenClass) -> bool
 fn is_operand_place(before: TokenClass, word: &[u8], next: TokenClass) -> bool
     ensures { result ≡ is_operand_place before word.now next }
 {
-    is_pointer(before) || is_numbered(word, next) || is_result(word)
+    is_pointer_mark(before) || is_numbered(word, next) || is_result(word)
 }
 
 /// Whether a token of this class is `.`.
@@ -285,8 +290,8 @@ fn is_assign(class: TokenClass) -> bool
 }
 
 /// Whether a word is a component or a parameter.
-fn is_component(before: TokenClass, next: TokenClass) -> bool
-    ensures { result ≡ is_component before next }
+fn is_component_word(before: TokenClass, next: TokenClass) -> bool
+    ensures { result ≡ is_component_word before next }
 {
     is_dot(before) || is_assign(next)
 }
@@ -313,7 +318,7 @@ fn opens_path(place: TokenPlace, before: TokenClass) -> bool
 fn role_in(place: TokenPlace, before: TokenClass, word: &[u8], next: TokenClass) -> Role
     ensures { result ≡ role_in place before word.now next }
 {
-    if is_component(before, next) {
+    if is_component_word(before, next) {
         return Role::Stays;
     }
     if is_operand_place(before, word, next) {
@@ -336,7 +341,7 @@ fn role_first(next: TokenClass) -> Role
     }
 }
 
-/// The role of the first word of a statement.
+/// The role of a word at the start of a statement: a keyword and a label stay.
 #[tactic(auto, unfolding(crate::specs::Places::role_at_start))]
 fn role_at_start(word: &[u8], next: TokenClass) -> Role
     ensures { result ≡ role_at_start word.now next }

@@ -19,10 +19,10 @@ ghost use Rattle.de_mnemonics.specs.Translation.{
   translation_from,
 };
 
-use crate::classes::{TokenClass, class_of};
-use crate::places::{TokenPlace, behind, role_of};
+use crate::classes::{TokenClass, token_class};
+use crate::places::{TokenPlace, role_of, token_place_behind};
 use crate::roles::Role;
-use crate::words::{Spelling, written_word};
+use crate::words::{WrittenWord, written_word};
 use plc_base::{Refusal, SourceFault};
 use std::alloc::{AllocError, Global};
 use stl_lexer::{Token, lex};
@@ -62,7 +62,7 @@ fn next_class(source: &[u8], tokens: &[Token]) -> TokenClass
     ensures { result ≡ next_class source.now tokens.now }
 {
     match tokens {
-        [next, ..] => class_of(next.kind, next.text(source)),
+        [next, ..] => token_class(next.kind, next.text(source)),
         [] => TokenClass::Other,
     }
 }
@@ -72,7 +72,7 @@ fn role_at(source: &[u8], position: &TranslationPosition, token: &Token, rest: &
     ensures { result ≡ role_at source.now position.now token.now rest.now }
 {
     let word = token.text(source);
-    let class = class_of(token.kind, word);
+    let class = token_class(token.kind, word);
     role_of(
         position.place,
         position.before,
@@ -92,11 +92,11 @@ fn position_behind(
     ensures { result ≡ position_behind source.now position.now token.now rest.now }
 {
     let word = token.text(source);
-    let class = class_of(token.kind, word);
+    let class = token_class(token.kind, word);
     let next = next_class(source, rest);
     TranslationPosition {
         from: token.end as usize,
-        place: behind(position.place, position.before, class, word, next),
+        place: token_place_behind(position.place, position.before, class, word, next),
         before: class,
     }
 }
@@ -108,7 +108,7 @@ fn spelling_at<'a>(
     position: &TranslationPosition,
     token: &Token,
     rest: &[Token],
-) -> Option<Spelling<'a>>
+) -> Option<WrittenWord<'a>>
     ensures { IsFoundAsWanted (λ s. s.front.now ++ s.rest.now)
         (translated_word language (role_at source.now position.now token.now rest.now)
         (text_of source.now token.now)) result }
@@ -124,7 +124,7 @@ fn spelling_at<'a>(
 fn append_spelling(
     text: &mut Vec<u8>,
     gap: &[u8],
-    spelling: &Spelling<'_>,
+    spelling: &WrittenWord<'_>,
 ) -> Result<(), AllocError>
     ensures { OnOk result (text.new.items
         ≡ text.old.items ++ (gap.now ++ (spelling.now.front.now ++ spelling.now.rest.now))) }

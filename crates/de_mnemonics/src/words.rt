@@ -30,7 +30,7 @@ use stl_symbols::Language;
 
 /// How a word is written: bytes in front, and the rest of it.
 #[derive(Clone, Copy, Debug)]
-pub(crate) struct Spelling<'a> {
+pub(crate) struct WrittenWord<'a> {
     pub(crate) front: &'a [u8],
     pub(crate) rest: &'a [u8],
 }
@@ -154,7 +154,7 @@ fn letters_partner(language: Language, letters: &[u8]) -> Option<&'static [u8]>
 
 /// What stands beside the letters of an operand word, with the digits of the same word.
 #[tactic(auto, unfolding(crate::specs::Words::numbered_partner))]
-fn numbered_partner<'a>(language: Language, word: &'a [u8]) -> Option<Spelling<'a>>
+fn numbered_partner<'a>(language: Language, word: &'a [u8]) -> Option<WrittenWord<'a>>
     ensures { IsFoundAsWanted (λ s. s.front.now ++ s.rest.now)
         (numbered_partner language word.now) result }
 {
@@ -162,7 +162,7 @@ fn numbered_partner<'a>(language: Language, word: &'a [u8]) -> Option<Spelling<'
         return None;
     }
     match letters_partner(language, letters(word)) {
-        Some(front) => Some(Spelling {
+        Some(front) => Some(WrittenWord {
             front,
             rest: digits(word),
         }),
@@ -181,7 +181,7 @@ fn result_partner(language: Language, word: &[u8]) -> Option<&'static [u8]>
 
 /// What stands beside an operand word.
 #[tactic(auto, unfolding(crate::specs::Words::operand_partner))]
-fn operand_partner<'a>(language: Language, word: &'a [u8]) -> Option<Spelling<'a>>
+fn operand_partner<'a>(language: Language, word: &'a [u8]) -> Option<WrittenWord<'a>>
     ensures { IsFoundAsWanted (λ s. s.front.now ++ s.rest.now)
         (operand_partner language word.now) result }
 {
@@ -189,7 +189,7 @@ fn operand_partner<'a>(language: Language, word: &'a [u8]) -> Option<Spelling<'a
         return Some(found);
     }
     match result_partner(language, word) {
-        Some(rest) => Some(Spelling { front: &[], rest }),
+        Some(rest) => Some(WrittenWord { front: &[], rest }),
         None => None,
     }
 }
@@ -210,17 +210,17 @@ fn has_operand(language: Language, word: &[u8]) -> bool
 
 /// How an instruction word is written in the translation.
 #[tactic(auto, unfolding(crate::specs::Words::translated_word))]
-fn written_instruction<'a>(language: Language, word: &'a [u8]) -> Option<Spelling<'a>>
+fn written_instruction<'a>(language: Language, word: &'a [u8]) -> Option<WrittenWord<'a>>
     ensures { IsFoundAsWanted (λ s. s.front.now ++ s.rest.now)
         (translated_word language Instruction word.now) result }
 {
     if let Some(rest) = instruction_partner(language, word) {
-        return Some(Spelling { front: &[], rest });
+        return Some(WrittenWord { front: &[], rest });
     }
     if has_instruction(opposite(language), word) {
         return None;
     }
-    Some(Spelling {
+    Some(WrittenWord {
         front: &[],
         rest: word,
     })
@@ -228,7 +228,7 @@ fn written_instruction<'a>(language: Language, word: &'a [u8]) -> Option<Spellin
 
 /// How an operand word is written in the translation.
 #[tactic(auto, unfolding(crate::specs::Words::translated_word))]
-fn written_operand<'a>(language: Language, word: &'a [u8]) -> Option<Spelling<'a>>
+fn written_operand<'a>(language: Language, word: &'a [u8]) -> Option<WrittenWord<'a>>
     ensures { IsFoundAsWanted (λ s. s.front.now ++ s.rest.now)
         (translated_word language Operand word.now) result }
 {
@@ -238,7 +238,7 @@ fn written_operand<'a>(language: Language, word: &'a [u8]) -> Option<Spelling<'a
     if has_operand(opposite(language), word) {
         return None;
     }
-    Some(Spelling {
+    Some(WrittenWord {
         front: &[],
         rest: word,
     })
@@ -246,16 +246,16 @@ fn written_operand<'a>(language: Language, word: &'a [u8]) -> Option<Spelling<'a
 
 /// How a word that begins a path is written in the translation.
 #[tactic(auto, unfolding(crate::specs::Words::translated_word))]
-fn written_path<'a>(language: Language, word: &'a [u8]) -> Spelling<'a>
+fn written_path<'a>(language: Language, word: &'a [u8]) -> WrittenWord<'a>
     ensures { Some (result.front.now ++ result.rest.now) ≡ translated_word language Path word.now }
 {
     if has_operand(opposite(language), word) {
-        return Spelling {
+        return WrittenWord {
             front: b"#",
             rest: word,
         };
     }
-    Spelling {
+    WrittenWord {
         front: &[],
         rest: word,
     }
@@ -268,7 +268,7 @@ pub(crate) fn written_word<'a>(
     language: Language,
     role: Role,
     word: &'a [u8],
-) -> Option<Spelling<'a>>
+) -> Option<WrittenWord<'a>>
     ensures { IsFoundAsWanted (λ s. s.front.now ++ s.rest.now)
         (translated_word language role word.now) result }
 {
@@ -276,7 +276,7 @@ pub(crate) fn written_word<'a>(
         Role::Instruction => written_instruction(language, word),
         Role::Operand => written_operand(language, word),
         Role::Path => Some(written_path(language, word)),
-        Role::Stays => Some(Spelling {
+        Role::Stays => Some(WrittenWord {
             front: &[],
             rest: word,
         }),
@@ -284,17 +284,17 @@ pub(crate) fn written_word<'a>(
 }
 
 /// Whether a word is in a list.
-fn is_listed(table: &'static [&'static [u8]], word: &[u8]) -> bool
+fn is_word_in_table(table: &'static [&'static [u8]], word: &[u8]) -> bool
     ensures { result ≡ list_any (λ entry. str_eq_ignore_ascii_case word.now entry.now) table.now }
 {
     table.iter().any(|entry| word.eq_ignore_ascii_case(entry))
 }
 
 /// Whether a word is in a list, whose words a contract sees as bytes.
-fn is_among(table: &'static [&'static [u8]], word: &[u8]) -> bool
+fn is_word_in_list(table: &'static [&'static [u8]], word: &[u8]) -> bool
     ensures { result ≡ is_word_in_list (map (λ entry. entry.now) table.now) word.now }
 {
-    is_listed(table, word)
+    is_word_in_table(table, word)
 }
 
 /// Whether a table has something beside a word of the language that is translated from.
@@ -350,12 +350,12 @@ fn is_own_jump(word: &[u8]) -> bool
 fn is_common_jump(word: &[u8]) -> bool
     ensures { result ≡ is_word_in_list common_jumps word.now }
 {
-    is_among(&COMMON_JUMPS, word)
+    is_word_in_list(&COMMON_JUMPS, word)
 }
 
 /// Whether an instruction word is that of a jump.
 #[tactic(auto, unfolding(crate::specs::Places::is_jump_word))]
-pub(crate) fn is_jump(word: &[u8]) -> bool
+pub(crate) fn is_jump_word(word: &[u8]) -> bool
     ensures { result ≡ is_jump_word word.now }
 {
     is_own_jump(word) || is_common_jump(word)
@@ -366,7 +366,7 @@ pub(crate) fn is_jump(word: &[u8]) -> bool
 pub(crate) fn opens_code(word: &[u8]) -> bool
     ensures { result ≡ is_word_in_list code_openings word.now }
 {
-    is_among(&CODE_OPENINGS, word)
+    is_word_in_list(&CODE_OPENINGS, word)
 }
 
 /// Whether a word opens a block of data.
@@ -374,7 +374,7 @@ pub(crate) fn opens_code(word: &[u8]) -> bool
 pub(crate) fn opens_data(word: &[u8]) -> bool
     ensures { result ≡ is_word_in_list data_openings word.now }
 {
-    is_among(&DATA_OPENINGS, word)
+    is_word_in_list(&DATA_OPENINGS, word)
 }
 
 /// Whether a word opens a body.
@@ -382,7 +382,7 @@ pub(crate) fn opens_data(word: &[u8]) -> bool
 pub(crate) fn begins_body(word: &[u8]) -> bool
     ensures { result ≡ is_word_in_list begin_words word.now }
 {
-    is_among(&BEGIN_WORDS, word)
+    is_word_in_list(&BEGIN_WORDS, word)
 }
 
 /// Whether a word ends a block of statements.
@@ -390,7 +390,7 @@ pub(crate) fn begins_body(word: &[u8]) -> bool
 pub(crate) fn ends_code(word: &[u8]) -> bool
     ensures { result ≡ is_word_in_list block_end_words word.now }
 {
-    is_among(&ENDINGS, word)
+    is_word_in_list(&ENDINGS, word)
 }
 
 /// Whether a word opens a network.
@@ -398,20 +398,20 @@ pub(crate) fn ends_code(word: &[u8]) -> bool
 pub(crate) fn opens_network(word: &[u8]) -> bool
     ensures { result ≡ is_word_in_list network_words word.now }
 {
-    is_among(&NETWORK_WORDS, word)
+    is_word_in_list(&NETWORK_WORDS, word)
 }
 
 /// Whether a word is that of `)MCR`.
 #[tactic(auto, unfolding(crate::specs::Tables::zone_words))]
-pub(crate) fn ends_zone(word: &[u8]) -> bool
+pub(crate) fn is_zone_word(word: &[u8]) -> bool
     ensures { result ≡ is_word_in_list zone_words word.now }
 {
-    is_among(&ZONE_WORDS, word)
+    is_word_in_list(&ZONE_WORDS, word)
 }
 
 /// A word that has a translation in one language has one in the other, which is the word again but
 /// for the case of its letters.
-pub fn law_of_words()
+pub fn law_of_translated_words()
     ensures instructions { WordsComeBack Instruction }
     ensures operands { WordsComeBack Operand }
 {}

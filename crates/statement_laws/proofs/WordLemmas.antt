@@ -36,7 +36,7 @@ use Rattle.stl_parser.specs.Addresses.{address_at, bit_of, block_at}
 use Rattle.stl_parser.specs.Clauses as clauses
 use Rattle.stl_parser.specs.Declarations.{declaration_of, structure_at}
 use Rattle.stl_parser.specs.Literals.{literal_of, text_between_quotes}
-use Rattle.stl_parser.specs.Numbers.{number_of}
+use Rattle.stl_parser.specs.Numbers.{number_of_token}
 use Rattle.stl_parser.specs.Operands as reads
 use Rattle.stl_parser.specs.Parts.{complete_reading}
 use Rattle.stl_parser.specs.Source.{IsTree, ReadsClauses}
@@ -58,7 +58,7 @@ use Rattle.stl_parser.specs.declared.tables.HeadWord.{HeadWord}
 use Rattle.stl_parser.specs.declared.tables.Keyword.{Keyword}
 use Rattle.stl_parser.specs.declared.tables.Keyword.TheVariants as keyword
 use Rattle.stl_parser.proofs.FrameLemmas.{right_clause}
-use Rattle.stl_parser.proofs.OptionLemmas.{both, either, mapped, passed, some_holds}
+use Rattle.stl_parser.proofs.OptionLemmas.{both, either, map_holds, then_holds, some_holds}
 use Rattle.statement_laws.specs.NamedOperands.{NamedItem}
 use Rattle.statement_laws.specs.NamedOperands as named
 use Rattle.statement_laws.specs.Operands.{register_named}
@@ -114,7 +114,7 @@ block_path_has : (source : List ℕ) (name : BlockName) (tokens : List Token)
 unfolding reads.block_path
 block_path_has source name [] = tt
 block_path_has source name (w ∷ rest) =
-    passed (has_kind w kind.Word) _ HasKnownWord
+    then_holds (has_kind w kind.Word) _ HasKnownWord
     (λ test. mapped_holds (complete_reading (reads.steps_from source _ rest)) _ HasKnownWord (λ steps. tt))
 
 in_block_has : (source : List ℕ) (name : BlockName) (tokens : List Token)
@@ -129,7 +129,7 @@ behind_block_has : (source : List ℕ) (name : BlockName) (tokens : List Token)
 unfolding reads.operand_behind_block
 behind_block_has source name [] = tt
 behind_block_has source name (dot ∷ rest) =
-    passed (is_mark source dot mark.Dot) _ HasKnownWord (λ test. in_block_has source name rest)
+    then_holds (is_mark source dot mark.Dot) _ HasKnownWord (λ test. in_block_has source name rest)
 
 data_block_has : (source : List ℕ) (n : ℕ) (tokens : List Token)
     → IfSome (reads.data_block_operand source n tokens) HasKnownWord
@@ -194,7 +194,7 @@ plain_pointer_has : (source : List ℕ) (tokens : List Token)
 unfolding reads.plain_pointer
 plain_pointer_has source [] = tt
 plain_pointer_has source (n ∷ rest) =
-    then_made (number_of source n) _ HasKnownWord (λ byte. mapped_holds (bit_of source rest) _ HasKnownWord (λ bit. tt))
+    then_made (number_of_token source n) _ HasKnownWord (λ byte. mapped_holds (bit_of source rest) _ HasKnownWord (λ bit. tt))
 
 pointer_has : (source : List ℕ) (tokens : List Token) → IfSome (reads.pointer_constant_operand source tokens) HasKnownWord
 unfolding reads.pointer_constant_operand
@@ -202,8 +202,8 @@ pointer_has source tokens =
     either (reads.plain_pointer source tokens) _ HasKnownWord (plain_pointer_has source tokens)
     (then_made (address_at source tokens) _ HasKnownWord (λ r. area_pointer_has source r.0 r.1 r.2))
 
-condition_has : (source : List ℕ) (t : Token) → IfSome (reads.condition_of source t) HasKnownWord
-unfolding reads.condition_of
+condition_has : (source : List ℕ) (t : Token) → IfSome (reads.condition_word_operand source t) HasKnownWord
+unfolding reads.condition_word_operand
 condition_has source t = mapped_holds (look_up flags (text_of source t)) _ HasKnownWord (λ flag. tt)
 
 -- ---- registers
@@ -270,7 +270,7 @@ alone_has : (source : List ℕ) (t : Token) (rest : List Token)
     → IfSome (reads.lone_word_operand source t rest) HasKnownWord
 unfolding reads.lone_word_operand
 alone_has source t [] =
-    either (reads.condition_of source t) (reads.register_name_operand source t) HasKnownWord (condition_has source t)
+    either (reads.condition_word_operand source t) (reads.register_name_operand source t) HasKnownWord (condition_has source t)
     (other_has source t)
 alone_has source t (u ∷ rest) = tt
 
@@ -282,12 +282,12 @@ plain_path_has source t rest =
     (path_has source (head.Local (text_of source t)) rest)
 
 sized_has : (source : List ℕ) (t : Token) (rest : List Token)
-    → IfSome (reads.sized_by_register source t rest) HasKnownWord
-unfolding reads.sized_by_register
+    → IfSome (reads.operand_by_sized_register source t rest) HasKnownWord
+unfolding reads.operand_by_sized_register
 sized_has source t rest =
     both (is_key source t key.B) _ _ HasKnownWord (register_has source None width.Byte rest)
     (both (is_key source t key.W) _ _ HasKnownWord (register_has source None width.Word rest)
-    (passed (is_key source t key.D) _ HasKnownWord (λ test. register_has source None width.Dword rest)))
+    (then_holds (is_key source t key.D) _ HasKnownWord (λ test. register_has source None width.Dword rest)))
 
 with_number_has : (source : List ℕ) (tokens : List Token)
     → IfSome (reads.operand_with_number source tokens) HasKnownWord
@@ -308,7 +308,7 @@ word_has source t rest tokens =
     either (reads.lone_word_operand source t rest) _ HasKnownWord (alone_has source t rest)
     (either (reads.operand_with_number source tokens) _ HasKnownWord (with_number_has source tokens)
     (either (reads.operand_with_pointer source t rest) _ HasKnownWord (with_pointer_has source t rest)
-    (either (reads.sized_by_register source t rest) _ HasKnownWord (sized_has source t rest)
+    (either (reads.operand_by_sized_register source t rest) _ HasKnownWord (sized_has source t rest)
     (plain_path_has source t rest))))
 
 quoted_has : (source : List ℕ) (t : Token) (rest : List Token)
@@ -363,7 +363,7 @@ with_operand_has : (source : List ℕ) (code : Mnemonic) (tokens : List Token)
     → IfSome (states.statement_with_operand source code tokens) BareHasKnownWord
 unfolding states.statement_with_operand
 with_operand_has source code tokens =
-    mapped (reads.operand_of source tokens) _ HasKnownWord BareHasKnownWord (operand_has source tokens) (λ o k. k)
+    map_holds (reads.operand_of source tokens) _ HasKnownWord BareHasKnownWord (operand_has source tokens) (λ o k. k)
 
 jump_has : (source : List ℕ) (code : Mnemonic) (tokens : List Token)
     → IfSome (states.jump_of source code tokens) BareHasKnownWord
@@ -417,7 +417,7 @@ zone_end_has : (source : List ℕ) (t : Token) (rest : List Token)
 unfolding states.zone_end_of
 zone_end_has source t [] = tt
 zone_end_has source t (w ∷ rest) =
-    passed (is_mark source t mark.CloseParen && is_key source w key.Mcr) _ BareHasKnownWord
+    then_holds (is_mark source t mark.CloseParen && is_key source w key.Mcr) _ BareHasKnownWord
     (λ test. with_operand_has source mnemonic.McrClose rest)
 
 closed_has : (source : List ℕ) (t : Token) (rest : List Token)
@@ -446,13 +446,13 @@ labelled_has : (source : List ℕ) (line : ℕ) (w : Token) (rest : List Token)
     → IfSome (states.labelled_statement source line w rest) ReadHas
 unfolding states.labelled_statement
 labelled_has source line w rest =
-    mapped (states.instruction_of source rest) _ BareHasKnownWord ReadHas (instruction_has source rest) (λ i k. k)
+    map_holds (states.instruction_of source rest) _ BareHasKnownWord ReadHas (instruction_has source rest) (λ i k. k)
 
 unlabelled_has : (source : List ℕ) (line : ℕ) (tokens : List Token)
     → IfSome (states.unlabelled_statement source line tokens) ReadHas
 unfolding states.unlabelled_statement
 unlabelled_has source line tokens =
-    mapped (states.instruction_of source tokens) _ BareHasKnownWord ReadHas (instruction_has source tokens) (λ i k. k)
+    map_holds (states.instruction_of source tokens) _ BareHasKnownWord ReadHas (instruction_has source tokens) (λ i k. k)
 
 statement_has : (source : List ℕ) (line : ℕ) (tokens : List Token)
     → IfSome (states.statement_of source line tokens) ReadHas
@@ -483,7 +483,7 @@ inside_has source p line inside =
     (then_made (declaration_of source (clauses.level_at p) inside) _ InsideHas
     (λ d. both (clauses.takes_parameters p && not (is_elementary d)) None _ InsideHas tt tt))
     (either (clauses.statement_clause source line inside) _ InsideHas
-    (mapped (states.statement_of source line inside) _ ReadHas InsideHas
+    (map_holds (states.statement_of source line inside) _ ReadHas InsideHas
     (statement_has source line inside) (λ r k. k))
     (mapped_holds (clauses.setting_of source line inside) _ InsideHas (λ s. tt)))
 
@@ -496,7 +496,7 @@ plain_has source p line tokens =
     (mapped_holds (structure_at source (clauses.level_at p) tokens) _ FirstClauseHas (λ r. tt)))
     (then_made (clauses.until_semicolon source tokens) _ FirstClauseHas
     (λ cut.
-    mapped (clauses.inside_clause source p line cut.0) _ InsideHas FirstClauseHas
+    map_holds (clauses.inside_clause source p line cut.0) _ InsideHas FirstClauseHas
     (inside_has source p line cut.0) (λ c k. k)))
 
 other_clause_has : (source : List ℕ) (p : ClausePlace) (line : ℕ) (tokens : List Token)
@@ -506,7 +506,7 @@ other_clause_has source p line tokens =
     both (clauses.in_data_head p) _ _ FirstClauseHas
     (either _ (clauses.plain_clause source p line tokens) FirstClauseHas
     (then_made (block_at source tokens) _ FirstClauseHas
-    (λ r. passed (clauses.is_base_block r.0) _ FirstClauseHas (λ test. tt)))
+    (λ r. then_holds (clauses.is_base_block r.0) _ FirstClauseHas (λ test. tt)))
     (plain_has source p line tokens))
     (plain_has source p line tokens)
 
@@ -527,7 +527,7 @@ keyword_has source p line keyword.EndStructure rest =
   where
     inner : (tokens : List Token) → IfSome (clauses.inner_end source tokens) FirstClauseHas
     inner [] = tt
-    inner (t ∷ more) = passed (is_mark source t mark.Semicolon) _ FirstClauseHas (λ test. tt)
+    inner (t ∷ more) = then_holds (is_mark source t mark.Semicolon) _ FirstClauseHas (λ test. tt)
 
 free_word_has : (source : List ℕ) (p : ClausePlace) (t : Token) (rest tokens : List Token)
     (w : Option HeadWord)

@@ -10,7 +10,7 @@ use Rattle.stl_ast.specs.declared.declarations.ElementType.{ElementType}
 use Rattle.stl_ast.specs.declared.declarations.ElementType.TheVariants as element
 use Rattle.stl_ast.specs.declared.declarations.Init.{Init}
 
--- a block of this kind has a structure
+-- a block of this kind may have a structure: a data block or a data type
 abbrev pub has_shape : BlockKind → Bool
 has_shape kinds.Db = true
 has_shape kinds.Udt = true

@@ -29,28 +29,28 @@ path_size (head.InBlock name) = 11
 path_size (head.Symbol name) = 7
 
 -- the most bytes of the op of an operand's instruction and of the one before it that opens a block
-abbrev pub op_size : Operand → ℕ
-op_size operand.Nothing = 2
-op_size (operand.Direct name area w byte bit) = 7 + block_size name
-op_size (operand.Timer number) = 5
-op_size (operand.Counter number) = 5
-op_size (operand.Named path steps) = path_size path
-op_size (operand.ByMemory area w from byte) = 7
-op_size (operand.NumberBy what from byte) = 6
-op_size (operand.ByRegister area w register bits) = 9
-op_size (operand.Pointer area byte bit) = 6
-op_size (operand.Constant value) = 6
-op_size (operand.Label name) = 7
-op_size (operand.OfStatus flag) = 3
-op_size (operand.Other name) = 6
-op_size (operand.OpenBlock di name) = 5
-op_size (operand.Called name instance) = 7
+abbrev pub operand_ops_size : Operand → ℕ
+operand_ops_size operand.Nothing = 2
+operand_ops_size (operand.Direct name area w byte bit) = 7 + block_size name
+operand_ops_size (operand.Timer number) = 5
+operand_ops_size (operand.Counter number) = 5
+operand_ops_size (operand.Named path steps) = path_size path
+operand_ops_size (operand.ByMemory area w from byte) = 7
+operand_ops_size (operand.NumberBy what from byte) = 6
+operand_ops_size (operand.ByRegister area w register bits) = 9
+operand_ops_size (operand.Pointer area byte bit) = 6
+operand_ops_size (operand.Constant value) = 6
+operand_ops_size (operand.Label name) = 7
+operand_ops_size (operand.OfStatus flag) = 3
+operand_ops_size (operand.Other name) = 6
+operand_ops_size (operand.OpenBlock di name) = 5
+operand_ops_size (operand.Called name instance) = 7
 
 -- the most bytes that an instruction with an operand and `count` actual parameters takes: none for
 -- `;` alone, else 4 for its line, those of the operand's ops, and 11 an actual parameter
 abbrev pub code_size : Mnemonic → Operand → ℕ → ℕ
 code_size code.Empty o count = 0
-code_size _ o count = 4 + op_size o + 11 * count
+code_size _ o count = 4 + operand_ops_size o + 11 * count
 
 -- the most bytes that a statement takes: the entry of its line, its ops, and an op of at most 11
 -- bytes for each actual parameter; the empty statement has no code

@@ -54,10 +54,10 @@ pub enum PartKind {
 /// A declaration section, from its `VAR..` to its `END_VAR`.
 #[derive(Drop)]
 pub struct Part {
-    /// The line of its `VAR..`.
+    /// The line of the `VAR..` that opens the section.
     pub line: u32,
     pub kind: PartKind,
-    /// Its declarations.
+    /// The declarations of the section.
     pub items: Declarations,
 }
 

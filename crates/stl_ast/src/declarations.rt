@@ -61,9 +61,9 @@ pub struct Declaration {
     pub name: Name,
     /// How many structures of its list are open around it.
     pub level: u32,
-    /// Its type.
+    /// The type of the declared name.
     pub of: TypeTree,
-    /// Its initial values; empty where there is none.
+    /// The initial values of the declared name; empty where there is none.
     pub init: Sequence<Init>,
 }
 

@@ -11,7 +11,7 @@ use Rattle.stl_lexer.specs.declared.kinds.TokenKind.TheVariants.{Word, Number, Q
 use Rattle.stl_lexer.specs.declared.tables.Tail.{Tail}
 use Rattle.stl_lexer.specs.declared.tables.Tail.TheVariants.{Nothing, Apart, Run, SignedRun, Line}
 use Rattle.stl_lexer.specs.Bytes.{hash, double_quote, single_quote, open_brace, close_brace, is_word_byte, is_word_start}
-use Rattle.stl_lexer.specs.Forms.{has_form, is_word, is_number, is_quoted, is_local, is_enclosed, is_entry, is_listed, begins_with, first_letter, sign_words, based_prefixes, long_prefixes, count_prefixes, time_prefixes, s5time_prefixes, title_words}
+use Rattle.stl_lexer.specs.Forms.{has_form, is_word, is_number, is_quoted, is_local_name, is_enclosed, is_entry, is_listed, begins_with, first_letter, sign_words, based_prefixes, long_prefixes, count_prefixes, time_prefixes, s5time_prefixes, title_words}
 use Rattle.stl_lexer.specs.Marks.{marks, mark_text}
 use Rattle.stl_lexer.specs.Longest.{FindsLongest, HasNoneOfForm, HasNoForm, IsLongestToken, IsLongestOfForm, better_of}
 use Rattle.stl_lexer.proofs.EntryLemmas.{beginning_letter, entry_at}
@@ -25,7 +25,7 @@ pub best_found : (text : List ℕ) (word number quoted local characters based nu
     → FindsLongest (λ s after. is_word s) text word
     → FindsLongest (λ s after. is_number s) text number
     → FindsLongest (λ s after. is_quoted s) text quoted
-    → FindsLongest (λ s after. is_local s) text local
+    → FindsLongest (λ s after. is_local_name s) text local
     → FindsLongest (λ s after. is_enclosed single_quote single_quote true s) text characters
     → FindsLongest (is_listed Run based_prefixes) text based
     → FindsLongest (λ s after. is_listed SignedRun long_prefixes s after || is_listed Run count_prefixes s after) text number_literal
@@ -122,7 +122,7 @@ none_hash text yes_ never entry e begins = elim (or_cases (get_or entry (prefix_
 
 -- ---- kinds of one first byte
 
-none_local : (text : List ℕ) → (get_or text 0 0 ≡ hash → ⊥) → HasNoneOfForm (λ s after. is_local s) text
+none_local : (text : List ℕ) → (get_or text 0 0 ≡ hash → ⊥) → HasNoneOfForm (λ s after. is_local_name s) text
 none_local text h zero at = absurd (omega (arith, at.some))
 none_local [] h (suc n) at = absurd (omega (arith, at.within))
 none_local (b ∷ s) h (suc n) at = h (eqb-true b hash (and_parts (b == hash) (is_word (take n s)) at.fits).0)
@@ -246,7 +246,7 @@ sign_best : (text : List ℕ) (quoted local characters mark sign_word attribute 
     → HasNoneOfForm (λ s after. is_word s) text
     → HasNoneOfForm (λ s after. is_number s) text
     → FindsLongest (λ s after. is_quoted s) text quoted
-    → FindsLongest (λ s after. is_local s) text local
+    → FindsLongest (λ s after. is_local_name s) text local
     → FindsLongest (λ s after. is_enclosed single_quote single_quote true s) text characters
     → FindsLongest (is_listed Nothing marks) text mark
     → FindsLongest (is_listed Apart sign_words) text sign_word
@@ -295,7 +295,7 @@ quoted_alone text found word number first h = sign_best text found None None Non
     (none_sign_word double_quote text first refl refl)
     (none_attribute text (λ e. absurd (omega (arith, first, e))))
 
-pub local_alone : (text : List ℕ) (found : Option ℕ) → HasNoneOfForm (λ s after. is_word s) text → HasNoneOfForm (λ s after. is_number s) text → get_or text 0 0 ≡ hash → FindsLongest (λ s after. is_local s) text found → MatchOption (better_of None Local found) (HasNoForm text) (λ found. IsLongestToken text found.kind found.length)
+pub local_alone : (text : List ℕ) (found : Option ℕ) → HasNoneOfForm (λ s after. is_word s) text → HasNoneOfForm (λ s after. is_number s) text → get_or text 0 0 ≡ hash → FindsLongest (λ s after. is_local_name s) text found → MatchOption (better_of None Local found) (HasNoForm text) (λ found. IsLongestToken text found.kind found.length)
 unfolding first_letter is_apart marks mark_text sign_words
 local_alone text found word number first h = sign_best text None found None None None None word number
     (none_quoted text (λ e. absurd (omega (arith, first, e))))

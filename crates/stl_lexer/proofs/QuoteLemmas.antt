@@ -5,7 +5,7 @@ use Rattle.std.specs.List.{prefix_len}
 use Rattle.std.proofs.lemmas.Bool.{and_parts, and_from, and_left, cases_Bool, eqb-true, eq-eqb, ltb-true, lt-ltb, false≢true, not_from_true}
 use Rattle.std.proofs.lemmas.List.{length-take-le}
 use Rattle.stl_lexer.specs.Bytes.{double_quote}
-use Rattle.stl_lexer.specs.Forms.{is_closed, is_inner, is_enclosed, is_quoted}
+use Rattle.stl_lexer.specs.Forms.{is_closed_run, is_inner, is_enclosed, is_quoted}
 use Rattle.stl_lexer.specs.Longest.{IsFormAt, IsLongestOfForm, HasNoneOfForm}
 
 one_add : (n : ℕ) → 1 + n ≡ suc n
@@ -17,7 +17,7 @@ pub record EndsAtClose (p : ℕ → Bool) (close : ℕ) (s : List ℕ) (m : ℕ)
   pub within : prefix_len p s < length s
   pub there : get_or s (prefix_len p s) 0 ≡ close
 
-closed_is : (p : ℕ → Bool) (close : ℕ) (s : List ℕ) (m : ℕ) → p close ≡ false → m ≤ length s → is_closed p close (take m s) ≡ true → EndsAtClose p close s m
+closed_is : (p : ℕ → Bool) (close : ℕ) (s : List ℕ) (m : ℕ) → p close ≡ false → m ≤ length s → is_closed_run p close (take m s) ≡ true → EndsAtClose p close s m
 closed_is p close s zero stops h e = absurd (false≢true e)
 closed_is p close [] (suc m) stops h e = absurd (omega arith)
 closed_is p close (b ∷ s) (suc zero) stops h e =
@@ -26,7 +26,7 @@ closed_is p close (b ∷ s) (suc zero) stops h e =
     record { size = rw none refl; within = rw none (omega arith); there = rw none here }
 closed_is p close (b ∷ []) (suc (suc m)) stops h e = absurd (omega arith)
 closed_is p close (b ∷ c ∷ s) (suc (suc m)) stops h e =
-    let parts = and_parts (p b) (is_closed p close (c ∷ take m s)) e in
+    let parts = and_parts (p b) (is_closed_run p close (c ∷ take m s)) e in
     let rest = closed_is p close (c ∷ s) (suc m) stops (omega arith) parts.1 in
     record {
       size = rw (parts.0, one_add) (ap suc rest.size);
@@ -34,17 +34,17 @@ closed_is p close (b ∷ c ∷ s) (suc (suc m)) stops h e =
       there = rw (parts.0, one_add) rest.there;
     }
 
-closed_there : (p : ℕ → Bool) (close : ℕ) (s : List ℕ) → prefix_len p s < length s → get_or s (prefix_len p s) 0 ≡ close → is_closed p close (take (suc (prefix_len p s)) s) ≡ true
+closed_there : (p : ℕ → Bool) (close : ℕ) (s : List ℕ) → prefix_len p s < length s → get_or s (prefix_len p s) 0 ≡ close → is_closed_run p close (take (suc (prefix_len p s)) s) ≡ true
 closed_there p close [] h e = absurd (omega arith)
-closed_there p close (b ∷ []) h e = elim (cases_Bool (p b)) as (λ _. is_closed p close (take (suc (prefix_len p (b ∷ []))) (b ∷ [])) ≡ true) [
+closed_there p close (b ∷ []) h e = elim (cases_Bool (p b)) as (λ _. is_closed_run p close (take (suc (prefix_len p (b ∷ []))) (b ∷ [])) ≡ true) [
   | inl yes_ ↦ absurd (omega (arith, rw yes_ at h))
   | inr no_ ↦ rw no_ (eq-eqb b close (rw no_ at e))
 ]
-closed_there p close (b ∷ c ∷ s) h e = elim (cases_Bool (p b)) as (λ _. is_closed p close (take (suc (prefix_len p (b ∷ c ∷ s))) (b ∷ c ∷ s)) ≡ true) [
+closed_there p close (b ∷ c ∷ s) h e = elim (cases_Bool (p b)) as (λ _. is_closed_run p close (take (suc (prefix_len p (b ∷ c ∷ s))) (b ∷ c ∷ s)) ≡ true) [
   | inl yes_ ↦
       let within = rw (yes_, one_add) at h in
       let there = rw (yes_, one_add) at e in
-      rw (yes_, one_add) (and_from (p b) (is_closed p close (c ∷ take (prefix_len p (c ∷ s)) s)) yes_ (closed_there p close (c ∷ s) (omega (arith, within)) there))
+      rw (yes_, one_add) (and_from (p b) (is_closed_run p close (c ∷ take (prefix_len p (c ∷ s)) s)) yes_ (closed_there p close (c ∷ s) (omega (arith, within)) there))
   | inr no_ ↦ rw no_ (eq-eqb b close (rw no_ at e))
 ]
 
@@ -57,7 +57,7 @@ enclosed_form opening close one_line s after = is_enclosed opening close one_lin
 
 enclosed_is : (opening close : ℕ) (one_line : Bool) (b : ℕ) (s : List ℕ) (m : ℕ) → IsFormAt (enclosed_form opening close one_line) (b ∷ s) (suc m) → (b ≡ opening) × EndsAtClose (is_inner close one_line) close s m
 enclosed_is opening close one_line b s m at =
-    let parts = and_parts (b == opening) (is_closed (is_inner close one_line) close (take m s)) at.fits in
+    let parts = and_parts (b == opening) (is_closed_run (is_inner close one_line) close (take m s)) at.fits in
     (eqb-true b opening parts.0, closed_is (is_inner close one_line) close s m (stops_at close one_line) (omega (arith, at.within)) parts.1)
 
 enclosed_cons : (opening close : ℕ) (one_line : Bool) (b : ℕ) (s : List ℕ) → b ≡ opening → prefix_len (is_inner close one_line) s < length s → get_or s (prefix_len (is_inner close one_line) s) 0 ≡ close → IsLongestOfForm (enclosed_form opening close one_line) (b ∷ s) (suc (suc (prefix_len (is_inner close one_line) s)))
@@ -65,7 +65,7 @@ enclosed_cons opening close one_line b s first h e = record {
   fits = record {
     some = omega arith;
     within = omega arith;
-    fits = and_from (b == opening) (is_closed (is_inner close one_line) close (take (suc (prefix_len (is_inner close one_line) s)) s)) (eq-eqb b opening first) (closed_there (is_inner close one_line) close s h e);
+    fits = and_from (b == opening) (is_closed_run (is_inner close one_line) close (take (suc (prefix_len (is_inner close one_line) s)) s)) (eq-eqb b opening first) (closed_there (is_inner close one_line) close s h e);
   };
   longest = longest;
 } where

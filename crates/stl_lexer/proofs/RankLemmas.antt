@@ -3,7 +3,7 @@ use Rattle.std.proofs.Common.{◌≡◌, ℕ, suc, ◌<◌, ◌≤◌, ◌⊎◌
 use Rattle.std.proofs.lemmas.Bool.{cases_lt, lt-ltb, le-ltb}
 use Rattle.stl_lexer.specs.declared.kinds.TokenKind.{TokenKind}
 use Rattle.stl_lexer.specs.declared.kinds.TokenKind.TheVariants.{Word, Number, Quoted, Local, Characters, Based, NumberLiteral, TimeLiteral, Mark, SignWord, Attribute, Title}
-use Rattle.stl_lexer.specs.declared.places.Found.{Found}
+use Rattle.stl_lexer.specs.declared.places.FoundToken.{FoundToken}
 use Rattle.stl_lexer.specs.Forms.{has_form}
 use Rattle.stl_lexer.specs.Longest.{IsFormAt, IsLongestOfForm, IsLongestToken, HasNoneOfForm, HasNoForm, FindsLongest, kind_rank, better_of}
 
@@ -44,12 +44,12 @@ rank-lt Attribute = lit< tt
 rank-lt Title = lit< tt
 
 -- the longest token of the kinds below a rank
-pub record IsBestBelow (r : ℕ) (text : List ℕ) (best : Found) : Type 0 where
+pub record IsBestBelow (r : ℕ) (text : List ℕ) (best : FoundToken) : Type 0 where
   pub fits : IsFormAt (has_form best.kind) text best.length
   pub below : kind_rank best.kind < r
   pub longest : (other : TokenKind) (m : ℕ) → kind_rank other < r → IsFormAt (has_form other) text m → (m < best.length) ⊎ ((m ≡ best.length) × (kind_rank other ≤ kind_rank best.kind))
 
-abbrev pub FindsBest : ℕ → List ℕ → Option Found → Type 0
+abbrev pub FindsBest : ℕ → List ℕ → Option FoundToken → Type 0
 FindsBest r text best = MatchOption best ((other : TokenKind) → kind_rank other < r → HasNoneOfForm (has_form other) text) (IsBestBelow r text)
 
 -- a kind below the next rank is of a lower one, or the kind itself
@@ -64,7 +64,7 @@ shorter_or_earlier : (m n a b : ℕ) → m ≤ n → a ≤ b → (m < n) ⊎ ((m
 shorter_or_earlier m n a b h l = elim (cases_lt m n) [ inl lt ↦ inl lt | inr ge ↦ inr (omega arith, l) ]
 
 -- the best stays where a further kind has none, or a shorter one
-best_stays : (k : TokenKind) (text : List ℕ) (best : Found) → IsBestBelow (kind_rank k) text best → ((m : ℕ) → IsFormAt (has_form k) text m → m < best.length) → IsBestBelow (suc (kind_rank k)) text best
+best_stays : (k : TokenKind) (text : List ℕ) (best : FoundToken) → IsBestBelow (kind_rank k) text best → ((m : ℕ) → IsFormAt (has_form k) text m → m < best.length) → IsBestBelow (suc (kind_rank k)) text best
 best_stays k text best b shorter = record {
   fits = b.fits;
   below = omega (arith, b.below);
@@ -90,7 +90,7 @@ no_longer_than m n P (inl lt) = omega arith
 no_longer_than m n P (inr same) = omega (arith, same.0)
 
 -- one kind more
-pub best_more : (k : TokenKind) (text : List ℕ) (best : Option Found) (found : Option ℕ) → FindsBest (kind_rank k) text best → FindsLongest (has_form k) text found → FindsBest (suc (kind_rank k)) text (better_of best k found)
+pub best_more : (k : TokenKind) (text : List ℕ) (best : Option FoundToken) (found : Option ℕ) → FindsBest (kind_rank k) text best → FindsLongest (has_form k) text found → FindsBest (suc (kind_rank k)) text (better_of best k found)
 best_more k text None None b f = λ other lt. elim (split_rank other k lt) [
   | inl low ↦ b other low
   | inr e ↦ λ n at. f n (at_kind text n other k e at)
@@ -107,6 +107,6 @@ pub best_none : (text : List ℕ) → FindsBest 0 text None
 best_none text other h = absurd (omega arith)
 
 -- all kinds
-pub best_of_all : (text : List ℕ) (best : Option Found) → FindsBest 12 text best → MatchOption best (HasNoForm text) (λ found. IsLongestToken text found.kind found.length)
+pub best_of_all : (text : List ℕ) (best : Option FoundToken) → FindsBest 12 text best → MatchOption best (HasNoForm text) (λ found. IsLongestToken text found.kind found.length)
 best_of_all text None b = λ kind. b kind (rank-lt kind)
 best_of_all text (Some found) b = record { fits = b.fits; longest = λ other m at. b.longest other m (rank-lt other) at }

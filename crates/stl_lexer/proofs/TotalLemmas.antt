@@ -8,7 +8,7 @@ use Rattle.stl_lexer.specs.declared.gaps.GapPart.TheVariants.{Blanks, Comment}
 use Rattle.stl_lexer.specs.declared.kinds.TokenKind.{TokenKind}
 use Rattle.stl_lexer.specs.declared.kinds.TokenKind.TheVariants.{Word, Number, Quoted, Local, Characters, Based, NumberLiteral, TimeLiteral, Mark, SignWord, Attribute, Title}
 use Rattle.stl_lexer.specs.declared.kinds.Token.{Token}
-use Rattle.stl_lexer.specs.declared.places.Found.{Found}
+use Rattle.stl_lexer.specs.declared.places.FoundToken.{FoundToken}
 use Rattle.stl_lexer.specs.declared.rules.Fault.{Fault}
 use Rattle.stl_lexer.specs.Bytes.{newline, is_source_byte, is_separator, opens_comment}
 use Rattle.stl_lexer.specs.Forms.{has_form}
@@ -42,14 +42,14 @@ longest_there form text = longest_below form text (length text) (omega arith) (�
 
 -- the longest token at the front of a text, or none
 abbrev Best : ℕ → List ℕ → Type 0
-Best r text = (best : Option Found) × FindsBest r text best
+Best r text = (best : Option FoundToken) × FindsBest r text best
 
 best_next : (k : TokenKind) (text : List ℕ) → Best (kind_rank k) text → Best (suc (kind_rank k)) text
 best_next k text (best, b) =
     let there = longest_there (has_form k) text in
     (better_of best k there.0, best_more k text best there.0 b there.1)
 
-token_there : (text : List ℕ) → (found : Option Found) × FindsToken text found
+token_there : (text : List ℕ) → (found : Option FoundToken) × FindsToken text found
 token_there text =
     let none : Best 0 text = (None, best_none text) in
     let words : Best 2 text = best_next Number text (best_next Word text none) in
@@ -89,7 +89,7 @@ gap_there Blanks (b ∷ s) = elim (cases_Bool (is_separator b)) [
 abbrev HasNextOrEnd : List ℕ → ℕ → Bool → Type 0
 HasNextOrEnd source from minus = ((t : Token) × IsNextToken source from minus t) ⊎ (IsEndOfTokens source from ⊎ ((line : ℕ) × (rule : ℕ) × BreaksTokenRule source from minus line rule))
 
-token_at : (source : List ℕ) (from at : ℕ) (minus : Bool) (found : Found) → IsBehindGap source from at → IsLongestToken (drop at source) found.kind found.length → (fault : Option Fault) → fault_of found.kind (take found.length (drop at source)) minus ≡ fault → HasNextOrEnd source from minus
+token_at : (source : List ℕ) (from at : ℕ) (minus : Bool) (found : FoundToken) → IsBehindGap source from at → IsLongestToken (drop at source) found.kind found.length → (fault : Option Fault) → fault_of found.kind (take found.length (drop at source)) minus ≡ fault → HasNextOrEnd source from minus
 token_at source from at minus found start longest None right =
     let n = found.length in
     let size : (at + n) - at ≡ n = omega arith in
@@ -115,7 +115,7 @@ token_at source from at minus found start longest (Some fault) broken =
       },
     ))
 
-begins_at : (source : List ℕ) (from at : ℕ) (minus : Bool) → IsBehindGap source from at → (found : Option Found) → FindsToken (drop at source) found → HasNextOrEnd source from minus
+begins_at : (source : List ℕ) (from at : ℕ) (minus : Bool) → IsBehindGap source from at → (found : Option FoundToken) → FindsToken (drop at source) found → HasNextOrEnd source from minus
 begins_at source from at minus start None none =
     inr (inr (
       line_at source at,

@@ -24,9 +24,9 @@ abbrev pub is_number : List ℕ → Bool
 is_number s = is_run is_ascii_digit is_ascii_digit s
 
 -- a local name: `#` and a word
-abbrev pub is_local : List ℕ → Bool
-is_local [] = false
-is_local (b ∷ s) = b == hash && is_word s
+abbrev pub is_local_name : List ℕ → Bool
+is_local_name [] = false
+is_local_name (b ∷ s) = b == hash && is_word s
 
 -- a byte that may stand before the closing one: not that byte, and no line's end where the token is
 -- to stand on one line
@@ -34,16 +34,16 @@ unfoldable pub is_inner : ℕ → Bool → ℕ → Bool
 is_inner close one_line b = not (b == close) && not (one_line && b == newline)
 
 -- bytes that pass the test, then the closing byte
-abbrev pub is_closed : (ℕ → Bool) → ℕ → List ℕ → Bool
-is_closed inner close [] = false
-is_closed inner close (b ∷ []) = b == close
-is_closed inner close (b ∷ c ∷ s) = inner b && is_closed inner close (c ∷ s)
+abbrev pub is_closed_run : (ℕ → Bool) → ℕ → List ℕ → Bool
+is_closed_run inner close [] = false
+is_closed_run inner close (b ∷ []) = b == close
+is_closed_run inner close (b ∷ c ∷ s) = inner b && is_closed_run inner close (c ∷ s)
 
 -- an opening byte, others in between, and the closing byte
 abbrev pub is_enclosed : ℕ → ℕ → Bool → List ℕ → Bool
 is_enclosed opening close one_line [] = false
 is_enclosed opening close one_line (b ∷ s) =
-    b == opening && is_closed (is_inner close one_line) close s
+    b == opening && is_closed_run (is_inner close one_line) close s
 
 -- a quoted name: one byte or more in double quotes, on one line
 abbrev pub is_quoted : List ℕ → Bool
@@ -157,7 +157,7 @@ unfoldable pub has_form : TokenKind → List ℕ → List ℕ → Bool
 has_form Word s after = is_word s
 has_form Number s after = is_number s
 has_form Quoted s after = is_quoted s
-has_form Local s after = is_local s
+has_form Local s after = is_local_name s
 has_form Characters s after = is_characters s
 has_form Based s after = is_listed Run based_prefixes s after
 has_form NumberLiteral s after = is_number_literal s after

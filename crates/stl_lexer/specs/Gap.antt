@@ -20,7 +20,7 @@ ContinuesGap part text found =
     MatchOption found (after_gap part text ≡ text)
     (λ next. (0 < length text) × (after_gap part text ≡ after_gap next (drop 1 text)))
 
--- a byte that separates tokens, or may stand in a comment, and ends no line
+-- a byte that separates tokens and ends no line
 unfoldable pub is_inline_separator : ℕ → Bool
 is_inline_separator b = is_separator b && not (b == newline)
 

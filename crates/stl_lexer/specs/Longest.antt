@@ -2,7 +2,7 @@
 use Rattle.std.specs.Prelude.{◌≡◌, ℕ, ◌<◌, ◌≤◌, ◌⊎◌, Bool, true, List, length, take, drop, Option, None, Some, MatchOption, max, nat_lt, if◌then◌else◌}
 use Rattle.stl_lexer.specs.declared.kinds.TokenKind.{TokenKind}
 use Rattle.stl_lexer.specs.declared.kinds.TokenKind.TheVariants.{Word, Number, Quoted, Local, Characters, Based, NumberLiteral, TimeLiteral, Mark, SignWord, Attribute, Title}
-use Rattle.stl_lexer.specs.declared.places.Found.{Found}
+use Rattle.stl_lexer.specs.declared.places.FoundToken.{FoundToken}
 use Rattle.stl_lexer.specs.declared.tables.Tail.{Tail}
 use Rattle.stl_lexer.specs.Forms.{is_tail, has_form}
 
@@ -90,13 +90,13 @@ abbrev pub HasNoForm : List ℕ → Type 0
 HasNoForm text = (kind : TokenKind) → HasNoneOfForm (has_form kind) text
 
 -- the longest token at the front of the text, or None
-abbrev pub FindsToken : List ℕ → Option Found → Type 0
+abbrev pub FindsToken : List ℕ → Option FoundToken → Type 0
 FindsToken text found =
     MatchOption found (HasNoForm text) (λ token. IsLongestToken text token.kind token.length)
 
 -- the better of the token found so far and one of a further kind: the longer, or the later of two
 -- that are as long
-abbrev pub better_of : Option Found → TokenKind → Option ℕ → Option Found
+abbrev pub better_of : Option FoundToken → TokenKind → Option ℕ → Option FoundToken
 better_of best kind None = best
 better_of None kind (Some n) = Some (record { kind = kind; length = n })
 better_of (Some best) kind (Some n) =

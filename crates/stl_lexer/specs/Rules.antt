@@ -36,12 +36,12 @@ unfoldable pub value_of_digits : List ℕ → Option ℕ
 value_of_digits s = if is_number s then Some (decimal_value s) else None
 
 -- digits of a base, one at least; `_` is none
-unfoldable pub are_digits : ℕ → List ℕ → Bool
-are_digits base s = nat_lt 0 (length s) && list_all (λ b. is_digit b base) s
+unfoldable pub are_digits_of_base : ℕ → List ℕ → Bool
+are_digits_of_base base s = nat_lt 0 (length s) && list_all (λ b. is_digit b base) s
 
 -- digits of a base in groups of one at least, with one `_` between two groups; one group at least
 unfoldable pub are_grouped_digits : ℕ → List ℕ → Bool
-are_grouped_digits base s = list_all (are_digits base) (slice_split (λ b. b == underscore) s)
+are_grouped_digits base s = list_all (are_digits_of_base base) (slice_split (λ b. b == underscore) s)
 
 -- how many digits a text has; `_` is none
 unfoldable pub digit_count : List ℕ → ℕ

@@ -47,7 +47,7 @@ pub(crate) fn is_sign(b: u8) -> bool
 
 /// Whether a source may hold this byte.
 #[tactic(auto, unfolding(crate::specs::Bytes::is_source_byte))]
-pub(crate) fn in_source(b: u8) -> bool
+pub(crate) fn is_source_byte(b: u8) -> bool
     ensures { result ≡ is_source_byte b }
 {
     is_separator(b) || (b >= b' ' && b != 127)

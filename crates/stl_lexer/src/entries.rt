@@ -130,7 +130,7 @@ fn longest_entry(tail: Tail, table: &[&[u8]], text: &[u8]) -> Option<usize>
 
 /// The length of the longest entry of a table, with its tail, at the front of the text; `opened`
 /// says whether an entry of the table begins with the text's first letter.
-fn longest_listed(tail: Tail, table: &[&[u8]], opened: bool, text: &[u8]) -> Option<usize>
+fn longest_opened_entry(tail: Tail, table: &[&[u8]], opened: bool, text: &[u8]) -> Option<usize>
     requires some { IsTrue (list_all is_some_text (map (λ entry. entry.now) table.now)) }
     requires opened { opened
         ≡ opens_entry (map (λ entry. entry.now) table.now) (first_letter text.now) }
@@ -249,11 +249,11 @@ pub(crate) fn longest_sign_word(text: &[u8]) -> Option<usize>
 /// The length of the longest binary or hexadecimal literal at the front of the text, right or
 /// wrong.
 #[tactic(auto, unfolding(crate::specs::Forms::based_prefixes))]
-pub(crate) fn longest_based(text: &[u8]) -> Option<usize>
+pub(crate) fn longest_based_literal(text: &[u8]) -> Option<usize>
     ensures { FindsLongest (is_listed Run based_prefixes) text.now result }
 {
     let opened = opens_based(first_letter(text));
-    longest_listed(Tail::Run, &BASED_PREFIXES, opened, text)
+    longest_opened_entry(Tail::Run, &BASED_PREFIXES, opened, text)
 }
 
 /// The length of the longest literal `L#` or `C#` at the front of the text, right or wrong.
@@ -262,8 +262,8 @@ pub(crate) fn longest_number_literal(text: &[u8]) -> Option<usize>
     ensures { FindsLongest is_number_literal text.now result }
 {
     let letter = first_letter(text);
-    let long = longest_listed(Tail::SignedRun, &LONG_PREFIXES, opens_long(letter), text);
-    let count = longest_listed(Tail::Run, &COUNT_PREFIXES, opens_count(letter), text);
+    let long = longest_opened_entry(Tail::SignedRun, &LONG_PREFIXES, opens_long(letter), text);
+    let count = longest_opened_entry(Tail::Run, &COUNT_PREFIXES, opens_count(letter), text);
     longer(long, count)
 }
 
@@ -273,8 +273,8 @@ pub(crate) fn longest_time_literal(text: &[u8]) -> Option<usize>
     ensures { FindsLongest is_time_literal text.now result }
 {
     let letter = first_letter(text);
-    let time = longest_listed(Tail::SignedRun, &TIME_PREFIXES, opens_time(letter), text);
-    let s5time = longest_listed(Tail::Run, &S5TIME_PREFIXES, opens_s5time(letter), text);
+    let time = longest_opened_entry(Tail::SignedRun, &TIME_PREFIXES, opens_time(letter), text);
+    let s5time = longest_opened_entry(Tail::Run, &S5TIME_PREFIXES, opens_s5time(letter), text);
     longer(time, s5time)
 }
 
@@ -283,7 +283,7 @@ pub(crate) fn longest_time_literal(text: &[u8]) -> Option<usize>
 pub(crate) fn longest_title(text: &[u8]) -> Option<usize>
     ensures { FindsLongest (is_listed Line title_words) text.now result }
 {
-    longest_listed(
+    longest_opened_entry(
         Tail::Line,
         &TITLE_WORDS,
         opens_title(first_letter(text)),

@@ -12,7 +12,7 @@ ghost use Rattle.stl_lexer.specs.Gap.{
 };
 ghost use Rattle.stl_lexer.specs.Limits.{source_limit};
 
-use crate::bytes::{behind, in_source, is_separator, opens_comment};
+use crate::bytes::{behind, is_separator, is_source_byte, opens_comment};
 use crate::kinds::{TokenKind, is_plain};
 
 /// A place in a source: how many bytes stand before it, and its line.
@@ -67,7 +67,7 @@ fn gap_byte(part: GapPart, text: &[u8]) -> Option<GapPart>
         (_, []) => None,
         (_, [b'\n', ..]) => Some(GapPart::Blanks),
         (GapPart::Comment, [first, ..]) => {
-            if in_source(*first) {
+            if is_source_byte(*first) {
                 Some(GapPart::Comment)
             } else {
                 None
@@ -87,7 +87,7 @@ fn gap_byte(part: GapPart, text: &[u8]) -> Option<GapPart>
 
 /// Whether a byte separates tokens and ends no line.
 #[tactic(auto, unfolding(crate::specs::Gap::is_inline_separator))]
-fn is_blank(b: u8) -> bool
+fn is_inline_separator(b: u8) -> bool
     ensures { result ≡ is_inline_separator b }
 {
     is_separator(b) && b != b'\n'
@@ -98,7 +98,7 @@ fn is_blank(b: u8) -> bool
 fn is_comment_byte(b: u8) -> bool
     ensures { result ≡ is_comment_byte b }
 {
-    in_source(b) && b != b'\n'
+    is_source_byte(b) && b != b'\n'
 }
 
 /// How many bytes at the front are separators that end no line.
@@ -106,7 +106,7 @@ fn blank_run(text: &[u8]) -> usize
     ensures value { result ≡ prefix_len is_inline_separator text.now }
     ensures within { result ≤ length text.now }
 {
-    text.iter().take_while(|b| is_blank(**b)).count()
+    text.iter().take_while(|b| is_inline_separator(**b)).count()
 }
 
 /// How many bytes at the front may stand in a comment and end no line.

@@ -4,7 +4,7 @@ ghost use Rattle.std.specs.Char.{is_digit};
 ghost use Rattle.stl_lexer.specs.Forms.{is_number};
 ghost use Rattle.stl_lexer.specs.Limits.{greatest_long, greatest_number, value_cap};
 ghost use Rattle.stl_lexer.specs.Rules.{
-  are_digits,
+  are_digits_of_base,
   are_grouped_digits,
   base_of,
   based_rule,
@@ -107,24 +107,24 @@ fn all_digits(base: u32, text: &[u8]) -> bool
 }
 
 /// Whether a text is digits of a base, one at least.
-#[tactic(auto, unfolding(crate::specs::Rules::are_digits))]
-fn are_digits(base: u32, text: &[u8]) -> bool
+#[tactic(auto, unfolding(crate::specs::Rules::are_digits_of_base))]
+fn are_digits_of_base(base: u32, text: &[u8]) -> bool
     requires low { 2 ≤ base }
     requires high { base ≤ 36 }
-    ensures { result ≡ are_digits base text.now }
+    ensures { result ≡ are_digits_of_base base text.now }
 {
     !text.is_empty() && all_digits(base, text)
 }
 
 /// Whether a text is digits of a base with single `_` between them.
 #[tactic(auto, unfolding(crate::specs::Rules::are_grouped_digits))]
-fn are_grouped(base: u32, text: &[u8]) -> bool
+fn are_grouped_digits(base: u32, text: &[u8]) -> bool
     requires low { 2 ≤ base }
     requires high { base ≤ 36 }
     ensures { result ≡ are_grouped_digits base text.now }
 {
     text.split(|b| *b == b'_')
-        .all(|part| are_digits(base, part))
+        .all(|part| are_digits_of_base(base, part))
 }
 
 /// How many digits a text has; `_` is none.
@@ -164,7 +164,7 @@ pub(crate) fn based_rule(token: &[u8]) -> Option<u16>
     ensures { result ≡ based_rule token.now }
 {
     let digits = behind_prefix(token);
-    if !are_grouped(base_of(token), digits) {
+    if !are_grouped_digits(base_of(token), digits) {
         Some(WRONG_LITERAL)
     } else if digit_count(digits) > most_digits(token) {
         Some(OUT_OF_RANGE)
@@ -240,7 +240,7 @@ pub(crate) fn decimal_rule(token: &[u8], minus: bool) -> Option<u16>
 
 /// A value where it is at most `greatest`; a value may be cut off above every limit.
 #[tactic(auto, unfolding(crate::specs::Rules::value_up_to))]
-fn within(greatest: u32, value: Option<u64>) -> Option<u32>
+fn value_up_to(greatest: u32, value: Option<u64>) -> Option<u32>
     ensures { (exact : Option ℕ) → value ≡ option_map (λ n. min n value_cap) exact
         → result ≡ value_up_to greatest exact }
 {
@@ -262,5 +262,5 @@ pub fn milliseconds_within(greatest: u32, parts: &[u8]) -> Option<u32>
     ensures value { result ≡ value_up_to greatest (milliseconds time_units parts.now) }
     ensures bound { IfSome result (λ n. n ≤ greatest) }
 {
-    within(greatest, milliseconds(&UNITS, parts))
+    value_up_to(greatest, milliseconds(&UNITS, parts))
 }

@@ -7,25 +7,25 @@ ghost use Rattle.stl_lexer.specs.Tokens.{FindsNextToken, is_minus};
 
 use crate::bytes::{behind, first_letter};
 use crate::entries::{
-    longest_based, longest_mark, longest_number_literal, longest_sign_word, longest_time_literal,
-    longest_title,
+    longest_based_literal, longest_mark, longest_number_literal, longest_sign_word,
+    longest_time_literal, longest_title,
 };
 use crate::gaps::{Position, newlines, skip_gap};
 use crate::kinds::{Token, TokenKind};
-use crate::quotes::{longest_attribute, longest_characters, longest_quoted};
+use crate::quotes::{longest_attribute, longest_characters, longest_quoted_name};
 use crate::rules::{fault_of, rule_without_form};
 use crate::words::{longest_local, longest_number, longest_word};
 use plc_base::Refusal;
 
 /// The kind and the length of a token.
 #[derive(Clone, Copy, Debug, PartialEq, Eq)]
-pub(crate) struct Found {
+pub(crate) struct FoundToken {
     pub(crate) kind: TokenKind,
     pub(crate) length: usize,
 }
 
 /// The better of the token found so far and one of a further kind.
-fn better(best: Option<Found>, kind: TokenKind, length: Option<usize>) -> Option<Found>
+fn better(best: Option<FoundToken>, kind: TokenKind, length: Option<usize>) -> Option<FoundToken>
     ensures { result ≡ better_of best kind length }
 {
     let Some(length) = length else {
@@ -33,20 +33,20 @@ fn better(best: Option<Found>, kind: TokenKind, length: Option<usize>) -> Option
     };
     match best {
         Some(found) if length < found.length => Some(found),
-        _ => Some(Found { kind, length }),
+        _ => Some(FoundToken { kind, length }),
     }
 }
 
 /// The longest token at the front of the text, of all kinds.
-fn longest_of_all(text: &[u8]) -> Option<Found>
+fn longest_of_all(text: &[u8]) -> Option<FoundToken>
     ensures { FindsToken text.now result }
 {
     let word = better(None, TokenKind::Word, longest_word(text));
     let number = better(word, TokenKind::Number, longest_number(text));
-    let quoted = better(number, TokenKind::Quoted, longest_quoted(text));
+    let quoted = better(number, TokenKind::Quoted, longest_quoted_name(text));
     let local = better(quoted, TokenKind::Local, longest_local(text));
     let characters = better(local, TokenKind::Characters, longest_characters(text));
-    let based = better(characters, TokenKind::Based, longest_based(text));
+    let based = better(characters, TokenKind::Based, longest_based_literal(text));
     let literal = better(
         based,
         TokenKind::NumberLiteral,
@@ -61,7 +61,7 @@ fn longest_of_all(text: &[u8]) -> Option<Found>
 
 /// The longest token where a word of this size stands at the front: with no `#` behind it, the word
 /// or a title.
-fn word_token(text: &[u8], size: usize) -> Option<Found>
+fn word_token(text: &[u8], size: usize) -> Option<FoundToken>
     requires word { IsLongestOfForm (λ s after. is_word s) text.now size }
     requires within { size ≤ length text.now }
     ensures { FindsToken text.now result }
@@ -69,7 +69,7 @@ fn word_token(text: &[u8], size: usize) -> Option<Found>
     if first_letter(behind(text, size)) == b'#' {
         return longest_of_all(text);
     }
-    let word = Some(Found {
+    let word = Some(FoundToken {
         kind: TokenKind::Word,
         length: size,
     });
@@ -78,19 +78,19 @@ fn word_token(text: &[u8], size: usize) -> Option<Found>
 
 /// The longest token where a number of this size stands at the front: the number, or a binary
 /// literal.
-fn number_token(text: &[u8], size: usize) -> Option<Found>
+fn number_token(text: &[u8], size: usize) -> Option<FoundToken>
     requires { IsLongestOfForm (λ s after. is_number s) text.now size }
     ensures { FindsToken text.now result }
 {
-    let number = Some(Found {
+    let number = Some(FoundToken {
         kind: TokenKind::Number,
         length: size,
     });
-    better(number, TokenKind::Based, longest_based(text))
+    better(number, TokenKind::Based, longest_based_literal(text))
 }
 
 /// The longest token where neither a word nor a number stands at the front.
-fn sign_token(text: &[u8]) -> Option<Found>
+fn sign_token(text: &[u8]) -> Option<FoundToken>
     requires word { HasNoneOfForm (λ s after. is_word s) text.now }
     requires number { HasNoneOfForm (λ s after. is_number s) text.now }
     ensures { FindsToken text.now result }
@@ -99,7 +99,7 @@ fn sign_token(text: &[u8]) -> Option<Found>
         return None;
     };
     if *first == b'"' {
-        return better(None, TokenKind::Quoted, longest_quoted(text));
+        return better(None, TokenKind::Quoted, longest_quoted_name(text));
     }
     if *first == b'#' {
         return better(None, TokenKind::Local, longest_local(text));
@@ -115,7 +115,7 @@ fn sign_token(text: &[u8]) -> Option<Found>
 }
 
 /// The longest token at the front of the text.
-fn longest_token(text: &[u8]) -> Option<Found>
+fn longest_token(text: &[u8]) -> Option<FoundToken>
     ensures { FindsToken text.now result }
 {
     if let Some(size) = longest_word(text) {

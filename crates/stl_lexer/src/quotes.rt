@@ -22,7 +22,7 @@ fn inner_run(close: u8, one_line: bool, text: &[u8]) -> usize
 }
 
 /// The length of the token that begins with an opening byte and ends with the first closing one.
-fn longest_enclosed(opening: u8, close: u8, one_line: bool, text: &[u8]) -> Option<usize>
+fn longest_enclosed_token(opening: u8, close: u8, one_line: bool, text: &[u8]) -> Option<usize>
     ensures { FindsLongest (λ s after. is_enclosed opening close one_line s) text.now result }
 {
     let [first, rest @ ..] = text else {
@@ -40,10 +40,10 @@ fn longest_enclosed(opening: u8, close: u8, one_line: bool, text: &[u8]) -> Opti
 }
 
 /// The length of the quoted name at the front of the text.
-pub(crate) fn longest_quoted(text: &[u8]) -> Option<usize>
+pub(crate) fn longest_quoted_name(text: &[u8]) -> Option<usize>
     ensures { FindsLongest (λ s after. is_quoted s) text.now result }
 {
-    let length = longest_enclosed(b'"', b'"', true, text)?;
+    let length = longest_enclosed_token(b'"', b'"', true, text)?;
     if length > 2 { Some(length) } else { None }
 }
 
@@ -51,12 +51,12 @@ pub(crate) fn longest_quoted(text: &[u8]) -> Option<usize>
 pub(crate) fn longest_characters(text: &[u8]) -> Option<usize>
     ensures { FindsLongest (λ s after. is_characters s) text.now result }
 {
-    longest_enclosed(b'\'', b'\'', true, text)
+    longest_enclosed_token(b'\'', b'\'', true, text)
 }
 
 /// The length of the attribute at the front of the text.
 pub(crate) fn longest_attribute(text: &[u8]) -> Option<usize>
     ensures { FindsLongest (λ s after. is_attribute s) text.now result }
 {
-    longest_enclosed(b'{', b'}', false, text)
+    longest_enclosed_token(b'{', b'}', false, text)
 }

@@ -1,10 +1,10 @@
 ghost use Rattle.std.specs.Prelude.{◌≡◌, ◌<◌, ◌≤◌, ℕ, true, List, length, not, position, IfSome};
 ghost use Rattle.stl_lexer.specs.declared.kinds.TokenKind.{TokenKind};
-ghost use Rattle.stl_lexer.specs.Bytes.{is_source_byte};
+ghost use Rattle.stl_lexer.specs.Bytes.{is_source_byte as is_source_byte_of};
 ghost use Rattle.stl_lexer.specs.Forms.{has_form};
 ghost use Rattle.stl_lexer.specs.Rules.{characters_rule, fault_of, rule_broken_by_token, rule_without_form};
 
-use crate::bytes::in_source;
+use crate::bytes::is_source_byte;
 use crate::kinds::{TokenKind, is_plain};
 use crate::literals::{based_rule, decimal_rule, number_rule, time_rule};
 
@@ -82,13 +82,13 @@ fn rule_of(kind: TokenKind, token: &[u8], minus: bool) -> Option<u16>
 /// The place of the first byte that no source holds.
 fn foreign_byte(kind: TokenKind, token: &[u8]) -> Option<usize>
     requires { (after : List ℕ) × (has_form kind token.now after ≡ true) }
-    ensures value { result ≡ position (λ b. not (is_source_byte b)) token.now }
+    ensures value { result ≡ position (λ b. not (is_source_byte_of b)) token.now }
     ensures within { IfSome result (λ offset. offset < length token.now) }
 {
     if is_plain(kind) {
         return None;
     }
-    token.iter().position(|b| !in_source(*b))
+    token.iter().position(|b| !is_source_byte(*b))
 }
 
 /// The first thing that is wrong with a token: its own rule, else a byte that no source holds.

@@ -1,5 +1,5 @@
 ghost use Rattle.std.specs.Prelude.{◌≤◌, length, IfSome};
-ghost use Rattle.stl_lexer.specs.Forms.{is_local, is_number, is_word};
+ghost use Rattle.stl_lexer.specs.Forms.{is_local_name, is_number, is_word};
 ghost use Rattle.stl_lexer.specs.Longest.{FindsLongest};
 
 use crate::bytes::{digit_run, is_word_start, word_run};
@@ -27,7 +27,7 @@ pub(crate) fn longest_number(text: &[u8]) -> Option<usize>
 
 /// The length of the longest local name at the front of the text.
 pub(crate) fn longest_local(text: &[u8]) -> Option<usize>
-    ensures { FindsLongest (λ s after. is_local s) text.now result }
+    ensures { FindsLongest (λ s after. is_local_name s) text.now result }
 {
     match text {
         [b'#', rest @ ..] => match longest_word(rest) {

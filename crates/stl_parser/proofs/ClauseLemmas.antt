@@ -36,7 +36,7 @@ use Rattle.stl_parser.specs.Operands.{steps_from}
 use Rattle.stl_parser.specs.Declarations.{after_colon, structure_at, declaration_of}
 use Rattle.stl_parser.specs.Statements.{statement_of}
 use Rattle.stl_parser.specs.Clauses as spec
-use Rattle.stl_parser.proofs.OptionLemmas.{mapped, chained, either, both, passed, failed, also, none_holds, weakened}
+use Rattle.stl_parser.proofs.OptionLemmas.{map_holds, chain_holds, either, both, then_holds, else_holds, also, none_holds, weaker_holds}
 use Rattle.stl_parser.proofs.AddressLemmas.{block_holds}
 use Rattle.stl_parser.proofs.OperandLemmas.{IsNamedPath, named_steps_hold}
 use Rattle.stl_parser.proofs.LiteralLemmas.{literal_holds}
@@ -97,14 +97,14 @@ named_holds : (source : List ℕ) (k : BlockKind) (tokens : List Token) →
     IfSome (spec.block_of_kind_at source k tokens) (IsHeadRest k (length tokens))
 unfolding spec.block_of_kind_at
 named_holds source k tokens =
-    chained (block_at source tokens) _ (λ r. IsAnyName r.0 × (length r.1 < length tokens)) (IsHeadRest k (length tokens))
+    chain_holds (block_at source tokens) _ (λ r. IsAnyName r.0 × (length r.1 < length tokens)) (IsHeadRest k (length tokens))
     (also (block_at source tokens) (λ r. IsAnyName r.0) (λ r. length r.1 < length tokens) (block_holds source tokens) (block_rest source tokens))
-    (λ r h. passed (spec.is_of_kind k r.0) _ (IsHeadRest k (length tokens)) (λ test. (head_name k r.0 h.0 test, h.1)))
+    (λ r h. then_holds (spec.is_of_kind k r.0) _ (IsHeadRest k (length tokens)) (λ test. (head_name k r.0 h.0 test, h.1)))
 
 result_holds : (source : List ℕ) (k : BlockKind) (tokens : List Token) → IfSome (spec.result_at source k tokens) (λ r. MayReturn k r.0)
 unfolding spec.result_at
 result_holds source kinds.Fc tokens =
-    weakened _ (λ r. Unit {0}) (λ r. MayReturn kinds.Fc r.0) (none_holds (option_and_then (λ rest. spec.result_type source rest) (after_colon source tokens)))
+    weaker_holds _ (λ r. Unit {0}) (λ r. MayReturn kinds.Fc r.0) (none_holds (option_and_then (λ rest. spec.result_type source rest) (after_colon source tokens)))
     (λ r h. tt)
 result_holds source _ tokens = refl
 
@@ -118,8 +118,8 @@ head_holds : (source : List ℕ) (p : ClausePlace) (line : ℕ) (k : BlockKind) 
     IfSome (spec.head_clause source line k tokens) (IsReadAt p (suc (length tokens)))
 unfolding spec.head_clause
 head_holds source p line k tokens =
-    chained (spec.block_of_kind_at source k tokens) _ (IsHeadRest k (length tokens)) (IsReadAt p (suc (length tokens))) (named_holds source k tokens)
-    (λ b h. mapped (spec.result_at source k b.1) _ (λ r. MayReturn k r.0 × (length r.1 ≤ length b.1)) (IsReadAt p (suc (length tokens)))
+    chain_holds (spec.block_of_kind_at source k tokens) _ (IsHeadRest k (length tokens)) (IsReadAt p (suc (length tokens))) (named_holds source k tokens)
+    (λ b h. map_holds (spec.result_at source k b.1) _ (λ r. MayReturn k r.0 × (length r.1 ≤ length b.1)) (IsReadAt p (suc (length tokens)))
     (also (spec.result_at source k b.1) (λ r. MayReturn k r.0) (λ r. length r.1 ≤ length b.1) (result_holds source k b.1)
     (result_rest source k b.1))
     (λ r l. (λ test. (h.0, l.0), return_fits k (length r.1) (suc (length tokens)) (omega (arith, h.1, l.1)))))
@@ -127,7 +127,7 @@ head_holds source p line k tokens =
 inner_end_holds : (source : List ℕ) (p : ClausePlace) (n : ℕ) (tokens : List Token) → IfSome (spec.inner_end source tokens) (IsReadAt p n)
 unfolding spec.inner_end
 inner_end_holds source p n [] = tt
-inner_end_holds source p n (t ∷ rest) = passed (is_mark source t mark.Semicolon) _ (IsReadAt p n) (λ test. (λ short. tt, tt))
+inner_end_holds source p n (t ∷ rest) = then_holds (is_mark source t mark.Semicolon) _ (IsReadAt p n) (λ test. (λ short. tt, tt))
 
 structure_end_holds : (source : List ℕ) (p : ClausePlace) (n : ℕ) (tokens : List Token) → IfSome (spec.structure_end source p tokens) (IsReadAt p n)
 unfolding spec.structure_end
@@ -145,7 +145,7 @@ head_word_holds : (source : List ℕ) (p : ClausePlace) (w : HeadWord) (n : ℕ)
     IfSome (spec.head_word_clause source p w rest) (IsReadAt p n)
 unfolding spec.head_word_clause
 head_word_holds source p w n rest =
-    mapped (spec.head_word_at source w rest) _ (λ r. Unit {0}) (IsReadAt p n) (none_holds (spec.head_word_at source w rest))
+    map_holds (spec.head_word_at source w rest) _ (λ r. Unit {0}) (IsReadAt p n) (none_holds (spec.head_word_at source w rest))
     (λ r h. (λ short. tt, tt))
 
 base_kind : (k : BlockKind) → spec.is_base_kind k ≡ true → (k ≡ kinds.Fb) ⊎ (k ≡ kinds.Udt)
@@ -160,8 +160,8 @@ base_name (block.Quoted name) h test = tt
 based_holds : (source : List ℕ) (p : ClausePlace) (n : ℕ) (tokens : List Token) → IfSome (spec.base_block_at source tokens) (IsReadAt p n)
 unfolding spec.base_block_at
 based_holds source p n tokens =
-    chained (block_at source tokens) _ (λ r. IsAnyName r.0) (IsReadAt p n) (block_holds source tokens)
-    (λ r h. passed (spec.is_base_block r.0) _ (IsReadAt p n) (λ test. (λ short. base_name r.0 h test, tt)))
+    chain_holds (block_at source tokens) _ (λ r. IsAnyName r.0) (IsReadAt p n) (block_holds source tokens)
+    (λ r h. then_holds (spec.is_base_block r.0) _ (IsReadAt p n) (λ test. (λ short. base_name r.0 h test, tt)))
 
 true_is_no_false : {A : Type 0} (b : Bool) → b ≡ false → b ≡ true → A
 true_is_no_false true h k = cc
@@ -171,8 +171,8 @@ structure_clause_holds : (source : List ℕ) (p : ClausePlace) (n : ℕ) (tokens
     IfSome (spec.structure_clause source p tokens) (IsReadAt p n)
 unfolding spec.structure_clause
 structure_clause_holds source p n tokens =
-    failed (spec.takes_parameters p) _ (IsReadAt p n)
-    (λ test. mapped (structure_at source (spec.level_at p) tokens) _ (λ r. IsDeclaration r.0) (IsReadAt p n)
+    else_holds (spec.takes_parameters p) _ (IsReadAt p n)
+    (λ test. map_holds (structure_at source (spec.level_at p) tokens) _ (λ r. IsDeclaration r.0) (IsReadAt p n)
     (structure_holds source (spec.level_at p) tokens)
     (λ r h. (λ short. (h, λ takes. true_is_no_false (spec.takes_parameters p) test takes), tt)))
 
@@ -185,15 +185,15 @@ declaration_clause_holds : (source : List ℕ) (p : ClausePlace) (n : ℕ) (toke
     IfSome (spec.declaration_clause source p tokens) (IsReadInside p n)
 unfolding spec.declaration_clause
 declaration_clause_holds source p n tokens =
-    chained (declaration_of source (spec.level_at p) tokens) _ IsDeclaration (IsReadInside p n) (declaration_holds source (spec.level_at p) tokens)
-    (λ d h. failed (spec.takes_parameters p && not (is_elementary d)) _ (IsReadInside p n)
+    chain_holds (declaration_of source (spec.level_at p) tokens) _ IsDeclaration (IsReadInside p n) (declaration_holds source (spec.level_at p) tokens)
+    (λ d h. else_holds (spec.takes_parameters p && not (is_elementary d)) _ (IsReadInside p n)
     (λ test. (λ short. (h, elementary (spec.takes_parameters p) (is_elementary d) test), tt)))
 
 statement_clause_holds : (source : List ℕ) (p : ClausePlace) (line : ℕ) (tokens : List Token) →
     IfSome (spec.statement_clause source line tokens) (IsReadInside p (length tokens))
 unfolding spec.statement_clause
 statement_clause_holds source p line tokens =
-    mapped (statement_of source line tokens) _ (IsReadStatement (length tokens)) (IsReadInside p (length tokens)) (statement_holds source line tokens)
+    map_holds (statement_of source line tokens) _ (IsReadStatement (length tokens)) (IsReadInside p (length tokens)) (statement_holds source line tokens)
     (λ r h. h)
 
 abbrev IsNamedStep : PathStep → Type 0
@@ -210,22 +210,22 @@ value_behind_holds : (source : List ℕ) (line : ℕ) (path : List PathStep) (to
 unfolding spec.value_behind
 value_behind_holds source line path [] h = tt
 value_behind_holds source line path (assign ∷ value) h =
-    passed (is_mark source assign mark.Assign) _ IsSetting
-    (λ test. mapped (literal_of source value) _ IsLiteral IsSetting (literal_holds source value) (λ v k. (h.0, h.1, k)))
+    then_holds (is_mark source assign mark.Assign) _ IsSetting
+    (λ test. map_holds (literal_of source value) _ IsLiteral IsSetting (literal_holds source value) (λ v k. (h.0, h.1, k)))
 
 setting_holds : (source : List ℕ) (line : ℕ) (tokens : List Token) → IfSome (spec.setting_of source line tokens) IsSetting
 unfolding spec.setting_of
 setting_holds source line [] = tt
 setting_holds source line (t ∷ rest) =
-    chained (spec.first_step source t t.kind) _ IsNamedStep IsSetting (first_step_holds source t t.kind)
-    (λ first h. chained (steps_from source (first ∷ []) rest) _ (λ r. IsNamedPath r.0) IsSetting (named_steps_hold source (first ∷ []) rest h)
+    chain_holds (spec.first_step source t t.kind) _ IsNamedStep IsSetting (first_step_holds source t t.kind)
+    (λ first h. chain_holds (steps_from source (first ∷ []) rest) _ (λ r. IsNamedPath r.0) IsSetting (named_steps_hold source (first ∷ []) rest h)
     (λ r k. value_behind_holds source line r.0 r.1 k))
 
 setting_clause_holds : (source : List ℕ) (p : ClausePlace) (line n : ℕ) (tokens : List Token) →
     IfSome (spec.setting_clause source line tokens) (IsReadInside p n)
 unfolding spec.setting_clause
 setting_clause_holds source p line n tokens =
-    mapped (spec.setting_of source line tokens) _ IsSetting (IsReadInside p n) (setting_holds source line tokens) (λ s h. (λ short. h, tt))
+    map_holds (spec.setting_of source line tokens) _ IsSetting (IsReadInside p n) (setting_holds source line tokens) (λ s h. (λ short. h, tt))
 
 inside_holds : (source : List ℕ) (p : ClausePlace) (line : ℕ) (tokens : List Token) →
     IfSome (spec.inside_clause source p line tokens) (IsReadInside p (length tokens))
@@ -239,7 +239,7 @@ place_holds : (source : List ℕ) (tokens : List Token) → IfSome (spec.semicol
 unfolding spec.semicolon_place
 place_holds source tokens =
     let place = position_or_len (λ t. is_mark source t mark.Semicolon) tokens in
-    passed (nat_lt place (length tokens)) _ (λ n. n < length tokens) (λ test. ltb-true place (length tokens) test)
+    then_holds (nat_lt place (length tokens)) _ (λ n. n < length tokens) (λ test. ltb-true place (length tokens) test)
 
 cut_lengths : (n : ℕ) (tokens : List Token) → n < length tokens → length (take n tokens) + 1 + length (drop (n + 1) tokens) ≤ length tokens
 cut_lengths n tokens within = omega (arith, within, length-take n tokens, length-drop (n + 1) tokens)
@@ -248,7 +248,7 @@ cut_holds : (source : List ℕ) (tokens : List Token) →
     IfSome (spec.until_semicolon source tokens) (λ cut. length cut.0 + 1 + length cut.1 ≤ length tokens)
 unfolding spec.until_semicolon
 cut_holds source tokens =
-    mapped (spec.semicolon_place source tokens) _ (λ n. n < length tokens) (λ cut. length cut.0 + 1 + length cut.1 ≤ length tokens)
+    map_holds (spec.semicolon_place source tokens) _ (λ n. n < length tokens) (λ cut. length cut.0 + 1 + length cut.1 ≤ length tokens)
     (place_holds source tokens) (λ n within. cut_lengths n tokens within)
 
 fits_with : (n inside left : ℕ) (c : Clause) → inside + 1 + left ≤ n → FitsInside inside c → Fits n c left
@@ -260,9 +260,9 @@ semicolon_holds : (source : List ℕ) (p : ClausePlace) (line : ℕ) (tokens : L
     IfSome (spec.semicolon_clause source p line tokens) (IsReadAt p (length tokens))
 unfolding spec.semicolon_clause
 semicolon_holds source p line tokens =
-    chained (spec.until_semicolon source tokens) _ (λ cut. length cut.0 + 1 + length cut.1 ≤ length tokens) (IsReadAt p (length tokens))
+    chain_holds (spec.until_semicolon source tokens) _ (λ cut. length cut.0 + 1 + length cut.1 ≤ length tokens) (IsReadAt p (length tokens))
     (cut_holds source tokens)
-    (λ cut all. mapped (spec.inside_clause source p line cut.0) _ (IsReadInside p (length cut.0)) (IsReadAt p (length tokens))
+    (λ cut all. map_holds (spec.inside_clause source p line cut.0) _ (IsReadInside p (length cut.0)) (IsReadAt p (length tokens))
     (inside_holds source p line cut.0) (λ c h. (h.0, fits_with (length tokens) (length cut.0) (length cut.1) c.0 all h.1)))
 
 plain_holds : (source : List ℕ) (p : ClausePlace) (line : ℕ) (tokens : List Token) →

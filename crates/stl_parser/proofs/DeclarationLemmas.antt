@@ -28,7 +28,7 @@ use Rattle.stl_parser.specs.declared.clauses.Clause.TheVariants as clause
 use Rattle.stl_parser.specs.declared.places.ClausePlace.TheVariants as place
 use Rattle.stl_parser.specs.declared.tables.Keyword.TheVariants as keyword
 use Rattle.stl_parser.specs.Clauses as spec
-use Rattle.stl_parser.proofs.OptionLemmas.{both, chained, either, failed, mapped, none_holds, passed}
+use Rattle.stl_parser.proofs.OptionLemmas.{both, chain_holds, either, else_holds, map_holds, none_holds, then_holds}
 
 -- what a declaration of such a type owes
 abbrev pub Owes : ElementType → Type 0 → Type 0
@@ -51,9 +51,9 @@ head_takes : (source : List ℕ) (line : ℕ) (k : BlockKind) (tokens : List Tok
     → IfSome (spec.head_clause source line k tokens) (IsTaken n)
 unfolding spec.head_clause
 head_takes source line k tokens n =
-    chained (spec.block_of_kind_at source k tokens) _ (λ b. Unit {0}) (IsTaken n)
+    chain_holds (spec.block_of_kind_at source k tokens) _ (λ b. Unit {0}) (IsTaken n)
     (none_holds (spec.block_of_kind_at source k tokens))
-    (λ b h. mapped (spec.result_at source k b.1) _ (λ r. Unit {0}) (IsTaken n)
+    (λ b h. map_holds (spec.result_at source k b.1) _ (λ r. Unit {0}) (IsTaken n)
     (none_holds (spec.result_at source k b.1)) (λ r l. tt))
 
 inner_end_takes : (source : List ℕ) (tokens : List Token) (n : ℕ)
@@ -61,7 +61,7 @@ inner_end_takes : (source : List ℕ) (tokens : List Token) (n : ℕ)
 unfolding spec.inner_end
 inner_end_takes source [] n = tt
 inner_end_takes source (t ∷ rest) n =
-    passed (is_mark source t mark.Semicolon) _ (IsTaken n) (λ test. tt)
+    then_holds (is_mark source t mark.Semicolon) _ (IsTaken n) (λ test. tt)
 
 structure_end_takes : (source : List ℕ) (p : ClausePlace) (tokens : List Token) (n : ℕ)
     → IfSome (spec.structure_end source p tokens) (IsTaken n)
@@ -80,16 +80,16 @@ head_word_takes : (source : List ℕ) (p : ClausePlace) (w : HeadWord) (rest : L
     → IfSome (spec.head_word_clause source p w rest) (IsTaken n)
 unfolding spec.head_word_clause
 head_word_takes source p w rest n =
-    mapped (spec.head_word_at source w rest) _ (λ r. Unit {0}) (IsTaken n)
+    map_holds (spec.head_word_at source w rest) _ (λ r. Unit {0}) (IsTaken n)
     (none_holds (spec.head_word_at source w rest)) (λ r h. tt)
 
 based_takes : (source : List ℕ) (tokens : List Token) (n : ℕ)
     → IfSome (spec.base_block_at source tokens) (IsTaken n)
 unfolding spec.base_block_at
 based_takes source tokens n =
-    chained (block_at source tokens) _ (λ r. Unit {0}) (IsTaken n)
+    chain_holds (block_at source tokens) _ (λ r. Unit {0}) (IsTaken n)
     (none_holds (block_at source tokens))
-    (λ r h. passed (spec.is_base_block r.0) _ (IsTaken n) (λ test. tt))
+    (λ r h. then_holds (spec.is_base_block r.0) _ (IsTaken n) (λ test. tt))
 
 -- a declaration that is all of these tokens
 abbrev Insides : ℕ → Clause → Type 0
@@ -108,24 +108,24 @@ declaration_takes : (source : List ℕ) (p : ClausePlace) (tokens : List Token)
 unfolding spec.declaration_clause
 declaration_takes source p [] = rw (no_declaration source (spec.level_at p)) tt
 declaration_takes source p (t ∷ tokens) =
-    chained (declaration_of source (spec.level_at p) (t ∷ tokens)) _ (λ d. Unit {0})
+    chain_holds (declaration_of source (spec.level_at p) (t ∷ tokens)) _ (λ d. Unit {0})
     (IsTakenInside (length (t ∷ tokens)))
     (none_holds (declaration_of source (spec.level_at p) (t ∷ tokens)))
-    (λ d h. failed (spec.takes_parameters p && not (is_elementary d)) _
+    (λ d h. else_holds (spec.takes_parameters p && not (is_elementary d)) _
     (IsTakenInside (length (t ∷ tokens))) (λ test. omega arith))
 
 statement_takes : (source : List ℕ) (line : ℕ) (tokens : List Token) (n : ℕ)
     → IfSome (spec.statement_clause source line tokens) (IsTakenInside n)
 unfolding spec.statement_clause
 statement_takes source line tokens n =
-    mapped (statement_of source line tokens) _ (λ r. Unit {0}) (IsTakenInside n)
+    map_holds (statement_of source line tokens) _ (λ r. Unit {0}) (IsTakenInside n)
     (none_holds (statement_of source line tokens)) (λ r h. tt)
 
 setting_takes : (source : List ℕ) (line : ℕ) (tokens : List Token) (n : ℕ)
     → IfSome (spec.setting_clause source line tokens) (IsTakenInside n)
 unfolding spec.setting_clause
 setting_takes source line tokens n =
-    mapped (spec.setting_of source line tokens) _ (λ r. Unit {0}) (IsTakenInside n)
+    map_holds (spec.setting_of source line tokens) _ (λ r. Unit {0}) (IsTakenInside n)
     (none_holds (spec.setting_of source line tokens)) (λ r h. tt)
 
 inside_takes : (source : List ℕ) (p : ClausePlace) (line : ℕ) (tokens : List Token)
@@ -143,7 +143,7 @@ place_takes : (source : List ℕ) (tokens : List Token)
 unfolding spec.semicolon_place
 place_takes source tokens =
     let place = position_or_len (λ t. is_mark source t mark.Semicolon) tokens in
-    passed (nat_lt place (length tokens)) _ (λ n. n < length tokens)
+    then_holds (nat_lt place (length tokens)) _ (λ n. n < length tokens)
     (λ test. ltb-true place (length tokens) test)
 
 cut_lengths : (n : ℕ) (tokens : List Token) → n < length tokens
@@ -156,7 +156,7 @@ cut_takes : (source : List ℕ) (tokens : List Token)
     (λ cut. length cut.0 + 1 + length cut.1 ≤ length tokens)
 unfolding spec.until_semicolon
 cut_takes source tokens =
-    mapped (spec.semicolon_place source tokens) _ (λ n. n < length tokens)
+    map_holds (spec.semicolon_place source tokens) _ (λ n. n < length tokens)
     (λ cut. length cut.0 + 1 + length cut.1 ≤ length tokens)
     (place_takes source tokens) (λ n within. cut_lengths n tokens within)
 
@@ -169,10 +169,10 @@ semicolon_takes : (source : List ℕ) (p : ClausePlace) (line : ℕ) (tokens : L
     → IfSome (spec.semicolon_clause source p line tokens) (IsTaken (length tokens))
 unfolding spec.semicolon_clause
 semicolon_takes source p line tokens =
-    chained (spec.until_semicolon source tokens) _
+    chain_holds (spec.until_semicolon source tokens) _
     (λ cut. length cut.0 + 1 + length cut.1 ≤ length tokens) (IsTaken (length tokens))
     (cut_takes source tokens)
-    (λ cut all. mapped (spec.inside_clause source p line cut.0) _ (IsTakenInside (length cut.0))
+    (λ cut all. map_holds (spec.inside_clause source p line cut.0) _ (IsTakenInside (length cut.0))
     (IsTaken (length tokens)) (inside_takes source p line cut.0)
     (λ c h. takes_with (length tokens) (length cut.0) (length cut.1) c.0 all h))
 
@@ -182,14 +182,14 @@ structure_takes : (source : List ℕ) (p : ClausePlace) (tokens : List Token) (n
 unfolding spec.structure_clause structure_at
 structure_takes source p tokens n =
     let level = spec.level_at p in
-    failed (spec.takes_parameters p) _ (IsTaken n)
-    (λ test. mapped (structure_at source level tokens) _
+    else_holds (spec.takes_parameters p) _ (IsTaken n)
+    (λ test. map_holds (structure_at source level tokens) _
     (λ r. Owes r.0.of.of (length r.1 + 2 ≤ n)) (IsTaken n)
-    (chained (declared_name_at source tokens) _ (λ d. Unit {0})
+    (chain_holds (declared_name_at source tokens) _ (λ d. Unit {0})
     (λ r. Owes r.0.of.of (length r.1 + 2 ≤ n)) (none_holds (declared_name_at source tokens))
-    (λ d h. chained (arrays_at source d.1) _ (λ a. Unit {0})
+    (λ d h. chain_holds (arrays_at source d.1) _ (λ a. Unit {0})
     (λ r. Owes r.0.of.of (length r.1 + 2 ≤ n)) (none_holds (arrays_at source d.1))
-    (λ a k. mapped (after_struct source a.1) _ (λ rest. Unit {0})
+    (λ a k. map_holds (after_struct source a.1) _ (λ rest. Unit {0})
     (λ r. Owes r.0.of.of (length r.1 + 2 ≤ n)) (none_holds (after_struct source a.1))
     (λ rest l. tt))))
     (λ r h. h))

@@ -21,7 +21,7 @@ use Rattle.stl_ast.specs.declared.operands.Operand.TheVariants as operand
 use Rattle.stl_ast.specs.declared.operands.PathHead.TheVariants as head
 use Rattle.stl_ast.specs.Literals.{IsDecimal, IsLiteral}
 use Rattle.stl_ast.specs.Operands.{IsNumber, IsDataBlockName, IsBitOf, IsStep, AreSteps, BeginsByName, IsOperand}
-use Rattle.stl_ast.specs.Sizes.{op_size}
+use Rattle.stl_ast.specs.Sizes.{operand_ops_size}
 use Rattle.stl_ast.specs.Statements.{is_nothing, is_label, names_called_block}
 use Rattle.stl_parser.specs.declared.keywords.ClauseWord.TheVariants as key
 use Rattle.stl_lexer.specs.declared.marks.Mark.TheVariants as mark
@@ -29,12 +29,12 @@ use Rattle.stl_parser.specs.declared.tables.AddressKind.{AddressKind}
 use Rattle.stl_parser.specs.declared.tables.AddressKind.TheVariants as address
 use Rattle.stl_parser.specs.Terminals.{has_kind, is_mark, is_key}
 use Rattle.stl_parser.specs.Tables.{look_up, addresses, flags, registers}
-use Rattle.stl_parser.specs.Numbers.{number_of, int_at}
+use Rattle.stl_parser.specs.Numbers.{number_of_token, int_at}
 use Rattle.stl_parser.specs.Parts.{complete_reading}
 use Rattle.stl_parser.specs.Literals.{text_between_quotes, literal_of}
 use Rattle.stl_parser.specs.Addresses.{address_at, bit_of}
 use Rattle.stl_parser.specs.Operands as spec
-use Rattle.stl_parser.proofs.OptionLemmas.{mapped, chained, either, both, passed, none_holds, weakened, whole_holds, parts_hold, all_push}
+use Rattle.stl_parser.proofs.OptionLemmas.{map_holds, chain_holds, either, both, then_holds, none_holds, weaker_holds, whole_holds, parts_hold, all_push}
 use Rattle.stl_parser.proofs.RangeLemmas.{number_holds, FirstIsDecimal, int_holds}
 use Rattle.stl_parser.proofs.LiteralLemmas.{literal_holds}
 use Rattle.stl_parser.proofs.AddressLemmas.{address_holds, bit_holds, place_bit_holds, register_pointer_holds, IsPointerPlace, memory_pointer_holds}
@@ -42,7 +42,7 @@ use Rattle.stl_parser.proofs.AddressLemmas.{address_holds, bit_holds, place_bit_
 -- an operand that is read from a token and `more` behind it: no block that is called, no label, and not nothing
 abbrev pub IsRead : ℕ → Operand → Type 0
 IsRead more o =
-    IsOperand o × (op_size o ≤ 8 + 4 * more) × (names_called_block o ≡ false) × (is_label o ≡ false) × (is_nothing o ≡ false)
+    IsOperand o × (operand_ops_size o ≤ 8 + 4 * more) × (names_called_block o ≡ false) × (is_label o ≡ false) × (is_nothing o ≡ false)
 
 abbrev FirstIsStep : PathStep × List Token → Type 0
 FirstIsStep r = IsStep r.0
@@ -50,27 +50,27 @@ FirstIsStep r = IsStep r.0
 index_holds : (source : List ℕ) (at : _) (tokens : List Token) → IsDecimal at → IfSome (spec.index_end source at tokens) FirstIsStep
 unfolding spec.index_end
 index_holds source at [] h = tt
-index_holds source at (close ∷ rest) h = passed (is_mark source close mark.CloseBracket) _ FirstIsStep (λ test. h)
+index_holds source at (close ∷ rest) h = then_holds (is_mark source close mark.CloseBracket) _ FirstIsStep (λ test. h)
 
 name_step_holds : (source : List ℕ) (tokens : List Token) → IfSome (spec.name_step source tokens) FirstIsStep
 unfolding spec.name_step
 name_step_holds source [] = tt
-name_step_holds source (w ∷ rest) = passed (has_kind w kind.Word) _ FirstIsStep (λ test. tt)
+name_step_holds source (w ∷ rest) = then_holds (has_kind w kind.Word) _ FirstIsStep (λ test. tt)
 
 step_holds : (source : List ℕ) (tokens : List Token) → IfSome (spec.step_at source tokens) FirstIsStep
 unfolding spec.step_at
 step_holds source [] = tt
 step_holds source (t ∷ rest) =
     both (is_mark source t mark.Dot) _ _ FirstIsStep (name_step_holds source rest)
-    (passed (is_mark source t mark.OpenBracket) _ FirstIsStep
-    (λ test. chained (int_at source rest) _ FirstIsDecimal FirstIsStep (int_holds source rest) (λ r h. index_holds source r.0 r.1 h)))
+    (then_holds (is_mark source t mark.OpenBracket) _ FirstIsStep
+    (λ test. chain_holds (int_at source rest) _ FirstIsDecimal FirstIsStep (int_holds source rest) (λ r h. index_holds source r.0 r.1 h)))
 
 steps_hold : (source : List ℕ) (first : List PathStep) (tokens : List Token) → AreSteps first →
     IfSome (spec.steps_from source first tokens) (λ r. AreSteps r.0)
 unfolding spec.steps_from
 steps_hold source first tokens h =
     parts_hold (spec.path_end source) (spec.step_at source) first (length tokens) tokens (λ xs ts. AreSteps xs) AreSteps h
-    (λ xs ts k. weakened (spec.step_at source ts) FirstIsStep (λ r. AreSteps (xs ++ r.0 ∷ [])) (step_holds source ts)
+    (λ xs ts k. weaker_holds (spec.step_at source ts) FirstIsStep (λ r. AreSteps (xs ++ r.0 ∷ [])) (step_holds source ts)
     (λ r one. all_push IsStep xs r.0 k one)) (λ xs ts k. k)
 
 begins_push : (xs : List PathStep) (x : PathStep) → BeginsByName xs → BeginsByName (xs ++ x ∷ [])
@@ -87,13 +87,13 @@ pub named_steps_hold : (source : List ℕ) (first : List PathStep) (tokens : Lis
 unfolding spec.steps_from
 named_steps_hold source first tokens h =
     parts_hold (spec.path_end source) (spec.step_at source) first (length tokens) tokens (λ xs ts. IsNamedPath xs) IsNamedPath h
-    (λ xs ts k. weakened (spec.step_at source ts) FirstIsStep (λ r. IsNamedPath (xs ++ r.0 ∷ [])) (step_holds source ts)
+    (λ xs ts k. weaker_holds (spec.step_at source ts) FirstIsStep (λ r. IsNamedPath (xs ++ r.0 ∷ [])) (step_holds source ts)
     (λ r one. (begins_push xs r.0 k.0, all_push IsStep xs r.0 k.1 one))) (λ xs ts k. k)
 
 path_holds : (source name : List ℕ) (tokens : List Token) (more : ℕ) → IfSome (spec.path_of source (head.Local name) tokens) (IsRead more)
 unfolding spec.path_of
 path_holds source name tokens more =
-    mapped (complete_reading (spec.steps_from source [] tokens)) _ AreSteps (IsRead more)
+    map_holds (complete_reading (spec.steps_from source [] tokens)) _ AreSteps (IsRead more)
     (whole_holds (spec.steps_from source [] tokens) AreSteps (steps_hold source [] tokens tt))
     (λ steps h. (h, omega arith, refl, refl, refl))
 
@@ -101,7 +101,7 @@ area_holds : (source : List ℕ) (area : Letters) (w : Width) (byte : ℕ) (rest
     IfSome (spec.area_operand source area w byte rest) (IsRead more)
 unfolding spec.area_operand
 area_holds source area w byte rest more h =
-    mapped (spec.place_bit source w rest) _ (IsBitOf w) (IsRead more) (place_bit_holds source w rest)
+    map_holds (spec.place_bit source w rest) _ (IsBitOf w) (IsRead more) (place_bit_holds source w rest)
     (λ bit k. ((tt, h, k), omega arith, refl, refl, refl))
 
 abbrev IsPlaceOfWidth : Width × ℕ × ℕ → Type 0
@@ -111,13 +111,13 @@ place_holds : (source : List ℕ) (a : AddressKind) (byte : ℕ) (rest : List To
     IfSome (spec.place_of_data_address source a byte rest) IsPlaceOfWidth
 unfolding spec.place_of_data_address
 place_holds source (address.Area letters.Db w) byte rest h =
-    mapped (spec.place_bit source w rest) _ (IsBitOf w) IsPlaceOfWidth (place_bit_holds source w rest) (λ bit k. (h, k))
+    map_holds (spec.place_bit source w rest) _ (IsBitOf w) IsPlaceOfWidth (place_bit_holds source w rest) (λ bit k. (h, k))
 place_holds source _ byte rest h = tt
 
 block_place_holds : (source : List ℕ) (tokens : List Token) → IfSome (spec.block_place source tokens) IsPlaceOfWidth
 unfolding spec.block_place
 block_place_holds source tokens =
-    chained (address_at source tokens) _ (λ r. IsNumber r.1 × (length r.2 < length tokens)) IsPlaceOfWidth (address_holds source tokens)
+    chain_holds (address_at source tokens) _ (λ r. IsNumber r.1 × (length r.2 < length tokens)) IsPlaceOfWidth (address_holds source tokens)
     (λ r h. place_holds source r.0 r.1 r.2 h.0)
 
 block_path_holds : (source : List ℕ) (name : BlockName) (tokens : List Token) (more : ℕ) → IsDataBlockName name → 1 ≤ more →
@@ -125,8 +125,8 @@ block_path_holds : (source : List ℕ) (name : BlockName) (tokens : List Token) 
 unfolding spec.block_path
 block_path_holds source name [] more h some = tt
 block_path_holds source name (w ∷ rest) more h some =
-    passed (has_kind w kind.Word) _ (IsRead more)
-    (λ test. mapped (complete_reading (spec.steps_from source (step.Named (text_of source w) ∷ []) rest)) _ IsNamedPath (IsRead more)
+    then_holds (has_kind w kind.Word) _ (IsRead more)
+    (λ test. map_holds (complete_reading (spec.steps_from source (step.Named (text_of source w) ∷ []) rest)) _ IsNamedPath (IsRead more)
     (whole_holds (spec.steps_from source (step.Named (text_of source w) ∷ []) rest) IsNamedPath
     (named_steps_hold source (step.Named (text_of source w) ∷ []) rest (tt, (tt, tt))))
     (λ steps k. ((h, k.0, k.1), omega (arith, some), refl, refl, refl)))
@@ -136,7 +136,7 @@ in_block_holds : (source : List ℕ) (name : BlockName) (tokens : List Token) (m
 unfolding spec.operand_in_block
 in_block_holds source name tokens more h some =
     either (option_map (λ p. operand.Direct (Some name) letters.Db p.0 p.1 p.2) (spec.block_place source tokens)) _ (IsRead more)
-    (mapped (spec.block_place source tokens) _ IsPlaceOfWidth (IsRead more) (block_place_holds source tokens)
+    (map_holds (spec.block_place source tokens) _ IsPlaceOfWidth (IsRead more) (block_place_holds source tokens)
     (λ p k. (((h, refl), k.0, k.1), omega (arith, some), refl, refl, refl)))
     (block_path_holds source name tokens more h some)
 
@@ -145,7 +145,7 @@ behind_block_holds : (source : List ℕ) (name : BlockName) (tokens : List Token
 unfolding spec.operand_behind_block
 behind_block_holds source name [] more h some = tt
 behind_block_holds source name (dot ∷ rest) more h some =
-    passed (is_mark source dot mark.Dot) _ (IsRead more) (λ test. in_block_holds source name rest more h some)
+    then_holds (is_mark source dot mark.Dot) _ (IsRead more) (λ test. in_block_holds source name rest more h some)
 
 data_block_holds : (source : List ℕ) (n : ℕ) (tokens : List Token) (more : ℕ) → IsNumber n → length tokens ≤ more →
     IfSome (spec.data_block_operand source n tokens) (IsRead more)
@@ -170,14 +170,14 @@ by_register_holds : (source : List ℕ) (area : Option Letters) (w : Width) (tok
     IfSome (spec.operand_by_register source area w tokens) (IsRead more)
 unfolding spec.operand_by_register
 by_register_holds source area w tokens more fits =
-    mapped (spec.register_pointer source tokens) _ _ (IsRead more) (register_pointer_holds source tokens)
+    map_holds (spec.register_pointer source tokens) _ _ (IsRead more) (register_pointer_holds source tokens)
     (λ p h. ((h.0, h.1), omega (arith, fits, h.2), refl, refl, refl))
 
 number_by_holds : (source : List ℕ) (what : Numbered) (tokens : List Token) (more : ℕ) →
     IfSome (spec.operand_by_memory_number source what tokens) (IsRead more)
 unfolding spec.operand_by_memory_number
 number_by_holds source what tokens more =
-    mapped (spec.memory_pointer source false tokens) _ IsPointerPlace (IsRead more) (memory_pointer_holds source false tokens)
+    map_holds (spec.memory_pointer source false tokens) _ IsPointerPlace (IsRead more) (memory_pointer_holds source false tokens)
     (λ p h. (h, omega arith, refl, refl, refl))
 
 area_by_holds : (source : List ℕ) (area : Letters) (w : Width) (tokens : List Token) (more : ℕ) → length tokens ≤ more →
@@ -185,7 +185,7 @@ area_by_holds : (source : List ℕ) (area : Letters) (w : Width) (tokens : List 
 unfolding spec.operand_by_pointer
 area_by_holds source area w tokens more fits =
     either (option_map (λ p. operand.ByMemory area w p.0 p.1) (spec.memory_pointer source true tokens)) _ (IsRead more)
-    (mapped (spec.memory_pointer source true tokens) _ IsPointerPlace (IsRead more) (memory_pointer_holds source true tokens)
+    (map_holds (spec.memory_pointer source true tokens) _ IsPointerPlace (IsRead more) (memory_pointer_holds source true tokens)
     (λ p h. (h, omega arith, refl, refl, refl)))
     (by_register_holds source (Some area) w tokens more (omega (arith, fits)))
 
@@ -202,28 +202,28 @@ area_pointer_holds : (source : List ℕ) (a : AddressKind) (byte : ℕ) (rest : 
     IfSome (spec.area_pointer source a byte rest) (IsRead more)
 unfolding spec.area_pointer
 area_pointer_holds source (address.Area area width.Bit) byte rest more h =
-    mapped (bit_of source rest) _ (λ bit. bit ≤ 7) (IsRead more) (bit_holds source rest) (λ bit k. ((h, k), omega arith, refl, refl, refl))
+    map_holds (bit_of source rest) _ (λ bit. bit ≤ 7) (IsRead more) (bit_holds source rest) (λ bit k. ((h, k), omega arith, refl, refl, refl))
 area_pointer_holds source _ byte rest more h = tt
 
 plain_pointer_holds : (source : List ℕ) (tokens : List Token) (more : ℕ) → IfSome (spec.plain_pointer source tokens) (IsRead more)
 unfolding spec.plain_pointer
 plain_pointer_holds source [] more = tt
 plain_pointer_holds source (n ∷ rest) more =
-    chained (number_of source n) _ IsNumber (IsRead more) (number_holds source n)
-    (λ byte h. mapped (bit_of source rest) _ (λ bit. bit ≤ 7) (IsRead more) (bit_holds source rest)
+    chain_holds (number_of_token source n) _ IsNumber (IsRead more) (number_holds source n)
+    (λ byte h. map_holds (bit_of source rest) _ (λ bit. bit ≤ 7) (IsRead more) (bit_holds source rest)
     (λ bit k. ((h, k), omega arith, refl, refl, refl)))
 
 pointer_holds : (source : List ℕ) (tokens : List Token) (more : ℕ) → IfSome (spec.pointer_constant_operand source tokens) (IsRead more)
 unfolding spec.pointer_constant_operand
 pointer_holds source tokens more =
     either (spec.plain_pointer source tokens) _ (IsRead more) (plain_pointer_holds source tokens more)
-    (chained (address_at source tokens) _ (λ r. IsNumber r.1 × (length r.2 < length tokens)) (IsRead more) (address_holds source tokens)
+    (chain_holds (address_at source tokens) _ (λ r. IsNumber r.1 × (length r.2 < length tokens)) (IsRead more) (address_holds source tokens)
     (λ r h. area_pointer_holds source r.0 r.1 r.2 more h.0))
 
-condition_holds : (source : List ℕ) (t : Token) (more : ℕ) → IfSome (spec.condition_of source t) (IsRead more)
-unfolding spec.condition_of
+condition_holds : (source : List ℕ) (t : Token) (more : ℕ) → IfSome (spec.condition_word_operand source t) (IsRead more)
+unfolding spec.condition_word_operand
 condition_holds source t more =
-    mapped (look_up flags (text_of source t)) _ (λ f. Unit {0}) (IsRead more) (none_holds (look_up flags (text_of source t)))
+    map_holds (look_up flags (text_of source t)) _ (λ f. Unit {0}) (IsRead more) (none_holds (look_up flags (text_of source t)))
     (λ f h. (tt, omega arith, refl, refl, refl))
 
 other_if_holds : (name : List ℕ) (o : Option Bool) (more : ℕ) → IfSome (spec.register_name_operand_if name o) (IsRead more)
@@ -238,7 +238,7 @@ other_holds source t more = other_if_holds (text_of source t) (look_up registers
 alone_holds : (source : List ℕ) (t : Token) (rest : List Token) (more : ℕ) → IfSome (spec.lone_word_operand source t rest) (IsRead more)
 unfolding spec.lone_word_operand
 alone_holds source t [] more =
-    either (spec.condition_of source t) _ (IsRead more) (condition_holds source t more) (other_holds source t more)
+    either (spec.condition_word_operand source t) _ (IsRead more) (condition_holds source t more) (other_holds source t more)
 alone_holds source t (u ∷ rest) more = tt
 
 plain_path_holds : (source : List ℕ) (t : Token) (rest : List Token) (more : ℕ) → IfSome (spec.plain_path source t rest) (IsRead more)
@@ -247,8 +247,8 @@ plain_path_holds source t rest more =
     both (spec.is_operand_word source t) _ _ (IsRead more) tt (path_holds source (text_of source t) rest more)
 
 sized_holds : (source : List ℕ) (t : Token) (rest : List Token) (more : ℕ) → length rest ≤ more →
-    IfSome (spec.sized_by_register source t rest) (IsRead more)
-unfolding spec.sized_by_register
+    IfSome (spec.operand_by_sized_register source t rest) (IsRead more)
+unfolding spec.operand_by_sized_register
 sized_holds source t rest more fits =
     both (is_key source t key.B) _ _ (IsRead more) (by_register_holds source None width.Byte rest more (omega (arith, fits)))
     (both (is_key source t key.W) _ _ (IsRead more) (by_register_holds source None width.Word rest more (omega (arith, fits)))
@@ -258,14 +258,14 @@ with_number_holds : (source : List ℕ) (tokens : List Token) (more : ℕ) → l
     IfSome (spec.operand_with_number source tokens) (IsRead more)
 unfolding spec.operand_with_number
 with_number_holds source tokens more fits =
-    chained (address_at source tokens) _ (λ r. IsNumber r.1 × (length r.2 < length tokens)) (IsRead more) (address_holds source tokens)
+    chain_holds (address_at source tokens) _ (λ r. IsNumber r.1 × (length r.2 < length tokens)) (IsRead more) (address_holds source tokens)
     (λ r h. direct_holds source r.0 r.1 r.2 more h.0 (omega (arith, fits, h.1)))
 
 with_pointer_holds : (source : List ℕ) (t : Token) (rest : List Token) (more : ℕ) → length rest ≤ more →
     IfSome (spec.operand_with_pointer source t rest) (IsRead more)
 unfolding spec.operand_with_pointer
 with_pointer_holds source t rest more fits =
-    chained (look_up addresses (text_of source t)) _ (λ a. Unit {0}) (IsRead more) (none_holds (look_up addresses (text_of source t)))
+    chain_holds (look_up addresses (text_of source t)) _ (λ a. Unit {0}) (IsRead more) (none_holds (look_up addresses (text_of source t)))
     (λ a h. indirect_holds source a rest more fits)
 
 word_operand_holds : (source : List ℕ) (t : Token) (rest tokens : List Token) (more : ℕ) → length rest ≤ more → length tokens ≤ more + 1 →
@@ -275,7 +275,7 @@ word_operand_holds source t rest tokens more fits all =
     either (spec.lone_word_operand source t rest) _ (IsRead more) (alone_holds source t rest more)
     (either (spec.operand_with_number source tokens) _ (IsRead more) (with_number_holds source tokens more all)
     (either (spec.operand_with_pointer source t rest) _ (IsRead more) (with_pointer_holds source t rest more fits)
-    (either (spec.sized_by_register source t rest) _ (IsRead more) (sized_holds source t rest more fits)
+    (either (spec.operand_by_sized_register source t rest) _ (IsRead more) (sized_holds source t rest more fits)
     (plain_path_holds source t rest more))))
 
 quoted_operand_holds : (source : List ℕ) (t : Token) (rest : List Token) (more : ℕ) → length rest ≤ more →
@@ -315,7 +315,7 @@ pub operand_holds : (source : List ℕ) (t : Token) (rest : List Token) → IfSo
 unfolding spec.operand_of
 operand_holds source t rest =
     either (option_map operand.Constant (literal_of source (t ∷ rest))) _ (IsRead (length rest))
-    (mapped (literal_of source (t ∷ rest)) _ IsLiteral (IsRead (length rest)) (literal_holds source (t ∷ rest))
+    (map_holds (literal_of source (t ∷ rest)) _ IsLiteral (IsRead (length rest)) (literal_holds source (t ∷ rest))
     (λ l h. (h, omega arith, refl, refl, refl)))
     (kind_holds source t rest (t ∷ rest) t.kind (length rest) (omega arith) (omega arith))
 

@@ -11,15 +11,15 @@ use Rattle.std.specs.Option.{option_map, option_or, option_and_then, IfSome}
 use Rattle.std.proofs.lemmas.Option.{same_Some}
 use Rattle.plc_base.proofs.TruthLemmas.{and_first, and_second}
 
-pub mapped : {A B : Type 0} (o : Option A) (f : A → B) (Q : A → Type 0) (P : B → Type 0) → IfSome o Q → ((x : A) → Q x → P (f x)) →
+pub map_holds : {A B : Type 0} (o : Option A) (f : A → B) (Q : A → Type 0) (P : B → Type 0) → IfSome o Q → ((x : A) → Q x → P (f x)) →
     IfSome (option_map f o) P
-mapped None f Q P h k = tt
-mapped (Some x) f Q P h k = k x h
+map_holds None f Q P h k = tt
+map_holds (Some x) f Q P h k = k x h
 
-pub chained : {A B : Type 0} (o : Option A) (f : A → Option B) (Q : A → Type 0) (P : B → Type 0) → IfSome o Q →
+pub chain_holds : {A B : Type 0} (o : Option A) (f : A → Option B) (Q : A → Type 0) (P : B → Type 0) → IfSome o Q →
     ((x : A) → Q x → IfSome (f x) P) → IfSome (option_and_then f o) P
-chained None f Q P h k = tt
-chained (Some x) f Q P h k = k x h
+chain_holds None f Q P h k = tt
+chain_holds (Some x) f Q P h k = k x h
 
 pub either : {A : Type 0} (a b : Option A) (P : A → Type 0) → IfSome a P → IfSome b P → IfSome (option_or a b) P
 either None b P h k = k
@@ -31,9 +31,9 @@ both true x y P h k = h
 both false x y P h k = k
 
 -- where a test passes
-pub passed : {A : Type 0} (b : Bool) (x : Option A) (P : A → Type 0) → (b ≡ true → IfSome x P) → IfSome (if b then x else None) P
-passed true x P h = h refl
-passed false x P h = tt
+pub then_holds : {A : Type 0} (b : Bool) (x : Option A) (P : A → Type 0) → (b ≡ true → IfSome x P) → IfSome (if b then x else None) P
+then_holds true x P h = h refl
+then_holds false x P h = tt
 
 pub none_holds : {A : Type 0} (o : Option A) → IfSome o (λ x. Unit {0})
 none_holds None = tt
@@ -44,13 +44,13 @@ some_holds None x P found h = cc
 some_holds (Some y) x P found h = subst P (same_Some y x found) h
 
 -- what is shown of a value that is found
-pub found : {A : Type 0} (o : Option A) (P : A → Type 0) → ((x : A) → o ≡ Some x → P x) → IfSome o P
-found None P k = tt
-found (Some x) P k = k x refl
+pub search_holds : {A : Type 0} (o : Option A) (P : A → Type 0) → ((x : A) → o ≡ Some x → P x) → IfSome o P
+search_holds None P k = tt
+search_holds (Some x) P k = k x refl
 
-pub weakened : {A : Type 0} (o : Option A) (P Q : A → Type 0) → IfSome o P → ((x : A) → P x → Q x) → IfSome o Q
-weakened None P Q h k = tt
-weakened (Some x) P Q h k = k x h
+pub weaker_holds : {A : Type 0} (o : Option A) (P Q : A → Type 0) → IfSome o P → ((x : A) → P x → Q x) → IfSome o Q
+weaker_holds None P Q h k = tt
+weaker_holds (Some x) P Q h k = k x h
 
 -- and what else is known of it
 pub also : {A : Type 0} (o : Option A) (P Q : A → Type 0) → IfSome o P → ((x : A) → o ≡ Some x → Q x) → IfSome o (λ x. P x × Q x)
@@ -73,11 +73,11 @@ pub parts_hold : {X Y : Type 0} (end : List Token → Option Y) (part : List Tok
     ((xs : List X) (ts : List Token) → R xs ts → Q xs) → IfSome (parts_from end part read n tokens) (λ r. Q r.0)
 unfolding parts_from
 parts_hold end part read zero tokens R Q h more last =
-    mapped (end tokens) _ (λ y. Unit {0}) (λ r. Q r.0) (none_holds (end tokens)) (λ y k. last read tokens h)
+    map_holds (end tokens) _ (λ y. Unit {0}) (λ r. Q r.0) (none_holds (end tokens)) (λ y k. last read tokens h)
 parts_hold end part read (suc n) tokens R Q h more last =
     either (option_map (λ y. (read, y)) (end tokens)) _ (λ r. Q r.0)
-    (mapped (end tokens) _ (λ y. Unit {0}) (λ r. Q r.0) (none_holds (end tokens)) (λ y k. last read tokens h))
-    (chained (part tokens) _ (λ r. R (read ++ r.0 ∷ []) r.1) (λ r. Q r.0) (more read tokens h)
+    (map_holds (end tokens) _ (λ y. Unit {0}) (λ r. Q r.0) (none_holds (end tokens)) (λ y k. last read tokens h))
+    (chain_holds (part tokens) _ (λ r. R (read ++ r.0 ∷ []) r.1) (λ r. Q r.0) (more read tokens h)
     (λ r k. parts_hold end part (read ++ r.0 ∷ []) n r.1 R Q k more last))
 
 pub all_push : {X : Type 0} (P : X → Type 0) (xs : List X) (x : X) → AllByRecursion P xs → P x → AllByRecursion P (xs ++ x ∷ [])
@@ -100,6 +100,6 @@ entry_passes (e ∷ es) word test all =
     (and_first (test e.1) _ all) (entry_passes es word test (and_second (test e.1) _ all))
 
 -- where a test fails
-pub failed : {A : Type 0} (b : Bool) (x : Option A) (P : A → Type 0) → (b ≡ false → IfSome x P) → IfSome (if b then None else x) P
-failed true x P h = tt
-failed false x P h = h refl
+pub else_holds : {A : Type 0} (b : Bool) (x : Option A) (P : A → Type 0) → (b ≡ false → IfSome x P) → IfSome (if b then None else x) P
+else_holds true x P h = tt
+else_holds false x P h = h refl

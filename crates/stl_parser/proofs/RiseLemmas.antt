@@ -40,7 +40,7 @@ use Rattle.stl_parser.specs.Addresses.{glued_letters_and_number, separate_letter
 use Rattle.stl_parser.specs.Clauses.{skip_semicolon, until_semicolon, behind_note, block_of_kind_at, result_type, result_at, head_clause, inner_end, structure_end, keyword_clause, version_at, colon_and_word_at, head_word_at, head_word_clause, base_block_at, structure_clause, declaration_clause, statement_clause, setting_clause, inside_clause, semicolon_clause, plain_clause, other_clause, free_word_clause, word_clause, clause_by_kind, clause_at, takes_parameters, level_at, is_base_block, setting_of}
 use Rattle.stl_parser.specs.Declarations.{after_attribute, after_colon, declared_name_at, after_struct, structure_at}
 use Rattle.stl_parser.specs.Lines.{AreRisingLines, statement_lines_of, LinesRise, LinesRiseAcross}
-use Rattle.stl_parser.specs.Numbers.{signed_number_at, int_at, number_of}
+use Rattle.stl_parser.specs.Numbers.{signed_number_at, int_at, number_of_token}
 use Rattle.stl_parser.specs.Tables.{look_up}
 use Rattle.stl_parser.specs.Parts.{parts_from}
 use Rattle.stl_parser.specs.Source.{IsTree, ReadsClauses}
@@ -49,7 +49,7 @@ use Rattle.stl_parser.specs.Statements.{labelled_statement, unlabelled_statement
 use Rattle.stl_parser.specs.Terminals.{has_kind, is_mark, is_key}
 use Rattle.stl_parser.specs.Types.{array_end, array_high, array_at, arrays_end, arrays_at, no_array}
 use Rattle.stl_parser.proofs.FrameLemmas.{right_clause}
-use Rattle.stl_parser.proofs.OptionLemmas.{mapped, chained, either, both, passed, none_holds, some_holds, failed}
+use Rattle.stl_parser.proofs.OptionLemmas.{map_holds, chain_holds, either, both, then_holds, none_holds, some_holds, else_holds}
 
 -- a clause that has a line has this one
 abbrev ClauseIsOnLine : ℕ → Clause → Type 0
@@ -63,20 +63,20 @@ FirstIsOnLine n r = ClauseIsOnLine n r.0
 statement_line : (source : List ℕ) (line : ℕ) (tokens : List Token) → IfSome (statement_of source line tokens) (λ r. r.0.line ≡ line)
 unfolding statement_of labelled_statement unlabelled_statement
 statement_line source line [] = refl
-statement_line source line (w ∷ []) = mapped _ _ (λ i. Unit {0}) (λ r. r.0.line ≡ line) (none_holds _) (λ i h. refl)
+statement_line source line (w ∷ []) = map_holds _ _ (λ i. Unit {0}) (λ r. r.0.line ≡ line) (none_holds _) (λ i h. refl)
 statement_line source line (w ∷ colon ∷ rest) =
     both (has_kind w kind.Word && is_mark source colon mark.Colon) (labelled_statement source line w rest) (unlabelled_statement source line (w ∷ colon ∷ rest)) (λ r. r.0.line ≡ line)
-    (mapped _ _ (λ i. Unit {0}) (λ r. r.0.line ≡ line) (none_holds _) (λ i h. refl))
-    (mapped _ _ (λ i. Unit {0}) (λ r. r.0.line ≡ line) (none_holds _) (λ i h. refl))
+    (map_holds _ _ (λ i. Unit {0}) (λ r. r.0.line ≡ line) (none_holds _) (λ i h. refl))
+    (map_holds _ _ (λ i. Unit {0}) (λ r. r.0.line ≡ line) (none_holds _) (λ i h. refl))
 
 inside_line : (source : List ℕ) (p : ClausePlace) (line : ℕ) (inside : List Token) → IfSome (inside_clause source p line inside) (FirstIsOnLine line)
 unfolding inside_clause declaration_clause statement_clause setting_clause
 inside_line source p line inside =
     either (declaration_clause source p inside) (option_or (statement_clause source line inside) (setting_clause source line inside)) (FirstIsOnLine line)
-    (chained _ _ (λ d. Unit {0}) (FirstIsOnLine line) (none_holds _) (λ d h. failed (takes_parameters p && not (is_elementary d)) (Some (clause.Declares d, false)) (FirstIsOnLine line) (λ t. tt)))
+    (chain_holds _ _ (λ d. Unit {0}) (FirstIsOnLine line) (none_holds _) (λ d h. else_holds (takes_parameters p && not (is_elementary d)) (Some (clause.Declares d, false)) (FirstIsOnLine line) (λ t. tt)))
     (either (statement_clause source line inside) (setting_clause source line inside) (FirstIsOnLine line)
-    (mapped (statement_of source line inside) _ (λ r. r.0.line ≡ line) (FirstIsOnLine line) (statement_line source line inside) (λ r h. h))
-    (mapped (setting_of source line inside) (λ s. (clause.Sets s, false)) (λ s. Unit {0}) (FirstIsOnLine line) (none_holds (setting_of source line inside)) (λ s h. tt)))
+    (map_holds (statement_of source line inside) _ (λ r. r.0.line ≡ line) (FirstIsOnLine line) (statement_line source line inside) (λ r h. h))
+    (map_holds (setting_of source line inside) (λ s. (clause.Sets s, false)) (λ s. Unit {0}) (FirstIsOnLine line) (none_holds (setting_of source line inside)) (λ s h. tt)))
 
 -- what holds of tokens and of the end of any such holds of what follows a clause
 module _ (P : List Token → Type 0) (closed : (t : Token) (ts : List Token) → P (t ∷ ts) → P ts) where
@@ -97,57 +97,57 @@ module _ (P : List Token → Type 0) (closed : (t : Token) (ts : List Token) →
   glued {X = X} table text rest h =
       let letters = look_up table (take (letter_count text) text) in
       let digits = decimal_up_to (greatest_number false) (drop (letter_count text) text) in
-      chained letters _ (λ x. Unit {0}) (Third {X = X}) (none_holds letters)
-      (λ x k. mapped digits (λ n. (x, n, rest)) (λ n. Unit {0}) (Third {X = X}) (none_holds digits) (λ n l. h))
+      chain_holds letters _ (λ x. Unit {0}) (Third {X = X}) (none_holds letters)
+      (λ x k. map_holds digits (λ n. (x, n, rest)) (λ n. Unit {0}) (Third {X = X}) (none_holds digits) (λ n l. h))
 
   separate : {X : Type 0} (table : List (List ℕ × X)) (source text : List ℕ) (rest : List Token) → P rest → IfSome (separate_letters_and_number table source text rest) Third
   unfolding separate_letters_and_number
   separate table source text [] h = tt
   separate {X = X} table source text (n ∷ rest) h =
       let letters = look_up table text in
-      chained letters _ (λ x. Unit {0}) (Third {X = X}) (none_holds letters)
-      (λ x k. mapped (number_of source n) (λ m. (x, m, rest)) (λ m. Unit {0}) (Third {X = X}) (none_holds (number_of source n)) (λ m l. closed n rest h))
+      chain_holds letters _ (λ x. Unit {0}) (Third {X = X}) (none_holds letters)
+      (λ x k. map_holds (number_of_token source n) (λ m. (x, m, rest)) (λ m. Unit {0}) (Third {X = X}) (none_holds (number_of_token source n)) (λ m l. closed n rest h))
 
   numbered : {X : Type 0} (table : List (List ℕ × X)) (source : List ℕ) (tokens : List Token) → P tokens → IfSome (letters_and_number_at table source tokens) Third
   unfolding letters_and_number_at
   numbered table source [] h = tt
   numbered table source (w ∷ rest) h =
-      passed (has_kind w kind.Word) _ Third
+      then_holds (has_kind w kind.Word) _ Third
       (λ is. either (glued_letters_and_number table (text_of source w) rest) (separate_letters_and_number table source (text_of source w) rest) Third
       (glued table (text_of source w) rest (closed w rest h)) (separate table source (text_of source w) rest (closed w rest h)))
 
   quoted : (source : List ℕ) (tokens : List Token) → P tokens → IfSome (quoted_block_at source tokens) Behind
   unfolding quoted_block_at
   quoted source [] h = tt
-  quoted source (t ∷ rest) h = passed (has_kind t kind.Quoted) _ Behind (λ is. closed t rest h)
+  quoted source (t ∷ rest) h = then_holds (has_kind t kind.Quoted) _ Behind (λ is. closed t rest h)
 
   block : (source : List ℕ) (tokens : List Token) → P tokens → IfSome (block_at source tokens) Behind
   unfolding block_at block_number_at
   block source tokens h =
       either _ (quoted_block_at source tokens) Behind
-      (mapped (block_number_at source tokens) _ Third Behind (numbered _ source tokens h) (λ r k. k)) (quoted source tokens h)
+      (map_holds (block_number_at source tokens) _ Third Behind (numbered _ source tokens h) (λ r k. k)) (quoted source tokens h)
 
   named : (source : List ℕ) (k : BlockKind) (tokens : List Token) → P tokens → IfSome (block_of_kind_at source k tokens) Behind
   unfolding block_of_kind_at
   named source k tokens h =
-      chained (block_at source tokens) _ Behind Behind (block source tokens h) (λ r i. passed _ (Some r) Behind (λ is. i))
+      chain_holds (block_at source tokens) _ Behind Behind (block source tokens h) (λ r i. then_holds _ (Some r) Behind (λ is. i))
 
   colon : (source : List ℕ) (tokens : List Token) → P tokens → IfSome (after_colon source tokens) P
   unfolding after_colon
   colon source [] h = tt
-  colon source (t ∷ rest) h = passed (is_mark source t mark.Colon) (Some rest) P (λ is. closed t rest h)
+  colon source (t ∷ rest) h = then_holds (is_mark source t mark.Colon) (Some rest) P (λ is. closed t rest h)
 
   type_behind : (source : List ℕ) (tokens : List Token) → P tokens → IfSome (result_type source tokens) Behind
   unfolding result_type
   type_behind source [] h = tt
   type_behind source (t ∷ rest) h =
       both (is_key source t key.Void) (Some (None, rest)) _ Behind (closed t rest h)
-      (mapped _ _ (λ k. Unit {0}) Behind (none_holds _) (λ k i. closed t rest h))
+      (map_holds _ _ (λ k. Unit {0}) Behind (none_holds _) (λ k i. closed t rest h))
 
   result : (source : List ℕ) (k : BlockKind) (tokens : List Token) → P tokens → IfSome (result_at source k tokens) Behind
   unfolding result_at
   result source kinds.Fc tokens h =
-      chained (after_colon source tokens) _ P Behind (colon source tokens h) (λ rest k. type_behind source rest k)
+      chain_holds (after_colon source tokens) _ P Behind (colon source tokens h) (λ rest k. type_behind source rest k)
   result source _ tokens h = h
 
   semicolon_skipped : (source : List ℕ) (tokens : List Token) → P tokens → P (skip_semicolon source tokens)
@@ -171,46 +171,46 @@ module _ (P : List Token → Type 0) (closed : (t : Token) (ts : List Token) →
   unfolding signed_number_at
   signed source sign [] h = tt
   signed source sign (t ∷ rest) h =
-      both (is_mark source sign mark.Minus) _ _ Behind (mapped _ _ (λ n. Unit {0}) Behind (none_holds _) (λ n k. closed t rest h))
-      (passed (is_mark source sign mark.Plus) _ Behind (λ is. mapped _ _ (λ n. Unit {0}) Behind (none_holds _) (λ n k. closed t rest h)))
+      both (is_mark source sign mark.Minus) _ _ Behind (map_holds _ _ (λ n. Unit {0}) Behind (none_holds _) (λ n k. closed t rest h))
+      (then_holds (is_mark source sign mark.Plus) _ Behind (λ is. map_holds _ _ (λ n. Unit {0}) Behind (none_holds _) (λ n k. closed t rest h)))
 
   int_behind : (source : List ℕ) (tokens : List Token) → P tokens → IfSome (int_at source tokens) Behind
   unfolding int_at
   int_behind source [] h = tt
   int_behind source (t ∷ rest) h =
-      either _ (signed_number_at source t rest) Behind (mapped _ _ (λ n. Unit {0}) Behind (none_holds _) (λ n k. closed t rest h))
+      either _ (signed_number_at source t rest) Behind (map_holds _ _ (λ n. Unit {0}) Behind (none_holds _) (λ n k. closed t rest h))
       (signed source t rest (closed t rest h))
 
   array_ended : (source : List ℕ) (low high : ℤ) (tokens : List Token) → P tokens → IfSome (array_end source low high tokens) Behind
   unfolding array_end
   array_ended source low high [] h = tt
   array_ended source low high (a ∷ []) h = tt
-  array_ended source low high (a ∷ b ∷ rest) h = passed (is_mark source a mark.CloseBracket && is_key source b key.Of) _ Behind (λ is. closed b rest (closed a (b ∷ rest) h))
+  array_ended source low high (a ∷ b ∷ rest) h = then_holds (is_mark source a mark.CloseBracket && is_key source b key.Of) _ Behind (λ is. closed b rest (closed a (b ∷ rest) h))
 
   array_upper : (source : List ℕ) (low : ℤ) (tokens : List Token) → P tokens → IfSome (array_high source low tokens) Behind
   unfolding array_high
   array_upper source low [] h = tt
   array_upper source low (t ∷ rest) h =
-      passed (is_mark source t mark.DotDot) _ Behind
-      (λ is. chained (int_at source rest) _ Behind Behind (int_behind source rest (closed t rest h)) (λ r k. array_ended source low r.0 r.1 k))
+      then_holds (is_mark source t mark.DotDot) _ Behind
+      (λ is. chain_holds (int_at source rest) _ Behind Behind (int_behind source rest (closed t rest h)) (λ r k. array_ended source low r.0 r.1 k))
 
   array : (source : List ℕ) (tokens : List Token) → P tokens → IfSome (array_at source tokens) Behind
   unfolding array_at
   array source [] h = tt
   array source (a ∷ []) h = tt
   array source (a ∷ b ∷ rest) h =
-      passed _ _ Behind
-      (λ is. chained (int_at source rest) _ Behind Behind (int_behind source rest (closed b rest (closed a (b ∷ rest) h)))
+      then_holds _ _ Behind
+      (λ is. chain_holds (int_at source rest) _ Behind Behind (int_behind source rest (closed b rest (closed a (b ∷ rest) h)))
       (λ r k. array_upper source r.0 r.1 k))
 
   parts : {X : Type 0} (end : List Token → Option (List Token)) (part : List Token → Option (X × List Token)) (read : List X) (n : ℕ) (tokens : List Token)
       → ((ts : List Token) → P ts → IfSome (end ts) P) → ((ts : List Token) → P ts → IfSome (part ts) Behind) → P tokens
       → IfSome (parts_from end part read n tokens) Behind
   unfolding parts_from
-  parts end part read zero tokens j k h = mapped (end tokens) (λ y. (read, y)) P Behind (j tokens h) (λ y i. i)
+  parts end part read zero tokens j k h = map_holds (end tokens) (λ y. (read, y)) P Behind (j tokens h) (λ y i. i)
   parts end part read (suc n) tokens j k h =
-      either (option_map (λ y. (read, y)) (end tokens)) _ Behind (mapped (end tokens) (λ y. (read, y)) P Behind (j tokens h) (λ y i. i))
-      (chained (part tokens) _ Behind Behind (k tokens h) (λ r i. parts end part (read ++ r.0 ∷ []) n r.1 j k i))
+      either (option_map (λ y. (read, y)) (end tokens)) _ Behind (map_holds (end tokens) (λ y. (read, y)) P Behind (j tokens h) (λ y i. i))
+      (chain_holds (part tokens) _ Behind Behind (k tokens h) (λ r i. parts end part (read ++ r.0 ∷ []) n r.1 j k i))
 
   arrays : (source : List ℕ) (tokens : List Token) → P tokens → IfSome (arrays_at source tokens) Behind
   unfolding arrays_at arrays_end
@@ -236,24 +236,24 @@ module _ (P : List Token → Type 0) (closed : (t : Token) (ts : List Token) →
   unfolding declared_name_at
   declared source [] h = tt
   declared source (w ∷ rest) h =
-      passed (has_kind w kind.Word) _ Behind
-      (λ is. mapped (after_colon source (after_attribute rest)) _ P Behind (colon source (after_attribute rest) (attribute rest (closed w rest h))) (λ y k. k))
+      then_holds (has_kind w kind.Word) _ Behind
+      (λ is. map_holds (after_colon source (after_attribute rest)) _ P Behind (colon source (after_attribute rest) (attribute rest (closed w rest h))) (λ y k. k))
 
   struct : (source : List ℕ) (tokens : List Token) → P tokens → IfSome (after_struct source tokens) P
   unfolding after_struct
   struct source [] h = tt
-  struct source (t ∷ rest) h = passed (is_key source t key.Struct) (Some rest) P (λ is. closed t rest h)
+  struct source (t ∷ rest) h = then_holds (is_key source t key.Struct) (Some rest) P (λ is. closed t rest h)
 
   structure : (source : List ℕ) (level : ℕ) (tokens : List Token) → P tokens → IfSome (structure_at source level tokens) Behind
   unfolding structure_at
   structure source level tokens h =
-      chained (declared_name_at source tokens) _ Behind Behind (declared source tokens h)
-      (λ d i. chained (arrays_at source d.1) _ Behind Behind (arrays source d.1 i)
-      (λ a j. mapped (after_struct source a.1) _ P Behind (struct source a.1 j) (λ rest k. k)))
+      chain_holds (declared_name_at source tokens) _ Behind Behind (declared source tokens h)
+      (λ d i. chain_holds (arrays_at source d.1) _ Behind Behind (arrays source d.1 i)
+      (λ a j. map_holds (after_struct source a.1) _ P Behind (struct source a.1 j) (λ rest k. k)))
 
   until : (source : List ℕ) (tokens : List Token) → P tokens → IfSome (until_semicolon source tokens) Behind
   unfolding until_semicolon
-  until source tokens h = mapped _ _ (λ n. Unit {0}) Behind (none_holds _) (λ n k. dropped (n + 1) tokens h)
+  until source tokens h = map_holds _ _ (λ n. Unit {0}) Behind (none_holds _) (λ n k. dropped (n + 1) tokens h)
 
   head_word_behind : (source : List ℕ) (w : HeadWord) (tokens : List Token) → P tokens → IfSome (head_word_at source w tokens) P
   unfolding head_word_at version_at colon_and_word_at
@@ -263,10 +263,10 @@ module _ (P : List Token → Type 0) (closed : (t : Token) (ts : List Token) →
   head_word_behind source head_word.Version (a ∷ b ∷ []) h = tt
   head_word_behind source head_word.Version (a ∷ b ∷ c ∷ []) h = tt
   head_word_behind source head_word.Version (a ∷ b ∷ c ∷ d ∷ rest) h =
-      passed _ (Some rest) P (λ is. closed d rest (closed c (d ∷ rest) (closed b (c ∷ d ∷ rest) (closed a (b ∷ c ∷ d ∷ rest) h))))
+      then_holds _ (Some rest) P (λ is. closed d rest (closed c (d ∷ rest) (closed b (c ∷ d ∷ rest) (closed a (b ∷ c ∷ d ∷ rest) h))))
   head_word_behind source head_word.Named [] h = tt
   head_word_behind source head_word.Named (a ∷ []) h = tt
-  head_word_behind source head_word.Named (a ∷ b ∷ rest) h = passed _ (Some rest) P (λ is. closed b rest (closed a (b ∷ rest) h))
+  head_word_behind source head_word.Named (a ∷ b ∷ rest) h = then_holds _ (Some rest) P (λ is. closed b rest (closed a (b ∷ rest) h))
 
   -- a clause with this line, and what follows it
   abbrev IsRead : ℕ → Clause × List Token × Bool → Type 0
@@ -275,13 +275,13 @@ module _ (P : List Token → Type 0) (closed : (t : Token) (ts : List Token) →
   head : (n : ℕ) (source : List ℕ) (line : ℕ) (k : BlockKind) (tokens : List Token) → P tokens → IfSome (head_clause source line k tokens) (IsRead n)
   unfolding head_clause
   head n source line k tokens h =
-      chained (block_of_kind_at source k tokens) _ Behind (IsRead n) (named source k tokens h)
-      (λ b i. mapped (result_at source k b.1) _ Behind (IsRead n) (result source k b.1 i) (λ r j. (tt, j)))
+      chain_holds (block_of_kind_at source k tokens) _ Behind (IsRead n) (named source k tokens h)
+      (λ b i. map_holds (result_at source k b.1) _ Behind (IsRead n) (result source k b.1 i) (λ r j. (tt, j)))
 
   inner : (n : ℕ) (source : List ℕ) (tokens : List Token) → P tokens → IfSome (inner_end source tokens) (IsRead n)
   unfolding inner_end
   inner n source [] h = tt
-  inner n source (t ∷ rest) h = passed (is_mark source t mark.Semicolon) (Some (clause.EndStructure, rest, false)) (IsRead n) (λ is. (tt, closed t rest h))
+  inner n source (t ∷ rest) h = then_holds (is_mark source t mark.Semicolon) (Some (clause.EndStructure, rest, false)) (IsRead n) (λ is. (tt, closed t rest h))
 
   structure_ended : (n : ℕ) (source : List ℕ) (p : ClausePlace) (tokens : List Token) → P tokens → IfSome (structure_end source p tokens) (IsRead n)
   unfolding structure_end
@@ -301,21 +301,21 @@ module _ (P : List Token → Type 0) (closed : (t : Token) (ts : List Token) →
   head_word_read : (n : ℕ) (source : List ℕ) (p : ClausePlace) (w : HeadWord) (rest : List Token) → P rest → IfSome (head_word_clause source p w rest) (IsRead n)
   unfolding head_word_clause
   head_word_read n source p w rest h =
-      mapped (head_word_at source w rest) _ P (IsRead n) (head_word_behind source w rest h) (λ behind k. (tt, note source p behind k))
+      map_holds (head_word_at source w rest) _ P (IsRead n) (head_word_behind source w rest h) (λ behind k. (tt, note source p behind k))
 
   based : (n : ℕ) (source : List ℕ) (tokens : List Token) → P tokens → IfSome (base_block_at source tokens) (IsRead n)
   unfolding base_block_at
   based n source tokens h =
-      chained (block_at source tokens) _ Behind (IsRead n) (block source tokens h) (λ r k. passed (is_base_block r.0) (Some (clause.Based r.0, r.1, false)) (IsRead n) (λ is. (tt, k)))
+      chain_holds (block_at source tokens) _ Behind (IsRead n) (block source tokens h) (λ r k. then_holds (is_base_block r.0) (Some (clause.Based r.0, r.1, false)) (IsRead n) (λ is. (tt, k)))
 
   plain : (source : List ℕ) (p : ClausePlace) (line : ℕ) (tokens : List Token) → P tokens → IfSome (plain_clause source p line tokens) (IsRead line)
   unfolding plain_clause structure_clause semicolon_clause
   plain source p line tokens h =
       either (structure_clause source p tokens) (semicolon_clause source p line tokens) (IsRead line)
-      (failed (takes_parameters p) (option_map to_clause (structure_at source (level_at p) tokens)) (IsRead line)
-      (λ is. mapped (structure_at source (level_at p) tokens) to_clause Behind (IsRead line) (structure source (level_at p) tokens h) (λ r k. (tt, k))))
-      (chained (until_semicolon source tokens) _ Behind (IsRead line) (until source tokens h)
-      (λ cut k. mapped (inside_clause source p line cut.0) _ (FirstIsOnLine line) (IsRead line) (inside_line source p line cut.0) (λ c i. (i, k))))
+      (else_holds (takes_parameters p) (option_map to_clause (structure_at source (level_at p) tokens)) (IsRead line)
+      (λ is. map_holds (structure_at source (level_at p) tokens) to_clause Behind (IsRead line) (structure source (level_at p) tokens h) (λ r k. (tt, k))))
+      (chain_holds (until_semicolon source tokens) _ Behind (IsRead line) (until source tokens h)
+      (λ cut k. map_holds (inside_clause source p line cut.0) _ (FirstIsOnLine line) (IsRead line) (inside_line source p line cut.0) (λ c i. (i, k))))
     where
       to_clause : Declaration × List Token → Clause × List Token × Bool
       to_clause r = (clause.Declares r.0, r.1, false)

@@ -22,7 +22,7 @@ use Rattle.stl_ast.specs.declared.operands.Operand.TheVariants as operand
 use Rattle.stl_ast.specs.declared.statements.Actual.{Actual}
 use Rattle.stl_ast.specs.declared.statements.Statement.{Statement}
 use Rattle.stl_ast.specs.Operands.{IsNameOf, IsAnyName, IsDataBlockName, IsInstance, IsOperand}
-use Rattle.stl_ast.specs.Sizes.{op_size, code_size, statement_size}
+use Rattle.stl_ast.specs.Sizes.{operand_ops_size, code_size, statement_size}
 use Rattle.stl_ast.specs.Statements.{is_jump, is_call, has_actuals, is_empty_statement, is_nothing, is_label, names_called_block, has_instance, IsTarget, IsLabelOf, IsActual, AreActuals, IsStatement}
 use Rattle.stl_lexer.specs.declared.marks.Mark.TheVariants as mark
 use Rattle.stl_parser.specs.declared.keywords.ClauseWord.TheVariants as key
@@ -36,7 +36,7 @@ use Rattle.stl_parser.specs.Literals.{text_between_quotes}
 use Rattle.stl_parser.specs.Addresses.{block_at}
 use Rattle.stl_parser.specs.Operands.{operand_of}
 use Rattle.stl_parser.specs.Statements as spec
-use Rattle.stl_parser.proofs.OptionLemmas.{mapped, chained, either, both, passed, also, weakened, whole_holds, parts_hold, all_push, entry_passes}
+use Rattle.stl_parser.proofs.OptionLemmas.{map_holds, chain_holds, either, both, then_holds, also, weaker_holds, whole_holds, parts_hold, all_push, entry_passes}
 use Rattle.stl_parser.proofs.AddressLemmas.{block_holds}
 use Rattle.stl_parser.proofs.OperandLemmas.{IsRead, operand_holds, nothing_holds}
 use Rattle.stl_parser.proofs.LengthLemmas.{block_rest}
@@ -51,7 +51,7 @@ pub record IsInstruction (more : ℕ) (i : BareStatement) : Type 0 where
   pub some : is_empty_statement i.code ≡ false
   pub actuals : AreActuals i.actuals
   pub no_actuals : has_actuals i.code ≡ false → i.actuals ≡ []
-  pub size : op_size i.operand + 11 * length i.actuals ≤ 4 + 4 * more
+  pub size : operand_ops_size i.operand + 11 * length i.actuals ≤ 4 + 4 * more
 
 -- an instruction word goes with what may stand behind it
 abbrev goes_with : Mnemonic → OperandSyntax → Bool
@@ -89,7 +89,7 @@ true_is_no_false false h k = cc
 
 -- an instruction that calls no block
 plain_instruction : (code : Mnemonic) (o : Operand) (more : ℕ) → is_call code ≡ false → is_empty_statement code ≡ false → IsOperand o →
-    names_called_block o ≡ false → is_label o ≡ false → op_size o ≤ 4 + 4 * more → IsInstruction more (spec.statement_without_actuals code o)
+    names_called_block o ≡ false → is_label o ≡ false → operand_ops_size o ≤ 4 + 4 * more → IsInstruction more (spec.statement_without_actuals code o)
 plain_instruction code o more call some value called label size =
     record {
       value = value;
@@ -115,8 +115,8 @@ with_operand_holds : (source : List ℕ) (code : Mnemonic) (tokens : List Token)
     IfSome (spec.statement_with_operand source code tokens) (IsInstruction (length tokens))
 unfolding spec.statement_with_operand
 with_operand_holds source code [] call some =
-    weakened (option_map (spec.statement_without_actuals code) (operand_of source [])) (λ i. i ≡ spec.statement_without_actuals code operand.Nothing) (IsInstruction 0)
-    (mapped (operand_of source []) _ (λ o. o ≡ operand.Nothing) (λ i. i ≡ spec.statement_without_actuals code operand.Nothing) (nothing_read source)
+    weaker_holds (option_map (spec.statement_without_actuals code) (operand_of source [])) (λ i. i ≡ spec.statement_without_actuals code operand.Nothing) (IsInstruction 0)
+    (map_holds (operand_of source []) _ (λ o. o ≡ operand.Nothing) (λ i. i ≡ spec.statement_without_actuals code operand.Nothing) (nothing_read source)
     (λ o h. ap (spec.statement_without_actuals code) h))
     (λ i h. subst (IsInstruction 0) (sym h)
     (plain_instruction code operand.Nothing 0 call some tt refl refl (omega arith)))
@@ -124,7 +124,7 @@ with_operand_holds source code [] call some =
     nothing_read : (source : List ℕ) → IfSome (operand_of source []) (λ o. o ≡ operand.Nothing)
     nothing_read source = subst (λ found. IfSome found (λ o. o ≡ operand.Nothing)) (sym (nothing_holds source)) refl
 with_operand_holds source code (t ∷ rest) call some =
-    mapped (operand_of source (t ∷ rest)) _ (IsRead (length rest)) (IsInstruction (length (t ∷ rest))) (operand_holds source t rest)
+    map_holds (operand_of source (t ∷ rest)) _ (IsRead (length rest)) (IsInstruction (length (t ∷ rest))) (operand_holds source t rest)
     (λ o h. plain_instruction code o (length (t ∷ rest)) call some h.0 h.2 h.3 (omega (arith, h.1)))
 
 short : (n : ℕ) → nat_lt 4 n ≡ false → n ≤ 4
@@ -172,9 +172,9 @@ block_call_holds : (source : List ℕ) (code : Mnemonic) (tokens : List Token) �
     is_empty_statement code ≡ false → IfSome (spec.block_call_of source code tokens) (IsInstruction (length tokens))
 unfolding spec.block_call_of
 block_call_holds source code tokens call none some =
-    mapped (complete_reading (block_at source tokens)) _ (λ name. IsAnyName name × (1 ≤ length tokens)) (IsInstruction (length tokens))
+    map_holds (complete_reading (block_at source tokens)) _ (λ name. IsAnyName name × (1 ≤ length tokens)) (IsInstruction (length tokens))
     (whole_holds (block_at source tokens) (λ name. IsAnyName name × (1 ≤ length tokens))
-    (weakened (block_at source tokens) (FirstIsBlockName (length tokens)) (λ r. IsAnyName r.0 × (1 ≤ length tokens)) (named_holds source tokens)
+    (weaker_holds (block_at source tokens) (FirstIsBlockName (length tokens)) (λ r. IsAnyName r.0 × (1 ≤ length tokens)) (named_holds source tokens)
     (λ r h. (h.0, omega (arith, h.1)))))
     (λ name h. record {
       value = (h.0, tt);
@@ -208,8 +208,8 @@ FirstIsDataBlock n r = IsDataBlockName r.0 × (length r.1 ≤ n)
 data_block_holds : (source : List ℕ) (tokens : List Token) → IfSome (spec.data_block_at source tokens) (FirstIsDataBlock (length tokens))
 unfolding spec.data_block_at
 data_block_holds source tokens =
-    chained (block_at source tokens) _ (FirstIsBlockName (length tokens)) (FirstIsDataBlock (length tokens)) (named_holds source tokens)
-    (λ r h. passed (spec.may_be_of_kind r.0 of_kind.is_data_block) _ (FirstIsDataBlock (length tokens))
+    chain_holds (block_at source tokens) _ (FirstIsBlockName (length tokens)) (FirstIsDataBlock (length tokens)) (named_holds source tokens)
+    (λ r h. then_holds (spec.may_be_of_kind r.0 of_kind.is_data_block) _ (FirstIsDataBlock (length tokens))
     (λ test. (may_be_holds r.0 of_kind.is_data_block (λ k. k ≡ kinds.Db) h.0 is_data_block test, omega (arith, h.1))))
 
 abbrev FirstIsInstance : BlockName → ℕ → Option BlockName × List Token → Type 0
@@ -221,8 +221,8 @@ unfolding spec.instance_at
 instance_holds source name [] h = (tt, omega arith)
 instance_holds source name (t ∷ rest) h =
     both (is_mark source t mark.Comma) _ _ (FirstIsInstance name (length (t ∷ rest)))
-    (passed (spec.may_be_of_kind name of_kind.is_function_block) _ (FirstIsInstance name (length (t ∷ rest)))
-    (λ test. mapped (spec.data_block_at source rest) _ (FirstIsDataBlock (length rest)) (FirstIsInstance name (length (t ∷ rest)))
+    (then_holds (spec.may_be_of_kind name of_kind.is_function_block) _ (FirstIsInstance name (length (t ∷ rest)))
+    (λ test. map_holds (spec.data_block_at source rest) _ (FirstIsDataBlock (length rest)) (FirstIsInstance name (length (t ∷ rest)))
     (data_block_holds source rest)
     (λ r k. ((may_be_holds name of_kind.is_function_block (λ k. k ≡ kinds.Fb) h is_function_block test, k.0), omega (arith, k.1)))))
     (tt, omega arith)
@@ -235,7 +235,7 @@ value_holds : (source : List ℕ) (tokens : List Token) → IfSome (spec.value_o
 unfolding spec.value_of
 value_holds source [] = tt
 value_holds source (t ∷ rest) =
-    weakened (operand_of source (t ∷ rest)) (IsRead (length rest)) (λ o. IsValue o × (1 ≤ length (t ∷ rest))) (operand_holds source t rest)
+    weaker_holds (operand_of source (t ∷ rest)) (IsRead (length rest)) (λ o. IsValue o × (1 ≤ length (t ∷ rest))) (operand_holds source t rest)
     (λ o h. ((h.0, h.2, h.3, h.4), omega arith))
 
 -- an actual parameter takes three tokens at least
@@ -254,8 +254,8 @@ some_taken (suc n) (t ∷ ts) h = omega (arith, length-drop n ts)
 actual_holds : (source : List ℕ) (tokens : List Token) → IfSome (spec.actual_at source tokens) (FirstIsActual (length tokens))
 unfolding spec.actual_at
 actual_holds source (w ∷ assign ∷ rest) =
-    passed (has_kind w kind.Word && is_mark source assign mark.Assign) _ (FirstIsActual (length (w ∷ assign ∷ rest)))
-    (λ test. mapped (spec.value_of source (take (spec.value_length source rest) rest)) _
+    then_holds (has_kind w kind.Word && is_mark source assign mark.Assign) _ (FirstIsActual (length (w ∷ assign ∷ rest)))
+    (λ test. map_holds (spec.value_of source (take (spec.value_length source rest) rest)) _
     (λ o. IsValue o × (1 ≤ length (take (spec.value_length source rest) rest))) (FirstIsActual (length (w ∷ assign ∷ rest)))
     (value_holds source (take (spec.value_length source rest) rest))
     (λ o h. (
@@ -269,8 +269,8 @@ next_actual_holds : (source : List ℕ) (tokens : List Token) →
 unfolding spec.next_actual
 next_actual_holds source [] = tt
 next_actual_holds source (t ∷ rest) =
-    passed (is_mark source t mark.Comma) _ (λ r. IsActual r.0 × (length r.1 + 4 ≤ length (t ∷ rest)))
-    (λ test. weakened (spec.actual_at source rest) (FirstIsActual (length rest)) (λ r. IsActual r.0 × (length r.1 + 4 ≤ length (t ∷ rest)))
+    then_holds (is_mark source t mark.Comma) _ (λ r. IsActual r.0 × (length r.1 + 4 ≤ length (t ∷ rest)))
+    (λ test. weaker_holds (spec.actual_at source rest) (FirstIsActual (length rest)) (λ r. IsActual r.0 × (length r.1 + 4 ≤ length (t ∷ rest)))
     (actual_holds source rest) (λ r h. (h.0, omega (arith, h.1))))
 
 -- actual parameters, with four tokens for each
@@ -285,7 +285,7 @@ further_actuals : (source : List ℕ) (n : ℕ) (first : Actual) (left : ℕ) (t
 further_actuals source n first left tokens h fits =
     parts_hold (spec.actuals_end source) (spec.next_actual source) (first ∷ []) left tokens (AreReadActuals n) (AreSized n)
     ((h, tt), omega (arith, fits))
-    (λ xs ts k. weakened (spec.next_actual source ts) (λ r. IsActual r.0 × (length r.1 + 4 ≤ length ts))
+    (λ xs ts k. weaker_holds (spec.next_actual source ts) (λ r. IsActual r.0 × (length r.1 + 4 ≤ length ts))
     (λ r. AreReadActuals n (xs ++ r.0 ∷ []) r.1) (next_actual_holds source ts)
     (λ r one. (all_push IsActual xs r.0 k.0 one.0, omega (arith, k.1, one.1, length-append xs (r.0 ∷ [])))))
     (λ xs ts k. (k.0, omega (arith, k.1)))
@@ -294,7 +294,7 @@ actuals_behind_hold : (source : List ℕ) (tokens : List Token) →
     IfSome (spec.actuals_behind source tokens) (AreSized (1 + length tokens))
 unfolding spec.actuals_behind
 actuals_behind_hold source tokens =
-    chained (spec.actual_at source tokens) _ (FirstIsActual (length tokens)) (AreSized (1 + length tokens)) (actual_holds source tokens)
+    chain_holds (spec.actual_at source tokens) _ (FirstIsActual (length tokens)) (AreSized (1 + length tokens)) (actual_holds source tokens)
     (λ r h. whole_holds (parts_from (spec.actuals_end source) (spec.next_actual source) (r.0 ∷ []) (length r.1) r.1) (AreSized (1 + length tokens))
     (further_actuals source (1 + length tokens) r.0 (length r.1) r.1 h.0 (omega (arith, h.1))))
 
@@ -302,18 +302,18 @@ actuals_hold : (source : List ℕ) (tokens : List Token) → IfSome (spec.actual
 unfolding spec.actuals_of
 actuals_hold source [] = (tt, omega arith)
 actuals_hold source (t ∷ rest) =
-    passed (is_mark source t mark.OpenParen) _ (AreSized (length (t ∷ rest)))
-    (λ test. weakened (spec.actuals_behind source rest) (AreSized (1 + length rest)) (AreSized (length (t ∷ rest))) (actuals_behind_hold source rest)
+    then_holds (is_mark source t mark.OpenParen) _ (AreSized (length (t ∷ rest)))
+    (λ test. weaker_holds (spec.actuals_behind source rest) (AreSized (1 + length rest)) (AreSized (length (t ∷ rest))) (actuals_behind_hold source rest)
     (λ xs h. (h.0, omega (arith, h.1))))
 
 call_holds : (source : List ℕ) (code : Mnemonic) (tokens : List Token) → has_actuals code ≡ true → is_empty_statement code ≡ false →
     IfSome (spec.call_of source code tokens) (IsInstruction (length tokens))
 unfolding spec.call_of
 call_holds source code tokens has some =
-    chained (block_at source tokens) _ (FirstIsBlockName (length tokens)) (IsInstruction (length tokens)) (named_holds source tokens)
-    (λ b h. chained (spec.instance_at source b.0 b.1) _ (FirstIsInstance b.0 (length b.1)) (IsInstruction (length tokens))
+    chain_holds (block_at source tokens) _ (FirstIsBlockName (length tokens)) (IsInstruction (length tokens)) (named_holds source tokens)
+    (λ b h. chain_holds (spec.instance_at source b.0 b.1) _ (FirstIsInstance b.0 (length b.1)) (IsInstruction (length tokens))
     (instance_holds source b.0 b.1 h.0)
-    (λ i k. mapped (spec.actuals_of source i.1) _ (AreSized (length i.1)) (IsInstruction (length tokens)) (actuals_hold source i.1)
+    (λ i k. map_holds (spec.actuals_of source i.1) _ (AreSized (length i.1)) (IsInstruction (length tokens)) (actuals_hold source i.1)
     (λ xs l. record {
       value = (h.0, k.0);
       called = sym (calls code has);
@@ -341,7 +341,7 @@ paren_holds : (source : List ℕ) (tokens : List Token) → IfSome (spec.after_p
 unfolding spec.after_paren
 paren_holds source [] = tt
 paren_holds source (t ∷ rest) =
-    passed (is_mark source t mark.OpenParen) _ (λ r. length r < length (t ∷ rest)) (λ test. omega arith)
+    then_holds (is_mark source t mark.OpenParen) _ (λ r. length r < length (t ∷ rest)) (λ test. omega arith)
 
 -- more tokens leave more room
 roomier : (low high : ℕ) (i : BareStatement) → low ≤ high → IsInstruction low i → IsInstruction high i
@@ -361,10 +361,10 @@ roomier low high i more h =
 opening_holds : (source : List ℕ) (t : Token) (rest : List Token) → IfSome (spec.opening_instruction source t rest) (IsInstruction (length rest))
 unfolding spec.opening_instruction
 opening_holds source t rest =
-    chained (look_up opening_mnemonics (text_of source t)) _ (λ m. not (is_call m) && not (is_empty_statement m) ≡ true) (IsInstruction (length rest))
+    chain_holds (look_up opening_mnemonics (text_of source t)) _ (λ m. not (is_call m) && not (is_empty_statement m) ≡ true) (IsInstruction (length rest))
     (entry_passes opening_mnemonics (text_of source t) (λ m. not (is_call m) && not (is_empty_statement m)) all_open)
-    (λ m h. chained (spec.after_paren source rest) _ (λ behind. length behind < length rest) (IsInstruction (length rest)) (paren_holds source rest)
-    (λ behind k. weakened (spec.statement_with_operand source m behind) (IsInstruction (length behind)) (IsInstruction (length rest))
+    (λ m h. chain_holds (spec.after_paren source rest) _ (λ behind. length behind < length rest) (IsInstruction (length rest)) (paren_holds source rest)
+    (λ behind k. weaker_holds (spec.statement_with_operand source m behind) (IsInstruction (length behind)) (IsInstruction (length rest))
     (with_operand_holds source m behind (not-true (is_call m) (and_first (not (is_call m)) _ h))
     (not-true (is_empty_statement m) (and_second (not (is_call m)) _ h)))
     (λ i l. roomier (length behind) (length rest) i (omega (arith, k)) l)))
@@ -373,15 +373,15 @@ zone_end_holds : (source : List ℕ) (t : Token) (rest : List Token) → IfSome 
 unfolding spec.zone_end_of
 zone_end_holds source t [] = tt
 zone_end_holds source t (w ∷ rest) =
-    passed (is_mark source t mark.CloseParen && is_key source w key.Mcr) _ (IsInstruction (length (w ∷ rest)))
-    (λ test. weakened (spec.statement_with_operand source mnemonic.McrClose rest) (IsInstruction (length rest)) (IsInstruction (length (w ∷ rest)))
+    then_holds (is_mark source t mark.CloseParen && is_key source w key.Mcr) _ (IsInstruction (length (w ∷ rest)))
+    (λ test. weaker_holds (spec.statement_with_operand source mnemonic.McrClose rest) (IsInstruction (length rest)) (IsInstruction (length (w ∷ rest)))
     (with_operand_holds source mnemonic.McrClose rest refl refl)
     (λ i h. roomier (length rest) (length (w ∷ rest)) i (omega arith) h))
 
 closed_holds : (source : List ℕ) (t : Token) (rest : List Token) → IfSome (spec.one_token_instruction source t rest) (IsInstruction (length rest))
 unfolding spec.one_token_instruction
 closed_holds source t rest =
-    chained (look_up mnemonics (text_of source t)) _ (λ m. goes_with m.0 m.1 && not (is_empty_statement m.0) ≡ true) (IsInstruction (length rest))
+    chain_holds (look_up mnemonics (text_of source t)) _ (λ m. goes_with m.0 m.1 && not (is_empty_statement m.0) ≡ true) (IsInstruction (length rest))
     (entry_passes mnemonics (text_of source t) (λ m. goes_with m.0 m.1 && not (is_empty_statement m.0)) all_go)
     (λ m h. behind_word_holds source m.1 m.0 rest (and_first (goes_with m.0 m.1) _ h)
     (not-true (is_empty_statement m.0) (and_second (goes_with m.0 m.1) _ h)))
@@ -398,7 +398,7 @@ instruction_holds source (t ∷ rest) =
     either (spec.opening_instruction source t rest) _ (IsInstruction (length rest)) (opening_holds source t rest)
     (either (spec.zone_end_of source t rest) _ (IsInstruction (length rest)) (zone_end_holds source t rest) (closed_holds source t rest))
 
-most_size : (code : Mnemonic) (o : Operand) (n : ℕ) → code_size code o n ≤ 4 + op_size o + 11 * n
+most_size : (code : Mnemonic) (o : Operand) (n : ℕ) → code_size code o n ≤ 4 + operand_ops_size o + 11 * n
 most_size mnemonic.Empty o n = omega arith
 most_size _ o n = omega arith
 
@@ -426,9 +426,9 @@ unlabelled_holds : (source : List ℕ) (line : ℕ) (tokens : List Token) →
     IfSome (spec.unlabelled_statement source line tokens) (IsReadStatement (length tokens))
 unfolding spec.unlabelled_statement
 unlabelled_holds source line [] =
-    mapped (spec.instruction_of source []) _ (IsInstructionOf []) (IsReadStatement 0) (instruction_holds source []) (λ i h. absurd h)
+    map_holds (spec.instruction_of source []) _ (IsInstructionOf []) (IsReadStatement 0) (instruction_holds source []) (λ i h. absurd h)
 unlabelled_holds source line (t ∷ rest) =
-    mapped (spec.instruction_of source (t ∷ rest)) _ (IsInstruction (length rest)) (IsReadStatement (length (t ∷ rest)))
+    map_holds (spec.instruction_of source (t ∷ rest)) _ (IsInstruction (length rest)) (IsReadStatement (length (t ∷ rest)))
     (instruction_holds source (t ∷ rest))
     (λ i h. (
       λ short. of_instruction line (length rest) None i h short tt,
@@ -447,9 +447,9 @@ labelled_holds : (source : List ℕ) (line : ℕ) (w : Token) (tokens : List Tok
     IfSome (spec.labelled_statement source line w tokens) (IsReadStatement (length tokens))
 unfolding spec.labelled_statement spec.is_long_label
 labelled_holds source line w [] =
-    mapped (spec.instruction_of source []) _ (IsInstructionOf []) (IsReadStatement 0) (instruction_holds source []) (λ i h. absurd h)
+    map_holds (spec.instruction_of source []) _ (IsInstructionOf []) (IsReadStatement 0) (instruction_holds source []) (λ i h. absurd h)
 labelled_holds source line w (t ∷ rest) =
-    mapped (spec.instruction_of source (t ∷ rest)) _ (IsInstruction (length rest)) (IsReadStatement (length (t ∷ rest)))
+    map_holds (spec.instruction_of source (t ∷ rest)) _ (IsInstruction (length rest)) (IsReadStatement (length (t ∷ rest)))
     (instruction_holds source (t ∷ rest))
     (λ i h. (
       λ test. of_instruction line (length rest) (Some (text_of source w)) i h (or_left i.long _ test)
@@ -479,6 +479,6 @@ statement_holds source line [] = (
 statement_holds source line (w ∷ []) = unlabelled_holds source line (w ∷ [])
 statement_holds source line (w ∷ colon ∷ rest) =
     both (has_kind w kind.Word && is_mark source colon mark.Colon) _ _ (IsReadStatement (length (w ∷ colon ∷ rest)))
-    (weakened (spec.labelled_statement source line w rest) (IsReadStatement (length rest)) (IsReadStatement (length (w ∷ colon ∷ rest)))
+    (weaker_holds (spec.labelled_statement source line w rest) (IsReadStatement (length rest)) (IsReadStatement (length (w ∷ colon ∷ rest)))
     (labelled_holds source line w rest) (λ r h. (h.0, omega (arith, h.1))))
     (unlabelled_holds source line (w ∷ colon ∷ rest))

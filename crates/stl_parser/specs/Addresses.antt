@@ -16,7 +16,7 @@ use Rattle.stl_lexer.specs.declared.marks.Mark.TheVariants as mark
 use Rattle.stl_parser.specs.declared.tables.AddressKind.{AddressKind}
 use Rattle.stl_parser.specs.Terminals.{has_kind, is_mark}
 use Rattle.stl_parser.specs.Tables.{look_up, block_kinds, addresses}
-use Rattle.stl_parser.specs.Numbers.{number_of}
+use Rattle.stl_parser.specs.Numbers.{number_of_token}
 use Rattle.stl_parser.specs.Literals.{text_between_quotes}
 
 -- what the letters of a word name in a table, the number behind them in the same word, and what
@@ -33,7 +33,7 @@ unfoldable pub separate_letters_and_number : {X : Type 0} → List (List ℕ × 
     → List Token → Option (X × ℕ × List Token)
 separate_letters_and_number table source text [] = None
 separate_letters_and_number table source text (n ∷ rest) =
-    option_and_then (λ x. option_map (λ number. (x, number, rest)) (number_of source n))
+    option_and_then (λ x. option_map (λ number. (x, number, rest)) (number_of_token source n))
     (look_up table text)
 
 -- what the letters at the front name in a table, the number behind them, in the same word or in the
@@ -74,7 +74,7 @@ block_at source tokens =
 unfoldable pub bit_of : List ℕ → List Token → Option ℕ
 bit_of source (dot ∷ b ∷ []) =
     if is_mark source dot mark.Dot
-    then option_and_then (λ n. if nat_le n 7 then Some n else None) (number_of source b) else None
+    then option_and_then (λ n. if nat_le n 7 then Some n else None) (number_of_token source b) else None
 bit_of source _ = None
 
 -- a word is the letters of an address, alone or with digits

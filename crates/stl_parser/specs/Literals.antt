@@ -10,7 +10,7 @@ use Rattle.stl_ast.specs.declared.literals.Literal.TheVariants as literal
 use Rattle.stl_lexer.specs.declared.marks.Mark.TheVariants as mark
 use Rattle.stl_parser.specs.declared.keywords.ClauseWord.TheVariants as key
 use Rattle.stl_parser.specs.Terminals.{is_mark, is_key}
-use Rattle.stl_parser.specs.Numbers.{number_of, signed_number_at}
+use Rattle.stl_parser.specs.Numbers.{number_of_token, signed_number_at}
 use Rattle.stl_parser.specs.Parts.{complete_reading}
 use Rattle.stl_parser.specs.Values.{based_value, long_or_count, duration_literal}
 
@@ -32,7 +32,7 @@ truth_of source t =
 -- the constant that one token is
 unfoldable pub literal_token : List ℕ → Token → TokenKind → Option Literal
 literal_token source t kind.Word = truth_of source t
-literal_token source t kind.Number = option_map (λ n. literal.Number (pos n)) (number_of source t)
+literal_token source t kind.Number = option_map (λ n. literal.Number (pos n)) (number_of_token source t)
 literal_token source t kind.Characters =
     option_map literal.Characters (characters_of (text_between_quotes (text_of source t)))
 literal_token source t kind.Based = based_value (text_of source t)
@@ -42,7 +42,7 @@ literal_token source t _ = None
 
 -- the number that a token is, where it is at most 255
 unfoldable pub byte_of : List ℕ → Token → Option ℕ
-byte_of source t = option_and_then (λ n. if nat_le n 255 then Some n else None) (number_of source t)
+byte_of source t = option_and_then (λ n. if nat_le n 255 then Some n else None) (number_of_token source t)
 
 -- two more bytes and the `)` of `B#(a,b,c,d)`
 unfoldable pub last_bytes : List ℕ → ℕ → ℕ → List Token → Option (Literal × List Token)

@@ -15,8 +15,8 @@ number_up_to most source t =
     if has_kind t kind.Number then decimal_up_to most (text_of source t) else None
 
 -- the number of a number token; none where the token is another one, or above the greatest number
-unfoldable pub number_of : List ℕ → Token → Option ℕ
-number_of source t = number_up_to (greatest_number false) source t
+unfoldable pub number_of_token : List ℕ → Token → Option ℕ
+number_of_token source t = number_up_to (greatest_number false) source t
 
 -- the number with the sign before it, and what follows
 unfoldable pub signed_number_at : List ℕ → Token → List Token → Option (ℤ × List Token)
@@ -24,12 +24,12 @@ signed_number_at source sign [] = None
 signed_number_at source sign (t ∷ rest) =
     if is_mark source sign mark.Minus
     then option_map (λ n. (pos 0 -ℤ pos n, rest)) (number_up_to (greatest_number true) source t)
-    else (if is_mark source sign mark.Plus then option_map (λ n. (pos n, rest)) (number_of source t)
+    else (if is_mark source sign mark.Plus then option_map (λ n. (pos n, rest)) (number_of_token source t)
     else None)
 
 -- a decimal number with or without a sign, and what follows
 unfoldable pub int_at : List ℕ → List Token → Option (ℤ × List Token)
 int_at source [] = None
 int_at source (t ∷ rest) =
-    option_or (option_map (λ n. (pos n, rest)) (number_of source t))
+    option_or (option_map (λ n. (pos n, rest)) (number_of_token source t))
     (signed_number_at source t rest)

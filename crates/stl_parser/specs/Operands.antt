@@ -27,7 +27,7 @@ use Rattle.stl_parser.specs.declared.tables.AddressKind.{AddressKind}
 use Rattle.stl_parser.specs.declared.tables.AddressKind.TheVariants as address
 use Rattle.stl_parser.specs.Terminals.{has_kind, is_mark, is_key}
 use Rattle.stl_parser.specs.Tables.{look_up, addresses, flags, registers}
-use Rattle.stl_parser.specs.Numbers.{number_of, int_at}
+use Rattle.stl_parser.specs.Numbers.{number_of_token, int_at}
 use Rattle.stl_parser.specs.Parts.{parts_from, complete_reading}
 use Rattle.stl_parser.specs.Literals.{text_between_quotes, literal_of}
 use Rattle.stl_parser.specs.Addresses.{is_address_word, address_at, bit_of}
@@ -137,8 +137,8 @@ direct_address_operand source (address.Block true) n [] =
 direct_address_operand source (address.Block true) n (t ∷ rest) = None
 
 -- the number of the address register that a word is, AR1 or AR2
-unfoldable pub register_of : List ℕ → Token → Option ℕ
-register_of source t =
+unfoldable pub register_number : List ℕ → Token → Option ℕ
+register_number source t =
     if is_key source t key.Ar1 then Some ar1_register
     else (if is_key source t key.Ar2 then Some ar2_register else None)
 
@@ -147,7 +147,7 @@ unfoldable pub offset_of : List ℕ → Token → Token → List Token → Optio
 offset_of source prefix n rest =
     if is_mark source prefix mark.Pointer
     then option_and_then (λ byte. option_map (λ bit. 8 * byte + bit) (bit_of source rest))
-    (number_of source n)
+    (number_of_token source n)
     else None
 
 -- `[AR1, P#n.b]` that is all of the tokens: the register, and the constant in bits
@@ -157,7 +157,7 @@ register_pointer source (open_ ∷ r ∷ comma ∷ prefix ∷ n ∷ dot ∷ b �
     && is_mark source close mark.CloseBracket
     then option_and_then
     (λ register. option_map (λ bits. (register, bits)) (offset_of source prefix n (dot ∷ b ∷ [])))
-    (register_of source r)
+    (register_number source r)
     else None
 register_pointer source _ = None
 
@@ -166,7 +166,7 @@ unfoldable pub operand_by_register : List ℕ → Option Letters → Width → L
 operand_by_register source area w tokens =
     option_map (λ p. operand.ByRegister area w p.0 p.1) (register_pointer source tokens)
 
--- the places that may hold a pointer: a word or a double word of M, L, DB or DI
+-- the areas whose words may hold a pointer or a number: M, L, DB and DI
 unfoldable pub holds_pointer : Letters → Bool
 holds_pointer letters.M = true
 holds_pointer letters.L = true
@@ -232,7 +232,7 @@ unfoldable pub plain_pointer : List ℕ → List Token → Option Operand
 plain_pointer source [] = None
 plain_pointer source (n ∷ rest) =
     option_and_then (λ byte. option_map (λ bit. operand.Pointer None byte bit) (bit_of source rest))
-    (number_of source n)
+    (number_of_token source n)
 
 -- the pointer constant that stands behind `P#`
 unfoldable pub pointer_constant_operand : List ℕ → List Token → Option Operand
@@ -241,8 +241,8 @@ pointer_constant_operand source tokens =
     (option_and_then (λ r. area_pointer source r.0 r.1 r.2) (address_at source tokens))
 
 -- the operand that is a condition of the status word
-unfoldable pub condition_of : List ℕ → Token → Option Operand
-condition_of source t = option_map operand.OfStatus (look_up flags (text_of source t))
+unfoldable pub condition_word_operand : List ℕ → Token → Option Operand
+condition_word_operand source t = option_map operand.OfStatus (look_up flags (text_of source t))
 
 -- a name of the table of registers as an operand; AR1 is there, but no instruction has it as one
 abbrev pub register_name_operand_if : List ℕ → Option Bool → Option Operand
@@ -257,7 +257,7 @@ register_name_operand source t =
 
 -- a word that stands alone as an operand: a condition of the status word or a register
 unfoldable pub lone_word_operand : List ℕ → Token → List Token → Option Operand
-lone_word_operand source t [] = option_or (condition_of source t) (register_name_operand source t)
+lone_word_operand source t [] = option_or (condition_word_operand source t) (register_name_operand source t)
 lone_word_operand source t (u ∷ rest) = None
 
 -- a word that means something as an operand, so that no path begins with it
@@ -273,8 +273,8 @@ plain_path source t rest =
     if is_operand_word source t then None else path_of source (head.Local (text_of source t)) rest
 
 -- an operand by a register that has the area, with B, W or D before the pointer
-unfoldable pub sized_by_register : List ℕ → Token → List Token → Option Operand
-sized_by_register source t rest =
+unfoldable pub operand_by_sized_register : List ℕ → Token → List Token → Option Operand
+operand_by_sized_register source t rest =
     if is_key source t key.B then operand_by_register source None width.Byte rest
     else (if is_key source t key.W then operand_by_register source None width.Word rest
     else (if is_key source t key.D then operand_by_register source None width.Dword rest else None))
@@ -295,7 +295,7 @@ word_operand source t rest tokens =
     option_or (lone_word_operand source t rest)
     (option_or (operand_with_number source tokens)
     (option_or (operand_with_pointer source t rest)
-    (option_or (sized_by_register source t rest) (plain_path source t rest))))
+    (option_or (operand_by_sized_register source t rest) (plain_path source t rest))))
 
 -- an operand that begins with a quoted name: a symbol, or what stands in a data block
 unfoldable pub quoted_operand : List ℕ → Token → List Token → Option Operand
@@ -312,7 +312,7 @@ mark_operand source t rest tokens =
 
 -- a sign word that stands alone as an operand
 unfoldable pub sign_operand : List ℕ → Token → List Token → Option Operand
-sign_operand source t [] = condition_of source t
+sign_operand source t [] = condition_word_operand source t
 sign_operand source t (u ∷ rest) = None
 
 -- a path that begins with a local name

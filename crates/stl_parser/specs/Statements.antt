@@ -82,7 +82,8 @@ actuals_of source [] = Some []
 actuals_of source (t ∷ rest) =
     if is_mark source t mark.OpenParen then actuals_behind source rest else None
 
--- the name may be that of a block of this kind: it has it, or it is a quoted name
+-- the name may be that of a block whose kind passes the test: a number of such a kind, or a quoted
+-- name
 abbrev pub may_be_of_kind : BlockName → (BlockKind → Bool) → Bool
 may_be_of_kind (block.Number id) test = test id.kind
 may_be_of_kind (block.Quoted name) test = true

@@ -18,7 +18,7 @@ use Rattle.stl_lexer.specs.declared.marks.Mark.TheVariants as mark
 use Rattle.stl_parser.specs.declared.keywords.ClauseWord.TheVariants as key
 use Rattle.stl_parser.specs.Terminals.{has_kind, is_mark, is_key}
 use Rattle.stl_parser.specs.Tables.{look_up, simple_types}
-use Rattle.stl_parser.specs.Numbers.{number_of, int_at}
+use Rattle.stl_parser.specs.Numbers.{number_of_token, int_at}
 use Rattle.stl_parser.specs.Parts.{parts_from, complete_reading}
 use Rattle.stl_parser.specs.Literals.{literal_at, literal_of}
 use Rattle.stl_parser.specs.Addresses.{block_at}
@@ -100,7 +100,7 @@ counted_init_at source (n ∷ open_ ∷ rest) =
     if is_mark source open_ mark.OpenParen
     then option_and_then
     (λ count. option_and_then (λ r. counted_init_end source count r.0 r.1) (literal_at source rest))
-    (number_of source n)
+    (number_of_token source n)
     else None
 counted_init_at source _ = None
 

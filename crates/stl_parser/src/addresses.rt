@@ -15,9 +15,9 @@ ghost use Rattle.stl_parser.specs.Addresses.{
 
 use crate::keywords::{has_kind, is_mark};
 use crate::literals::text_between_quotes;
-use crate::lookups::{address_of, look_up};
+use crate::lookups::{address_kind_of, look_up};
 use crate::numbers::{decimal, number};
-use crate::parsed::{Parsed, ParsedNumbered};
+use crate::parsed_items::{NumberedItem, ParsedItem};
 use crate::tables::{ADDRESSES, AddressKind, BLOCK_KINDS};
 use plc_base::{BlockId, BlockKind, are_digits};
 use std::alloc::{AllocError, Global};
@@ -38,7 +38,7 @@ fn glued_letters_and_number<'a, X: Copy + Drop>(
     table: &[(&[u8], X)],
     text: &[u8],
     rest: &'a [Token],
-) -> Option<ParsedNumbered<'a, X>>
+) -> Option<NumberedItem<'a, X>>
     ensures { result
         ≡ glued_letters_and_number (map (λ e. (e.0.now, e.1)) table.now) text.now rest.now }
 {
@@ -46,7 +46,7 @@ fn glued_letters_and_number<'a, X: Copy + Drop>(
     let (letters, digits) = text.split_at(count);
     let named = look_up(table, letters)?;
     let number = decimal(digits)?;
-    Some(ParsedNumbered(named, number, rest))
+    Some(NumberedItem(named, number, rest))
 }
 
 /// Letters and number in two tokens.
@@ -56,7 +56,7 @@ fn separate_letters_and_number<'a, X: Copy + Drop>(
     source: &[u8],
     text: &[u8],
     tokens: &'a [Token],
-) -> Option<ParsedNumbered<'a, X>>
+) -> Option<NumberedItem<'a, X>>
     ensures { result
         ≡ separate_letters_and_number
         (map (λ e. (e.0.now, e.1)) table.now) source.now text.now tokens.now }
@@ -66,7 +66,7 @@ fn separate_letters_and_number<'a, X: Copy + Drop>(
     };
     let named = look_up(table, text)?;
     let number = number(source, token)?;
-    Some(ParsedNumbered(named, number, rest))
+    Some(NumberedItem(named, number, rest))
 }
 
 /// What the letters name, the number behind them, and what follows.
@@ -75,7 +75,7 @@ fn letters_and_number<'a, X: Copy + Drop>(
     table: &[(&[u8], X)],
     source: &[u8],
     tokens: &'a [Token],
-) -> Option<ParsedNumbered<'a, X>>
+) -> Option<NumberedItem<'a, X>>
     ensures { result
         ≡ letters_and_number_at (map (λ e. (e.0.now, e.1)) table.now) source.now tokens.now }
 {
@@ -97,7 +97,7 @@ fn letters_and_number<'a, X: Copy + Drop>(
 pub(crate) fn address<'a>(
     source: &[u8],
     tokens: &'a [Token],
-) -> Option<ParsedNumbered<'a, AddressKind>>
+) -> Option<NumberedItem<'a, AddressKind>>
     ensures { result ≡ address_at source.now tokens.now }
 {
     letters_and_number(&ADDRESSES, source, tokens)
@@ -105,7 +105,7 @@ pub(crate) fn address<'a>(
 
 /// A block by kind and number, as `DB 10`, with what follows.
 #[tactic(auto, unfolding(crate::specs::Addresses::block_number_at, crate::specs::Tables::block_kinds))]
-fn block_number<'a>(source: &[u8], tokens: &'a [Token]) -> Option<ParsedNumbered<'a, BlockKind>>
+fn block_number<'a>(source: &[u8], tokens: &'a [Token]) -> Option<NumberedItem<'a, BlockKind>>
     ensures { result ≡ block_number_at source.now tokens.now }
 {
     letters_and_number(&BLOCK_KINDS, source, tokens)
@@ -117,7 +117,7 @@ pub(crate) fn quoted_block<'a>(
     alloc: Global,
     source: &[u8],
     tokens: &'a [Token],
-) -> Result<Option<Parsed<'a, BlockName>>, AllocError>
+) -> Result<Option<ParsedItem<'a, BlockName>>, AllocError>
     ensures { IfOk result (λ found. found ≡ quoted_block_at source.now tokens.now) }
 {
     let [token, rest @ ..] = tokens else {
@@ -127,7 +127,7 @@ pub(crate) fn quoted_block<'a>(
         return Ok(None);
     }
     let name = Name::new(alloc, text_between_quotes(token.text(source)))?;
-    Ok(Some(Parsed(BlockName::Quoted { name }, rest)))
+    Ok(Some(ParsedItem(BlockName::Quoted { name }, rest)))
 }
 
 /// A block by kind and number or by its quoted name, and what follows.
@@ -136,13 +136,13 @@ pub(crate) fn block<'a>(
     alloc: Global,
     source: &[u8],
     tokens: &'a [Token],
-) -> Result<Option<Parsed<'a, BlockName>>, AllocError>
+) -> Result<Option<ParsedItem<'a, BlockName>>, AllocError>
     ensures { IfOk result (λ found. found ≡ block_at source.now tokens.now) }
 {
     match block_number(source, tokens) {
-        Some(ParsedNumbered(kind, number, rest)) => {
+        Some(NumberedItem(kind, number, rest)) => {
             let id = BlockId { kind, number };
-            Ok(Some(Parsed(BlockName::Number { id }, rest)))
+            Ok(Some(ParsedItem(BlockName::Number { id }, rest)))
         }
         None => quoted_block(alloc, source, tokens),
     }
@@ -174,5 +174,5 @@ pub(crate) fn is_address_word(text: &[u8]) -> bool
 {
     let count = letter_count(text);
     let (letters, digits) = text.split_at(count);
-    address_of(letters).is_some() && are_digits(digits)
+    address_kind_of(letters).is_some() && are_digits(digits)
 }

@@ -27,7 +27,7 @@ use crate::declarations::{declaration, structure};
 use crate::heads::{base_block, behind_note, head, head_word_clause, skip_semicolon};
 use crate::keywords::is_mark;
 use crate::lookups::{head_word_of, keyword_of};
-use crate::parsed::Parsed;
+use crate::parsed_items::ParsedItem;
 use crate::places::{ClausePlace, in_data_head, is_outer, level_at, takes_parameters};
 use crate::settings::setting_of;
 use crate::statements::statement;
@@ -192,7 +192,7 @@ fn structure_clause<'a>(
     if takes_parameters(at) {
         return Ok(None);
     }
-    let Some(Parsed(declaration, rest)) = structure(alloc, source, level_at(at), tokens)? else {
+    let Some(ParsedItem(declaration, rest)) = structure(alloc, source, level_at(at), tokens)? else {
         return Ok(None);
     };
     Ok(Some(ReadClause(Clause::Declares { declaration }, rest, false)))

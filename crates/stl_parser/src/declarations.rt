@@ -12,7 +12,7 @@ ghost use Rattle.stl_parser.specs.Declarations.{
 };
 
 use crate::keywords::{ClauseWord, has_kind, is_key, is_mark};
-use crate::parsed::Parsed;
+use crate::parsed_items::ParsedItem;
 use crate::types::{arrays, element, inits};
 use std::alloc::{AllocError, Global};
 use stl_ast::{Bounds, Declaration, ElementType, Init, Name, Sequence, TypeTree};
@@ -52,7 +52,7 @@ pub(crate) fn after_colon<'a>(source: &[u8], tokens: &'a [Token]) -> Option<&'a 
 
 /// A declared name, `word [attribute] :`, and the tokens of its type.
 #[tactic(auto, unfolding(crate::specs::Declarations::declared_name_at))]
-fn declared_name<'a>(source: &[u8], tokens: &'a [Token]) -> Option<Parsed<'a, Token>>
+fn declared_name<'a>(source: &[u8], tokens: &'a [Token]) -> Option<ParsedItem<'a, Token>>
     ensures { result ≡ declared_name_at source.now tokens.now }
 {
     let [token, rest @ ..] = tokens else {
@@ -62,7 +62,7 @@ fn declared_name<'a>(source: &[u8], tokens: &'a [Token]) -> Option<Parsed<'a, To
         return None;
     }
     let behind = after_colon(source, after_attribute(rest))?;
-    Some(Parsed(*token, behind))
+    Some(ParsedItem(*token, behind))
 }
 
 /// The tokens behind STRUCT.
@@ -110,13 +110,13 @@ pub(crate) fn structure<'a>(
     source: &[u8],
     level: u32,
     tokens: &'a [Token],
-) -> Result<Option<Parsed<'a, Declaration>>, AllocError>
+) -> Result<Option<ParsedItem<'a, Declaration>>, AllocError>
     ensures { IfOk result (λ found. found ≡ structure_at source.now level tokens.now) }
 {
-    let Some(Parsed(word, rest)) = declared_name(source, tokens) else {
+    let Some(ParsedItem(word, rest)) = declared_name(source, tokens) else {
         return Ok(None);
     };
-    let Some(Parsed(arrays, rest)) = arrays(alloc, source, rest)? else {
+    let Some(ParsedItem(arrays, rest)) = arrays(alloc, source, rest)? else {
         return Ok(None);
     };
     let Some(rest) = after_struct(source, rest) else {
@@ -132,7 +132,7 @@ pub(crate) fn structure<'a>(
         ElementType::Structure,
         none,
     )?;
-    Ok(Some(Parsed(declaration, rest)))
+    Ok(Some(ParsedItem(declaration, rest)))
 }
 
 /// The initial values behind a type: none, or `:=` and the values.
@@ -167,13 +167,13 @@ pub(crate) fn declaration(
 ) -> Result<Option<Declaration>, AllocError>
     ensures { IfOk result (λ found. found ≡ declaration_of source.now level tokens.now) }
 {
-    let Some(Parsed(word, rest)) = declared_name(source, tokens) else {
+    let Some(ParsedItem(word, rest)) = declared_name(source, tokens) else {
         return Ok(None);
     };
-    let Some(Parsed(arrays, rest)) = arrays(alloc, source, rest)? else {
+    let Some(ParsedItem(arrays, rest)) = arrays(alloc, source, rest)? else {
         return Ok(None);
     };
-    let Some(Parsed(of, rest)) = element(alloc, source, rest)? else {
+    let Some(ParsedItem(of, rest)) = element(alloc, source, rest)? else {
         return Ok(None);
     };
     let Some(init) = init_behind(alloc, source, arrays.as_slice(), &of, rest)? else {

@@ -22,7 +22,7 @@ use crate::clauses::{Clause, ReadClause};
 use crate::declarations::after_colon;
 use crate::keywords::{ClauseWord, has_kind, is_key, is_mark};
 use crate::lookups::simple_type_of;
-use crate::parsed::Parsed;
+use crate::parsed_items::ParsedItem;
 use crate::places::{ClausePlace, in_head};
 use crate::tables::HeadWord;
 use plc_base::BlockKind;
@@ -77,14 +77,14 @@ fn block_of_kind<'a>(
     source: &[u8],
     kind: BlockKind,
     tokens: &'a [Token],
-) -> Result<Option<Parsed<'a, BlockName>>, AllocError>
+) -> Result<Option<ParsedItem<'a, BlockName>>, AllocError>
     ensures { IfOk result (λ found. found ≡ block_of_kind_at source.now kind tokens.now) }
 {
-    let Some(Parsed(name, rest)) = block(alloc, source, tokens)? else {
+    let Some(ParsedItem(name, rest)) = block(alloc, source, tokens)? else {
         return Ok(None);
     };
     if is_of_kind(kind, &name) {
-        Ok(Some(Parsed(name, rest)))
+        Ok(Some(ParsedItem(name, rest)))
     } else {
         Ok(None)
     }
@@ -92,21 +92,21 @@ fn block_of_kind<'a>(
 
 /// VOID or the elementary type of a return value, and what follows.
 #[tactic(auto, unfolding(crate::specs::Clauses::result_type))]
-fn result_type<'a>(source: &[u8], tokens: &'a [Token]) -> Option<Parsed<'a, Option<Simple>>>
+fn result_type<'a>(source: &[u8], tokens: &'a [Token]) -> Option<ParsedItem<'a, Option<Simple>>>
     ensures { result ≡ result_type source.now tokens.now }
 {
     let [token, rest @ ..] = tokens else {
         return None;
     };
     if is_key(source, token, ClauseWord::Void) {
-        return Some(Parsed(None, rest));
+        return Some(ParsedItem(None, rest));
     }
     let kind = simple_type_of(token.text(source))?;
-    Some(Parsed(Some(kind), rest))
+    Some(ParsedItem(Some(kind), rest))
 }
 
 /// `:` and the type of a return value, and what follows.
-fn typed_result<'a>(source: &[u8], tokens: &'a [Token]) -> Option<Parsed<'a, Option<Simple>>>
+fn typed_result<'a>(source: &[u8], tokens: &'a [Token]) -> Option<ParsedItem<'a, Option<Simple>>>
     ensures { result
         ≡ option_and_then (λ rest. result_type source.now rest)
         (after_colon source.now tokens.now) }
@@ -121,12 +121,12 @@ fn result_of<'a>(
     source: &[u8],
     kind: BlockKind,
     tokens: &'a [Token],
-) -> Option<Parsed<'a, Option<Simple>>>
+) -> Option<ParsedItem<'a, Option<Simple>>>
     ensures { result ≡ result_at source.now kind tokens.now }
 {
     match kind {
         BlockKind::Fc => typed_result(source, tokens),
-        _ => Some(Parsed(None, tokens)),
+        _ => Some(ParsedItem(None, tokens)),
     }
 }
 
@@ -141,10 +141,10 @@ pub(crate) fn head<'a>(
 ) -> Result<Option<ReadClause<'a>>, AllocError>
     ensures { IfOk result (λ found. found ≡ head_clause source.now line kind tokens.now) }
 {
-    let Some(Parsed(name, rest)) = block_of_kind(alloc, source, kind, tokens)? else {
+    let Some(ParsedItem(name, rest)) = block_of_kind(alloc, source, kind, tokens)? else {
         return Ok(None);
     };
-    let Some(Parsed(result, rest)) = result_of(source, kind, rest) else {
+    let Some(ParsedItem(result, rest)) = result_of(source, kind, rest) else {
         return Ok(None);
     };
     let head = Clause::Head {
@@ -235,7 +235,7 @@ pub(crate) fn base_block<'a>(
 ) -> Result<Option<ReadClause<'a>>, AllocError>
     ensures { IfOk result (λ found. found ≡ base_block_at source.now tokens.now) }
 {
-    let Some(Parsed(name, rest)) = block(alloc, source, tokens)? else {
+    let Some(ParsedItem(name, rest)) = block(alloc, source, tokens)? else {
         return Ok(None);
     };
     if is_base(&name) {

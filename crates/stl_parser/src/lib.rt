@@ -14,7 +14,7 @@ mod lookups;
 mod numbers;
 mod operands;
 mod parameters;
-mod parsed;
+mod parsed_items;
 mod paths;
 mod places;
 mod pointers;

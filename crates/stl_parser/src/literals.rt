@@ -16,7 +16,7 @@ ghost use Rattle.stl_parser.specs.Literals.{
 
 use crate::keywords::{ClauseWord, is_key, is_mark};
 use crate::numbers::{number, signed_number};
-use crate::parsed::Parsed;
+use crate::parsed_items::ParsedItem;
 use crate::values::{based_value, duration, long_or_count};
 use arrayvec::ArrayVec;
 use stl_ast::{Characters, Literal};
@@ -115,7 +115,12 @@ fn bytes_literal(bytes: ArrayVec<u8, 4>) -> Literal
 
 /// Two more bytes and the `)` of `B#(a,b,c,d)`.
 #[tactic(auto, unfolding(crate::specs::Literals::last_bytes))]
-fn last_bytes<'a>(source: &[u8], a: u8, b: u8, tokens: &'a [Token]) -> Option<Parsed<'a, Literal>>
+fn last_bytes<'a>(
+    source: &[u8],
+    a: u8,
+    b: u8,
+    tokens: &'a [Token],
+) -> Option<ParsedItem<'a, Literal>>
     ensures { result ≡ last_bytes source.now a b tokens.now }
 {
     let [c, comma, d, close, rest @ ..] = tokens else {
@@ -124,7 +129,7 @@ fn last_bytes<'a>(source: &[u8], a: u8, b: u8, tokens: &'a [Token]) -> Option<Pa
     if is_mark(source, comma, Mark::Comma) && is_mark(source, close, Mark::CloseParen) {
         let c = byte(source, c)?;
         let d = byte(source, d)?;
-        Some(Parsed(bytes_literal(list_of(&[a, b, c, d])), rest))
+        Some(ParsedItem(bytes_literal(list_of(&[a, b, c, d])), rest))
     } else {
         None
     }
@@ -138,11 +143,11 @@ fn bytes_behind<'a>(
     b: u8,
     token: &Token,
     rest: &'a [Token],
-) -> Option<Parsed<'a, Literal>>
+) -> Option<ParsedItem<'a, Literal>>
     ensures { result ≡ bytes_behind source.now a b token.now rest.now }
 {
     if is_mark(source, token, Mark::CloseParen) {
-        Some(Parsed(bytes_literal(list_of(&[a, b])), rest))
+        Some(ParsedItem(bytes_literal(list_of(&[a, b])), rest))
     } else if is_mark(source, token, Mark::Comma) {
         last_bytes(source, a, b, rest)
     } else {
@@ -152,7 +157,7 @@ fn bytes_behind<'a>(
 
 /// The bytes of `B#(a,b)` or `B#(a,b,c,d)`, behind the mark `B#(`.
 #[tactic(auto, unfolding(crate::specs::Literals::bytes_at))]
-fn bytes_at<'a>(source: &[u8], tokens: &'a [Token]) -> Option<Parsed<'a, Literal>>
+fn bytes_at<'a>(source: &[u8], tokens: &'a [Token]) -> Option<ParsedItem<'a, Literal>>
     ensures { result ≡ bytes_at source.now tokens.now }
 {
     let [a, comma, b, next, rest @ ..] = tokens else {
@@ -169,27 +174,31 @@ fn bytes_at<'a>(source: &[u8], tokens: &'a [Token]) -> Option<Parsed<'a, Literal
 
 /// A constant of more than one token: a number with its sign, or `B#(..)`.
 #[tactic(auto, unfolding(crate::specs::Literals::long_literal))]
-fn long_literal<'a>(source: &[u8], token: &Token, rest: &'a [Token]) -> Option<Parsed<'a, Literal>>
+fn long_literal<'a>(
+    source: &[u8],
+    token: &Token,
+    rest: &'a [Token],
+) -> Option<ParsedItem<'a, Literal>>
     ensures { result ≡ long_literal source.now token.now rest.now }
 {
     if is_mark(source, token, Mark::Bytes) {
         bytes_at(source, rest)
     } else {
-        let Parsed(value, rest) = signed_number(source, token, rest)?;
-        Some(Parsed(Literal::Number { value }, rest))
+        let ParsedItem(value, rest) = signed_number(source, token, rest)?;
+        Some(ParsedItem(Literal::Number { value }, rest))
     }
 }
 
 /// A constant, and what follows it.
 #[tactic(auto, unfolding(crate::specs::Literals::literal_at))]
-pub(crate) fn literal_at<'a>(source: &[u8], tokens: &'a [Token]) -> Option<Parsed<'a, Literal>>
+pub(crate) fn literal_at<'a>(source: &[u8], tokens: &'a [Token]) -> Option<ParsedItem<'a, Literal>>
     ensures { result ≡ literal_at source.now tokens.now }
 {
     let [token, rest @ ..] = tokens else {
         return None;
     };
     match literal_token(source, token) {
-        Some(literal) => Some(Parsed(literal, rest)),
+        Some(literal) => Some(ParsedItem(literal, rest)),
         None => long_literal(source, token, rest),
     }
 }
@@ -200,7 +209,7 @@ pub(crate) fn literal(source: &[u8], tokens: &[Token]) -> Option<Literal>
     ensures { result ≡ literal_of source.now tokens.now }
 {
     match literal_at(source, tokens) {
-        Some(Parsed(literal, [])) => Some(literal),
+        Some(ParsedItem(literal, [])) => Some(literal),
         _ => None,
     }
 }

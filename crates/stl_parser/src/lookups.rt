@@ -76,7 +76,7 @@ pub(crate) fn simple_type_of(word: &[u8]) -> Option<Simple>
 
 /// What these letters of an address name.
 #[tactic(auto, unfolding(crate::specs::Tables::addresses))]
-pub(crate) fn address_of(word: &[u8]) -> Option<AddressKind>
+pub(crate) fn address_kind_of(word: &[u8]) -> Option<AddressKind>
     ensures { result ≡ look_up addresses word.now }
 {
     look_up(&ADDRESSES, word)
@@ -100,7 +100,7 @@ pub(crate) fn opening_mnemonic_of(word: &[u8]) -> Option<Mnemonic>
 
 /// The condition of the status word that this word is.
 #[tactic(auto, unfolding(crate::specs::Tables::flags))]
-pub(crate) fn flag_of(word: &[u8]) -> Option<Flag>
+pub(crate) fn flag_of_word(word: &[u8]) -> Option<Flag>
     ensures { result ≡ look_up flags word.now }
 {
     look_up(&FLAGS, word)
@@ -108,7 +108,7 @@ pub(crate) fn flag_of(word: &[u8]) -> Option<Flag>
 
 /// Whether this word names a register, and whether one that an instruction has as an operand.
 #[tactic(auto, unfolding(crate::specs::Tables::registers))]
-pub(crate) fn register_of(word: &[u8]) -> Option<bool>
+pub(crate) fn register_entry(word: &[u8]) -> Option<bool>
     ensures { result ≡ look_up registers word.now }
 {
     look_up(&REGISTERS, word)

@@ -1,10 +1,10 @@
 ghost use Rattle.std.specs.Prelude.{◌≡◌, ◌≤◌, true, false};
 ghost use Rattle.plc_base.specs.Decimal.{decimal_up_to};
 ghost use Rattle.stl_lexer.specs.Limits.{greatest_number};
-ghost use Rattle.stl_parser.specs.Numbers.{number_up_to, number_of, signed_number_at, int_at};
+ghost use Rattle.stl_parser.specs.Numbers.{number_up_to, number_of_token, signed_number_at, int_at};
 
 use crate::keywords::{has_kind, is_mark};
-use crate::parsed::Parsed;
+use crate::parsed_items::ParsedItem;
 use stl_lexer::{GREATEST_NEGATED, GREATEST_NUMBER, Mark, Token, TokenKind};
 
 /// The number of one or more decimal digits, where it is at most `most`.
@@ -38,9 +38,9 @@ fn number_up_to(source: &[u8], token: &Token, most: u32) -> Option<u16>
 }
 
 /// The number of a number token; none where the token is another one, or above the greatest number.
-#[tactic(auto, unfolding(crate::specs::Numbers::number_of))]
+#[tactic(auto, unfolding(crate::specs::Numbers::number_of_token))]
 pub(crate) fn number(source: &[u8], token: &Token) -> Option<u16>
-    ensures { result ≡ number_of source.now token.now }
+    ensures { result ≡ number_of_token source.now token.now }
 {
     number_up_to(source, token, GREATEST_NUMBER)
 }
@@ -51,7 +51,7 @@ pub(crate) fn signed_number<'a>(
     source: &[u8],
     sign: &Token,
     tokens: &'a [Token],
-) -> Option<Parsed<'a, i32>>
+) -> Option<ParsedItem<'a, i32>>
     ensures { result ≡ signed_number_at source.now sign.now tokens.now }
 {
     let [token, rest @ ..] = tokens else {
@@ -59,10 +59,10 @@ pub(crate) fn signed_number<'a>(
     };
     if is_mark(source, sign, Mark::Minus) {
         let number = number_up_to(source, token, GREATEST_NEGATED)?;
-        Some(Parsed(0 - i32::from(number), rest))
+        Some(ParsedItem(0 - i32::from(number), rest))
     } else if is_mark(source, sign, Mark::Plus) {
         let number = number(source, token)?;
-        Some(Parsed(i32::from(number), rest))
+        Some(ParsedItem(i32::from(number), rest))
     } else {
         None
     }
@@ -70,14 +70,14 @@ pub(crate) fn signed_number<'a>(
 
 /// A decimal number with or without a sign, and what follows.
 #[tactic(auto, unfolding(crate::specs::Numbers::int_at))]
-pub(crate) fn int<'a>(source: &[u8], tokens: &'a [Token]) -> Option<Parsed<'a, i32>>
+pub(crate) fn int<'a>(source: &[u8], tokens: &'a [Token]) -> Option<ParsedItem<'a, i32>>
     ensures { result ≡ int_at source.now tokens.now }
 {
     let [token, rest @ ..] = tokens else {
         return None;
     };
     match number(source, token) {
-        Some(number) => Some(Parsed(i32::from(number), rest)),
+        Some(number) => Some(ParsedItem(i32::from(number), rest)),
         None => signed_number(source, token, rest),
     }
 }

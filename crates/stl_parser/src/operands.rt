@@ -10,11 +10,11 @@ ghost use Rattle.stl_parser.specs.Operands.{
   data_block_name,
   data_block_operand,
   direct_address_operand,
-  condition_of,
+  condition_word_operand,
   lone_word_operand,
   is_operand_word,
   plain_path,
-  sized_by_register,
+  operand_by_sized_register,
   word_operand,
   quoted_operand,
   mark_operand,
@@ -31,9 +31,9 @@ ghost use Rattle.stl_lexer.specs.Tokens.{text_of};
 use crate::addresses::{address, bit, is_address_word};
 use crate::keywords::{ClauseWord, has_kind, is_key, is_mark};
 use crate::literals::{literal, text_between_quotes};
-use crate::lookups::{address_of, flag_of, register_of};
+use crate::lookups::{address_kind_of, flag_of_word, register_entry};
 use crate::numbers::number;
-use crate::parsed::ParsedNumbered;
+use crate::parsed_items::NumberedItem;
 use crate::paths::{all_steps, path};
 use crate::pointers::{by_register, indirect, pointer};
 use crate::tables::AddressKind;
@@ -93,7 +93,7 @@ fn place(source: &[u8], address: AddressKind, byte: u16, rest: &[Token]) -> Opti
 fn block_place(source: &[u8], tokens: &[Token]) -> Option<(Width, u16, u8)>
     ensures { result ≡ block_place source.now tokens.now }
 {
-    let ParsedNumbered(address, byte, rest) = address(source, tokens)?;
+    let NumberedItem(address, byte, rest) = address(source, tokens)?;
     place(source, address, byte, rest)
 }
 
@@ -233,11 +233,11 @@ fn direct(
 }
 
 /// A condition of the status word.
-#[tactic(auto, unfolding(crate::specs::Operands::condition_of))]
+#[tactic(auto, unfolding(crate::specs::Operands::condition_word_operand))]
 fn condition(source: &[u8], token: &Token) -> Option<Operand>
-    ensures { result ≡ condition_of source.now token.now }
+    ensures { result ≡ condition_word_operand source.now token.now }
 {
-    let flag = flag_of(token.text(source))?;
+    let flag = flag_of_word(token.text(source))?;
     Some(Operand::OfStatus { flag })
 }
 
@@ -246,7 +246,7 @@ fn condition(source: &[u8], token: &Token) -> Option<Operand>
 fn other(alloc: Global, source: &[u8], token: &Token) -> Result<Option<Operand>, AllocError>
     ensures { IfOk result (λ found. found ≡ register_name_operand source.now token.now) }
 {
-    match register_of(token.text(source)) {
+    match register_entry(token.text(source)) {
         Some(true) => {
             let name = Name::new(alloc, token.text(source))?;
             Ok(Some(Operand::Other { name }))
@@ -281,8 +281,8 @@ fn is_operand_word(source: &[u8], token: &Token) -> bool
 {
     let word = token.text(source);
     is_address_word(word)
-        || flag_of(word).is_some()
-        || register_of(word).is_some()
+        || flag_of_word(word).is_some()
+        || register_entry(word).is_some()
         || is_key(source, token, ClauseWord::True)
         || is_key(source, token, ClauseWord::False)
 }
@@ -305,9 +305,9 @@ fn plain_path(
 }
 
 /// B, W or D before a pointer in a register that has the area.
-#[tactic(auto, unfolding(crate::specs::Operands::sized_by_register))]
-fn sized_by_register(source: &[u8], token: &Token, rest: &[Token]) -> Option<Operand>
-    ensures { result ≡ sized_by_register source.now token.now rest.now }
+#[tactic(auto, unfolding(crate::specs::Operands::operand_by_sized_register))]
+fn operand_by_sized_register(source: &[u8], token: &Token, rest: &[Token]) -> Option<Operand>
+    ensures { result ≡ operand_by_sized_register source.now token.now rest.now }
 {
     if is_key(source, token, ClauseWord::B) {
         by_register(source, None, Width::Byte, rest)
@@ -330,7 +330,7 @@ fn with_number(
     ensures { IfOk result (λ found. found ≡ operand_with_number source.now tokens.now) }
 {
     match address(source, tokens) {
-        Some(ParsedNumbered(address, number, rest)) => direct(alloc, source, address, number, rest),
+        Some(NumberedItem(address, number, rest)) => direct(alloc, source, address, number, rest),
         None => Ok(None),
     }
 }
@@ -340,7 +340,7 @@ fn with_number(
 fn with_pointer(source: &[u8], token: &Token, rest: &[Token]) -> Option<Operand>
     ensures { result ≡ operand_with_pointer source.now token.now rest.now }
 {
-    let address = address_of(token.text(source))?;
+    let address = address_kind_of(token.text(source))?;
     indirect(source, address, rest)
 }
 
@@ -364,7 +364,7 @@ fn word_operand(
     if let Some(operand) = with_pointer(source, token, rest) {
         return Ok(Some(operand));
     }
-    if let Some(operand) = sized_by_register(source, token, rest) {
+    if let Some(operand) = operand_by_sized_register(source, token, rest) {
         return Ok(Some(operand));
     }
     plain_path(alloc, source, token, rest)

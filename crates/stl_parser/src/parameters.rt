@@ -14,7 +14,7 @@ ghost use Rattle.stl_parser.specs.Statements.{
 
 use crate::keywords::{has_kind, is_mark};
 use crate::operands::operand;
-use crate::parsed::Parsed;
+use crate::parsed_items::ParsedItem;
 use std::alloc::{AllocError, Global};
 use stl_ast::{Actual, Name, Operand, Sequence};
 use stl_lexer::{Mark, Token, TokenKind};
@@ -71,7 +71,7 @@ fn actual<'a>(
     alloc: Global,
     source: &[u8],
     tokens: &'a [Token],
-) -> Result<Option<Parsed<'a, Actual>>, AllocError>
+) -> Result<Option<ParsedItem<'a, Actual>>, AllocError>
     ensures { IfOk result (λ found. found ≡ actual_at source.now tokens.now) }
 {
     let [word, assign, rest @ ..] = tokens else {
@@ -90,7 +90,7 @@ fn actual<'a>(
         name,
         value,
     };
-    Ok(Some(Parsed(actual, rest)))
+    Ok(Some(ParsedItem(actual, rest)))
 }
 
 /// A further actual parameter, behind its comma.
@@ -99,7 +99,7 @@ fn next_actual<'a>(
     alloc: Global,
     source: &[u8],
     tokens: &'a [Token],
-) -> Result<Option<Parsed<'a, Actual>>, AllocError>
+) -> Result<Option<ParsedItem<'a, Actual>>, AllocError>
     ensures { IfOk result (λ found. found ≡ next_actual source.now tokens.now) }
 {
     let [token, rest @ ..] = tokens else {
@@ -136,7 +136,7 @@ fn further_actuals<'a>(
     source: &[u8],
     first: Vec<Actual>,
     tokens: &'a [Token],
-) -> Result<Option<Parsed<'a, Sequence<Actual>>>, AllocError>
+) -> Result<Option<ParsedItem<'a, Sequence<Actual>>>, AllocError>
     ensures { IfOk result (λ found. found
         ≡ parts_from (actuals_end source.now) (next_actual source.now) first.items
         (length tokens.now) tokens.now) }
@@ -145,16 +145,16 @@ fn further_actuals<'a>(
     let mut rest = tokens;
     for _done in 0..tokens.len() {
         if let Some(end) = actuals_end(source, rest) {
-            return Ok(Some(Parsed(Sequence::from_vec(read), end)));
+            return Ok(Some(ParsedItem(Sequence::from_vec(read), end)));
         }
-        let Some(Parsed(actual, more)) = next_actual(alloc, source, rest)? else {
+        let Some(ParsedItem(actual, more)) = next_actual(alloc, source, rest)? else {
             return Ok(None);
         };
         read.push(actual)?;
         rest = more;
     }
     match actuals_end(source, rest) {
-        Some(end) => Ok(Some(Parsed(Sequence::from_vec(read), end))),
+        Some(end) => Ok(Some(ParsedItem(Sequence::from_vec(read), end))),
         None => Ok(None),
     }
 }
@@ -168,13 +168,13 @@ fn actuals_behind(
 ) -> Result<Option<Sequence<Actual>>, AllocError>
     ensures { IfOk result (λ found. found ≡ actuals_behind source.now tokens.now) }
 {
-    let Some(Parsed(actual, rest)) = actual(alloc, source, tokens)? else {
+    let Some(ParsedItem(actual, rest)) = actual(alloc, source, tokens)? else {
         return Ok(None);
     };
     let mut first = Vec::new(alloc);
     first.push(actual)?;
     match further_actuals(alloc, source, first, rest)? {
-        Some(Parsed(actuals, [])) => Ok(Some(actuals)),
+        Some(ParsedItem(actuals, [])) => Ok(Some(actuals)),
         _ => Ok(None),
     }
 }

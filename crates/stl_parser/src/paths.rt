@@ -6,21 +6,21 @@ ghost use Rattle.stl_parser.specs.Parts.{complete_reading};
 
 use crate::keywords::{has_kind, is_mark};
 use crate::numbers::int;
-use crate::parsed::Parsed;
+use crate::parsed_items::ParsedItem;
 use std::alloc::{AllocError, Global};
 use stl_ast::{Name, Operand, PathHead, PathStep, Sequence};
 use stl_lexer::{Mark, Token, TokenKind};
 
 /// `]` behind the index of a step.
 #[tactic(auto, unfolding(crate::specs::Operands::index_end))]
-fn index_end<'a>(source: &[u8], at: i32, tokens: &'a [Token]) -> Option<Parsed<'a, PathStep>>
+fn index_end<'a>(source: &[u8], at: i32, tokens: &'a [Token]) -> Option<ParsedItem<'a, PathStep>>
     ensures { result ≡ index_end source.now at tokens.now }
 {
     let [token, rest @ ..] = tokens else {
         return None;
     };
     if is_mark(source, token, Mark::CloseBracket) {
-        Some(Parsed(PathStep::Index { at }, rest))
+        Some(ParsedItem(PathStep::Index { at }, rest))
     } else {
         None
     }
@@ -32,7 +32,7 @@ fn name_step<'a>(
     alloc: Global,
     source: &[u8],
     tokens: &'a [Token],
-) -> Result<Option<Parsed<'a, PathStep>>, AllocError>
+) -> Result<Option<ParsedItem<'a, PathStep>>, AllocError>
     ensures { IfOk result (λ found. found ≡ name_step source.now tokens.now) }
 {
     let [token, rest @ ..] = tokens else {
@@ -42,15 +42,15 @@ fn name_step<'a>(
         return Ok(None);
     }
     let name = Name::new(alloc, token.text(source))?;
-    Ok(Some(Parsed(PathStep::Named { name }, rest)))
+    Ok(Some(ParsedItem(PathStep::Named { name }, rest)))
 }
 
 /// An index in brackets, behind its `[`.
-fn index_step<'a>(source: &[u8], tokens: &'a [Token]) -> Option<Parsed<'a, PathStep>>
+fn index_step<'a>(source: &[u8], tokens: &'a [Token]) -> Option<ParsedItem<'a, PathStep>>
     ensures { result
         ≡ option_and_then (λ r. index_end source.now r.0 r.1) (int_at source.now tokens.now) }
 {
-    let Parsed(at, rest) = int(source, tokens)?;
+    let ParsedItem(at, rest) = int(source, tokens)?;
     index_end(source, at, rest)
 }
 
@@ -60,7 +60,7 @@ fn step<'a>(
     alloc: Global,
     source: &[u8],
     tokens: &'a [Token],
-) -> Result<Option<Parsed<'a, PathStep>>, AllocError>
+) -> Result<Option<ParsedItem<'a, PathStep>>, AllocError>
     ensures { IfOk result (λ found. found ≡ step_at source.now tokens.now) }
 {
     let [token, rest @ ..] = tokens else {
@@ -99,23 +99,23 @@ pub(crate) fn steps<'a>(
     source: &[u8],
     first: Vec<PathStep>,
     tokens: &'a [Token],
-) -> Result<Option<Parsed<'a, Sequence<PathStep>>>, AllocError>
+) -> Result<Option<ParsedItem<'a, Sequence<PathStep>>>, AllocError>
     ensures { IfOk result (λ found. found ≡ steps_from source.now first.items tokens.now) }
 {
     let mut read = first;
     let mut rest = tokens;
     for _done in 0..tokens.len() {
         if let Some(end) = path_end(source, rest) {
-            return Ok(Some(Parsed(Sequence::from_vec(read), end)));
+            return Ok(Some(ParsedItem(Sequence::from_vec(read), end)));
         }
-        let Some(Parsed(step, more)) = step(alloc, source, rest)? else {
+        let Some(ParsedItem(step, more)) = step(alloc, source, rest)? else {
             return Ok(None);
         };
         read.push(step)?;
         rest = more;
     }
     match path_end(source, rest) {
-        Some(end) => Ok(Some(Parsed(Sequence::from_vec(read), end))),
+        Some(end) => Ok(Some(ParsedItem(Sequence::from_vec(read), end))),
         None => Ok(None),
     }
 }
@@ -131,7 +131,7 @@ pub(crate) fn all_steps(
         ≡ complete_reading (steps_from source.now first.items tokens.now)) }
 {
     match steps(alloc, source, first, tokens)? {
-        Some(Parsed(steps, [])) => Ok(Some(steps)),
+        Some(ParsedItem(steps, [])) => Ok(Some(steps)),
         _ => Ok(None),
     }
 }

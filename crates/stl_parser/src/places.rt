@@ -79,7 +79,7 @@ pub(crate) fn is_outer(at: ClausePlace) -> bool
     }
 }
 
-/// How many structures are open, inside the one of a data block.
+/// How many structures are open at a place; the one that is the type of a block isn't counted.
 pub(crate) fn level_at(at: ClausePlace) -> u32
     ensures { result ≡ level_at at }
 {

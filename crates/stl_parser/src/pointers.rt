@@ -2,7 +2,7 @@ ghost use Rattle.std.specs.Prelude.{◌≡◌};
 ghost use Rattle.std.specs.Option.{option_and_then};
 ghost use Rattle.stl_parser.specs.Addresses.{address_at};
 ghost use Rattle.stl_parser.specs.Operands.{
-  register_of as register_number,
+  register_number,
   offset_of,
   register_pointer,
   operand_by_register,
@@ -21,21 +21,27 @@ ghost use Rattle.stl_parser.specs.Operands.{
 use crate::addresses::{address, bit};
 use crate::keywords::{ClauseWord, has_kind, is_key, is_mark};
 use crate::numbers::number;
-use crate::parsed::ParsedNumbered;
+use crate::parsed_items::NumberedItem;
 use crate::tables::AddressKind;
 use plc_base::Width;
 use stl_ast::{Letters, Numbered, Operand};
 use stl_lexer::{Mark, Token, TokenKind};
 
+/// The number of the address register AR1.
+const AR1_REGISTER: u8 = 1;
+
+/// The number of the address register AR2.
+const AR2_REGISTER: u8 = 2;
+
 /// The number of an address register.
-#[tactic(auto, unfolding(crate::specs::Operands::register_of))]
+#[tactic(auto, unfolding(crate::specs::Operands::register_number))]
 fn register_number(source: &[u8], token: &Token) -> Option<u8>
     ensures { result ≡ register_number source.now token.now }
 {
     if is_key(source, token, ClauseWord::Ar1) {
-        Some(1)
+        Some(AR1_REGISTER)
     } else if is_key(source, token, ClauseWord::Ar2) {
-        Some(2)
+        Some(AR2_REGISTER)
     } else {
         None
     }
@@ -169,7 +175,7 @@ fn memory_pointer(source: &[u8], pointer: bool, tokens: &[Token]) -> Option<(Let
     if !is_mark(source, open, Mark::OpenBracket) {
         return None;
     }
-    let ParsedNumbered(address, byte, rest) = address(source, rest)?;
+    let NumberedItem(address, byte, rest) = address(source, rest)?;
     pointer_end(source, pointer, address, byte, rest)
 }
 
@@ -252,7 +258,7 @@ fn address_pointer(source: &[u8], tokens: &[Token]) -> Option<Operand>
     ensures { result ≡ option_and_then
         (λ r. area_pointer source.now r.0 r.1 r.2) (address_at source.now tokens.now) }
 {
-    let ParsedNumbered(address, byte, rest) = address(source, tokens)?;
+    let NumberedItem(address, byte, rest) = address(source, tokens)?;
     area_pointer(source, address, byte, rest)
 }
 

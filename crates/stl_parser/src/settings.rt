@@ -4,7 +4,7 @@ ghost use Rattle.stl_parser.specs.Clauses.{first_step, value_behind, setting_of}
 use crate::keywords::is_mark;
 use crate::literals::literal;
 use crate::operands::local_name;
-use crate::parsed::Parsed;
+use crate::parsed_items::ParsedItem;
 use crate::paths::steps;
 use std::alloc::{AllocError, Global};
 use stl_ast::{Name, PathStep, Sequence, Setting};
@@ -66,7 +66,7 @@ pub(crate) fn setting_of(
     };
     let mut first = Vec::new(alloc);
     first.push(step)?;
-    let Some(Parsed(path, rest)) = steps(alloc, source, first, rest)? else {
+    let Some(ParsedItem(path, rest)) = steps(alloc, source, first, rest)? else {
         return Ok(None);
     };
     Ok(value_behind(source, line, path, rest))

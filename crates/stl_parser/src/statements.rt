@@ -30,7 +30,7 @@ use crate::literals::text_between_quotes;
 use crate::lookups::{mnemonic_of, opening_mnemonic_of};
 use crate::operands::operand;
 use crate::parameters::actuals;
-use crate::parsed::Parsed;
+use crate::parsed_items::ParsedItem;
 use crate::tables::OperandSyntax;
 use std::alloc::{AllocError, Global};
 use stl_ast::{Actual, BlockName, Mnemonic, Name, Operand, Sequence, Statement};
@@ -75,14 +75,14 @@ fn data_block<'a>(
     alloc: Global,
     source: &[u8],
     tokens: &'a [Token],
-) -> Result<Option<Parsed<'a, BlockName>>, AllocError>
+) -> Result<Option<ParsedItem<'a, BlockName>>, AllocError>
     ensures { IfOk result (λ found. found ≡ data_block_at source.now tokens.now) }
 {
-    let Some(Parsed(name, rest)) = block(alloc, source, tokens)? else {
+    let Some(ParsedItem(name, rest)) = block(alloc, source, tokens)? else {
         return Ok(None);
     };
     if may_be_db(&name) {
-        Ok(Some(Parsed(name, rest)))
+        Ok(Some(ParsedItem(name, rest)))
     } else {
         Ok(None)
     }
@@ -95,22 +95,22 @@ fn instance<'a>(
     source: &[u8],
     name: &BlockName,
     tokens: &'a [Token],
-) -> Result<Option<Parsed<'a, Option<BlockName>>>, AllocError>
+) -> Result<Option<ParsedItem<'a, Option<BlockName>>>, AllocError>
     ensures { IfOk result (λ found. found ≡ instance_at source.now name.now tokens.now) }
 {
     let [token, rest @ ..] = tokens else {
-        return Ok(Some(Parsed(None, tokens)));
+        return Ok(Some(ParsedItem(None, tokens)));
     };
     if !is_mark(source, token, Mark::Comma) {
-        return Ok(Some(Parsed(None, tokens)));
+        return Ok(Some(ParsedItem(None, tokens)));
     }
     if !may_be_fb(name) {
         return Ok(None);
     }
-    let Some(Parsed(instance, rest)) = data_block(alloc, source, rest)? else {
+    let Some(ParsedItem(instance, rest)) = data_block(alloc, source, rest)? else {
         return Ok(None);
     };
-    Ok(Some(Parsed(Some(instance), rest)))
+    Ok(Some(ParsedItem(Some(instance), rest)))
 }
 
 /// An instruction without actual parameters and without a label that is too long.
@@ -135,10 +135,10 @@ fn call(
 ) -> Result<Option<BareStatement>, AllocError>
     ensures { IfOk result (λ found. found ≡ call_of source.now code tokens.now) }
 {
-    let Some(Parsed(name, rest)) = block(alloc, source, tokens)? else {
+    let Some(ParsedItem(name, rest)) = block(alloc, source, tokens)? else {
         return Ok(None);
     };
-    let Some(Parsed(instance, rest)) = instance(alloc, source, &name, rest)? else {
+    let Some(ParsedItem(instance, rest)) = instance(alloc, source, &name, rest)? else {
         return Ok(None);
     };
     let Some(actuals) = actuals(alloc, source, rest)? else {
@@ -164,7 +164,7 @@ fn block_call(
     ensures { IfOk result (λ found. found ≡ block_call_of source.now code tokens.now) }
 {
     match block(alloc, source, tokens)? {
-        Some(Parsed(name, [])) => {
+        Some(ParsedItem(name, [])) => {
             let operand = Operand::Called {
                 name,
                 instance: None,

@@ -12,7 +12,7 @@ pub enum AddressKind {
     Block { di: bool },
 }
 
-/// A keyword that begins a clause wherever it stands at the start of one.
+/// A word that begins a clause at every place.
 #[derive(Clone, Copy)]
 pub enum Keyword {
     /// The word that opens a block.
@@ -410,8 +410,7 @@ pub static ADDRESSES: [(&[u8], AddressKind); 34] = [
 ];
 
 /// The instruction words, with the marks and sign words that are instructions, and what may stand
-/// behind each. A second language's
-/// words would stand in a table of their own beside this one.
+/// behind each. A second language's words would stand in a table of their own beside this one.
 pub static MNEMONICS: [(&[u8], (Mnemonic, OperandSyntax)); 118] = [
     (b"NOP", (Mnemonic::Nop, OperandSyntax::Operand)),
     (b"BLD", (Mnemonic::Bld, OperandSyntax::Operand)),
@@ -533,7 +532,7 @@ pub static MNEMONICS: [(&[u8], (Mnemonic, OperandSyntax)); 118] = [
     (b"CDB", (Mnemonic::Cdb, OperandSyntax::Operand)),
 ];
 
-/// The instruction words that open a bracket, or a zone of the master control relay, with the `(`
+/// The instruction words that open a bracket, or a zone of the master control relay, without the `(`
 /// behind them.
 pub static OPENING_MNEMONICS: [(&[u8], Mnemonic); 7] = [
     (b"A", Mnemonic::AOpen),

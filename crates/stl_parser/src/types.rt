@@ -28,7 +28,7 @@ use crate::keywords::{ClauseWord, has_kind, is_key, is_mark};
 use crate::literals::{literal, literal_at};
 use crate::lookups::simple_type_of;
 use crate::numbers::{int, number};
-use crate::parsed::Parsed;
+use crate::parsed_items::ParsedItem;
 use plc_base::BlockKind;
 use std::alloc::{AllocError, Global};
 use stl_ast::{BlockName, Bounds, ElementType, Init, Literal, Sequence};
@@ -41,32 +41,32 @@ fn array_end<'a>(
     low: i32,
     high: i32,
     tokens: &'a [Token],
-) -> Option<Parsed<'a, Bounds>>
+) -> Option<ParsedItem<'a, Bounds>>
     ensures { result ≡ array_end source.now low high tokens.now }
 {
     let [close, of, rest @ ..] = tokens else {
         return None;
     };
     if is_mark(source, close, Mark::CloseBracket) && is_key(source, of, ClauseWord::Of) {
-        Some(Parsed(Bounds { low, high }, rest))
+        Some(ParsedItem(Bounds { low, high }, rest))
     } else {
         None
     }
 }
 
 /// The upper bound and `] OF`, behind the `..`.
-fn array_rest<'a>(source: &[u8], low: i32, tokens: &'a [Token]) -> Option<Parsed<'a, Bounds>>
+fn array_rest<'a>(source: &[u8], low: i32, tokens: &'a [Token]) -> Option<ParsedItem<'a, Bounds>>
     ensures { result
         ≡ option_and_then (λ r. array_end source.now low r.0 r.1)
         (int_at source.now tokens.now) }
 {
-    let Parsed(high, rest) = int(source, tokens)?;
+    let ParsedItem(high, rest) = int(source, tokens)?;
     array_end(source, low, high, rest)
 }
 
 /// `.. high ] OF` behind the lower bound.
 #[tactic(auto, unfolding(crate::specs::Types::array_high))]
-fn array_high<'a>(source: &[u8], low: i32, tokens: &'a [Token]) -> Option<Parsed<'a, Bounds>>
+fn array_high<'a>(source: &[u8], low: i32, tokens: &'a [Token]) -> Option<ParsedItem<'a, Bounds>>
     ensures { result ≡ array_high source.now low tokens.now }
 {
     let [dots, rest @ ..] = tokens else {
@@ -80,17 +80,17 @@ fn array_high<'a>(source: &[u8], low: i32, tokens: &'a [Token]) -> Option<Parsed
 }
 
 /// The bounds of an array, behind its `[`.
-fn array_bounds<'a>(source: &[u8], tokens: &'a [Token]) -> Option<Parsed<'a, Bounds>>
+fn array_bounds<'a>(source: &[u8], tokens: &'a [Token]) -> Option<ParsedItem<'a, Bounds>>
     ensures { result
         ≡ option_and_then (λ r. array_high source.now r.0 r.1) (int_at source.now tokens.now) }
 {
-    let Parsed(low, rest) = int(source, tokens)?;
+    let ParsedItem(low, rest) = int(source, tokens)?;
     array_high(source, low, rest)
 }
 
 /// `ARRAY [ low .. high ] OF`, and what follows.
 #[tactic(auto, unfolding(crate::specs::Types::array_at))]
-fn array<'a>(source: &[u8], tokens: &'a [Token]) -> Option<Parsed<'a, Bounds>>
+fn array<'a>(source: &[u8], tokens: &'a [Token]) -> Option<ParsedItem<'a, Bounds>>
     ensures { result ≡ array_at source.now tokens.now }
 {
     let [array, open, rest @ ..] = tokens else {
@@ -120,23 +120,23 @@ pub(crate) fn arrays<'a>(
     alloc: Global,
     source: &[u8],
     tokens: &'a [Token],
-) -> Result<Option<Parsed<'a, Sequence<Bounds>>>, AllocError>
+) -> Result<Option<ParsedItem<'a, Sequence<Bounds>>>, AllocError>
     ensures { IfOk result (λ found. found ≡ arrays_at source.now tokens.now) }
 {
     let mut read = Vec::new(alloc);
     let mut rest = tokens;
     for _done in 0..tokens.len() {
         if let Some(end) = arrays_end(source, rest) {
-            return Ok(Some(Parsed(Sequence::from_vec(read), end)));
+            return Ok(Some(ParsedItem(Sequence::from_vec(read), end)));
         }
-        let Some(Parsed(bounds, more)) = array(source, rest) else {
+        let Some(ParsedItem(bounds, more)) = array(source, rest) else {
             return Ok(None);
         };
         read.push(bounds)?;
         rest = more;
     }
     match arrays_end(source, rest) {
-        Some(end) => Ok(Some(Parsed(Sequence::from_vec(read), end))),
+        Some(end) => Ok(Some(ParsedItem(Sequence::from_vec(read), end))),
         None => Ok(None),
     }
 }
@@ -157,17 +157,21 @@ fn udt_name(name: BlockName) -> Option<BlockName>
 
 /// An elementary type or DATE_AND_TIME, and what follows.
 #[tactic(auto, unfolding(crate::specs::Types::simple_at))]
-fn simple<'a>(source: &[u8], token: &Token, rest: &'a [Token]) -> Option<Parsed<'a, ElementType>>
+fn simple<'a>(
+    source: &[u8],
+    token: &Token,
+    rest: &'a [Token],
+) -> Option<ParsedItem<'a, ElementType>>
     ensures { result ≡ simple_at source.now token.now rest.now }
 {
     if !has_kind(token, TokenKind::Word) {
         return None;
     }
     if is_key(source, token, ClauseWord::DateAndTime) {
-        return Some(Parsed(ElementType::DateAndTime, rest));
+        return Some(ParsedItem(ElementType::DateAndTime, rest));
     }
     let kind = simple_type_of(token.text(source))?;
-    Some(Parsed(ElementType::Plain { kind }, rest))
+    Some(ParsedItem(ElementType::Plain { kind }, rest))
 }
 
 /// A user-defined data type, and what follows.
@@ -176,16 +180,16 @@ fn udt<'a>(
     alloc: Global,
     source: &[u8],
     tokens: &'a [Token],
-) -> Result<Option<Parsed<'a, ElementType>>, AllocError>
+) -> Result<Option<ParsedItem<'a, ElementType>>, AllocError>
     ensures { IfOk result (λ found. found ≡ udt_at source.now tokens.now) }
 {
-    let Some(Parsed(name, rest)) = block(alloc, source, tokens)? else {
+    let Some(ParsedItem(name, rest)) = block(alloc, source, tokens)? else {
         return Ok(None);
     };
     let Some(name) = udt_name(name) else {
         return Ok(None);
     };
-    Ok(Some(Parsed(ElementType::Udt { name }, rest)))
+    Ok(Some(ParsedItem(ElementType::Udt { name }, rest)))
 }
 
 /// An element type other than a structure, and what follows.
@@ -194,7 +198,7 @@ pub(crate) fn element<'a>(
     alloc: Global,
     source: &[u8],
     tokens: &'a [Token],
-) -> Result<Option<Parsed<'a, ElementType>>, AllocError>
+) -> Result<Option<ParsedItem<'a, ElementType>>, AllocError>
     ensures { IfOk result (λ found. found ≡ element_at source.now tokens.now) }
 {
     let [token, rest @ ..] = tokens else {
@@ -213,7 +217,7 @@ fn counted_end<'a>(
     count: u16,
     value: Literal,
     tokens: &'a [Token],
-) -> Option<Parsed<'a, Init>>
+) -> Option<ParsedItem<'a, Init>>
     ensures { result ≡ counted_init_end source.now count value tokens.now }
 {
     let [token, rest @ ..] = tokens else {
@@ -221,7 +225,7 @@ fn counted_end<'a>(
     };
     if is_mark(source, token, Mark::CloseParen) {
         let count = Some(count);
-        Some(Parsed(Init { count, value }, rest))
+        Some(ParsedItem(Init { count, value }, rest))
     } else {
         None
     }
@@ -229,7 +233,7 @@ fn counted_end<'a>(
 
 /// `n (value)`, and what follows.
 #[tactic(auto, unfolding(crate::specs::Types::counted_init_at))]
-fn counted_init<'a>(source: &[u8], tokens: &'a [Token]) -> Option<Parsed<'a, Init>>
+fn counted_init<'a>(source: &[u8], tokens: &'a [Token]) -> Option<ParsedItem<'a, Init>>
     ensures { result ≡ counted_init_at source.now tokens.now }
 {
     let [token, open, rest @ ..] = tokens else {
@@ -239,27 +243,27 @@ fn counted_init<'a>(source: &[u8], tokens: &'a [Token]) -> Option<Parsed<'a, Ini
         return None;
     }
     let count = number(source, token)?;
-    let Parsed(value, rest) = literal_at(source, rest)?;
+    let ParsedItem(value, rest) = literal_at(source, rest)?;
     counted_end(source, count, value, rest)
 }
 
 /// An initial value, `n (value)` or a value, and what follows.
 #[tactic(auto, unfolding(crate::specs::Types::init_at))]
-fn init<'a>(source: &[u8], tokens: &'a [Token]) -> Option<Parsed<'a, Init>>
+fn init<'a>(source: &[u8], tokens: &'a [Token]) -> Option<ParsedItem<'a, Init>>
     ensures { result ≡ init_at source.now tokens.now }
 {
     match counted_init(source, tokens) {
         Some(found) => Some(found),
         None => {
-            let Parsed(value, rest) = literal_at(source, tokens)?;
-            Some(Parsed(Init { count: None, value }, rest))
+            let ParsedItem(value, rest) = literal_at(source, tokens)?;
+            Some(ParsedItem(Init { count: None, value }, rest))
         }
     }
 }
 
 /// A further initial value, behind its comma.
 #[tactic(auto, unfolding(crate::specs::Types::next_init))]
-fn next_init<'a>(source: &[u8], tokens: &'a [Token]) -> Option<Parsed<'a, Init>>
+fn next_init<'a>(source: &[u8], tokens: &'a [Token]) -> Option<ParsedItem<'a, Init>>
     ensures { result ≡ next_init source.now tokens.now }
 {
     let [token, rest @ ..] = tokens else {
@@ -289,7 +293,7 @@ fn further_inits<'a>(
     source: &[u8],
     first: Vec<Init>,
     tokens: &'a [Token],
-) -> Result<Option<Parsed<'a, Sequence<Init>>>, AllocError>
+) -> Result<Option<ParsedItem<'a, Sequence<Init>>>, AllocError>
     ensures { IfOk result (λ found. found
         ≡ parts_from end_of_tokens (next_init source.now) first.items
         (length tokens.now) tokens.now) }
@@ -298,16 +302,16 @@ fn further_inits<'a>(
     let mut rest = tokens;
     for _done in 0..tokens.len() {
         if let Some(end) = at_end(rest) {
-            return Ok(Some(Parsed(Sequence::from_vec(read), end)));
+            return Ok(Some(ParsedItem(Sequence::from_vec(read), end)));
         }
-        let Some(Parsed(init, more)) = next_init(source, rest) else {
+        let Some(ParsedItem(init, more)) = next_init(source, rest) else {
             return Ok(None);
         };
         read.push(init)?;
         rest = more;
     }
     match at_end(rest) {
-        Some(end) => Ok(Some(Parsed(Sequence::from_vec(read), end))),
+        Some(end) => Ok(Some(ParsedItem(Sequence::from_vec(read), end))),
         None => Ok(None),
     }
 }
@@ -321,13 +325,13 @@ fn init_list(
 ) -> Result<Option<Sequence<Init>>, AllocError>
     ensures { IfOk result (λ found. found ≡ init_list source.now tokens.now) }
 {
-    let Some(Parsed(init, rest)) = init(source, tokens) else {
+    let Some(ParsedItem(init, rest)) = init(source, tokens) else {
         return Ok(None);
     };
     let mut first = Vec::new(alloc);
     first.push(init)?;
     match further_inits(source, first, rest)? {
-        Some(Parsed(inits, [])) => Ok(Some(inits)),
+        Some(ParsedItem(inits, [])) => Ok(Some(inits)),
         _ => Ok(None),
     }
 }

@@ -23,7 +23,7 @@ abbrev pub structure_ends : ℕ → List Clause
 structure_ends count = replicate count clause.EndStructure
 
 -- declarations, where so many structures are open: each closes those that it doesn't stand in, and
--- the last one all
+-- behind the last one all are closed
 abbrev pub declaration_clauses_from : (level : ℕ) → List Declaration → List Clause
 declaration_clauses_from level [] = structure_ends level
 declaration_clauses_from level (d ∷ ds) =

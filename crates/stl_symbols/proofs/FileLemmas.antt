@@ -32,7 +32,7 @@ use Rattle.stl_symbols.specs.Symbols.{and_then_lines, symbol_declaration, declar
 use Rattle.stl_symbols.specs.declared.addresses.AddressLetters.{AddressLetters}
 use Rattle.stl_symbols.specs.declared.addresses.AddressLetters.TheVariants as letters
 use Rattle.stl_symbols.specs.declared.languages.Language.{Language}
-use Rattle.stl_symbols.proofs.FoundLemmas.{chained, found, mapped, passed}
+use Rattle.stl_symbols.proofs.FoundLemmas.{chain_holds, search_holds, map_holds, then_holds}
 
 -- ---- what an address names
 
@@ -41,21 +41,21 @@ abbrev Declares : {A : Type 0} → List ℕ → (A → Option Symbol) → A → 
 Declares name view a = IfSome (view a) (λ s. (s.name ≡ name) × IsSymbolTarget s.target)
 
 number_within : (text : List ℕ) → IfSome (number_of_address text) (λ n. n ≤ 65535)
-number_within text = found (number_of_address text) (λ n. n ≤ 65535) (decimal_range 65535 text)
+number_within text = search_holds (number_of_address text) (λ n. n ≤ 65535) (decimal_range 65535 text)
 
 bit_within : (text : List ℕ) → IfSome (bit_behind text) (λ bit. bit ≤ 7)
 bit_within [] = tt
-bit_within (point ∷ digits) = found (bit_behind (point ∷ digits)) (λ bit. bit ≤ 7) (decimal_range 7 digits)
+bit_within (point ∷ digits) = search_holds (bit_behind (point ∷ digits)) (λ bit. bit ≤ 7) (decimal_range 7 digits)
 
 bit_named : (name : List ℕ) (a : Area) (text : List ℕ) → has_symbols a ≡ true
     → IfSome (bit_address a text) (Declares name (declared_symbol name))
 unfolding bit_address
 bit_named name a text has =
     let point = prefix_len (λ b. not (b == 46)) text in
-    chained (number_of_address (take point text)) _ (λ byte. byte ≤ 65535) (Declares name (declared_symbol name))
+    chain_holds (number_of_address (take point text)) _ (λ byte. byte ≤ 65535) (Declares name (declared_symbol name))
     (number_within (take point text))
     (λ byte low.
-    mapped (bit_behind (drop point text)) _ (λ bit. bit ≤ 7) (Declares name (declared_symbol name))
+    map_holds (bit_behind (drop point text)) _ (λ bit. bit ≤ 7) (Declares name (declared_symbol name))
     (bit_within (drop point text))
     (λ bit few. (refl, record { area = has; number = refl; byte = low; bit = few })))
 
@@ -68,7 +68,7 @@ first_bit width.Dword = refl
 byte_named : (name : List ℕ) (a : Area) (w : Width) (text : List ℕ) → has_symbols a ≡ true
     → IfSome (option_map (λ n. variable_address a w n 0) (number_of_address text)) (Declares name (declared_symbol name))
 byte_named name a w text has =
-    mapped (number_of_address text) _ (λ n. n ≤ 65535) (Declares name (declared_symbol name)) (number_within text)
+    map_holds (number_of_address text) _ (λ n. n ≤ 65535) (Declares name (declared_symbol name)) (number_within text)
     (λ n low. (refl, record { area = has; number = refl; byte = low; bit = first_bit w }))
 
 -- the area of letters is one of those that have symbols
@@ -83,13 +83,13 @@ letters_name name (letters.Variable a width.Byte) text right = byte_named name a
 letters_name name (letters.Variable a width.Word) text right = byte_named name a width.Word text right
 letters_name name (letters.Variable a width.Dword) text right = byte_named name a width.Dword text right
 letters_name name letters.Timer text right =
-    mapped (number_of_address text) _ (λ n. n ≤ 65535) (Declares name (declared_symbol name)) (number_within text) (λ n low. (refl, low))
+    map_holds (number_of_address text) _ (λ n. n ≤ 65535) (Declares name (declared_symbol name)) (number_within text) (λ n low. (refl, low))
 letters_name name letters.Counter text right =
-    mapped (number_of_address text) _ (λ n. n ≤ 65535) (Declares name (declared_symbol name)) (number_within text) (λ n low. (refl, low))
+    map_holds (number_of_address text) _ (λ n. n ≤ 65535) (Declares name (declared_symbol name)) (number_within text) (λ n low. (refl, low))
 letters_name name (letters.Block kind) text right =
-    mapped (number_of_address text) _ (λ n. n ≤ 65535) (Declares name (declared_symbol name)) (number_within text) (λ n low. (refl, low))
+    map_holds (number_of_address text) _ (λ n. n ≤ 65535) (Declares name (declared_symbol name)) (number_within text) (λ n low. (refl, low))
 letters_name name letters.NoSymbol text right =
-    mapped (number_of_address text) _ (λ n. n ≤ 65535) (Declares name (declared_symbol name)) (number_within text) (λ n low. tt)
+    map_holds (number_of_address text) _ (λ n. n ≤ 65535) (Declares name (declared_symbol name)) (number_within text) (λ n low. tt)
 
 -- letters of a table are right where all of them are
 found_right : (language : Language) (table : List (List ℕ × List ℕ × AddressLetters)) (word : List ℕ)
@@ -118,7 +118,7 @@ address_named : (language : Language) (name text : List ℕ)
 unfolding address_of
 address_named language name text =
     let digits = prefix_len (λ b. not (is_ascii_digit b)) text in
-    chained (letters_spelled_as language address_letters (take digits text)) _ (λ l. is_right l ≡ true)
+    chain_holds (letters_spelled_as language address_letters (take digits text)) _ (λ l. is_right l ≡ true)
     (Declares name (declared_symbol name)) (found_right language address_letters (take digits text) all_right)
     (λ l right. letters_name name l (drop digits text) right)
 
@@ -196,12 +196,12 @@ line_named language P line bytes =
     let name = without_last_blanks line.name in
     let address = without_blanks line.address in
     let kind = without_last_blanks line.kind in
-    passed (is_name name) _ (λ d. IfSome d (IsLineSymbol P))
+    then_holds (is_name name) _ (λ d. IfSome d (IsLineSymbol P))
     (λ named.
-    chained (address_of language address) _ (Declares name (declared_symbol name))
+    chain_holds (address_of language address) _ (Declares name (declared_symbol name))
     (λ d. IfSome d (IsLineSymbol P)) (address_named language name address)
     (λ a at.
-    passed (has_type a kind) (Some (declared_symbol name a)) (λ d. IfSome d (IsLineSymbol P))
+    then_holds (has_type a kind) (Some (declared_symbol name a)) (λ d. IfSome d (IsLineSymbol P))
     (λ typed. symbol_named_by P line.name (declared_symbol name a) named bytes at)))
 
 -- ---- the bytes of lines and of their fields
@@ -323,7 +323,7 @@ name_column : (P : ℕ → Type 0) (line : List ℕ) → AllByRecursion P line
     → IfSome (columns_of_line line) (λ c. AllByRecursion P c.name)
 unfolding columns_of_line only_record
 name_column P line h =
-    chained (only_record line) columns_of (λ fields. AllByRecursion (AllByRecursion P) fields)
+    chain_holds (only_record line) columns_of (λ fields. AllByRecursion (AllByRecursion P) fields)
     (λ c. AllByRecursion P c.name)
     (alone_keeps P (next_record default_config st.StartRecord [] [] (strip_bom line))
     (record_keeps P st.StartRecord [] [] (strip_bom line) tt tt (bare P line h)))

@@ -116,7 +116,8 @@ type_names_of_width Dword =
 abbrev pub names_type_among : List (List ℕ) → List ℕ → Bool
 names_type_among types kind = list_any (λ t. bytes_eq kind t) types
 
--- whether an address may have the type of this name; a block's is any text
+-- whether an address may have the type of this name; that of a block, or of an address that gives
+-- no symbol, is any text
 unfoldable pub has_type : SymbolAddress → List ℕ → Bool
 has_type (Names (Variable place width)) kind = names_type_among (type_names_of_width width) kind
 has_type (Names (Timer number)) kind = names_type_among (codes "TIMER" ∷ []) kind

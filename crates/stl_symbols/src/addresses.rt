@@ -251,7 +251,7 @@ fn letters_in<'a>(language: Language, english: &'a [u8], german: &'a [u8]) -> &'
 }
 
 /// What stands beside letters in a table.
-fn entry_of(
+fn letters_entry(
     language: Language,
     table: &[(&[u8], &[u8], AddressLetters)],
     word: &[u8],
@@ -274,7 +274,7 @@ fn look_up(
     ensures { result
         ≡ letters_spelled_as language (map (λ e. (e.0.now, e.1.now, e.2)) table.now) word.now }
 {
-    entry_of(language, table, word)
+    letters_entry(language, table, word)
 }
 
 /// What the letters of an address stand for.
@@ -287,7 +287,7 @@ fn letters_of(language: Language, word: &[u8]) -> Option<AddressLetters>
 
 /// The number of an address.
 #[tactic(auto, using(plc_base::proofs::DecimalLemmas::decimal_range))]
-fn number_of(text: &[u8]) -> Option<u16>
+fn number_of_address(text: &[u8]) -> Option<u16>
     ensures { result ≡ number_of_address text.now }
 {
     let number = decimal_up_to(text, LAST_NUMBER)?;
@@ -337,7 +337,7 @@ fn bit_address(area: Area, text: &[u8]) -> Option<SymbolAddress>
     ensures { result ≡ bit_address area text.now }
 {
     let (number, behind) = text.split_at(point_of(text));
-    let byte = number_of(number)?;
+    let byte = number_of_address(number)?;
     let bit = bit_behind(behind)?;
     Some(variable(area, Width::Bit, byte, bit))
 }
@@ -354,23 +354,23 @@ fn numbered_address(letters: AddressLetters, text: &[u8]) -> Option<SymbolAddres
         AddressLetters::Variable { area, width } => return Some(variable(
             area,
             width,
-            number_of(text)?,
+            number_of_address(text)?,
             0,
         )),
         AddressLetters::Timer => Target::Timer {
-            number: number_of(text)?,
+            number: number_of_address(text)?,
         },
         AddressLetters::Counter => Target::Counter {
-            number: number_of(text)?,
+            number: number_of_address(text)?,
         },
         AddressLetters::Block { kind } => Target::Block {
             id: BlockId {
                 kind,
-                number: number_of(text)?,
+                number: number_of_address(text)?,
             },
         },
         AddressLetters::NoSymbol => {
-            number_of(text)?;
+            number_of_address(text)?;
             return Some(SymbolAddress::NoSymbol);
         }
     };
@@ -416,7 +416,8 @@ fn is_variable_type(width: Width, kind: &[u8]) -> bool
     }
 }
 
-/// Whether an address may have the type of this name; a block's is any text.
+/// Whether an address may have the type of this name; that of a block, or of an address that gives
+/// no symbol, is any text.
 #[tactic(auto, unfolding(crate::specs::Address::has_type))]
 pub(crate) fn has_type(address: SymbolAddress, kind: &[u8]) -> bool
     ensures { result ≡ has_type address kind.now }

@@ -44,7 +44,7 @@ fn target_at(list: &[Symbol], place: usize) -> Option<Target>
 
 /// What the symbol of a name names, by the names with the letters a to z as A to Z.
 #[tactic(auto, using(crate::proofs::SymbolLemmas::symbol_placed, crate::proofs::SymbolLemmas::no_long_name))]
-fn target_of(list: &[Symbol], names: &NameIndex, name: &[u8]) -> Option<Target>
+fn target_named(list: &[Symbol], names: &NameIndex, name: &[u8]) -> Option<Target>
     requires names { names.now ≡ map (λ symbol. upper_case_name symbol.name) list.now }
     requires short { All (λ symbol. length symbol.name ≤ 24) list.now }
     ensures { result ≡ option_map (λ symbol. symbol.target) (symbol_named name.now list.now) }
@@ -105,7 +105,7 @@ impl Symbols {
         ensures { result
             ≡ option_map (λ symbol. symbol.target) (symbol_named name.now self.now) }
     {
-        target_of(self.list.as_slice(), &self.names, name)
+        target_named(self.list.as_slice(), &self.names, name)
     }
 
     /// Adds a symbol behind the others.

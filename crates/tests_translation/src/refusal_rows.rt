@@ -1,5 +1,5 @@
 use crate::bodies::translates;
-use de_mnemonics::{law_of_translations, law_of_words};
+use de_mnemonics::{law_of_translated_words, law_of_translations};
 use std::test::Fail;
 use stl_symbols::Language;
 
@@ -111,5 +111,5 @@ fn german_words_are_refused(rt: HostRuntime) -> Result<(), Fail> {
 #[test]
 fn laws_are_called() {
     law_of_translations();
-    law_of_words();
+    law_of_translated_words();
 }

@@ -17,7 +17,7 @@ use Rattle.de_mnemonics.specs.declared.places.TokenPlace.{TokenPlace}
 use Rattle.de_mnemonics.specs.declared.roles.Role.{Role}
 use Rattle.de_mnemonics.specs.declared.roles.Role.TheVariants as role
 use Rattle.de_mnemonics.specs.Back.{ComesBack}
-use Rattle.de_mnemonics.specs.Places.{place_behind, place_behind_sign, place_behind_word, class_of, role_of, role_of_word}
+use Rattle.de_mnemonics.specs.Places.{token_place_behind, place_behind_sign, place_behind_word, token_class, role_of, role_of_word}
 use Rattle.de_mnemonics.specs.Words.{exchanged_word, marked_name, operand_partner, translated_word}
 use Rattle.de_mnemonics.proofs.CaseLemmas.{same_to}
 use Rattle.de_mnemonics.proofs.WordLemmas.{instructions_come_back, operands_come_back}
@@ -38,9 +38,9 @@ TextBack role.Path x v = (v ≡ x) ⊎ ((v ≡ hash ∷ x) × IsOperandWord x)
 -- a token with the text w for x, between the neighbours b' and n' for b and n
 pub record StepBack (p : TokenPlace) (b b' : TokenClass) (k : TokenKind) (x w : List ℕ) (n n' : TokenClass) : Type 0 where
   pub text : List ℕ
-  pub back : translated_word English (role_of p b' (class_of (kind_of_rewritten k w) w) w n') w ≡ Some text
-  pub kept : TextBack (role_of p b (class_of k x) x n) x text
-  pub place : place_behind p b' (class_of (kind_of_rewritten k w) w) w n' ≡ place_behind p b (class_of k x) x n
+  pub back : translated_word English (role_of p b' (token_class (kind_of_rewritten k w) w) w n') w ≡ Some text
+  pub kept : TextBack (role_of p b (token_class k x) x n) x text
+  pub place : token_place_behind p b' (token_class (kind_of_rewritten k w) w) w n' ≡ token_place_behind p b (token_class k x) x n
 
 -- words for words
 pub record Spellings : Type 0 where
@@ -88,17 +88,17 @@ text_stays : (r : Role) (x v : List ℕ) → r ≡ role.Stays → v ≡ x → Te
 text_stays r x v e same = subst (λ q. TextBack q x v) (sym e) same
 
 step_other : (p : TokenPlace) (b b' : TokenClass) (k : TokenKind) (x w : List ℕ) (n n' : TokenClass) → is_word_kind k ≡ false
-    → translated_word German (role_of p b (class_of k x) x n) x ≡ Some w → StepBack p b b' k x w n n'
+    → translated_word German (role_of p b (token_class k x) x n) x ≡ Some w → StepBack p b b' k x w n n'
 step_other p b b' k x w n n' other is =
-    let plain : is_plain_class (class_of k x) ≡ true = kind_plain k x other in
-    let same : w ≡ x = plain_text (role_of p b (class_of k x) x n) x w (role_plain p b (class_of k x) x n plain) is in
-    let class_same : class_of (kind_of_rewritten k w) w ≡ class_of k x = ap (λ j. class_of j w) (other_kind k w other) ∙ ap (class_of k) same in
-    let plain' : is_plain_class (class_of (kind_of_rewritten k w) w) ≡ true = ap is_plain_class class_same ∙ plain in
+    let plain : is_plain_class (token_class k x) ≡ true = kind_plain k x other in
+    let same : w ≡ x = plain_text (role_of p b (token_class k x) x n) x w (role_plain p b (token_class k x) x n plain) is in
+    let class_same : token_class (kind_of_rewritten k w) w ≡ token_class k x = ap (λ j. token_class j w) (other_kind k w other) ∙ ap (token_class k) same in
+    let plain' : is_plain_class (token_class (kind_of_rewritten k w) w) ≡ true = ap is_plain_class class_same ∙ plain in
     record {
       text = w;
-      back = stays_written (role_of p b' (class_of (kind_of_rewritten k w) w) w n') w (role_plain p b' (class_of (kind_of_rewritten k w) w) w n' plain');
-      kept = text_stays (role_of p b (class_of k x) x n) x w (role_plain p b (class_of k x) x n plain) same;
-      place = behind_plain p b' (class_of (kind_of_rewritten k w) w) w n' plain' ∙ ap (place_behind_sign p) class_same ∙ sym (behind_plain p b (class_of k x) x n plain);
+      back = stays_written (role_of p b' (token_class (kind_of_rewritten k w) w) w n') w (role_plain p b' (token_class (kind_of_rewritten k w) w) w n' plain');
+      kept = text_stays (role_of p b (token_class k x) x n) x w (role_plain p b (token_class k x) x n plain) same;
+      place = behind_plain p b' (token_class (kind_of_rewritten k w) w) w n' plain' ∙ ap (place_behind_sign p) class_same ∙ sym (behind_plain p b (token_class k x) x n plain);
     }
 
 -- ---- a word
@@ -124,18 +124,18 @@ word_back p b b' x w n n' r text h k keeps e is kept kind_ = record {
 
 step_back : (p : TokenPlace) (b b' : TokenClass) (x w : List ℕ) (n n' : TokenClass) (r : Role) → role_of_word p b x n ≡ r → WordBack p b b' x w n n' r
     → StepBack p b b' kind.Word x w n n'
-unfolding role_of place_behind class_of
+unfolding role_of token_place_behind token_class
 step_back p b b' x w n n' r e h = record {
   text = h.text;
-  back = ap (λ k. translated_word English (role_of p b' (class_of k w) w n') w) h.kind_ ∙ h.back;
+  back = ap (λ k. translated_word English (role_of p b' (token_class k w) w n') w) h.kind_ ∙ h.back;
   kept = subst (λ q. TextBack q x h.text) (sym e) h.kept;
-  place = ap (λ k. place_behind p b' (class_of k w) w n') h.kind_ ∙ h.place;
+  place = ap (λ k. token_place_behind p b' (token_class k w) w n') h.kind_ ∙ h.place;
 }
 
 -- a name that got its `#`
 step_named : (p : TokenPlace) (b b' : TokenClass) (x : List ℕ) (n n' : TokenClass) → role_of_word p b x n ≡ role.Path
     → is_some (operand_partner English x) ≡ true → StepBack p b b' kind.Word x (hash ∷ x) n n'
-unfolding role_of place_behind class_of translated_word
+unfolding role_of token_place_behind token_class translated_word
 step_named p b b' x n n' e is = record {
   text = hash ∷ x;
   back = refl;
@@ -217,8 +217,8 @@ by_role spelled p b b' x w n n' h k word role.Path e is = by_path p b b' x w n n
 
 -- each token of a translation comes back
 pub token_back : Spellings → (p : TokenPlace) (b b' : TokenClass) (k : TokenKind) (x w : List ℕ) (n n' : TokenClass) → IsNear b b' → IsNear n n'
-    → (k ≡ kind.Word → is_word x ≡ true) → translated_word German (role_of p b (class_of k x) x n) x ≡ Some w → StepBack p b b' k x w n n'
-unfolding role_of class_of
+    → (k ≡ kind.Word → is_word x ≡ true) → translated_word German (role_of p b (token_class k x) x n) x ≡ Some w → StepBack p b b' k x w n n'
+unfolding role_of token_class
 token_back spelled p b b' kind.Word x w n n' h k word is = by_role spelled p b b' x w n n' h k (word refl) (role_of_word p b x n) refl is
 token_back spelled p b b' kind.Number x w n n' h k word is = step_other p b b' kind.Number x w n n' refl is
 token_back spelled p b b' kind.Quoted x w n n' h k word is = step_other p b b' kind.Quoted x w n n' refl is
@@ -233,24 +233,24 @@ token_back spelled p b b' kind.Attribute x w n n' h k word is = step_other p b b
 token_back spelled p b b' kind.Title x w n n' h k word is = step_other p b b' kind.Title x w n n' refl is
 
 -- and is to its neighbours what it was
-anew_near : (b : ℕ) (w x : List ℕ) → (c : Bool) → (b == hash) ≡ c → IsNear (class_of kind.Word x) (class_of (if c then kind.Local else kind.Word) (b ∷ w))
-unfolding class_of
+anew_near : (b : ℕ) (w x : List ℕ) → (c : Bool) → (b == hash) ≡ c → IsNear (token_class kind.Word x) (token_class (if c then kind.Local else kind.Word) (b ∷ w))
+unfolding token_class
 anew_near b w x true e = inr (refl, refl)
 anew_near b w x false e = inl refl
 
-word_near : (x w : List ℕ) → IsNear (class_of kind.Word x) (class_of (kind_of_rewritten kind.Word w) w)
-unfolding class_of
+word_near : (x w : List ℕ) → IsNear (token_class kind.Word x) (token_class (kind_of_rewritten kind.Word w) w)
+unfolding token_class
 word_near x [] = inl refl
 word_near x (b ∷ w) = anew_near b w x (b == hash) refl
 
 other_near : (p : TokenPlace) (b : TokenClass) (k : TokenKind) (x w : List ℕ) (n : TokenClass) → is_word_kind k ≡ false
-    → translated_word German (role_of p b (class_of k x) x n) x ≡ Some w → IsNear (class_of k x) (class_of (kind_of_rewritten k w) w)
+    → translated_word German (role_of p b (token_class k x) x n) x ≡ Some w → IsNear (token_class k x) (token_class (kind_of_rewritten k w) w)
 other_near p b k x w n other is =
-    let same : w ≡ x = plain_text (role_of p b (class_of k x) x n) x w (role_plain p b (class_of k x) x n (kind_plain k x other)) is in
-    inl (sym (ap (λ j. class_of j w) (other_kind k w other) ∙ ap (class_of k) same))
+    let same : w ≡ x = plain_text (role_of p b (token_class k x) x n) x w (role_plain p b (token_class k x) x n (kind_plain k x other)) is in
+    inl (sym (ap (λ j. token_class j w) (other_kind k w other) ∙ ap (token_class k) same))
 
 pub token_near : (p : TokenPlace) (b : TokenClass) (k : TokenKind) (x w : List ℕ) (n : TokenClass)
-    → translated_word German (role_of p b (class_of k x) x n) x ≡ Some w → IsNear (class_of k x) (class_of (kind_of_rewritten k w) w)
+    → translated_word German (role_of p b (token_class k x) x n) x ≡ Some w → IsNear (token_class k x) (token_class (kind_of_rewritten k w) w)
 token_near p b kind.Word x w n is = word_near x w
 token_near p b kind.Number x w n is = other_near p b kind.Number x w n refl is
 token_near p b kind.Quoted x w n is = other_near p b kind.Quoted x w n refl is

@@ -12,7 +12,7 @@ use Rattle.stl_lexer.specs.declared.kinds.TokenKind.{TokenKind}
 use Rattle.stl_lexer.specs.declared.kinds.TokenKind.TheVariants.{Word, Number, Quoted, Local, Characters, Based, NumberLiteral, TimeLiteral, Mark, SignWord, Attribute, Title}
 use Rattle.stl_lexer.specs.Forms as forms
 use Rattle.stl_lexer.specs.Bytes.{hash, double_quote, single_quote, open_brace, close_brace, is_line_byte, is_word_byte, is_word_start}
-use Rattle.stl_lexer.specs.Forms.{has_form, is_word, is_number, is_run, is_closed, is_inner, is_enclosed, is_quoted, behind_sign, continues_word, begins_with, based_prefixes, long_prefixes, count_prefixes, time_prefixes, s5time_prefixes, sign_words, title_words}
+use Rattle.stl_lexer.specs.Forms.{has_form, is_word, is_number, is_run, is_closed_run, is_inner, is_enclosed, is_quoted, behind_sign, continues_word, begins_with, based_prefixes, long_prefixes, count_prefixes, time_prefixes, s5time_prefixes, sign_words, title_words}
 use Rattle.stl_lexer.specs.Longest.{IsLongestToken, IsFormAt}
 use Rattle.stl_lexer.specs.Marks.{marks, mark_text}
 use Rattle.stl_lexer.specs.Pieces.{Piece, ArePiecesStanding, text_of_pieces}
@@ -165,7 +165,7 @@ none_short k x after t all e word short =
 none_enclosed : (opening close : ℕ) (one_line : Bool) (x : List ℕ) → is_word_byte opening ≡ false → is_enclosed opening close one_line x ≡ true → list_all is_word_byte x ≡ true → ⊥
 none_enclosed opening close one_line [] o e word = false≢true e
 none_enclosed opening close one_line (b ∷ s) o e word =
-    let first = eqb-true b opening (and_parts (b == opening) (is_closed (is_inner close one_line) close s) e).0 in
+    let first = eqb-true b opening (and_parts (b == opening) (is_closed_run (is_inner close one_line) close s) e).0 in
     false≢true (sym o ∙ ap is_word_byte (sym first) ∙ (and_parts (is_word_byte b) (list_all is_word_byte s) word).0)
 
 none_local : (x : List ℕ) → has_form Local x [] ≡ true → list_all is_word_byte x ≡ true → ⊥

@@ -14,7 +14,7 @@ use Rattle.stl_lexer.specs.declared.kinds.TokenKind.{TokenKind}
 use Rattle.stl_lexer.specs.declared.kinds.TokenKind.TheVariants as kind
 use Rattle.stl_lexer.specs.declared.marks.Mark.TheVariants as mark
 use Rattle.stl_lexer.specs.Bytes.{close_brace, double_quote, hash, open_brace, single_quote}
-use Rattle.stl_lexer.specs.Forms.{based_prefixes, begins_with, count_prefixes, has_form, is_closed, is_enclosed, is_entry, is_inner, is_listed, long_prefixes, s5time_prefixes, sign_words, time_prefixes, title_words}
+use Rattle.stl_lexer.specs.Forms.{based_prefixes, begins_with, count_prefixes, has_form, is_closed_run, is_enclosed, is_entry, is_inner, is_listed, long_prefixes, s5time_prefixes, sign_words, time_prefixes, title_words}
 use Rattle.stl_lexer.specs.Marks.{mark_text, marks}
 use Rattle.stl_lexer.specs.Tokens.{AreTokens, TokensFollow, IsEndOfTokens, is_minus, text_of}
 use Rattle.stl_ast.specs.declared.mnemonics.Mnemonic.{Mnemonic}
@@ -30,9 +30,9 @@ use Rattle.de_mnemonics.specs.declared.places.TokenPlace.TheVariants as place
 use Rattle.de_mnemonics.specs.declared.roles.Role.{Role}
 use Rattle.de_mnemonics.specs.declared.roles.Role.TheVariants as role
 use Rattle.translation_laws.specs.Alike.{ComesBackInRole, IsSameWordButForCase, IsSameToken}
-use Rattle.de_mnemonics.specs.Places.{place_behind, place_behind_first, place_behind_front, place_behind_instruction, place_behind_open, place_behind_sign, place_behind_start, place_behind_word, class_of, class_of_mark, is_word_in_list, is_word_in_pairs, is_jump_word, is_mark_text, role_at_start, role_first, role_of, role_of_word}
+use Rattle.de_mnemonics.specs.Places.{token_place_behind, place_behind_first, place_behind_front, place_behind_instruction, place_behind_open, place_behind_sign, place_behind_start, place_behind_word, token_class, class_of_mark, is_word_in_list, is_word_in_pairs, is_jump_word, is_mark_text, role_at_start, role_first, role_of, role_of_word}
 use Rattle.de_mnemonics.specs.Tables.{common_jumps, block_end_words, jump_pairs, network_words}
-use Rattle.de_mnemonics.specs.Translation.{class_in, next_class}
+use Rattle.de_mnemonics.specs.Translation.{token_class_in, next_class}
 use Rattle.de_mnemonics.specs.Words.{partner_in_table}
 use Rattle.translation_laws.proofs.AgreeAlikeLemmas.{IsSamePair, Pair, lefts}
 use Rattle.translation_laws.proofs.LikeAlikeLemmas.{itself, of_kind, same_kind}
@@ -86,7 +86,7 @@ not_enclosed : (opening close : ℕ) (one_line : Bool) (w : List ℕ) → is_in_
     → is_enclosed opening close one_line w ≡ true → are_letters w ≡ true → ⊥
 not_enclosed opening close one_line [] apart is all = false≢true is
 not_enclosed opening close one_line (b ∷ w) apart is all =
-    not_first opening b w apart (and_parts (b == opening) (is_closed (is_inner close one_line) close w) is).0 all
+    not_first opening b w apart (and_parts (b == opening) (is_closed_run (is_inner close one_line) close w) is).0 all
 
 not_listed : (table : List (List ℕ)) (w : List ℕ) (behind : List ℕ → Bool) → list_all (λ x. not (are_letters x)) table ≡ true
     → list_any (λ entry. begins_with entry w && behind entry) table ≡ true → are_letters w ≡ true → ⊥
@@ -281,11 +281,11 @@ module _ (s e : List ℕ) where
   front_of role.Operand q is h = absurd is
   front_of role.Path q is h = absurd is
 
-  pub start_front : (before next : TokenClass) (q : Pair s e) → ComesBackInRole s e (role_of place.Start before (class_in s q.left) (text_of s q.left) next) q.left q.right → IsFront q
-  start_front before next q h = front_of _ q (start_role before (class_in s q.left) (text_of s q.left) next) h
+  pub start_front : (before next : TokenClass) (q : Pair s e) → ComesBackInRole s e (role_of place.Start before (token_class_in s q.left) (text_of s q.left) next) q.left q.right → IsFront q
+  start_front before next q h = front_of _ q (start_role before (token_class_in s q.left) (text_of s q.left) next) h
 
-  labelled_front : (before next : TokenClass) (q : Pair s e) → ComesBackInRole s e (role_of place.Labelled before (class_in s q.left) (text_of s q.left) next) q.left q.right → IsFront q
-  labelled_front before next q h = front_of _ q (labelled_role before (class_in s q.left) (text_of s q.left) next) h
+  labelled_front : (before next : TokenClass) (q : Pair s e) → ComesBackInRole s e (role_of place.Labelled before (token_class_in s q.left) (text_of s q.left) next) q.left q.right → IsFront q
+  labelled_front before next q h = front_of _ q (labelled_role before (token_class_in s q.left) (text_of s q.left) next) h
 
   -- ---- the place behind it
 
@@ -357,8 +357,8 @@ module _ (s e : List ℕ) where
   no_word c isnt e = false≢true (sym isnt ∙ ap is_word_class e)
 
   start_on : (before c : TokenClass) (text : List ℕ) (next : TokenClass) → is_end s e c ≡ false → is_note c ≡ false
-      → (c ≡ class.Word → IsFree text × (is_colon next ≡ false)) → GoesOn (place_behind place.Start before c text next) text c
-  unfolding place_behind place_behind_sign
+      → (c ≡ class.Word → IsFree text × (is_colon next ≡ false)) → GoesOn (token_place_behind place.Start before c text next) text c
+  unfolding token_place_behind place_behind_sign
   start_on before class.Word text next isnt note free =
       let there = free refl in
       let at = start_word before text next there.0 ∙ first_in next text there.1 in
@@ -378,8 +378,8 @@ module _ (s e : List ℕ) where
   start_on before class.Pointer text next isnt note free = record { inside = open_in class.Pointer isnt note; jumps = λ is jump. absurd (no_word class.Pointer refl is) }
   start_on before class.Other text next isnt note free = record { inside = open_in class.Other isnt note; jumps = λ is jump. absurd (no_word class.Other refl is) }
 
-  labelled_on : (before c : TokenClass) (text : List ℕ) (next : TokenClass) → is_end s e c ≡ false → GoesOn (place_behind place.Labelled before c text next) text c
-  unfolding place_behind place_behind_sign place_behind_word
+  labelled_on : (before c : TokenClass) (text : List ℕ) (next : TokenClass) → is_end s e c ≡ false → GoesOn (token_place_behind place.Labelled before c text next) text c
+  unfolding token_place_behind place_behind_sign place_behind_word
   labelled_on before class.Word text next isnt = record { inside = instruction_in text; jumps = λ is jump. jump_in text jump }
   labelled_on before class.Note text next isnt = record { inside = front_in class.Note isnt; jumps = λ is jump. absurd (no_word class.Note refl is) }
   labelled_on before class.Number text next isnt = record { inside = front_in class.Number isnt; jumps = λ is jump. absurd (no_word class.Number refl is) }
@@ -400,17 +400,17 @@ module _ (s e : List ℕ) where
   jump_stays before class.Word text next = refl
   jump_stays before _ text next = refl
 
-  word_class : (t : Token) → t.kind ≡ kind.Word → class_in s t ≡ class.Word
-  unfolding class_of
-  word_class t is = ap (λ (k : TokenKind). class_of k (text_of s t)) is
+  word_class : (t : Token) → t.kind ≡ kind.Word → token_class_in s t ≡ class.Word
+  unfolding token_class
+  word_class t is = ap (λ (k : TokenKind). token_class k (text_of s t)) is
 
   head_label : (n : ℕ) (before : TokenClass) (qs : List (Pair s e)) → Walk s e place.Jump before qs → HeadSame s e (take n qs)
   head_label zero before qs h = tt
   head_label (suc n) before [] h = tt
   head_label (suc n) before (r ∷ rs) h =
-      subst (λ (x : Role). ComesBackInRole s e x r.left r.right) (jump_stays before (class_in s r.left) (text_of s r.left) (next_class s (lefts rs))) h.0
+      subst (λ (x : Role). ComesBackInRole s e x r.left r.right) (jump_stays before (token_class_in s r.left) (text_of s r.left) (next_class s (lefts rs))) h.0
 
-  labels_from : (n : ℕ) (p : TokenPlace) (q : Pair s e) (qs : List (Pair s e)) → IsFormed s q.left → GoesOn p (text_of s q.left) (class_in s q.left) → Walk s e p (class_in s q.left) qs
+  labels_from : (n : ℕ) (p : TokenPlace) (q : Pair s e) (qs : List (Pair s e)) → IsFormed s q.left → GoesOn p (text_of s q.left) (token_class_in s q.left) → Walk s e p (token_class_in s q.left) qs
       → (m : Mnemonic × OperandSyntax) → look_up mnemonics (text_of s q.left) ≡ Some m → (f : OperandSyntax) → m.1 ≡ f → Labels s e f (take n qs)
   labels_from n p q qs shape on h m found operand_syntax.Operand is = tt
   labels_from n p q qs shape on h m found operand_syntax.Open is = tt
@@ -418,14 +418,14 @@ module _ (s e : List ℕ) where
   labels_from n p q qs shape on h m found operand_syntax.Call is = tt
   labels_from n p q qs shape on h m found operand_syntax.Jump is =
       let word = jump_word s q.left m shape found (ap is_jump_syntax is) in
-      head_label n (class_in s q.left) qs (subst (λ (x : TokenPlace). Walk s e x (class_in s q.left) qs) (on.jumps (word_class q.left word.0) word.1) h)
+      head_label n (token_class_in s q.left) qs (subst (λ (x : TokenPlace). Walk s e x (token_class_in s q.left) qs) (on.jumps (word_class q.left word.0) word.1) h)
 
-  pub first_from : (n : ℕ) (p : TokenPlace) (q : Pair s e) (qs : List (Pair s e)) → IsFront q → IsFormed s q.left → GoesOn p (text_of s q.left) (class_in s q.left)
-      → NoEnd s e n qs → Walk s e p (class_in s q.left) qs → IsFirst s e q (take n qs)
+  pub first_from : (n : ℕ) (p : TokenPlace) (q : Pair s e) (qs : List (Pair s e)) → IsFront q → IsFormed s q.left → GoesOn p (text_of s q.left) (token_class_in s q.left)
+      → NoEnd s e n qs → Walk s e p (token_class_in s q.left) qs → IsFirst s e q (take n qs)
   first_from n p q qs front shape on none h = record {
     text = front_text q front;
     labels = λ m found. labels_from n p q qs shape on h m found m.1 refl;
-    fits = fits_until s e n p (class_in s q.left) qs on.inside none h;
+    fits = fits_until s e n p (token_class_in s q.left) qs on.inside none h;
   }
 
   -- ---- statements
@@ -444,7 +444,7 @@ module _ (s e : List ℕ) where
   kind_of_word kind.Attribute is = absurd (false≢true is)
   kind_of_word kind.Title is = absurd (false≢true is)
 
-  pub class_of_word : (t : Token) → has_kind t kind.Word ≡ true → class_in s t ≡ class.Word
+  pub class_of_word : (t : Token) → has_kind t kind.Word ≡ true → token_class_in s t ≡ class.Word
   unfolding has_kind
   class_of_word t is = word_class t (kind_of_word t.kind is)
 
@@ -481,17 +481,17 @@ module _ (s e : List ℕ) where
   mark_no_colon a isnt = rw isnt (colons (is_mark_text a mark.Semicolon) (is_mark_text a mark.Dot) (is_mark_text a mark.Assign) (is_mark_text a mark.OpenBracket)
       (is_mark_text a mark.OpenParen) (is_mark_text a mark.CloseParen) (is_mark_text a mark.Pointer))
 
-  kind_of_class : (t : Token) (k : TokenKind) → t.kind ≡ k → is_word_class (class_of k (text_of s t)) ≡ true → has_kind t kind.Word ≡ true
-  unfolding class_of
+  kind_of_class : (t : Token) (k : TokenKind) → t.kind ≡ k → is_word_class (token_class k (text_of s t)) ≡ true → has_kind t kind.Word ≡ true
+  unfolding token_class
   kind_of_class t kind.Word is word = of_kind t kind.Word kind.Word is
   kind_of_class t kind.Mark is word = absurd (false≢true (sym (mark_no_word (text_of s t)) ∙ word))
   kind_of_class t _ is word = absurd (false≢true word)
 
-  pub word_of_class : (t : Token) → class_in s t ≡ class.Word → has_kind t kind.Word ≡ true
+  pub word_of_class : (t : Token) → token_class_in s t ≡ class.Word → has_kind t kind.Word ≡ true
   word_of_class t is = kind_of_class t t.kind refl (ap is_word_class is)
 
-  no_colon_kind : (t : Token) (k : TokenKind) → t.kind ≡ k → is_mark s t mark.Colon ≡ false → is_colon (class_of k (text_of s t)) ≡ false
-  unfolding class_of is_mark
+  no_colon_kind : (t : Token) (k : TokenKind) → t.kind ≡ k → is_mark s t mark.Colon ≡ false → is_colon (token_class k (text_of s t)) ≡ false
+  unfolding token_class is_mark
   no_colon_kind t kind.Mark is isnt = mark_no_colon (text_of s t) (by (has_kind t kind.Mark) (of_kind t kind.Mark kind.Mark is) isnt)
     where
       by : (b : Bool) → b ≡ true → (b && str_eq_ignore_ascii_case (text_of s t) (mark_text mark.Colon)) ≡ false → is_mark_text (text_of s t) mark.Colon ≡ false
@@ -499,7 +499,7 @@ module _ (s e : List ℕ) where
       by false is isnt = absurd (false≢true is)
   no_colon_kind t _ is isnt = refl
 
-  no_colon : (t : Token) → is_mark s t mark.Colon ≡ false → is_colon (class_in s t) ≡ false
+  no_colon : (t : Token) → is_mark s t mark.Colon ≡ false → is_colon (token_class_in s t) ≡ false
   no_colon t isnt = no_colon_kind t t.kind refl isnt
 
   labels_end : (f : OperandSyntax) → Labels s e f []
@@ -516,14 +516,14 @@ module _ (s e : List ℕ) where
   labelled_first zero before ps shape none h = tt
   labelled_first (suc n) before [] shape none h = tt
   labelled_first (suc n) before (q ∷ qs) shape none h =
-      first_from n (place_behind place.Labelled before (class_in s q.left) (text_of s q.left) (next_class s (lefts qs))) q qs
+      first_from n (token_place_behind place.Labelled before (token_class_in s q.left) (text_of s q.left) (next_class s (lefts qs))) q qs
       (labelled_front before (next_class s (lefts qs)) q h.0) shape.0
-      (labelled_on before (class_in s q.left) (text_of s q.left) (next_class s (lefts qs)) (no_end s e q.left none.0)) none.1 h.1
+      (labelled_on before (token_class_in s q.left) (text_of s q.left) (next_class s (lefts qs)) (no_end s e q.left none.0)) none.1 h.1
 
   -- the first token of a statement is no note, and neither the end of the block nor a network
   abbrev pub StartsFree : List (Pair s e) → Type 0
   StartsFree [] = Unit {0}
-  StartsFree (q ∷ qs) = (is_note (class_in s q.left) ≡ false) × (has_kind q.left kind.Word ≡ true → IsFree (text_of s q.left))
+  StartsFree (q ∷ qs) = (is_note (token_class_in s q.left) ≡ false) × (has_kind q.left kind.Word ≡ true → IsFree (text_of s q.left))
 
   start_label : (before : TokenClass) (text : List ℕ) → role_of place.Start before class.Word text class.Colon ≡ role.Stays
   unfolding role_of role_of_word role_at_start
@@ -533,33 +533,33 @@ module _ (s e : List ℕ) where
       by true = refl
       by false = refl
 
-  label_place : (before : TokenClass) (text : List ℕ) → IsFree text → place_behind place.Start before class.Word text class.Colon ≡ place.Label
-  unfolding place_behind
+  label_place : (before : TokenClass) (text : List ℕ) → IsFree text → token_place_behind place.Start before class.Word text class.Colon ≡ place.Label
+  unfolding token_place_behind
   label_place before text free = start_word before text class.Colon free
 
-  colon_place : (before : TokenClass) (text : List ℕ) (next : TokenClass) → place_behind place.Label before class.Colon text next ≡ place.Labelled
-  unfolding place_behind place_behind_sign
+  colon_place : (before : TokenClass) (text : List ℕ) (next : TokenClass) → token_place_behind place.Label before class.Colon text next ≡ place.Labelled
+  unfolding token_place_behind place_behind_sign
   colon_place before text next = refl
 
   -- the place behind a label and its `:`
-  label_then : (before : TokenClass) (q r : Pair s e) (rs : List (Pair s e)) → IsFree (text_of s q.left) → class_in s q.left ≡ class.Word → class_in s r.left ≡ class.Colon
-      → place_behind (place_behind place.Start before (class_in s q.left) (text_of s q.left) (class_in s r.left)) (class_in s q.left) (class_in s r.left) (text_of s r.left) (next_class s (lefts rs))
+  label_then : (before : TokenClass) (q r : Pair s e) (rs : List (Pair s e)) → IsFree (text_of s q.left) → token_class_in s q.left ≡ class.Word → token_class_in s r.left ≡ class.Colon
+      → token_place_behind (token_place_behind place.Start before (token_class_in s q.left) (text_of s q.left) (token_class_in s r.left)) (token_class_in s q.left) (token_class_in s r.left) (text_of s r.left) (next_class s (lefts rs))
       ≡ place.Labelled
   label_then before q r rs free word colon =
-      let first_is = ap (λ (c : TokenClass). place_behind place.Start before c (text_of s q.left) (class_in s r.left)) word
-      ∙ ap (λ (c : TokenClass). place_behind place.Start before class.Word (text_of s q.left) c) colon ∙ label_place before (text_of s q.left) free in
-      ap (λ (p : TokenPlace). place_behind p (class_in s q.left) (class_in s r.left) (text_of s r.left) (next_class s (lefts rs))) first_is
-      ∙ ap (λ (c : TokenClass). place_behind place.Label (class_in s q.left) c (text_of s r.left) (next_class s (lefts rs))) colon
-      ∙ colon_place (class_in s q.left) (text_of s r.left) (next_class s (lefts rs))
+      let first_is = ap (λ (c : TokenClass). token_place_behind place.Start before c (text_of s q.left) (token_class_in s r.left)) word
+      ∙ ap (λ (c : TokenClass). token_place_behind place.Start before class.Word (text_of s q.left) c) colon ∙ label_place before (text_of s q.left) free in
+      ap (λ (p : TokenPlace). token_place_behind p (token_class_in s q.left) (token_class_in s r.left) (text_of s r.left) (next_class s (lefts rs))) first_is
+      ∙ ap (λ (c : TokenClass). token_place_behind place.Label (token_class_in s q.left) c (text_of s r.left) (next_class s (lefts rs))) colon
+      ∙ colon_place (token_class_in s q.left) (text_of s r.left) (next_class s (lefts rs))
 
   -- a label, and the instruction behind its `:`
   labelled_from : (n : ℕ) (before : TokenClass) (q r : Pair s e) (rs : List (Pair s e)) → AreFormed s (lefts rs) → NoEnd s e n rs → Walk s e place.Start before (q ∷ r ∷ rs)
-      → IsFree (text_of s q.left) → class_in s q.left ≡ class.Word → class_in s r.left ≡ class.Colon → IsSamePair q × AreInstruction s e (take n rs)
+      → IsFree (text_of s q.left) → token_class_in s q.left ≡ class.Word → token_class_in s r.left ≡ class.Colon → IsSamePair q × AreInstruction s e (take n rs)
   labelled_from n before q r rs shape none h free word colon =
-      let role_is = ap (λ (c : TokenClass). role_of place.Start before c (text_of s q.left) (class_in s r.left)) word
+      let role_is = ap (λ (c : TokenClass). role_of place.Start before c (text_of s q.left) (token_class_in s r.left)) word
       ∙ ap (λ (c : TokenClass). role_of place.Start before class.Word (text_of s q.left) c) colon ∙ start_label before (text_of s q.left) in (
         subst (λ (x : Role). ComesBackInRole s e x q.left q.right) role_is h.0,
-        labelled_first n (class_in s r.left) rs shape none (subst (λ (p : TokenPlace). Walk s e p (class_in s r.left) rs) (label_then before q r rs free word colon) h.1.1),
+        labelled_first n (token_class_in s r.left) rs shape none (subst (λ (p : TokenPlace). Walk s e p (token_class_in s r.left) rs) (label_then before q r rs free word colon) h.1.1),
       )
 
   bare_colon : (a b : Bool) → (a && b) ≡ false → a ≡ true → b ≡ false
@@ -575,14 +575,14 @@ module _ (s e : List ℕ) where
   statement_from (suc (suc n)) before (q ∷ r ∷ rs) shape none h free = record {
     kinds = front_kinds q front;
     label = λ colon word. labelled_from n before q r rs shape.1.1 none.1.1 h (free.1 word) (class_of_word q.left word) (class_mark s e r.left mark.Colon colon ∙ colon_class);
-    bare = λ isnt. first_from (suc n) (place_behind place.Start before (class_in s q.left) (text_of s q.left) (class_in s r.left)) q (r ∷ rs) front shape.0
-        (start_on before (class_in s q.left) (text_of s q.left) (class_in s r.left) (no_end s e q.left none.0) free.0
+    bare = λ isnt. first_from (suc n) (token_place_behind place.Start before (token_class_in s q.left) (text_of s q.left) (token_class_in s r.left)) q (r ∷ rs) front shape.0
+        (start_on before (token_class_in s q.left) (text_of s q.left) (token_class_in s r.left) (no_end s e q.left none.0) free.0
         (λ word. let is = word_of_class q.left word in
         (free.1 is, no_colon r.left (bare_colon (has_kind q.left kind.Word) (is_mark s r.left mark.Colon) isnt is)))) none.1 h.1;
   }
     where
       front : IsFront q
-      front = start_front before (class_in s r.left) q h.0
+      front = start_front before (token_class_in s r.left) q h.0
 
   colon_is : (c : TokenClass) → is_colon c ≡ true → c ≡ class.Colon
   colon_is class.Colon is = refl
@@ -598,27 +598,27 @@ module _ (s e : List ℕ) where
   colon_is class.Pointer is = absurd (false≢true is)
   colon_is class.Other is = absurd (false≢true is)
 
-  end_class : (t : Token) → is_mark s t mark.Semicolon ≡ true → class_in s t ≡ class.Semicolon
+  end_class : (t : Token) → is_mark s t mark.Semicolon ≡ true → token_class_in s t ≡ class.Semicolon
   end_class t is = class_mark s e t mark.Semicolon is ∙ semicolon_class
 
   abbrev first_or : Pair s e → List (Pair s e) → Pair s e
   first_or d [] = d
   first_or d (x ∷ xs) = x
 
-  start_end : (before : TokenClass) (text : List ℕ) (next : TokenClass) → place_behind place.Start before class.Semicolon text next ≡ place.Start
-  unfolding place_behind place_behind_sign
+  start_end : (before : TokenClass) (text : List ℕ) (next : TokenClass) → token_place_behind place.Start before class.Semicolon text next ≡ place.Start
+  unfolding token_place_behind place_behind_sign
   start_end before text next = refl
 
-  labelled_end : (before : TokenClass) (text : List ℕ) (next : TokenClass) → place_behind place.Labelled before class.Semicolon text next ≡ place.Start
-  unfolding place_behind place_behind_sign
+  labelled_end : (before : TokenClass) (text : List ℕ) (next : TokenClass) → token_place_behind place.Labelled before class.Semicolon text next ≡ place.Start
+  unfolding token_place_behind place_behind_sign
   labelled_end before text next = refl
 
   ended : (p : TokenPlace) (before : TokenClass) (q : Pair s e) (qs : List (Pair s e)) → is_mark s q.left mark.Semicolon ≡ true
-      → place_behind p before class.Semicolon (text_of s q.left) (next_class s (lefts qs)) ≡ place.Start → Walk s e p before (q ∷ qs) → Walk s e place.Start class.Semicolon qs
+      → token_place_behind p before class.Semicolon (text_of s q.left) (next_class s (lefts qs)) ≡ place.Start → Walk s e p before (q ∷ qs) → Walk s e place.Start class.Semicolon qs
   ended p before q qs is starts h =
       subst (λ (c : TokenClass). Walk s e place.Start c qs) (end_class q.left is)
-      (subst (λ (x : TokenPlace). Walk s e x (class_in s q.left) qs)
-      (ap (λ (c : TokenClass). place_behind p before c (text_of s q.left) (next_class s (lefts qs))) (end_class q.left is) ∙ starts) h.1)
+      (subst (λ (x : TokenPlace). Walk s e x (token_class_in s q.left) qs)
+      (ap (λ (c : TokenClass). token_place_behind p before c (text_of s q.left) (next_class s (lefts qs))) (end_class q.left is) ∙ starts) h.1)
 
   labelled_walked : (n : ℕ) (before : TokenClass) (ps : List (Pair s e)) (q : Pair s e) (qs : List (Pair s e)) → NoEnd s e n ps → Walk s e place.Labelled before ps
       → drop n ps ≡ q ∷ qs → is_mark s q.left mark.Semicolon ≡ true → Walk s e place.Start class.Semicolon qs
@@ -627,18 +627,18 @@ module _ (s e : List ℕ) where
       ended place.Labelled before q qs is (labelled_end before (text_of s q.left) (next_class s (lefts qs))) (subst (λ (l : List (Pair s e)). Walk s e place.Labelled before l) there h)
   labelled_walked (suc n) before [] q qs none h there is = absurd cc
   labelled_walked (suc n) before (r ∷ rs) q qs none h there is =
-      walked s e n (place_behind place.Labelled before (class_in s r.left) (text_of s r.left) (next_class s (lefts rs))) (class_in s r.left) rs q qs
-      (labelled_on before (class_in s r.left) (text_of s r.left) (next_class s (lefts rs)) (no_end s e r.left none.0)).inside none.1 h.1 there is
+      walked s e n (token_place_behind place.Labelled before (token_class_in s r.left) (text_of s r.left) (next_class s (lefts rs))) (token_class_in s r.left) rs q qs
+      (labelled_on before (token_class_in s r.left) (text_of s r.left) (next_class s (lefts rs)) (no_end s e r.left none.0)).inside none.1 h.1 there is
 
   label_walked : (n : ℕ) (before : TokenClass) (r : Pair s e) (rs : List (Pair s e)) (q : Pair s e) (qs : List (Pair s e)) → NoEnd s e n rs → Walk s e place.Start before (r ∷ rs)
-      → IsFree (text_of s r.left) → class_in s r.left ≡ class.Word → is_colon (next_class s (lefts rs)) ≡ true
+      → IsFree (text_of s r.left) → token_class_in s r.left ≡ class.Word → is_colon (next_class s (lefts rs)) ≡ true
       → drop n rs ≡ q ∷ qs → is_mark s q.left mark.Semicolon ≡ true → Walk s e place.Start class.Semicolon qs
   label_walked zero before r [] q qs none h free word colon there is = absurd cc
   label_walked zero before r (u ∷ us) q qs none h free word colon there is =
       absurd (false≢true (sym (ap is_colon (end_class u.left (ap (λ (x : Pair s e). is_mark s x.left mark.Semicolon) (ap (first_or q) there) ∙ is))) ∙ colon))
   label_walked (suc n) before r [] q qs none h free word colon there is = absurd cc
   label_walked (suc n) before r (u ∷ us) q qs none h free word colon there is =
-      labelled_walked n (class_in s u.left) us q qs none.1 (subst (λ (p : TokenPlace). Walk s e p (class_in s u.left) us) (label_then before r u us free word (colon_is (class_in s u.left) colon)) h.1.1) there is
+      labelled_walked n (token_class_in s u.left) us q qs none.1 (subst (λ (p : TokenPlace). Walk s e p (token_class_in s u.left) us) (label_then before r u us free word (colon_is (token_class_in s u.left) colon)) h.1.1) there is
 
   -- behind the `;` of a statement the next one begins
   pub statement_walked : (n : ℕ) (before : TokenClass) (ps : List (Pair s e)) (q : Pair s e) (qs : List (Pair s e)) → NoEnd s e n ps → Walk s e place.Start before ps → StartsFree ps
@@ -650,9 +650,9 @@ module _ (s e : List ℕ) where
   statement_walked (suc n) before (r ∷ rs) q qs none h free there is =
       by (has_kind r.left kind.Word) refl (is_colon (next_class s (lefts rs))) refl
     where
-      on : (class_in s r.left ≡ class.Word → IsFree (text_of s r.left) × (is_colon (next_class s (lefts rs)) ≡ false)) → Walk s e place.Start class.Semicolon qs
-      on such = walked s e n (place_behind place.Start before (class_in s r.left) (text_of s r.left) (next_class s (lefts rs))) (class_in s r.left) rs q qs
-          (start_on before (class_in s r.left) (text_of s r.left) (next_class s (lefts rs)) (no_end s e r.left none.0) free.0 such).inside none.1 h.1 there is
+      on : (token_class_in s r.left ≡ class.Word → IsFree (text_of s r.left) × (is_colon (next_class s (lefts rs)) ≡ false)) → Walk s e place.Start class.Semicolon qs
+      on such = walked s e n (token_place_behind place.Start before (token_class_in s r.left) (text_of s r.left) (next_class s (lefts rs))) (token_class_in s r.left) rs q qs
+          (start_on before (token_class_in s r.left) (text_of s r.left) (next_class s (lefts rs)) (no_end s e r.left none.0) free.0 such).inside none.1 h.1 there is
 
       by : (a : Bool) → has_kind r.left kind.Word ≡ a → (b : Bool) → is_colon (next_class s (lefts rs)) ≡ b → Walk s e place.Start class.Semicolon qs
       by true word true colon = label_walked n before r rs q qs none.1 h (free.1 word) (class_of_word r.left word) colon there is

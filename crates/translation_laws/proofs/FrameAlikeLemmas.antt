@@ -34,15 +34,15 @@ use Rattle.stl_parser.specs.Frame.{next_place, next_place_between, next_place_in
 use Rattle.stl_parser.specs.Tables.{head_words, keywords, look_up}
 use Rattle.stl_parser.specs.Terminals.{has_kind, is_mark, kind_rank}
 use Rattle.stl_lexer.specs.declared.marks.Mark.TheVariants as mark
-use Rattle.stl_parser.proofs.OptionLemmas.{both, chained, either, failed, mapped, none_holds, passed, some_holds, weakened}
+use Rattle.stl_parser.proofs.OptionLemmas.{both, chain_holds, either, else_holds, map_holds, none_holds, then_holds, some_holds, weaker_holds}
 use Rattle.de_mnemonics.specs.declared.classes.TokenClass.{TokenClass}
 use Rattle.de_mnemonics.specs.declared.classes.TokenClass.TheVariants as class
 use Rattle.de_mnemonics.specs.declared.places.TokenPlace.{TokenPlace}
 use Rattle.de_mnemonics.specs.declared.places.TokenPlace.TheVariants as place
 use Rattle.de_mnemonics.specs.declared.roles.Role.TheVariants as role
-use Rattle.de_mnemonics.specs.Places.{place_behind, place_behind_head, place_behind_outside, place_behind_sign, place_behind_start, place_behind_word, class_of, class_of_mark, is_word_in_list, is_mark_text, may_be_keyword, role_of, role_of_word}
+use Rattle.de_mnemonics.specs.Places.{token_place_behind, place_behind_head, place_behind_outside, place_behind_sign, place_behind_start, place_behind_word, token_class, class_of_mark, is_word_in_list, is_mark_text, may_be_keyword, role_of, role_of_word}
 use Rattle.de_mnemonics.specs.Tables.{begin_words, code_openings, data_openings, block_end_words, network_words}
-use Rattle.de_mnemonics.specs.Translation.{class_in}
+use Rattle.de_mnemonics.specs.Translation.{token_class_in}
 use Rattle.de_mnemonics.proofs.CaseLemmas.{same_among}
 use Rattle.translation_laws.proofs.CalmLemmas.{calm_of, is_block_word, is_statement}
 use Rattle.translation_laws.proofs.LookUpLemmas.{same_looked_up}
@@ -561,8 +561,8 @@ walk_to place.Head code data_ begin = if begin then place.Start else (if data_ t
 walk_to pl code data_ begin = pl
 
 word_walk : (pl : TokenPlace) (b : TokenClass) (x : List ℕ) (n : TokenClass) → is_quiet pl ≡ true → may_be_keyword b ≡ true
-    → place_behind pl b class.Word x n ≡ walk_to pl (is_word_in_list code_openings x) (is_word_in_list data_openings x) (is_word_in_list begin_words x)
-unfolding place_behind place_behind_word place_behind_outside place_behind_head walk_to
+    → token_place_behind pl b class.Word x n ≡ walk_to pl (is_word_in_list code_openings x) (is_word_in_list data_openings x) (is_word_in_list begin_words x)
+unfolding token_place_behind place_behind_word place_behind_outside place_behind_head walk_to
 word_walk place.Outside b x n quiet may = rw may refl
 word_walk place.Head b x n quiet may = rw may (by (is_word_in_list begin_words x) (is_word_in_list data_openings x))
   where
@@ -590,7 +590,7 @@ stays_put place.Closing e = absurd (false≢true e)
 stays_put place.Path e = absurd (false≢true e)
 stays_put place.Inside e = absurd (false≢true e)
 
-plain_walk : (pl : TokenPlace) (b c : TokenClass) (x : List ℕ) (n : TokenClass) → is_quiet pl ≡ true → is_plain_class c ≡ true → place_behind pl b c x n ≡ pl
+plain_walk : (pl : TokenPlace) (b c : TokenClass) (x : List ℕ) (n : TokenClass) → is_quiet pl ≡ true → is_plain_class c ≡ true → token_place_behind pl b c x n ≡ pl
 unfolding place_behind_sign
 plain_walk place.Outside b c x n e plain = behind_plain place.Outside b c x n plain
 plain_walk place.Head b c x n e plain = behind_plain place.Head b c x n plain
@@ -604,7 +604,7 @@ plain_walk place.Path b c x n e plain = absurd (false≢true e)
 plain_walk place.Inside b c x n e plain = absurd (false≢true e)
 
 free_walk : (pl : TokenPlace) (b : TokenClass) (x : List ℕ) (n : TokenClass) → is_quiet pl ≡ true → may_be_keyword b ≡ true → look_up keywords x ≡ None
-    → place_behind pl b class.Word x n ≡ pl
+    → token_place_behind pl b class.Word x n ≡ pl
 free_walk pl b x n quiet may none =
     word_walk pl b x n quiet may
     ∙ ap (λ c. walk_to pl c (is_word_in_list data_openings x) (is_word_in_list begin_words x)) (none_among code_openings x code_keys none)
@@ -613,7 +613,7 @@ free_walk pl b x n quiet may none =
     ∙ stays_put pl quiet
 
 key_walk : (pl : TokenPlace) (b : TokenClass) (x : List ℕ) (n : TokenClass) (k : Keyword) → is_quiet pl ≡ true → may_be_keyword b ≡ true → KeyFits x k
-    → place_behind pl b class.Word x n ≡ walk_to pl (code_key k) (data_key k) (begin_key k)
+    → token_place_behind pl b class.Word x n ≡ walk_to pl (code_key k) (data_key k) (begin_key k)
 key_walk pl b x n k quiet may h =
     word_walk pl b x n quiet may
     ∙ ap (λ c. walk_to pl c (is_word_in_list data_openings x) (is_word_in_list begin_words x)) h.code
@@ -640,11 +640,11 @@ inside_plain : (s : List ℕ) (cp : ClausePlace) (line : ℕ) (inside : List Tok
 unfolding inside_clause declaration_clause statement_clause setting_clause
 inside_plain s cp line inside =
     either (declaration_clause s cp inside) _ (IsPlain {X = Bool})
-    (chained (declaration_of s (level_at cp) inside) _ (λ d. Unit {0}) (IsPlain {X = Bool}) (none_holds (declaration_of s (level_at cp) inside))
-    (λ d k. failed (takes_parameters cp && not (is_elementary d)) (Some (clause.Declares d, false)) (IsPlain {X = Bool}) (λ is. refl)))
+    (chain_holds (declaration_of s (level_at cp) inside) _ (λ d. Unit {0}) (IsPlain {X = Bool}) (none_holds (declaration_of s (level_at cp) inside))
+    (λ d k. else_holds (takes_parameters cp && not (is_elementary d)) (Some (clause.Declares d, false)) (IsPlain {X = Bool}) (λ is. refl)))
     (either (statement_clause s line inside) (setting_clause s line inside) (IsPlain {X = Bool})
-    (mapped (statement_of s line inside) (λ r. (clause.Runs r.0, r.1)) (λ r. Unit {0}) (IsPlain {X = Bool}) (none_holds (statement_of s line inside)) (λ r k. refl))
-    (mapped (setting_of s line inside) (λ v. (clause.Sets v, false)) (λ v. Unit {0}) (IsPlain {X = Bool}) (none_holds (setting_of s line inside)) (λ v k. refl)))
+    (map_holds (statement_of s line inside) (λ r. (clause.Runs r.0, r.1)) (λ r. Unit {0}) (IsPlain {X = Bool}) (none_holds (statement_of s line inside)) (λ r k. refl))
+    (map_holds (setting_of s line inside) (λ v. (clause.Sets v, false)) (λ v. Unit {0}) (IsPlain {X = Bool}) (none_holds (setting_of s line inside)) (λ v k. refl)))
 
 other_plain : (s : List ℕ) (cp : ClausePlace) (line : ℕ) (tokens : List Token) → IfSome (other_clause s cp line tokens) IsPlainRead
 unfolding other_clause plain_clause structure_clause semicolon_clause base_block_at
@@ -658,16 +658,16 @@ other_plain s cp line tokens =
     plain : IfSome (plain_clause s cp line tokens) IsPlainRead
     plain =
         either (structure_clause s cp tokens) (semicolon_clause s cp line tokens) IsPlainRead
-        (failed (takes_parameters cp) (option_map to_clause (structure_at s (level_at cp) tokens)) IsPlainRead
-        (λ is. mapped (structure_at s (level_at cp) tokens) to_clause (λ r. Unit {0}) IsPlainRead (none_holds (structure_at s (level_at cp) tokens)) (λ r k. refl)))
-        (chained (until_semicolon s tokens) (λ cut. option_map (λ c. (c.0, cut.1, c.1)) (inside_clause s cp line cut.0)) (λ cut. Unit {0}) IsPlainRead
+        (else_holds (takes_parameters cp) (option_map to_clause (structure_at s (level_at cp) tokens)) IsPlainRead
+        (λ is. map_holds (structure_at s (level_at cp) tokens) to_clause (λ r. Unit {0}) IsPlainRead (none_holds (structure_at s (level_at cp) tokens)) (λ r k. refl)))
+        (chain_holds (until_semicolon s tokens) (λ cut. option_map (λ c. (c.0, cut.1, c.1)) (inside_clause s cp line cut.0)) (λ cut. Unit {0}) IsPlainRead
         (none_holds (until_semicolon s tokens))
-        (λ cut k. mapped (inside_clause s cp line cut.0) (λ c. (c.0, cut.1, c.1)) (IsPlain {X = Bool}) IsPlainRead (inside_plain s cp line cut.0) (λ c i. i)))
+        (λ cut k. map_holds (inside_clause s cp line cut.0) (λ c. (c.0, cut.1, c.1)) (IsPlain {X = Bool}) IsPlainRead (inside_plain s cp line cut.0) (λ c i. i)))
 
     based : IfSome (base_block_at s tokens) IsPlainRead
     based =
-        chained (block_at s tokens) _ (λ r. Unit {0}) IsPlainRead (none_holds (block_at s tokens))
-        (λ r k. passed (is_base_block r.0) (Some (clause.Based r.0, r.1, false)) IsPlainRead (λ is. refl))
+        chain_holds (block_at s tokens) _ (λ r. Unit {0}) IsPlainRead (none_holds (block_at s tokens))
+        (λ r k. then_holds (is_base_block r.0) (Some (clause.Based r.0, r.1, false)) IsPlainRead (λ is. refl))
 
 plain_after : (c : Clause) (pl : TokenPlace) → is_plain c ≡ true → place_after c pl ≡ pl
 plain_after (clause.Head line e name result) pl h = absurd (false≢true h)
@@ -688,7 +688,7 @@ plain_after (clause.Runs y) pl h = refl
 inner_ends : (s : List ℕ) (ts : List Token) → IfSome (inner_end s ts) (λ r. r.0 ≡ clause.EndStructure)
 unfolding inner_end
 inner_ends s [] = tt
-inner_ends s (t ∷ ts) = passed (is_mark s t mark.Semicolon) (Some (clause.EndStructure, ts, false)) (λ r. r.0 ≡ clause.EndStructure) (λ is. refl)
+inner_ends s (t ∷ ts) = then_holds (is_mark s t mark.Semicolon) (Some (clause.EndStructure, ts, false)) (λ r. r.0 ≡ clause.EndStructure) (λ is. refl)
 
 note_none : (a b c d e f g h : Bool)
     → is_note (if a then class.Semicolon else (if b then class.Dot else (if c then class.Assign else (if d then class.Colon
@@ -722,26 +722,26 @@ mark_no_note x =
 note_read : (s : List ℕ) (cp : ClausePlace) (w : HeadWord) (rest : List Token) → IfSome (head_word_clause s cp w rest) (λ r. r.0 ≡ clause.Note)
 unfolding head_word_clause
 note_read s cp w rest =
-    mapped (head_word_at s w rest) (λ behind. (clause.Note, behind_note s cp behind, false)) (λ r. Unit {0}) (λ r. r.0 ≡ clause.Note) (none_holds (head_word_at s w rest)) (λ r k. refl)
+    map_holds (head_word_at s w rest) (λ behind. (clause.Note, behind_note s cp behind, false)) (λ r. Unit {0}) (λ r. r.0 ≡ clause.Note) (none_holds (head_word_at s w rest)) (λ r k. refl)
 
 module _ (s : List ℕ) (cp : ClausePlace) (pl : TokenPlace) (b : TokenClass) (nc : TokenClass) (quiet : is_quiet pl ≡ true) (may : may_be_keyword b ≡ true)
     (t : Token) (ts : List Token) where
   -- the place behind the first token is that of the clause
   abbrev Leads : Clause × List Token × Bool → Type 0
-  Leads r = is_statement r.0 ≡ false → place_behind pl b (class_in s t) (text_of s t) nc ≡ place_after r.0 pl
+  Leads r = is_statement r.0 ≡ false → token_place_behind pl b (token_class_in s t) (text_of s t) nc ≡ place_after r.0 pl
 
   -- where the token leads to the same place, a clause that leads nowhere else is right
-  plain_leads : place_behind pl b (class_in s t) (text_of s t) nc ≡ pl → (r : Clause × List Token × Bool) → is_plain r.0 ≡ true → Leads r
+  plain_leads : token_place_behind pl b (token_class_in s t) (text_of s t) nc ≡ pl → (r : Clause × List Token × Bool) → is_plain r.0 ≡ true → Leads r
   plain_leads stays r plain = λ isnt. stays ∙ sym (plain_after r.0 pl plain)
 
-  other_leads : place_behind pl b (class_in s t) (text_of s t) nc ≡ pl → IfSome (other_clause s cp t.line (t ∷ ts)) Leads
-  other_leads stays = weakened (other_clause s cp t.line (t ∷ ts)) IsPlainRead Leads (other_plain s cp t.line (t ∷ ts)) (λ r plain. plain_leads stays r plain)
+  other_leads : token_place_behind pl b (token_class_in s t) (text_of s t) nc ≡ pl → IfSome (other_clause s cp t.line (t ∷ ts)) Leads
+  other_leads stays = weaker_holds (other_clause s cp t.line (t ∷ ts)) IsPlainRead Leads (other_plain s cp t.line (t ∷ ts)) (λ r plain. plain_leads stays r plain)
 
-  note_leads : place_behind pl b (class_in s t) (text_of s t) nc ≡ pl → (w : HeadWord) → IfSome (head_word_clause s cp w ts) Leads
+  note_leads : token_place_behind pl b (token_class_in s t) (text_of s t) nc ≡ pl → (w : HeadWord) → IfSome (head_word_clause s cp w ts) Leads
   note_leads stays w =
-      weakened (head_word_clause s cp w ts) (λ r. r.0 ≡ clause.Note) Leads (note_read s cp w ts) (λ r is isnt. stays ∙ sym (ap (λ c. place_after c pl) is))
+      weaker_holds (head_word_clause s cp w ts) (λ r. r.0 ≡ clause.Note) Leads (note_read s cp w ts) (λ r is isnt. stays ∙ sym (ap (λ c. place_after c pl) is))
 
-  free_leads : place_behind pl b (class_in s t) (text_of s t) nc ≡ pl → (w : Option HeadWord) → IfSome (free_word_clause s cp t ts (t ∷ ts) w) Leads
+  free_leads : token_place_behind pl b (token_class_in s t) (text_of s t) nc ≡ pl → (w : Option HeadWord) → IfSome (free_word_clause s cp t ts (t ∷ ts) w) Leads
   unfolding free_word_clause
   free_leads stays (Some w) = both (is_outer cp) (head_word_clause s cp w ts) (other_clause s cp t.line (t ∷ ts)) Leads (note_leads stays w) (other_leads stays)
   free_leads stays None = other_leads stays
@@ -777,18 +777,18 @@ module _ (s : List ℕ) (cp : ClausePlace) (pl : TokenPlace) (b : TokenClass) (n
   begin_walk place.Inside e = absurd (false≢true e)
 
   -- the head of a block
-  opens_leads : (k : BlockKind) → place_behind pl b (class_in s t) (text_of s t) nc ≡ quiet_place k → IfSome (head_clause s t.line k ts) Leads
+  opens_leads : (k : BlockKind) → token_place_behind pl b (token_class_in s t) (text_of s t) nc ≡ quiet_place k → IfSome (head_clause s t.line k ts) Leads
   unfolding head_clause
   opens_leads k leads =
-      chained (block_of_kind_at s k ts) (λ n. option_map (λ r. (clause.Head t.line k n.0 r.0, r.1, false)) (result_at s k n.1)) (λ n. Unit {0}) Leads (none_holds (block_of_kind_at s k ts))
-      (λ n i. mapped (result_at s k n.1) (λ r. (clause.Head t.line k n.0 r.0, r.1, false)) (λ r. Unit {0}) Leads (none_holds (result_at s k n.1)) (λ r j isnt. leads))
+      chain_holds (block_of_kind_at s k ts) (λ n. option_map (λ r. (clause.Head t.line k n.0 r.0, r.1, false)) (result_at s k n.1)) (λ n. Unit {0}) Leads (none_holds (block_of_kind_at s k ts))
+      (λ n i. map_holds (result_at s k n.1) (λ r. (clause.Head t.line k n.0 r.0, r.1, false)) (λ r. Unit {0}) Leads (none_holds (result_at s k n.1)) (λ r j isnt. leads))
 
   -- the end of a structure
-  ends_leads : place_behind pl b (class_in s t) (text_of s t) nc ≡ pl → IfSome (structure_end s cp ts) Leads
+  ends_leads : token_place_behind pl b (token_class_in s t) (text_of s t) nc ≡ pl → IfSome (structure_end s cp ts) Leads
   ends_leads stays =
-      weakened (structure_end s cp ts) (λ r. r.0 ≡ clause.EndStructure) Leads (structure_ends s cp ts) (λ r e isnt. stays ∙ sym (ap (λ c. place_after c pl) e))
+      weaker_holds (structure_end s cp ts) (λ r. r.0 ≡ clause.EndStructure) Leads (structure_ends s cp ts) (λ r e isnt. stays ∙ sym (ap (λ c. place_after c pl) e))
 
-  key_leads : (k : Keyword) → place_behind pl b (class_in s t) (text_of s t) nc ≡ walk_to pl (code_key k) (data_key k) (begin_key k)
+  key_leads : (k : Keyword) → token_place_behind pl b (token_class_in s t) (text_of s t) nc ≡ walk_to pl (code_key k) (data_key k) (begin_key k)
       → IfSome (keyword_clause s cp t.line k ts) Leads
   unfolding keyword_clause
   key_leads (keyword.Opens k) leads = opens_leads k (leads ∙ opens_walk k pl quiet)
@@ -800,21 +800,21 @@ module _ (s : List ℕ) (cp : ClausePlace) (pl : TokenPlace) (b : TokenClass) (n
   key_leads keyword.Structure leads = λ isnt. leads ∙ stays_put pl quiet
   key_leads keyword.EndStructure leads = ends_leads (leads ∙ stays_put pl quiet)
 
-  word_leads : class_in s t ≡ class.Word → (o : Option Keyword) → look_up keywords (text_of s t) ≡ o → IfSome (word_clause s cp t ts (t ∷ ts) o) Leads
+  word_leads : token_class_in s t ≡ class.Word → (o : Option Keyword) → look_up keywords (text_of s t) ≡ o → IfSome (word_clause s cp t ts (t ∷ ts) o) Leads
   unfolding word_clause
   word_leads is (Some k) e =
-      key_leads k (ap (λ c. place_behind pl b c (text_of s t) nc) is ∙ key_walk pl b (text_of s t) nc k quiet may (key_fits (text_of s t) k e))
+      key_leads k (ap (λ c. token_place_behind pl b c (text_of s t) nc) is ∙ key_walk pl b (text_of s t) nc k quiet may (key_fits (text_of s t) k e))
   word_leads is None e =
-      free_leads (ap (λ c. place_behind pl b c (text_of s t) nc) is ∙ free_walk pl b (text_of s t) nc quiet may e) (look_up head_words (text_of s t))
+      free_leads (ap (λ c. token_place_behind pl b c (text_of s t) nc) is ∙ free_walk pl b (text_of s t) nc quiet may e) (look_up head_words (text_of s t))
 
-  kind_stays : (k : TokenKind) → t.kind ≡ k → is_word_kind k ≡ false → place_behind pl b (class_in s t) (text_of s t) nc ≡ pl
+  kind_stays : (k : TokenKind) → t.kind ≡ k → is_word_kind k ≡ false → token_place_behind pl b (token_class_in s t) (text_of s t) nc ≡ pl
   kind_stays k is other =
-      ap (λ j. place_behind pl b (class_of j (text_of s t)) (text_of s t) nc) is
-      ∙ plain_walk pl b (class_of k (text_of s t)) (text_of s t) nc quiet (kind_plain k (text_of s t) other)
+      ap (λ j. token_place_behind pl b (token_class j (text_of s t)) (text_of s t) nc) is
+      ∙ plain_walk pl b (token_class k (text_of s t)) (text_of s t) nc quiet (kind_plain k (text_of s t) other)
 
   kind_leads : (k : TokenKind) → t.kind ≡ k → IfSome (clause_by_kind s cp t ts (t ∷ ts) k) Leads
-  unfolding clause_by_kind class_of
-  kind_leads kind.Word is = word_leads (ap (λ k. class_of k (text_of s t)) is) (look_up keywords (text_of s t)) refl
+  unfolding clause_by_kind token_class
+  kind_leads kind.Word is = word_leads (ap (λ k. token_class k (text_of s t)) is) (look_up keywords (text_of s t)) refl
   kind_leads kind.Attribute is = λ isnt. kind_stays kind.Attribute is refl
   kind_leads kind.Title is = λ isnt. kind_stays kind.Title is refl
   kind_leads kind.Number is = other_leads (kind_stays kind.Number is refl)
@@ -833,9 +833,9 @@ module _ (s : List ℕ) (cp : ClausePlace) (pl : TokenPlace) (b : TokenClass) (n
 
 pub first_place : (s : List ℕ) (cp : ClausePlace) (t : Token) (ts : List Token) (c : Clause) (rest : List Token) (long : Bool) (pl : TokenPlace) (before nc : TokenClass)
     → is_quiet pl ≡ true → may_be_keyword before ≡ true → is_statement c ≡ false → clause_at s cp (t ∷ ts) ≡ Some (c, rest, long)
-    → place_behind pl before (class_in s t) (text_of s t) nc ≡ place_after c pl
+    → token_place_behind pl before (token_class_in s t) (text_of s t) nc ≡ place_after c pl
 first_place s cp t ts c rest long pl before nc quiet may isnt e =
-    some_holds (clause_at s cp (t ∷ ts)) (c, rest, long) (λ r. is_statement r.0 ≡ false → place_behind pl before (class_in s t) (text_of s t) nc ≡ place_after r.0 pl) e
+    some_holds (clause_at s cp (t ∷ ts)) (c, rest, long) (λ r. is_statement r.0 ≡ false → token_place_behind pl before (token_class_in s t) (text_of s t) nc ≡ place_after r.0 pl) e
     (clause_leads s cp pl before nc quiet may t ts) isnt
 
 -- ---- BEGIN
@@ -870,13 +870,13 @@ module _ (s : List ℕ) (cp : ClausePlace) (t : Token) (ts : List Token) where
 
   other_begun : IfSome (other_clause s cp t.line (t ∷ ts)) Begun
   other_begun =
-      weakened (other_clause s cp t.line (t ∷ ts)) IsPlainRead Begun (other_plain s cp t.line (t ∷ ts)) (λ r plain. no_begin r (plain_no_begins r.0 plain))
+      weaker_holds (other_clause s cp t.line (t ∷ ts)) IsPlainRead Begun (other_plain s cp t.line (t ∷ ts)) (λ r plain. no_begin r (plain_no_begins r.0 plain))
 
   key_begun : (k : Keyword) → IfSome (keyword_clause s cp t.line k ts) Begun
   unfolding keyword_clause head_clause structure_end
   key_begun (keyword.Opens k) =
-      chained (block_of_kind_at s k ts) (λ n. option_map (λ r. (clause.Head t.line k n.0 r.0, r.1, false)) (result_at s k n.1)) (λ n. Unit {0}) Begun (none_holds (block_of_kind_at s k ts))
-      (λ n i. mapped (result_at s k n.1) (λ r. (clause.Head t.line k n.0 r.0, r.1, false)) (λ r. Unit {0}) Begun (none_holds (result_at s k n.1)) (λ r j is. absurd (false≢true is)))
+      chain_holds (block_of_kind_at s k ts) (λ n. option_map (λ r. (clause.Head t.line k n.0 r.0, r.1, false)) (result_at s k n.1)) (λ n. Unit {0}) Begun (none_holds (block_of_kind_at s k ts))
+      (λ n i. map_holds (result_at s k n.1) (λ r. (clause.Head t.line k n.0 r.0, r.1, false)) (λ r. Unit {0}) Begun (none_holds (result_at s k n.1)) (λ r j is. absurd (false≢true is)))
   key_begun (keyword.Ends k) = λ is. absurd (false≢true is)
   key_begun (keyword.Section k) = λ is. absurd (false≢true is)
   key_begun keyword.EndSection = λ is. absurd (false≢true is)
@@ -884,13 +884,13 @@ module _ (s : List ℕ) (cp : ClausePlace) (t : Token) (ts : List Token) where
   key_begun keyword.Network = λ is. absurd (false≢true is)
   key_begun keyword.Structure = λ is. absurd (false≢true is)
   key_begun keyword.EndStructure =
-      weakened (structure_end s cp ts) (λ r. r.0 ≡ clause.EndStructure) Begun (structure_ends s cp ts) (λ r e is. absurd (true≢false (sym is ∙ ap is_begins e)))
+      weaker_holds (structure_end s cp ts) (λ r. r.0 ≡ clause.EndStructure) Begun (structure_ends s cp ts) (λ r e is. absurd (true≢false (sym is ∙ ap is_begins e)))
 
   free_begun : (w : Option HeadWord) → IfSome (free_word_clause s cp t ts (t ∷ ts) w) Begun
   unfolding free_word_clause
   free_begun (Some w) =
       both (is_outer cp) (head_word_clause s cp w ts) (other_clause s cp t.line (t ∷ ts)) Begun
-      (weakened (head_word_clause s cp w ts) (λ r. r.0 ≡ clause.Note) Begun (note_read s cp w ts) (λ r e is. absurd (true≢false (sym is ∙ ap is_begins e)))) other_begun
+      (weaker_holds (head_word_clause s cp w ts) (λ r. r.0 ≡ clause.Note) Begun (note_read s cp w ts) (λ r e is. absurd (true≢false (sym is ∙ ap is_begins e)))) other_begun
   free_begun None = other_begun
 
   word_begun : (o : Option Keyword) → IfSome (word_clause s cp t ts (t ∷ ts) o) Begun
@@ -924,8 +924,8 @@ begins_rest s cp t ts rest long e =
 -- ---- tokens inside a clause
 
 calm_place_word : (pl : TokenPlace) (b : TokenClass) (x : List ℕ) (n : TokenClass) → is_quiet pl ≡ true → (may_be_keyword b && is_block_word x) ≡ false
-    → place_behind pl b class.Word x n ≡ pl
-unfolding place_behind place_behind_word place_behind_outside place_behind_head
+    → token_place_behind pl b class.Word x n ≡ pl
+unfolding token_place_behind place_behind_word place_behind_outside place_behind_head
 calm_place_word place.Outside b x n quiet e = by (may_be_keyword b) (is_word_in_list code_openings x) (is_word_in_list data_openings x || is_word_in_list begin_words x) e
   where
     by : (a c d : Bool) → (a && (c || d)) ≡ false → (if a && c then place.Head else place.Outside) ≡ place.Outside
@@ -954,7 +954,7 @@ calm_test true true e = absurd (false≢true e)
 calm_test true false e = refl
 calm_test false c e = refl
 
-pub calm_place : (pl : TokenPlace) (b c : TokenClass) (text : List ℕ) (nc : TokenClass) → is_quiet pl ≡ true → calm_of b c text ≡ true → place_behind pl b c text nc ≡ pl
+pub calm_place : (pl : TokenPlace) (b c : TokenClass) (text : List ℕ) (nc : TokenClass) → is_quiet pl ≡ true → calm_of b c text ≡ true → token_place_behind pl b c text nc ≡ pl
 calm_place pl b class.Word text nc quiet calm = calm_place_word pl b text nc quiet (calm_test (may_be_keyword b) (is_block_word text) calm)
 calm_place pl b class.Number text nc quiet calm = plain_walk pl b class.Number text nc quiet refl
 calm_place pl b class.Note text nc quiet calm = plain_walk pl b class.Note text nc quiet refl
@@ -1036,17 +1036,17 @@ same_kind_code kinds.Udt kinds.Db h code = absurd (false≢true h)
 same_kind_code kinds.Udt kinds.Sfc h code = absurd (false≢true h)
 same_kind_code kinds.Udt kinds.Udt h code = absurd (false≢true code)
 
-ends_place : (b : TokenClass) (x : List ℕ) (n : TokenClass) → is_word_in_list block_end_words x ≡ true → place_behind place.Start b class.Word x n ≡ place.Outside
-unfolding place_behind place_behind_word place_behind_start
+ends_place : (b : TokenClass) (x : List ℕ) (n : TokenClass) → is_word_in_list block_end_words x ≡ true → token_place_behind place.Start b class.Word x n ≡ place.Outside
+unfolding token_place_behind place_behind_word place_behind_start
 ends_place b x n e = rw e refl
 
 network_place : (b : TokenClass) (x : List ℕ) (n : TokenClass) → is_word_in_list block_end_words x ≡ false → is_word_in_list network_words x ≡ true
-    → place_behind place.Start b class.Word x n ≡ place.Start
-unfolding place_behind place_behind_word place_behind_start
+    → token_place_behind place.Start b class.Word x n ≡ place.Start
+unfolding token_place_behind place_behind_word place_behind_start
 network_place b x n e f = rw (e, f) refl
 
-note_place : (b : TokenClass) (x : List ℕ) (n : TokenClass) → place_behind place.Start b class.Note x n ≡ place.Start
-unfolding place_behind place_behind_sign
+note_place : (b : TokenClass) (x : List ℕ) (n : TokenClass) → token_place_behind place.Start b class.Note x n ≡ place.Start
+unfolding token_place_behind place_behind_sign
 note_place b x n = refl
 
 plain_no_step : (k : BlockKind) (c : Clause) (next : ClausePlace) → is_plain c ≡ true → is_statement c ≡ false → next_place (at.Body k) c ≡ Some next → ⊥
@@ -1079,47 +1079,47 @@ module _ (s : List ℕ) (k : BlockKind) (code : is_code k ≡ true) (t : Token) 
   abbrev Steps : Clause × List Token × Bool → Type 0
   Steps r =
       is_statement r.0 ≡ false → (next : ClausePlace) → next_place (at.Body k) r.0 ≡ Some next
-      → (r.1 ≡ ts) × Stands next (place_behind place.Start b (class_in s t) (text_of s t) nc) (class_in s t)
+      → (r.1 ≡ ts) × Stands next (token_place_behind place.Start b (token_class_in s t) (text_of s t) nc) (token_class_in s t)
 
   other_steps : IfSome (other_clause s (at.Body k) t.line (t ∷ ts)) Steps
   other_steps =
-      weakened (other_clause s (at.Body k) t.line (t ∷ ts)) IsPlainRead Steps (other_plain s (at.Body k) t.line (t ∷ ts))
+      weaker_holds (other_clause s (at.Body k) t.line (t ∷ ts)) IsPlainRead Steps (other_plain s (at.Body k) t.line (t ∷ ts))
       (λ r plain isnt next f. absurd (plain_no_step k r.0 next plain isnt f))
 
-  ends_steps : (e : BlockKind) (rest : List Token) → rest ≡ ts → class_in s t ≡ class.Word → is_word_in_list block_end_words (text_of s t) ≡ is_code e
+  ends_steps : (e : BlockKind) (rest : List Token) → rest ≡ ts → token_class_in s t ≡ class.Word → is_word_in_list block_end_words (text_of s t) ≡ is_code e
       → Steps (clause.Ends t.line e, rest, false)
   unfolding next_place next_place_in_body
   ends_steps e rest same word among isnt next f =
       let parts = if_some (nat_eq (kind_order e) (kind_order k)) at.Outside next f in (
         same,
-        stands_at at.Outside next (place_behind place.Start b (class_in s t) (text_of s t) nc) (class_in s t) parts.1 (
-          ap (λ c. place_behind place.Start b c (text_of s t) nc) word ∙ ends_place b (text_of s t) nc (among ∙ same_kind_code e k parts.0 code),
+        stands_at at.Outside next (token_place_behind place.Start b (token_class_in s t) (text_of s t) nc) (token_class_in s t) parts.1 (
+          ap (λ c. token_place_behind place.Start b c (text_of s t) nc) word ∙ ends_place b (text_of s t) nc (among ∙ same_kind_code e k parts.0 code),
           ap may_be_keyword word,
         ),
       )
 
-  network_steps : class_in s t ≡ class.Word → is_word_in_list block_end_words (text_of s t) ≡ false → is_word_in_list network_words (text_of s t) ≡ true
+  network_steps : token_class_in s t ≡ class.Word → is_word_in_list block_end_words (text_of s t) ≡ false → is_word_in_list network_words (text_of s t) ≡ true
       → Steps (clause.Network, ts, false)
   unfolding next_place next_place_in_body
   network_steps word ends network isnt next f = (
     refl,
-    stands_at (at.Body k) next (place_behind place.Start b (class_in s t) (text_of s t) nc) (class_in s t) f
-        (ap (λ c. place_behind place.Start b c (text_of s t) nc) word ∙ network_place b (text_of s t) nc ends network, code),
+    stands_at (at.Body k) next (token_place_behind place.Start b (token_class_in s t) (text_of s t) nc) (token_class_in s t) f
+        (ap (λ c. token_place_behind place.Start b c (text_of s t) nc) word ∙ network_place b (text_of s t) nc ends network, code),
   )
 
-  title_steps : class_in s t ≡ class.Note → Steps (clause.Title, behind_note s (at.Body k) ts, false)
+  title_steps : token_class_in s t ≡ class.Note → Steps (clause.Title, behind_note s (at.Body k) ts, false)
   unfolding next_place next_place_in_body behind_note
   title_steps note isnt next f = (
     refl,
-    stands_at (at.Body k) next (place_behind place.Start b (class_in s t) (text_of s t) nc) (class_in s t) f
-        (ap (λ c. place_behind place.Start b c (text_of s t) nc) note ∙ note_place b (text_of s t) nc, code),
+    stands_at (at.Body k) next (token_place_behind place.Start b (token_class_in s t) (text_of s t) nc) (token_class_in s t) f
+        (ap (λ c. token_place_behind place.Start b c (text_of s t) nc) note ∙ note_place b (text_of s t) nc, code),
   )
 
-  key_steps : class_in s t ≡ class.Word → (j : Keyword) → KeyFits (text_of s t) j → IfSome (keyword_clause s (at.Body k) t.line j ts) Steps
+  key_steps : token_class_in s t ≡ class.Word → (j : Keyword) → KeyFits (text_of s t) j → IfSome (keyword_clause s (at.Body k) t.line j ts) Steps
   unfolding keyword_clause head_clause next_place next_place_in_body
   key_steps word (keyword.Opens e) h =
-      chained (block_of_kind_at s e ts) (λ n. option_map (λ r. (clause.Head t.line e n.0 r.0, r.1, false)) (result_at s e n.1)) (λ n. Unit {0}) Steps (none_holds (block_of_kind_at s e ts))
-      (λ n i. mapped (result_at s e n.1) (λ r. (clause.Head t.line e n.0 r.0, r.1, false)) (λ r. Unit {0}) Steps (none_holds (result_at s e n.1))
+      chain_holds (block_of_kind_at s e ts) (λ n. option_map (λ r. (clause.Head t.line e n.0 r.0, r.1, false)) (result_at s e n.1)) (λ n. Unit {0}) Steps (none_holds (block_of_kind_at s e ts))
+      (λ n i. map_holds (result_at s e n.1) (λ r. (clause.Head t.line e n.0 r.0, r.1, false)) (λ r. Unit {0}) Steps (none_holds (result_at s e n.1))
       (λ r j isnt next f. absurd (none-some next f)))
   key_steps word (keyword.Ends e) h = ends_steps e ts refl word h.ends
   key_steps word (keyword.Section q) h = λ isnt next f. absurd (none-some next f)
@@ -1128,7 +1128,7 @@ module _ (s : List ℕ) (k : BlockKind) (code : is_code k ≡ true) (t : Token) 
   key_steps word keyword.Network h = network_steps word h.ends h.network
   key_steps word keyword.Structure h = λ isnt next f. absurd (none-some next f)
   key_steps word keyword.EndStructure h =
-      weakened (structure_end s (at.Body k) ts) (λ r. r.0 ≡ clause.EndStructure) Steps (structure_ends s (at.Body k) ts)
+      weaker_holds (structure_end s (at.Body k) ts) (λ r. r.0 ≡ clause.EndStructure) Steps (structure_ends s (at.Body k) ts)
       (λ r e isnt next f. absurd (no_structure_step k r.0 next e f))
 
   free_steps : (w : Option HeadWord) → IfSome (free_word_clause s (at.Body k) t ts (t ∷ ts) w) Steps
@@ -1136,16 +1136,16 @@ module _ (s : List ℕ) (k : BlockKind) (code : is_code k ≡ true) (t : Token) 
   free_steps (Some w) = other_steps
   free_steps None = other_steps
 
-  word_steps : class_in s t ≡ class.Word → (o : Option Keyword) → look_up keywords (text_of s t) ≡ o → IfSome (word_clause s (at.Body k) t ts (t ∷ ts) o) Steps
+  word_steps : token_class_in s t ≡ class.Word → (o : Option Keyword) → look_up keywords (text_of s t) ≡ o → IfSome (word_clause s (at.Body k) t ts (t ∷ ts) o) Steps
   unfolding word_clause
   word_steps word (Some j) e = key_steps word j (key_fits (text_of s t) j e)
   word_steps word None e = free_steps (look_up head_words (text_of s t))
 
   kind_steps : (j : TokenKind) → t.kind ≡ j → IfSome (clause_by_kind s (at.Body k) t ts (t ∷ ts) j) Steps
-  unfolding clause_by_kind class_of
-  kind_steps kind.Word is = word_steps (ap (λ j. class_of j (text_of s t)) is) (look_up keywords (text_of s t)) refl
+  unfolding clause_by_kind token_class
+  kind_steps kind.Word is = word_steps (ap (λ j. token_class j (text_of s t)) is) (look_up keywords (text_of s t)) refl
   kind_steps kind.Attribute is = λ isnt next f. absurd (no_note_step k clause.Note next refl f)
-  kind_steps kind.Title is = title_steps (ap (λ j. class_of j (text_of s t)) is)
+  kind_steps kind.Title is = title_steps (ap (λ j. token_class j (text_of s t)) is)
   kind_steps kind.Number is = other_steps
   kind_steps kind.Quoted is = other_steps
   kind_steps kind.Local is = other_steps
@@ -1162,11 +1162,11 @@ module _ (s : List ℕ) (k : BlockKind) (code : is_code k ≡ true) (t : Token) 
 
 pub body_step : (s : List ℕ) (k : BlockKind) (t : Token) (ts : List Token) (c : Clause) (rest : List Token) (long : Bool) (next : ClausePlace) (before nc : TokenClass)
     → is_code k ≡ true → is_statement c ≡ false → clause_at s (at.Body k) (t ∷ ts) ≡ Some (c, rest, long) → next_place (at.Body k) c ≡ Some next
-    → (rest ≡ ts) × Stands next (place_behind place.Start before (class_in s t) (text_of s t) nc) (class_in s t)
+    → (rest ≡ ts) × Stands next (token_place_behind place.Start before (token_class_in s t) (text_of s t) nc) (token_class_in s t)
 body_step s k t ts c rest long next before nc code isnt e f =
     some_holds (clause_at s (at.Body k) (t ∷ ts)) (c, rest, long)
     (λ r. is_statement r.0 ≡ false → (n : ClausePlace) → next_place (at.Body k) r.0 ≡ Some n
-    → (r.1 ≡ ts) × Stands n (place_behind place.Start before (class_in s t) (text_of s t) nc) (class_in s t)) e (clause_steps s k code t ts before nc) isnt next f
+    → (r.1 ≡ ts) × Stands n (token_place_behind place.Start before (token_class_in s t) (text_of s t) nc) (token_class_in s t)) e (clause_steps s k code t ts before nc) isnt next f
 
 -- ---- the first token of a statement
 
@@ -1174,8 +1174,8 @@ body_step s k t ts c rest long next before nc code isnt e f =
 pub key_no_statement : (s : List ℕ) (cp : ClausePlace) (line : ℕ) (j : Keyword) (ts : List Token) → IfSome (keyword_clause s cp line j ts) (λ r. is_statement r.0 ≡ false)
 unfolding keyword_clause head_clause
 key_no_statement s cp line (keyword.Opens e) ts =
-    chained (block_of_kind_at s e ts) (λ n. option_map (λ r. (clause.Head line e n.0 r.0, r.1, false)) (result_at s e n.1)) (λ n. Unit {0}) (λ r. is_statement r.0 ≡ false) (none_holds (block_of_kind_at s e ts))
-    (λ n i. mapped (result_at s e n.1) (λ r. (clause.Head line e n.0 r.0, r.1, false)) (λ r. Unit {0}) (λ r. is_statement r.0 ≡ false) (none_holds (result_at s e n.1)) (λ r j. refl))
+    chain_holds (block_of_kind_at s e ts) (λ n. option_map (λ r. (clause.Head line e n.0 r.0, r.1, false)) (result_at s e n.1)) (λ n. Unit {0}) (λ r. is_statement r.0 ≡ false) (none_holds (block_of_kind_at s e ts))
+    (λ n i. map_holds (result_at s e n.1) (λ r. (clause.Head line e n.0 r.0, r.1, false)) (λ r. Unit {0}) (λ r. is_statement r.0 ≡ false) (none_holds (result_at s e n.1)) (λ r j. refl))
 key_no_statement s cp line (keyword.Ends e) ts = refl
 key_no_statement s cp line (keyword.Section q) ts = refl
 key_no_statement s cp line keyword.EndSection ts = refl
@@ -1183,23 +1183,23 @@ key_no_statement s cp line keyword.Begin ts = refl
 key_no_statement s cp line keyword.Network ts = refl
 key_no_statement s cp line keyword.Structure ts = refl
 key_no_statement s cp line keyword.EndStructure ts =
-    weakened (structure_end s cp ts) (λ r. r.0 ≡ clause.EndStructure) (λ r. is_statement r.0 ≡ false) (structure_ends s cp ts) (λ r e. ap is_statement e)
+    weaker_holds (structure_end s cp ts) (λ r. r.0 ≡ clause.EndStructure) (λ r. is_statement r.0 ≡ false) (structure_ends s cp ts) (λ r e. ap is_statement e)
 
 -- what is known of it
 abbrev IsFree : List ℕ → Token → Type 0
 IsFree s t =
-    (is_note (class_in s t) ≡ false)
+    (is_note (token_class_in s t) ≡ false)
     × (has_kind t kind.Word ≡ true → (is_word_in_list block_end_words (text_of s t) ≡ false) × (is_word_in_list network_words (text_of s t) ≡ false))
 
-free_word : (s : List ℕ) (t : Token) → class_in s t ≡ class.Word → look_up keywords (text_of s t) ≡ None → IsFree s t
+free_word : (s : List ℕ) (t : Token) → token_class_in s t ≡ class.Word → look_up keywords (text_of s t) ≡ None → IsFree s t
 free_word s t word none =
     (ap is_note word, λ is. (none_among block_end_words (text_of s t) end_keys none, none_among network_words (text_of s t) network_keys none))
 
 -- no word
-free_kind : (s : List ℕ) (t : Token) (j : TokenKind) → t.kind ≡ j → is_note (class_of j (text_of s t)) ≡ false → nat_eq (kind_rank j) 0 ≡ false → IsFree s t
+free_kind : (s : List ℕ) (t : Token) (j : TokenKind) → t.kind ≡ j → is_note (token_class j (text_of s t)) ≡ false → nat_eq (kind_rank j) 0 ≡ false → IsFree s t
 unfolding has_kind
 free_kind s t j is note other = (
-  ap (λ i. is_note (class_of i (text_of s t))) is ∙ note,
+  ap (λ i. is_note (token_class i (text_of s t))) is ∙ note,
   λ word. absurd (true≢false (sym word ∙ ap (λ i. nat_eq (kind_rank i) 0) is ∙ other)),
 )
 
@@ -1211,16 +1211,16 @@ module _ (s : List ℕ) (k : BlockKind) (t : Token) (ts : List Token) where
   always None h = tt
   always (Some r) h = λ is. h
 
-  word_frees : class_in s t ≡ class.Word → (o : Option Keyword) → look_up keywords (text_of s t) ≡ o → IfSome (word_clause s (at.Body k) t ts (t ∷ ts) o) Frees
+  word_frees : token_class_in s t ≡ class.Word → (o : Option Keyword) → look_up keywords (text_of s t) ≡ o → IfSome (word_clause s (at.Body k) t ts (t ∷ ts) o) Frees
   unfolding word_clause
   word_frees word (Some j) e =
-      weakened (keyword_clause s (at.Body k) t.line j ts) (λ r. is_statement r.0 ≡ false) Frees (key_no_statement s (at.Body k) t.line j ts)
+      weaker_holds (keyword_clause s (at.Body k) t.line j ts) (λ r. is_statement r.0 ≡ false) Frees (key_no_statement s (at.Body k) t.line j ts)
       (λ r no_ is. absurd (true≢false (sym is ∙ no_)))
   word_frees word None e = always (free_word_clause s (at.Body k) t ts (t ∷ ts) (look_up head_words (text_of s t))) (free_word s t word e)
 
   kind_frees : (j : TokenKind) → t.kind ≡ j → IfSome (clause_by_kind s (at.Body k) t ts (t ∷ ts) j) Frees
-  unfolding clause_by_kind class_of
-  kind_frees kind.Word is = word_frees (ap (λ j. class_of j (text_of s t)) is) (look_up keywords (text_of s t)) refl
+  unfolding clause_by_kind token_class
+  kind_frees kind.Word is = word_frees (ap (λ j. token_class j (text_of s t)) is) (look_up keywords (text_of s t)) refl
   kind_frees kind.Attribute is = λ statement. absurd (false≢true statement)
   kind_frees kind.Title is = λ statement. absurd (false≢true statement)
   kind_frees kind.Number is = always (other_clause s (at.Body k) t.line (t ∷ ts)) (free_kind s t kind.Number is refl refl)
@@ -1239,7 +1239,7 @@ module _ (s : List ℕ) (k : BlockKind) (t : Token) (ts : List Token) where
 
 pub body_free : (s : List ℕ) (k : BlockKind) (t : Token) (ts : List Token) (y : Statement) (rest : List Token) (long : Bool)
     → clause_at s (at.Body k) (t ∷ ts) ≡ Some (clause.Runs y, rest, long)
-    → (is_note (class_in s t) ≡ false)
+    → (is_note (token_class_in s t) ≡ false)
     × (has_kind t kind.Word ≡ true → (is_word_in_list block_end_words (text_of s t) ≡ false) × (is_word_in_list network_words (text_of s t) ≡ false))
 body_free s k t ts y rest long e =
     some_holds (clause_at s (at.Body k) (t ∷ ts)) (clause.Runs y, rest, long) (λ r. is_statement r.0 ≡ true → IsFree s t) e (clause_frees s k t ts) refl

@@ -18,7 +18,7 @@ use Rattle.stl_parser.specs.declared.keywords.ClauseWord.TheVariants as key
 use Rattle.stl_parser.specs.declared.tables.AddressKind.{AddressKind}
 use Rattle.stl_parser.specs.Addresses.{address_at, bit_of, block_at, block_number_at, glued_letters_and_number, letter_count, letters_and_number_at, quoted_block_at, separate_letters_and_number}
 use Rattle.stl_parser.specs.Literals.{byte_of, bytes_at, bytes_behind, characters_of, last_bytes, literal_at, literal_of, literal_token, long_literal, truth_of, text_between_quotes}
-use Rattle.stl_parser.specs.Numbers.{int_at, number_of, number_up_to, signed_number_at}
+use Rattle.stl_parser.specs.Numbers.{int_at, number_of_token, number_up_to, signed_number_at}
 use Rattle.stl_parser.specs.Tables.{addresses, block_kinds, flags, look_up}
 use Rattle.stl_parser.specs.Terminals.{has_kind}
 use Rattle.stl_parser.specs.Values.{based_value, duration_literal, long_or_count}
@@ -35,7 +35,7 @@ module _ (s e : List ℕ) (F : List (Pair s e) → Type 0) (closed : (p : Pair s
   -- ---- numbers
 
   pub signed_agrees : (p : Pair s e) (ps : List (Pair s e)) → F ps → Agree (Behind s e F) (signed_number_at s p.left (lefts ps)) (signed_number_at e p.right (rights ps))
-  unfolding signed_number_at number_of
+  unfolding signed_number_at number_of_token
   signed_agrees p [] h = nothing
   signed_agrees p (q ∷ qs) h =
       agree_chosen (mark_like s e p mark.Minus)
@@ -44,7 +44,7 @@ module _ (s e : List ℕ) (F : List (Pair s e) → Type 0) (closed : (p : Pair s
       (agree_mapped _ _ (equal _ _ (number_like s e (greatest_number false) q)) (λ n m k. (ap pos k, rest s e F qs (closed q qs h)))) nothing)
 
   pub int_agrees : (ps : List (Pair s e)) → F ps → Agree (Behind s e F) (int_at s (lefts ps)) (int_at e (rights ps))
-  unfolding int_at number_of
+  unfolding int_at number_of_token
   int_agrees [] h = nothing
   int_agrees (p ∷ ps) h =
       either (agree_mapped _ _ (equal _ _ (number_like s e (greatest_number false) p)) (λ n m k. (ap pos k, rest s e F ps (closed p ps h))))
@@ -56,8 +56,8 @@ module _ (s e : List ℕ) (F : List (Pair s e) → Type 0) (closed : (p : Pair s
   unfolding truth_of
   truth_like p = rw (key_like s e p key.True, key_like s e p key.False) refl
 
-  pub number_of_like : (p : Pair s e) → number_of s p.left ≡ number_of e p.right
-  unfolding number_of
+  pub number_of_like : (p : Pair s e) → number_of_token s p.left ≡ number_of_token e p.right
+  unfolding number_of_token
   number_of_like p = number_like s e (greatest_number false) p
 
   same_token : (p : Pair s e) → IsSameToken s e p.left p.right → (k : TokenKind) → literal_token s p.left k ≡ literal_token e p.right k
@@ -179,7 +179,7 @@ module _ (s e : List ℕ) (F : List (Pair s e) → Type 0) (closed : (p : Pair s
 
   -- and without a number behind it
   no_number : {X : Type 0} (table : List (List ℕ × X)) (a : List ℕ) (t : Token) (ts : List Token) → has_kind t kind.Number ≡ false → separate_letters_and_number table s a (t ∷ ts) ≡ None
-  unfolding separate_letters_and_number number_of number_up_to
+  unfolding separate_letters_and_number number_of_token number_up_to
   no_number table a t ts none = rw none (nothing_of (look_up table a))
 
   numbered_agrees : {X : Type 0} (table : List (List ℕ × X)) (p : Pair s e) (ps : List (Pair s e)) → F ps

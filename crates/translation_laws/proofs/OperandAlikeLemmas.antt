@@ -27,8 +27,8 @@ use Rattle.stl_parser.specs.declared.tables.AddressKind.{AddressKind}
 use Rattle.stl_parser.specs.declared.tables.AddressKind.TheVariants as address
 use Rattle.stl_parser.specs.Addresses.{address_at, bit_of, is_address_word, letter_count}
 use Rattle.stl_parser.specs.Literals.{literal_at, literal_of, literal_token, long_literal, text_between_quotes}
-use Rattle.stl_parser.specs.Numbers.{number_of, signed_number_at}
-use Rattle.stl_parser.specs.Operands.{lone_word_operand, operand_by_pointer, area_operand, area_pointer, operand_behind_block, block_path, block_place, operand_by_register, condition_of, data_block_operand, data_block_name, direct_address_operand, operand_in_block, index_end, indirect_operand, is_operand_word, local_path, mark_operand, memory_pointer, name_step, operand_by_memory_number, offset_of, operand_by_kind, operand_of, register_name_operand_if, register_name_operand, path_end, path_of, place_bit, place_of_data_address, plain_path, plain_pointer, pointer_close, pointer_end, pointer_constant_operand, quoted_operand, register_of, register_pointer, sign_operand, sized_by_register, step_at, steps_from, operand_with_number, operand_with_pointer, word_operand}
+use Rattle.stl_parser.specs.Numbers.{number_of_token, signed_number_at}
+use Rattle.stl_parser.specs.Operands.{lone_word_operand, operand_by_pointer, area_operand, area_pointer, operand_behind_block, block_path, block_place, operand_by_register, condition_word_operand, data_block_operand, data_block_name, direct_address_operand, operand_in_block, index_end, indirect_operand, is_operand_word, local_path, mark_operand, memory_pointer, name_step, operand_by_memory_number, offset_of, operand_by_kind, operand_of, register_name_operand_if, register_name_operand, path_end, path_of, place_bit, place_of_data_address, plain_path, plain_pointer, pointer_close, pointer_end, pointer_constant_operand, quoted_operand, register_number, register_pointer, sign_operand, operand_by_sized_register, step_at, steps_from, operand_with_number, operand_with_pointer, word_operand}
 use Rattle.stl_parser.specs.Tables.{addresses, flags, look_up, registers}
 use Rattle.stl_parser.specs.Terminals.{has_kind, is_mark}
 use Rattle.translation_laws.specs.Alike.{IsSameWordButForCase, IsSameToken}
@@ -90,7 +90,7 @@ module _ (s e : List ℕ) where
   bits : (ps : List (Pair s e)) → bit_of s (lefts ps) ≡ bit_of e (rights ps)
   bits ps = bit_same s e (Fits s e) closed apart ps
 
-  counted : (p : Pair s e) → number_of s p.left ≡ number_of e p.right
+  counted : (p : Pair s e) → number_of_token s p.left ≡ number_of_token e p.right
   counted p = number_of_like s e (Fits s e) closed apart p
 
   -- ---- paths
@@ -185,8 +185,8 @@ module _ (s e : List ℕ) where
 
   -- ---- pointers
 
-  register_like : (p : Pair s e) → register_of s p.left ≡ register_of e p.right
-  unfolding register_of
+  register_like : (p : Pair s e) → register_number s p.left ≡ register_number e p.right
+  unfolding register_number
   register_like p = rw (key_like s e p key.Ar1, key_like s e p key.Ar2) refl
 
   offset_same : (p n : Pair s e) (ps : List (Pair s e)) → offset_of s p.left n.left (lefts ps) ≡ offset_of e p.right n.right (rights ps)
@@ -261,8 +261,8 @@ module _ (s e : List ℕ) where
     pub text : Same (text_of s p.left) (text_of e p.right)
     pub exact : (text_of s p.left ≡ text_of e p.right) ⊎ (is_operand German (text_of s p.left) ≡ true)
 
-  condition_same : (p : Pair s e) → Same (text_of s p.left) (text_of e p.right) → condition_of s p.left ≡ condition_of e p.right
-  unfolding condition_of
+  condition_same : (p : Pair s e) → Same (text_of s p.left) (text_of e p.right) → condition_word_operand s p.left ≡ condition_word_operand e p.right
+  unfolding condition_word_operand
   condition_same p same = ap (option_map operand.OfStatus) (same_looked_up flags (text_of s p.left) (text_of e p.right) same)
 
   other_same : (p : Pair s e) → IsWordPair p → register_name_operand s p.left ≡ register_name_operand e p.right
@@ -282,8 +282,8 @@ module _ (s e : List ℕ) where
   alone_same p [] h = rw (condition_same p h.text, other_same p h) refl
   alone_same p (q ∷ qs) h = refl
 
-  sized_same : (p : Pair s e) (ps : List (Pair s e)) → sized_by_register s p.left (lefts ps) ≡ sized_by_register e p.right (rights ps)
-  unfolding sized_by_register
+  sized_same : (p : Pair s e) (ps : List (Pair s e)) → operand_by_sized_register s p.left (lefts ps) ≡ operand_by_sized_register e p.right (rights ps)
+  unfolding operand_by_sized_register
   sized_same p ps =
       rw (key_like s e p key.B, key_like s e p key.W, key_like s e p key.D, by_register_same None width.Byte ps, by_register_same None width.Word ps, by_register_same None width.Dword ps) refl
 
@@ -372,8 +372,8 @@ module _ (s e : List ℕ) where
 
   -- ---- names with `#`
 
-  no_pointer : (p : Pair s e) (ps : List (Pair s e)) → IsNamedPair p → sized_by_register s p.left (lefts ps) ≡ None
-  unfolding sized_by_register
+  no_pointer : (p : Pair s e) (ps : List (Pair s e)) → IsNamedPair p → operand_by_sized_register s p.left (lefts ps) ≡ None
+  unfolding operand_by_sized_register
   no_pointer p ps h =
       rw (named_no_key s e p.left p.right key.B h.named, named_no_key s e p.left p.right key.W h.named, named_no_key s e p.left p.right key.D h.named) refl
 
@@ -382,7 +382,7 @@ module _ (s e : List ℕ) where
   no_number p ps named h = rw (named_no_address s e (Fits s e) closed apart p ps h named) refl
 
   no_alone : (t : Token) (ts : List Token) → look_up flags (text_of s t) ≡ None → look_up registers (text_of s t) ≡ None → lone_word_operand s t ts ≡ None
-  unfolding lone_word_operand condition_of register_name_operand
+  unfolding lone_word_operand condition_word_operand register_name_operand
   no_alone t [] a b = rw (a, b) refl
   no_alone t (u ∷ us) a b = refl
 

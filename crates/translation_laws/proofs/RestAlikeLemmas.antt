@@ -17,7 +17,7 @@ use Rattle.stl_parser.specs.declared.tables.Keyword.{Keyword}
 use Rattle.stl_parser.specs.Clauses.{clause_at, clause_by_kind, free_word_clause, inside_clause, keyword_clause, other_clause, plain_clause, semicolon_clause, semicolon_place, structure_clause, until_semicolon, word_clause}
 use Rattle.stl_parser.specs.Declarations.{structure_at}
 use Rattle.stl_parser.specs.Tables.{head_words, keywords, look_up}
-use Rattle.stl_parser.proofs.OptionLemmas.{chained, either, found, mapped, none_holds, some_holds, weakened}
+use Rattle.stl_parser.proofs.OptionLemmas.{chain_holds, either, search_holds, map_holds, none_holds, some_holds, weaker_holds}
 use Rattle.translation_laws.proofs.CalmLemmas.{is_statement}
 use Rattle.translation_laws.proofs.FrameAlikeLemmas.{key_no_statement}
 
@@ -33,18 +33,18 @@ module _ (s : List ℕ) (k : BlockKind) where
   semicolon_ends : (line : ℕ) (ts : List Token) → IfSome (semicolon_clause s (at.Body k) line ts) (EndsAt ts)
   unfolding semicolon_clause until_semicolon
   semicolon_ends line ts =
-      chained (option_map (λ n. (take n ts, drop (n + 1) ts)) (semicolon_place s ts)) (λ cut. option_map (λ c. (c.0, cut.1, c.1)) (inside_clause s (at.Body k) line cut.0))
+      chain_holds (option_map (λ n. (take n ts, drop (n + 1) ts)) (semicolon_place s ts)) (λ cut. option_map (λ c. (c.0, cut.1, c.1)) (inside_clause s (at.Body k) line cut.0))
       (λ cut. IsRest s ts cut.1) (EndsAt ts)
-      (mapped (semicolon_place s ts) (λ n. (take n ts, drop (n + 1) ts)) (λ n. semicolon_place s ts ≡ Some n) (λ cut. IsRest s ts cut.1)
-      (found (semicolon_place s ts) (λ n. semicolon_place s ts ≡ Some n) (λ n is. is)) (λ n is. (n, is, refl)))
-      (λ cut there. mapped (inside_clause s (at.Body k) line cut.0) (λ c. (c.0, cut.1, c.1)) (λ c. Unit {0}) (EndsAt ts) (none_holds (inside_clause s (at.Body k) line cut.0))
+      (map_holds (semicolon_place s ts) (λ n. (take n ts, drop (n + 1) ts)) (λ n. semicolon_place s ts ≡ Some n) (λ cut. IsRest s ts cut.1)
+      (search_holds (semicolon_place s ts) (λ n. semicolon_place s ts ≡ Some n) (λ n is. is)) (λ n is. (n, is, refl)))
+      (λ cut there. map_holds (inside_clause s (at.Body k) line cut.0) (λ c. (c.0, cut.1, c.1)) (λ c. Unit {0}) (EndsAt ts) (none_holds (inside_clause s (at.Body k) line cut.0))
       (λ c h is. there))
 
   plain_ends : (line : ℕ) (ts : List Token) → IfSome (plain_clause s (at.Body k) line ts) (EndsAt ts)
   unfolding plain_clause structure_clause
   plain_ends line ts =
       either (option_map opened (structure_at s 0 ts)) (semicolon_clause s (at.Body k) line ts) (EndsAt ts)
-      (mapped (structure_at s 0 ts) opened (λ d. Unit {0}) (EndsAt ts) (none_holds (structure_at s 0 ts)) (λ d h is. absurd (false≢true is)))
+      (map_holds (structure_at s 0 ts) opened (λ d. Unit {0}) (EndsAt ts) (none_holds (structure_at s 0 ts)) (λ d h is. absurd (false≢true is)))
       (semicolon_ends line ts)
     where
       opened : Declaration × List Token → Clause × List Token × Bool
@@ -62,7 +62,7 @@ module _ (s : List ℕ) (k : BlockKind) where
   word_ends : (t : Token) (ts : List Token) (o : Option Keyword) → IfSome (word_clause s (at.Body k) t ts (t ∷ ts) o) (EndsAt (t ∷ ts))
   unfolding word_clause
   word_ends t ts (Some j) =
-      weakened (keyword_clause s (at.Body k) t.line j ts) (λ r. is_statement r.0 ≡ false) (EndsAt (t ∷ ts)) (key_no_statement s (at.Body k) t.line j ts)
+      weaker_holds (keyword_clause s (at.Body k) t.line j ts) (λ r. is_statement r.0 ≡ false) (EndsAt (t ∷ ts)) (key_no_statement s (at.Body k) t.line j ts)
       (λ r none is. absurd (false≢true (sym none ∙ is)))
   word_ends t ts None = free_ends t ts (look_up head_words (text_of s t))
 

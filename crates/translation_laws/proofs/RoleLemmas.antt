@@ -19,7 +19,7 @@ use Rattle.de_mnemonics.specs.declared.places.TokenPlace.{TokenPlace}
 use Rattle.de_mnemonics.specs.declared.places.TokenPlace.TheVariants as place
 use Rattle.de_mnemonics.specs.declared.roles.Role.{Role}
 use Rattle.de_mnemonics.specs.declared.roles.Role.TheVariants as role
-use Rattle.de_mnemonics.specs.Places.{place_behind, place_behind_closing, place_behind_first, place_behind_head, place_behind_instruction, place_behind_outside, place_behind_sign, place_behind_start, place_behind_word, class_of, class_of_mark, is_word_in_list, is_behind_instruction, is_component, is_word_in_pairs, is_jump_word, is_numbered_operand, is_operand_place, is_pointer, is_mark_text, opens_path, role_at_start, role_first, role_in, role_of, role_of_word}
+use Rattle.de_mnemonics.specs.Places.{token_place_behind, place_behind_closing, place_behind_first, place_behind_head, place_behind_instruction, place_behind_outside, place_behind_sign, place_behind_start, place_behind_word, token_class, class_of_mark, is_word_in_list, is_behind_instruction, is_component_word, is_word_in_pairs, is_jump_word, is_numbered_operand, is_operand_place, is_pointer_mark, is_mark_text, opens_path, role_at_start, role_first, role_in, role_of, role_of_word}
 use Rattle.de_mnemonics.specs.Tables.{WordPairs, common_jumps, block_end_words, instruction_pairs, jump_pairs, network_words, operand_pairs, result_pairs, zone_words}
 use Rattle.de_mnemonics.specs.Words.{digits_of_word, exchanged_word, instruction_partner, letter_count, letters_of_word, numbered_partner, operand_partner, partner_in_table, translated_word}
 use Rattle.de_mnemonics.proofs.CaseLemmas.{same_among, same_text}
@@ -121,8 +121,8 @@ role_plain p b class.CloseParen x n e = refl
 role_plain p b class.Pointer x n e = refl
 role_plain p b class.Other x n e = refl
 
-pub behind_plain : (p : TokenPlace) (b c : TokenClass) (x : List ℕ) (n : TokenClass) → is_plain_class c ≡ true → place_behind p b c x n ≡ place_behind_sign p c
-unfolding place_behind
+pub behind_plain : (p : TokenPlace) (b c : TokenClass) (x : List ℕ) (n : TokenClass) → is_plain_class c ≡ true → token_place_behind p b c x n ≡ place_behind_sign p c
+unfolding token_place_behind
 behind_plain p b class.Word x n e = absurd (false≢true e)
 behind_plain p b class.Number x n e = refl
 behind_plain p b class.Note x n e = refl
@@ -172,8 +172,8 @@ abbrev pub is_word_kind : TokenKind → Bool
 is_word_kind kind.Word = true
 is_word_kind _ = false
 
-pub kind_plain : (k : TokenKind) (x : List ℕ) → is_word_kind k ≡ false → is_plain_class (class_of k x) ≡ true
-unfolding class_of
+pub kind_plain : (k : TokenKind) (x : List ℕ) → is_word_kind k ≡ false → is_plain_class (token_class k x) ≡ true
+unfolding token_class
 kind_plain kind.Word x e = absurd (true≢false e)
 kind_plain kind.Number x e = refl
 kind_plain kind.Quoted x e = refl
@@ -324,7 +324,7 @@ in_no_instruction false false false e = cc
 
 role_in_none : (p : TokenPlace) (b : TokenClass) (x : List ℕ) (n : TokenClass) → role_in p b x n ≡ role.Instruction → ⊥
 unfolding role_in
-role_in_none p b x n e = in_no_instruction (is_component b n) (is_operand_place b x n) (opens_path p b) e
+role_in_none p b x n e = in_no_instruction (is_component_word b n) (is_operand_place b x n) (opens_path p b) e
 
 instruction_same : (x w : List ℕ) → Exchanges x w → place_behind_instruction w ≡ place_behind_instruction x
 unfolding place_behind_instruction
@@ -574,9 +574,9 @@ place_kept : (b : TokenClass) (x w : List ℕ) (n : TokenClass) → is_operand_p
 unfolding is_operand_place
 place_kept b x w n e (inl h) =
     let alone : is_word_in_pairs result_pairs x ≡ false = numbered_no_result x h.there in
-    subst (λ c. (is_pointer b || c || is_word_in_pairs result_pairs w) ≡ true) (sym (same_numbered x w n h))
-    (keep_or (is_pointer b) (is_numbered_operand x n) (is_word_in_pairs result_pairs w) (subst (λ d. (is_pointer b || is_numbered_operand x n || d) ≡ true) alone e))
-place_kept b x w n e (inr h) = subst (λ d. (is_pointer b || is_numbered_operand w n || d) ≡ true) (sym h.0) (or_last (is_pointer b) (is_numbered_operand w n))
+    subst (λ c. (is_pointer_mark b || c || is_word_in_pairs result_pairs w) ≡ true) (sym (same_numbered x w n h))
+    (keep_or (is_pointer_mark b) (is_numbered_operand x n) (is_word_in_pairs result_pairs w) (subst (λ d. (is_pointer_mark b || is_numbered_operand x n || d) ≡ true) alone e))
+place_kept b x w n e (inr h) = subst (λ d. (is_pointer_mark b || is_numbered_operand w n || d) ≡ true) (sym h.0) (or_last (is_pointer_mark b) (is_numbered_operand w n))
 
 abbrev is_front_role : Role → Bool
 is_front_role role.Stays = true
@@ -626,7 +626,7 @@ in_kept : (p : TokenPlace) (b : TokenClass) (x w : List ℕ) (n : TokenClass) �
     → role_in p b w n ≡ role_in p b x n
 unfolding role_in
 in_kept p b x w n e h =
-    let parts = in_operand (is_component b n) (is_operand_place b x n) (opens_path p b) e in
+    let parts = in_operand (is_component_word b n) (is_operand_place b x n) (opens_path p b) e in
     rw (parts.0, parts.1, place_kept b x w n parts.1 h) refl
 
 closing_kept : (x w : List ℕ) → is_word_in_list zone_words x ≡ false → is_word_in_list zone_words w ≡ false → place_behind_closing w ≡ place_behind_closing x
@@ -681,10 +681,10 @@ path_opens place.Start b x n e = absurd (not_front x n role.Path e refl)
 path_opens place.Label b x n e = absurd cc
 path_opens place.Labelled b x n e = absurd cc
 path_opens place.Jump b x n e = absurd cc
-path_opens place.Instruction b x n e = in_path (is_component b n) (is_operand_place b x n) (opens_path place.Instruction b) e
-path_opens place.Closing b x n e = in_path (is_component b n) (is_operand_place b x n) (opens_path place.Closing b) e
-path_opens place.Path b x n e = in_path (is_component b n) (is_operand_place b x n) (opens_path place.Path b) e
-path_opens place.Inside b x n e = in_path (is_component b n) (is_operand_place b x n) (opens_path place.Inside b) e
+path_opens place.Instruction b x n e = in_path (is_component_word b n) (is_operand_place b x n) (opens_path place.Instruction b) e
+path_opens place.Closing b x n e = in_path (is_component_word b n) (is_operand_place b x n) (opens_path place.Closing b) e
+path_opens place.Path b x n e = in_path (is_component_word b n) (is_operand_place b x n) (opens_path place.Path b) e
+path_opens place.Inside b x n e = in_path (is_component_word b n) (is_operand_place b x n) (opens_path place.Inside b) e
 
 -- ---- no name stands behind a number
 
@@ -705,8 +705,8 @@ number_inside place.Closing = refl
 number_inside place.Path = refl
 number_inside place.Inside = refl
 
-pub fits_next : (p : TokenPlace) (b c : TokenClass) (x : List ℕ) (n : TokenClass) → IsFit (place_behind p b c x n) c
-unfolding place_behind
+pub fits_next : (p : TokenPlace) (b c : TokenClass) (x : List ℕ) (n : TokenClass) → IsFit (token_place_behind p b c x n) c
+unfolding token_place_behind
 fits_next p b class.Number x n e = absurd (false≢true (sym (number_inside p) ∙ e))
 fits_next p b class.Word x n e = refl
 fits_next p b class.Note x n e = refl

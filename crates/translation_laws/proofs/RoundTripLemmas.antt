@@ -21,8 +21,8 @@ use Rattle.de_mnemonics.specs.declared.places.TokenPlace.TheVariants as place
 use Rattle.de_mnemonics.specs.declared.roles.Role.{Role}
 use Rattle.de_mnemonics.specs.declared.roles.Role.TheVariants as role
 use Rattle.de_mnemonics.specs.declared.translation.TranslationPosition.{TranslationPosition}
-use Rattle.de_mnemonics.specs.Places.{place_behind, class_of, role_of, role_of_word}
-use Rattle.de_mnemonics.specs.Translation.{class_in, front_position, next_class, with_bytes_before, with_word_before, role_at, position_behind, translation_of, translation_from}
+use Rattle.de_mnemonics.specs.Places.{token_place_behind, token_class, role_of, role_of_word}
+use Rattle.de_mnemonics.specs.Translation.{token_class_in, front_position, next_class, with_bytes_before, with_word_before, role_at, position_behind, translation_of, translation_from}
 use Rattle.de_mnemonics.specs.Words.{marked_name, operand_partner, translated_word}
 use Rattle.translation_laws.specs.Alike.{AreTokensAlike, ComesBackInRole, IsSameWordButForCase, IsOperandWordAsLocal as IsNamedToken, IsSameToken, TreesAlike}
 use Rattle.translation_laws.specs.RewrittenText.{AreRewrittenTexts, IsRewrittenText, RewritingKeepsTokens, RewritesSource, ShowRewrittenTexts, kind_of_rewritten, rewritten_source}
@@ -110,9 +110,9 @@ words_of s ts are = words_follow s 0 false ts are
 abbrev IsBefore : TokenKind → TokenClass → Type 0
 IsBefore k b = k ≡ kind.Number → is_number_class b ≡ true
 
-number_class : (k : TokenKind) (x : List ℕ) → k ≡ kind.Number → is_number_class (class_of k x) ≡ true
-unfolding class_of
-number_class k x e = ap (λ j. is_number_class (class_of j x)) e
+number_class : (k : TokenKind) (x : List ℕ) → k ≡ kind.Number → is_number_class (token_class k x) ≡ true
+unfolding token_class
+number_class k x e = ap (λ j. is_number_class (token_class j x)) e
 
 -- a word in a role is rewritten as the translation writes it
 word_rewritten : Spellings → (p : TokenPlace) (b : TokenClass) (before : TokenKind) (x w : List ℕ) (n : TokenClass) → IsFit p b → IsBefore before b
@@ -133,17 +133,17 @@ unfolding translated_word
 stays_same r x w e is = same_Some x w (ap (λ q. translated_word German q x) (sym e) ∙ is)
 
 word_role : Spellings → (p : TokenPlace) (b : TokenClass) (before : TokenKind) (x w : List ℕ) (n : TokenClass) → IsFit p b → IsBefore before b → is_word x ≡ true
-    → translated_word German (role_of p b (class_of kind.Word x) x n) x ≡ Some w → IsRewrittenText before kind.Word x w
-unfolding role_of class_of
+    → translated_word German (role_of p b (token_class kind.Word x) x n) x ≡ Some w → IsRewrittenText before kind.Word x w
+unfolding role_of token_class
 word_role spelled p b before x w n fit stands word is = word_rewritten spelled p b before x w n fit stands word (role_of_word p b x n) refl is
 
 other_rewritten : (p : TokenPlace) (b : TokenClass) (before k : TokenKind) (x w : List ℕ) (n : TokenClass) → is_word_kind k ≡ false
-    → translated_word German (role_of p b (class_of k x) x n) x ≡ Some w → IsRewrittenText before k x w
+    → translated_word German (role_of p b (token_class k x) x n) x ≡ Some w → IsRewrittenText before k x w
 other_rewritten p b before k x w n other is =
-    inl (stays_same (role_of p b (class_of k x) x n) x w (role_plain p b (class_of k x) x n (kind_plain k x other)) is)
+    inl (stays_same (role_of p b (token_class k x) x n) x w (role_plain p b (token_class k x) x n (kind_plain k x other)) is)
 
 token_rewritten : Spellings → (p : TokenPlace) (b : TokenClass) (before k : TokenKind) (x w : List ℕ) (n : TokenClass) → IsFit p b → IsBefore before b
-    → (k ≡ kind.Word → is_word x ≡ true) → translated_word German (role_of p b (class_of k x) x n) x ≡ Some w → IsRewrittenText before k x w
+    → (k ≡ kind.Word → is_word x ≡ true) → translated_word German (role_of p b (token_class k x) x n) x ≡ Some w → IsRewrittenText before k x w
 token_rewritten spelled p b before kind.Word x w n fit stands word is = word_role spelled p b before x w n fit stands (word refl) is
 token_rewritten spelled p b before kind.Number x w n fit stands word is = other_rewritten p b before kind.Number x w n refl is
 token_rewritten spelled p b before kind.Quoted x w n fit stands word is = other_rewritten p b before kind.Quoted x w n refl is
@@ -165,7 +165,7 @@ there_rewritten spelled s position before (t ∷ ts) [] fit stands words are = a
 there_rewritten spelled s position before (t ∷ ts) (w ∷ ws) fit stands words are = (
   token_rewritten spelled position.place position.before before t.kind (text_of s t) w (next_class s ts) fit stands words.0 are.0,
   there_rewritten spelled s (position_behind s position t ts) t.kind ts ws
-      (fits_next position.place position.before (class_in s t) (text_of s t) (next_class s ts)) (λ number. number_class t.kind (text_of s t) number) words.1 are.1,
+      (fits_next position.place position.before (token_class_in s t) (text_of s t) (next_class s ts)) (λ number. number_class t.kind (text_of s t) number) words.1 are.1,
 )
 
 -- ---- and is translated back
@@ -176,8 +176,8 @@ AreBack s p b [] [] = Unit {0}
 AreBack s p b [] (v ∷ vs) = ⊥
 AreBack s p b (t ∷ ts) [] = ⊥
 AreBack s p b (t ∷ ts) (v ∷ vs) =
-    TextBack (role_of p b (class_in s t) (text_of s t) (next_class s ts)) (text_of s t) v
-    × AreBack s (place_behind p b (class_in s t) (text_of s t) (next_class s ts)) (class_in s t) ts vs
+    TextBack (role_of p b (token_class_in s t) (text_of s t) (next_class s ts)) (text_of s t) v
+    × AreBack s (token_place_behind p b (token_class_in s t) (text_of s t) (next_class s ts)) (token_class_in s t) ts vs
 
 record Returns (s g : List ℕ) (position position' : TranslationPosition) (ts us : List Token) : Type 0 where
   texts : List (List ℕ)
@@ -185,8 +185,8 @@ record Returns (s g : List ℕ) (position position' : TranslationPosition) (ts u
   kept : AreBack s position.place position.before ts texts
 
 -- the class of a token in the German text
-class_anew : (g : List ℕ) (t u : Token) (w : List ℕ) → u.kind ≡ kind_of_rewritten t.kind w → text_of g u ≡ w → class_in g u ≡ class_of (kind_of_rewritten t.kind w) w
-class_anew g t u w is text = ap (λ k. class_of k (text_of g u)) is ∙ ap (class_of (kind_of_rewritten t.kind w)) text
+class_anew : (g : List ℕ) (t u : Token) (w : List ℕ) → u.kind ≡ kind_of_rewritten t.kind w → text_of g u ≡ w → token_class_in g u ≡ token_class (kind_of_rewritten t.kind w) w
+class_anew g t u w is text = ap (λ k. token_class k (text_of g u)) is ∙ ap (token_class (kind_of_rewritten t.kind w)) text
 
 next_near : (s g : List ℕ) (position : TranslationPosition) (ts : List Token) (ws : List (List ℕ)) (us : List Token) → AreWritten German s position ts ws → ShowRewrittenTexts g ts ws us
     → IsNear (next_class s ts) (next_class g us)
@@ -196,25 +196,25 @@ next_near s g position [] (w ∷ ws) us are shows = absurd are
 next_near s g position (t ∷ ts) [] us are shows = absurd are
 next_near s g position (t ∷ ts) (w ∷ ws) [] are shows = absurd shows
 next_near s g position (t ∷ ts) (w ∷ ws) (u ∷ us) are shows =
-    subst (λ c. IsNear (class_in s t) c) (sym (class_anew g t u w shows.0 shows.1))
+    subst (λ c. IsNear (token_class_in s t) c) (sym (class_anew g t u w shows.0 shows.1))
     (token_near position.place position.before t.kind (text_of s t) w (next_class s ts) are.0)
 
 -- what is written for a token of the German text, and the place behind it
 role_anew : (g : List ℕ) (position' : TranslationPosition) (p : TokenPlace) (t u : Token) (us : List Token) (w v : List ℕ) → position'.place ≡ p → u.kind ≡ kind_of_rewritten t.kind w → text_of g u ≡ w
-    → translated_word English (role_of p position'.before (class_of (kind_of_rewritten t.kind w) w) w (next_class g us)) w ≡ Some v
+    → translated_word English (role_of p position'.before (token_class (kind_of_rewritten t.kind w) w) w (next_class g us)) w ≡ Some v
     → translated_word English (role_at g position' u us) (text_of g u) ≡ Some v
 role_anew g position' p t u us w v at is text e =
-    ap (λ (x : List ℕ). translated_word English (role_of position'.place position'.before (class_in g u) x (next_class g us)) x) text
+    ap (λ (x : List ℕ). translated_word English (role_of position'.place position'.before (token_class_in g u) x (next_class g us)) x) text
     ∙ ap (λ c. translated_word English (role_of position'.place position'.before c w (next_class g us)) w) (class_anew g t u w is text)
-    ∙ ap (λ q. translated_word English (role_of q position'.before (class_of (kind_of_rewritten t.kind w) w) w (next_class g us)) w) at ∙ e
+    ∙ ap (λ q. translated_word English (role_of q position'.before (token_class (kind_of_rewritten t.kind w) w) w (next_class g us)) w) at ∙ e
 
 place_anew : (g : List ℕ) (position' : TranslationPosition) (p q : TokenPlace) (t u : Token) (us : List Token) (w : List ℕ) → position'.place ≡ p → u.kind ≡ kind_of_rewritten t.kind w → text_of g u ≡ w
-    → place_behind p position'.before (class_of (kind_of_rewritten t.kind w) w) w (next_class g us) ≡ q
-    → place_behind position'.place position'.before (class_in g u) (text_of g u) (next_class g us) ≡ q
+    → token_place_behind p position'.before (token_class (kind_of_rewritten t.kind w) w) w (next_class g us) ≡ q
+    → token_place_behind position'.place position'.before (token_class_in g u) (text_of g u) (next_class g us) ≡ q
 place_anew g position' p q t u us w at is text e =
-    ap (λ (x : List ℕ). place_behind position'.place position'.before (class_in g u) x (next_class g us)) text
-    ∙ ap (λ c. place_behind position'.place position'.before c w (next_class g us)) (class_anew g t u w is text)
-    ∙ ap (λ r. place_behind r position'.before (class_of (kind_of_rewritten t.kind w) w) w (next_class g us)) at ∙ e
+    ap (λ (x : List ℕ). token_place_behind position'.place position'.before (token_class_in g u) x (next_class g us)) text
+    ∙ ap (λ c. token_place_behind position'.place position'.before c w (next_class g us)) (class_anew g t u w is text)
+    ∙ ap (λ r. token_place_behind r position'.before (token_class (kind_of_rewritten t.kind w) w) w (next_class g us)) at ∙ e
 
 -- the spots of both texts are the same but for what differs by a name
 record IsPositionNear (position position' : TranslationPosition) : Type 0 where
@@ -234,8 +234,8 @@ returns spelled s g position position' (t ∷ ts) (w ∷ ws) (u ∷ us) near wor
     (next_near s g (position_behind s position t ts) ts ws us are.1 shows.3) words.0 are.0 in
     let behind_near : IsPositionNear (position_behind s position t ts) (position_behind g position' u us) =
     record {
-      place = place_anew g position' position.place (place_behind position.place position.before (class_in s t) (text_of s t) (next_class s ts)) t u us w near.place shows.0 shows.1 step.place;
-      before = subst (λ c. IsNear (class_in s t) c) (sym (class_anew g t u w shows.0 shows.1))
+      place = place_anew g position' position.place (token_place_behind position.place position.before (token_class_in s t) (text_of s t) (next_class s ts)) t u us w near.place shows.0 shows.1 step.place;
+      before = subst (λ c. IsNear (token_class_in s t) c) (sym (class_anew g t u w shows.0 shows.1))
           (token_near position.place position.before t.kind (text_of s t) w (next_class s ts) are.0);
     } in
     let rest : Returns s g (position_behind s position t ts) (position_behind g position' u us) ts us =
@@ -250,8 +250,8 @@ returns spelled s g position position' (t ∷ ts) (w ∷ ws) (u ∷ us) near wor
 
 -- a token in a role is a word, or stays
 role_word : (p : TokenPlace) (b : TokenClass) (k : TokenKind) (x : List ℕ) (n : TokenClass) (c : Bool) → is_word_kind k ≡ c
-    → (k ≡ kind.Word) ⊎ (role_of p b (class_of k x) x n ≡ role.Stays)
-role_word p b k x n false other = inr (role_plain p b (class_of k x) x n (kind_plain k x other))
+    → (k ≡ kind.Word) ⊎ (role_of p b (token_class k x) x n ≡ role.Stays)
+role_word p b k x n false other = inr (role_plain p b (token_class k x) x n (kind_plain k x other))
 role_word p b kind.Word x n true other = inl refl
 role_word p b kind.Number x n true other = absurd (false≢true other)
 role_word p b kind.Quoted x n true other = absurd (false≢true other)
@@ -283,16 +283,16 @@ back_rewritten p b before k x v n fit stands is word role.Path e (inr named_) =
     inr (is, inr ((λ number. true≢false (sym (stands number) ∙ path_no_number p b x n fit e)), named_.0))
 
 word_role_of : (p : TokenPlace) (b : TokenClass) (k : TokenKind) (x : List ℕ) (n : TokenClass) → k ≡ kind.Word
-    → role_of p b (class_of k x) x n ≡ role_of_word p b x n
-unfolding role_of class_of
-word_role_of p b k x n is = ap (λ j. role_of p b (class_of j x) x n) is
+    → role_of p b (token_class k x) x n ≡ role_of_word p b x n
+unfolding role_of token_class
+word_role_of p b k x n is = ap (λ j. role_of p b (token_class j x) x n) is
 
 token_again : (p : TokenPlace) (b : TokenClass) (before k : TokenKind) (x v : List ℕ) (n : TokenClass) → IsFit p b → IsBefore before b
-    → (k ≡ kind.Word → is_word x ≡ true) → TextBack (role_of p b (class_of k x) x n) x v → IsRewrittenText before k x v
+    → (k ≡ kind.Word → is_word x ≡ true) → TextBack (role_of p b (token_class k x) x n) x v → IsRewrittenText before k x v
 token_again p b before k x v n fit stands word back =
     elim (role_word p b k x n (is_word_kind k) refl) [
       | inl is ↦ back_rewritten p b before k x v n fit stands is (word is) (role_of_word p b x n) refl (subst (λ r. TextBack r x v) (word_role_of p b k x n is) back)
-      | inr stays ↦ inl (sym (back_stays (role_of p b (class_of k x) x n) x v stays back))
+      | inr stays ↦ inl (sym (back_stays (role_of p b (token_class k x) x n) x v stays back))
     ]
 
 back_again : (s : List ℕ) (p : TokenPlace) (b : TokenClass) (before : TokenKind) (ts : List Token) (vs : List (List ℕ)) → IsFit p b → IsBefore before b → AreWordTokens s ts
@@ -302,15 +302,15 @@ back_again s p b before [] (v ∷ vs) fit stands words back = back
 back_again s p b before (t ∷ ts) [] fit stands words back = back
 back_again s p b before (t ∷ ts) (v ∷ vs) fit stands words back = (
   token_again p b before t.kind (text_of s t) v (next_class s ts) fit stands words.0 back.0,
-  back_again s (place_behind p b (class_in s t) (text_of s t) (next_class s ts)) (class_in s t) t.kind ts vs
-      (fits_next p b (class_in s t) (text_of s t) (next_class s ts)) (λ number. number_class t.kind (text_of s t) number) words.1 back.1,
+  back_again s (token_place_behind p b (token_class_in s t) (text_of s t) (next_class s ts)) (token_class_in s t) t.kind ts vs
+      (fits_next p b (token_class_in s t) (text_of s t) (next_class s ts)) (λ number. number_class t.kind (text_of s t) number) words.1 back.1,
 )
 
 as_many : (s : List ℕ) (p : TokenPlace) (b : TokenClass) (ts : List Token) (vs : List (List ℕ)) → AreBack s p b ts vs → length vs ≡ length ts
 as_many s p b [] [] back = refl
 as_many s p b [] (v ∷ vs) back = absurd back
 as_many s p b (t ∷ ts) [] back = absurd back
-as_many s p b (t ∷ ts) (v ∷ vs) back = ap suc (as_many s (place_behind p b (class_in s t) (text_of s t) (next_class s ts)) (class_in s t) ts vs back.1)
+as_many s p b (t ∷ ts) (v ∷ vs) back = ap suc (as_many s (token_place_behind p b (token_class_in s t) (text_of s t) (next_class s ts)) (token_class_in s t) ts vs back.1)
 
 -- ---- tokens that come back
 
@@ -382,9 +382,9 @@ alike s e p b [] (v ∷ vs) us words back shows = absurd back
 alike s e p b (t ∷ ts) [] us words back shows = absurd back
 alike s e p b (t ∷ ts) (v ∷ vs) [] words back shows = absurd shows
 alike s e p b (t ∷ ts) (v ∷ vs) (u ∷ us) words back shows = (
-  comes s e t u v (role_of p b (class_in s t) (text_of s t) (next_class s ts)) (role_word p b t.kind (text_of s t) (next_class s ts) (is_word_kind t.kind) refl) words.0
+  comes s e t u v (role_of p b (token_class_in s t) (text_of s t) (next_class s ts)) (role_word p b t.kind (text_of s t) (next_class s ts) (is_word_kind t.kind) refl) words.0
       (record { kind_ = shows.0; text = shows.1; line = shows.2 }) back.0,
-  alike s e (place_behind p b (class_in s t) (text_of s t) (next_class s ts)) (class_in s t) ts vs us words.1 back.1 shows.3,
+  alike s e (token_place_behind p b (token_class_in s t) (text_of s t) (next_class s ts)) (token_class_in s t) ts vs us words.1 back.1 shows.3,
 )
 
 -- ---- the whole

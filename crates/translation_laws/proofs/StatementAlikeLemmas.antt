@@ -30,7 +30,7 @@ use Rattle.stl_parser.specs.declared.keywords.ClauseWord.{ClauseWord}
 use Rattle.stl_parser.specs.Addresses.{address_at, block_at, block_number_at, glued_letters_and_number, letter_count, letters_and_number_at, quoted_block_at, separate_letters_and_number}
 use Rattle.stl_parser.specs.Literals.{literal_at, literal_of, literal_token, long_literal, truth_of, text_between_quotes}
 use Rattle.stl_parser.specs.Numbers.{signed_number_at}
-use Rattle.stl_parser.specs.Operands.{lone_word_operand, operand_by_register, direct_address_operand, is_operand_word, mark_operand, operand_by_kind, operand_of, path_end, path_of, plain_path, register_pointer, sized_by_register, step_at, steps_from, operand_with_number, operand_with_pointer, word_operand}
+use Rattle.stl_parser.specs.Operands.{lone_word_operand, operand_by_register, direct_address_operand, is_operand_word, mark_operand, operand_by_kind, operand_of, path_end, path_of, plain_path, register_pointer, operand_by_sized_register, step_at, steps_from, operand_with_number, operand_with_pointer, word_operand}
 use Rattle.stl_parser.specs.Parts.{parts_from}
 use Rattle.stl_parser.specs.Statements.{actual_at, actuals_behind, actuals_end, actuals_of, after_paren, behind_word, block_call_of, call_of, one_token_instruction, data_block_at, instance_at, instruction_of, is_long_label, jump_of, labelled_statement, may_be_of_kind, next_actual, open_of, opening_instruction, statement_without_actuals, statement_with_label, statement_of, unlabelled_statement, value_ends, value_length, value_of, statement_with_operand, zone_end_of}
 use Rattle.stl_parser.specs.Tables.{addresses, look_up, mnemonics, opening_mnemonics}
@@ -452,7 +452,7 @@ module _ (s e : List ℕ) where
       by false x k = k
 
   zone_rest : (w u : Token) (us : List Token) → is_key s w key.Mcr ≡ true → u.kind ≡ kind.Word → word_operand s w (u ∷ us) (w ∷ u ∷ us) ≡ None
-  unfolding word_operand lone_word_operand operand_with_pointer sized_by_register key_text
+  unfolding word_operand lone_word_operand operand_with_pointer operand_by_sized_register key_text
   zone_rest w u us is word =
       rw (zone_address w (u ∷ us) is, zone_whole w is, other_key w key.Mcr key.B is refl, other_key w key.Mcr key.W is refl, other_key w key.Mcr key.D is refl, zone_plain w u us word) refl
 

@@ -30,9 +30,9 @@ use Rattle.de_mnemonics.specs.declared.places.TokenPlace.TheVariants as place
 use Rattle.de_mnemonics.specs.declared.roles.Role.{Role}
 use Rattle.de_mnemonics.specs.declared.roles.Role.TheVariants as role
 use Rattle.translation_laws.specs.Alike.{ComesBackInRole, TreesAlike}
-use Rattle.de_mnemonics.specs.Places.{place_behind, is_word_in_list, may_be_keyword, role_of}
+use Rattle.de_mnemonics.specs.Places.{token_place_behind, is_word_in_list, may_be_keyword, role_of}
 use Rattle.de_mnemonics.specs.Tables.{block_end_words, network_words}
-use Rattle.de_mnemonics.specs.Translation.{class_in, next_class}
+use Rattle.de_mnemonics.specs.Translation.{token_class_in, next_class}
 use Rattle.de_mnemonics.specs.Words.{operand_partner}
 use Rattle.translation_laws.proofs.AgreeAlikeLemmas.{IsNamedPair, IsSamePair, OpensNone, Pair, lefts, rights}
 use Rattle.translation_laws.proofs.LikeAlikeLemmas.{same_kind}
@@ -55,17 +55,17 @@ pub record Frame : Type 0 where
   pub no_statement : (p : ClausePlace) (c : Clause) (next : ClausePlace) → is_body p ≡ false → next_place p c ≡ Some next → is_statement c ≡ false
   pub first_place : (s : List ℕ) (p : ClausePlace) (t : Token) (ts : List Token) (c : Clause) (rest : List Token) (long : Bool) (pl : TokenPlace) (before nc : TokenClass)
       → is_quiet pl ≡ true → may_be_keyword before ≡ true → is_statement c ≡ false → clause_at s p (t ∷ ts) ≡ Some (c, rest, long)
-      → place_behind pl before (class_in s t) (text_of s t) nc ≡ place_after c pl
+      → token_place_behind pl before (token_class_in s t) (text_of s t) nc ≡ place_after c pl
   pub begins_rest : (s : List ℕ) (p : ClausePlace) (t : Token) (ts rest : List Token) (long : Bool)
       → clause_at s p (t ∷ ts) ≡ Some (clause.Begins, rest, long) → rest ≡ ts
-  pub calm_place : (pl : TokenPlace) (b c : TokenClass) (text : List ℕ) (nc : TokenClass) → is_quiet pl ≡ true → calm_of b c text ≡ true → place_behind pl b c text nc ≡ pl
+  pub calm_place : (pl : TokenPlace) (b c : TokenClass) (text : List ℕ) (nc : TokenClass) → is_quiet pl ≡ true → calm_of b c text ≡ true → token_place_behind pl b c text nc ≡ pl
   pub quiet_role : (pl : TokenPlace) (b c : TokenClass) (text : List ℕ) (nc : TokenClass) → is_quiet pl ≡ true → role_of pl b c text nc ≡ role.Stays
   pub body_step : (s : List ℕ) (k : BlockKind) (t : Token) (ts : List Token) (c : Clause) (rest : List Token) (long : Bool) (next : ClausePlace) (before nc : TokenClass)
       → is_code k ≡ true → is_statement c ≡ false → clause_at s (clause_place.Body k) (t ∷ ts) ≡ Some (c, rest, long) → next_place (clause_place.Body k) c ≡ Some next
-      → (rest ≡ ts) × Stands next (place_behind place.Start before (class_in s t) (text_of s t) nc) (class_in s t)
+      → (rest ≡ ts) × Stands next (token_place_behind place.Start before (token_class_in s t) (text_of s t) nc) (token_class_in s t)
   pub body_free : (s : List ℕ) (k : BlockKind) (t : Token) (ts : List Token) (y : Statement) (rest : List Token) (long : Bool)
       → clause_at s (clause_place.Body k) (t ∷ ts) ≡ Some (clause.Runs y, rest, long)
-      → (is_note (class_in s t) ≡ false)
+      → (is_note (token_class_in s t) ≡ false)
       × (has_kind t kind.Word ≡ true → (is_word_in_list block_end_words (text_of s t) ≡ false) × (is_word_in_list network_words (text_of s t) ≡ false))
   pub body_rest : (s : List ℕ) (k : BlockKind) (t : Token) (ts : List Token) (y : Statement) (rest : List Token) (long : Bool)
       → clause_at s (clause_place.Body k) (t ∷ ts) ≡ Some (clause.Runs y, rest, long)
@@ -109,24 +109,24 @@ first_or d (t ∷ ts) = t
 module _ (frame : Frame) (s e : List ℕ) where
   -- ---- the walk through a clause outside of bodies
 
-  same_at : (pl : TokenPlace) (b nc : TokenClass) (q : Pair s e) → is_quiet pl ≡ true → ComesBackInRole s e (role_of pl b (class_in s q.left) (text_of s q.left) nc) q.left q.right → IsSamePair q
-  same_at pl b nc q quiet h = subst (λ (r : Role). ComesBackInRole s e r q.left q.right) (frame.quiet_role pl b (class_in s q.left) (text_of s q.left) nc quiet) h
+  same_at : (pl : TokenPlace) (b nc : TokenClass) (q : Pair s e) → is_quiet pl ≡ true → ComesBackInRole s e (role_of pl b (token_class_in s q.left) (text_of s q.left) nc) q.left q.right → IsSamePair q
+  same_at pl b nc q quiet h = subst (λ (r : Role). ComesBackInRole s e r q.left q.right) (frame.quiet_role pl b (token_class_in s q.left) (text_of s q.left) nc quiet) h
 
   calm_pairs : (j : ℕ) (pl : TokenPlace) (b : TokenClass) (qs : List (Pair s e)) → is_quiet pl ≡ true → AreCalm s b (lefts (take j qs)) → Walk s e pl b qs
       → AllSame s e (take j qs) × Walk s e pl (last_class s b (lefts (take j qs))) (drop j qs)
   calm_pairs zero pl b qs quiet calm h = (tt, h)
   calm_pairs (suc j) pl b [] quiet calm h = (tt, tt)
   calm_pairs (suc j) pl b (q ∷ qs) quiet calm h =
-      let more = calm_pairs j pl (class_in s q.left) qs quiet calm.1
-      (subst (λ (x : TokenPlace). Walk s e x (class_in s q.left) qs) (frame.calm_place pl b (class_in s q.left) (text_of s q.left) (next_class s (lefts qs)) quiet calm.0) h.1) in
+      let more = calm_pairs j pl (token_class_in s q.left) qs quiet calm.1
+      (subst (λ (x : TokenPlace). Walk s e x (token_class_in s q.left) qs) (frame.calm_place pl b (token_class_in s q.left) (text_of s q.left) (next_class s (lefts qs)) quiet calm.0) h.1) in
       ((same_at pl b (next_class s (lefts qs)) q quiet h.0, more.0), more.1)
 
   -- the tokens that a clause has behind its first
   pub record IsPassed (p : Pair s e) (ps : List (Pair s e)) (rest : List Token) : Type 0 where
     pub count : ℕ
     pub left : lefts (drop count ps) ≡ rest
-    pub calm : AreCalm s (class_in s p.left) (lefts (take count ps))
-    pub ends : may_be_keyword (last_class s (class_in s p.left) (lefts (take count ps))) ≡ true
+    pub calm : AreCalm s (token_class_in s p.left) (lefts (take count ps))
+    pub ends : may_be_keyword (last_class s (token_class_in s p.left) (lefts (take count ps))) ≡ true
 
   passed : (p : Pair s e) (ps : List (Pair s e)) (rest : List Token) → IsCalmClause s (p.left ∷ lefts ps) rest → IsPassed p ps rest
   passed p ps rest c =
@@ -137,10 +137,10 @@ module _ (frame : Frame) (s e : List ℕ) where
       record {
         count = n;
         left = lefts_drop n ps ∙ ap (drop n) behind ∙ drop-append_seam c.front rest;
-        calm = subst (λ (l : List Token). AreCalm s (class_in s p.left) l) (sym front)
-            (subst (λ (t : Token). AreCalm s (class_in s t) c.front) (sym first) c.calm);
-        ends = subst (λ (l : List Token). may_be_keyword (last_class s (class_in s p.left) l) ≡ true) (sym front)
-            (subst (λ (t : Token). may_be_keyword (last_class s (class_in s t) c.front) ≡ true) (sym first) c.ends);
+        calm = subst (λ (l : List Token). AreCalm s (token_class_in s p.left) l) (sym front)
+            (subst (λ (t : Token). AreCalm s (token_class_in s t) c.front) (sym first) c.calm);
+        ends = subst (λ (l : List Token). may_be_keyword (last_class s (token_class_in s p.left) l) ≡ true) (sym front)
+            (subst (λ (t : Token). may_be_keyword (last_class s (token_class_in s t) c.front) ≡ true) (sym first) c.ends);
       }
 
   -- ---- numbers stand behind no name
@@ -149,8 +149,8 @@ module _ (frame : Frame) (s e : List ℕ) where
   weak_walk pl b [] h = tt
   weak_walk pl b (p ∷ []) h = (tt, tt)
   weak_walk pl b (p ∷ q ∷ ps) h = (
-    (λ named isnt. opens_none s e q (name_opens_none s e pl b (class_in s p.left) (class_in s q.left) p h.0 named isnt)),
-    weak_walk (place_behind pl b (class_in s p.left) (text_of s p.left) (class_in s q.left)) (class_in s p.left) (q ∷ ps) h.1,
+    (λ named isnt. opens_none s e q (name_opens_none s e pl b (token_class_in s p.left) (token_class_in s q.left) p h.0 named isnt)),
+    weak_walk (token_place_behind pl b (token_class_in s p.left) (text_of s p.left) (token_class_in s q.left)) (token_class_in s p.left) (q ∷ ps) h.1,
   )
 
   -- what follows some tokens
@@ -265,10 +265,10 @@ module _ (frame : Frame) (s e : List ℕ) where
   note_from pl b (q ∷ []) all quiet h = tt
   note_from pl b (q ∷ r ∷ ps) all quiet h = λ colon.
       let c = class_mark s e q.left mark.Colon colon ∙ colon_class in
-      let stays = frame.calm_place pl b (class_in s q.left) (text_of s q.left) (class_in s r.left) quiet (ap (λ (x : TokenClass). calm_of b x (text_of s q.left)) c) in
+      let stays = frame.calm_place pl b (token_class_in s q.left) (text_of s q.left) (token_class_in s r.left) quiet (ap (λ (x : TokenClass). calm_of b x (text_of s q.left)) c) in
       same_kind s e r.left r.right kind.Word
-      (same_at pl (class_in s q.left) (next_class s (lefts ps)) r quiet
-      (subst (λ (x : TokenPlace). ComesBackInRole s e (role_of x (class_in s q.left) (class_in s r.left) (text_of s r.left) (next_class s (lefts ps))) r.left r.right) stays h.1.0))
+      (same_at pl (token_class_in s q.left) (next_class s (lefts ps)) r quiet
+      (subst (λ (x : TokenPlace). ComesBackInRole s e (role_of x (token_class_in s q.left) (token_class_in s r.left) (text_of s r.left) (next_class s (lefts ps))) r.left r.right) stays h.1.0))
 
   abbrev whole : (p : Pair s e) (ps : List (Pair s e)) → Weak s e (p ∷ ps) → IsTail (p ∷ ps) (p ∷ ps)
   whole p ps weak = record { weak = weak; count = 0; at = refl }
@@ -287,14 +287,14 @@ module _ (frame : Frame) (s e : List ℕ) where
       let calm = frame.calm s cp (p.left ∷ lefts ps) clause.Begins rest false refl found in
       let place_is = frame.first_place s cp p.left (lefts ps) clause.Begins rest false pl b (next_class s (lefts ps)) quiet.0 quiet.1 refl found in
       let front_is = nothing_before calm.front (lefts ps) (ap (λ (l : List Token). calm.front ++ l) (sym rest_is) ∙ sym (ap (drop 1) calm.whole)) in
-      let ends = subst (λ (t : Token). may_be_keyword (class_in s t) ≡ true) (sym (ap (first_or p.left) calm.whole))
-      (subst (λ (l : List Token). may_be_keyword (last_class s (class_in s calm.first) l) ≡ true) front_is calm.ends) in
-      joined cp clause.Begins next rest (p ∷ ps) ps 1 (place_after clause.Begins pl) (class_in s p.left)
+      let ends = subst (λ (t : Token). may_be_keyword (token_class_in s t) ≡ true) (sym (ap (first_or p.left) calm.whole))
+      (subst (λ (l : List Token). may_be_keyword (last_class s (token_class_in s calm.first) l) ≡ true) front_is calm.ends) in
+      joined cp clause.Begins next rest (p ∷ ps) ps 1 (place_after clause.Begins pl) (token_class_in s p.left)
       (clause_gives s e (IsTail (p ∷ ps)) (tail_closed (p ∷ ps)) (tail_apart (p ∷ ps)) cp p ps (whole p ps (weak_walk pl b (p ∷ ps) h)) same (clause.Begins, rest, false)
       (λ n cut behind x first at. absurd (inside_no_begin s e (IsTail (p ∷ ps)) (tail_closed (p ∷ ps)) (tail_apart (p ∷ ps)) cp p.left.line (lefts (take n (p ∷ ps))) x at first))
       (λ note. absurd (not_note note)) found)
-      refl (sym rest_is) (subst (λ (x : TokenPlace). Walk s e x (class_in s p.left) ps) place_is h.1)
-      (frame.stands_after cp clause.Begins next pl b (class_in s p.left) outside stands may ends)
+      refl (sym rest_is) (subst (λ (x : TokenPlace). Walk s e x (token_class_in s p.left) ps) place_is h.1)
+      (frame.stands_after cp clause.Begins next pl b (token_class_in s p.left) outside stands may ends)
 
   -- any other clause outside of bodies
   quiet_step : (cp : ClausePlace) (c : Clause) (next : ClausePlace) (rest : List Token) (pl : TokenPlace) (b : TokenClass) (p : Pair s e) (ps : List (Pair s e))
@@ -307,15 +307,15 @@ module _ (frame : Frame) (s e : List ℕ) where
       let pass = passed p ps rest (frame.calm s cp (p.left ∷ lefts ps) c rest false stated found) in
       let place_is = frame.first_place s cp p.left (lefts ps) c rest false pl b (next_class s (lefts ps)) quiet.0 quiet.1 stated found in
       let quiet_after = after_quiet c pl quiet.0 plain in
-      let walk = subst (λ (x : TokenPlace). Walk s e x (class_in s p.left) ps) place_is h.1 in
-      let pairs = calm_pairs pass.count (place_after c pl) (class_in s p.left) ps quiet_after pass.calm walk in
-      joined cp c next rest (p ∷ ps) (drop pass.count ps) (suc pass.count) (place_after c pl) (last_class s (class_in s p.left) (lefts (take pass.count ps)))
+      let walk = subst (λ (x : TokenPlace). Walk s e x (token_class_in s p.left) ps) place_is h.1 in
+      let pairs = calm_pairs pass.count (place_after c pl) (token_class_in s p.left) ps quiet_after pass.calm walk in
+      joined cp c next rest (p ∷ ps) (drop pass.count ps) (suc pass.count) (place_after c pl) (last_class s (token_class_in s p.left) (lefts (take pass.count ps)))
       (clause_gives s e (IsTail (p ∷ ps)) (tail_closed (p ∷ ps)) (tail_apart (p ∷ ps)) cp p ps (whole p ps (weak_walk pl b (p ∷ ps) h)) same (c, rest, false)
       (λ n cut behind x first at. take_same n (suc pass.count) (p ∷ ps) cut.end cut.rest cut.at
       (sym (length_lefts (drop pass.count ps)) ∙ ap length (pass.left ∙ behind) ∙ length_lefts cut.rest) (same, pairs.0))
-      (λ note. note_from (place_after c pl) (class_in s p.left) ps (p ∷ ps) quiet_after walk) found)
+      (λ note. note_from (place_after c pl) (token_class_in s p.left) ps (p ∷ ps) quiet_after walk) found)
       refl pass.left pairs.1
-      (frame.stands_after cp c next pl b (last_class s (class_in s p.left) (lefts (take pass.count ps))) outside stands may pass.ends)
+      (frame.stands_after cp c next pl b (last_class s (token_class_in s p.left) (lefts (take pass.count ps))) outside stands may pass.ends)
 
   -- ---- in a body
 
@@ -328,7 +328,7 @@ module _ (frame : Frame) (s e : List ℕ) where
   other_step k c next rest b p ps code plain h found may =
       let there = frame.body_step s k p.left (lefts ps) c rest false next b (next_class s (lefts ps)) code plain found may in
       let weak = weak_walk place.Start b (p ∷ ps) h in
-      joined (clause_place.Body k) c next rest (p ∷ ps) ps 1 (place_behind place.Start b (class_in s p.left) (text_of s p.left) (next_class s (lefts ps))) (class_in s p.left)
+      joined (clause_place.Body k) c next rest (p ∷ ps) ps 1 (token_place_behind place.Start b (token_class_in s p.left) (text_of s p.left) (next_class s (lefts ps))) (token_class_in s p.left)
       (body_gives s e (IsTail (p ∷ ps)) (tail_closed (p ∷ ps)) (tail_apart (p ∷ ps)) k next p ps (whole p ps weak) weak (start_front s e b (next_class s (lefts ps)) p h.0) (c, rest, false)
       (λ n cut y runs. absurd (no_runs c y plain runs)) may found)
       refl (sym there.0) h.1 there.1

@@ -27,9 +27,9 @@ use Rattle.de_mnemonics.specs.declared.places.TokenPlace.TheVariants as place
 use Rattle.de_mnemonics.specs.declared.roles.Role.{Role}
 use Rattle.de_mnemonics.specs.declared.roles.Role.TheVariants as role
 use Rattle.translation_laws.specs.Alike.{AreTokensAlike, ComesBackInRole, IsSameWordButForCase, IsOperandWordAsLocal, IsSameToken}
-use Rattle.de_mnemonics.specs.Places.{place_behind, place_behind_closing, place_behind_opening, place_behind_part, place_behind_sign, place_behind_word, class_of, class_of_mark, is_word_in_list, is_component, is_dot, is_word_in_pairs, is_numbered_operand, is_operand_place, is_pointer, is_mark_text, opens_number, opens_path, role_at_start, role_first, role_in, role_of, role_of_word}
+use Rattle.de_mnemonics.specs.Places.{token_place_behind, place_behind_closing, place_behind_opening, place_behind_part, place_behind_sign, place_behind_word, token_class, class_of_mark, is_word_in_list, is_component_word, is_dot, is_word_in_pairs, is_numbered_operand, is_operand_place, is_pointer_mark, is_mark_text, opens_number, opens_path, role_at_start, role_first, role_in, role_of, role_of_word}
 use Rattle.de_mnemonics.specs.Tables.{block_end_words, network_words, operand_pairs, result_pairs, zone_words}
-use Rattle.de_mnemonics.specs.Translation.{class_in, next_class}
+use Rattle.de_mnemonics.specs.Translation.{token_class_in, next_class}
 use Rattle.de_mnemonics.specs.Words.{digits_of_word, letters_of_word, numbered_partner, operand_partner, partner_in_table}
 use Rattle.translation_laws.proofs.AgreeAlikeLemmas.{IsName, IsNamedPair, Like, OpensNone, Pair, lefts, rights}
 use Rattle.translation_laws.proofs.LikeAlikeLemmas.{of_kind}
@@ -43,14 +43,14 @@ use Rattle.translation_laws.proofs.LookUpLemmas.{same_looked_up}
 
 -- what is known of a word that begins a path
 pub record IsPath (before : TokenClass) (text : List ℕ) (next : TokenClass) : Type 0 where
-  pub component : is_component before next ≡ false
+  pub component : is_component_word before next ≡ false
   pub place : is_operand_place before text next ≡ false
 
 path_in : (p : TokenPlace) (before : TokenClass) (text : List ℕ) (next : TokenClass) → role_in p before text next ≡ role.Path → IsPath before text next
 unfolding role_in
-path_in p before text next is = by (is_component before next) (is_operand_place before text next) (opens_path p before) refl refl is
+path_in p before text next is = by (is_component_word before next) (is_operand_place before text next) (opens_path p before) refl refl is
   where
-    by : (a b c : Bool) → is_component before next ≡ a → is_operand_place before text next ≡ b
+    by : (a b c : Bool) → is_component_word before next ≡ a → is_operand_place before text next ≡ b
         → (if a then role.Stays else (if b then role.Operand else (if c then role.Path else role.Stays))) ≡ role.Path → IsPath before text next
     by true b c h k e = absurd cc
     by false true c h k e = absurd cc
@@ -151,8 +151,8 @@ english_alone text next is apart result =
 pub alone_on_path : (before : TokenClass) (text : List ℕ) (next : TokenClass) → IsPath before text next → is_operand German text ≡ true → IsAlone text next
 unfolding is_operand_place
 alone_on_path before text next path is =
-    let parts = neither (is_pointer before || is_numbered_operand text next) (is_word_in_pairs result_pairs text) path.place in
-    english_alone text next is (neither (is_pointer before) (is_numbered_operand text next) parts.0).1 parts.1
+    let parts = neither (is_pointer_mark before || is_numbered_operand text next) (is_word_in_pairs result_pairs text) path.place in
+    english_alone text next is (neither (is_pointer_mark before) (is_numbered_operand text next) parts.0).1 parts.1
 
 -- ---- marks
 
@@ -229,8 +229,8 @@ module _ (s e : List ℕ) where
   abbrev pub Walk : TokenPlace → TokenClass → List (Pair s e) → Type 0
   Walk p before [] = Unit {0}
   Walk p before (q ∷ qs) =
-      ComesBackInRole s e (role_of p before (class_in s q.left) (text_of s q.left) (next_class s (lefts qs))) q.left q.right
-      × Walk (place_behind p before (class_in s q.left) (text_of s q.left) (next_class s (lefts qs))) (class_in s q.left) qs
+      ComesBackInRole s e (role_of p before (token_class_in s q.left) (text_of s q.left) (next_class s (lefts qs))) q.left q.right
+      × Walk (token_place_behind p before (token_class_in s q.left) (text_of s q.left) (next_class s (lefts qs))) (token_class_in s q.left) qs
 
   pub record IsZipped (p : TokenPlace) (before : TokenClass) (ts us : List Token) : Type 0 where
     pub pairs : List (Pair s e)
@@ -243,26 +243,26 @@ module _ (s e : List ℕ) where
   zipped p before [] (u ∷ us) h = absurd h
   zipped p before (t ∷ ts) [] h = absurd h
   zipped p before (t ∷ ts) (u ∷ us) h =
-      let z = zipped (place_behind p before (class_in s t) (text_of s t) (next_class s ts)) (class_in s t) ts us h.1 in record {
-        pairs = record { left = t; right = u; like = known_like p before (class_in s t) (next_class s ts) t u h.0 } ∷ z.pairs;
+      let z = zipped (token_place_behind p before (token_class_in s t) (text_of s t) (next_class s ts)) (token_class_in s t) ts us h.1 in record {
+        pairs = record { left = t; right = u; like = known_like p before (token_class_in s t) (next_class s ts) t u h.0 } ∷ z.pairs;
         left = ap (λ (l : List Token). t ∷ l) z.left;
         right = ap (λ (l : List Token). u ∷ l) z.right;
-        walk = subst (λ (l : List Token). ComesBackInRole s e (role_of p before (class_in s t) (text_of s t) (next_class s l)) t u
-            × Walk (place_behind p before (class_in s t) (text_of s t) (next_class s l)) (class_in s t) z.pairs) (sym z.left) (h.0, z.walk);
+        walk = subst (λ (l : List Token). ComesBackInRole s e (role_of p before (token_class_in s t) (text_of s t) (next_class s l)) t u
+            × Walk (token_place_behind p before (token_class_in s t) (text_of s t) (next_class s l)) (token_class_in s t) z.pairs) (sym z.left) (h.0, z.walk);
       }
 
   -- ---- classes
 
-  pub class_mark : (t : Token) (m : Mark) → is_mark s t m ≡ true → class_in s t ≡ class_of_mark (mark_text m)
-  unfolding class_of is_mark
-  class_mark t m is = ap (λ (k : TokenKind). class_of k (text_of s t)) (is_of_mark s e t m is) ∙ marked (second (has_kind t kind.Mark) (str_eq_ignore_ascii_case (text_of s t) (mark_text m)) is)
+  pub class_mark : (t : Token) (m : Mark) → is_mark s t m ≡ true → token_class_in s t ≡ class_of_mark (mark_text m)
+  unfolding token_class is_mark
+  class_mark t m is = ap (λ (k : TokenKind). token_class k (text_of s t)) (is_of_mark s e t m is) ∙ marked (second (has_kind t kind.Mark) (str_eq_ignore_ascii_case (text_of s t) (mark_text m)) is)
     where
       marked : Same (text_of s t) (mark_text m) → class_of_mark (text_of s t) ≡ class_of_mark (mark_text m)
       marked same = same_mark (text_of s t) (mark_text m) same
 
-  pub number_class : (t : Token) → has_kind t kind.Number ≡ true → class_in s t ≡ class.Number
-  unfolding class_of has_kind
-  number_class t is = ap (λ (k : TokenKind). class_of k (text_of s t)) (by t.kind is)
+  pub number_class : (t : Token) → has_kind t kind.Number ≡ true → token_class_in s t ≡ class.Number
+  unfolding token_class has_kind
+  number_class t is = ap (λ (k : TokenKind). token_class k (text_of s t)) (by t.kind is)
     where
       by : (k : TokenKind) → nat_eq (kind_rank k) 1 ≡ true → k ≡ kind.Number
       by kind.Number is = refl
@@ -279,7 +279,7 @@ module _ (s e : List ℕ) where
       by kind.Title is = absurd (false≢true is)
 
   -- a token that opens no number
-  pub opens_none : (q : Pair s e) → opens_number (class_in s q.left) ≡ false → OpensNone q
+  pub opens_none : (q : Pair s e) → opens_number (token_class_in s q.left) ≡ false → OpensNone q
   opens_none q none = (by_number (has_kind q.left kind.Number) refl, by_bracket (is_mark s q.left mark.OpenBracket) refl)
     where
       by_number : (b : Bool) → has_kind q.left kind.Number ≡ b → b ≡ false
@@ -313,8 +313,8 @@ module _ (s e : List ℕ) where
   no_end_mark a isnt = rw isnt
       (cascade (is_mark_text a mark.Dot) (is_mark_text a mark.Assign) (is_mark_text a mark.Colon) (is_mark_text a mark.OpenBracket) (is_mark_text a mark.OpenParen) (is_mark_text a mark.CloseParen) (is_mark_text a mark.Pointer))
 
-  no_end_kind : (t : Token) (k : TokenKind) → t.kind ≡ k → is_mark s t mark.Semicolon ≡ false → is_end (class_of k (text_of s t)) ≡ false
-  unfolding class_of is_mark
+  no_end_kind : (t : Token) (k : TokenKind) → t.kind ≡ k → is_mark s t mark.Semicolon ≡ false → is_end (token_class k (text_of s t)) ≡ false
+  unfolding token_class is_mark
   no_end_kind t kind.Mark e isnt = no_end_mark (text_of s t) (by (has_kind t kind.Mark) (of_kind t kind.Mark kind.Mark e) isnt)
     where
       by : (b : Bool) → b ≡ true → (b && str_eq_ignore_ascii_case (text_of s t) (mark_text mark.Semicolon)) ≡ false → is_mark_text (text_of s t) mark.Semicolon ≡ false
@@ -322,7 +322,7 @@ module _ (s e : List ℕ) where
       by false is isnt = absurd (false≢true is)
   no_end_kind t _ e isnt = refl
 
-  pub no_end : (t : Token) → is_mark s t mark.Semicolon ≡ false → is_end (class_in s t) ≡ false
+  pub no_end : (t : Token) → is_mark s t mark.Semicolon ≡ false → is_end (token_class_in s t) ≡ false
   no_end t isnt = no_end_kind t t.kind refl isnt
 
   -- behind the instruction word of a statement
@@ -338,11 +338,11 @@ module _ (s e : List ℕ) where
   at_end true = refl
   at_end false = refl
 
-  stays_in : (p : TokenPlace) (before : TokenClass) (text : List ℕ) (next : TokenClass) → is_component before next ≡ true → role_in p before text next ≡ role.Stays
+  stays_in : (p : TokenPlace) (before : TokenClass) (text : List ℕ) (next : TokenClass) → is_component_word before next ≡ true → role_in p before text next ≡ role.Stays
   unfolding role_in
   stays_in p before text next is = rw is refl
 
-  component_stays : (p : TokenPlace) (before c : TokenClass) (text : List ℕ) (next : TokenClass) → in_statement p ≡ true → is_component before next ≡ true
+  component_stays : (p : TokenPlace) (before c : TokenClass) (text : List ℕ) (next : TokenClass) → in_statement p ≡ true → is_component_word before next ≡ true
       → role_of p before c text next ≡ role.Stays
   unfolding role_of role_of_word
   component_stays place.Jump before class.Word text next inside is = refl
@@ -359,7 +359,7 @@ module _ (s e : List ℕ) where
 
   no_instruction_in : (p : TokenPlace) (before : TokenClass) (text : List ℕ) (next : TokenClass) → role_in p before text next ≡ role.Instruction → ⊥
   unfolding role_in
-  no_instruction_in p before text next is = by (is_component before next) (is_operand_place before text next) (opens_path p before) is
+  no_instruction_in p before text next is = by (is_component_word before next) (is_operand_place before text next) (opens_path p before) is
     where
       by : (a b c : Bool) → (if a then role.Stays else (if b then role.Operand else (if c then role.Path else role.Stays))) ≡ role.Instruction → ⊥
       by true b c e = cc
@@ -425,8 +425,8 @@ module _ (s e : List ℕ) where
   word_stays place.Labelled before text next inside = absurd (false≢true inside)
 
   pub stays : (p : TokenPlace) (before c : TokenClass) (text : List ℕ) (next : TokenClass) → in_statement p ≡ true → is_end c ≡ false
-      → in_statement (place_behind p before c text next) ≡ true
-  unfolding place_behind
+      → in_statement (token_place_behind p before c text next) ≡ true
+  unfolding token_place_behind
   stays p before class.Word text next inside e = word_stays p before text next inside
   stays p before class.Number text next inside e = sign_stays p class.Number inside e
   stays p before class.Note text next inside e = sign_stays p class.Note inside e
@@ -474,32 +474,32 @@ module _ (s e : List ℕ) where
       by role.Path is k = (alone_on_path before (text_of s q.left) next (path_role p before c (text_of s q.left) next is) (english named.named.operand)).opens
       by role.Stays is k = absurd (name_not_same q.left q.right named.named k)
 
-  component_dot : (before next : TokenClass) → before ≡ class.Dot → is_component before next ≡ true
-  component_dot before next e = ap (λ (c : TokenClass). is_component c next) e
+  component_dot : (before next : TokenClass) → before ≡ class.Dot → is_component_word before next ≡ true
+  component_dot before next e = ap (λ (c : TokenClass). is_component_word c next) e
 
-  component_assign : (before next : TokenClass) → next ≡ class.Assign → is_component before next ≡ true
-  component_assign before next e = ap (λ (c : TokenClass). is_component before c) e ∙ at_end (is_dot before)
+  component_assign : (before next : TokenClass) → next ≡ class.Assign → is_component_word before next ≡ true
+  component_assign before next e = ap (λ (c : TokenClass). is_component_word before c) e ∙ at_end (is_dot before)
 
   joined : (p : TokenPlace) (before : TokenClass) (q r : Pair s e) (rs : List (Pair s e)) → in_statement p ≡ true → is_mark s q.left mark.Semicolon ≡ false → Walk p before (q ∷ r ∷ rs) → SideBySide q r
   joined p before q r rs inside isnt h = record {
     dotted = λ is. subst (λ (x : Role). ComesBackInRole s e x r.left r.right)
-        (component_stays (place_behind p before (class_in s q.left) (text_of s q.left) (class_in s r.left)) (class_in s q.left) (class_in s r.left) (text_of s r.left) (next_class s (lefts rs))
-        (stays p before (class_in s q.left) (text_of s q.left) (class_in s r.left) inside (no_end q.left isnt))
-        (component_dot (class_in s q.left) (next_class s (lefts rs)) (class_mark q.left mark.Dot is ∙ dot_class))) h.1.0;
+        (component_stays (token_place_behind p before (token_class_in s q.left) (text_of s q.left) (token_class_in s r.left)) (token_class_in s q.left) (token_class_in s r.left) (text_of s r.left) (next_class s (lefts rs))
+        (stays p before (token_class_in s q.left) (text_of s q.left) (token_class_in s r.left) inside (no_end q.left isnt))
+        (component_dot (token_class_in s q.left) (next_class s (lefts rs)) (class_mark q.left mark.Dot is ∙ dot_class))) h.1.0;
     assigned = λ is. subst (λ (x : Role). ComesBackInRole s e x q.left q.right)
-        (component_stays p before (class_in s q.left) (text_of s q.left) (class_in s r.left) inside
-        (component_assign before (class_in s r.left) (class_mark r.left mark.Assign is ∙ assign_class))) h.0;
-    apart = λ named none. opens_none r (name_opens_none p before (class_in s q.left) (class_in s r.left) q h.0 named none);
+        (component_stays p before (token_class_in s q.left) (text_of s q.left) (token_class_in s r.left) inside
+        (component_assign before (token_class_in s r.left) (class_mark r.left mark.Assign is ∙ assign_class))) h.0;
+    apart = λ named none. opens_none r (name_opens_none p before (token_class_in s q.left) (token_class_in s r.left) q h.0 named none);
   }
 
   pub fits_until : (n : ℕ) (p : TokenPlace) (before : TokenClass) (ps : List (Pair s e)) → in_statement p ≡ true → NoEnd n ps → Walk p before ps → Fits s e (take n ps)
   fits_until zero p before ps inside none h = tt
   fits_until (suc n) p before [] inside none h = tt
   fits_until (suc n) p before (q ∷ qs) inside none h = (
-    known p before (class_in s q.left) (next_class s (lefts qs)) q inside h.0,
+    known p before (token_class_in s q.left) (next_class s (lefts qs)) q inside h.0,
     beside n qs none h,
-    fits_until n (place_behind p before (class_in s q.left) (text_of s q.left) (next_class s (lefts qs))) (class_in s q.left) qs
-        (stays p before (class_in s q.left) (text_of s q.left) (next_class s (lefts qs)) inside (no_end q.left none.0)) none.1 h.1,
+    fits_until n (token_place_behind p before (token_class_in s q.left) (text_of s q.left) (next_class s (lefts qs))) (token_class_in s q.left) qs
+        (stays p before (token_class_in s q.left) (text_of s q.left) (next_class s (lefts qs)) inside (no_end q.left none.0)) none.1 h.1,
   )
     where
       beside : (n : ℕ) (qs : List (Pair s e)) → NoEnd (suc n) (q ∷ qs) → Walk p before (q ∷ qs) → JoinedTo q (take n qs)
@@ -510,12 +510,12 @@ module _ (s e : List ℕ) where
   -- the walk within a statement comes to its `;`, and behind it to the start of the next
   pub walked : (n : ℕ) (p : TokenPlace) (before : TokenClass) (ps : List (Pair s e)) (q : Pair s e) (qs : List (Pair s e)) → in_statement p ≡ true → NoEnd n ps → Walk p before ps
       → drop n ps ≡ q ∷ qs → is_mark s q.left mark.Semicolon ≡ true → Walk place.Start class.Semicolon qs
-  unfolding place_behind place_behind_sign
+  unfolding token_place_behind place_behind_sign
   walked zero p before [] q qs inside none h there is = absurd cc
   walked zero p before (r ∷ rs) q qs inside none h there is =
       ended (subst (λ (l : List (Pair s e)). Walk p before l) there h)
     where
-      here : class_in s q.left ≡ class.Semicolon
+      here : token_class_in s q.left ≡ class.Semicolon
       here = class_mark q.left mark.Semicolon is ∙ semicolon_class
 
       ends : (p : TokenPlace) → in_statement p ≡ true → place_behind_sign p class.Semicolon ≡ place.Start
@@ -532,9 +532,9 @@ module _ (s e : List ℕ) where
 
       ended : Walk p before (q ∷ qs) → Walk place.Start class.Semicolon qs
       ended h = subst (λ (c : TokenClass). Walk place.Start c qs) here
-          (subst (λ (x : TokenPlace). Walk x (class_in s q.left) qs)
-          (ap (λ (c : TokenClass). place_behind p before c (text_of s q.left) (next_class s (lefts qs))) here ∙ ends p inside) h.1)
+          (subst (λ (x : TokenPlace). Walk x (token_class_in s q.left) qs)
+          (ap (λ (c : TokenClass). token_place_behind p before c (text_of s q.left) (next_class s (lefts qs))) here ∙ ends p inside) h.1)
   walked (suc n) p before [] q qs inside none h there is = absurd cc
   walked (suc n) p before (r ∷ rs) q qs inside none h there is =
-      walked n (place_behind p before (class_in s r.left) (text_of s r.left) (next_class s (lefts rs))) (class_in s r.left) rs q qs
-      (stays p before (class_in s r.left) (text_of s r.left) (next_class s (lefts rs)) inside (no_end r.left none.0)) none.1 h.1 there is
+      walked n (token_place_behind p before (token_class_in s r.left) (text_of s r.left) (next_class s (lefts rs))) (token_class_in s r.left) rs q qs
+      (stays p before (token_class_in s r.left) (text_of s r.left) (next_class s (lefts rs)) inside (no_end r.left none.0)) none.1 h.1 there is

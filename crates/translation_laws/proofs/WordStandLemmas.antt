@@ -11,7 +11,7 @@ use Rattle.std.proofs.Math.Seq.{drop-append_seam, take-append_seam}
 use Rattle.stl_lexer.specs.declared.kinds.TokenKind.{TokenKind}
 use Rattle.stl_lexer.specs.declared.kinds.TokenKind.TheVariants.{Word, Number, Quoted, Local, Characters, Based, NumberLiteral, TimeLiteral, Mark, SignWord, Attribute, Title}
 use Rattle.stl_lexer.specs.Bytes.{hash, double_quote, single_quote, open_brace, close_brace, is_line_byte, is_word_byte, is_word_start}
-use Rattle.stl_lexer.specs.Forms.{has_form, is_word, is_number, is_local, is_quoted, is_run, is_closed, is_inner, is_enclosed, behind_sign, continues_word, based_prefixes, long_prefixes, count_prefixes, time_prefixes, s5time_prefixes, sign_words, title_words}
+use Rattle.stl_lexer.specs.Forms.{has_form, is_word, is_number, is_local_name, is_quoted, is_run, is_closed_run, is_inner, is_enclosed, behind_sign, continues_word, based_prefixes, long_prefixes, count_prefixes, time_prefixes, s5time_prefixes, sign_words, title_words}
 use Rattle.stl_lexer.specs.Longest.{IsLongestToken, IsLongestOfForm, IsFormAt, HasNoneOfForm, kind_rank}
 use Rattle.stl_lexer.specs.Marks.{marks, mark_text}
 use Rattle.stl_lexer.proofs.FrontLemmas.{attribute_alone, best_found, characters_alone, local_alone, number_alone, quoted_alone}
@@ -291,7 +291,7 @@ no_digit : (b : ℕ) → is_word_start b ≡ true → is_ascii_digit b ≡ false
 unfolding is_word_start
 no_digit b e = grind (arith, nat_tests)
 
-no_local : (text : List ℕ) → is_word_start (get_or text 0 0) ≡ true → HasNoneOfForm (λ s after. is_local s) text
+no_local : (text : List ℕ) → is_word_start (get_or text 0 0) ≡ true → HasNoneOfForm (λ s after. is_local_name s) text
 unfolding is_word_start
 no_local text h zero at = absurd (omega (arith, at.some))
 no_local [] h (suc n) at = absurd (omega (arith, at.within))
@@ -334,7 +334,7 @@ word_stands k x w after later is l f name word why =
 
 -- ---- local names
 
-name_found : (w later : List ℕ) → is_word w ≡ true → heads is_word_byte later ≡ false → IsLongestOfForm (λ s after. is_local s) (hash ∷ (w ++ later)) (length (hash ∷ w))
+name_found : (w later : List ℕ) → is_word w ≡ true → heads is_word_byte later ≡ false → IsLongestOfForm (λ s after. is_local_name s) (hash ∷ (w ++ later)) (length (hash ∷ w))
 name_found w later word stops =
     let there = run_stands is_word_start is_word_byte w later word stops in
     record {
@@ -346,7 +346,7 @@ name_found w later word stops =
       longest = longest there;
     }
   where
-    longest : IsLongestOfForm (λ y after. is_word y) (w ++ later) (length w) → (m : ℕ) → IsFormAt (λ s after. is_local s) (hash ∷ (w ++ later)) m → m ≤ length (hash ∷ w)
+    longest : IsLongestOfForm (λ y after. is_word y) (w ++ later) (length w) → (m : ℕ) → IsFormAt (λ s after. is_local_name s) (hash ∷ (w ++ later)) m → m ≤ length (hash ∷ w)
     longest there zero at = omega arith
     longest there (suc zero) at = omega arith
     longest there (suc (suc m)) at = omega (arith, there.longest (suc m) (record { some = omega arith; within = omega (arith, at.within); fits = at.fits }))
@@ -466,15 +466,15 @@ number_stands x after later l f =
 -- ---- what stands in quotes
 
 -- what is closed isn't closed again behind its end
-closed_once : (p : ℕ → Bool) (close : ℕ) (x s : List ℕ) (m : ℕ) → p close ≡ false → is_closed p close x ≡ true → length x < m → is_closed p close (take m (x ++ s)) ≡ true → m ≤ length (x ++ s) → ⊥
+closed_once : (p : ℕ → Bool) (close : ℕ) (x s : List ℕ) (m : ℕ) → p close ≡ false → is_closed_run p close x ≡ true → length x < m → is_closed_run p close (take m (x ++ s)) ≡ true → m ≤ length (x ++ s) → ⊥
 closed_once p close [] s m stops e h again within = false≢true e
 closed_once p close (b ∷ x) s zero stops e h again within = absurd (omega (arith, h))
 closed_once p close (b ∷ x) s (suc zero) stops e h again within = absurd (omega (arith, h))
 closed_once p close (b ∷ []) [] (suc (suc m)) stops e h again within = absurd (omega (arith, within))
 closed_once p close (b ∷ []) (c ∷ s) (suc (suc m)) stops e h again within =
-    false≢true (sym stops ∙ ap p (sym (eqb-true b close e)) ∙ (and_parts (p b) (is_closed p close (c ∷ take m s)) again).0)
+    false≢true (sym stops ∙ ap p (sym (eqb-true b close e)) ∙ (and_parts (p b) (is_closed_run p close (c ∷ take m s)) again).0)
 closed_once p close (b ∷ c ∷ x) s (suc (suc m)) stops e h again within =
-    closed_once p close (c ∷ x) s (suc m) stops (and_parts (p b) (is_closed p close (c ∷ x)) e).1 (omega (arith, h)) (and_parts (p b) (is_closed p close (c ∷ take m (x ++ s))) again).1 (omega (arith, within))
+    closed_once p close (c ∷ x) s (suc m) stops (and_parts (p b) (is_closed_run p close (c ∷ x)) e).1 (omega (arith, h)) (and_parts (p b) (is_closed_run p close (c ∷ take m (x ++ s))) again).1 (omega (arith, within))
 
 inner_stops : (close : ℕ) (one_line : Bool) → is_inner close one_line close ≡ false
 unfolding is_inner
@@ -487,12 +487,12 @@ enclosed_once : (opening close : ℕ) (one_line : Bool) (x s : List ℕ) (m : �
 enclosed_once opening close one_line [] s m e h again within = false≢true e
 enclosed_once opening close one_line (b ∷ x) s zero e h again within = absurd (omega (arith, h))
 enclosed_once opening close one_line (b ∷ x) s (suc m) e h again within =
-    closed_once (is_inner close one_line) close x s m (inner_stops close one_line) (and_parts (b == opening) (is_closed (is_inner close one_line) close x) e).1 (omega (arith, h))
-    (and_parts (b == opening) (is_closed (is_inner close one_line) close (take m (x ++ s))) again).1 (omega (arith, within))
+    closed_once (is_inner close one_line) close x s m (inner_stops close one_line) (and_parts (b == opening) (is_closed_run (is_inner close one_line) close x) e).1 (omega (arith, h))
+    (and_parts (b == opening) (is_closed_run (is_inner close one_line) close (take m (x ++ s))) again).1 (omega (arith, within))
 
 enclosed_first : (opening close : ℕ) (one_line : Bool) (x s : List ℕ) → is_enclosed opening close one_line x ≡ true → get_or (x ++ s) 0 0 ≡ opening
 enclosed_first opening close one_line [] s e = absurd (false≢true e)
-enclosed_first opening close one_line (b ∷ x) s e = eqb-true b opening (and_parts (b == opening) (is_closed (is_inner close one_line) close x) e).0
+enclosed_first opening close one_line (b ∷ x) s e = eqb-true b opening (and_parts (b == opening) (is_closed_run (is_inner close one_line) close x) e).0
 
 -- a form that no longer text has is the longest
 only_longest : (form : List ℕ → List ℕ → Bool) (x s : List ℕ) → 0 < length x → form x s ≡ true → ((m : ℕ) → length x < m → IsFormAt form (x ++ s) m → ⊥) → IsLongestOfForm form (x ++ s) (length x)

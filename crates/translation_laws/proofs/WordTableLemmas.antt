@@ -10,7 +10,7 @@ use Rattle.std.proofs.Math.Seq.{drop-append_seam, take-append_seam, take-append-
 use Rattle.stl_lexer.specs.declared.kinds.TokenKind.{TokenKind}
 use Rattle.stl_lexer.specs.declared.kinds.TokenKind.TheVariants.{Word, Number, Quoted, Local, Characters, Based, NumberLiteral, TimeLiteral, Mark, SignWord, Attribute, Title}
 use Rattle.stl_lexer.specs.Bytes.{hash, slash, is_separator, double_quote, single_quote, open_brace, close_brace, is_line_byte, is_sign, is_word_byte, is_word_start}
-use Rattle.stl_lexer.specs.Forms.{has_form, is_word, is_local, is_run, is_closed, is_inner, is_enclosed, behind_sign, continues_word, based_prefixes, long_prefixes, count_prefixes, time_prefixes, s5time_prefixes, sign_words, title_words}
+use Rattle.stl_lexer.specs.Forms.{has_form, is_word, is_local_name, is_run, is_closed_run, is_inner, is_enclosed, behind_sign, continues_word, based_prefixes, long_prefixes, count_prefixes, time_prefixes, s5time_prefixes, sign_words, title_words}
 use Rattle.stl_lexer.specs.Longest.{IsLongestToken, IsFormAt, kind_rank}
 use Rattle.stl_lexer.specs.Marks.{marks, mark_text}
 use Rattle.stl_lexer.specs.Pieces.{Piece, ArePiecesStanding, text_of_pieces}
@@ -446,9 +446,9 @@ no_enclosed : (opening close : ℕ) (one_line : Bool) (x s : List ℕ) (m : ℕ)
 no_enclosed opening close one_line x s zero some long plain none e = absurd (omega (arith, some))
 no_enclosed opening close one_line [] s (suc m) some long plain none e = absurd (omega (arith, long))
 no_enclosed opening close one_line (b ∷ x) s (suc m) some long plain none e =
-    no_plain b opening (and_parts (b == opening) (is_closed (is_inner close one_line) close (take m (x ++ s))) e).0 none plain
+    no_plain b opening (and_parts (b == opening) (is_closed_run (is_inner close one_line) close (take m (x ++ s))) e).0 none plain
 
-no_name : (x s : List ℕ) (m : ℕ) → 0 < m → 0 < length x → heads plain_first x ≡ true → is_local (take m (x ++ s)) ≡ true → ⊥
+no_name : (x s : List ℕ) (m : ℕ) → 0 < m → 0 < length x → heads plain_first x ≡ true → is_local_name (take m (x ++ s)) ≡ true → ⊥
 unfolding plain_first
 no_name x s zero some long plain e = absurd (omega (arith, some))
 no_name [] s (suc m) some long plain e = absurd (omega (arith, long))

@@ -14,8 +14,8 @@ use Rattle.de_mnemonics.specs.declared.places.TokenPlace.{TokenPlace}
 use Rattle.de_mnemonics.specs.declared.places.TokenPlace.TheVariants as place
 use Rattle.de_mnemonics.specs.declared.roles.Role.{Role}
 use Rattle.de_mnemonics.specs.declared.roles.Role.TheVariants as role
-use Rattle.de_mnemonics.specs.Places.{place_behind, role_of}
-use Rattle.de_mnemonics.specs.Translation.{class_in, next_class}
+use Rattle.de_mnemonics.specs.Places.{token_place_behind, role_of}
+use Rattle.de_mnemonics.specs.Translation.{token_class_in, next_class}
 use Rattle.de_mnemonics.specs.Words.{operand_partner}
 
 -- two tokens, each of its source, of the same kind and text on the same line
@@ -69,9 +69,9 @@ abbrev pub AreTokensAlike :
     (s e : List ℕ) → TokenPlace → TokenClass → List Token → List Token → Type 0
 AreTokensAlike s e p before [] [] = Unit {0}
 AreTokensAlike s e p before (t ∷ ts) (u ∷ us) =
-    ComesBackInRole s e (role_of p before (class_in s t) (text_of s t) (next_class s ts)) t u
-    × AreTokensAlike s e (place_behind p before (class_in s t) (text_of s t) (next_class s ts))
-    (class_in s t) ts us
+    ComesBackInRole s e (role_of p before (token_class_in s t) (text_of s t) (next_class s ts)) t u
+    × AreTokensAlike s e (token_place_behind p before (token_class_in s t) (text_of s t) (next_class s ts))
+    (token_class_in s t) ts us
 AreTokensAlike s e p before _ _ = ⊥
 
 -- tokens that come back one by one, from the front of the source on, have the same tree as before

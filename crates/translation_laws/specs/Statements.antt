@@ -9,9 +9,9 @@ use Rattle.de_mnemonics.specs.declared.places.TokenPlace.{TokenPlace}
 use Rattle.de_mnemonics.specs.declared.places.TokenPlace.TheVariants as place
 use Rattle.de_mnemonics.specs.declared.roles.Role.{Role}
 use Rattle.de_mnemonics.specs.declared.roles.Role.TheVariants as role
-use Rattle.de_mnemonics.specs.Places.{place_behind, is_word_in_list, is_assign, is_component, is_jump_word, is_operand_place, may_be_keyword, role_of}
+use Rattle.de_mnemonics.specs.Places.{token_place_behind, is_word_in_list, is_assign, is_component_word, is_jump_word, is_operand_place, may_be_keyword, role_of}
 use Rattle.de_mnemonics.specs.Tables.{begin_words, code_openings, data_openings, block_end_words, network_words, zone_words}
-use Rattle.de_mnemonics.specs.Translation.{class_in, next_class}
+use Rattle.de_mnemonics.specs.Translation.{token_class_in, next_class}
 
 -- ---- the rule
 
@@ -19,7 +19,7 @@ use Rattle.de_mnemonics.specs.Translation.{class_in, next_class}
 -- its place; a name, where a path begins; `opens` says that one may begin here
 abbrev pub role_beside : Bool → TokenClass → List ℕ → TokenClass → Role
 role_beside opens before word next =
-    if is_component before next then role.Stays
+    if is_component_word before next then role.Stays
     else (if is_operand_place before word next then role.Operand
     else (if opens || is_assign before then role.Path else role.Stays))
 
@@ -34,8 +34,8 @@ token_role opens before _ word next = role.Stays
 abbrev pub roles_beside : List ℕ → Bool → TokenClass → List Token → List Role
 roles_beside s opens before [] = []
 roles_beside s opens before (t ∷ ts) =
-    token_role opens before (class_in s t) (text_of s t) (next_class s ts)
-    ∷ roles_beside s false (class_in s t) ts
+    token_role opens before (token_class_in s t) (text_of s t) (next_class s ts)
+    ∷ roles_beside s false (token_class_in s t) ts
 
 -- a class is that of words
 abbrev pub is_word_class : TokenClass → Bool
@@ -46,7 +46,7 @@ is_word_class _ = false
 abbrev pub label_roles : List ℕ → List Token → List Role
 label_roles s [] = []
 label_roles s (t ∷ ts) =
-    role.Stays ∷ (if is_word_class (class_in s t)
+    role.Stays ∷ (if is_word_class (token_class_in s t)
     then roles_beside s false class.Word ts else label_roles s ts)
 
 -- a class is that of `(`
@@ -59,7 +59,7 @@ is_opening_class _ = false
 abbrev pub opening_roles : List ℕ → List Token → List Role
 opening_roles s [] = []
 opening_roles s (t ∷ ts) =
-    if is_opening_class (class_in s t) then role.Stays ∷ roles_beside s true class.OpenParen ts
+    if is_opening_class (token_class_in s t) then role.Stays ∷ roles_beside s true class.OpenParen ts
     else roles_beside s true class.Word (t ∷ ts)
 
 -- tokens behind an instruction word
@@ -68,14 +68,14 @@ word_roles s word ts = if is_jump_word word then label_roles s ts else opening_r
 
 -- a token is the word of `)MCR`
 abbrev pub is_zone_end : List ℕ → Token → Bool
-is_zone_end s t = is_word_class (class_in s t) && is_word_in_list zone_words (text_of s t)
+is_zone_end s t = is_word_class (token_class_in s t) && is_word_in_list zone_words (text_of s t)
 
 -- tokens behind a `)` that is an instruction: a path may begin there, or behind the word of `)MCR`
 abbrev pub closing_roles : List ℕ → List Token → List Role
 closing_roles s [] = []
 closing_roles s (t ∷ ts) =
-    token_role true class.CloseParen (class_in s t) (text_of s t) (next_class s ts)
-    ∷ roles_beside s (is_zone_end s t) (class_in s t) ts
+    token_role true class.CloseParen (token_class_in s t) (text_of s t) (next_class s ts)
+    ∷ roles_beside s (is_zone_end s t) (token_class_in s t) ts
 
 -- a class is that of numbers
 abbrev pub is_number_class : TokenClass → Bool
@@ -98,8 +98,8 @@ sign_roles s c ts =
 abbrev pub instruction_roles : List ℕ → List Token → List Role
 instruction_roles s [] = []
 instruction_roles s (t ∷ ts) =
-    if is_word_class (class_in s t) then role.Instruction ∷ word_roles s (text_of s t) ts
-    else role.Stays ∷ sign_roles s (class_in s t) ts
+    if is_word_class (token_class_in s t) then role.Instruction ∷ word_roles s (text_of s t) ts
+    else role.Stays ∷ sign_roles s (token_class_in s t) ts
 
 -- a class is that of `:`
 abbrev pub is_colon_class : TokenClass → Bool
@@ -111,7 +111,7 @@ abbrev pub statement_roles : List ℕ → List Token → List Role
 statement_roles s [] = []
 statement_roles s (t ∷ []) = instruction_roles s (t ∷ [])
 statement_roles s (t ∷ u ∷ ts) =
-    if is_word_class (class_in s t) && is_colon_class (class_in s u)
+    if is_word_class (token_class_in s t) && is_colon_class (token_class_in s u)
     then role.Stays ∷ role.Stays ∷ instruction_roles s ts
     else instruction_roles s (t ∷ u ∷ ts)
 
@@ -130,7 +130,7 @@ is_note_class _ = false
 -- none of these tokens is a `;`
 abbrev pub HasNoSemicolon : List ℕ → List Token → Type 0
 HasNoSemicolon s [] = Unit {0}
-HasNoSemicolon s (t ∷ ts) = (is_semicolon_class (class_in s t) ≡ false) × HasNoSemicolon s ts
+HasNoSemicolon s (t ∷ ts) = (is_semicolon_class (token_class_in s t) ≡ false) × HasNoSemicolon s ts
 
 -- what stands between statements of a body: titles and attributes, and the word of a network
 abbrev pub stands_between_statements : TokenClass → List ℕ → Bool
@@ -147,8 +147,8 @@ is_body_end c word = false
 abbrev pub begins_statement : List ℕ → List Token → Bool
 begins_statement s [] = true
 begins_statement s (t ∷ ts) =
-    not (stands_between_statements (class_in s t) (text_of s t))
-    && not (is_body_end (class_in s t) (text_of s t))
+    not (stands_between_statements (token_class_in s t) (text_of s t))
+    && not (is_body_end (token_class_in s t) (text_of s t))
 
 -- a word that opens a block or a body, where no `:` and no `.` stands before it
 abbrev pub is_keyword_of : List (List ℕ) → TokenClass → TokenClass → List ℕ → Bool
@@ -161,9 +161,9 @@ is_keyword_of table before c word = false
 abbrev pub roles_from : List ℕ → TokenPlace → TokenClass → List Token → List Role
 roles_from s p before [] = []
 roles_from s p before (t ∷ ts) =
-    role_of p before (class_in s t) (text_of s t) (next_class s ts)
-    ∷ roles_from s (place_behind p before (class_in s t) (text_of s t) (next_class s ts))
-    (class_in s t) ts
+    role_of p before (token_class_in s t) (text_of s t) (next_class s ts)
+    ∷ roles_from s (token_place_behind p before (token_class_in s t) (text_of s t) (next_class s ts))
+    (token_class_in s t) ts
 
 -- a statement of a body, up to its `;`, has the roles of the rule, and behind it the next one
 -- begins
@@ -171,7 +171,7 @@ abbrev pub StatementsHaveRoles : Type 0
 StatementsHaveRoles =
     (s : List ℕ) (before : TokenClass) (inside : List Token) (semicolon : Token) (rest : List Token)
     → begins_statement s (inside ++ semicolon ∷ []) ≡ true → HasNoSemicolon s inside
-    → is_semicolon_class (class_in s semicolon) ≡ true
+    → is_semicolon_class (token_class_in s semicolon) ≡ true
     → roles_from s place.Start before (inside ++ semicolon ∷ rest)
     ≡ statement_roles s (inside ++ semicolon ∷ []) ++ roles_from s place.Start class.Semicolon rest
 
@@ -180,15 +180,15 @@ pub record BodiesHaveRoles : Type 0 where
   -- a token between statements stays, and a statement may begin behind it
   pub between :
       (s : List ℕ) (before : TokenClass) (t : Token) (rest : List Token)
-      → stands_between_statements (class_in s t) (text_of s t) ≡ true
+      → stands_between_statements (token_class_in s t) (text_of s t) ≡ true
       → roles_from s place.Start before (t ∷ rest)
-      ≡ role.Stays ∷ roles_from s place.Start (class_in s t) rest
+      ≡ role.Stays ∷ roles_from s place.Start (token_class_in s t) rest
   -- the word that ends a body stays, and what is behind it stands outside of blocks
   pub ends :
       (s : List ℕ) (before : TokenClass) (t : Token) (rest : List Token)
-      → is_body_end (class_in s t) (text_of s t) ≡ true
+      → is_body_end (token_class_in s t) (text_of s t) ≡ true
       → roles_from s place.Start before (t ∷ rest)
-      ≡ role.Stays ∷ roles_from s place.Outside (class_in s t) rest
+      ≡ role.Stays ∷ roles_from s place.Outside (token_class_in s t) rest
 
 -- the place behind a token outside of blocks of statements: a word that opens such a block leads to
 -- its head
@@ -209,11 +209,11 @@ pub record OthersStay : Type 0 where
   pub outside :
       (s : List ℕ) (before : TokenClass) (t : Token) (rest : List Token)
       → roles_from s place.Outside before (t ∷ rest)
-      ≡ role.Stays ∷ roles_from s (place_outside before (class_in s t) (text_of s t))
-      (class_in s t) rest
+      ≡ role.Stays ∷ roles_from s (place_outside before (token_class_in s t) (text_of s t))
+      (token_class_in s t) rest
   -- a token of a head stays; a word that opens a body or a block of data leads out of the head
   pub head :
       (s : List ℕ) (before : TokenClass) (t : Token) (rest : List Token)
       → roles_from s place.Head before (t ∷ rest)
-      ≡ role.Stays ∷ roles_from s (place_in_head before (class_in s t) (text_of s t))
-      (class_in s t) rest
+      ≡ role.Stays ∷ roles_from s (place_in_head before (token_class_in s t) (text_of s t))
+      (token_class_in s t) rest

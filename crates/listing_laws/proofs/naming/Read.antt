@@ -27,7 +27,7 @@ use Rattle.stl_lexer.specs.declared.kinds.TokenKind.TheVariants as kind
 use Rattle.stl_lexer.specs.declared.marks.Mark.TheVariants as mark
 use Rattle.stl_parser.specs.Addresses.{address_at, bit_of, block_at, glued_letters_and_number, letter_count, letters_and_number_at, separate_letters_and_number}
 use Rattle.stl_parser.specs.Literals.{literal_of, text_between_quotes}
-use Rattle.stl_parser.specs.Numbers.{number_of}
+use Rattle.stl_parser.specs.Numbers.{number_of_token}
 use Rattle.stl_parser.specs.Operands as spec
 use Rattle.stl_parser.specs.Parts.{parts_from, complete_reading}
 use Rattle.stl_parser.specs.Statements as stated
@@ -39,7 +39,7 @@ use Rattle.stl_parser.specs.declared.tables.AddressKind.{AddressKind}
 use Rattle.stl_parser.specs.declared.tables.AddressKind.TheVariants as address
 use Rattle.stl_parser.specs.declared.tables.OperandSyntax.{OperandSyntax}
 use Rattle.stl_parser.specs.declared.tables.OperandSyntax.TheVariants as operand_syntax
-use Rattle.stl_parser.proofs.OptionLemmas.{all_push, both, chained, either, entry_passes, mapped, none_holds, parts_hold, passed, weakened, whole_holds}
+use Rattle.stl_parser.proofs.OptionLemmas.{all_push, both, chain_holds, either, entry_passes, map_holds, none_holds, parts_hold, then_holds, weaker_holds, whole_holds}
 use Rattle.stl_types.specs.Addresses.{area_for_letters}
 use Rattle.listing_laws.proofs.naming.Places.{mapped_holds, no_bit, no_bit_is}
 use Rattle.listing_laws.specs.Bodies.{IsNoBit}
@@ -73,7 +73,7 @@ FirstIsNoBit r = letters_no_bit r.0 ≡ true
 glued_plain : (text : List ℕ) (rest : List Token) → IfSome (glued_letters_and_number addresses text rest) FirstIsNoBit
 unfolding glued_letters_and_number
 glued_plain text rest =
-    chained (look_up addresses (take (letter_count text) text)) _ (λ a. letters_no_bit a ≡ true) FirstIsNoBit
+    chain_holds (look_up addresses (take (letter_count text) text)) _ (λ a. letters_no_bit a ≡ true) FirstIsNoBit
     (entry_passes addresses (take (letter_count text) text) letters_no_bit addresses_pass)
     (λ a h. mapped_holds (decimal_up_to (greatest_number false) (drop (letter_count text) text)) (λ n. (a, n, rest)) FirstIsNoBit (λ n. h))
 
@@ -81,14 +81,14 @@ separate_plain : (source text : List ℕ) (tokens : List Token) → IfSome (sepa
 unfolding separate_letters_and_number
 separate_plain source text [] = tt
 separate_plain source text (n ∷ rest) =
-    chained (look_up addresses text) _ (λ a. letters_no_bit a ≡ true) FirstIsNoBit (entry_passes addresses text letters_no_bit addresses_pass)
-    (λ a h. mapped_holds (number_of source n) (λ number. (a, number, rest)) FirstIsNoBit (λ number. h))
+    chain_holds (look_up addresses text) _ (λ a. letters_no_bit a ≡ true) FirstIsNoBit (entry_passes addresses text letters_no_bit addresses_pass)
+    (λ a h. mapped_holds (number_of_token source n) (λ number. (a, number, rest)) FirstIsNoBit (λ number. h))
 
 address_plain : (source : List ℕ) (tokens : List Token) → IfSome (address_at source tokens) FirstIsNoBit
 unfolding address_at letters_and_number_at
 address_plain source [] = tt
 address_plain source (w ∷ rest) =
-    passed (has_kind w kind.Word) _ FirstIsNoBit
+    then_holds (has_kind w kind.Word) _ FirstIsNoBit
     (λ test. either (glued_letters_and_number addresses (text_of source w) rest) _ FirstIsNoBit (glued_plain (text_of source w) rest) (separate_plain source (text_of source w) rest))
 
 -- ---- operands
@@ -104,7 +104,7 @@ area_plain source a w byte rest h = mapped_holds (spec.place_bit source w rest) 
 block_path_plain : (source : List ℕ) (name : BlockName) (tokens : List Token) → IfSome (spec.block_path source name tokens) OperandIsNoBit
 unfolding spec.block_path
 block_path_plain source name [] = tt
-block_path_plain source name (w ∷ rest) = passed (has_kind w kind.Word) _ OperandIsNoBit (λ test. mapped_holds (complete_reading (spec.steps_from source _ rest)) _ OperandIsNoBit (λ steps. tt))
+block_path_plain source name (w ∷ rest) = then_holds (has_kind w kind.Word) _ OperandIsNoBit (λ test. mapped_holds (complete_reading (spec.steps_from source _ rest)) _ OperandIsNoBit (λ steps. tt))
 
 in_block_plain : (source : List ℕ) (name : BlockName) (tokens : List Token) → IfSome (spec.operand_in_block source name tokens) OperandIsNoBit
 unfolding spec.operand_in_block
@@ -114,7 +114,7 @@ in_block_plain source name tokens =
 behind_block_plain : (source : List ℕ) (name : BlockName) (tokens : List Token) → IfSome (spec.operand_behind_block source name tokens) OperandIsNoBit
 unfolding spec.operand_behind_block
 behind_block_plain source name [] = tt
-behind_block_plain source name (dot ∷ rest) = passed (is_mark source dot mark.Dot) _ OperandIsNoBit (λ test. in_block_plain source name rest)
+behind_block_plain source name (dot ∷ rest) = then_holds (is_mark source dot mark.Dot) _ OperandIsNoBit (λ test. in_block_plain source name rest)
 
 data_block_plain : (source : List ℕ) (n : ℕ) (tokens : List Token) → IfSome (spec.data_block_operand source n tokens) OperandIsNoBit
 unfolding spec.data_block_operand
@@ -163,16 +163,16 @@ plain_pointer_plain : (source : List ℕ) (tokens : List Token) → IfSome (spec
 unfolding spec.plain_pointer
 plain_pointer_plain source [] = tt
 plain_pointer_plain source (n ∷ rest) =
-    chained (number_of source n) _ (λ byte. Unit {0}) OperandIsNoBit (none_holds (number_of source n)) (λ byte h. mapped_holds (bit_of source rest) _ OperandIsNoBit (λ bit. tt))
+    chain_holds (number_of_token source n) _ (λ byte. Unit {0}) OperandIsNoBit (none_holds (number_of_token source n)) (λ byte h. mapped_holds (bit_of source rest) _ OperandIsNoBit (λ bit. tt))
 
 pointer_plain : (source : List ℕ) (tokens : List Token) → IfSome (spec.pointer_constant_operand source tokens) OperandIsNoBit
 unfolding spec.pointer_constant_operand
 pointer_plain source tokens =
     either (spec.plain_pointer source tokens) _ OperandIsNoBit (plain_pointer_plain source tokens)
-    (chained (address_at source tokens) _ FirstIsNoBit OperandIsNoBit (address_plain source tokens) (λ r h. area_pointer_plain source r.0 r.1 r.2 h))
+    (chain_holds (address_at source tokens) _ FirstIsNoBit OperandIsNoBit (address_plain source tokens) (λ r h. area_pointer_plain source r.0 r.1 r.2 h))
 
-condition_plain : (source : List ℕ) (t : Token) → IfSome (spec.condition_of source t) OperandIsNoBit
-unfolding spec.condition_of
+condition_plain : (source : List ℕ) (t : Token) → IfSome (spec.condition_word_operand source t) OperandIsNoBit
+unfolding spec.condition_word_operand
 condition_plain source t = mapped_holds (look_up flags (text_of source t)) _ OperandIsNoBit (λ f. tt)
 
 other_if_plain : (name : List ℕ) (o : Option Bool) → IfSome (spec.register_name_operand_if name o) OperandIsNoBit
@@ -183,15 +183,15 @@ other_if_plain name (Some false) = tt
 alone_plain : (source : List ℕ) (t : Token) (rest : List Token) → IfSome (spec.lone_word_operand source t rest) OperandIsNoBit
 unfolding spec.lone_word_operand spec.register_name_operand
 alone_plain source t [] =
-    either (spec.condition_of source t) _ OperandIsNoBit (condition_plain source t) (other_if_plain (text_of source t) (look_up registers (text_of source t)))
+    either (spec.condition_word_operand source t) _ OperandIsNoBit (condition_plain source t) (other_if_plain (text_of source t) (look_up registers (text_of source t)))
 alone_plain source t (u ∷ rest) = tt
 
 plain_path_plain : (source : List ℕ) (t : Token) (rest : List Token) → IfSome (spec.plain_path source t rest) OperandIsNoBit
 unfolding spec.plain_path
 plain_path_plain source t rest = both (spec.is_operand_word source t) _ _ OperandIsNoBit tt (path_plain source (head.Local (text_of source t)) rest)
 
-sized_plain : (source : List ℕ) (t : Token) (rest : List Token) → IfSome (spec.sized_by_register source t rest) OperandIsNoBit
-unfolding spec.sized_by_register
+sized_plain : (source : List ℕ) (t : Token) (rest : List Token) → IfSome (spec.operand_by_sized_register source t rest) OperandIsNoBit
+unfolding spec.operand_by_sized_register
 sized_plain source t rest =
     both (is_key source t key.B) _ _ OperandIsNoBit (by_register_plain source None width.Byte rest)
     (both (is_key source t key.W) _ _ OperandIsNoBit (by_register_plain source None width.Word rest)
@@ -199,12 +199,12 @@ sized_plain source t rest =
 
 with_number_plain : (source : List ℕ) (tokens : List Token) → IfSome (spec.operand_with_number source tokens) OperandIsNoBit
 unfolding spec.operand_with_number
-with_number_plain source tokens = chained (address_at source tokens) _ FirstIsNoBit OperandIsNoBit (address_plain source tokens) (λ r h. direct_plain source r.0 r.1 r.2 h)
+with_number_plain source tokens = chain_holds (address_at source tokens) _ FirstIsNoBit OperandIsNoBit (address_plain source tokens) (λ r h. direct_plain source r.0 r.1 r.2 h)
 
 with_pointer_plain : (source : List ℕ) (t : Token) (rest : List Token) → IfSome (spec.operand_with_pointer source t rest) OperandIsNoBit
 unfolding spec.operand_with_pointer
 with_pointer_plain source t rest =
-    chained (look_up addresses (text_of source t)) _ (λ a. Unit {0}) OperandIsNoBit (none_holds (look_up addresses (text_of source t))) (λ a h. indirect_plain source a rest)
+    chain_holds (look_up addresses (text_of source t)) _ (λ a. Unit {0}) OperandIsNoBit (none_holds (look_up addresses (text_of source t))) (λ a h. indirect_plain source a rest)
 
 word_operand_plain : (source : List ℕ) (t : Token) (rest tokens : List Token) → IfSome (spec.word_operand source t rest tokens) OperandIsNoBit
 unfolding spec.word_operand
@@ -212,7 +212,7 @@ word_operand_plain source t rest tokens =
     either (spec.lone_word_operand source t rest) _ OperandIsNoBit (alone_plain source t rest)
     (either (spec.operand_with_number source tokens) _ OperandIsNoBit (with_number_plain source tokens)
     (either (spec.operand_with_pointer source t rest) _ OperandIsNoBit (with_pointer_plain source t rest)
-    (either (spec.sized_by_register source t rest) _ OperandIsNoBit (sized_plain source t rest) (plain_path_plain source t rest))))
+    (either (spec.operand_by_sized_register source t rest) _ OperandIsNoBit (sized_plain source t rest) (plain_path_plain source t rest))))
 
 quoted_plain : (source : List ℕ) (t : Token) (rest : List Token) → IfSome (spec.quoted_operand source t rest) OperandIsNoBit
 unfolding spec.quoted_operand
@@ -267,37 +267,37 @@ value_plain source (t ∷ rest) = operand_plain source (t ∷ rest)
 actual_plain : (source : List ℕ) (tokens : List Token) → IfSome (stated.actual_at source tokens) FirstActual
 unfolding stated.actual_at
 actual_plain source (w ∷ assign ∷ rest) =
-    passed (has_kind w kind.Word && is_mark source assign mark.Assign) _ FirstActual
-    (λ test. mapped (stated.value_of source (take (stated.value_length source rest) rest)) _ OperandIsNoBit FirstActual
+    then_holds (has_kind w kind.Word && is_mark source assign mark.Assign) _ FirstActual
+    (λ test. map_holds (stated.value_of source (take (stated.value_length source rest) rest)) _ OperandIsNoBit FirstActual
     (value_plain source (take (stated.value_length source rest) rest)) (λ o h. h))
 actual_plain source _ = tt
 
 next_plain : (source : List ℕ) (tokens : List Token) → IfSome (stated.next_actual source tokens) FirstActual
 unfolding stated.next_actual
 next_plain source [] = tt
-next_plain source (t ∷ rest) = passed (is_mark source t mark.Comma) _ FirstActual (λ test. actual_plain source rest)
+next_plain source (t ∷ rest) = then_holds (is_mark source t mark.Comma) _ FirstActual (λ test. actual_plain source rest)
 
 further_plain : (source : List ℕ) (first : Actual) (left : ℕ) (tokens : List Token) → ActualIsNoBit first
     → IfSome (parts_from (stated.actuals_end source) (stated.next_actual source) (first ∷ []) left tokens) (λ r. AreNoBits r.0)
 further_plain source first left tokens h =
     parts_hold (stated.actuals_end source) (stated.next_actual source) (first ∷ []) left tokens (λ xs ts. AreNoBits xs) AreNoBits (h, tt)
-    (λ xs ts k. weakened (stated.next_actual source ts) FirstActual (λ r. AreNoBits (xs ++ r.0 ∷ [])) (next_plain source ts) (λ r one. all_push ActualIsNoBit xs r.0 k one))
+    (λ xs ts k. weaker_holds (stated.next_actual source ts) FirstActual (λ r. AreNoBits (xs ++ r.0 ∷ [])) (next_plain source ts) (λ r one. all_push ActualIsNoBit xs r.0 k one))
     (λ xs ts k. k)
 
 actuals_plain : (source : List ℕ) (tokens : List Token) → IfSome (stated.actuals_of source tokens) AreNoBits
 unfolding stated.actuals_of stated.actuals_behind
 actuals_plain source [] = tt
 actuals_plain source (t ∷ rest) =
-    passed (is_mark source t mark.OpenParen) _ AreNoBits
-    (λ test. chained (stated.actual_at source rest) _ FirstActual AreNoBits (actual_plain source rest)
+    then_holds (is_mark source t mark.OpenParen) _ AreNoBits
+    (λ test. chain_holds (stated.actual_at source rest) _ FirstActual AreNoBits (actual_plain source rest)
     (λ r h. whole_holds (parts_from (stated.actuals_end source) (stated.next_actual source) (r.0 ∷ []) (length r.1) r.1) AreNoBits (further_plain source r.0 (length r.1) r.1 h)))
 
 call_plain : (source : List ℕ) (code : Mnemonic) (tokens : List Token) → IfSome (stated.call_of source code tokens) BareIsNoBit
 unfolding stated.call_of
 call_plain source code tokens =
-    chained (block_at source tokens) _ (λ b. Unit {0}) BareIsNoBit (none_holds (block_at source tokens))
-    (λ b h. chained (stated.instance_at source b.0 b.1) _ (λ i. Unit {0}) BareIsNoBit (none_holds (stated.instance_at source b.0 b.1))
-    (λ i k. mapped (stated.actuals_of source i.1) _ AreNoBits BareIsNoBit (actuals_plain source i.1) (λ xs l. (tt, l))))
+    chain_holds (block_at source tokens) _ (λ b. Unit {0}) BareIsNoBit (none_holds (block_at source tokens))
+    (λ b h. chain_holds (stated.instance_at source b.0 b.1) _ (λ i. Unit {0}) BareIsNoBit (none_holds (stated.instance_at source b.0 b.1))
+    (λ i k. map_holds (stated.actuals_of source i.1) _ AreNoBits BareIsNoBit (actuals_plain source i.1) (λ xs l. (tt, l))))
 
 block_call_plain : (source : List ℕ) (code : Mnemonic) (tokens : List Token) → IfSome (stated.block_call_of source code tokens) BareIsNoBit
 unfolding stated.block_call_of
@@ -305,7 +305,7 @@ block_call_plain source code tokens = mapped_holds (complete_reading (block_at s
 
 with_operand_plain : (source : List ℕ) (code : Mnemonic) (tokens : List Token) → IfSome (stated.statement_with_operand source code tokens) BareIsNoBit
 unfolding stated.statement_with_operand
-with_operand_plain source code tokens = mapped (spec.operand_of source tokens) (stated.statement_without_actuals code) OperandIsNoBit BareIsNoBit (operand_plain source tokens) (λ o h. (h, tt))
+with_operand_plain source code tokens = map_holds (spec.operand_of source tokens) (stated.statement_without_actuals code) OperandIsNoBit BareIsNoBit (operand_plain source tokens) (λ o h. (h, tt))
 
 jump_plain : (source : List ℕ) (code : Mnemonic) (tokens : List Token) → IfSome (stated.jump_of source code tokens) BareIsNoBit
 unfolding stated.jump_of
@@ -330,19 +330,19 @@ behind_word_plain source operand_syntax.Call code tokens = call_plain source cod
 opening_plain : (source : List ℕ) (t : Token) (rest : List Token) → IfSome (stated.opening_instruction source t rest) BareIsNoBit
 unfolding stated.opening_instruction
 opening_plain source t rest =
-    chained (look_up opening_mnemonics (text_of source t)) _ (λ m. Unit {0}) BareIsNoBit (none_holds (look_up opening_mnemonics (text_of source t)))
-    (λ m h. chained (stated.after_paren source rest) _ (λ behind. Unit {0}) BareIsNoBit (none_holds (stated.after_paren source rest)) (λ behind k. with_operand_plain source m behind))
+    chain_holds (look_up opening_mnemonics (text_of source t)) _ (λ m. Unit {0}) BareIsNoBit (none_holds (look_up opening_mnemonics (text_of source t)))
+    (λ m h. chain_holds (stated.after_paren source rest) _ (λ behind. Unit {0}) BareIsNoBit (none_holds (stated.after_paren source rest)) (λ behind k. with_operand_plain source m behind))
 
 zone_end_plain : (source : List ℕ) (t : Token) (rest : List Token) → IfSome (stated.zone_end_of source t rest) BareIsNoBit
 unfolding stated.zone_end_of
 zone_end_plain source t [] = tt
 zone_end_plain source t (w ∷ rest) =
-    passed (is_mark source t mark.CloseParen && is_key source w key.Mcr) _ BareIsNoBit (λ test. with_operand_plain source mnemonic.McrClose rest)
+    then_holds (is_mark source t mark.CloseParen && is_key source w key.Mcr) _ BareIsNoBit (λ test. with_operand_plain source mnemonic.McrClose rest)
 
 closed_plain : (source : List ℕ) (t : Token) (rest : List Token) → IfSome (stated.one_token_instruction source t rest) BareIsNoBit
 unfolding stated.one_token_instruction
 closed_plain source t rest =
-    chained (look_up mnemonics (text_of source t)) _ (λ m. Unit {0}) BareIsNoBit (none_holds (look_up mnemonics (text_of source t))) (λ m h. behind_word_plain source m.1 m.0 rest)
+    chain_holds (look_up mnemonics (text_of source t)) _ (λ m. Unit {0}) BareIsNoBit (none_holds (look_up mnemonics (text_of source t))) (λ m h. behind_word_plain source m.1 m.0 rest)
 
 instruction_plain : (source : List ℕ) (tokens : List Token) → IfSome (stated.instruction_of source tokens) BareIsNoBit
 unfolding stated.instruction_of
@@ -356,11 +356,11 @@ ReadIsNoBit r = StatementIsNoBit r.0
 
 unlabelled_plain : (source : List ℕ) (line : ℕ) (tokens : List Token) → IfSome (stated.unlabelled_statement source line tokens) ReadIsNoBit
 unfolding stated.unlabelled_statement
-unlabelled_plain source line tokens = mapped (stated.instruction_of source tokens) _ BareIsNoBit ReadIsNoBit (instruction_plain source tokens) (λ i h. h)
+unlabelled_plain source line tokens = map_holds (stated.instruction_of source tokens) _ BareIsNoBit ReadIsNoBit (instruction_plain source tokens) (λ i h. h)
 
 labelled_plain : (source : List ℕ) (line : ℕ) (w : Token) (tokens : List Token) → IfSome (stated.labelled_statement source line w tokens) ReadIsNoBit
 unfolding stated.labelled_statement
-labelled_plain source line w tokens = mapped (stated.instruction_of source tokens) _ BareIsNoBit ReadIsNoBit (instruction_plain source tokens) (λ i h. h)
+labelled_plain source line w tokens = map_holds (stated.instruction_of source tokens) _ BareIsNoBit ReadIsNoBit (instruction_plain source tokens) (λ i h. h)
 
 -- a statement before its `;`
 pub statement_plain : (source : List ℕ) (line : ℕ) (tokens : List Token) → IfSome (stated.statement_of source line tokens) ReadIsNoBit

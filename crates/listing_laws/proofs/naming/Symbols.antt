@@ -10,7 +10,7 @@ use Rattle.plc_base.specs.declared.places.Area.{Area}
 use Rattle.plc_base.specs.declared.places.Area.TheVariants as area
 use Rattle.plc_base.specs.declared.places.Width.TheVariants as width
 use Rattle.plc_base.specs.declared.refusals.Refusal.{Refusal}
-use Rattle.stl_parser.proofs.OptionLemmas.{chained, mapped, passed, none_holds}
+use Rattle.stl_parser.proofs.OptionLemmas.{chain_holds, map_holds, then_holds, none_holds}
 use Rattle.stl_symbols.specs.Address.{address_letters, address_of, bit_address, bit_behind, has_type, letters_spelled_as, number_of_address, numbered_address, letters_in_language, variable_address}
 use Rattle.stl_symbols.specs.Line.{Columns, columns_of_line}
 use Rattle.stl_symbols.specs.Symbol.{Symbol, symbol_named}
@@ -42,7 +42,7 @@ bits : (name : List ℕ) (a : Area) → IsNoBit a width.Bit → (text : List ℕ
 unfolding bit_address
 bits name a is text =
     let point = prefix_len (λ b. not (b == 46)) text in
-    chained (number_of_address (take point text)) _ (λ byte. Unit {0}) (Declares (declared_symbol name)) (none_holds (number_of_address (take point text)))
+    chain_holds (number_of_address (take point text)) _ (λ byte. Unit {0}) (Declares (declared_symbol name)) (none_holds (number_of_address (take point text)))
     (λ byte h. mapped_holds (bit_behind (drop point text)) (λ bit. variable_address a width.Bit byte bit) (Declares (declared_symbol name)) (λ bit. is))
 
 -- an address by a number alone
@@ -61,7 +61,7 @@ all_plain name =
 letters_plain : (language : Language) (name word : List ℕ) → IfSome (letters_spelled_as language address_letters word) (λ l. (text : List ℕ) → IfSome (numbered_address l text) (Declares (declared_symbol name)))
 unfolding letters_spelled_as
 letters_plain language name word =
-    mapped (find (λ e. bytes_eq word (letters_in_language language e.0 e.1)) address_letters) _ (λ e. (text : List ℕ) → IfSome (numbered_address e.2 text) (Declares (declared_symbol name)))
+    map_holds (find (λ e. bytes_eq word (letters_in_language language e.0 e.1)) address_letters) _ (λ e. (text : List ℕ) → IfSome (numbered_address e.2 text) (Declares (declared_symbol name)))
     (λ l. (text : List ℕ) → IfSome (numbered_address l text) (Declares (declared_symbol name)))
     (found_among _ (λ e. bytes_eq word (letters_in_language language e.0 e.1)) address_letters (all_plain name)) (λ e h. h)
 
@@ -69,7 +69,7 @@ address_plain : (language : Language) (name text : List ℕ) → IfSome (address
 unfolding address_of
 address_plain language name text =
     let digits = prefix_len (λ b. not (is_ascii_digit b)) text in
-    chained (letters_spelled_as language address_letters (take digits text)) _ (λ l. (text : List ℕ) → IfSome (numbered_address l text) (Declares (declared_symbol name))) (Declares (declared_symbol name))
+    chain_holds (letters_spelled_as language address_letters (take digits text)) _ (λ l. (text : List ℕ) → IfSome (numbered_address l text) (Declares (declared_symbol name))) (Declares (declared_symbol name))
     (letters_plain language name (take digits text)) (λ l h. h (drop digits text))
 
 -- ---- a line
@@ -79,9 +79,9 @@ DeclaredIsNoBit d = IfSome d SymbolIsNoBit
 
 declaration_plain : (language : Language) (name address kind : List ℕ) → IfSome (symbol_declaration language name address kind) DeclaredIsNoBit
 declaration_plain language name address kind =
-    passed (is_name name) _ DeclaredIsNoBit
-    (λ named. chained (address_of language address) _ (Declares (declared_symbol name)) DeclaredIsNoBit (address_plain language name address)
-    (λ a h. passed (has_type a kind) (Some (declared_symbol name a)) DeclaredIsNoBit (λ typed. h)))
+    then_holds (is_name name) _ DeclaredIsNoBit
+    (λ named. chain_holds (address_of language address) _ (Declares (declared_symbol name)) DeclaredIsNoBit (address_plain language name address)
+    (λ a h. then_holds (has_type a kind) (Some (declared_symbol name a)) DeclaredIsNoBit (λ typed. h)))
 
 symbol_added : (xs : List Symbol) (x : Symbol) → AreNoBits xs → SymbolIsNoBit x → IfOk (with_symbol xs x) AreNoBits
 unfolding with_symbol

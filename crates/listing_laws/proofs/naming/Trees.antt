@@ -30,7 +30,7 @@ use Rattle.stl_parser.specs.declared.tables.HeadWord.{HeadWord}
 use Rattle.stl_parser.specs.declared.tables.Keyword.{Keyword}
 use Rattle.stl_parser.specs.declared.tables.Keyword.TheVariants as keyword
 use Rattle.stl_parser.proofs.FrameLemmas.{right_clause}
-use Rattle.stl_parser.proofs.OptionLemmas.{both, chained, either, failed, mapped, none_holds, passed, some_holds}
+use Rattle.stl_parser.proofs.OptionLemmas.{both, chain_holds, either, else_holds, map_holds, none_holds, then_holds, some_holds}
 use Rattle.listing_laws.proofs.naming.Places.{mapped_holds}
 use Rattle.listing_laws.proofs.naming.Read.{StatementIsNoBit, statement_plain}
 
@@ -49,13 +49,13 @@ InsideIsNoBit r = ClauseIsNoBit r.0
 head_plain : (source : List ℕ) (line : ℕ) (k : BlockKind) (tokens : List Token) → IfSome (spec.head_clause source line k tokens) ReadIsNoBit
 unfolding spec.head_clause
 head_plain source line k tokens =
-    chained (spec.block_of_kind_at source k tokens) _ (λ b. Unit {0}) ReadIsNoBit (none_holds (spec.block_of_kind_at source k tokens))
+    chain_holds (spec.block_of_kind_at source k tokens) _ (λ b. Unit {0}) ReadIsNoBit (none_holds (spec.block_of_kind_at source k tokens))
     (λ b h. mapped_holds (spec.result_at source k b.1) _ ReadIsNoBit (λ r. tt))
 
 inner_end_plain : (source : List ℕ) (tokens : List Token) → IfSome (spec.inner_end source tokens) ReadIsNoBit
 unfolding spec.inner_end
 inner_end_plain source [] = tt
-inner_end_plain source (t ∷ rest) = passed (is_mark source t mark.Semicolon) _ ReadIsNoBit (λ test. tt)
+inner_end_plain source (t ∷ rest) = then_holds (is_mark source t mark.Semicolon) _ ReadIsNoBit (λ test. tt)
 
 keyword_plain : (source : List ℕ) (p : ClausePlace) (line : ℕ) (k : Keyword) (rest : List Token) → IfSome (spec.keyword_clause source p line k rest) ReadIsNoBit
 unfolding spec.keyword_clause spec.structure_end
@@ -75,32 +75,32 @@ head_word_plain source p w rest = mapped_holds (spec.head_word_at source w rest)
 based_plain : (source : List ℕ) (tokens : List Token) → IfSome (spec.base_block_at source tokens) ReadIsNoBit
 unfolding spec.base_block_at
 based_plain source tokens =
-    chained (block_at source tokens) _ (λ r. Unit {0}) ReadIsNoBit (none_holds (block_at source tokens)) (λ r h. passed (spec.is_base_block r.0) _ ReadIsNoBit (λ test. tt))
+    chain_holds (block_at source tokens) _ (λ r. Unit {0}) ReadIsNoBit (none_holds (block_at source tokens)) (λ r h. then_holds (spec.is_base_block r.0) _ ReadIsNoBit (λ test. tt))
 
 structure_plain : (source : List ℕ) (p : ClausePlace) (tokens : List Token) → IfSome (spec.structure_clause source p tokens) ReadIsNoBit
 unfolding spec.structure_clause
-structure_plain source p tokens = failed (spec.takes_parameters p) _ ReadIsNoBit (λ test. mapped_holds (structure_at source (spec.level_at p) tokens) _ ReadIsNoBit (λ r. tt))
+structure_plain source p tokens = else_holds (spec.takes_parameters p) _ ReadIsNoBit (λ test. mapped_holds (structure_at source (spec.level_at p) tokens) _ ReadIsNoBit (λ r. tt))
 
 declaration_plain : (source : List ℕ) (p : ClausePlace) (tokens : List Token) → IfSome (spec.declaration_clause source p tokens) InsideIsNoBit
 unfolding spec.declaration_clause
 declaration_plain source p tokens =
-    chained (declaration_of source (spec.level_at p) tokens) _ (λ d. Unit {0}) InsideIsNoBit (none_holds (declaration_of source (spec.level_at p) tokens))
-    (λ d h. failed (spec.takes_parameters p && not (is_elementary d)) _ InsideIsNoBit (λ test. tt))
+    chain_holds (declaration_of source (spec.level_at p) tokens) _ (λ d. Unit {0}) InsideIsNoBit (none_holds (declaration_of source (spec.level_at p) tokens))
+    (λ d h. else_holds (spec.takes_parameters p && not (is_elementary d)) _ InsideIsNoBit (λ test. tt))
 
 inside_plain : (source : List ℕ) (p : ClausePlace) (line : ℕ) (tokens : List Token) → IfSome (spec.inside_clause source p line tokens) InsideIsNoBit
 unfolding spec.inside_clause spec.statement_clause spec.setting_clause
 inside_plain source p line tokens =
     either (spec.declaration_clause source p tokens) (option_or (spec.statement_clause source line tokens) (spec.setting_clause source line tokens)) InsideIsNoBit (declaration_plain source p tokens)
     (either (spec.statement_clause source line tokens) (spec.setting_clause source line tokens) InsideIsNoBit
-    (mapped (statement_of source line tokens) _ (λ r. StatementIsNoBit r.0) InsideIsNoBit (statement_plain source line tokens) (λ r h. h))
+    (map_holds (statement_of source line tokens) _ (λ r. StatementIsNoBit r.0) InsideIsNoBit (statement_plain source line tokens) (λ r h. h))
     (mapped_holds (spec.setting_of source line tokens) _ InsideIsNoBit (λ s. tt)))
 
 plain_plain : (source : List ℕ) (p : ClausePlace) (line : ℕ) (tokens : List Token) → IfSome (spec.plain_clause source p line tokens) ReadIsNoBit
 unfolding spec.plain_clause spec.semicolon_clause
 plain_plain source p line tokens =
     either (spec.structure_clause source p tokens) _ ReadIsNoBit (structure_plain source p tokens)
-    (chained (spec.until_semicolon source tokens) _ (λ cut. Unit {0}) ReadIsNoBit (none_holds (spec.until_semicolon source tokens))
-    (λ cut h. mapped (spec.inside_clause source p line cut.0) _ InsideIsNoBit ReadIsNoBit (inside_plain source p line cut.0) (λ c k. k)))
+    (chain_holds (spec.until_semicolon source tokens) _ (λ cut. Unit {0}) ReadIsNoBit (none_holds (spec.until_semicolon source tokens))
+    (λ cut h. map_holds (spec.inside_clause source p line cut.0) _ InsideIsNoBit ReadIsNoBit (inside_plain source p line cut.0) (λ c k. k)))
 
 other_plain : (source : List ℕ) (p : ClausePlace) (line : ℕ) (tokens : List Token) → IfSome (spec.other_clause source p line tokens) ReadIsNoBit
 unfolding spec.other_clause

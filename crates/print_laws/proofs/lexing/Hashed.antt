@@ -13,7 +13,7 @@ use Rattle.stl_lexer.specs.declared.kinds.TokenKind.{TokenKind}
 use Rattle.stl_lexer.specs.declared.kinds.TokenKind.TheVariants.{Word, Number, Quoted, Local, Characters, Based, NumberLiteral, TimeLiteral, Mark, SignWord, Attribute, Title}
 use Rattle.stl_lexer.specs.Bytes.{hash, double_quote, single_quote, open_brace, close_brace, is_sign, is_word_byte, is_word_start}
 use Rattle.stl_lexer.specs.Forms as forms
-use Rattle.stl_lexer.specs.Forms.{has_form, begins_with, is_word, is_local, behind_sign, based_prefixes, long_prefixes, count_prefixes, time_prefixes, s5time_prefixes, sign_words, title_words}
+use Rattle.stl_lexer.specs.Forms.{has_form, begins_with, is_word, is_local_name, behind_sign, based_prefixes, long_prefixes, count_prefixes, time_prefixes, s5time_prefixes, sign_words, title_words}
 use Rattle.stl_lexer.specs.Longest.{IsFormAt, IsLongestToken, IsLongestOfForm, kind_rank}
 use Rattle.stl_lexer.specs.Marks.{marks, mark_text}
 use Rattle.stl_lexer.specs.Pieces.{stops_token}
@@ -256,7 +256,7 @@ pointer_stands after =
 
 -- ---- local names
 
-word_run : (word after : List ℕ) → is_word word ≡ true → stops_token after ≡ true → (n : ℕ) → IsFormAt (λ s rest. is_local s) (hash ∷ (word ++ after)) n → n ≤ suc (length word)
+word_run : (word after : List ℕ) → is_word word ≡ true → stops_token after ≡ true → (n : ℕ) → IsFormAt (λ s rest. is_local_name s) (hash ∷ (word ++ after)) n → n ≤ suc (length word)
 word_run [] after e stop n at = absurd (false≢true e)
 word_run (b ∷ word) after e stop zero at = omega arith
 word_run (b ∷ word) after e stop (suc zero) at = omega arith
@@ -266,7 +266,7 @@ word_run (b ∷ word) after e stop (suc (suc n)) at =
     let run = run_longest is_word_byte (word ++ after) n (omega (arith, at.within)) (and_parts (is_word_start b) (list_all is_word_byte (take n (word ++ after))) inner).1 in
     omega (arith, run, passes_to is_word_byte word after all (stops_run after stop))
 
-local_found : (word after : List ℕ) → is_word word ≡ true → stops_token after ≡ true → IsLongestOfForm (λ s rest. is_local s) (hash ∷ (word ++ after)) (suc (length word))
+local_found : (word after : List ℕ) → is_word word ≡ true → stops_token after ≡ true → IsLongestOfForm (λ s rest. is_local_name s) (hash ∷ (word ++ after)) (suc (length word))
 local_found word after e stop = record {
   fits = record {
     some = omega arith;

@@ -13,7 +13,7 @@ use Rattle.stl_lexer.specs.declared.kinds.TokenKind.{TokenKind}
 use Rattle.stl_lexer.specs.declared.kinds.TokenKind.TheVariants.{Word, Number, Quoted, Local, Characters, Based, NumberLiteral, TimeLiteral, Mark, SignWord, Attribute, Title}
 use Rattle.stl_lexer.specs.Bytes.{hash, double_quote, single_quote, open_brace, close_brace, is_word_byte, is_word_start}
 use Rattle.stl_lexer.specs.Forms as forms
-use Rattle.stl_lexer.specs.Forms.{has_form, is_word, is_number, is_local, continues_word, based_prefixes, long_prefixes, count_prefixes, time_prefixes, s5time_prefixes, sign_words, title_words}
+use Rattle.stl_lexer.specs.Forms.{has_form, is_word, is_number, is_local_name, continues_word, based_prefixes, long_prefixes, count_prefixes, time_prefixes, s5time_prefixes, sign_words, title_words}
 use Rattle.stl_lexer.specs.Longest.{HasNoneOfForm, IsFormAt, IsLongestToken, kind_rank}
 use Rattle.stl_lexer.specs.Marks.{marks, mark_text}
 use Rattle.stl_lexer.specs.Pieces.{stops_token}

@@ -18,7 +18,7 @@ use Rattle.stl_ast.specs.Literals.{IsLong}
 use Rattle.stl_lexer.specs.Bytes.{hash, minus_sign, plus_sign, underscore, is_sign, is_word_byte, is_word_start}
 use Rattle.stl_lexer.specs.Forms.{behind_sign, first_letter, is_number}
 use Rattle.stl_lexer.specs.Limits.{greatest_long, greatest_number}
-use Rattle.stl_lexer.specs.Rules.{are_digits, are_grouped_digits, base_of, based_rule, behind_prefix, value_of_digits as decimal_of, digit_count, most_digits, decimal_rule, is_negative, number_rule, time_rule, value_rule}
+use Rattle.stl_lexer.specs.Rules.{are_digits_of_base, are_grouped_digits, base_of, based_rule, behind_prefix, value_of_digits as decimal_of, digit_count, most_digits, decimal_rule, is_negative, number_rule, time_rule, value_rule}
 use Rattle.stl_lexer.specs.TimeLiteral.{behind_digits, behind_part, is_part, milliseconds_of_unit, letters_of_unit, milliseconds, part_digits, part_letters, time_units}
 
 pub both_pass : (p : ℕ → Bool) (a b : List ℕ) → list_all p a ≡ true → list_all p b ≡ true → list_all p (a ++ b) ≡ true
@@ -219,7 +219,7 @@ hex_value : (b : ℕ) → is_hex b ≡ true → is_digit b 16 ≡ true
 hex_value b e = (and_parts (is_digit b 16) (is_word_byte b && not (b == underscore)) e).0
 
 hex_is_grouped : (text : List ℕ) → list_all is_hex text ≡ true → 0 < length text → are_grouped_digits 16 text ≡ true
-unfolding are_grouped_digits are_digits
+unfolding are_grouped_digits are_digits_of_base
 hex_is_grouped text e some =
     let whole : slice_split (λ b. b == underscore) text ≡ text ∷ [] =
     slice_split_none (λ b. b == underscore) text (λ i d h. not-true (get_or text i d == underscore) (AllPass-from_list_all (λ b. not (b == underscore)) text (all_weaker is_hex (λ b. not (b == underscore)) hex_plain text e) i d h)) in

@@ -8,7 +8,7 @@ use Rattle.stl_lexer.specs.Pieces.{tokens_of}
 use Rattle.stl_lexer.specs.declared.kinds.Token.{Token}
 use Rattle.stl_ast.specs.declared.names.BlockName.TheVariants as block
 use Rattle.stl_parser.specs.Addresses.{block_at, block_number_at, glued_letters_and_number, letters_and_number_at, separate_letters_and_number}
-use Rattle.stl_parser.specs.Numbers.{number_of, number_up_to}
+use Rattle.stl_parser.specs.Numbers.{number_of_token, number_up_to}
 use Rattle.stl_parser.specs.Tables.{block_kinds, look_up}
 use Rattle.stl_parser.specs.Terminals.{has_kind}
 use Rattle.stl_print.specs.Names.{block_name_pieces}
@@ -37,6 +37,6 @@ kind_alone kinds.Udt rest = refl
 pub block_read : (source : List ℕ) (from line : ℕ) (g : _) (id : BlockId) (rest : List Token) → id.number ≤ 65535
     → Texts source from line (block_name_pieces g (block.Number id))
     → block_at source (tokens_of from line (block_name_pieces g (block.Number id)) ++ rest) ≡ Some (block.Number id, rest)
-unfolding block_name_pieces block_at block_number_at letters_and_number_at separate_letters_and_number has_kind number_of number_up_to
+unfolding block_name_pieces block_at block_number_at letters_and_number_at separate_letters_and_number has_kind number_of_token number_up_to
 block_read source from line g id rest h (_, x1, (_, x2, _)) =
     rw (x1, kind_alone id.kind, kind_found id.kind, x2, read_number id.number h) refl

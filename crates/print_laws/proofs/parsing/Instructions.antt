@@ -20,7 +20,7 @@ use Rattle.stl_ast.specs.declared.operands.Operand.TheVariants as operand
 use Rattle.stl_ast.specs.declared.statements.Actual.{Actual}
 use Rattle.stl_parser.specs.Addresses.{address_at, block_at, glued_letters_and_number, letters_and_number_at, separate_letters_and_number}
 use Rattle.stl_parser.specs.Literals.{literal_at, literal_of, literal_token, long_literal, truth_of}
-use Rattle.stl_parser.specs.Numbers.{number_of, number_up_to, signed_number_at}
+use Rattle.stl_parser.specs.Numbers.{number_of_token, number_up_to, signed_number_at}
 use Rattle.stl_parser.specs.Operands.{lone_word_operand, data_block_operand, direct_address_operand, operand_by_kind, operand_of, operand_with_number, word_operand}
 use Rattle.stl_parser.specs.Statements.{actuals_of, behind_word, block_call_of, call_of, data_block_at, instance_at, is_long_label, jump_of, may_be_of_kind, open_of, statement_without_actuals as bare, statement_with_operand}
 use Rattle.stl_parser.specs.Tables.{addresses, look_up}
@@ -86,14 +86,14 @@ data_read : (source : List ℕ) (from line : ℕ) (g : _) (n : ℕ) → n ≤ 65
     → Texts source from line (block_name_pieces g (block.Number (record { kind = kinds.Db; number = n })))
     → operand_of source (tokens_of from line (block_name_pieces g (block.Number (record { kind = kinds.Db; number = n }))))
     ≡ Some (operand.OpenBlock false (block.Number (record { kind = kinds.Db; number = n })))
-unfolding operand_of literal_of literal_at literal_token truth_of long_literal signed_number_at is_mark is_key has_kind key_text operand_by_kind word_operand lone_word_operand operand_with_number address_at letters_and_number_at separate_letters_and_number number_of number_up_to glued_letters_and_number look_up addresses decimal_up_to block_name_pieces block_letters direct_address_operand data_block_operand
+unfolding operand_of literal_of literal_at literal_token truth_of long_literal signed_number_at is_mark is_key has_kind key_text operand_by_kind word_operand lone_word_operand operand_with_number address_at letters_and_number_at separate_letters_and_number number_of_token number_up_to glued_letters_and_number look_up addresses decimal_up_to block_name_pieces block_letters direct_address_operand data_block_operand
 data_read source from line g n h (_, x1, (_, x2, _)) = rw (x1, x2, read_number n h) refl
 
 instance_read : (source : List ℕ) (from line : ℕ) (g : _) (n : ℕ) → n ≤ 65535
     → Texts source from line (opened_block_pieces g true (block.Number (record { kind = kinds.Db; number = n })))
     → operand_of source (tokens_of from line (opened_block_pieces g true (block.Number (record { kind = kinds.Db; number = n }))))
     ≡ Some (operand.OpenBlock true (block.Number (record { kind = kinds.Db; number = n })))
-unfolding operand_of literal_of literal_at literal_token truth_of long_literal signed_number_at is_mark is_key has_kind key_text operand_by_kind word_operand lone_word_operand operand_with_number address_at letters_and_number_at separate_letters_and_number number_of number_up_to glued_letters_and_number look_up addresses decimal_up_to opened_block_pieces direct_address_operand
+unfolding operand_of literal_of literal_at literal_token truth_of long_literal signed_number_at is_mark is_key has_kind key_text operand_by_kind word_operand lone_word_operand operand_with_number address_at letters_and_number_at separate_letters_and_number number_of_token number_up_to glued_letters_and_number look_up addresses decimal_up_to opened_block_pieces direct_address_operand
 instance_read source from line g n h (_, x1, (_, x2, _)) = rw (x1, x2, read_number n h) refl
 
 opened_read : (source : List ℕ) (from line : ℕ) (g : _) (di : Bool) (name : BlockName) → IsDataBlock name

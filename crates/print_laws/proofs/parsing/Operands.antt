@@ -32,11 +32,11 @@ use Rattle.stl_parser.specs.declared.tables.AddressKind.{AddressKind}
 use Rattle.stl_parser.specs.declared.tables.AddressKind.TheVariants as address
 use Rattle.stl_parser.specs.Terminals.{has_kind, is_mark, is_key, key_text}
 use Rattle.stl_parser.specs.Tables.{look_up, addresses, flags}
-use Rattle.stl_parser.specs.Numbers.{number_of, number_up_to, signed_number_at}
+use Rattle.stl_parser.specs.Numbers.{number_of_token, number_up_to, signed_number_at}
 use Rattle.stl_parser.specs.Parts.{parts_from}
 use Rattle.stl_parser.specs.Literals.{literal_of, literal_at, literal_token, truth_of, long_literal}
 use Rattle.stl_parser.specs.Addresses.{address_at, bit_of, letters_and_number_at, glued_letters_and_number, separate_letters_and_number, letter_count}
-use Rattle.stl_parser.specs.Operands.{operand_of, operand_by_kind, word_operand, lone_word_operand, operand_with_number, direct_address_operand, area_operand, place_bit, data_block_operand, operand_behind_block, operand_in_block, block_place, place_of_data_address, operand_with_pointer, indirect_operand, operand_by_pointer, memory_pointer, pointer_end, pointer_close, holds_pointer, operand_by_register, register_pointer, register_of, offset_of, operand_by_memory_number, mark_operand, sized_by_register, pointer_constant_operand, plain_pointer, area_pointer, local_path, path_of, steps_from, path_end, condition_of, register_name_operand, sign_operand}
+use Rattle.stl_parser.specs.Operands.{operand_of, operand_by_kind, word_operand, lone_word_operand, operand_with_number, direct_address_operand, area_operand, place_bit, data_block_operand, operand_behind_block, operand_in_block, block_place, place_of_data_address, operand_with_pointer, indirect_operand, operand_by_pointer, memory_pointer, pointer_end, pointer_close, holds_pointer, operand_by_register, register_pointer, register_number, offset_of, operand_by_memory_number, mark_operand, operand_by_sized_register, pointer_constant_operand, plain_pointer, area_pointer, local_path, path_of, steps_from, path_end, condition_word_operand, register_name_operand, sign_operand}
 use Rattle.stl_print.specs.Literals.{literal_pieces}
 use Rattle.stl_print.specs.Names.{block_name_pieces}
 use Rattle.stl_print.specs.Operands.{numbered_pieces, address_pieces, bit_pieces, direct_pieces, register_operand_pieces as register_pieces, operand_pieces, path_head_pieces, pointer_pieces, pointer_byte_pieces}
@@ -114,7 +114,7 @@ read_number n h = number_read 65535 n h (omega arith)
 
 pub literal_read : (source : List ℕ) (from line : ℕ) (g : _) (l : Literal) → IsPrintedLiteral l → Texts source from line (literal_pieces g l)
     → literal_of source (tokens_of from line (literal_pieces g l)) ≡ Some l
-unfolding literal_pieces truth_word literal_of literal_at literal_token truth_of long_literal signed_number_at is_mark is_key has_kind key_text mark_text number_of number_up_to
+unfolding literal_pieces truth_word literal_of literal_at literal_token truth_of long_literal signed_number_at is_mark is_key has_kind key_text mark_text number_of_token number_up_to
 literal_read source from line g (literal.Truth true) h (_, x1, _) = rw x1 refl
 literal_read source from line g (literal.Truth false) h (_, x1, _) = rw x1 refl
 literal_read source from line g (literal.Number (pos n)) h (_, x1, _) = rw (x1, read_number n h) refl
@@ -154,7 +154,7 @@ constant_read source from line g (literal.Bytes v) h t = absurd h
 wide_read : (source : List ℕ) (from line : ℕ) (g : _) (area : Letters) (w : Width) (byte : ℕ) → IsArea area w → byte ≤ 65535
     → place_bit source w [] ≡ Some 0 → Texts source from line (numbered_pieces g (letters_of_address area w) byte)
     → operand_of source (tokens_of from line (numbered_pieces g (letters_of_address area w) byte)) ≡ Some (operand.Direct None area w byte 0)
-unfolding operand_of literal_of literal_at literal_token truth_of long_literal signed_number_at is_mark is_key has_kind key_text mark_text operand_by_kind word_operand lone_word_operand operand_with_number address_at letters_and_number_at separate_letters_and_number number_of number_up_to direct_address_operand area_operand
+unfolding operand_of literal_of literal_at literal_token truth_of long_literal signed_number_at is_mark is_key has_kind key_text mark_text operand_by_kind word_operand lone_word_operand operand_with_number address_at letters_and_number_at separate_letters_and_number number_of_token number_up_to direct_address_operand area_operand
 wide_read source from line g area w byte is h place (_, x1, (_, x2, _)) =
     let l : AreLetters (letters_of_address area w) (address.Area area w) = letters_found area w is in
     rw (x1, x2, l.no_true, l.no_false, no_glue l, l.table, read_number byte h, place) refl
@@ -162,7 +162,7 @@ wide_read source from line g area w byte is h place (_, x1, (_, x2, _)) =
 bit_read : (source : List ℕ) (from line : ℕ) (g : _) (area : Letters) (byte bit : ℕ) → IsArea area width.Bit → byte ≤ 65535 → bit ≤ 7
     → Texts source from line (address_pieces g area width.Bit byte bit)
     → operand_of source (tokens_of from line (address_pieces g area width.Bit byte bit)) ≡ Some (operand.Direct None area width.Bit byte bit)
-unfolding operand_of literal_of literal_at literal_token truth_of long_literal signed_number_at is_mark is_key has_kind key_text mark_text operand_by_kind word_operand lone_word_operand operand_with_number address_at letters_and_number_at separate_letters_and_number number_of number_up_to direct_address_operand area_operand place_bit bit_of bit_pieces
+unfolding operand_of literal_of literal_at literal_token truth_of long_literal signed_number_at is_mark is_key has_kind key_text mark_text operand_by_kind word_operand lone_word_operand operand_with_number address_at letters_and_number_at separate_letters_and_number number_of_token number_up_to direct_address_operand area_operand place_bit bit_of bit_pieces
 bit_read source from line g area byte bit is h small (_, x1, (_, x2, (_, x3, (_, x4, _)))) =
     let l : AreLetters (letters_of_address area width.Bit) (address.Area area width.Bit) = letters_found area width.Bit is in
     rw (x1, x2, l.no_true, l.no_false, no_glue l, l.table, read_number byte h, x3, x4, read_number bit (omega arith), at_most bit 7 small) refl
@@ -177,7 +177,7 @@ db n = block.Number (record { kind = kinds.Db; number = n })
 in_block_read : (source : List ℕ) (from line : ℕ) (g : _) (n : ℕ) (w : Width) (byte bit : ℕ) → n ≤ 65535 → byte ≤ 65535 → IsBitOf w bit
     → Texts source from line (direct_pieces g (Some (db n)) letters.Db w byte bit)
     → operand_of source (tokens_of from line (direct_pieces g (Some (db n)) letters.Db w byte bit)) ≡ Some (operand.Direct (Some (db n)) letters.Db w byte bit)
-unfolding operand_of literal_of literal_at literal_token truth_of long_literal signed_number_at is_mark is_key has_kind key_text mark_text operand_by_kind word_operand lone_word_operand operand_with_number address_at letters_and_number_at separate_letters_and_number number_of number_up_to glued_letters_and_number look_up addresses decimal_up_to area_letters size_letter bit_letter width_letter block_letters direct_address_operand data_block_operand operand_behind_block operand_in_block block_place place_of_data_address place_bit bit_of direct_pieces block_name_pieces bit_pieces
+unfolding operand_of literal_of literal_at literal_token truth_of long_literal signed_number_at is_mark is_key has_kind key_text mark_text operand_by_kind word_operand lone_word_operand operand_with_number address_at letters_and_number_at separate_letters_and_number number_of_token number_up_to glued_letters_and_number look_up addresses decimal_up_to area_letters size_letter bit_letter width_letter block_letters direct_address_operand data_block_operand operand_behind_block operand_in_block block_place place_of_data_address place_bit bit_of direct_pieces block_name_pieces bit_pieces
 in_block_read source from line g n width.Bit byte bit h k small (_, x1, (_, x2, (_, x3, (_, x4, (_, x5, (_, x6, (_, x7, _))))))) =
     rw (x1, x2, read_number n h, x3, x4, x5, read_number byte k, x6, x7, read_number bit (omega arith), at_most bit 7 small) refl
 in_block_read source from line g n width.Byte byte bit h k zeroed (_, x1, (_, x2, (_, x3, (_, x4, (_, x5, _))))) =
@@ -212,17 +212,17 @@ direct_read source from line g (Some (block.Quoted name)) area w byte bit h t = 
 
 pub timer_read : (source : List ℕ) (from line : ℕ) (g : _) (n : ℕ) → n ≤ 65535 → Texts source from line (numbered_pieces g (codes "T") n)
     → operand_of source (tokens_of from line (numbered_pieces g (codes "T") n)) ≡ Some (operand.Timer n)
-unfolding operand_of literal_of literal_at literal_token truth_of long_literal signed_number_at is_mark is_key has_kind key_text mark_text operand_by_kind word_operand lone_word_operand operand_with_number address_at letters_and_number_at separate_letters_and_number number_of number_up_to glued_letters_and_number look_up addresses decimal_up_to area_letters size_letter bit_letter width_letter block_letters direct_address_operand
+unfolding operand_of literal_of literal_at literal_token truth_of long_literal signed_number_at is_mark is_key has_kind key_text mark_text operand_by_kind word_operand lone_word_operand operand_with_number address_at letters_and_number_at separate_letters_and_number number_of_token number_up_to glued_letters_and_number look_up addresses decimal_up_to area_letters size_letter bit_letter width_letter block_letters direct_address_operand
 timer_read source from line g n h (_, x1, (_, x2, _)) = rw (x1, x2, read_number n h) refl
 
 pub counter_read : (source : List ℕ) (from line : ℕ) (g : _) (n : ℕ) → n ≤ 65535 → Texts source from line (numbered_pieces g (codes "C") n)
     → operand_of source (tokens_of from line (numbered_pieces g (codes "C") n)) ≡ Some (operand.Counter n)
-unfolding operand_of literal_of literal_at literal_token truth_of long_literal signed_number_at is_mark is_key has_kind key_text mark_text operand_by_kind word_operand lone_word_operand operand_with_number address_at letters_and_number_at separate_letters_and_number number_of number_up_to glued_letters_and_number look_up addresses decimal_up_to area_letters size_letter bit_letter width_letter block_letters direct_address_operand
+unfolding operand_of literal_of literal_at literal_token truth_of long_literal signed_number_at is_mark is_key has_kind key_text mark_text operand_by_kind word_operand lone_word_operand operand_with_number address_at letters_and_number_at separate_letters_and_number number_of_token number_up_to glued_letters_and_number look_up addresses decimal_up_to area_letters size_letter bit_letter width_letter block_letters direct_address_operand
 counter_read source from line g n h (_, x1, (_, x2, _)) = rw (x1, x2, read_number n h) refl
 
 pub local_read : (source : List ℕ) (from line : ℕ) (g : _) (name : List ℕ) → Texts source from line (operand_pieces g (operand.Named (head.Local name) []))
     → operand_of source (tokens_of from line (operand_pieces g (operand.Named (head.Local name) []))) ≡ Some (operand.Named (head.Local name) [])
-unfolding operand_of literal_of literal_at literal_token truth_of long_literal signed_number_at is_mark is_key has_kind key_text mark_text operand_by_kind word_operand lone_word_operand operand_with_number address_at letters_and_number_at separate_letters_and_number number_of number_up_to operand_pieces path_head_pieces local_path path_of steps_from parts_from path_end
+unfolding operand_of literal_of literal_at literal_token truth_of long_literal signed_number_at is_mark is_key has_kind key_text mark_text operand_by_kind word_operand lone_word_operand operand_with_number address_at letters_and_number_at separate_letters_and_number number_of_token number_up_to operand_pieces path_head_pieces local_path path_of steps_from parts_from path_end
 local_read source from line g name (_, x1, _) = rw x1 refl
 
 -- ---- pointers
@@ -251,7 +251,7 @@ pub memory_read : (source : List ℕ) (from line : ℕ) (g : _) (area : Letters)
     → IsArea area w → holds_pointer place ≡ true → byte ≤ 65535
     → Texts source from line (operand_pieces g (operand.ByMemory area w place byte))
     → operand_of source (tokens_of from line (operand_pieces g (operand.ByMemory area w place byte))) ≡ Some (operand.ByMemory area w place byte)
-unfolding operand_of literal_of literal_at literal_token truth_of long_literal signed_number_at is_mark is_key has_kind key_text mark_text operand_by_kind word_operand lone_word_operand operand_with_number address_at letters_and_number_at separate_letters_and_number number_of number_up_to operand_pieces operand_with_pointer indirect_operand operand_by_pointer memory_pointer pointer_end pointer_close
+unfolding operand_of literal_of literal_at literal_token truth_of long_literal signed_number_at is_mark is_key has_kind key_text mark_text operand_by_kind word_operand lone_word_operand operand_with_number address_at letters_and_number_at separate_letters_and_number number_of_token number_up_to operand_pieces operand_with_pointer indirect_operand operand_by_pointer memory_pointer pointer_end pointer_close
 memory_read source from line g area w place byte is holds h (_, x1, (_, x2, (_, x3, (_, x4, (_, x5, _))))) =
     let l : AreLetters (letters_of_address area w) (address.Area area w) = letters_found area w is in
     let k : AreLetters (letters_of_address place width.Dword) (address.Area place width.Dword) = letters_found place width.Dword (wide_area place) in
@@ -274,7 +274,7 @@ counted_found numbered_kind.Di = record { table = refl; whole = refl; no_true = 
 pub number_by_read : (source : List ℕ) (from line : ℕ) (g : _) (what : Numbered) (place : Letters) (byte : ℕ) → holds_pointer place ≡ true → byte ≤ 65535
     → Texts source from line (operand_pieces g (operand.NumberBy what place byte))
     → operand_of source (tokens_of from line (operand_pieces g (operand.NumberBy what place byte))) ≡ Some (operand.NumberBy what place byte)
-unfolding operand_of literal_of literal_at literal_token truth_of long_literal signed_number_at is_mark is_key has_kind key_text mark_text operand_by_kind word_operand lone_word_operand operand_with_number address_at letters_and_number_at separate_letters_and_number number_of number_up_to address_by operand_pieces operand_with_pointer indirect_operand operand_by_pointer memory_pointer pointer_end pointer_close operand_by_memory_number operand_by_register register_pointer register_of offset_of bit_of
+unfolding operand_of literal_of literal_at literal_token truth_of long_literal signed_number_at is_mark is_key has_kind key_text mark_text operand_by_kind word_operand lone_word_operand operand_with_number address_at letters_and_number_at separate_letters_and_number number_of_token number_up_to address_by operand_pieces operand_with_pointer indirect_operand operand_by_pointer memory_pointer pointer_end pointer_close operand_by_memory_number operand_by_register register_pointer register_number offset_of bit_of
 number_by_read source from line g numbered_kind.Timer place byte holds h (_, x1, (_, x2, (_, x3, (_, x4, (_, x5, _))))) =
     let l : AreLetters (numbered_letters numbered_kind.Timer) (address_by numbered_kind.Timer) = counted_found numbered_kind.Timer in
     let k : AreLetters (letters_of_address place width.Word) (address.Area place width.Word) = letters_found place width.Word (word_area place) in
@@ -339,7 +339,7 @@ letter_unknown width.Dword = refl
 first_register_read : (source : List ℕ) (from line : ℕ) (g : _) (area : Option Letters) (w : Width) (bits : ℕ)
     → IsAreaOf area w → bits < 8 * 65536 → Texts source from line (register_pieces g area w 1 bits)
     → operand_of source (tokens_of from line (register_pieces g area w 1 bits)) ≡ Some (operand.ByRegister area w 1 bits)
-unfolding operand_of literal_of literal_at literal_token truth_of long_literal signed_number_at is_mark is_key has_kind key_text mark_text operand_by_kind word_operand lone_word_operand operand_with_number address_at letters_and_number_at separate_letters_and_number number_of number_up_to register_pieces width_letter operand_with_pointer indirect_operand operand_by_pointer memory_pointer pointer_end pointer_close operand_by_memory_number operand_by_register register_pointer register_of offset_of bit_of mark_operand sized_by_register
+unfolding operand_of literal_of literal_at literal_token truth_of long_literal signed_number_at is_mark is_key has_kind key_text mark_text operand_by_kind word_operand lone_word_operand operand_with_number address_at letters_and_number_at separate_letters_and_number number_of_token number_up_to register_pieces width_letter operand_with_pointer indirect_operand operand_by_pointer memory_pointer pointer_end pointer_close operand_by_memory_number operand_by_register register_pointer register_number offset_of bit_of mark_operand operand_by_sized_register
 first_register_read source from line g (Some area) w bits is h (_, x1, (_, x2, (_, x3, (_, x4, (_, x5, (_, x6, (_, x7, (_, x8, (_, x9, _))))))))) =
     let l : AreLetters (letters_of_address area w) (address.Area area w) = letters_found area w is in
     rw (x1, l.no_true, l.no_false, no_glue l, l.table, x2, x3 ∙ first_text, no_register, no_word, x4, x9, x5, x6, read_number (bits / 8) (omega (arith, h)), x7, x8, read_number (bits % 8) (omega arith), at_most (bits % 8) 7 (omega arith), eighths bits) refl
@@ -355,7 +355,7 @@ first_register_read source from line g None width.Dword bits is h (_, x1, (_, x2
 second_register_read : (source : List ℕ) (from line : ℕ) (g : _) (area : Option Letters) (w : Width) (bits : ℕ)
     → IsAreaOf area w → bits < 8 * 65536 → Texts source from line (register_pieces g area w 2 bits)
     → operand_of source (tokens_of from line (register_pieces g area w 2 bits)) ≡ Some (operand.ByRegister area w 2 bits)
-unfolding operand_of literal_of literal_at literal_token truth_of long_literal signed_number_at is_mark is_key has_kind key_text mark_text operand_by_kind word_operand lone_word_operand operand_with_number address_at letters_and_number_at separate_letters_and_number number_of number_up_to register_pieces width_letter operand_with_pointer indirect_operand operand_by_pointer memory_pointer pointer_end pointer_close operand_by_memory_number operand_by_register register_pointer register_of offset_of bit_of mark_operand sized_by_register
+unfolding operand_of literal_of literal_at literal_token truth_of long_literal signed_number_at is_mark is_key has_kind key_text mark_text operand_by_kind word_operand lone_word_operand operand_with_number address_at letters_and_number_at separate_letters_and_number number_of_token number_up_to register_pieces width_letter operand_with_pointer indirect_operand operand_by_pointer memory_pointer pointer_end pointer_close operand_by_memory_number operand_by_register register_pointer register_number offset_of bit_of mark_operand operand_by_sized_register
 second_register_read source from line g (Some area) w bits is h (_, x1, (_, x2, (_, x3, (_, x4, (_, x5, (_, x6, (_, x7, (_, x8, (_, x9, _))))))))) =
     let l : AreLetters (letters_of_address area w) (address.Area area w) = letters_found area w is in
     rw (x1, l.no_true, l.no_false, no_glue l, l.table, x2, x3 ∙ second_text, no_second, no_second_word, x4, x9, x5, x6, read_number (bits / 8) (omega (arith, h)), x7, x8, read_number (bits % 8) (omega arith), at_most (bits % 8) 7 (omega arith), eighths bits) refl
@@ -384,7 +384,7 @@ register_read source from line g area w register bits is (inr e) h t =
 pub pointer_read : (source : List ℕ) (from line : ℕ) (g : _) (area : Option Letters) (byte bit : ℕ) → IsAreaOf area width.Bit → byte ≤ 65535 → bit ≤ 7
     → Texts source from line (pointer_pieces g area byte bit)
     → operand_of source (tokens_of from line (pointer_pieces g area byte bit)) ≡ Some (operand.Pointer area byte bit)
-unfolding operand_of literal_of literal_at literal_token truth_of long_literal signed_number_at is_mark is_key has_kind key_text mark_text operand_by_kind word_operand lone_word_operand operand_with_number address_at letters_and_number_at separate_letters_and_number number_of number_up_to pointer_byte_pieces mark_operand pointer_constant_operand plain_pointer area_pointer bit_of
+unfolding operand_of literal_of literal_at literal_token truth_of long_literal signed_number_at is_mark is_key has_kind key_text mark_text operand_by_kind word_operand lone_word_operand operand_with_number address_at letters_and_number_at separate_letters_and_number number_of_token number_up_to pointer_byte_pieces mark_operand pointer_constant_operand plain_pointer area_pointer bit_of
 pointer_read source from line g None byte bit is h small (_, x1, (_, x2, (_, x3, (_, x4, _)))) =
     rw (x1, x2, read_number byte h, x3, x4, read_number bit (omega arith), at_most bit 7 small) refl
 pointer_read source from line g (Some area) byte bit is h small (_, x1, (_, x2, (_, x3, (_, x4, (_, x5, _))))) =
@@ -395,7 +395,7 @@ pointer_read source from line g (Some area) byte bit is h small (_, x1, (_, x2, 
 
 pub status_read : (source : List ℕ) (from line : ℕ) (g : _) (f : Flag) → Texts source from line (operand_pieces g (operand.OfStatus f))
     → operand_of source (tokens_of from line (operand_pieces g (operand.OfStatus f))) ≡ Some (operand.OfStatus f)
-unfolding operand_of literal_of literal_at literal_token truth_of long_literal signed_number_at is_mark is_key has_kind key_text mark_text operand_by_kind word_operand lone_word_operand operand_with_number address_at letters_and_number_at separate_letters_and_number number_of number_up_to operand_pieces flag_kind flag_text look_up flags sign_operand condition_of
+unfolding operand_of literal_of literal_at literal_token truth_of long_literal signed_number_at is_mark is_key has_kind key_text mark_text operand_by_kind word_operand lone_word_operand operand_with_number address_at letters_and_number_at separate_letters_and_number number_of_token number_up_to operand_pieces flag_kind flag_text look_up flags sign_operand condition_word_operand
 status_read source from line g flag.Br (_, x1, _) = rw x1 refl
 status_read source from line g flag.Ov (_, x1, _) = rw x1 refl
 status_read source from line g flag.Os (_, x1, _) = rw x1 refl
@@ -409,7 +409,7 @@ status_read source from line g flag.Uo (_, x1, _) = rw x1 refl
 
 pub other_read : (source : List ℕ) (from line : ℕ) (g : _) (name : List ℕ) → IsRegister name → Texts source from line (operand_pieces g (operand.Other name))
     → operand_of source (tokens_of from line (operand_pieces g (operand.Other name))) ≡ Some (operand.Other name)
-unfolding operand_of literal_of literal_at literal_token truth_of long_literal signed_number_at is_mark is_key has_kind key_text mark_text operand_by_kind word_operand lone_word_operand operand_with_number address_at letters_and_number_at separate_letters_and_number number_of number_up_to operand_pieces condition_of register_name_operand
+unfolding operand_of literal_of literal_at literal_token truth_of long_literal signed_number_at is_mark is_key has_kind key_text mark_text operand_by_kind word_operand lone_word_operand operand_with_number address_at letters_and_number_at separate_letters_and_number number_of_token number_up_to operand_pieces condition_word_operand register_name_operand
 other_read source from line g name h (_, x1, _) = rw (x1, h.no_true, h.no_false, h.no_flag, h.found) refl
 
 -- ---- all of them

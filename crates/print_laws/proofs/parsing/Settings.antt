@@ -20,7 +20,7 @@ use Rattle.stl_ast.specs.declared.mnemonics.Mnemonic.{Mnemonic}
 use Rattle.stl_parser.specs.Addresses.{block_at, block_number_at, letters_and_number_at, quoted_block_at}
 use Rattle.stl_parser.specs.Clauses.{clause_at, clause_by_kind, declaration_clause, first_step, inside_clause, other_clause, plain_clause, semicolon_clause, setting_clause, setting_of, statement_clause, structure_clause, until_semicolon, value_behind}
 use Rattle.stl_parser.specs.Literals.{literal_at, literal_of, literal_token, long_literal}
-use Rattle.stl_parser.specs.Numbers.{int_at, number_of, number_up_to, signed_number_at}
+use Rattle.stl_parser.specs.Numbers.{int_at, number_of_token, number_up_to, signed_number_at}
 use Rattle.stl_parser.specs.Operands.{operand_by_register, index_end, mark_operand, operand_by_kind, operand_of, path_end, register_pointer, step_at, steps_from}
 use Rattle.stl_parser.specs.Parts.{parts_from}
 use Rattle.stl_parser.specs.Statements.{after_paren, behind_word, block_call_of, call_of, one_token_instruction, instruction_of, jump_of, open_of, opening_instruction, statement_of, unlabelled_statement, statement_with_operand, zone_end_of}
@@ -247,7 +247,7 @@ pub name_read : (source : List ℕ) (from line : ℕ) (g : Gap) (name : List ℕ
     → Texts source from line (inside g (step.Named name ∷ []) value ++ semicolon ∷ [])
     → clause_at source place.Settings (tokens_of from line (inside g (step.Named name ∷ []) value ++ semicolon ∷ []) ++ rest)
     ≡ Some (clause.Sets (setting_at_line (line + sum_by newlines_of (gap_text g)) (step.Named name ∷ []) value), rest, false)
-unfolding inside first_step_pieces step_pieces is_mark has_kind mark_text steps_from parts_from path_end step_at index_end int_at signed_number_at number_of number_up_to
+unfolding inside first_step_pieces step_pieces is_mark has_kind mark_text steps_from parts_from path_end step_at index_end int_at signed_number_at number_of_token number_up_to
 name_read source from line g name value rest is h t =
     let front = shown_front source from line (inside g (step.Named name ∷ []) value) (semicolon ∷ []) t in
     let F : ℕ = from + length (gap_text g) + length name in
@@ -270,7 +270,7 @@ pub index_read : (source : List ℕ) (from line : ℕ) (g : Gap) (name : List �
     → Texts source from line (inside g (step.Named name ∷ step.Index (pos n) ∷ []) value ++ semicolon ∷ [])
     → clause_at source place.Settings (tokens_of from line (inside g (step.Named name ∷ step.Index (pos n) ∷ []) value ++ semicolon ∷ []) ++ rest)
     ≡ Some (clause.Sets (setting_at_line (line + sum_by newlines_of (gap_text g)) (step.Named name ∷ step.Index (pos n) ∷ []) value), rest, false)
-unfolding inside first_step_pieces step_pieces is_mark has_kind mark_text steps_from parts_from path_end step_at index_end int_at signed_number_at number_of number_up_to
+unfolding inside first_step_pieces step_pieces is_mark has_kind mark_text steps_from parts_from path_end step_at index_end int_at signed_number_at number_of_token number_up_to
 index_read source from line g name n value rest is m h t =
     let front = shown_front source from line (inside g (step.Named name ∷ step.Index (pos n) ∷ []) value) (semicolon ∷ []) t in
     let F : ℕ = from + length (gap_text g) + length name in
@@ -293,7 +293,7 @@ pub below_read : (source : List ℕ) (from line : ℕ) (g : Gap) (name : List �
     → Texts source from line (inside g (step.Named name ∷ step.Index (negsuc n) ∷ []) value ++ semicolon ∷ [])
     → clause_at source place.Settings (tokens_of from line (inside g (step.Named name ∷ step.Index (negsuc n) ∷ []) value ++ semicolon ∷ []) ++ rest)
     ≡ Some (clause.Sets (setting_at_line (line + sum_by newlines_of (gap_text g)) (step.Named name ∷ step.Index (negsuc n) ∷ []) value), rest, false)
-unfolding inside first_step_pieces step_pieces is_mark has_kind mark_text steps_from parts_from path_end step_at index_end int_at signed_number_at number_of number_up_to
+unfolding inside first_step_pieces step_pieces is_mark has_kind mark_text steps_from parts_from path_end step_at index_end int_at signed_number_at number_of_token number_up_to
 below_read source from line g name n value rest is m h t =
     let front = shown_front source from line (inside g (step.Named name ∷ step.Index (negsuc n) ∷ []) value) (semicolon ∷ []) t in
     let F : ℕ = from + length (gap_text g) + length name in

@@ -16,7 +16,7 @@ use Rattle.stl_ast.specs.declared.declarations.Simple.TheVariants as simple
 use Rattle.stl_ast.specs.declared.literals.Literal.{Literal}
 use Rattle.stl_ast.specs.declared.literals.Literal.TheVariants as literal
 use Rattle.stl_parser.specs.Literals.{literal_at, literal_token}
-use Rattle.stl_parser.specs.Numbers.{int_at, number_of, number_up_to, signed_number_at}
+use Rattle.stl_parser.specs.Numbers.{int_at, number_of_token, number_up_to, signed_number_at}
 use Rattle.stl_parser.specs.Parts.{parts_from, complete_reading}
 use Rattle.stl_parser.specs.Statements.{after_paren}
 use Rattle.stl_parser.specs.Tables.{look_up, simple_types}
@@ -60,7 +60,7 @@ type_found simple.Time = record { found = refl; no_array = refl; no_struct = ref
 bounds_read : (source : List ℕ) (from line : ℕ) (low high : ℤ) (rest : List Token) → IsDecimal low → IsDecimal high
     → Texts source from line (array_pieces (record { low = low; high = high }))
     → array_at source (tokens_of from line (array_pieces (record { low = low; high = high })) ++ rest) ≡ Some (record { low = low; high = high }, rest)
-unfolding array_pieces array_at array_high array_end int_at signed_number_at number_of number_up_to is_key key_text is_mark has_kind mark_text
+unfolding array_pieces array_at array_high array_end int_at signed_number_at number_of_token number_up_to is_key key_text is_mark has_kind mark_text
 bounds_read source from line (pos m) (pos n) rest l h (_, x1, (_, x2, (_, x3, (_, x4, (_, x5, (_, x6, (_, x7, _))))))) =
     rw (x1, x2, x3, read_number m l, x4, x5, read_number n h, x6, x7) refl
 bounds_read source from line (pos m) (negsuc n) rest l h (_, x1, (_, x2, (_, x3, (_, x4, (_, x5, (_, x6, (_, x7, (_, x8, _)))))))) =
@@ -105,7 +105,7 @@ no_count_read source t (u ∷ us) h = by (is_mark source u mark.OpenParen) us _ 
 count_read : (source : List ℕ) (from line : ℕ) (g : Gap) (n v : ℕ) (rest : List Token) → n ≤ 65535 → v ≤ 255
     → Texts source from line (value_pieces g (Some n) (literal.Byte v))
     → init_at source (tokens_of from line (value_pieces g (Some n) (literal.Byte v)) ++ rest) ≡ Some (record { count = Some n; value = literal.Byte v }, rest)
-unfolding init_at counted_init_at counted_init_end number_of number_up_to literal_pieces literal_at literal_token is_mark has_kind mark_text
+unfolding init_at counted_init_at counted_init_end number_of_token number_up_to literal_pieces literal_at literal_token is_mark has_kind mark_text
 count_read source from line g n v rest c h (_, x1, (_, x2, (_, x3, (_, x4, _)))) = rw (x2, x1, read_number n c, x3, byte_value v h, x4) refl
 
 value_read : (source : List ℕ) (from line : ℕ) (g : Gap) (count : Option ℕ) (value : Literal) (rest : List Token) → IsCountOf count → IsByteLiteral value

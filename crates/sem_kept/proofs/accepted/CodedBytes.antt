@@ -34,7 +34,7 @@ use Rattle.stl_parser.specs.declared.tables.OperandSyntax.{OperandSyntax}
 use Rattle.stl_parser.specs.declared.clauses.Clause.{Clause}
 use Rattle.stl_parser.specs.declared.clauses.Clause.TheVariants as clause
 use Rattle.stl_parser.specs.declared.places.ClausePlace.{ClausePlace}
-use Rattle.stl_parser.proofs.OptionLemmas.{all_push, either, mapped, parts_hold, some_holds, whole_holds, weakened}
+use Rattle.stl_parser.proofs.OptionLemmas.{all_push, either, map_holds, parts_hold, some_holds, whole_holds, weaker_holds}
 use Rattle.stl_ast.specs.declared.blocks.Block.{Block}
 use Rattle.stl_ast.specs.declared.blocks.Tree.{Tree}
 use Rattle.stl_ast.specs.declared.declarations.ElementType.TheVariants as element
@@ -70,7 +70,7 @@ all_listed : {X : Type 0} (P : X → Type 0) (end : List Token → Option (List 
 all_listed P end part read n tokens each h =
     whole_holds (parts_from end part read n tokens) (AllByRecursion P)
     (parts_hold end part read n tokens (λ xs ts. AllByRecursion P xs) (AllByRecursion P) h
-    (λ xs ts all. weakened (part ts) (λ r. P r.0) (λ r. AllByRecursion P (xs ++ r.0 ∷ [])) (each ts)
+    (λ xs ts all. weaker_holds (part ts) (λ r. P r.0) (λ r. AllByRecursion P (xs ++ r.0 ∷ [])) (each ts)
     (λ r one. all_push P xs r.0 all one))
     (λ xs ts all. all))
 
@@ -125,7 +125,7 @@ module _ (source : List ℕ) (bytes : AreBytes source) where
   literal_at_has [] = tt
   literal_at_has (t ∷ rest) =
       either (option_map (λ l. (l, rest)) (literals.literal_token source t t.kind)) _ (λ r. HasBytes r.0)
-      (mapped (literals.literal_token source t t.kind) _ HasBytes (λ r. HasBytes r.0) (token_bytes t t.kind) (λ l k. k))
+      (map_holds (literals.literal_token source t t.kind) _ HasBytes (λ r. HasBytes r.0) (token_bytes t t.kind) (λ l k. k))
       (long_bytes t rest)
 
   literal_has : (tokens : List Token) → IfSome (literals.literal_of source tokens) HasBytes
@@ -162,16 +162,16 @@ module _ (source : List ℕ) (bytes : AreBytes source) where
   pointer_has tokens = grind arith
 
   alone_has : (t : Token) (rest : List Token) → Has (reads.lone_word_operand source t rest)
-  unfolding reads.lone_word_operand reads.condition_of reads.register_name_operand
+  unfolding reads.lone_word_operand reads.condition_word_operand reads.register_name_operand
   alone_has t rest = grind arith
 
   word_has : (t : Token) (rest tokens : List Token) → Has (reads.word_operand source t rest tokens)
-  unfolding reads.word_operand reads.operand_with_number reads.operand_with_pointer reads.sized_by_register reads.plain_path
+  unfolding reads.word_operand reads.operand_with_number reads.operand_with_pointer reads.operand_by_sized_register reads.plain_path
   word_has t rest tokens = grind (arith, alone_has, direct_has, indirect_has, register_has, path_has)
 
   kind_has : (t : Token) (rest tokens : List Token) (k : TokenKind)
       → Has (reads.operand_by_kind source t rest tokens k)
-  unfolding reads.operand_by_kind reads.quoted_operand reads.local_path reads.mark_operand reads.sign_operand reads.condition_of
+  unfolding reads.operand_by_kind reads.quoted_operand reads.local_path reads.mark_operand reads.sign_operand reads.condition_word_operand
   kind_has t rest tokens k = grind (arith, word_has, behind_block_has, path_has, pointer_has, register_has)
 
   operand_has : (tokens : List Token) → Has (reads.operand_of source tokens)
@@ -216,12 +216,12 @@ module _ (source : List ℕ) (bytes : AreBytes source) where
   labelled_has : (line : ℕ) (w : Token) (tokens : List Token) → IfSome (states.labelled_statement source line w tokens) (λ r. StatementHasBytes r.0)
   unfolding states.labelled_statement
   labelled_has line w tokens =
-      mapped (states.instruction_of source tokens) _ BareHas (λ r. StatementHasBytes r.0) (instruction_has tokens) (λ i k. search)
+      map_holds (states.instruction_of source tokens) _ BareHas (λ r. StatementHasBytes r.0) (instruction_has tokens) (λ i k. search)
 
   unlabelled_has : (line : ℕ) (tokens : List Token) → IfSome (states.unlabelled_statement source line tokens) (λ r. StatementHasBytes r.0)
   unfolding states.unlabelled_statement
   unlabelled_has line tokens =
-      mapped (states.instruction_of source tokens) _ BareHas (λ r. StatementHasBytes r.0) (instruction_has tokens) (λ i k. search)
+      map_holds (states.instruction_of source tokens) _ BareHas (λ r. StatementHasBytes r.0) (instruction_has tokens) (λ i k. search)
 
   statement_has : (line : ℕ) (tokens : List Token) → IfSome (states.statement_of source line tokens) (λ r. StatementHasBytes r.0)
   unfolding states.statement_of

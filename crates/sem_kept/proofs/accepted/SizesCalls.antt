@@ -28,7 +28,7 @@ use Rattle.stl_types.specs.Context.{Context, whole_place}
 use Rattle.stl_types.specs.Parameters.{Callee, callee_by, callee_of, formals_of, is_sound_formal, sound_formals, source_callee, system_formals}
 use Rattle.stl_types.specs.Resolution.{resolution_of}
 use Rattle.stl_types.specs.declared.parameters.Formal.{Formal}
-use Rattle.stl_parser.proofs.OptionLemmas.{both, chained, mapped, none_holds, passed}
+use Rattle.stl_parser.proofs.OptionLemmas.{both, chain_holds, map_holds, none_holds, then_holds}
 use Rattle.stl_codegen.specs.Instruction.{source_block_at, in_parameter_order, passings_to, return_last}
 use Rattle.stl_codegen.specs.PassedParameters.{passed_actual, passed_resolution, passings_from, actual_of_formal, with_index}
 use Rattle.sem_kept.proofs.accepted.Accepted.{IsSoundBlock}
@@ -198,16 +198,16 @@ IsOnceCalled callee = AreNamesOnce callee.formals
 source_once : (c : Context) (id : BlockId) → AllAreOnce c.layouts
     → IfSome (source_callee c id) IsOnceCalled
 source_once c id h =
-    chained (whole_place c id) _ (λ place. Unit {0}) IsOnceCalled (none_holds (whole_place c id))
-    (λ place k. mapped (sound_formals (cells_at c.layouts place false)) _ AreNamesOnce IsOnceCalled
-    (passed (list_all is_sound_formal (cells_at c.layouts place false)) _ AreNamesOnce
+    chain_holds (whole_place c id) _ (λ place. Unit {0}) IsOnceCalled (none_holds (whole_place c id))
+    (λ place k. map_holds (sound_formals (cells_at c.layouts place false)) _ AreNamesOnce IsOnceCalled
+    (then_holds (list_all is_sound_formal (cells_at c.layouts place false)) _ AreNamesOnce
     (λ test. cells_once c.layouts place h)) (λ fs once. once))
 
 callee_once : (c : Context) (id : BlockId) (k : BlockKind) → AllAreOnce c.layouts
     → IfSome (callee_by c id k) IsOnceCalled
 callee_once c id k h =
     both (is_system_function k) _ _ IsOnceCalled
-    (mapped (system_formals id.number) _ AreNamesOnce IsOnceCalled (system_once id.number)
+    (map_holds (system_formals id.number) _ AreNamesOnce IsOnceCalled (system_once id.number)
     (λ fs once. once))
     (both (is_function k) _ _ IsOnceCalled (source_once c id h)
     (both (is_function_block k) _ _ IsOnceCalled (source_once c id h) tt))
@@ -216,7 +216,7 @@ called_once : (c : Context) (o : Operand) → AllAreOnce c.layouts
     → IfSome (callee_of c o) IsOnceCalled
 unfolding callee_of
 called_once c (operand.Called name instance) h =
-    chained (named_block c.symbols name) _ (λ id. Unit {0}) IsOnceCalled
+    chain_holds (named_block c.symbols name) _ (λ id. Unit {0}) IsOnceCalled
     (none_holds (named_block c.symbols name)) (λ id k. callee_once c id id.kind h)
 called_once c _ h = tt
 

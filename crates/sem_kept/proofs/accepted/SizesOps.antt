@@ -26,7 +26,7 @@ use Rattle.flat_code.specs.declared.operations.EndOperation.{EndOperation}
 use Rattle.flat_code.specs.declared.operations.EndOperation.TheVariants as ends
 use Rattle.flat_code.specs.declared.operations.Operation.{Operation}
 use Rattle.flat_code.specs.declared.operations.Operation.TheVariants as operation
-use Rattle.stl_ast.specs.Sizes.{block_size, body_size, code_size, op_size, path_size, return_size, statement_size}
+use Rattle.stl_ast.specs.Sizes.{block_size, body_size, code_size, operand_ops_size, path_size, return_size, statement_size}
 use Rattle.stl_ast.specs.Statements.{is_empty_statement}
 use Rattle.stl_ast.specs.declared.blocks.Block.{Block}
 use Rattle.stl_ast.specs.declared.blocks.PathStep.{PathStep}
@@ -298,7 +298,7 @@ called_fits o (Some id) (Some name) (Some number) = omega arith
 
 -- the op of an operand, and the one that opens its data block
 seen_fits : (c : Context) (o : Operand) → AllByRecursion IsShortSymbol c.symbols
-    → ResolvedOpsFit (op_size o) o (resolution_of c o)
+    → ResolvedOpsFit (operand_ops_size o) o (resolution_of c o)
 unfolding resolution_of flat_operand_of
 seen_fits c (operand.Direct name a w byte bit) h =
     direct_fits c (operand.Direct name a w byte bit) name a w byte bit
@@ -318,7 +318,7 @@ path_some : (path : PathHead) → 7 ≤ path_size path
 path_some (head.Local name) = omega arith
 path_some _ = omega arith
 
-least_op : (o : Operand) → 2 ≤ op_size o
+least_op : (o : Operand) → 2 ≤ operand_ops_size o
 least_op (operand.Named path steps) = omega (arith, path_some path)
 least_op _ = omega arith
 
@@ -344,7 +344,7 @@ opened_wide : (n : ℕ) (di : Bool) (number : Option ℕ) → is_some number ≡
 opened_wide n di None h = absurd cc
 opened_wide n di (Some number) h = tt
 
-operand_wide : (c : Context) (o : Operand) → Opens c o → IsWide (op_size o) (resolution_of c o)
+operand_wide : (c : Context) (o : Operand) → Opens c o → IsWide (operand_ops_size o) (resolution_of c o)
 unfolding resolution_of
 operand_wide c (operand.Direct name a w byte bit) h = any_wide _ _ (omega arith)
 operand_wide c (operand.Named path steps) h = any_wide _ _ (path_some path)
@@ -375,7 +375,7 @@ pub record IsTaken (c : Context) (s : Statement) : Type 0 where
 
 jump_fits : (c : Context) (n : ℕ) (s : Statement) (how : JumpOperation) → IsTaken c s
     → jump_operation_of s.code ≡ Some how → (target : ℕ)
-    → bytes_in (ops_of (jump_instr how n target)) ≤ op_size s.operand
+    → bytes_in (ops_of (jump_instr how n target)) ≤ operand_ops_size s.operand
 jump_fits c n s how is jumps target =
     omega (
       arith,
@@ -383,35 +383,35 @@ jump_fits c n s how is jumps target =
       by (resolution_of c s.operand) refl (operand_wide c s.operand is.opens),
     )
   where
-    by : (x : Resolution) → resolution_of c s.operand ≡ x → IsWide (op_size s.operand) x → 7 ≤ op_size s.operand
+    by : (x : Resolution) → resolution_of c s.operand ≡ x → IsWide (operand_ops_size s.operand) x → 7 ≤ operand_ops_size s.operand
     by (Resolved v) e wide =
-        jump_wide (op_size s.operand) v (rule_there c operand_rules.Jumps s.operand v no_jump_constant
+        jump_wide (operand_ops_size s.operand) v (rule_there c operand_rules.Jumps s.operand v no_jump_constant
         (ap (λ (f : OperandRule). operand_rule c f s.operand) (sym (jump_form s.code how jumps)) ∙ is.allowed) e)
         wide
     by _ e wide = wide
 
 called_view_fits : (c : Context) (s : Statement) (how : CallOperation) (v : ResolvedOperand)
-    → is_operand_of_call v ≡ true → IsWide (op_size s.operand) (Resolved v) → PassesFew c s
-    → bytes_in (ops_of (call_instr c s how v)) ≤ op_size s.operand + 11 * length s.actuals
+    → is_operand_of_call v ≡ true → IsWide (operand_ops_size s.operand) (Resolved v) → PassesFew c s
+    → bytes_in (ops_of (call_instr c s how v)) ≤ operand_ops_size s.operand + 11 * length s.actuals
 called_view_fits c s how (resolved.Called id instance) h wide few =
     omega (arith, calls_sized how id instance (passings_to c s (callee_of c s.operand)), wide, few)
 called_view_fits c s how _ h wide few = absurd cc
 
 end_fits : (c : Context) (s : Statement) (v : ResolvedOperand) (how : Option EndOperation)
     → AllByRecursion IsShortSymbol c.symbols → resolution_of c s.operand ≡ Resolved v
-    → bytes_in (ops_of (end_instr s v how)) ≤ op_size s.operand
+    → bytes_in (ops_of (end_instr s v how)) ≤ operand_ops_size s.operand
 end_fits c s v None fine e =
     omega (
       arith,
       does_sized (block_opened_by_operand v) (operation_for s.code s.operand v) (flat_operand_of s.operand v),
-      view_holds (op_size s.operand) s.operand (resolution_of c s.operand) v e (seen_fits c s.operand fine),
+      view_holds (operand_ops_size s.operand) s.operand (resolution_of c s.operand) v e (seen_fits c s.operand fine),
     )
 end_fits c s v (Some how) fine e = omega (arith, returns_sized how, least_op s.operand)
 
 operand_instr_fits : (c : Context) (s : Statement) (v : ResolvedOperand) (how : Option CallOperation)
     → call_operation_of s.code ≡ how → AllByRecursion IsShortSymbol c.symbols → IsTaken c s
-    → resolution_of c s.operand ≡ Resolved v → IsWide (op_size s.operand) (Resolved v)
-    → bytes_in (ops_of (operand_instr c s v how)) ≤ op_size s.operand + 11 * length s.actuals
+    → resolution_of c s.operand ≡ Resolved v → IsWide (operand_ops_size s.operand) (Resolved v)
+    → bytes_in (ops_of (operand_instr c s v how)) ≤ operand_ops_size s.operand + 11 * length s.actuals
 operand_instr_fits c s v None calls fine is e wide =
     omega (arith, end_fits c s v (end_operation_of s.code) fine e)
 operand_instr_fits c s v (Some how) calls fine is e wide =
@@ -424,9 +424,9 @@ filler_sized = one_sized _
 
 -- an instruction that isn't a jump
 view_fits : (c : Context) (s : Statement) (found : Resolution) → AllByRecursion IsShortSymbol c.symbols
-    → IsTaken c s → resolution_of c s.operand ≡ found → IsWide (op_size s.operand) found
+    → IsTaken c s → resolution_of c s.operand ≡ found → IsWide (operand_ops_size s.operand) found
     → bytes_in (ops_of (resolved_instr c s (operand_if_resolved found)))
-    ≤ op_size s.operand + 11 * length s.actuals
+    ≤ operand_ops_size s.operand + 11 * length s.actuals
 view_fits c s (Resolved v) fine is e wide =
     operand_instr_fits c s v (call_operation_of s.code) refl fine is e wide
 view_fits c s Unknown fine is e wide = omega (arith, wide, filler_sized)
@@ -434,7 +434,7 @@ view_fits c s Unjudged fine is e wide = omega (arith, wide, filler_sized)
 
 instr_fits : (c : Context) (body : List Statement) (n : ℕ) (s : Statement) (how : Option JumpOperation)
     → jump_operation_of s.code ≡ how → AllByRecursion IsShortSymbol c.symbols → IsTaken c s
-    → bytes_in (ops_of (instr_by c body n s how)) ≤ op_size s.operand + 11 * length s.actuals
+    → bytes_in (ops_of (instr_by c body n s how)) ≤ operand_ops_size s.operand + 11 * length s.actuals
 instr_fits c body n s None jumps fine is =
     rw (resolved_is c s is.allowed)
     (view_fits c s (resolution_of c s.operand) fine is refl (operand_wide c s.operand is.opens))
@@ -443,12 +443,12 @@ instr_fits c body n s (Some how) jumps fine is =
 
 statement_fits : (c : Context) (body : List Statement) (n : ℕ) (s : Statement)
     → AllByRecursion IsShortSymbol c.symbols → IsTaken c s
-    → bytes_in (ops_of (instruction c body n s)) ≤ op_size s.operand + 11 * length s.actuals
+    → bytes_in (ops_of (instruction c body n s)) ≤ operand_ops_size s.operand + 11 * length s.actuals
 unfolding instruction
 statement_fits c body n s fine is = instr_fits c body n s (jump_operation_of s.code) refl fine is
 
 code_sized : (m : Mnemonic) (o : Operand) (n : ℕ) → is_empty_statement m ≡ false
-    → code_size m o n ≡ 4 + op_size o + 11 * n
+    → code_size m o n ≡ 4 + operand_ops_size o + 11 * n
 code_sized code.Empty o n h = absurd cc
 code_sized _ o n h = refl
 

@@ -2,7 +2,7 @@ use Rattle.stl_lexer.proofs.FrontLemmas.{quoted_alone, local_alone, characters_a
 use Rattle.stl_lexer.proofs.places.sign_token.Goals as goal
 
 pub returns-then-first-eq34 : goal.returns-then-first-eq34
-returns-then-first-eq34 c = rw c.better.ensures (quoted_alone c.args.text.now c.longest_quoted.result c.requires.word c.requires.number c.if-first-eq34.true c.longest_quoted.ensures)
+returns-then-first-eq34 c = rw c.better.ensures (quoted_alone c.args.text.now c.longest_quoted_name.result c.requires.word c.requires.number c.if-first-eq34.true c.longest_quoted_name.ensures)
 
 pub returns-then-first-eq35 : goal.returns-then-first-eq35
 returns-then-first-eq35 c = rw c.better-then-first-eq35.ensures (local_alone c.args.text.now c.longest_local.result c.requires.word c.requires.number c.if-first-eq35.true c.longest_local.ensures)

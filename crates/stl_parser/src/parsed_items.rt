@@ -3,9 +3,9 @@ use stl_lexer::Token;
 
 /// What was read at the front of the tokens, and what follows it.
 #[derive(Drop)]
-pub(crate) struct Parsed<'a, X>(pub X, pub &'a [Token]);
+pub(crate) struct ParsedItem<'a, X>(pub X, pub &'a [Token]);
 
-impl<'a, X> Model for Parsed<'a, X> {
+impl<'a, X> Model for ParsedItem<'a, X> {
     ghost use Rattle.std.specs.Prelude.{List};
     ghost use Rattle.stl_lexer.specs.declared.kinds.Token.{Token};
 
@@ -16,9 +16,9 @@ impl<'a, X> Model for Parsed<'a, X> {
 
 /// What letters name, the number behind them, and what follows.
 #[derive(Drop)]
-pub(crate) struct ParsedNumbered<'a, X>(pub X, pub u16, pub &'a [Token]);
+pub(crate) struct NumberedItem<'a, X>(pub X, pub u16, pub &'a [Token]);
 
-impl<'a, X> Model for ParsedNumbered<'a, X> {
+impl<'a, X> Model for NumberedItem<'a, X> {
     ghost use Rattle.std.specs.Prelude.{List, ℕ};
     ghost use Rattle.stl_lexer.specs.declared.kinds.Token.{Token};
 

@@ -1,8 +1,8 @@
 use Rattle.std.proofs.Common.{arith}
 use Rattle.std.proofs.lemmas.List.{take_rest}
 use Rattle.stl_lexer.proofs.QuoteLemmas.{enclosed_found, not_closed}
-use Rattle.stl_lexer.proofs.quotes.longest_enclosed.Goals as goal
-use Rattle.stl_lexer.proofs.quotes.longest_enclosed.Goals.{else-inner-rest-via-then-inner-rest+else-rest-inner, else-inner-rest-via-else-inner-rest}
+use Rattle.stl_lexer.proofs.quotes.longest_enclosed_token.Goals as goal
+use Rattle.stl_lexer.proofs.quotes.longest_enclosed_token.Goals.{else-inner-rest-via-then-inner-rest+else-rest-inner, else-inner-rest-via-else-inner-rest}
 
 pub returns-then-rest-inner : goal.returns-then-rest-inner
 returns-then-rest-inner c = enclosed_found c.args.opening c.args.close c.args.one_line c.args.text.now _ c.inner_run-inner.result c.in-len1-up.len_at_least c.if-first-opening.false (take_rest c.args.text.now 1) c.inner_run-inner.ensures.value c.if-inner-rest.true c.if-rest-inner.true
