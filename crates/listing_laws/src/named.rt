@@ -9,7 +9,7 @@ pub fn law_of_named_programs()
     ensures { AreSourcesNamed }
 {}
 
-/// So the text of the listing of each accepted source's program is read as its tree.
+/// The text of the listing of each accepted source's program is read as its tree.
 pub fn law_of_accepted_listings()
     ensures { AreAcceptedRead }
 {

@@ -67,7 +67,7 @@ pub record IsPrintedLabel (name : List ℕ) : Type 0 where
   -- the label has at most four characters
   pub short : length name ≤ 4
 
--- the label of a statement, where it has one
+-- the label of a statement, where it has one, is one of a listing
 abbrev pub IsPrintedLabelOf : Option (List ℕ) → Type 0
 IsPrintedLabelOf None = Unit {0}
 IsPrintedLabelOf (Some name) = IsPrintedLabel name
@@ -119,7 +119,7 @@ abbrev pub IsAreaOf : Option Letters → Width → Type 0
 IsAreaOf None w = Unit {0}
 IsAreaOf (Some area) w = IsArea area w
 
--- the data block before an address, which then is one in it
+-- where a data block stands before an address, it is given by its number, and the address lies in DB
 abbrev pub IsBlockOf : Option BlockName → Letters → Type 0
 IsBlockOf None area = Unit {0}
 IsBlockOf (Some name) area = IsDataBlock name × (area ≡ letters.Db)

@@ -143,7 +143,7 @@ impl Publisher {
         Ok(Note { last })
     }
 
-    /// Ends the board, of which publisher and viewer are. It may wait.
+    /// Ends the board that this publisher and the viewer belong to. It may wait.
     pub fn close<R: Wait>(self, rt: &R, viewer: Viewer)
         requires { viewer.board ≡ self.board }
     {
