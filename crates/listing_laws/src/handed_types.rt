@@ -1,4 +1,4 @@
-ghost use Rattle.listing_laws.specs.HandedOn.{AreLinksHandedOn, ArePassedOn, AreStatementsHandedOn, AreTypesListed};
+ghost use Rattle.listing_laws.specs.HandedTypes.{AreLinksHandedOn, ArePassedOn, AreStatementsHandedOn, AreTypesListed};
 
 /// Where each call of a source passes parameters for parameters of the same type, all links that a
 /// listing finds in its code are of such parameters: so the listing says of their types what the

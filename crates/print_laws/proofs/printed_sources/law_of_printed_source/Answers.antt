@@ -1,6 +1,6 @@
 use Rattle.stl_lexer.specs.Pieces.{tokens_of}
 use Rattle.stl_print.specs.Trees.{pieces_of_tree, printed_text}
-use Rattle.print_laws.proofs.printed.law_of_printed_source.Goals as goal
+use Rattle.print_laws.proofs.printed_sources.law_of_printed_source.Goals as goal
 
 pub returns : goal.returns
 returns c t h =

@@ -1,6 +1,6 @@
 use Rattle.listing_laws.proofs.called.HandedOn.{links_handed_on, types_listed}
 use Rattle.listing_laws.proofs.called.Passed.{passed_on, statements_handed_on}
-use Rattle.listing_laws.proofs.handed_on.law_of_handed_types.Goals as goal
+use Rattle.listing_laws.proofs.handed_types.law_of_handed_types.Goals as goal
 
 pub returns : goal.returns
 returns c = record {
