@@ -3,7 +3,7 @@ use Rattle.std.specs.Prelude.{IfSome}
 use Rattle.var_access.specs.Entry.{IsRequest}
 use Rattle.var_access.specs.declared.requests.Request.TheVariants.{ReadVars}
 use Rattle.event_text.proofs.WatchedVarsLemmas.{VarsOn}
-use Rattle.event_text.proofs.watched_vars.read_vars.Given as goal
+use Rattle.event_text.proofs.watched_vars.read_watched_vars.Given as goal
 
 -- the text comes to what the lines that are left come to, behind those that were read
 abbrev pub invariant-loop-rest : goal.invariant-loop-rest

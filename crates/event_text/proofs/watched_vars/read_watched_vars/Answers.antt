@@ -1,7 +1,7 @@
 use Rattle.std.proofs.Common.{◌∙◌, sym, ap, arith, Err, rules}
 use Rattle.std.proofs.lemmas.Result.{err_from_is_err_and}
 use Rattle.event_text.proofs.WatchedVarsLemmas.{vars-cut, vars-end, vars-next, vars-start}
-use Rattle.event_text.proofs.watched_vars.read_vars.Goals as goal
+use Rattle.event_text.proofs.watched_vars.read_watched_vars.Goals as goal
 
 pub loop-rest-init : goal.loop-rest-init
 loop-rest-init c = record {
