@@ -20,7 +20,8 @@ ghost use Rattle.tracked_lock.specs.Views.{own_number, IsAdded, joined_view, wit
 
 use crate::faults::NoMemory;
 use crate::rule::{
-    BUSY, BothNumbers, COUNT, StoreCount, Key, SeatView, LastNumber, OneList, PassSeat, ReadCount, Release, Take,
+    BUSY, BothNumbers, COUNT, Key, LastNumber, OneList, PassSeat, ReadCount, Release, SeatView,
+    StoreCount, Take,
 };
 use crate::storied::Storied;
 use atomic_table::{Refused, Shared, Table};
@@ -149,7 +150,12 @@ pub fn take_out<V: Storied, R: Wait>(rt: &R, steps: &TableSteps<V>, seat: &mut P
 
 /// Moves the value back into the slot, for the list that was seen or for that list with more
 /// entries of the seat's own number, and gives the turn back.
-pub fn give_back<V: Storied + Drop>(steps: &TableSteps<V>, seat: &mut PassSeat<V>, value: V, len: u64)
+pub fn give_back<V: Storied + Drop>(
+    steps: &TableSteps<V>,
+    seat: &mut PassSeat<V>,
+    value: V,
+    len: u64,
+)
     requires steps { IsLockTable steps.now.table_id × (seat.old.table_id ≡ steps.now.table_id) }
     requires turn { HasTurn seat.old.me × (seat.old.me.1 ≡ (0, None) ∷ []) }
     requires origin { V.origin value ∷ [] ≡ seat.old.me.0.origin }
@@ -165,7 +171,11 @@ pub fn give_back<V: Storied + Drop>(steps: &TableSteps<V>, seat: &mut PassSeat<V
 }
 
 /// Both seats' numbers, and the longer of the two lists that they have seen, in one seat.
-pub fn join_seats<V: Storied>(steps: &TableSteps<V>, seat: &mut PassSeat<V>, other: PassSeat<V>) -> u64
+pub fn join_seats<V: Storied>(
+    steps: &TableSteps<V>,
+    seat: &mut PassSeat<V>,
+    other: PassSeat<V>,
+) -> u64
     requires steps { IsLockTable steps.now.table_id × (seat.old.table_id ≡ steps.now.table_id) }
     requires other { (other.table_id ≡ steps.now.table_id) × (other.me.1 ≡ []) }
     requires views { CanJoin V.maker seat.old.me.0 other.me.0 }
