@@ -24,7 +24,8 @@ pub record NestingMark : Type 0 where
 
 -- the instruction word and the line of a statement; none of an empty one
 abbrev pub nesting_mark_of : Statement → List NestingMark
-nesting_mark_of s = if is_empty_statement s.code then [] else record { code = s.code; line = s.line } ∷ []
+nesting_mark_of s =
+    if is_empty_statement s.code then [] else record { code = s.code; line = s.line } ∷ []
 
 -- the instruction words and the lines of the statements of a body, without the empty ones
 abbrev pub nesting_marks : List Statement → List NestingMark

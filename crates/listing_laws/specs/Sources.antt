@@ -53,8 +53,8 @@ PreparesOnNamed (flat.Pass index p) = PassesNamedPlace p
 PreparesOnNamed _ = Unit {0}
 
 -- the operand of the last op of a statement: a place has a bit number as in a source, and is no bit
--- of the peripherals, and a call is one of a source. `before` are the ops before it, `code` is its op
--- code
+-- of the peripherals, and a call is one of a source. `before` are the ops before it, `code` is its
+-- op code
 abbrev pub ActsOnNamed : (before : List OpData) → (code : ℕ) → Operand → Type 0
 ActsOnNamed before code (flat.Direct a w byte bit) = IsPlace a w bit
 ActsOnNamed before code (flat.Called kind number instance) = IsCallBy before code kind instance

@@ -26,7 +26,6 @@ use Rattle.stl_ast.specs.declared.declarations.Declaration.{Declaration}
 use Rattle.stl_ast.specs.declared.declarations.ElementType.{ElementType}
 use Rattle.stl_ast.specs.declared.declarations.ElementType.TheVariants as element
 use Rattle.stl_ast.specs.declared.declarations.Init.{Init}
-use Rattle.stl_ast.specs.declared.declarations.Simple.{Simple}
 use Rattle.stl_ast.specs.declared.declarations.TypeTree.{TypeTree}
 use Rattle.stl_ast.specs.declared.literals.Literal.{Literal}
 use Rattle.stl_ast.specs.declared.literals.Literal.TheVariants as literal
@@ -119,7 +118,8 @@ abbrev pub IsAreaOf : Option Letters → Width → Type 0
 IsAreaOf None w = Unit {0}
 IsAreaOf (Some area) w = IsArea area w
 
--- where a data block stands before an address, it is given by its number, and the address lies in DB
+-- where a data block stands before an address, it is given by its number, and the address lies in
+-- DB
 abbrev pub IsBlockOf : Option BlockName → Letters → Type 0
 IsBlockOf None area = Unit {0}
 IsBlockOf (Some name) area = IsDataBlock name × (area ≡ letters.Db)

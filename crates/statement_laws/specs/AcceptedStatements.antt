@@ -112,7 +112,9 @@ pub record JumpsToLabel (c : Context) (body : List Statement) (n : ℕ) (s : Sta
       (λ program next a w. jumps_to_target s.code (number_of_label label.name body) next a w)
 
 -- JL has a label of its body, and goes by the jumps behind it up to that label
-pub record GoesByJumpList (c : Context) (body : List Statement) (n : ℕ) (s : Statement) : Type 0 where
+pub record GoesByJumpList
+    (c : Context) (body : List Statement) (n : ℕ) (s : Statement)
+    : Type 0 where
   -- the operand is a label of the body
   pub label : HasLabel body s
   -- the instruction goes on in the list of jumps behind it, or at the label

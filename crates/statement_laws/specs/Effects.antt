@@ -338,7 +338,8 @@ on_counter f n p =
 -- SP, SE, SD, SS or SF: a timer is started by the RLO, with the time in the low word of
 -- accumulator 1
 abbrev pub starts_timer : TimerKind → NamedItem → ExecState → Result ExecState ℕ
-starts_timer how (named.Timer n) p = on_timer (timers.start_timer how (rlo_of p) (low_word_of_accu_1 p)) n p
+starts_timer how (named.Timer n) p =
+    on_timer (timers.start_timer how (rlo_of p) (low_word_of_accu_1 p)) n p
 starts_timer how x p = Err no_operand
 
 -- CU or CD: a counter counts by the RLO
@@ -349,7 +350,8 @@ counts_counter f x p = Err no_operand
 
 -- S of a counter, and of a bit
 abbrev pub sets_operand : NamedItem → ExecState → Result ExecState ℕ
-sets_operand (named.Counter n) p = on_counter (counters.set_counter (rlo_of p) (low_word_of_accu_1 p)) n p
+sets_operand (named.Counter n) p =
+    on_counter (counters.set_counter (rlo_of p) (low_word_of_accu_1 p)) n p
 sets_operand x p = sets_bit true x p
 
 -- R of a timer, of a counter, and of a bit

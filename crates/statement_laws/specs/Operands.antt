@@ -3,7 +3,6 @@
 use Rattle.std.specs.Prelude.{ℕ, zero, suc, ◌+◌, ◌-◌, ◌*◌, nat_eq, Bool, true, false, is_some, List, [], ◌∷◌, length, codes, slice_get, Option, Some, None, if◌then◌else◌}
 use Rattle.std.specs.Option.{option_map, option_and_then}
 use Rattle.plc_base.specs.Folding.{upper_case_name, is_same_name}
-use Rattle.plc_base.specs.Kinds.{is_function}
 use Rattle.plc_base.specs.declared.blocks.BlockId.{BlockId}
 use Rattle.plc_base.specs.declared.places.Area.{Area}
 use Rattle.plc_base.specs.declared.places.Area.TheVariants as area
@@ -31,7 +30,7 @@ use Rattle.block_layout.specs.declared.blocks.Section.TheVariants as section
 use Rattle.block_layout.specs.declared.cells.Cell.{Cell}
 use Rattle.block_layout.specs.declared.members.Member.{Member}
 use Rattle.stl_types.specs.Context.{Context, is_of_function}
-use Rattle.statement_laws.specs.NamedOperands.{NamedItem, ItemNumber, OpenBlockFact}
+use Rattle.statement_laws.specs.NamedOperands.{NamedItem, ItemNumber}
 use Rattle.statement_laws.specs.NamedOperands as named
 
 -- ---- addresses
@@ -205,7 +204,8 @@ named_by c operand.Nothing = Some named.Nothing
 named_by c (operand.Direct None a width byte bit) =
     Some (named_fixed_place (area_by_letters a) width byte bit)
 named_by c (operand.Direct (Some name) a width byte bit) =
-    option_map (λ number. place_by (area_by_letters a) number width byte bit) (number_of_block_name c name)
+    option_map
+    (λ number. place_by (area_by_letters a) number width byte bit) (number_of_block_name c name)
 named_by c (operand.Timer number) = Some (named.Timer (named.Written number))
 named_by c (operand.Counter number) = Some (named.Counter (named.Written number))
 named_by c (operand.ByMemory a width from byte) =
