@@ -15,7 +15,7 @@ use Rattle.var_access.specs.declared.entries.What.{What}
 use Rattle.var_access.specs.declared.entries.What.TheVariants.{Step, Input, Arrive, Tick, Ask}
 use Rattle.var_access.specs.declared.requests.Request.{Request}
 use Rattle.event_text.specs.declared.kinds.TextKind.TheVariants.{History}
-use Rattle.event_text.specs.Lines.{one_entry, step_entries, most_steps, step_count, count_behind, step_line, number_among, input_line, arrival_line, tick_line, operator_with, operator_line, line_with, is_entry_line_skipped, line_read}
+use Rattle.event_text.specs.Lines.{one_entry, step_entries, most_steps, step_count, step_count_behind, step_line, number_among, input_line, arrival_line, tick_line, operator_with, operator_line, line_with, is_entry_line_skipped, line_read}
 use Rattle.event_text.specs.Regular.{IsRegular}
 use Rattle.event_text.specs.Workers.{request_entry, feeder_entry, one_step, operator_of, worker_of}
 use Rattle.event_text.specs.HistoryText.{arrival_text, request_text, what_text}
@@ -130,8 +130,8 @@ unfolding step_line
 steps-line names before n least most =
     let le : nat_le (before + n) most_steps ≡ true = grind (arith, nat_tests) in
     by-word names before (codes "step") (32 ∷ decimal n) (word-of (codes "step") (omega arith) (refl, (refl, (refl, (refl, tt))))) refl (entry-line-taken 115 (codes "tep" ++ (32 ∷ decimal n)) refl)
-    ∙ ap (λ ws. reading_map step_entries (count_behind before (step_count ws))) (words-one (decimal n) (number-word n (omega arith)))
-    ∙ ap (λ r. reading_map step_entries (count_behind before r)) (number_read 1 1000000 2 n (omega arith) least (omega arith))
+    ∙ ap (λ ws. reading_map step_entries (step_count_behind before (step_count ws))) (words-one (decimal n) (number-word n (omega arith)))
+    ∙ ap (λ r. reading_map step_entries (step_count_behind before r)) (number_read 1 1000000 2 n (omega arith) least (omega arith))
     ∙ (rw le refl)
 
 -- the line of another entry

@@ -25,13 +25,13 @@ step_count words = no_line
 
 -- the count of steps of a line, with `before` steps in the lines before it; rule 6 where the
 -- history has more than 1,000,000 then
-abbrev pub count_behind : (before : ℕ) → Reading ℕ → Reading ℕ
-count_behind before (Err rule) = Err rule
-count_behind before (Ok count) = if nat_le (before + count) most_steps then Ok count else Err 6
+abbrev pub step_count_behind : (before : ℕ) → Reading ℕ → Reading ℕ
+step_count_behind before (Err rule) = Err rule
+step_count_behind before (Ok count) = if nat_le (before + count) most_steps then Ok count else Err 6
 
 -- `step`, `step n`: one step, or n of them
 unfoldable pub step_line : (before : ℕ) → List (List ℕ) → Reading ℕ
-step_line before words = count_behind before (step_count words)
+step_line before words = step_count_behind before (step_count words)
 
 -- a number that was read, where it passes a test; another one breaks rule 2
 abbrev pub number_among : (ℕ → Bool) → Reading ℕ → Reading ℕ

@@ -23,9 +23,9 @@ values_text (v ∷ vs) (value ∷ values) =
     codes " " ++ (value_text v.width value ++ values_text vs values)
 
 -- the variables that a request reads
-abbrev pub read_vars : Request → List Var
-read_vars (ReadVars vars) = vars
-read_vars _ = []
+abbrev pub vars_of_request : Request → List Var
+vars_of_request (ReadVars vars) = vars
+vars_of_request _ = []
 
 -- a line for each record of diagnostics, in the answer to entry n
 abbrev pub records_text : (n : ℕ) → List DiagRecord → List ℕ
@@ -34,7 +34,7 @@ records_text n records = flat_map (diag_text n) records
 -- what the reply to entry n says; behind the number of diagnostics a line for each of them
 unfoldable pub outcome_text : (n : ℕ) → Request → Reply → List ℕ
 outcome_text n request (Values values) =
-    codes " VALUES" ++ (values_text (read_vars request) values ++ codes "\n")
+    codes " VALUES" ++ (values_text (vars_of_request request) values ++ codes "\n")
 outcome_text n request Done = codes " DONE\n"
 outcome_text n request (NoSuch index) = codes " NOSUCH " ++ (decimal index ++ codes "\n")
 outcome_text n request NotStopped = codes " NOTSTOPPED\n"

@@ -15,5 +15,5 @@ mod writing;
 pub use faults::TextFault;
 pub use replies::{outcome_lines, reply_lines};
 pub use texts::{read_history, read_script, read_stimuli};
-pub use watched_vars::read_vars;
+pub use watched_vars::read_watched_vars;
 pub use writing::write_history;

@@ -53,7 +53,7 @@ fn feeder_entry(what: What) -> Entry
 }
 
 /// How many steps the words behind `step` say.
-fn read_count(words: &[u8]) -> Result<u32, u16>
+fn read_step_count(words: &[u8]) -> Result<u32, u16>
     ensures value { result ≡ step_count (words_of words.now) }
     ensures range { IfOk result (λ n. (1 ≤ n) × (n ≤ most_steps)) }
 {
@@ -73,7 +73,7 @@ fn read_steps(before: u32, words: &[u8]) -> Result<u32, u16>
     ensures value { result ≡ step_line before (words_of words.now) }
     ensures range { IfOk result (λ count. (1 ≤ count) × (before + count ≤ most_steps)) }
 {
-    let count = read_count(words)?;
+    let count = read_step_count(words)?;
     if before + count > MOST_STEPS {
         return Err(TOO_MANY_STEPS);
     }

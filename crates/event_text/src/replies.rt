@@ -1,5 +1,5 @@
 ghost use Rattle.std.specs.Prelude.{◌≡◌, ◌++◌, length, take, OnErr, OnOk};
-ghost use Rattle.event_text.specs.Replies.{outcome_text, read_vars, records_text, reply_head, reply_text, values_text};
+ghost use Rattle.event_text.specs.Replies.{outcome_text, vars_of_request, records_text, reply_head, reply_text, values_text};
 
 use crate::writing::{append_number, append_value, operator_of};
 use monitor::{DiagRecord, diag_line};
@@ -7,8 +7,8 @@ use plc_base::NoMemory;
 use var_access::{Reply, Request, Var};
 
 /// The variables that a request reads.
-fn read_vars(request: &Request) -> &[Var]
-    ensures { result.now ≡ read_vars request.now }
+fn vars_of_request(request: &Request) -> &[Var]
+    ensures { result.now ≡ vars_of_request request.now }
 {
     match request {
         Request::ReadVars { vars } => vars.as_slice(),
@@ -60,7 +60,7 @@ fn append_outcome(
     match reply {
         Reply::Values { values } => {
             out.extend_from_slice(b" VALUES")?;
-            append_values(read_vars(request), values.as_slice(), out)?;
+            append_values(vars_of_request(request), values.as_slice(), out)?;
             out.extend_from_slice(b"\n")
         }
         Reply::Done => out.extend_from_slice(b" DONE\n"),
@@ -105,7 +105,7 @@ pub fn outcome_lines(
 }
 
 /// Appends how a reply to entry `n` begins, with the operator who asked.
-fn append_head(n: u64, who: u8, out: &mut Vec<u8>) -> Result<(), NoMemory>
+fn append_reply_head(n: u64, who: u8, out: &mut Vec<u8>) -> Result<(), NoMemory>
     ensures ok { OnOk result (out.new.items ≡ out.old.items ++ reply_head n who) }
     ensures err { OnErr result (take (length out.old.items) out.new.items ≡ out.old.items) }
 {
@@ -128,7 +128,7 @@ fn append_reply(
         (out.new.items ≡ out.old.items ++ reply_text n who request.now reply.now) }
     ensures err { OnErr result (take (length out.old.items) out.new.items ≡ out.old.items) }
 {
-    append_head(n, who, out)?;
+    append_reply_head(n, who, out)?;
     append_outcome(n, request, reply, out)
 }
 

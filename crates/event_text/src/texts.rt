@@ -135,7 +135,7 @@ fn add_entry(kind: TextKind, found: &LineEntries, entries: &mut Vec<Entry>) -> R
 }
 
 /// Takes one more line of stimuli or a script.
-fn take_line(
+fn take_entry_line(
     kind: TextKind,
     names: &Names,
     number: u32,
@@ -182,7 +182,7 @@ fn read_entries(
     let mut rest = bytes;
     while !rest.is_empty() {
         let (line, behind) = first_line(rest);
-        take_line(kind, names, number, line, &mut entries)?;
+        take_entry_line(kind, names, number, line, &mut entries)?;
         number += 1;
         rest = behind;
     }

@@ -90,7 +90,7 @@ fn only_vars(found: Option<Vars>) -> Result<Vars, Refusal>
 ///
 /// The first line that breaks a rule of scripts, or rule 7: that isn't a `read`, or is a second
 /// one. A script without lines breaks rule 7 in line 1.
-pub fn read_vars(bytes: &[u8], names: &Names) -> Result<Vars, Refusal>
+pub fn read_watched_vars(bytes: &[u8], names: &Names) -> Result<Vars, Refusal>
     requires { length bytes.now ≤ 1048576 }
     ensures value { result ≡ watched_vars_of names.now bytes.now }
     ensures regular { IfOk result (λ vars. IsRegularOf 6 (request_entry 6 (ReadVars vars))) }

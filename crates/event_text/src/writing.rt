@@ -192,7 +192,7 @@ fn append_entry(entry: &Entry, out: &mut Vec<u8>) -> Result<(), NoMemory>
 }
 
 /// Appends the line of so many steps in a row; none for none.
-fn append_steps(count: u64, out: &mut Vec<u8>) -> Result<(), NoMemory>
+fn append_step_line(count: u64, out: &mut Vec<u8>) -> Result<(), NoMemory>
     ensures { OnOk result (out.new.items ≡ out.old.items ++ steps_text count) }
 {
     if count == 0 {
@@ -218,14 +218,14 @@ fn append_run(run: &Run, steps: u64, out: &mut Vec<u8>) -> Result<u64, NoMemory>
     if run.entry.is_step() {
         return Ok(steps + run.count);
     }
-    append_steps(steps, out)?;
+    append_step_line(steps, out)?;
     append_entry(&run.entry, out)?;
     Ok(0)
 }
 
 /// Appends the entries of runs: each row of steps as one line, each other entry as a line.
 #[tactic(auto, using(crate::proofs::WritingLemmas::none_left, crate::proofs::WritingLemmas::written_whole))]
-fn append_runs(runs: &[Run], out: &mut Vec<u8>) -> Result<(), NoMemory>
+fn append_history(runs: &[Run], out: &mut Vec<u8>) -> Result<(), NoMemory>
     requires are { AreRuns runs.now }
     requires bounded { length (entries_of_runs runs.now) < 2 ^ 64 }
     ensures { OnOk result
@@ -235,7 +235,7 @@ fn append_runs(runs: &[Run], out: &mut Vec<u8>) -> Result<(), NoMemory>
     for run in runs {
         steps = append_run(run, steps, out)?;
     }
-    append_steps(steps, out)
+    append_step_line(steps, out)
 }
 
 /// The text of a history, given as its runs: `step n` for each longest row of steps, each other
@@ -246,7 +246,7 @@ fn write_runs(alloc: Global, runs: &[Run]) -> Result<Vec<u8>, NoMemory>
     ensures { IfOk result (λ text. text.items ≡ history_text (entries_of_runs runs.now)) }
 {
     let mut out = Vec::new(alloc);
-    append_runs(runs, &mut out)?;
+    append_history(runs, &mut out)?;
     Ok(out)
 }
 

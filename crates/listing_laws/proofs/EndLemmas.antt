@@ -43,7 +43,7 @@ use Rattle.listing_laws.proofs.NameLemmas.{either_way}
 use Rattle.listing_laws.proofs.RunLemmas.{targets_found}
 use Rattle.listing_laws.specs.Bodies.{IsEndFree}
 use Rattle.listing_laws.specs.Ends.{AreEndsFree}
-use Rattle.listing_laws.specs.Statements.{goes_to, jumps_to}
+use Rattle.listing_laws.specs.Statements.{is_jump_to, jumps_to}
 
 -- ---- labels
 
@@ -93,7 +93,7 @@ target_less body _ some bare known = some
 apart_below : (target n : ℕ) → target < n → (target == n) ≡ false
 apart_below target n h = grind (arith, nat_tests)
 
-operand_free : (n : ℕ) (o : Operand) (v : ResolvedOperand) → goes_to n (flat_operand_of o v) ≡ false
+operand_free : (n : ℕ) (o : Operand) (v : ResolvedOperand) → is_jump_to n (flat_operand_of o v) ≡ false
 unfolding flat_operand_of
 operand_free n o (resolved.NumberBy numbered.Timer from byte) = refl
 operand_free n o (resolved.NumberBy numbered.Counter from byte) = refl

@@ -18,7 +18,7 @@ use Rattle.flat_code.specs.Programs.{CodeBlock, DataBlock, Program}
 use Rattle.flat_code.specs.declared.programs.Param.{Param}
 use Rattle.stl_ast.specs.Blocks.{is_parameter, may_declare, may_have_section, part_rank}
 use Rattle.stl_ast.specs.Operands.{IsNumber}
-use Rattle.stl_ast.specs.WellFormed.{AreSectionsInOrder}
+use Rattle.stl_ast.specs.WellFormed.{AreSectionsInOrder, MayReturn}
 use Rattle.stl_ast.specs.declared.blocks.Part.{Part}
 use Rattle.stl_ast.specs.declared.blocks.PartKind.TheVariants as part
 use Rattle.stl_ast.specs.declared.blocks.PartKind.{PartKind}
@@ -26,6 +26,7 @@ use Rattle.stl_ast.specs.declared.declarations.Declaration.{Declaration}
 use Rattle.stl_ast.specs.declared.declarations.Init.{Init}
 use Rattle.stl_ast.specs.declared.declarations.Simple.TheVariants as simple
 use Rattle.stl_ast.specs.declared.declarations.Simple.{Simple}
+use Rattle.stl_ast.specs.Declarations.{IsCount}
 use Rattle.stl_codegen.specs.Order.{sorted_list}
 use Rattle.stl_lexer.specs.Bytes.{is_word_byte, is_word_start}
 use Rattle.stl_parser.proofs.FrameLemmas.{same_kind}
@@ -41,7 +42,7 @@ use Rattle.stl_list.specs.Lines.{first_statement_line, line_behind_statements, s
 use Rattle.stl_list.specs.Parameters.{is_return, parameter_name, return_name}
 use Rattle.stl_list.specs.Sections.{byte_array, bytes_here, data_name, declared_here, declarations_of_section, is_declared_in, plain_declaration, section_part, section_parts, static_bytes, static_len, static_name, static_start, temporary_name}
 use Rattle.stl_list.specs.Signatures.{Signature, formals_from, formals_of_block, is_behind, signatures, signatures_from}
-use Rattle.print_laws.specs.Reading.{IsCountOf, IsPrintedDeclarationIn, IsNonKeywordName, IsPrintedBlock, IsPrintedDeclaration, IsPrintedInit, IsPrintedLiteral, IsPrintedPart, IsPrintedSetting, IsResultOf}
+use Rattle.print_laws.specs.Reading.{IsPrintedDeclarationIn, IsNonKeywordName, IsPrintedBlock, IsPrintedDeclaration, IsPrintedInit, IsPrintedLiteral, IsPrintedPart, IsPrintedSetting}
 use Rattle.listing_laws.proofs.BlockLemmas.{AreBytes, all_sorted, range_below, value_is, byte_is}
 use Rattle.listing_laws.proofs.IdLemmas.{same_order}
 use Rattle.listing_laws.proofs.NameLemmas.{all_joined, either_way, label_is, parameter_is, signed_int, signed_long}
@@ -320,7 +321,7 @@ sections_order line formals b =
 
 -- ---- code blocks
 
-result_is : (k : BlockKind) (formals : List Formal) → is_code k ≡ true → AreFormalsOf k formals → IsResultOf k (result_of formals)
+result_is : (k : BlockKind) (formals : List Formal) → is_code k ≡ true → AreFormalsOf k formals → MayReturn k (result_of formals)
 result_is kinds.Ob formals code h = ap (option_map (λ f. f.kind)) (h.result refl)
 result_is kinds.Fc formals code h = tt
 result_is kinds.Fb formals code h = ap (option_map (λ f. f.kind)) (h.result refl)
@@ -358,7 +359,7 @@ frames_printed p is w =
 -- ---- initial values
 
 init_printed : (value count : ℕ) → value < 256 → count ≤ 65535 → IsPrintedInit (initial_run value count)
-init_printed value count is h = (either_way IsCountOf (count == 1) None (Some count) tt h, omega (arith, is))
+init_printed value count is h = (either_way IsCount (count == 1) None (Some count) tt h, omega (arith, is))
 
 from_printed : (value count : ℕ) (bytes : List ℕ) → value < 256 → AreBytes bytes → count ≤ 65535 → AllByRecursion IsPrintedInit (inits_from value count bytes)
 from_printed value count [] is all h = (init_printed value count is h, tt)

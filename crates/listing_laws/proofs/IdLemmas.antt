@@ -33,7 +33,7 @@ use Rattle.stl_list.specs.JoinedParameters.{chains_of}
 use Rattle.stl_list.specs.Lines.{line_behind_statements, stands_before}
 use Rattle.stl_list.specs.Listing.{listed_tree}
 use Rattle.stl_list.specs.Signatures.{Signature, signatures}
-use Rattle.listing_laws.specs.Ids.{AreBlocksFound, AreBlocksKept, AreIdsListed, HasNoTypes, data_id, program_ids}
+use Rattle.listing_laws.specs.Ids.{AreBlocksFound, AreBlocksKept, AreIdsListed, HasNoTypes, data_id_of_number, program_ids}
 use Rattle.sem_kept.specs.AcceptedSource.{program_in}
 use Rattle.listing_laws.proofs.OrderLemmas.{Pairs, all_sorted, pairs_sorted}
 
@@ -107,16 +107,16 @@ code_listed symbols ss reached (b ∷ bs) =
     ap (λ (o : Option BlockId). o ∷ map (λ b. id_of symbols b) (listed_blocks ss (line_behind_statements reached b.lines) bs)) (one_listed b.id)
     ∙ ap (λ (z : List (Option BlockId)). Some b.id ∷ z) (code_listed symbols ss (line_behind_statements reached b.lines) bs)
 
-one_data : (symbols : List Symbol) (ss : List Signature) (line number : ℕ) (bytes : List ℕ) (of : Option ℕ) → id_of symbols (listed_data ss line number bytes of) ≡ Some (data_id number)
+one_data : (symbols : List Symbol) (ss : List Signature) (line number : ℕ) (bytes : List ℕ) (of : Option ℕ) → id_of symbols (listed_data ss line number bytes of) ≡ Some (data_id_of_number number)
 one_data symbols ss line number bytes None = refl
 one_data symbols ss line number bytes (Some of) = refl
 
 data_listed : (symbols : List Symbol) (ss : List Signature) (line : ℕ) (ds : List DataBlock)
-    → map (λ b. id_of symbols b) (listed_data_blocks ss line ds) ≡ map (λ id. Some id) (map (λ d. data_id d.number) ds)
+    → map (λ b. id_of symbols b) (listed_data_blocks ss line ds) ≡ map (λ id. Some id) (map (λ d. data_id_of_number d.number) ds)
 data_listed symbols ss line [] = refl
 data_listed symbols ss line (d ∷ ds) =
     ap (λ (o : Option BlockId). o ∷ map (λ b. id_of symbols b) (listed_data_blocks ss line ds)) (one_data symbols ss line d.number d.bytes d.instance_of)
-    ∙ ap (λ (z : List (Option BlockId)). Some (data_id d.number) ∷ z) (data_listed symbols ss line ds)
+    ∙ ap (λ (z : List (Option BlockId)). Some (data_id_of_number d.number) ∷ z) (data_listed symbols ss line ds)
 
 map_joined : {A B : Type 0} (f : A → B) (xs ys : List A) → map f (xs ++ ys) ≡ map f xs ++ map f ys
 map_joined f [] ys = refl
@@ -131,7 +131,7 @@ ids_listed symbols p =
     map_joined (λ b. id_of symbols b) code stored
     ∙ ap (λ (z : List (Option BlockId)). z ++ map (λ b. id_of symbols b) stored) (code_listed symbols ss 1 (in_lines p.code_blocks))
     ∙ ap (λ (z : List (Option BlockId)). map (λ id. Some id) (map (λ b. b.id) (in_lines p.code_blocks)) ++ z) (data_listed symbols ss (line_reached 1 (in_lines p.code_blocks)) p.data_blocks)
-    ∙ sym (map_joined (λ id. Some id) (map (λ b. b.id) (in_lines p.code_blocks)) (map (λ d. data_id d.number) p.data_blocks))
+    ∙ sym (map_joined (λ id. Some id) (map (λ b. b.id) (in_lines p.code_blocks)) (map (λ d. data_id_of_number d.number) p.data_blocks))
 
 -- ---- the blocks of a source
 
@@ -144,7 +144,7 @@ code_ids (Some id ∷ is) = if is_code id.kind then id ∷ code_ids is else code
 data_ids : List (Option BlockId) → List BlockId
 data_ids [] = []
 data_ids (None ∷ is) = data_ids is
-data_ids (Some id ∷ is) = if is_data_block id.kind then data_id id.number ∷ data_ids is else data_ids is
+data_ids (Some id ∷ is) = if is_data_block id.kind then data_id_of_number id.number ∷ data_ids is else data_ids is
 
 abbrev codes_in : Context → List Block → Types → List Block → List Block → List StatedBlock
 codes_in c blocks y before bs = each_block (λ c b l. code_block_of c b l l.id) c bs (layouts_from y blocks before bs)
@@ -172,7 +172,7 @@ codes_are c blocks y before (b ∷ bs) =
         test true more = ap (λ (z : List BlockId). id ∷ z) more
         test false more = more
 
-data_are : (c : Context) (blocks : List Block) (y : Types) (before bs : List Block) → map (λ d. data_id d.number) (data_in c blocks y before bs) ≡ data_ids (map (λ b. id_of y.symbols b) bs)
+data_are : (c : Context) (blocks : List Block) (y : Types) (before bs : List Block) → map (λ d. data_id_of_number d.number) (data_in c blocks y before bs) ≡ data_ids (map (λ b. id_of y.symbols b) bs)
 unfolding data_ids block_layout
 data_are c blocks y before [] = refl
 data_are c blocks y before (b ∷ bs) =
@@ -181,15 +181,15 @@ data_are c blocks y before (b ∷ bs) =
     rest : List DataBlock
     rest = data_in (record c { block = suc c.block }) blocks y (b ∷ before) bs
 
-    by : (found : Option BlockId) → map (λ d. data_id d.number) rest ≡ data_ids (map (λ b. id_of y.symbols b) bs)
-        → map (λ d. data_id d.number) (data_block_of c (block_layout y blocks before b) found ++ rest) ≡ data_ids (found ∷ map (λ b. id_of y.symbols b) bs)
+    by : (found : Option BlockId) → map (λ d. data_id_of_number d.number) rest ≡ data_ids (map (λ b. id_of y.symbols b) bs)
+        → map (λ d. data_id_of_number d.number) (data_block_of c (block_layout y blocks before b) found ++ rest) ≡ data_ids (found ∷ map (λ b. id_of y.symbols b) bs)
     by None more = more
     by (Some id) more = test (is_data_block id.kind) more
       where
-        test : (t : Bool) → map (λ d. data_id d.number) rest ≡ data_ids (map (λ b. id_of y.symbols b) bs)
-            → map (λ d. data_id d.number) ((if t then generated_data_block c (block_layout y blocks before b) id ∷ [] else []) ++ rest)
-            ≡ (if t then data_id id.number ∷ data_ids (map (λ b. id_of y.symbols b) bs) else data_ids (map (λ b. id_of y.symbols b) bs))
-        test true more = ap (λ (z : List BlockId). data_id id.number ∷ z) more
+        test : (t : Bool) → map (λ d. data_id_of_number d.number) rest ≡ data_ids (map (λ b. id_of y.symbols b) bs)
+            → map (λ d. data_id_of_number d.number) ((if t then generated_data_block c (block_layout y blocks before b) id ∷ [] else []) ++ rest)
+            ≡ (if t then data_id_of_number id.number ∷ data_ids (map (λ b. id_of y.symbols b) bs) else data_ids (map (λ b. id_of y.symbols b) bs))
+        test true more = ap (λ (z : List BlockId). data_id_of_number id.number ∷ z) more
         test false more = more
 
 -- ---- whether there is a block
@@ -226,21 +226,21 @@ any_mapped p f (x ∷ xs) = ap (λ (t : Bool). p (f x) || t) (any_mapped p f xs)
 
 -- the same of a program's blocks
 program_any : (q : BlockId → Bool) (xs : List StatedBlock) (ds : List DataBlock)
-    → list_any q (map (λ b. b.id) (in_lines (map compiled_block (sorted_list is_code_before xs))) ++ map (λ d. data_id d.number) (sorted_list is_data_before ds))
-    ≡ (list_any q (map (λ x. x.id) xs) || list_any q (map (λ d. data_id d.number) ds))
+    → list_any q (map (λ b. b.id) (in_lines (map compiled_block (sorted_list is_code_before xs))) ++ map (λ d. data_id_of_number d.number) (sorted_list is_data_before ds))
+    ≡ (list_any q (map (λ x. x.id) xs) || list_any q (map (λ d. data_id_of_number d.number) ds))
 unfolding in_lines
 program_any q xs ds =
-    any_joined q (map (λ b. b.id) (sorted_list stands_before (map compiled_block (sorted_list is_code_before xs)))) (map (λ d. data_id d.number) (sorted_list is_data_before ds))
-    ∙ ap (λ (t : Bool). t || list_any q (map (λ d. data_id d.number) (sorted_list is_data_before ds)))
+    any_joined q (map (λ b. b.id) (sorted_list stands_before (map compiled_block (sorted_list is_code_before xs)))) (map (λ d. data_id_of_number d.number) (sorted_list is_data_before ds))
+    ∙ ap (λ (t : Bool). t || list_any q (map (λ d. data_id_of_number d.number) (sorted_list is_data_before ds)))
     (any_mapped q (λ (b : CodeBlock). b.id) (sorted_list stands_before (map compiled_block (sorted_list is_code_before xs)))
     ∙ any_sorted (λ (b : CodeBlock). q b.id) stands_before (map compiled_block (sorted_list is_code_before xs))
     ∙ any_mapped (λ (b : CodeBlock). q b.id) compiled_block (sorted_list is_code_before xs)
     ∙ any_sorted (λ (x : StatedBlock). q x.id) is_code_before xs
     ∙ sym (any_mapped q (λ (x : StatedBlock). x.id) xs))
     ∙ ap (λ (t : Bool). list_any q (map (λ x. x.id) xs) || t)
-    (any_mapped q (λ (d : DataBlock). data_id d.number) (sorted_list is_data_before ds)
-    ∙ any_sorted (λ (d : DataBlock). q (data_id d.number)) is_data_before ds
-    ∙ sym (any_mapped q (λ (d : DataBlock). data_id d.number) ds))
+    (any_mapped q (λ (d : DataBlock). data_id_of_number d.number) (sorted_list is_data_before ds)
+    ∙ any_sorted (λ (d : DataBlock). q (data_id_of_number d.number)) is_data_before ds
+    ∙ sym (any_mapped q (λ (d : DataBlock). data_id_of_number d.number) ds))
 
 -- a block of the source is one with code or a data block, where it isn't of another kind
 no_type : (k : BlockKind) → is_data_type k ≡ false → is_same_kind k kinds.Udt ≡ false
@@ -320,7 +320,7 @@ abbrev stored_of : Tree → List Symbol → List DataBlock
 stored_of t symbols = data_in (first_context symbols (layouts_of t symbols) t.blocks) t.blocks (types_of_source symbols t.blocks) [] t.blocks
 
 ids_are : (t : Tree) (symbols : List Symbol) → program_ids (program_in symbols t)
-    ≡ map (λ b. b.id) (in_lines (map compiled_block (sorted_list is_code_before (codes_of t symbols)))) ++ map (λ d. data_id d.number) (sorted_list is_data_before (stored_of t symbols))
+    ≡ map (λ b. b.id) (in_lines (map compiled_block (sorted_list is_code_before (codes_of t symbols)))) ++ map (λ d. data_id_of_number d.number) (sorted_list is_data_before (stored_of t symbols))
 unfolding code_blocks_of data_blocks_of layouts_of layouts_by
 ids_are t symbols = refl
 
@@ -329,7 +329,7 @@ source_codes t symbols =
     codes_are (first_context symbols (layouts_of t symbols) t.blocks) t.blocks (types_of_source symbols t.blocks) [] t.blocks
     ∙ ap (λ (z : List Symbol). code_ids (ids_of z t.blocks)) (source_symbols symbols t.blocks)
 
-source_data : (t : Tree) (symbols : List Symbol) → map (λ d. data_id d.number) (stored_of t symbols) ≡ data_ids (ids_of symbols t.blocks)
+source_data : (t : Tree) (symbols : List Symbol) → map (λ d. data_id_of_number d.number) (stored_of t symbols) ≡ data_ids (ids_of symbols t.blocks)
 source_data t symbols =
     data_are (first_context symbols (layouts_of t symbols) t.blocks) t.blocks (types_of_source symbols t.blocks) [] t.blocks
     ∙ ap (λ (z : List Symbol). data_ids (ids_of z t.blocks)) (source_symbols symbols t.blocks)
@@ -349,7 +349,7 @@ same_there t symbols id plain system =
     ∙ any_mapped (is_id id) (λ (i : BlockId). Some i) (program_ids (program_in symbols t))
     ∙ ap (list_any (is_same_block id)) (ids_are t symbols)
     ∙ program_any (is_same_block id) (codes_of t symbols) (stored_of t symbols)
-    ∙ ap (λ (z : List BlockId). list_any (is_same_block id) z || list_any (is_same_block id) (map (λ d. data_id d.number) (stored_of t symbols))) (source_codes t symbols)
+    ∙ ap (λ (z : List BlockId). list_any (is_same_block id) z || list_any (is_same_block id) (map (λ d. data_id_of_number d.number) (stored_of t symbols))) (source_codes t symbols)
     ∙ ap (λ (z : List BlockId). list_any (is_same_block id) (code_ids (ids_of symbols t.blocks)) || list_any (is_same_block id) z) (source_data t symbols)
     ∙ sym (source_any id (ids_of symbols t.blocks) plain system)
     ∙ sym (place_there id (ids_of symbols t.blocks))
@@ -477,7 +477,7 @@ codes_all P (Some id ∷ is) h = by (is_code id.kind) (codes_all P is h.1)
     by true more = (h.0, more)
     by false more = more
 
-same_data : (k : BlockKind) (n : ℕ) → is_data_block k ≡ true → record { kind = k; number = n } ≡ data_id n
+same_data : (k : BlockKind) (n : ℕ) → is_data_block k ≡ true → record { kind = k; number = n } ≡ data_id_of_number n
 same_data kinds.Db n h = refl
 same_data _ n h = absurd cc
 
@@ -487,7 +487,7 @@ data_all P [] h = tt
 data_all P (None ∷ is) h = data_all P is h.1
 data_all P (Some id ∷ is) h = by (is_data_block id.kind) refl (data_all P is h.1)
   where
-    by : (b : Bool) → is_data_block id.kind ≡ b → AllByRecursion (λ id. P (Some id)) (data_ids is) → AllByRecursion (λ id. P (Some id)) (if b then data_id id.number ∷ data_ids is else data_ids is)
+    by : (b : Bool) → is_data_block id.kind ≡ b → AllByRecursion (λ id. P (Some id)) (data_ids is) → AllByRecursion (λ id. P (Some id)) (if b then data_id_of_number id.number ∷ data_ids is else data_ids is)
     by true e more = (subst (λ (i : BlockId). P (Some i)) (same_data id.kind id.number e) h.0, more)
     by false e more = more
 
@@ -507,9 +507,9 @@ data_apart [] h = tt
 data_apart (None ∷ is) h = data_apart is h.1
 data_apart (Some id ∷ is) h = by (is_data_block id.kind) refl (data_apart is h.1)
   where
-    by : (b : Bool) → is_data_block id.kind ≡ b → Pairs NotSame (data_ids is) → Pairs NotSame (if b then data_id id.number ∷ data_ids is else data_ids is)
+    by : (b : Bool) → is_data_block id.kind ≡ b → Pairs NotSame (data_ids is) → Pairs NotSame (if b then data_id_of_number id.number ∷ data_ids is else data_ids is)
     by true e more =
-        (data_all (λ j. Far j (Some (data_id id.number))) is (subst (λ (i : BlockId). AllByRecursion (λ j. Far j (Some i)) is) (same_data id.kind id.number e) h.0), more)
+        (data_all (λ j. Far j (Some (data_id_of_number id.number))) is (subst (λ (i : BlockId). AllByRecursion (λ j. Far j (Some i)) is) (same_data id.kind id.number e) h.0), more)
     by false e more = more
 
 -- ---- of the program
@@ -543,10 +543,10 @@ code_program P xs h =
     (all_mapped (λ (b : CodeBlock). P b.id) compiled_block (sorted_list is_code_before xs)
     (all_sorted (λ (x : StatedBlock). P x.id) is_code_before xs (all_behind P (λ (x : StatedBlock). x.id) xs h))))
 
-data_program : (P : BlockId → Type 0) (ds : List DataBlock) → AllByRecursion P (map (λ d. data_id d.number) ds) → AllByRecursion P (map (λ d. data_id d.number) (sorted_list is_data_before ds))
+data_program : (P : BlockId → Type 0) (ds : List DataBlock) → AllByRecursion P (map (λ d. data_id_of_number d.number) ds) → AllByRecursion P (map (λ d. data_id_of_number d.number) (sorted_list is_data_before ds))
 data_program P ds h =
-    all_mapped P (λ (d : DataBlock). data_id d.number) (sorted_list is_data_before ds)
-    (all_sorted (λ (d : DataBlock). P (data_id d.number)) is_data_before ds (all_behind P (λ (d : DataBlock). data_id d.number) ds h))
+    all_mapped P (λ (d : DataBlock). data_id_of_number d.number) (sorted_list is_data_before ds)
+    (all_sorted (λ (d : DataBlock). P (data_id_of_number d.number)) is_data_before ds (all_behind P (λ (d : DataBlock). data_id_of_number d.number) ds h))
 
 code_pairs : (xs : List StatedBlock) → Pairs NotSame (map (λ x. x.id) xs) → Pairs NotSame (map (λ b. b.id) (in_lines (map compiled_block (sorted_list is_code_before xs))))
 unfolding in_lines
@@ -556,11 +556,11 @@ code_pairs xs h =
     (pairs_mapped (λ (a b : CodeBlock). NotSame a.id b.id) compiled_block (sorted_list is_code_before xs)
     (pairs_sorted (λ (a b : StatedBlock). NotSame a.id b.id) (λ a b. same_turned a.id b.id) is_code_before xs (pairs_behind NotSame (λ (x : StatedBlock). x.id) xs h))))
 
-data_pairs : (ds : List DataBlock) → Pairs NotSame (map (λ d. data_id d.number) ds) → Pairs NotSame (map (λ d. data_id d.number) (sorted_list is_data_before ds))
+data_pairs : (ds : List DataBlock) → Pairs NotSame (map (λ d. data_id_of_number d.number) ds) → Pairs NotSame (map (λ d. data_id_of_number d.number) (sorted_list is_data_before ds))
 data_pairs ds h =
-    pairs_mapped NotSame (λ (d : DataBlock). data_id d.number) (sorted_list is_data_before ds)
-    (pairs_sorted (λ (a b : DataBlock). NotSame (data_id a.number) (data_id b.number)) (λ a b. same_turned (data_id a.number) (data_id b.number)) is_data_before ds
-    (pairs_behind NotSame (λ (d : DataBlock). data_id d.number) ds h))
+    pairs_mapped NotSame (λ (d : DataBlock). data_id_of_number d.number) (sorted_list is_data_before ds)
+    (pairs_sorted (λ (a b : DataBlock). NotSame (data_id_of_number a.number) (data_id_of_number b.number)) (λ a b. same_turned (data_id_of_number a.number) (data_id_of_number b.number)) is_data_before ds
+    (pairs_behind NotSame (λ (d : DataBlock). data_id_of_number d.number) ds h))
 
 no_data : (k : BlockKind) → is_code k ≡ true → is_data_block k ≡ false
 no_data kinds.Ob h = refl
@@ -568,11 +568,11 @@ no_data kinds.Fc h = refl
 no_data kinds.Fb h = refl
 no_data _ h = absurd cc
 
-data_and_code_apart : (ds : List DataBlock) (ids : List BlockId) → AllByRecursion HasCode ids → AllByRecursion (λ x. AllByRecursion (λ y. NotSame y x) (map (λ d. data_id d.number) ds)) ids
+data_and_code_apart : (ds : List DataBlock) (ids : List BlockId) → AllByRecursion HasCode ids → AllByRecursion (λ x. AllByRecursion (λ y. NotSame y x) (map (λ d. data_id_of_number d.number) ds)) ids
 data_and_code_apart ds [] h = tt
 data_and_code_apart ds (id ∷ ids) h = (
-  all_mapped (λ y. NotSame y id) (λ (d : DataBlock). data_id d.number) ds
-      (all_any (λ (d : DataBlock). NotSame (data_id d.number) id) ds (λ d. ap (λ (b : Bool). b && nat_eq d.number id.number) (no_data id.kind h.0))),
+  all_mapped (λ y. NotSame y id) (λ (d : DataBlock). data_id_of_number d.number) ds
+      (all_any (λ (d : DataBlock). NotSame (data_id_of_number d.number) id) ds (λ d. ap (λ (b : Bool). b && nat_eq d.number id.number) (no_data id.kind h.0))),
   data_and_code_apart ds ids h.1,
 )
 
@@ -582,7 +582,7 @@ source_have_code t symbols = subst (AllByRecursion HasCode) (sym (source_codes t
 pub program_apart : (t : Tree) (symbols : List Symbol) → Pairs Far (ids_of symbols t.blocks) → Pairs NotSame (program_ids (program_in symbols t))
 program_apart t symbols h =
     subst (Pairs NotSame) (sym (ids_are t symbols))
-    (pairs_joined NotSame (map (λ b. b.id) (in_lines (map compiled_block (sorted_list is_code_before (codes_of t symbols))))) (map (λ d. data_id d.number) (sorted_list is_data_before (stored_of t symbols)))
+    (pairs_joined NotSame (map (λ b. b.id) (in_lines (map compiled_block (sorted_list is_code_before (codes_of t symbols))))) (map (λ d. data_id_of_number d.number) (sorted_list is_data_before (stored_of t symbols)))
     (code_pairs (codes_of t symbols) (subst (Pairs NotSame) (sym (source_codes t symbols)) (codes_apart (ids_of symbols t.blocks) h)))
     (data_pairs (stored_of t symbols) (subst (Pairs NotSame) (sym (source_data t symbols)) (data_apart (ids_of symbols t.blocks) h)))
     (data_and_code_apart (sorted_list is_data_before (stored_of t symbols)) (map (λ b. b.id) (in_lines (map compiled_block (sorted_list is_code_before (codes_of t symbols)))))
@@ -603,7 +603,7 @@ pub program_right : (t : Tree) (symbols : List Symbol) → AllByRecursion (λ i.
 program_right t symbols h =
     let is : List (Option BlockId) = ids_of symbols t.blocks in
     subst (AllByRecursion IsRight) (sym (ids_are t symbols))
-    (all_append IsRight (map (λ b. b.id) (in_lines (map compiled_block (sorted_list is_code_before (codes_of t symbols))))) (map (λ d. data_id d.number) (sorted_list is_data_before (stored_of t symbols)))
+    (all_append IsRight (map (λ b. b.id) (in_lines (map compiled_block (sorted_list is_code_before (codes_of t symbols))))) (map (λ d. data_id_of_number d.number) (sorted_list is_data_before (stored_of t symbols)))
     (code_program IsRight (codes_of t symbols)
     (subst (AllByRecursion IsRight) (sym (source_codes t symbols)) (all_weaken (λ id. is_number_beyond_limits (Some id) ≡ false) IsRight (code_ids is) right_number (codes_all (λ i. is_number_beyond_limits i ≡ false) is h))))
     (data_program IsRight (stored_of t symbols)

@@ -13,7 +13,7 @@ use Rattle.flat_code.specs.declared.operands.Operand.TheVariants as operand
 use Rattle.stl_codegen.specs.CompiledBlock.{SourceInstruction, operand_with_target, op_with_target, code_in, offset_from, offset_of_statement, ops_in, placed_ops}
 use Rattle.stl_codegen.specs.EmittedOps.{call_op, op_with_end_mark, use_db_ops, ops_of, pass_ops}
 use Rattle.stl_list.specs.Runs.{Run, marks_with_target, number_at, runs, runs_from, statement_starts, starts_from, target_marks}
-use Rattle.listing_laws.specs.Statements.{AreNumbersFound, AreRunsFound, AreStartsFound, AreTargetsFound, IsCountFound, goes_to, jumps_to, statement_offset, run_of}
+use Rattle.listing_laws.specs.Statements.{AreNumbersFound, AreRunsFound, AreStartsFound, AreTargetsFound, IsCountFound, is_jump_to, jumps_to, statement_offset, run_of}
 
 -- ---- the ops of an instruction in two parts
 
@@ -304,7 +304,7 @@ any_append p (x ∷ xs) ys = ap (λ (t : Bool). p x || t) (any_append p xs ys) �
 same_number : (n t count : ℕ) → n < count → eqb (min t count) n ≡ eqb t n
 same_number n t count h = grind (arith, nat_tests)
 
-one_hit : (ss : List SourceInstruction) (n : ℕ) (o : Operand) → n < length ss → hits (statement_starts (code_in ss)) (statement_offset ss) n o ≡ goes_to n o
+one_hit : (ss : List SourceInstruction) (n : ℕ) (o : Operand) → n < length ss → hits (statement_starts (code_in ss)) (statement_offset ss) n o ≡ is_jump_to n o
 one_hit ss n (operand.Jump kind target) h = ap (λ (k : ℕ). k == n) (numbers_found ss target) ∙ same_number n target (length ss) h
 one_hit ss n _ h = refl
 

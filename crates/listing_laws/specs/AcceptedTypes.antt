@@ -11,7 +11,7 @@ use Rattle.stl_types.specs.Context.{Context, source_block_ids}
 use Rattle.stl_codegen.specs.GeneratedProgram.{program_of}
 use Rattle.sem_kept.specs.AcceptedSource.{IsAccepted}
 use Rattle.listing_laws.specs.Chains.{AreTypesAsDeclared}
-use Rattle.listing_laws.specs.HandedOn.{declared_type_in}
+use Rattle.listing_laws.specs.HandedTypes.{declared_type_in}
 use Rattle.listing_laws.specs.OwnParameterTypes.{own_kinds}
 use Rattle.listing_laws.specs.SourceTypes.{SourceOwesTypes}
 

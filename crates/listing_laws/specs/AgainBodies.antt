@@ -30,8 +30,8 @@ body_again symbols t x =
 
 -- what the statements refer to in the body that the listing of a source's program has for a code
 -- block, `x`
-abbrev pub around_again : (symbols : List Symbol) → Tree → StatedBlock → ListingContext
-around_again symbols t x =
+abbrev pub listing_context_again : (symbols : List Symbol) → Tree → StatedBlock → ListingContext
+listing_context_again symbols t x =
     listing_context (signatures_in (program_in symbols t)) (lines_in x.statements)
     (compiled_block x)
 
@@ -42,7 +42,7 @@ abbrev pub IsBodyKept : (symbols : List Symbol) → Tree → (others : List Symb
 IsBodyKept symbols t others again place b l id =
     AreKeptFrom (again_at symbols t others again)
     (body_again symbols t (made_block symbols t place b l id))
-    (around_again symbols t (made_block symbols t place b l id))
+    (listing_context_again symbols t (made_block symbols t place b l id))
     (statement_offset (made_block symbols t place b l id).statements) 0
     (stated_from (context_at symbols t place) b.body 0 b.body)
 

@@ -35,7 +35,8 @@ abbrev pub IsNoBit : Area → Width → Type 0
 IsNoBit area.P width.Bit = ⊥
 IsNoBit a w = Unit {0}
 
--- a place as a source names it: only that of a bit has a bit number
+-- a place as a source names it: only that of a bit has a bit number, and none is a bit of the
+-- peripherals
 abbrev pub IsPlace : Area → Width → (bit : ℕ) → Type 0
 IsPlace a w bit = IsNoBit a w × IsBitOf w bit
 
@@ -82,7 +83,7 @@ pub record IsSourceRun (r : Run) : Type 0 where
   pub ops : AllByRecursion IsOp r.before
   -- the last op is one that the tables have
   pub op : IsOp r.op
-  -- what is passed before the last op
+  -- a place that an op before the last one passes is named as in a source
   pub prepares : AllByRecursion (λ op. PreparesPlace op.operand) r.before
   -- the operand of the last op is one that a source writes
   pub shown : IsLastOperandPrinted r.before r.op.code r.op.operand

@@ -25,10 +25,10 @@ AreCalledAgain c listed =
 -- UC, CC, or a CALL without actual parameters comes to the instruction of the source
 abbrev pub AreBareCallsKept : Type 0
 AreBareCallsKept =
-    (c listed : Context) (sur : ListingContext) (f : ℕ → ℕ) (body again : List Statement) (n k : ℕ)
-    (s : Statement) (v : ResolvedOperand) (how : CallOperation)
-    → HasAgain c listed sur.formals → AreCalledAgain c listed
+    (c listed : Context) (context : ListingContext) (f : ℕ → ℕ) (body again : List Statement)
+    (n k : ℕ) (s : Statement) (v : ResolvedOperand) (how : CallOperation)
+    → HasAgain c listed context.formals → AreCalledAgain c listed
     → names_called_block s.operand ≡ true → s.actuals ≡ [] → call_operation_of s.code ≡ Some how
     → resolved_operand c s ≡ Some v
     → IsInstructionKept listed again n s.code (instruction c body n s)
-    (listed_statement sur k (run_of f (instruction c body n s)))
+    (listed_statement context k (run_of f (instruction c body n s)))

@@ -47,13 +47,13 @@ AreCallsListed =
 -- made of the ops before the call
 abbrev pub AreStatementsListed : Type 0
 AreStatementsListed =
-    (sur : ListingContext) (n : ℕ) (f : ℕ → ℕ) (m : Mnemonic) (how : CallOperation) (id : BlockId)
-    (instance : Option ℕ) (ps : List Passing) → is_callable id.kind ≡ true
+    (context : ListingContext) (n : ℕ) (f : ℕ → ℕ) (m : Mnemonic) (how : CallOperation)
+    (id : BlockId) (instance : Option ℕ) (ps : List Passing) → is_callable id.kind ≡ true
     → call_operation_of m ≡ Some how
-    → ((listed_statement sur n (run_of f (Calls how id instance ps))).code ≡ m)
-    × ((listed_statement sur n (run_of f (Calls how id instance ps))).actuals
-    ≡ actuals_before (line_of_statement sur.lines n) sur.formals (called_formals sur.signatures id)
-    (pass_ops ps))
+    → ((listed_statement context n (run_of f (Calls how id instance ps))).code ≡ m)
+    × ((listed_statement context n (run_of f (Calls how id instance ps))).actuals
+    ≡ actuals_before (line_of_statement context.lines n) context.formals
+    (called_formals context.signatures id) (pass_ops ps))
 
 -- a listed call that names its block and its instance comes to the instruction that it was made of:
 -- the same block and instance, and the passings `ps` of its ops

@@ -25,7 +25,7 @@ use Rattle.stl_list.specs.Signatures.{Signature, called_formals, formals_of_bloc
 use Rattle.stl_list.specs.Statements.{listed_statement}
 use Rattle.sem_kept.specs.AcceptedSource.{IsAccepted, program_in}
 use Rattle.listing_laws.specs.ListedSource.{IsMadeOf, IsWholeAgain, again_at, context_at}
-use Rattle.listing_laws.specs.AgainBodies.{around_again, body_again, made_block}
+use Rattle.listing_laws.specs.AgainBodies.{listing_context_again, body_again, made_block}
 use Rattle.listing_laws.specs.ListedDeclarations.{signatures_in}
 use Rattle.listing_laws.specs.Instructions.{IsInstructionKept, IsRightOperand}
 use Rattle.listing_laws.specs.Passings.{AreAllPassed, AreNamedApart, AreRising, IsPassable, in_upper_case}
@@ -116,7 +116,7 @@ AreStatementsAgain =
     → IsInstructionKept (again_at symbols t others again)
     (body_again symbols t (made_block symbols t place b l id)) n s.code
     (instruction (context_at symbols t place) b.body n s)
-    (listed_statement (around_again symbols t (made_block symbols t place b l id)) k
+    (listed_statement (listing_context_again symbols t (made_block symbols t place b l id)) k
     (run_of (statement_offset (made_block symbols t place b l id).statements)
     (instruction (context_at symbols t place) b.body n s))))
     b.body

@@ -5,11 +5,11 @@ use Rattle.std.specs.List.{AllByRecursion}
 use Rattle.plc_base.specs.Kinds.{is_code}
 use Rattle.flat_code.specs.Image.{IsProgram}
 use Rattle.flat_code.specs.Programs.{Program}
-use Rattle.stl_ast.specs.WellFormed.{AreSectionsInOrder}
+use Rattle.stl_ast.specs.WellFormed.{AreSectionsInOrder, MayReturn}
 use Rattle.stl_ast.specs.declared.blocks.Block.{Block}
 use Rattle.stl_list.specs.CodeBlocks.{in_lines, listed_blocks}
 use Rattle.stl_list.specs.DataBlocks.{listed_data_blocks}
-use Rattle.print_laws.specs.Reading.{IsPrintedLabel, IsNumberedBlockOf, IsPrintedBlock, IsPrintedPart, IsResultOf}
+use Rattle.print_laws.specs.Reading.{IsPrintedLabel, IsNumberedBlockOf, IsPrintedBlock, IsPrintedPart}
 use Rattle.stl_list.specs.Labels.{label_of_number}
 use Rattle.listing_laws.specs.ListedDeclarations.{signatures_in}
 use Rattle.listing_laws.specs.Ranges.{IsWrittenProgram}
@@ -21,7 +21,7 @@ pub record IsPrintedFrame (b : Block) : Type 0 where
   -- the block is an organization block, a function or a function block
   pub kind : is_code b.kind ≡ true
   -- only a function has a return value
-  pub result : IsResultOf b.kind b.result
+  pub result : MayReturn b.kind b.result
   -- the sections stand in their order, each kind at most once
   pub order : AreSectionsInOrder 0 b.parts
   -- each section is one of a listing

@@ -15,13 +15,13 @@ use Rattle.stl_list.specs.Listing.{listed_tree}
 use Rattle.sem_kept.specs.AcceptedSource.{program_in}
 
 -- a data block by its number
-abbrev pub data_id : ℕ → BlockId
-data_id number = record { kind = kinds.Db; number = number }
+abbrev pub data_id_of_number : ℕ → BlockId
+data_id_of_number number = record { kind = kinds.Db; number = number }
 
 -- the blocks of a program in the order in which a listing has them
 abbrev pub program_ids : Program → List BlockId
 program_ids p =
-    map (λ b. b.id) (in_lines p.code_blocks) ++ map (λ d. data_id d.number) p.data_blocks
+    map (λ b. b.id) (in_lines p.code_blocks) ++ map (λ d. data_id_of_number d.number) p.data_blocks
 
 -- a listing has the blocks of its program, whatever symbols there are
 abbrev pub AreIdsListed : Type 0

@@ -75,22 +75,22 @@ pub record IsInstructionKept
 -- a statement that calls nothing and doesn't jump comes to the instruction of the source
 abbrev pub AreInstructionsKept : Type 0
 AreInstructionsKept =
-    (c listed : Context) (sur : ListingContext) (f : ℕ → ℕ) (body again : List Statement) (n k : ℕ)
-    (s : Statement) (v : ResolvedOperand)
-    → HasAgain c listed sur.formals → IsRightOperand c.symbols s.operand
+    (c listed : Context) (context : ListingContext) (f : ℕ → ℕ) (body again : List Statement)
+    (n k : ℕ) (s : Statement) (v : ResolvedOperand)
+    → HasAgain c listed context.formals → IsRightOperand c.symbols s.operand
     → is_empty_statement s.code ≡ false → jump_operation_of s.code ≡ None
     → call_operation_of s.code ≡ None
     → resolved_operand c s ≡ Some v
     → IsInstructionKept listed again n s.code (instruction c body n s)
-    (listed_statement sur k (run_of f (instruction c body n s)))
+    (listed_statement context k (run_of f (instruction c body n s)))
 
 -- a jump comes to the instruction of the source, where its target has the label of its number
 abbrev pub AreJumpsKept : Type 0
 AreJumpsKept =
-    (c listed : Context) (sur : ListingContext) (f : ℕ → ℕ) (body again : List Statement) (n k : ℕ)
-    (s : Statement)
+    (c listed : Context) (context : ListingContext) (f : ℕ → ℕ) (body again : List Statement)
+    (n k : ℕ) (s : Statement)
     → (jump_operation_of s.code ≡ None → ⊥)
-    → number_at sur.starts (f (target_of body s.operand)) ≡ target_of body s.operand
+    → number_at context.starts (f (target_of body s.operand)) ≡ target_of body s.operand
     → target_in (label_of_number (target_of body s.operand)) again ≡ target_of body s.operand
     → IsInstructionKept listed again n s.code (instruction c body n s)
-    (listed_statement sur k (run_of f (instruction c body n s)))
+    (listed_statement context k (run_of f (instruction c body n s)))

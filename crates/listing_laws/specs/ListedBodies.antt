@@ -13,11 +13,11 @@ use Rattle.listing_laws.specs.Statements.{statement_offset, run_of}
 -- each listed statement from a number on isn't empty, and comes to its instruction
 abbrev pub AreKeptFrom : Context → (body : List Statement) → ListingContext → (ℕ → ℕ) → (k : ℕ)
     → List SourceInstruction → Type 0
-AreKeptFrom listed body sur f k [] = Unit {0}
-AreKeptFrom listed body sur f k (s ∷ ss) =
-    (is_empty_statement (listed_statement sur k (run_of f s.instr)).code ≡ false)
-    × (instruction listed body k (listed_statement sur k (run_of f s.instr)) ≡ s.instr)
-    × AreKeptFrom listed body sur f (suc k) ss
+AreKeptFrom listed body context f k [] = Unit {0}
+AreKeptFrom listed body context f k (s ∷ ss) =
+    (is_empty_statement (listed_statement context k (run_of f s.instr)).code ≡ false)
+    × (instruction listed body k (listed_statement context k (run_of f s.instr)) ≡ s.instr)
+    × AreKeptFrom listed body context f (suc k) ss
 
 -- where each listed statement comes to its instruction, the listed body comes to the statements of
 -- the block, but the one that returns

@@ -15,9 +15,9 @@ use Rattle.listing_laws.specs.Chains.{AreTypesAsDeclared, HasStep}
 use Rattle.listing_laws.specs.Fitting.{IsListedAs}
 
 -- the parameters of a block; none where there is no such block
-abbrev pub params_in : List CodeBlock → BlockId → List Param
-params_in [] id = []
-params_in (b ∷ bs) id = if is_same_block b.id id then b.params else params_in bs id
+abbrev pub params_of_block : List CodeBlock → BlockId → List Param
+params_of_block [] id = []
+params_of_block (b ∷ bs) id = if is_same_block b.id id then b.params else params_of_block bs id
 
 -- a parameter of a block as a listing has it: the one of its index, of the type that chains give to
 -- it
@@ -27,7 +27,7 @@ pub record IsParameterOf
   -- the parameter as the program has it
   pub param : Param
   -- the parameter of the program has this index in its block
-  pub there : slice_get (params_in blocks id) index ≡ Some param
+  pub there : slice_get (params_of_block blocks id) index ≡ Some param
   -- the section in the listing is that of the program
   pub section : f.section ≡ section_of param.section
   -- the type in the listing is the one that chains of passings give

@@ -23,12 +23,13 @@ pub record NestingMark : Type 0 where
   pub line : ℕ
 
 -- the instruction word and the line of a statement; none of an empty one
-abbrev pub mark_of : Statement → List NestingMark
-mark_of s = if is_empty_statement s.code then [] else record { code = s.code; line = s.line } ∷ []
+abbrev pub nesting_mark_of : Statement → List NestingMark
+nesting_mark_of s =
+    if is_empty_statement s.code then [] else record { code = s.code; line = s.line } ∷ []
 
 -- the instruction words and the lines of the statements of a body, without the empty ones
 abbrev pub nesting_marks : List Statement → List NestingMark
-nesting_marks body = flat_map mark_of body
+nesting_marks body = flat_map nesting_mark_of body
 
 -- two bodies break the same rules on brackets and zones, on the same lines
 pub record AreNestedAlike (ss ts : List Statement) : Type 0 where

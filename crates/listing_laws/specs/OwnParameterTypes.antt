@@ -9,7 +9,7 @@ use Rattle.block_layout.specs.declared.cells.Element.TheVariants.{Plain}
 use Rattle.stl_types.specs.Context.{Context, in_function}
 use Rattle.stl_types.specs.Parameters.{formals_of}
 use Rattle.stl_codegen.specs.Instruction.{in_parameter_order}
-use Rattle.listing_laws.specs.HandedOn.{SeesOwn}
+use Rattle.listing_laws.specs.HandedTypes.{SeesOwn}
 
 -- a component is a parameter, of elementary type
 abbrev pub IsParameterCell : Cell → Type 0

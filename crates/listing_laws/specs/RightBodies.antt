@@ -32,7 +32,7 @@ pub record AreBodiesRight (y : Types) (c : Context) (blocks : List Block) : Type
   pub by_20 : in_contexts (λ c body. in_body (operand_20 c) body) c blocks ≡ []
   -- no operand names an unknown block
   pub by_23 : flat_map (λ b. in_body (operand_23 y) b.body) blocks ≡ []
-  -- rules 24, 25 and 39
+  -- no operand breaks rule 24, 25 or 39
   pub by_24 : rules_24_25_39 c blocks ≡ []
   -- rule 24 on actual parameters: none is a DATE_AND_TIME
   pub dates : rule_24_of_actuals c blocks ≡ []

@@ -18,7 +18,7 @@ use Rattle.stl_types.specs.declared.views.ResolvedOperand.TheVariants as resolve
 use Rattle.stl_codegen.specs.CompiledBlock.{compiled_block}
 use Rattle.stl_codegen.specs.GeneratedProgram.{code_blocks_of, params_of, program_of}
 use Rattle.listing_laws.specs.Chains.{AreTypesAsDeclared}
-use Rattle.listing_laws.specs.HandedOn.{BlocksHandTypesOn, CallOwesTypes, SeesOwn, declared_type_in}
+use Rattle.listing_laws.specs.HandedTypes.{BlocksHandTypesOn, CallOwesTypes, SeesOwn, declared_type_in}
 
 -- what a source owes for a statement: if it calls a block, what is owed for this call
 abbrev pub StatementOwesTypes :

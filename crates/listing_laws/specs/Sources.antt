@@ -40,19 +40,21 @@ AreListingsRead =
     → (tokens : List Token) × AreTokens (listed_source p) tokens
     × IsTree (listed_source p) tokens (listed_tree p)
 
--- a place that is passed has a bit number as in a source
+-- a place that is passed has a bit number as in a source, and is no bit of the peripherals
 abbrev pub PassesNamedPlace : Passed → Type 0
 PassesNamedPlace (passed.Direct a w byte bit) = IsPlace a w bit
 PassesNamedPlace (passed.InBlock number a w byte bit) = IsPlace a w bit
 PassesNamedPlace _ = Unit {0}
 
--- the operand of an op before a call: a place that it passes has a bit number as in a source
+-- the operand of an op before a call: a place that it passes has a bit number as in a source, and
+-- is no bit of the peripherals
 abbrev pub PreparesOnNamed : Operand → Type 0
 PreparesOnNamed (flat.Pass index p) = PassesNamedPlace p
 PreparesOnNamed _ = Unit {0}
 
--- the operand of the last op of a statement: a place has a bit number as in a source, and a call is
--- one of a source. `before` are the ops before it, `code` is its op code
+-- the operand of the last op of a statement: a place has a bit number as in a source, and is no bit
+-- of the peripherals, and a call is one of a source. `before` are the ops before it, `code` is its
+-- op code
 abbrev pub ActsOnNamed : (before : List OpData) → (code : ℕ) → Operand → Type 0
 ActsOnNamed before code (flat.Direct a w byte bit) = IsPlace a w bit
 ActsOnNamed before code (flat.Called kind number instance) = IsCallBy before code kind instance

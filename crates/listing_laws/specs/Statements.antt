@@ -52,14 +52,14 @@ AreNumbersFound =
     ≡ min n (length statements)
 
 -- whether an operand is that of a jump to the statement of a number
-abbrev pub goes_to : (n : ℕ) → Operand → Bool
-goes_to n (operand.Jump kind target) = target == n
-goes_to n _ = false
+abbrev pub is_jump_to : (n : ℕ) → Operand → Bool
+is_jump_to n (operand.Jump kind target) = target == n
+is_jump_to n _ = false
 
 -- whether an instruction jumps to the statement of a number, where the JU behind a JL jump for
 -- themselves
 abbrev pub jumps_to : (n : ℕ) → Instr → Bool
-jumps_to n (Does use_db w o) = goes_to n o
+jumps_to n (Does use_db w o) = is_jump_to n o
 jumps_to n (Jumps how target) = target == n
 jumps_to n (JumpsByList targets otherwise) = otherwise == n
 jumps_to n (Calls how block instance passings) = false

@@ -32,7 +32,7 @@ use Rattle.stl_list.specs.DataBlocks.{function_block, listed_data}
 use Rattle.sem_kept.specs.AcceptedSource.{IsAccepted, program_in}
 use Rattle.listing_laws.specs.ListedSource.{listed_again}
 use Rattle.listing_laws.specs.ListedDeclarations.{signatures_in}
-use Rattle.listing_laws.specs.Ids.{data_id}
+use Rattle.listing_laws.specs.Ids.{data_id_of_number}
 
 -- the heads and the declarations of blocks break no rule: of the rules of layouts this leaves out
 -- those of settings and of operands
@@ -111,7 +111,7 @@ pub record IsDataAt (p : Program) (blocks : List Block) (layouts : List BlockLay
   -- the layout is the one at this place
   pub layout_is : slice_get layouts place ≡ Some layout
   -- the layout has the number of the data block
-  pub id : layout.id ≡ Some (data_id d.number)
+  pub id : layout.id ≡ Some (data_id_of_number d.number)
   -- the layout has as many bytes as the data block
   pub size : layout.length ≡ length d.bytes
   -- the layout has the structure of the data block: its own, or that of its function block

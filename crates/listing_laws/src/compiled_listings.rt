@@ -2,7 +2,7 @@ ghost use Rattle.listing_laws.specs.ListingCompiles.{AreListingsCompiled, Listin
 
 use crate::bodies_again::law_of_bodies_again;
 use crate::instances::{law_of_listed_data_blocks, law_of_listed_settings};
-use crate::named::law_of_accepted_listings;
+use crate::named_programs::law_of_accepted_listings;
 use crate::right_bodies::law_of_right_bodies;
 use crate::whole::law_of_whole_listings;
 

@@ -19,7 +19,8 @@ pub fn law_of_listed_settings()
     ensures { AreListedSettingsRight }
 {}
 
-/// So the program of the listing has the data blocks of the source's program, in their order.
+/// Where no block of the listing of an accepted source's program breaks a rule as a whole, its
+/// program has the data blocks of that program, in their order.
 pub fn law_of_listed_data_blocks()
     ensures { AreDataBlocksAgain }
 {}

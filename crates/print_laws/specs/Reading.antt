@@ -10,10 +10,10 @@ use Rattle.plc_base.specs.declared.places.Width.TheVariants as width
 use Rattle.stl_lexer.specs.Forms.{is_word}
 use Rattle.stl_lexer.specs.Pieces.{ShowPieces, tokens_of}
 use Rattle.stl_ast.specs.Blocks.{is_parameter, may_declare, may_have_section}
-use Rattle.stl_ast.specs.Declarations.{is_elementary}
+use Rattle.stl_ast.specs.Declarations.{is_elementary, IsCount}
 use Rattle.stl_ast.specs.Literals.{IsDecimal, IsLong}
 use Rattle.stl_ast.specs.Operands.{IsBitOf, IsNumber, ar1_register, ar2_register}
-use Rattle.stl_ast.specs.WellFormed.{AreSectionsInOrder}
+use Rattle.stl_ast.specs.WellFormed.{AreSectionsInOrder, MayReturn}
 use Rattle.stl_ast.specs.declared.blocks.Block.{Block}
 use Rattle.stl_ast.specs.declared.blocks.Part.{Part}
 use Rattle.stl_ast.specs.declared.blocks.PartKind.{PartKind}
@@ -26,7 +26,6 @@ use Rattle.stl_ast.specs.declared.declarations.Declaration.{Declaration}
 use Rattle.stl_ast.specs.declared.declarations.ElementType.{ElementType}
 use Rattle.stl_ast.specs.declared.declarations.ElementType.TheVariants as element
 use Rattle.stl_ast.specs.declared.declarations.Init.{Init}
-use Rattle.stl_ast.specs.declared.declarations.Simple.{Simple}
 use Rattle.stl_ast.specs.declared.declarations.TypeTree.{TypeTree}
 use Rattle.stl_ast.specs.declared.literals.Literal.{Literal}
 use Rattle.stl_ast.specs.declared.literals.Literal.TheVariants as literal
@@ -67,7 +66,7 @@ pub record IsPrintedLabel (name : List ℕ) : Type 0 where
   -- the label has at most four characters
   pub short : length name ≤ 4
 
--- the label of a statement, where it has one
+-- the label of a statement, where it has one, is one of a listing
 abbrev pub IsPrintedLabelOf : Option (List ℕ) → Type 0
 IsPrintedLabelOf None = Unit {0}
 IsPrintedLabelOf (Some name) = IsPrintedLabel name
@@ -119,7 +118,8 @@ abbrev pub IsAreaOf : Option Letters → Width → Type 0
 IsAreaOf None w = Unit {0}
 IsAreaOf (Some area) w = IsArea area w
 
--- the data block before an address, which then is one in it
+-- where a data block stands before an address, it is given by its number, and the address lies in
+-- DB
 abbrev pub IsBlockOf : Option BlockName → Letters → Type 0
 IsBlockOf None area = Unit {0}
 IsBlockOf (Some name) area = IsDataBlock name × (area ≡ letters.Db)
@@ -267,14 +267,9 @@ abbrev pub IsByteLiteral : Literal → Type 0
 IsByteLiteral (literal.Byte value) = value ≤ 255
 IsByteLiteral _ = ⊥
 
--- the count before an initial value, where it has one: a number that a source can write
-abbrev pub IsCountOf : Option ℕ → Type 0
-IsCountOf None = Unit {0}
-IsCountOf (Some n) = IsNumber n
-
 -- an initial value of an array of bytes, `B#16#FF` or `4 (B#16#00)`
 abbrev pub IsPrintedInit : Init → Type 0
-IsPrintedInit i = IsCountOf i.count × IsByteLiteral i.value
+IsPrintedInit i = IsCount i.count × IsByteLiteral i.value
 
 -- a type of a listing: an elementary one without initial values, or an array of one with bytes as
 -- its values
@@ -328,17 +323,12 @@ pub record IsPrintedSetting (s : Setting) : Type 0 where
 
 -- ---- blocks
 
--- a function alone has a return value
-abbrev pub IsResultOf : BlockKind → Option Simple → Type 0
-IsResultOf kinds.Fc result = Unit {0}
-IsResultOf _ result = result ≡ None
-
 -- a code block of a listing: an organization block, a function or a function block
 pub record IsCodeBlock (b : Block) : Type 0 where
   -- the block is an organization block, a function or a function block
   pub kind : is_code b.kind ≡ true
   -- only a function has a return value
-  pub result : IsResultOf b.kind b.result
+  pub result : MayReturn b.kind b.result
   -- the sections stand in their order, each kind at most once
   pub order : AreSectionsInOrder 0 b.parts
   -- each section is one of a listing

@@ -9,7 +9,7 @@ ghost use Rattle.s7_cli.specs.Watching.{read_entry_of};
 use crate::command_checks::{check_scripts, loaded_image};
 use crate::failures::{Failure, File, failure_of_text};
 use crate::watch_files::WatchText;
-use event_text::{read_stimuli, read_vars};
+use event_text::{read_stimuli, read_watched_vars};
 use flat_code::Names;
 use image_file::Loaded;
 use std::alloc::Global;
@@ -31,7 +31,7 @@ fn check_vars(bytes: &[u8], names: &Names) -> Result<Vars, Failure>
     ensures regular { IfOk result (λ vars. IsRegularOf 6 (read_entry_of 6 vars)) }
     ensures refused { IfErr result (AreVarsRefused (watched_vars_of names.now bytes.now)) }
 {
-    match read_vars(bytes, names) {
+    match read_watched_vars(bytes, names) {
         Ok(vars) => Ok(vars),
         Err(refusal) => Err(Failure::Refused {
             file: File::Vars,

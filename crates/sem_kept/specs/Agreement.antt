@@ -71,19 +71,19 @@ pub record ImageKeepsSourceIn (language : Language) (bytes source symbols : List
 
 -- ---- in English
 
--- a code runs as a source with English mnemonics does
+-- a code runs as a source whose symbols have English addresses does
 abbrev pub RunsAs : Profile → (source symbols : List ℕ) → (running : Code) → Type 0
 RunsAs profile source symbols running = RunsAsIn English profile source symbols running
 
--- the names of a symbol table, with English mnemonics
+-- the names of variables that a symbols file with English addresses gives
 abbrev pub names_in : (symbols : List ℕ) → List NameEntry
 names_in symbols = names_read_in English symbols
 
--- a program keeps a source with English mnemonics
+-- a program keeps a source whose symbols have English addresses
 abbrev pub KeepsSource : Profile → (source symbols : List ℕ) → Program → Type 0
 KeepsSource profile source symbols p = KeepsSourceIn English profile source symbols p
 
--- an image keeps a source with English mnemonics
+-- an image keeps a source whose symbols have English addresses
 abbrev pub ImageKeepsSource : (bytes source symbols : List ℕ) → Type 0
 ImageKeepsSource bytes source symbols = ImageKeepsSourceIn English bytes source symbols
 
@@ -123,10 +123,10 @@ ImagesKeepSourcesIn language =
     → least (refusals_of list tree) ≡ None
     → ImageKeepsSourceIn language (image stamp (program_in list tree)) source symbols
 
--- each image that is compiled keeps its source, with English mnemonics
+-- each image that is compiled keeps its source, where the symbols have English addresses
 abbrev pub ImagesKeepSources : Type 0
 ImagesKeepSources = ImagesKeepSourcesIn English
 
--- each image that is compiled keeps its source, with German mnemonics
+-- each image that is compiled keeps its source, where the symbols have German addresses
 abbrev pub ImagesKeepGermanSources : Type 0
 ImagesKeepGermanSources = ImagesKeepSourcesIn German

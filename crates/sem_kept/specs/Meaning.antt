@@ -108,15 +108,15 @@ IsRefusedSourceIn language source symbols refused =
 
 -- ---- in English
 
--- what a source with English mnemonics comes to: its code, or its refusal
+-- what a source whose symbols have English addresses comes to: its code, or its refusal
 abbrev pub HasOutcomeOfSource : (source symbols : List ℕ) → Result Code RefusedFile → Type 0
 HasOutcomeOfSource source symbols outcome = HasOutcomeOfSourceIn English source symbols outcome
 
--- a source with English mnemonics means a code
+-- a source whose symbols have English addresses means a code
 abbrev pub MeansCode : (source symbols : List ℕ) → Code → Type 0
 MeansCode source symbols code = MeansCodeIn English source symbols code
 
--- a source with English mnemonics is refused
+-- a source whose symbols have English addresses is refused
 abbrev pub IsRefusedSource : (source symbols : List ℕ) → RefusedFile → Type 0
 IsRefusedSource source symbols refused = IsRefusedSourceIn English source symbols refused
 

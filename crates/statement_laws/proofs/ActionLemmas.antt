@@ -49,7 +49,7 @@ use Rattle.machine.specs.Values as values
 use Rattle.machine.specs.declared.places.Access.TheVariants.{Writing}
 use Rattle.machine.specs.declared.places.Location.{Location}
 use Rattle.statement_laws.specs.Effects as own
-use Rattle.statement_laws.specs.NamedOperands.{NamedItem, ItemNumber, OpenBlock, OperandPlace}
+use Rattle.statement_laws.specs.NamedOperands.{NamedItem, ItemNumber, OpenBlockFact, OperandPlace}
 use Rattle.statement_laws.specs.NamedOperands as named
 use Rattle.statement_laws.specs.Reading as reading
 use Rattle.statement_laws.proofs.FlatLemmas.{bcd_same, flat_number, flat_of, flat_place, is_read, loaded_same, number_same, numbered_same, place_same, tested_same}
@@ -294,7 +294,7 @@ pub set_same : (x : NamedItem) (p : ExecState) → is_set x ≡ true
 unfolding effect.operation_effect timing.counter_set
 set_same (named.Counter n) p e =
     ap (λ k. effect.set_effect k (flat_number 2 n) p) (number_kind 2 n)
-    ∙ counter_same (counters.set_counter (own.rlo_of p) (own.low_word p)) n p
+    ∙ counter_same (counters.set_counter (own.rlo_of p) (own.low_word_of_accu_1 p)) n p
 set_same (named.Place place) p e =
     ap (λ k. effect.set_effect k (flat_place place) p) (place_kind place)
     ∙ bit_set_same true (named.Place place) p refl
@@ -331,7 +331,7 @@ pub start_same : (how : TimerKind) (x : NamedItem) (p : ExecState) → names_tim
     → effect.operation_effect (operation.Start how) (flat_of x) p ≡ own.starts_timer how x p
 unfolding effect.operation_effect timing.timer_start
 start_same how (named.Timer n) p e =
-    timer_same (timers.start_timer how (own.rlo_of p) (own.low_word p)) n p
+    timer_same (timers.start_timer how (own.rlo_of p) (own.low_word_of_accu_1 p)) n p
 start_same how _ p e = absurd (false≢true e)
 
 pub up_same : (x : NamedItem) (p : ExecState) → names_counter x ≡ true

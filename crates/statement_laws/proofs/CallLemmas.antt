@@ -36,6 +36,7 @@ use Rattle.stl_ast.specs.declared.operands.Numbered.TheVariants as numbered
 use Rattle.stl_ast.specs.declared.operands.Operand.{Operand}
 use Rattle.stl_ast.specs.declared.operands.Operand.TheVariants as operand
 use Rattle.stl_ast.specs.declared.statements.Actual.{Actual}
+use Rattle.stl_ast.specs.Statements.{is_call}
 use Rattle.block_layout.specs.Blocks.{known_block, named_block}
 use Rattle.block_layout.specs.Paths.{cells_at, if_whole, whole_at}
 use Rattle.block_layout.specs.declared.cells.Cell.{Cell}
@@ -64,10 +65,10 @@ use Rattle.machine.specs.declared.places.Access.{Access}
 use Rattle.machine.specs.declared.places.Location.{Location}
 use Rattle.statement_laws.specs.Calls as own
 use Rattle.statement_laws.specs.Jumps.{with_rlo_1, standing_at}
-use Rattle.statement_laws.specs.Laws.{CallsAct, IsNamedActual, is_call_instruction}
+use Rattle.statement_laws.specs.Laws.{CallsAct, IsNamedActual}
 use Rattle.statement_laws.specs.NamedOperands.{NamedItem}
 use Rattle.statement_laws.specs.NamedOperands as named
-use Rattle.statement_laws.specs.Operands.{block_id_of_name, block_number, named_fixed_place, has_result, named_by, place_by, with_instance}
+use Rattle.statement_laws.specs.Operands.{block_id_of_name, number_of_block_name, named_fixed_place, has_result, named_by, place_by, with_instance}
 use Rattle.statement_laws.specs.Reading as reading
 use Rattle.statement_laws.proofs.PlaceLemmas.{absent_same, fixed_same, of_area, then_same}
 use Rattle.statement_laws.proofs.ResolutionLemmas.{about, bits_same, block_same, resolved_parts, view_named}
@@ -85,7 +86,7 @@ bound_at_same : (access : Access) (b : Location) (p : ExecState)
 unfolding bindings.bound_place
 bound_at_same access b p =
     ap (bindings.binding_if_there access b) (of_area b.place.area b p)
-    ∙ if_bound_same access b (reading.number_at_bound b.place.area b p)
+    ∙ if_bound_same access b (reading.number_at_location b.place.area b p)
 
 passed_on_same : (o : Option Binding) → bindings.binding_of_caller o ≡ own.binding_passed_on o
 passed_on_same None = refl
@@ -424,7 +425,7 @@ block_is c name None id instance e = block_same c name ∙ by (block_id_of_name 
     by None h = absurd cc
     by (Some other) h = cc
 block_is c name (Some db) id instance e =
-    block_same c name ∙ by (block_id_of_name c name) (block_number c db) e
+    block_same c name ∙ by (block_id_of_name c name) (number_of_block_name c db) e
   where
     by : (o : Option BlockId) (number : Option ℕ)
         → with_instance o number ≡ Some (named.Called id instance) → o ≡ Some id
@@ -493,7 +494,7 @@ record SameCall (m : Mnemonic) (how : CallOperation) : Type 0 where
   is : call_operation_of m ≡ Some how
   made : (rlo : Bool) → machine.is_call_made how rlo ≡ own.makes_call m rlo
 
-call_same : (m : Mnemonic) → is_call_instruction m ≡ true → (how : CallOperation) × SameCall m how
+call_same : (m : Mnemonic) → is_call m ≡ true → (how : CallOperation) × SameCall m how
 call_same code.Call e = (how_called.Call, record { no_jump = refl; is = refl; made = λ rlo. refl })
 call_same code.Uc e = (how_called.Uc, record { no_jump = refl; is = refl; made = λ rlo. refl })
 call_same code.Cc e = (how_called.Cc, record { no_jump = refl; is = refl; made = λ rlo. refl })

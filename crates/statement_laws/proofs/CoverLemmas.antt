@@ -24,7 +24,7 @@ use Rattle.stl_types.specs.declared.views.ResolvedOperand.TheVariants as resolve
 use Rattle.statement_laws.specs.Laws.{OperandsAreNamed, has_fixed_name}
 use Rattle.statement_laws.specs.NamedOperands.{NamedItem}
 use Rattle.statement_laws.specs.NamedOperands as named
-use Rattle.statement_laws.specs.Operands.{block_number, named_by, place_by, register_named, target_named}
+use Rattle.statement_laws.specs.Operands.{number_of_block_name, named_by, place_by, register_named, target_named}
 use Rattle.statement_laws.specs.Operands as own
 use Rattle.statement_laws.proofs.RuleLemmas.{some_is_not_none}
 use Rattle.statement_laws.proofs.ResolutionLemmas.{about, number_known, resolved_parts, resolved_same, rule_with_constant}
@@ -102,7 +102,7 @@ symbol_there (Some s) v r e = target_there s.target v r e
 in_block_there : (c : Context) (name : BlockName) (a : Letters) (w : Width) (byte bit : ℕ)
     (v : ResolvedOperand) (o : Option ℕ) → data_number c name ≡ o
     → address_in_block o a w byte bit ≡ Resolved v
-    → IsSomeItem (option_map (λ number. place_by (own.area_by_letters a) number w byte bit) (block_number c name))
+    → IsSomeItem (option_map (λ number. place_by (own.area_by_letters a) number w byte bit) (number_of_block_name c name))
 in_block_there c name a w byte bit v None d e = absurd cc
 in_block_there c name a w byte bit v (Some number) d e = (
   place_by (own.area_by_letters a) number w byte bit,
@@ -111,7 +111,7 @@ in_block_there c name a w byte bit v (Some number) d e = (
 
 opened_there : (c : Context) (di : Bool) (name : BlockName) (v : ResolvedOperand) (o : Option ℕ)
     → data_number c name ≡ o → resolution_of_opened_block di o ≡ Resolved v
-    → IsSomeItem (option_map (λ number. named.DataBlock di (named.Written number)) (block_number c name))
+    → IsSomeItem (option_map (λ number. named.DataBlock di (named.Written number)) (number_of_block_name c name))
 opened_there c di name v None d e = absurd cc
 opened_there c di name v (Some number) d e = (
   named.DataBlock di (named.Written number),

@@ -22,7 +22,7 @@ use Rattle.machine.specs.Places as places
 use Rattle.machine.specs.Values as values
 use Rattle.machine.specs.declared.places.Access.{Access}
 use Rattle.machine.specs.declared.places.Access.TheVariants.{Reading}
-use Rattle.statement_laws.specs.NamedOperands.{NamedItem, ItemNumber, OpenBlock, OperandPlace}
+use Rattle.statement_laws.specs.NamedOperands.{NamedItem, ItemNumber, OpenBlockFact, OperandPlace}
 use Rattle.statement_laws.specs.NamedOperands as named
 use Rattle.statement_laws.specs.Reading as own
 use Rattle.statement_laws.proofs.PlaceLemmas.{crossing_same, fixed_same, pointed_same, read_same, standing_same, then_same}
@@ -43,7 +43,7 @@ abbrev pub flat_block : (di : Bool) → ItemNumber → Operand
 flat_block di (named.Written number) = flat.OpenBlock (if di then 2 else 1) number
 flat_block di (named.InWord from byte) = flat.OpenBy (if di then 2 else 1) from byte
 
-abbrev pub flat_fact : OpenBlock → Operand
+abbrev pub flat_fact : OpenBlockFact → Operand
 flat_fact named.DbLength = flat.Literal 0
 flat_fact named.DbNumber = flat.Literal 1
 flat_fact named.DiLength = flat.Literal 2
@@ -72,7 +72,7 @@ found_same access (named.Fixed a w byte bit) p = fixed_same access a w byte bit 
 found_same access (named.ByMemory a w from byte) p =
     then_same (places.pointer_number from byte widths.Dword p.local p.memory)
     (own.stored_number from byte widths.Dword p)
-    (λ n. places.pointer_location access a w n p.local) (λ n. own.place_of_pointer access a w n p)
+    (λ n. places.pointer_location access a w n p.local) (λ n. own.place_at_pointer_in_area access a w n p)
     (standing_same from byte widths.Dword p) (λ n. pointed_same access a w n p)
 found_same access (named.ByRegister None w register count) p =
     crossing_same access w (places.register_address register p.local)

@@ -19,7 +19,7 @@ use Rattle.stl_codegen.specs.Operations.{call_operation_of, end_operation_of, ju
 use Rattle.machine.specs.Jumps as machine
 use Rattle.machine.specs.Statement.{Went, is_return_made, instruction_step, return_made}
 use Rattle.statement_laws.specs.Jumps as own
-use Rattle.statement_laws.specs.Laws.{EndsAct, JumpListsAct, PlainJumpsAct, is_end, is_plain_jump}
+use Rattle.statement_laws.specs.Laws.{EndsAct, JumpListsAct, PlainJumpsAct, is_block_end, is_plain_jump}
 
 -- ---- labels
 
@@ -154,7 +154,7 @@ record SameEnd (m : Mnemonic) (how : EndOperation) : Type 0 where
   is : end_operation_of m ≡ Some how
   ended : (rlo : Bool) → is_return_made how rlo ≡ own.is_return_taken m rlo
 
-end_same : (m : Mnemonic) → is_end m ≡ true → (how : EndOperation) × SameEnd m how
+end_same : (m : Mnemonic) → is_block_end m ≡ true → (how : EndOperation) × SameEnd m how
 end_same code.Be e =
     (ends.Be, record { no_jump = refl; no_call = refl; is = refl; ended = λ rlo. refl })
 end_same code.Bec e =

@@ -55,7 +55,7 @@ absent_same Writing _ = refl
 pub of_area : (a : Area) (b : Location) (p : ExecState)
     → (if places.is_area_l a then local_number p.local.locals b.frame b.place.byte b.place.bit b.width
     else number_at_place p.memory b.place b.width)
-    ≡ own.number_at_bound a b p
+    ≡ own.number_at_location a b p
 of_area area.L b p = refl
 of_area _ b p = refl
 
@@ -99,8 +99,8 @@ if_same b b' x x' y y' e f g =
     ∙ ap (λ z. if b' then x' else z) g
 
 pub pointed_same : (access : Access) (a : Area) (w : Width) (n : ℕ) (p : ExecState)
-    → places.pointer_location access a w n p.local ≡ own.place_of_pointer access a w n p
-unfolding places.pointer_location own.place_of_pointer
+    → places.pointer_location access a w n p.local ≡ own.place_at_pointer_in_area access a w n p
+unfolding places.pointer_location own.place_at_pointer_in_area
 pointed_same access a w n p =
     if_same (places.is_aligned w n) (own.suits_width w n)
     (places.location_at_pointer a w n p.local) (own.place_in_area a (own.byte_of_pointer n) (own.bit_of_pointer n) w p)

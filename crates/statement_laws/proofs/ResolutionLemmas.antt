@@ -45,9 +45,9 @@ use Rattle.stl_types.specs.declared.views.Side.TheVariants as side
 use Rattle.stl_types.specs.declared.views.ResolvedOperand.{ResolvedOperand}
 use Rattle.stl_types.specs.declared.views.ResolvedOperand.TheVariants as resolved
 use Rattle.stl_codegen.specs.Operands as codegen
-use Rattle.statement_laws.specs.NamedOperands.{NamedItem, ItemNumber, OpenBlock, OperandPlace}
+use Rattle.statement_laws.specs.NamedOperands.{NamedItem, ItemNumber, OpenBlockFact, OperandPlace}
 use Rattle.statement_laws.specs.NamedOperands as named
-use Rattle.statement_laws.specs.Operands.{block_number, named_fixed_place, named_by, numbered_item, named_place, place_by, place_in_db, pointer_constant_bits, register_named, symbol_target, target_named}
+use Rattle.statement_laws.specs.Operands.{number_of_block_name, named_fixed_place, named_by, numbered_item, named_place, place_by, place_in_db, pointer_constant_bits, register_named, symbol_target, target_named}
 use Rattle.statement_laws.specs.Operands as own
 use Rattle.statement_laws.specs.Reading.{bits_of_literal, number_behind, twos_complement, number_or_zero}
 use Rattle.statement_laws.proofs.FlatLemmas.{flat_of}
@@ -375,7 +375,7 @@ block_same c (block.Number id) = refl
 block_same c (block.Quoted name) = target_block (symbol_target c name)
 
 pub number_known : (c : Context) (name : BlockName) (n : ℕ) → data_number c name ≡ Some n
-    → block_number c name ≡ Some n
+    → number_of_block_name c name ≡ Some n
 number_known c name n e =
     ap (option_map (λ (id : BlockId). id.number)) (sym (block_same c name))
     ∙ meant_number c.layouts (named_block c.symbols name) n e
@@ -441,7 +441,7 @@ symbol_same (Some s) v x e n = target_same s.target v x e n
 pub in_block_same : (c : Context) (name : BlockName) (a : Letters) (w : Width) (byte bit : ℕ)
     (v : ResolvedOperand) (x : NamedItem) (o : Option ℕ) → data_number c name ≡ o
     → address_in_block o a w byte bit ≡ Resolved v
-    → option_map (λ number. place_by (own.area_by_letters a) number w byte bit) (block_number c name) ≡ Some x
+    → option_map (λ number. place_by (own.area_by_letters a) number w byte bit) (number_of_block_name c name) ≡ Some x
     → view_named None v ≡ Some x
 in_block_same c name a w byte bit v x None d e n = absurd cc
 in_block_same c name a w byte bit v x (Some number) d e n =
@@ -452,7 +452,7 @@ in_block_same c name a w byte bit v x (Some number) d e n =
 
 pub opened_named : (c : Context) (di : Bool) (name : BlockName) (v : ResolvedOperand) (x : NamedItem)
     (o : Option ℕ) → data_number c name ≡ o → resolution_of_opened_block di o ≡ Resolved v
-    → option_map (λ number. named.DataBlock di (named.Written number)) (block_number c name) ≡ Some x
+    → option_map (λ number. named.DataBlock di (named.Written number)) (number_of_block_name c name) ≡ Some x
     → view_named None v ≡ Some x
 opened_named c di name v x None d e n = absurd cc
 opened_named c di name v x (Some number) d e n =

@@ -3,7 +3,7 @@ use Rattle.std.specs.Prelude.{◌≡◌, ℕ, Bool, true, false, ◌||◌, List,
 use Rattle.std.specs.List.{AllByRecursion}
 use Rattle.plc_base.specs.declared.blocks.BlockId.{BlockId}
 use Rattle.stl_ast.specs.Literals.{AreBytes}
-use Rattle.stl_ast.specs.Statements.{is_empty_statement}
+use Rattle.stl_ast.specs.Statements.{is_empty_statement, is_call}
 use Rattle.stl_ast.specs.declared.blocks.Block.{Block}
 use Rattle.stl_ast.specs.declared.blocks.Tree.{Tree}
 use Rattle.stl_ast.specs.declared.mnemonics.Mnemonic.{Mnemonic}
@@ -14,6 +14,7 @@ use Rattle.stl_ast.specs.declared.statements.Statement.{Statement}
 use Rattle.stl_symbols.specs.Symbol.{Symbol}
 use Rattle.stl_types.specs.Context.{Context}
 use Rattle.stl_types.specs.Parameters.{Callee, callee_of}
+use Rattle.stl_types.specs.Lists.{is_list_jump}
 use Rattle.stl_codegen.specs.Instruction.{instruction}
 use Rattle.flat_code.specs.Instr.{Instr}
 use Rattle.frames.specs.declared.Activation.{Activation}
@@ -24,7 +25,7 @@ use Rattle.sem_kept.specs.SettledStatements.{HasLabel, context_at}
 use Rattle.statement_laws.specs.Calls.{bindings_of, calls_block, parameter_names}
 use Rattle.statement_laws.specs.Effects.{effect_of_statement}
 use Rattle.statement_laws.specs.Jumps.{ends_block, jumps_by_list, jumps_to_target, number_of_label}
-use Rattle.statement_laws.specs.Laws.{Acts, IsNamedActual, is_bit_logic, is_call_instruction, is_comparison, is_data_block_instruction, is_end, is_idle, is_in_family, is_jump_list, is_load_or_transfer, is_number_instruction, is_plain_jump, is_relay, is_shift, is_timing}
+use Rattle.statement_laws.specs.Laws.{Acts, IsNamedActual, is_bit_logic, is_comparison, is_data_block_instruction, is_block_end, is_idle, is_in_family, is_load_or_transfer, is_number_instruction, is_plain_jump, is_relay, is_shift, is_timing}
 use Rattle.statement_laws.specs.NamedOperands.{NamedItem}
 use Rattle.statement_laws.specs.NamedOperands as named
 use Rattle.statement_laws.specs.Operands.{named_by}
@@ -62,7 +63,7 @@ pub record IsNamedStatement (c : Context) (s : Statement) : Type 0 where
   -- the operand names what the statement acts on
   pub operand : IsNamed c s.operand
   -- a call names the block that it calls
-  pub called : is_call_instruction s.code ≡ true → NamesCalled c s
+  pub called : is_call s.code ≡ true → NamesCalled c s
   -- each actual parameter names what is passed
   pub actuals : AllByRecursion (IsNamedActual c) s.actuals
 
@@ -83,9 +84,9 @@ is_no_branch m =
     is_bit_logic m || is_load_or_transfer m || is_number_instruction m || is_comparison m
     || is_shift m || is_timing m || is_relay m || is_data_block_instruction m || is_idle m
 
--- a step of an instruction is this in every program, activation and memory
-abbrev pub Steps : Instr → (Code → ℕ → Activation → GlobalStore → StatementStep) → Type 0
-Steps i f =
+-- the step of an instruction is the one that `f` gives, in each program, activation and memory
+abbrev pub StepsAs : Instr → (Code → ℕ → Activation → GlobalStore → StatementStep) → Type 0
+StepsAs i f =
     (program : Code) (next : ℕ) (a : Activation) (w : GlobalStore)
     → instruction_step program i next a w ≡ f program next a w
 
@@ -107,16 +108,18 @@ pub record JumpsToLabel (c : Context) (body : List Statement) (n : ℕ) (s : Sta
   pub label : HasLabel body s
   -- the instruction goes to the statement of the label or on, as the mnemonic says
   pub acts :
-      Steps (instruction c body n s)
+      StepsAs (instruction c body n s)
       (λ program next a w. jumps_to_target s.code (number_of_label label.name body) next a w)
 
 -- JL has a label of its body, and goes by the jumps behind it up to that label
-pub record JumpsByList (c : Context) (body : List Statement) (n : ℕ) (s : Statement) : Type 0 where
+pub record GoesByJumpList
+    (c : Context) (body : List Statement) (n : ℕ) (s : Statement)
+    : Type 0 where
   -- the operand is a label of the body
   pub label : HasLabel body s
   -- the instruction goes on in the list of jumps behind it, or at the label
   pub acts :
-      Steps (instruction c body n s)
+      StepsAs (instruction c body n s)
       (λ program next a w. jumps_by_list n (number_of_label label.name body) a w)
 
 -- a call calls the block that it names, and each parameter of that block stands for what is passed
@@ -128,7 +131,7 @@ pub record CallsNamed (c : Context) (body : List Statement) (n : ℕ) (s : State
   pub actuals : AllByRecursion (IsNamedActual c) s.actuals
   -- the instruction calls this block, each parameter bound to what is passed for its name
   pub acts :
-      Steps (instruction c body n s)
+      StepsAs (instruction c body n s)
       (calls_block s.code called.id called.instance
       (bindings_of c s.actuals (parameter_names c called.id)))
 
@@ -144,11 +147,11 @@ pub record DoesAsWritten
   -- a jump but JL goes to its label or on
   pub jumps : is_plain_jump s.code ≡ true → JumpsToLabel c body n s
   -- JL goes on in the list of jumps behind it, or at its label
-  pub jumps_by_list : is_jump_list s.code ≡ true → JumpsByList c body n s
+  pub jumps_by_list : is_list_jump s.code ≡ true → GoesByJumpList c body n s
   -- an end of a block ends it as its mnemonic says
-  pub ends : is_end s.code ≡ true → Steps (instruction c body n s) (ends_block s.code)
+  pub ends : is_block_end s.code ≡ true → StepsAs (instruction c body n s) (ends_block s.code)
   -- a call calls the block that it names
-  pub calls : is_call_instruction s.code ≡ true → CallsNamed c body n s
+  pub calls : is_call s.code ≡ true → CallsNamed c body n s
 
 -- each statement but the empty ones of each block of an accepted source, whose elements are bytes,
 -- does as it is written, whatever number it is given

@@ -41,7 +41,7 @@ use Rattle.statement_laws.specs.Jumps.{with_rlo_1, standing_at}
 use Rattle.statement_laws.specs.NamedOperands.{NamedItem}
 use Rattle.statement_laws.specs.NamedOperands as named
 use Rattle.statement_laws.specs.Operands.{has_result, named_by}
-use Rattle.statement_laws.specs.Reading.{location_of_parts, bits_of_literal, fixed_place, missing_place_error, number_at_bound}
+use Rattle.statement_laws.specs.Reading.{location_of_parts, bits_of_literal, fixed_place, missing_place_error, number_at_location}
 
 -- ---- parameters by their names
 
@@ -71,8 +71,8 @@ in_call_order false names = names
 in_call_order true [] = []
 in_call_order true (result ∷ names) = names ++ result ∷ []
 
--- the names of the parameters of the system function of a number, in the order of a call; of no
--- other number
+-- the names of the parameters of the system function of a number, in the order of a call; none for
+-- another number
 abbrev pub system_names : ℕ → List (List ℕ)
 system_names n =
     if nat_eq n 32
@@ -133,7 +133,7 @@ binding_if access b (Some n) = Ok (binding.AtPlace b.place b.width b.frame)
 
 -- what a parameter stands for that is passed a place: that place, where it exists
 abbrev pub binding_at : Access → Location → ExecState → Result Binding ℕ
-binding_at access b p = binding_if access b (number_at_bound b.place.area b p)
+binding_at access b p = binding_if access b (number_at_location b.place.area b p)
 
 -- what a parameter of the caller that is passed on stands for
 abbrev pub binding_passed_on : Option Binding → Result Binding ℕ

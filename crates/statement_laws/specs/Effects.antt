@@ -1,6 +1,6 @@
 -- What each instruction does that goes on to the next statement, by its mnemonic and by what its
 -- operand names (docs/SEMANTICS.md): to registers and status word, memory, timers and counters, and
--- to what the block holds.
+-- to what the block holds. It is stated independently of the definitions of the machine.
 use Rattle.std.specs.Prelude.{ℕ, ◌+◌, ◌-◌, ◌%◌, ◌^◌, ◌==◌, nat_lt, Bool, true, false, ◌&&◌, not, is_some, List, [], ◌∷◌, length, Option, Some, None, Result, Ok, Err, ok_or, unwrap_or, if◌then◌else◌}
 use Rattle.std.specs.FinMap as map
 use Rattle.statement_laws.specs.ErrorNumbers as errors
@@ -45,7 +45,7 @@ use Rattle.machine.specs.ExecState.{ExecState, then_ok}
 use Rattle.machine.specs.Places.{no_operand}
 use Rattle.machine.specs.declared.places.Access.TheVariants.{Writing}
 use Rattle.machine.specs.declared.places.Location.{Location}
-use Rattle.statement_laws.specs.NamedOperands.{NamedItem, ItemNumber, OpenBlock}
+use Rattle.statement_laws.specs.NamedOperands.{NamedItem, ItemNumber, OpenBlockFact}
 use Rattle.statement_laws.specs.NamedOperands as named
 use Rattle.statement_laws.specs.Reading.{bcd_to_load, bit_of_operand, bits_of_literal, number_of_item, number_of_operand, number_or_error, number_to_load, place_of_operand, with_number_at}
 
@@ -81,8 +81,8 @@ abbrev pub power_flow_of : ExecState → Bool
 power_flow_of p = rlo_of p && not (is_relay_closed p)
 
 -- the low word of accumulator 1
-abbrev pub low_word : ExecState → ℕ
-low_word p = (registers_of p).a1 % 2 ^ 16
+abbrev pub low_word_of_accu_1 : ExecState → ℕ
+low_word_of_accu_1 p = (registers_of p).a1 % 2 ^ 16
 
 -- ---- bit logic
 
@@ -199,7 +199,7 @@ open_length (Some n) m = length_of_data_block (map.get m.data_blocks n)
 
 -- what L reads of an open data block: the number or the length of that in the DB or DI register,
 -- 0 where none is open
-abbrev pub open_fact : OpenBlock → ExecState → ℕ
+abbrev pub open_fact : OpenBlockFact → ExecState → ℕ
 open_fact named.DbLength p = open_length p.local.inner.db p.memory
 open_fact named.DbNumber p = unwrap_or p.local.inner.db 0
 open_fact named.DiLength p = open_length p.local.inner.di p.memory
@@ -221,7 +221,8 @@ abbrev pub puts_number : ℕ → NamedItem → ExecState → Result ExecState �
 puts_number n x p =
     then_ok (place_of_operand Writing x p) (λ b. with_number_at b (n % 2 ^ bit_count b.width) p)
 
--- T: accumulator 1, and 0 while the relay is closed
+-- T: accumulator 1 goes to the operand, and 0 while the relay is closed; to the status word it goes
+-- always
 abbrev pub transfers_accumulator : NamedItem → ExecState → Result ExecState ℕ
 transfers_accumulator named.StatusWord p = on_regs (λ r. record r { status = status_of r.a1 }) p
 transfers_accumulator x p = puts_number (if is_relay_closed p then 0 else (registers_of p).a1) x p
@@ -250,7 +251,8 @@ loads_ar1 x p = then_ok (address_to_load x p) (λ n. Ok (with_ar1 n p))
 abbrev pub loads_ar2 : NamedItem → ExecState → Result ExecState ℕ
 loads_ar2 x p = then_ok (address_to_load x p) (λ n. Ok (with_ar2 n p))
 
--- TAR1 and TAR2: to accumulator 1, whose contents go to accumulator 2, or to the operand
+-- TAR1 and TAR2: an address goes to accumulator 1, whose contents go to accumulator 2, or to the
+-- operand
 abbrev pub puts_address : ℕ → NamedItem → ExecState → Result ExecState ℕ
 puts_address n named.Nothing p = on_regs (with_loaded n) p
 puts_address n x p = puts_number n x p
@@ -271,7 +273,7 @@ widened_to_24 word = if nat_lt word (2 ^ 15) then word else word + (2 ^ 24 - 2 ^
 -- what +AR1 and +AR2 add: the pointer constant, or the integer in the low word of accumulator 1
 abbrev pub added_bits : NamedItem → ExecState → ℕ
 added_bits (named.Pointer value) p = value
-added_bits x p = widened_to_24 (low_word p)
+added_bits x p = widened_to_24 (low_word_of_accu_1 p)
 
 -- an address register after +AR1 or +AR2: the count is added in bits 0 to 23
 abbrev pub address_after : (address count : ℕ) → ℕ
@@ -336,7 +338,8 @@ on_counter f n p =
 -- SP, SE, SD, SS or SF: a timer is started by the RLO, with the time in the low word of
 -- accumulator 1
 abbrev pub starts_timer : TimerKind → NamedItem → ExecState → Result ExecState ℕ
-starts_timer how (named.Timer n) p = on_timer (timers.start_timer how (rlo_of p) (low_word p)) n p
+starts_timer how (named.Timer n) p =
+    on_timer (timers.start_timer how (rlo_of p) (low_word_of_accu_1 p)) n p
 starts_timer how x p = Err no_operand
 
 -- CU or CD: a counter counts by the RLO
@@ -347,7 +350,8 @@ counts_counter f x p = Err no_operand
 
 -- S of a counter, and of a bit
 abbrev pub sets_operand : NamedItem → ExecState → Result ExecState ℕ
-sets_operand (named.Counter n) p = on_counter (counters.set_counter (rlo_of p) (low_word p)) n p
+sets_operand (named.Counter n) p =
+    on_counter (counters.set_counter (rlo_of p) (low_word_of_accu_1 p)) n p
 sets_operand x p = sets_bit true x p
 
 -- R of a timer, of a counter, and of a bit

@@ -1,4 +1,5 @@
--- Jumps and the ends of a block, by their mnemonics (docs/SEMANTICS.md, "Jumps" and "Calls").
+-- Jumps and the ends of a block, by their mnemonics (docs/SEMANTICS.md, "Jumps" and "Calls"),
+-- stated independently of the definitions of the machine.
 use Rattle.std.specs.Prelude.{ℕ, suc, ◌+◌, ◌-◌, ◌%◌, ◌^◌, ◌==◌, nat_lt, Bool, true, false, not, List, [], ◌∷◌, Option, Some, None, bytes_eq, if◌then◌else◌}
 use Rattle.plc_base.specs.declared.flags.Flag.TheVariants as flag
 use Rattle.status_word.specs.Flags.{flag_value}

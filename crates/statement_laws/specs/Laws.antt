@@ -4,7 +4,7 @@ use Rattle.std.specs.List.{AllByRecursion}
 use Rattle.std.specs.Option.{option_and_then}
 use Rattle.plc_base.specs.Folding.{upper_case_name}
 use Rattle.plc_base.specs.declared.blocks.BlockId.{BlockId}
-use Rattle.stl_ast.specs.Statements.{is_empty_statement}
+use Rattle.stl_ast.specs.Statements.{is_empty_statement, is_call}
 use Rattle.stl_ast.specs.declared.blocks.Block.{Block}
 use Rattle.stl_ast.specs.declared.mnemonics.Mnemonic.{Mnemonic}
 use Rattle.stl_ast.specs.declared.mnemonics.Mnemonic.TheVariants as code
@@ -16,16 +16,17 @@ use Rattle.stl_ast.specs.declared.statements.Actual.{Actual}
 use Rattle.stl_ast.specs.declared.statements.Statement.{Statement}
 use Rattle.block_layout.specs.Paths.{folded_path, leaves_structure, leaves_local, plain_kind, structure_of}
 use Rattle.block_layout.specs.declared.cells.Cell.{Cell}
-use Rattle.stl_types.specs.Context.{Context, data_place}
+use Rattle.stl_types.specs.Context.{Context, data_place, is_of_function}
 use Rattle.stl_types.specs.Parameters.{Callee, callee_of}
 use Rattle.stl_types.specs.Resolution.{resolution_of}
 use Rattle.stl_types.specs.declared.views.Resolution.TheVariants.{Resolved}
 use Rattle.stl_types.specs.ResolvedStatement.{resolved_operand}
 use Rattle.stl_types.specs.declared.views.ResolvedOperand.{ResolvedOperand}
+use Rattle.stl_types.specs.Lists.{is_list_jump}
 use Rattle.stl_codegen.specs.GeneratedProgram.{statements_of}
 use Rattle.stl_codegen.specs.Instruction.{instruction}
 use Rattle.flat_code.specs.Instr.{Instr, Returns}
-use Rattle.flat_code.specs.declared.operations.EndOperation.TheVariants as end_word
+use Rattle.flat_code.specs.declared.operations.EndOperation.TheVariants as end_operation
 use Rattle.frames.specs.declared.Activation.{Activation}
 use Rattle.machine.specs.Code.{Code}
 use Rattle.machine.specs.ExecState.{ExecState, exec_state_of}
@@ -33,7 +34,7 @@ use Rattle.machine.specs.Statement.{GlobalStore, instruction_step, continue_with
 use Rattle.statement_laws.specs.Calls.{bindings_of, calls_block, parameter_names}
 use Rattle.statement_laws.specs.NamedOperands.{NamedItem}
 use Rattle.statement_laws.specs.NamedOperands as named
-use Rattle.statement_laws.specs.Operands.{components_of_block, is_fc, named_by, register_named}
+use Rattle.statement_laws.specs.Operands.{components_of_block, named_by, register_named}
 use Rattle.statement_laws.specs.Effects.{effect_of_statement}
 use Rattle.statement_laws.specs.Jumps.{numbered_statement_count, ends_block, jumps_to_target, jumps_by_list, number_of_label}
 
@@ -45,8 +46,8 @@ Acts i f =
     → instruction_step program i next a w
     ≡ continue_with (f (exec_state_of a.running w.memory w.timers w.counters)) next a
 
--- each statement with such a mnemonic whose operand its instruction takes, and names this, does
--- what the mnemonic says with it
+-- each statement of a family, whose operand its instruction takes and names an item, does with the
+-- item what its mnemonic says
 abbrev pub StatementsAct : (Mnemonic → Bool) → Type 0
 StatementsAct family =
     (c : Context) (body : List Statement) (n : ℕ) (s : Statement) (v : ResolvedOperand)
@@ -274,18 +275,18 @@ JumpListsAct =
 -- ---- ends of a block
 
 -- the ends of a block: BE, BEC, BEU
-abbrev pub is_end : Mnemonic → Bool
-is_end code.Be = true
-is_end code.Bec = true
-is_end code.Beu = true
-is_end _ = false
+abbrev pub is_block_end : Mnemonic → Bool
+is_block_end code.Be = true
+is_block_end code.Bec = true
+is_block_end code.Beu = true
+is_block_end _ = false
 
 -- each statement BE, BEC or BEU, whose instruction takes no operand, ends the block as its
 -- mnemonic says
 abbrev pub EndsAct : Type 0
 EndsAct =
     (c : Context) (body : List Statement) (n : ℕ) (s : Statement) (v : ResolvedOperand)
-    → is_end s.code ≡ true → resolved_operand c s ≡ Some v
+    → is_block_end s.code ≡ true → resolved_operand c s ≡ Some v
     → (program : Code) (next : ℕ) (a : Activation) (w : GlobalStore)
     → instruction_step program (instruction c body n s) next a w
     ≡ ends_block s.code program next a w
@@ -313,7 +314,7 @@ is_elementary_component cell = nat_eq 0 (length cell.bounds) && is_some (plain_k
 -- the parameters of a function are of elementary type
 abbrev pub HasElementaryParameters : Context → Type 0
 HasElementaryParameters c =
-    is_fc (slice_get c.blocks c.block) ≡ true
+    is_of_function (slice_get c.blocks c.block) ≡ true
     → AllByRecursion (λ cell. is_elementary_component cell ≡ true) (components_of_block c)
 
 -- a variable: a path from a declared name, or into a data block
@@ -341,13 +342,6 @@ VariablesAreNamed =
 
 -- ---- calls
 
--- the calls: CALL, UC, CC
-abbrev pub is_call_instruction : Mnemonic → Bool
-is_call_instruction code.Call = true
-is_call_instruction code.Uc = true
-is_call_instruction code.Cc = true
-is_call_instruction _ = false
-
 -- what an actual parameter resolves to is named
 pub record IsNamedActual (c : Context) (a : Actual) : Type 0 where
   -- what the value of the actual parameter resolves to
@@ -366,7 +360,7 @@ CallsAct =
     (c : Context) (body : List Statement) (n : ℕ) (s : Statement) (v : ResolvedOperand)
     (name : BlockName) (db : Option BlockName) (id : BlockId) (instance : Option ℕ)
     (callee : Callee)
-    → is_call_instruction s.code ≡ true → s.operand ≡ operand.Called name db
+    → is_call s.code ≡ true → s.operand ≡ operand.Called name db
     → resolved_operand c s ≡ Some v
     → named_by c (operand.Called name db) ≡ Some (named.Called id instance)
     → callee_of c (operand.Called name db) ≡ Some callee
@@ -392,7 +386,7 @@ pub record HasNumberedStatements (c : Context) (b : Block) : Type 0 where
   -- behind the last of them one returns, as BE does, with the line of the END clause
   pub last :
       slice_get (statements_of c b) (numbered_statement_count b.body)
-      ≡ Some (record { instr = Returns end_word.Be; line = b.end_line })
+      ≡ Some (record { instr = Returns end_operation.Be; line = b.end_line })
   -- the code has no other statement
   pub count : length (statements_of c b) ≡ numbered_statement_count b.body + 1
 
@@ -402,17 +396,12 @@ StatementsAreNumbered = (c : Context) (b : Block) → HasNumberedStatements c b
 
 -- ---- all statements
 
--- the jump by list: JL
-abbrev pub is_jump_list : Mnemonic → Bool
-is_jump_list code.Jl = true
-is_jump_list _ = false
-
 -- a mnemonic is in one of the families of instructions
 abbrev pub is_in_family : Mnemonic → Bool
 is_in_family m =
     is_bit_logic m || is_load_or_transfer m || is_number_instruction m || is_comparison m
     || is_shift m || is_timing m || is_relay m || is_data_block_instruction m || is_idle m
-    || is_plain_jump m || is_jump_list m || is_end m || is_call_instruction m
+    || is_plain_jump m || is_list_jump m || is_block_end m || is_call m
 
 -- each mnemonic but that of the empty statement is in a family
 abbrev pub FamiliesAreAll : Type 0

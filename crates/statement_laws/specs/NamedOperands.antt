@@ -1,4 +1,5 @@
--- What the operand of a statement can name (docs/SEMANTICS.md, "Operands" and "Constants").
+-- What the operand of a statement can name (docs/SEMANTICS.md, "Operands" and "Constants"), stated
+-- independently of the definitions of the compiler and the machine.
 use Rattle.std.specs.Prelude.{ℕ, Bool, Option}
 use Rattle.plc_base.specs.declared.blocks.BlockId.{BlockId}
 use Rattle.plc_base.specs.declared.flags.Flag.{Flag}
@@ -24,15 +25,15 @@ pub data ItemNumber : Type 0 where
   InWord : (from : Area) (byte : ℕ) → ItemNumber
 
 -- what L can tell of the data block in the DB or DI register
-pub data OpenBlock : Type 0 where
+pub data OpenBlockFact : Type 0 where
   -- DBLG, the length of the data block in the DB register
-  DbLength : OpenBlock
+  DbLength : OpenBlockFact
   -- DBNO, the number of the data block in the DB register
-  DbNumber : OpenBlock
+  DbNumber : OpenBlockFact
   -- DILG, the length of the data block in the DI register
-  DiLength : OpenBlock
+  DiLength : OpenBlockFact
   -- DINO, the number of the data block in the DI register
-  DiNumber : OpenBlock
+  DiNumber : OpenBlockFact
 
 -- what an operand names
 pub data NamedItem : Type 0 where
@@ -59,7 +60,7 @@ pub data NamedItem : Type 0 where
   -- STW
   StatusWord : NamedItem
   -- DBLG, DBNO, DILG, DINO
-  Opened : (what : OpenBlock) → NamedItem
+  Opened : (what : OpenBlockFact) → NamedItem
   -- AR2
   SecondRegister : NamedItem
   -- the label of a jump

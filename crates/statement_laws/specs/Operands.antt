@@ -3,7 +3,6 @@
 use Rattle.std.specs.Prelude.{ℕ, zero, suc, ◌+◌, ◌-◌, ◌*◌, nat_eq, Bool, true, false, is_some, List, [], ◌∷◌, length, codes, slice_get, Option, Some, None, if◌then◌else◌}
 use Rattle.std.specs.Option.{option_map, option_and_then}
 use Rattle.plc_base.specs.Folding.{upper_case_name, is_same_name}
-use Rattle.plc_base.specs.Kinds.{is_function}
 use Rattle.plc_base.specs.declared.blocks.BlockId.{BlockId}
 use Rattle.plc_base.specs.declared.places.Area.{Area}
 use Rattle.plc_base.specs.declared.places.Area.TheVariants as area
@@ -30,8 +29,8 @@ use Rattle.block_layout.specs.Paths.{cells_at, folded_path, plain_kind}
 use Rattle.block_layout.specs.declared.blocks.Section.TheVariants as section
 use Rattle.block_layout.specs.declared.cells.Cell.{Cell}
 use Rattle.block_layout.specs.declared.members.Member.{Member}
-use Rattle.stl_types.specs.Context.{Context}
-use Rattle.statement_laws.specs.NamedOperands.{NamedItem, ItemNumber, OpenBlock}
+use Rattle.stl_types.specs.Context.{Context, is_of_function}
+use Rattle.statement_laws.specs.NamedOperands.{NamedItem, ItemNumber}
 use Rattle.statement_laws.specs.NamedOperands as named
 
 -- ---- addresses
@@ -91,8 +90,8 @@ block_id_of_name c (block.Number id) = Some id
 block_id_of_name c (block.Quoted name) = option_and_then block_of_target (symbol_target c name)
 
 -- the number of a block that is named by kind and number, or by its symbol
-abbrev pub block_number : Context → BlockName → Option ℕ
-block_number c name = option_map (λ id. id.number) (block_id_of_name c name)
+abbrev pub number_of_block_name : Context → BlockName → Option ℕ
+number_of_block_name c name = option_map (λ id. id.number) (block_id_of_name c name)
 
 -- a called block with the number of its instance
 abbrev pub with_instance : Option BlockId → Option ℕ → Option NamedItem
@@ -116,11 +115,6 @@ parameter_index_in_call true count (suc k) = k
 abbrev pub has_result : Option Block → Bool
 has_result None = false
 has_result (Some b) = is_some b.result
-
--- the block is a function
-abbrev pub is_fc : Option Block → Bool
-is_fc None = false
-is_fc (Some b) = is_function b.kind
 
 -- the width of a component of elementary type
 abbrev pub cell_width : Option Cell → Option Width
@@ -148,7 +142,7 @@ abbrev pub variable_by : Context → List ℕ → List PathStep → Option Membe
 variable_by c name steps None =
     place_in_layout (variable_place c.layouts area.L c.block true (step.Named name ∷ steps))
 variable_by c name steps (Some m) =
-    if is_fc (slice_get c.blocks c.block) then parameter_named c m.place steps
+    if is_of_function (slice_get c.blocks c.block) then parameter_named c m.place steps
     else place_in_layout (variable_place c.layouts area.Di c.block false (step.Named name ∷ steps))
 
 -- the variable of the block that a name means, by its steps
@@ -210,7 +204,8 @@ named_by c operand.Nothing = Some named.Nothing
 named_by c (operand.Direct None a width byte bit) =
     Some (named_fixed_place (area_by_letters a) width byte bit)
 named_by c (operand.Direct (Some name) a width byte bit) =
-    option_map (λ number. place_by (area_by_letters a) number width byte bit) (block_number c name)
+    option_map
+    (λ number. place_by (area_by_letters a) number width byte bit) (number_of_block_name c name)
 named_by c (operand.Timer number) = Some (named.Timer (named.Written number))
 named_by c (operand.Counter number) = Some (named.Counter (named.Written number))
 named_by c (operand.ByMemory a width from byte) =
@@ -225,7 +220,7 @@ named_by c (operand.Label name) = Some named.Label
 named_by c (operand.OfStatus flag) = Some (named.Condition flag)
 named_by c (operand.Other name) = register_named name
 named_by c (operand.OpenBlock di name) =
-    option_map (λ number. named.DataBlock di (named.Written number)) (block_number c name)
+    option_map (λ number. named.DataBlock di (named.Written number)) (number_of_block_name c name)
 named_by c (operand.Named (head.Symbol name) steps) =
     option_and_then target_named (symbol_target c name)
 named_by c (operand.Named (head.Local name) steps) =
@@ -234,4 +229,4 @@ named_by c (operand.Named (head.InBlock name) steps) = component_named c name (f
 named_by c (operand.Called name None) =
     option_map (λ id. named.Called id None) (block_id_of_name c name)
 named_by c (operand.Called name (Some db)) =
-    with_instance (block_id_of_name c name) (block_number c db)
+    with_instance (block_id_of_name c name) (number_of_block_name c db)

@@ -100,14 +100,14 @@ missing_place_error Writing area.P = errors.no_peripheral_to_write
 missing_place_error Writing _ = errors.no_place + 1
 
 -- the number at a place, in local bytes or in memory
-abbrev pub number_at_bound : Area → Location → ExecState → Option ℕ
-number_at_bound area.L b p = local_number p.local.locals b.frame b.place.byte b.place.bit b.width
-number_at_bound _ b p = number_at_place p.memory b.place b.width
+abbrev pub number_at_location : Area → Location → ExecState → Option ℕ
+number_at_location area.L b p = local_number p.local.locals b.frame b.place.byte b.place.bit b.width
+number_at_location _ b p = number_at_place p.memory b.place b.width
 
 -- the number at a place, or the error where there is no such place
 abbrev pub number_or_error : Access → Location → ExecState → Result ℕ ℕ
 number_or_error access b p =
-    ok_or (number_at_bound b.place.area b p) (missing_place_error access b.place.area)
+    ok_or (number_at_location b.place.area b p) (missing_place_error access b.place.area)
 
 -- ---- pointers
 
@@ -143,9 +143,9 @@ pointer_area_error Reading = errors.bad_area
 pointer_area_error Writing = errors.bad_area + 1
 
 -- where a pointer leads in an area
-unfoldable pub place_of_pointer :
+unfoldable pub place_at_pointer_in_area :
     Access → Area → Width → (pointer : ℕ) → ExecState → Result Location ℕ
-place_of_pointer access a width pointer p =
+place_at_pointer_in_area access a width pointer p =
     if suits_width width pointer
     then place_in_area a (byte_of_pointer pointer) (bit_of_pointer pointer) width p
     else Err (pointer_bit_error access)
@@ -195,9 +195,9 @@ place_of_operand_place access (named.Fixed a width byte bit) p =
     fixed_place access a width byte bit p
 place_of_operand_place access (named.ByMemory a width from byte) p =
     then_ok (stored_number from byte widths.Dword p)
-    (λ pointer. place_of_pointer access a width pointer p)
+    (λ pointer. place_at_pointer_in_area access a width pointer p)
 place_of_operand_place access (named.ByRegister (Some a) width register count) p =
-    place_of_pointer access a width (address_moved (address_in_register register p) count) p
+    place_at_pointer_in_area access a width (address_moved (address_in_register register p) count) p
 place_of_operand_place access (named.ByRegister None width register count) p =
     place_of_crossing access width (address_in_register register p)
     (address_moved (address_in_register register p) count) p

@@ -2,13 +2,14 @@
 ghost use Rattle.statement_laws.specs.AcceptedStatements.{AcceptedOperandsAreNamed, AcceptedStatementsAct};
 ghost use Rattle.statement_laws.specs.Laws.{BitLogicActs, CallsAct, ComparisonsAct, DataBlocksAct, EndsAct, FamiliesAreAll, IdleActs, JumpListsAct, LoadsAct, NumbersAct, OperandsAreNamed, PlainJumpsAct, RelayActs, ShiftsAct, StatementsAreNumbered, TimingActs, VariablesAreNamed};
 
-/// Whatever its instruction takes, an operand that is no variable and no called block names
+/// An operand that its instruction takes, and that is no variable and no called block, names
 /// something.
 pub fn operands_are_named()
     ensures { OperandsAreNamed }
 {}
 
-/// A variable that its instruction takes is named, where no index leaves its array.
+/// A variable that its instruction takes names something, where no index leaves its array and the
+/// parameters of a function are of elementary type.
 pub fn variables_are_named()
     ensures { VariablesAreNamed }
 {}

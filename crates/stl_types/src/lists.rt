@@ -29,7 +29,7 @@ fn is_list_jump(code: Mnemonic) -> bool
     matches!(code, Mnemonic::Jl)
 }
 
-fn is_plain_jump(code: Mnemonic) -> bool
+fn is_unconditional_jump(code: Mnemonic) -> bool
     ensures { result ≡ is_unconditional_jump code }
 {
     matches!(code, Mnemonic::Ju)
@@ -57,7 +57,7 @@ fn left_behind(left: u32, code: Mnemonic) -> Option<u32>
     if is_empty(code) {
         return Some(left);
     }
-    if is_plain_jump(code) && left > 0 {
+    if is_unconditional_jump(code) && left > 0 {
         return Some(left - 1);
     }
     None

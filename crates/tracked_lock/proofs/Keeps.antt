@@ -11,7 +11,7 @@ use Rattle.atomic_table.proofs.Lists.{at_set, at_snoc, set_here, set_else, excha
 use Rattle.tracked_lock.specs.declared.views.View.{View}
 use Rattle.tracked_lock.specs.Views.{sum_of_values, HoldsForEach, AreEntriesByMaker, times, one_if_number_of_pass, own_number, IsAdded, made_more, longer, turn_count, without_last, only_last, joined_view, spent_view, fresh_to}
 use Rattle.tracked_lock.specs.declared.views.Made.{Made}
-use Rattle.tracked_lock.specs.Rule.{Fits, KeepsLockRule, starting_view}
+use Rattle.tracked_lock.specs.Rule.{FitsLog, KeepsLockRule, starting_view}
 use Rattle.tracked_lock.specs.Plays.{Takes, Reads, Counts, Releases, with_turn, view_after_look, view_with_list, without_turn}
 use Rattle.tracked_lock.proofs.Prefixes.{prefix_self, prefix_trans, prefix_shorter, prefix_length, drop_prefix, longer_either}
 use Rattle.tracked_lock.proofs.Totals.{total-append, total-set, term_le, terms_le, totals_le}
@@ -48,7 +48,7 @@ module _ {T O E : Type 0} (origin_of : T → O) (story_of : T → List E) (maker
   K = KeepsLockRule origin_of story_of maker_of origin passes
 
   abbrev F : List E → View O E → Type 0
-  F = Fits origin_of story_of maker_of origin passes
+  F = FitsLog origin_of story_of maker_of origin passes
 
   abbrev InRange : E → Type 0
   InRange e = (0 < maker_of e) × (maker_of e ≤ passes)

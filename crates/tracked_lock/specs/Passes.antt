@@ -7,7 +7,8 @@ use Rattle.tracked_lock.specs.Views.{AreEntriesByMaker, times, one_if_number_of_
 use Rattle.tracked_lock.specs.declared.views.View.{View}
 use Rattle.atomic_table.specs.Table.{Me}
 
--- which table it is, what its value stems from, as a list of one, and how many passes it has
+-- what contracts see of a lock: its table, the origin of its value as a list of one, and how many
+-- passes it has
 pub record LockView (O : Type 0) : Type 0 where
   -- the table of the lock
   pub table : TableId

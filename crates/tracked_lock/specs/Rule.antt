@@ -12,7 +12,7 @@ module _
     {T O E : Type 0} (origin_of : T → O) (story_of : T → List E) (maker_of : E → ℕ)
     (origin : O) (passes : ℕ) where
   -- what a view says is so of a lock with this list
-  pub record Fits (log : List E) (v : View O E) : Type 0 where
+  pub record FitsLog (log : List E) (v : View O E) : Type 0 where
     -- a view with a number knows the origin of the lock
     pub origin_is : 0 < length v.made → v.origin ≡ origin ∷ []
     -- a view with a number knows how many passes the lock has
@@ -49,7 +49,7 @@ module _
     -- at most one view has the turn
     pub one : busy < 2
     -- each view fits the list
-    pub each : (id : ℕ) (v : View O E) → get_elem? s.views id ≡ maybe.some v → Fits log v
+    pub each : (id : ℕ) (v : View O E) → get_elem? s.views id ≡ maybe.some v → FitsLog log v
     -- each number from 1 to the number of passes is in exactly one view, and no other number in any
     pub numbers : (k : ℕ)
         → sum_of_values (λ v. times k v.made) s.views ≡ one_if_number_of_pass passes k

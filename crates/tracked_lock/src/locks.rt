@@ -31,7 +31,7 @@ use crate::faults::NoMemory;
 use crate::passes::{Held, Pass};
 use crate::rule::{Key, PassSeat};
 use crate::steps::{
-    LockTable, Steps, give_back, join_seats, make, read_count, split_last, take_out,
+    LockTable, TableSteps, give_back, join_seats, make, read_count, split_last, take_out,
 };
 use crate::storied::Storied;
 use std::alloc::Global;
@@ -74,7 +74,7 @@ pub struct SeatsOut<V: Storied + Drop> {
 }
 
 // The pass with one number, at the start.
-fn first_pass<V: Storied>(key: &Key<V>, seat: PassSeat<V>, number: u8) -> Pass<V>
+fn pass_at_start<V: Storied>(key: &Key<V>, seat: PassSeat<V>, number: u8) -> Pass<V>
     requires seat { IsFreshSeat (V.origin key.now.first.value) key.now.passes number seat.me }
     requires number { (1 ≤ number) × (number ≤ key.now.passes) }
     ensures { result
@@ -92,7 +92,7 @@ fn first_pass<V: Storied>(key: &Key<V>, seat: PassSeat<V>, number: u8) -> Pass<V
 // All passes, in the order of their numbers.
 fn deal<V: Storied>(
     alloc: Global,
-    steps: &Steps<V>,
+    steps: &TableSteps<V>,
     key: &Key<V>,
     mut seat: PassSeat<V>,
     n: u8,
@@ -108,10 +108,10 @@ fn deal<V: Storied>(
     let mut left = n;
     while left > 1 {
         let last = split_last(steps, &mut seat);
-        passes.insert(0, first_pass(key, last, left))?;
+        passes.insert(0, pass_at_start(key, last, left))?;
         left -= 1;
     }
-    passes.insert(0, first_pass(key, seat, left))?;
+    passes.insert(0, pass_at_start(key, seat, left))?;
     Ok(passes)
 }
 

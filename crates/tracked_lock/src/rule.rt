@@ -24,10 +24,10 @@ pub struct Key<V> {
 }
 
 /// What a seat of a lock on such values knows.
-pub type Known<V> = View<<V as Storied>::Origin, <V as Storied>::Entry>;
+pub type SeatView<V> = View<<V as Storied>::Origin, <V as Storied>::Entry>;
 
 /// The seat of a pass at the lock's table.
-pub type PassSeat<V> = Seat<Option<V>, Known<V>>;
+pub type PassSeat<V> = Seat<Option<V>, SeatView<V>>;
 
 /// The rule of the table: there is one list, of which each seat knows a beginning.
 pub struct OneList<V> {
@@ -55,22 +55,22 @@ impl<V: Storied> Play<Option<V>, View<V::Origin, V::Entry>> for Take<V> {
 }
 
 /// A look at the count of entries.
-pub struct Read<V> {
+pub struct ReadCount<V> {
     value: PhantomData<V>,
 }
 
-impl<V: Storied> Play<Option<V>, View<V::Origin, V::Entry>> for Read<V> {
+impl<V: Storied> Play<Option<V>, View<V::Origin, V::Entry>> for ReadCount<V> {
     ghost use Rattle.tracked_lock.specs.Plays.{Reads};
 
     ghost then = { λ st m r n. Reads V.maker m r n };
 }
 
 /// The count of entries is stored, by the seat with the turn.
-pub struct Count<V> {
+pub struct StoreCount<V> {
     value: PhantomData<V>,
 }
 
-impl<V: Storied> Play<Option<V>, View<V::Origin, V::Entry>> for Count<V> {
+impl<V: Storied> Play<Option<V>, View<V::Origin, V::Entry>> for StoreCount<V> {
     ghost use Rattle.tracked_lock.specs.Plays.{Counts};
 
     ghost then = { λ st m r n. Counts V.story m n };

@@ -20,7 +20,8 @@ ghost use Rattle.tracked_lock.specs.Views.{own_number, IsAdded, joined_view, wit
 
 use crate::faults::NoMemory;
 use crate::rule::{
-    BUSY, BothNumbers, COUNT, Count, Key, Known, LastNumber, OneList, PassSeat, Read, Release, Take,
+    BUSY, BothNumbers, COUNT, Key, LastNumber, OneList, PassSeat, ReadCount, Release, SeatView,
+    StoreCount, Take,
 };
 use crate::storied::Storied;
 use atomic_table::{Refused, Shared, Table};
@@ -29,10 +30,10 @@ use std::hint::spin_loop;
 use std::sync::Wait;
 
 /// The table of a lock.
-pub type LockTable<V> = Table<Option<V>, Known<V>, Key<V>, OneList<V>, Global>;
+pub type LockTable<V> = Table<Option<V>, SeatView<V>, Key<V>, OneList<V>, Global>;
 
 /// What steps are made on.
-pub type Steps<V> = Shared<Option<V>, Known<V>, Key<V>, OneList<V>>;
+pub type TableSteps<V> = Shared<Option<V>, SeatView<V>, Key<V>, OneList<V>>;
 
 /// Make: the table with its first seat, which has all numbers.
 pub fn make<V: Storied + Drop>(
@@ -56,7 +57,7 @@ pub fn make<V: Storied + Drop>(
 }
 
 /// Split: the last number gets a seat of its own.
-pub fn split_last<V: Storied>(steps: &Steps<V>, seat: &mut PassSeat<V>) -> PassSeat<V>
+pub fn split_last<V: Storied>(steps: &TableSteps<V>, seat: &mut PassSeat<V>) -> PassSeat<V>
     requires steps { IsLockTable steps.now.table_id × (seat.old.table_id ≡ steps.now.table_id) }
     requires seat { (1 < length seat.old.me.0.made) × (seat.old.me.0.turn ≡ false) }
     ensures seat { (seat.new.table_id ≡ seat.old.table_id) × (seat.new.id ≡ seat.old.id) }
@@ -68,7 +69,7 @@ pub fn split_last<V: Storied>(steps: &Steps<V>, seat: &mut PassSeat<V>) -> PassS
 }
 
 /// Take: one try for the turn. Where it succeeds the slot is out with the seat.
-fn try_take<V: Storied>(steps: &Steps<V>, seat: &mut PassSeat<V>) -> bool
+fn try_take<V: Storied>(steps: &TableSteps<V>, seat: &mut PassSeat<V>) -> bool
     requires steps { IsLockTable steps.now.table_id × (seat.old.table_id ≡ steps.now.table_id) }
     requires seat { 0 < length seat.old.me.0.made }
     ensures seat { (seat.new.table_id ≡ seat.old.table_id) × (seat.new.id ≡ seat.old.id) }
@@ -79,28 +80,28 @@ fn try_take<V: Storied>(steps: &Steps<V>, seat: &mut PassSeat<V>) -> bool
 }
 
 /// Read: how many entries the list has. What the seat has seen is a prefix of it.
-pub fn read_count<V: Storied>(steps: &Steps<V>, seat: &mut PassSeat<V>) -> u64
+pub fn read_count<V: Storied>(steps: &TableSteps<V>, seat: &mut PassSeat<V>) -> u64
     requires steps { IsLockTable steps.now.table_id × (seat.old.table_id ≡ steps.now.table_id) }
     requires seat { 0 < length seat.old.me.0.made }
     ensures seat { (seat.new.table_id ≡ seat.old.table_id) × (seat.new.id ≡ seat.old.id) }
     ensures reads { Reads V.maker seat.old.me result seat.new.me }
 {
-    steps.load::<Read<V>>(seat, COUNT)
+    steps.load::<ReadCount<V>>(seat, COUNT)
 }
 
 /// Count: stores the length of the list that the value out with the seat stands for.
-fn store_count<V: Storied>(steps: &Steps<V>, seat: &mut PassSeat<V>, len: u64)
+fn store_count<V: Storied>(steps: &TableSteps<V>, seat: &mut PassSeat<V>, len: u64)
     requires steps { IsLockTable steps.now.table_id × (seat.old.table_id ≡ steps.now.table_id) }
     requires turn { HasTurn seat.old.me }
     requires value { IsCounted V.story V.maker seat.old.me len }
     ensures seat { (seat.new.table_id ≡ seat.old.table_id) × (seat.new.id ≡ seat.old.id) }
     ensures counts { Counts V.story seat.old.me seat.new.me }
 {
-    steps.store::<Count<V>>(seat, COUNT, len);
+    steps.store::<StoreCount<V>>(seat, COUNT, len);
 }
 
 /// Release: the turn and the slot go back.
-fn release<V: Storied>(steps: &Steps<V>, seat: &mut PassSeat<V>)
+fn release<V: Storied>(steps: &TableSteps<V>, seat: &mut PassSeat<V>)
     requires steps { IsLockTable steps.now.table_id × (seat.old.table_id ≡ steps.now.table_id) }
     requires turn { HasTurn seat.old.me }
     requires value { IsSettled V.origin V.story seat.old.me }
@@ -111,7 +112,7 @@ fn release<V: Storied>(steps: &Steps<V>, seat: &mut PassSeat<V>)
 }
 
 /// Join: the seat takes over the other's numbers and what it has seen.
-fn join_other<V: Storied>(steps: &Steps<V>, seat: &mut PassSeat<V>, other: PassSeat<V>)
+fn join_other<V: Storied>(steps: &TableSteps<V>, seat: &mut PassSeat<V>, other: PassSeat<V>)
     requires steps { IsLockTable steps.now.table_id × (seat.old.table_id ≡ steps.now.table_id) }
     requires other { (other.table_id ≡ steps.now.table_id) × (other.me.1 ≡ []) }
     requires views { CanJoin V.maker seat.old.me.0 other.me.0 }
@@ -122,7 +123,7 @@ fn join_other<V: Storied>(steps: &Steps<V>, seat: &mut PassSeat<V>, other: PassS
 }
 
 /// Waits for the turn. The slot is then out with the seat.
-fn wait_for_turn<V: Storied, R: Wait>(rt: &R, steps: &Steps<V>, seat: &mut PassSeat<V>)
+fn wait_for_turn<V: Storied, R: Wait>(rt: &R, steps: &TableSteps<V>, seat: &mut PassSeat<V>)
     requires steps { IsLockTable steps.now.table_id × (seat.old.table_id ≡ steps.now.table_id) }
     requires seat { 0 < length seat.old.me.0.made }
     ensures seat { (seat.new.table_id ≡ seat.old.table_id) × (seat.new.id ≡ seat.old.id) }
@@ -137,7 +138,7 @@ fn wait_for_turn<V: Storied, R: Wait>(rt: &R, steps: &Steps<V>, seat: &mut PassS
 }
 
 /// Waits for the turn, and moves the value out of the slot.
-pub fn take_out<V: Storied, R: Wait>(rt: &R, steps: &Steps<V>, seat: &mut PassSeat<V>) -> V
+pub fn take_out<V: Storied, R: Wait>(rt: &R, steps: &TableSteps<V>, seat: &mut PassSeat<V>) -> V
     requires steps { IsLockTable steps.now.table_id × (seat.old.table_id ≡ steps.now.table_id) }
     requires seat { (0 < length seat.old.me.0.made) × (seat.old.me.1 ≡ []) }
     ensures seat { (seat.new.table_id ≡ seat.old.table_id) × (seat.new.id ≡ seat.old.id) }
@@ -149,7 +150,12 @@ pub fn take_out<V: Storied, R: Wait>(rt: &R, steps: &Steps<V>, seat: &mut PassSe
 
 /// Moves the value back into the slot, for the list that was seen or for that list with more
 /// entries of the seat's own number, and gives the turn back.
-pub fn give_back<V: Storied + Drop>(steps: &Steps<V>, seat: &mut PassSeat<V>, value: V, len: u64)
+pub fn give_back<V: Storied + Drop>(
+    steps: &TableSteps<V>,
+    seat: &mut PassSeat<V>,
+    value: V,
+    len: u64,
+)
     requires steps { IsLockTable steps.now.table_id × (seat.old.table_id ≡ steps.now.table_id) }
     requires turn { HasTurn seat.old.me × (seat.old.me.1 ≡ (0, None) ∷ []) }
     requires origin { V.origin value ∷ [] ≡ seat.old.me.0.origin }
@@ -165,7 +171,11 @@ pub fn give_back<V: Storied + Drop>(steps: &Steps<V>, seat: &mut PassSeat<V>, va
 }
 
 /// Both seats' numbers, and the longer of the two lists that they have seen, in one seat.
-pub fn join_seats<V: Storied>(steps: &Steps<V>, seat: &mut PassSeat<V>, other: PassSeat<V>) -> u64
+pub fn join_seats<V: Storied>(
+    steps: &TableSteps<V>,
+    seat: &mut PassSeat<V>,
+    other: PassSeat<V>,
+) -> u64
     requires steps { IsLockTable steps.now.table_id × (seat.old.table_id ≡ steps.now.table_id) }
     requires other { (other.table_id ≡ steps.now.table_id) × (other.me.1 ≡ []) }
     requires views { CanJoin V.maker seat.old.me.0 other.me.0 }

@@ -6,7 +6,7 @@ ghost use Rattle.watch_board.specs.Views.{HasOnePendingItem};
 
 use crate::copies::{BoardReader, BoardWriter, append, opening_copies, read, show};
 use crate::last_items::LastItem;
-use crate::prefixes::{Count, Prefix};
+use crate::prefixes::{ItemCount, Prefix};
 use crate::same_board::Tell;
 use crate::shown::Shown;
 use core::mem::replace_with;
@@ -21,7 +21,7 @@ pub struct Board;
 /// Puts items on a board. It can't be let go: `close` ends it. Contracts see the board, and the
 /// list of all that was published on it, the opening item first (`specs/BoardList`, `KnownBoard`).
 pub struct Publisher {
-    count: Count,
+    count: ItemCount,
     prefix: Prefix,
     copies: BoardWriter,
 }
@@ -143,7 +143,7 @@ impl Publisher {
         Ok(Note { last })
     }
 
-    /// Ends the board, of which publisher and viewer are. It may wait.
+    /// Ends the board that this publisher and the viewer belong to. It may wait.
     pub fn close<R: Wait>(self, rt: &R, viewer: Viewer)
         requires { viewer.board ≡ self.board }
     {

@@ -7,7 +7,7 @@ ghost use Rattle.watch_board.specs.Views.{KnowsOneBoard, HasOnePendingItem};
 
 use crate::last_items::LastItem;
 use crate::prefixes::Prefix;
-use crate::same_board::{Read, SameBoard, Show};
+use crate::same_board::{ReadItem, SameBoard, Show};
 use crate::shown::Shown;
 use left_right::reader::Reader;
 use left_right::writer::Writer;
@@ -100,7 +100,7 @@ pub fn read(reader: BoardReader, last: &mut LastItem) -> Option<BoardReader>
     ensures seen { IsPrefix last.old.prefix.list last.new.prefix.list }
     ensures knows { IfSome result (λ r. KnowsOneBoard last.new.prefix.board (view r.place)) }
 {
-    match reader.enter_as::<Read>() {
+    match reader.enter_as::<ReadItem>() {
         Ok(reading) => {
             last.take_in(reading.get());
             Some(reading.leave())

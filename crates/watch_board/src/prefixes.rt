@@ -57,11 +57,11 @@ impl Plain<Shown, Shown, u64> for Append {
 /// The word that counts the items of a board's list. The publisher alone has it. Contracts see the
 /// board.
 #[derive(Drop)]
-pub struct Count {
+pub struct ItemCount {
     word: Word<Shown, u64, RisingList>,
 }
 
-impl Model for Count {
+impl Model for ItemCount {
     ghost use Rattle.std.specs.Prelude.{◌≡◌};
     ghost use Rattle.logbook.specs.Pages.{Book};
     ghost use Rattle.watch_board.specs.ListRule.{item_count_word};
@@ -94,13 +94,13 @@ impl Model for Prefix {
 
 impl Prefix {
     /// The list of a new board, and the word that counts it.
-    pub fn open() -> (Count, Prefix)
+    pub fn open() -> (ItemCount, Prefix)
         ensures board { result.0 ≡ result.1.board }
         ensures list { result.1.list ≡ initial_item ∷ [] }
     {
         let (seen, mut first, _second) = Seen::open(Start::alone(), 1, 0);
         let word = Word::tracked(1, &mut first);
-        (Count { word }, Prefix { items: 1, seen })
+        (ItemCount { word }, Prefix { items: 1, seen })
     }
 
     /// The same prefix once more.
@@ -126,7 +126,7 @@ impl Prefix {
 
     /// The list with one item more, where this is the whole list. None where it isn't, or where the
     /// items couldn't be counted any more.
-    pub fn with(&self, count: &Count, item: &Shown) -> Option<Prefix>
+    pub fn with(&self, count: &ItemCount, item: &Shown) -> Option<Prefix>
         requires board { count.now ≡ self.now.board }
         requires rises { MayFollow self.now.list item.now }
         ensures board { IfSome result (λ longer. longer.board ≡ self.now.board) }

@@ -18,9 +18,9 @@ impl Protocol<LastItem, LinkedList<Prefix>> for SameBoard {
 }
 
 /// What a read tells: the item is of the board that was known, and known now.
-pub struct Read;
+pub struct ReadItem;
 
-impl Outcome<LastItem, LinkedList<Prefix>> for Read {
+impl Outcome<LastItem, LinkedList<Prefix>> for ReadItem {
     ghost use Rattle.watch_board.specs.Views.{ReadsBoardList};
 
     ghost then = { λ v x y w. ReadsBoardList v y.prefix w };

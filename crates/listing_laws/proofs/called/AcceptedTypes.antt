@@ -61,7 +61,7 @@ use Rattle.sem_kept.proofs.accepted.OperandsPlaces.{AreParameters, function_comp
 use Rattle.sem_kept.proofs.accepted.OperandsViews.{IsThere, id_there, id_there_is, ids_same, layout_id}
 use Rattle.sem_kept.proofs.accepted.Shared.{callable_by}
 use Rattle.listing_laws.specs.AcceptedTypes.{AreAcceptedTypesKept, AreAcceptedTypesOwed, declared_kinds, kinds_at}
-use Rattle.listing_laws.specs.HandedOn.{IsFoundAmong, SeesOwn, called_kinds, formals_by_index}
+use Rattle.listing_laws.specs.HandedTypes.{IsFoundAmong, SeesOwn, called_kinds, formals_by_index}
 use Rattle.listing_laws.specs.OwnParameterTypes.{IsParameterCell, own_kinds}
 use Rattle.listing_laws.specs.SourceTypes.{BodiesOweTypes, BodyOwesTypes, StatementOwesTypes}
 use Rattle.listing_laws.proofs.IdLemmas.{id_itself}

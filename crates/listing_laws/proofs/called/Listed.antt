@@ -14,7 +14,7 @@ use Rattle.stl_list.specs.JoinedParameters.{Chains, chains_of, first_of, kind_at
 use Rattle.stl_list.specs.Parameters.{section_of}
 use Rattle.stl_list.specs.Signatures.{formals_from, formals_of_block, is_behind, signatures, signatures_from}
 use Rattle.listing_laws.specs.Chains.{is_listed_type}
-use Rattle.listing_laws.specs.ListingParameters.{AreEndsAlike, AreListedAs, AreParametersListed, params_in}
+use Rattle.listing_laws.specs.ListingParameters.{AreEndsAlike, AreListedAs, AreParametersListed, params_of_block}
 
 -- a parameter among those of a block, whose first has a number
 record IsAt (c : Chains) (first : ℕ) (ps : List Param) (i : ℕ) (f : Formal) : Type 0 where
@@ -46,7 +46,7 @@ formal_at c back behind index first (p ∷ ps) (suc i) f e =
 -- the same among the parameters of blocks
 record IsOf (c : Chains) (first : ℕ) (bs : List CodeBlock) (id : BlockId) (i : ℕ) (f : Formal) : Type 0 where
   param : Param
-  there : slice_get (params_in bs id) i ≡ Some param
+  there : slice_get (params_of_block bs id) i ≡ Some param
   section : f.section ≡ section_of param.section
   kind : f.kind ≡ kind_at c (first + (first_of bs id + i)) param.width
   few : first_of bs id + i < total_parameter_count bs
@@ -69,7 +69,7 @@ block_at c first (b ∷ bs) id i f e = by (is_same_block b.id id) refl e (λ h. 
         let at : first_of (b ∷ bs) id ≡ 0 = ap (λ (t : Bool). if t then 0 else length b.params + first_of bs id) is in
         record {
           param = h.param;
-          there = ap (λ (t : Bool). slice_get (if t then b.params else params_in bs id) i) is ∙ h.there;
+          there = ap (λ (t : Bool). slice_get (if t then b.params else params_of_block bs id) i) is ∙ h.there;
           section = h.section;
           kind = h.kind ∙ ap (λ (n : ℕ). kind_at c n h.param.width) (omega (arith, at));
           few = omega (arith, at, within);
@@ -80,7 +80,7 @@ block_at c first (b ∷ bs) id i f e = by (is_same_block b.id id) refl e (λ h. 
         let at : first_of (b ∷ bs) id ≡ length b.params + first_of bs id = ap (λ (t : Bool). if t then 0 else length b.params + first_of bs id) is in
         record {
           param = h.param;
-          there = ap (λ (t : Bool). slice_get (if t then b.params else params_in bs id) i) is ∙ h.there;
+          there = ap (λ (t : Bool). slice_get (if t then b.params else params_of_block bs id) i) is ∙ h.there;
           section = h.section;
           kind = h.kind ∙ ap (λ (n : ℕ). kind_at c n h.param.width) (omega (arith, at));
           few = omega (arith, at, low);

@@ -36,7 +36,7 @@ use Rattle.stl_types.specs.declared.views.ResolvedOperand.{ResolvedOperand}
 use Rattle.stl_types.specs.declared.views.ResolvedOperand.TheVariants as resolved
 use Rattle.stl_codegen.specs.Operands.{is_in_named_block}
 use Rattle.stl_codegen.specs.PassedParameters.{passed_actual, passed_resolution, passed_by_operand, passings_from, actual_of_formal, with_index}
-use Rattle.listing_laws.specs.HandedOn.{ArePassedOn, AreStatementsHandedOn, HandsTypesOn, CallOwesTypes, IsFoundAmong, IsHandedOn, SeesOwn, formals_by_index}
+use Rattle.listing_laws.specs.HandedTypes.{ArePassedOn, AreStatementsHandedOn, HandsTypesOn, CallOwesTypes, IsFoundAmong, IsHandedOn, SeesOwn, formals_by_index}
 
 same_types : (a b : Simple) → is_same_type a b ≡ true → a ≡ b
 same_types a b e = by a b (eqb-true (type_number a) (type_number b) e)

@@ -18,7 +18,7 @@ use Rattle.stl_codegen.specs.CompiledBlock.{SourceInstruction, StatedBlock, comp
 use Rattle.stl_codegen.specs.GeneratedProgram.{code_block, code_block_of, code_blocks_of, each_block, statements_of, stated_from}
 use Rattle.stl_codegen.specs.Instruction.{instruction}
 use Rattle.stl_codegen.specs.Order.{is_code_before}
-use Rattle.listing_laws.specs.HandedOn.{HandsTypesOn, SeesOwn}
+use Rattle.listing_laws.specs.HandedTypes.{HandsTypesOn, SeesOwn}
 use Rattle.listing_laws.specs.SourceTypes.{AreSourceTypesKept, AreSourcesHandedOn, BodiesOweTypes, BodyOwesTypes, SourceOwesTypes, StatementOwesTypes}
 use Rattle.listing_laws.proofs.NameLemmas.{either_way}
 use Rattle.listing_laws.proofs.called.HandedOn.{types_listed}

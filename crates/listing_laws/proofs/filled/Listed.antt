@@ -34,7 +34,7 @@ use Rattle.sem_kept.proofs.accepted.Verified.{accepted_verifies}
 use Rattle.listing_laws.specs.ListedSource.{IsWholeAgain, listed_again}
 use Rattle.listing_laws.specs.Chains.{is_listed_type}
 use Rattle.listing_laws.specs.ListedDeclarations.{AreWide, signatures_in}
-use Rattle.listing_laws.specs.Ids.{data_id}
+use Rattle.listing_laws.specs.Ids.{data_id_of_number}
 use Rattle.listing_laws.specs.Instances.{AreInstancesAgain, AreInstancesLong, IsInstanceAgain, IsInstanceLong, data_again}
 use Rattle.listing_laws.proofs.CompiledLemmas.{written_compiled}
 use Rattle.listing_laws.proofs.IdLemmas.{blocks_found, source_symbols}
@@ -161,7 +161,7 @@ module _ (source file : List ℕ) (symbols : List Symbol) (t : Tree) (accepted :
           reached = listed_block_there.reached;
           there = listed_block_there.there;
           found = blocks_found t symbols others j (function_block n) by_22 by_44
-              (in_front (map (λ (x : CodeBlock). x.id) (in_lines p.code_blocks)) (map (λ (x : DataBlock). data_id x.number) p.data_blocks) j (function_block n)
+              (in_front (map (λ (x : CodeBlock). x.id) (in_lines p.code_blocks)) (map (λ (x : DataBlock). data_id_of_number x.number) p.data_blocks) j (function_block n)
               (slice_get_mapped (λ (x : CodeBlock). x.id) (in_lines p.code_blocks) j b own_ready.place.there));
           both = kept.both;
           long = sym (own_length (types_of_source others again.blocks) ss listed_block_there.reached b again.blocks refl) ∙ kept.length again.blocks;

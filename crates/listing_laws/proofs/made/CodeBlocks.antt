@@ -45,7 +45,7 @@ use Rattle.block_layout.proofs.BlockLemmas.{kind_there}
 use Rattle.listing_laws.specs.ListedSource.{IsCodeAt, IsMadeOf, again_at, context_at, listed_again}
 use Rattle.listing_laws.specs.AgainBodies.{AreCodeBlocksKept, IsBodyKept, made_block}
 use Rattle.listing_laws.specs.ListedDeclarations.{IsDeclaredAgain, signatures_in}
-use Rattle.listing_laws.specs.Ids.{data_id}
+use Rattle.listing_laws.specs.Ids.{data_id_of_number}
 use Rattle.listing_laws.specs.Lines.{StandsBehind}
 use Rattle.listing_laws.specs.ListedBodies.{AreKeptFrom}
 use Rattle.listing_laws.specs.Statements.{statement_offset}
@@ -204,7 +204,7 @@ code_here c b l id e code = ap (code_block_of c b l) e ∙ ap (λ (t : Bool). if
 own_id : (symbols : List Symbol) (ss : List Signature) (reached : ℕ) (x : CodeBlock) → id_of symbols (listed_block ss reached x) ≡ Some x.id
 own_id symbols ss reached x = ap (λ (t : Bool). if t then Some x.id else None) (own_kind x.id.kind)
 
-data_id_of : (symbols : List Symbol) (ss : List Signature) (line number : ℕ) (bytes : List ℕ) (of : Option ℕ) → id_of symbols (listed_data ss line number bytes of) ≡ Some (data_id number)
+data_id_of : (symbols : List Symbol) (ss : List Signature) (line number : ℕ) (bytes : List ℕ) (of : Option ℕ) → id_of symbols (listed_data ss line number bytes of) ≡ Some (data_id_of_number number)
 data_id_of symbols ss line number bytes None = refl
 data_id_of symbols ss line number bytes (Some of) = refl
 
@@ -250,7 +250,7 @@ none_again symbols t others i d n high there laid =
     let behind : slice_get (listed_data_blocks ss line p.data_blocks) j ≡ Some d =
     sym (at_back code (listed_data_blocks ss line p.data_blocks) i j (omega (arith, many, high))) ∙ ap (λ (z : List Block). slice_get z i) (sym (tree_blocks p)) ∙ there in
     let from = origin (λ (x : DataBlock). listed_data ss line x.number x.bytes x.instance_of) p.data_blocks j d behind in
-    let known : n.id ≡ Some (data_id from.of.number) =
+    let known : n.id ≡ Some (data_id_of_number from.of.number) =
     layout_id others (listed_again symbols t) d n (layout_of_block others (listed_again symbols t) i d n there laid)
     ∙ ap (id_of others) (sym from.image) ∙ data_id_of others ss line from.of.number from.of.bytes from.of.instance_of in
     ap (λ (o : Option BlockId). map compiled_block (code_block_of (again_at symbols t others i) d n o)) known

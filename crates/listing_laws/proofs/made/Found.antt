@@ -19,8 +19,8 @@ use Rattle.stl_types.specs.Resolution.{id_at}
 use Rattle.block_layout.proofs.CommonLemmas.{all_there, origin}
 use Rattle.block_layout.proofs.BlockLemmas.{known_there}
 use Rattle.listing_laws.specs.ListedSource.{listed_again}
-use Rattle.listing_laws.specs.Found.{AreCalledFound, AreDataFound}
-use Rattle.listing_laws.specs.Ids.{data_id}
+use Rattle.listing_laws.specs.FoundBlocks.{AreCalledFound, AreDataFound}
+use Rattle.listing_laws.specs.Ids.{data_id_of_number}
 use Rattle.listing_laws.proofs.IdLemmas.{blocks_kept}
 
 -- ---- a block by its place
@@ -80,8 +80,8 @@ again symbols t others id plain e =
 
 -- ---- data blocks
 
-data_named : (k : BlockKind) (n m : ℕ) → is_data_block k ≡ true → n ≡ m → record { kind = k; number = n } ≡ data_id m
-data_named kinds.Db n m h e = ap data_id e
+data_named : (k : BlockKind) (n m : ℕ) → is_data_block k ≡ true → n ≡ m → record { kind = k; number = n } ≡ data_id_of_number m
+data_named kinds.Db n m h e = ap data_id_of_number e
 data_named _ n m h e = absurd cc
 
 -- the number of a data block that isn't broken, by what its name means
@@ -90,7 +90,7 @@ number_by ls x =
     option_and_then (λ b. number_of_block b.id)
     (option_and_then (whole_at ls) (option_and_then (λ id. known_block id (laid_ids ls)) (of_kind is_data_block x)))
 
-number_there : (ls : List BlockLayout) (x : Option BlockId) (number : ℕ) → number_by ls x ≡ Some number → is_some (known_block (data_id number) (laid_ids ls)) ≡ true
+number_there : (ls : List BlockLayout) (x : Option BlockId) (number : ℕ) → number_by ls x ≡ Some number → is_some (known_block (data_id_of_number number) (laid_ids ls)) ≡ true
 number_there ls None number e = absurd cc
 number_there ls (Some id) number e = kind (is_data_block id.kind) refl e
   where
@@ -98,14 +98,14 @@ number_there ls (Some id) number e = kind (is_data_block id.kind) refl e
     same m h = cc
 
     whole : (k : ℕ) (l : BlockLayout) (t : Bool) → known_block id (laid_ids ls) ≡ Some k → is_data_block id.kind ≡ true → l.id ≡ Some id
-        → option_and_then (λ b. number_of_block b.id) (if t then None else Some l) ≡ Some number → is_some (known_block (data_id number) (laid_ids ls)) ≡ true
+        → option_and_then (λ b. number_of_block b.id) (if t then None else Some l) ≡ Some number → is_some (known_block (data_id_of_number number) (laid_ids ls)) ≡ true
     whole k l true f db known h = absurd cc
     whole k l false f db known h =
         let number_is : id.number ≡ number = same id.number (ap number_of_block (sym known) ∙ h) in
         ap (λ (i : BlockId). is_some (known_block i (laid_ids ls))) (sym (data_named id.kind id.number number db number_is)) ∙ ap is_some f
 
     place : (o : Option ℕ) → known_block id (laid_ids ls) ≡ o → is_data_block id.kind ≡ true
-        → option_and_then (λ b. number_of_block b.id) (option_and_then (whole_at ls) o) ≡ Some number → is_some (known_block (data_id number) (laid_ids ls)) ≡ true
+        → option_and_then (λ b. number_of_block b.id) (option_and_then (whole_at ls) o) ≡ Some number → is_some (known_block (data_id_of_number number) (laid_ids ls)) ≡ true
     place None f db h = absurd cc
     place (Some k) f db h =
         let at = found_at ls id k f in
@@ -114,11 +114,11 @@ number_there ls (Some id) number e = kind (is_data_block id.kind) refl e
 
     kind : (t : Bool) → is_data_block id.kind ≡ t
         → option_and_then (λ b. number_of_block b.id) (option_and_then (whole_at ls) (option_and_then (λ id. known_block id (laid_ids ls)) (if t then Some id else None))) ≡ Some number
-        → is_some (known_block (data_id number) (laid_ids ls)) ≡ true
+        → is_some (known_block (data_id_of_number number) (laid_ids ls)) ≡ true
     kind true db h = place (known_block id (laid_ids ls)) refl db h
     kind false db h = absurd cc
 
-number_again : (ls : List BlockLayout) (number : ℕ) → IsWholeAt ls (data_id number) → number_by ls (Some (data_id number)) ≡ Some number
+number_again : (ls : List BlockLayout) (number : ℕ) → IsWholeAt ls (data_id_of_number number) → number_by ls (Some (data_id_of_number number)) ≡ Some number
 number_again ls number at =
     ap (λ (o : Option ℕ). option_and_then (λ b. number_of_block b.id) (option_and_then (whole_at ls) o)) at.found
     ∙ ap (option_and_then (λ b. number_of_block b.id)) at.whole
@@ -128,7 +128,7 @@ pub data_found : AreDataFound
 data_found symbols t others place at clean name number e =
     let ls : List BlockLayout = layouts_of (listed_again symbols t) others in
     number_again ls number
-    (whole_found ls (data_id number) clean (again symbols t others (data_id number) refl (number_there (layouts_of t symbols) (named_block symbols name) number e)))
+    (whole_found ls (data_id_of_number number) clean (again symbols t others (data_id_of_number number) refl (number_there (layouts_of t symbols) (named_block symbols name) number e)))
 
 -- ---- called blocks
 

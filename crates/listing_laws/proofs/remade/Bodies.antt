@@ -49,7 +49,7 @@ use Rattle.block_layout.proofs.CommonLemmas.{all_there}
 use Rattle.sem_kept.proofs.accepted.Settled.{statements_settle}
 use Rattle.sem_kept.proofs.accepted.SizesOps.{whole_count}
 use Rattle.listing_laws.specs.ListedSource.{IsMadeOf, IsWholeAgain, again_at, context_at}
-use Rattle.listing_laws.specs.AgainBodies.{AreBodiesKeptAgain, around_again, body_again, made_block}
+use Rattle.listing_laws.specs.AgainBodies.{AreBodiesKeptAgain, listing_context_again, body_again, made_block}
 use Rattle.listing_laws.specs.CallsAgain.{AreStatementsAgain, IsFoundAgain, IsRightStatement}
 use Rattle.listing_laws.specs.Calls.{IsInstanceNumbered}
 use Rattle.listing_laws.specs.ListedDeclarations.{signatures_in}
@@ -141,7 +141,7 @@ module _ (source file : List ℕ) (symbols : List Symbol) (t : Tree) (accepted :
   body = body_again symbols t sb
 
   abbrev sur : ListingContext
-  sur = around_again symbols t sb
+  sur = listing_context_again symbols t sb
 
   abbrev f : ℕ → ℕ
   f = statement_offset sb.statements
@@ -312,7 +312,7 @@ statements_again source file symbols t accepted bytes file_bytes others clean ag
     all_split
     (λ s. is_empty_statement s.code ≡ false → (n k : ℕ)
     → IsInstructionKept (again_at symbols t others again) (body_again symbols t (made_block symbols t place b l id)) n s.code (instruction (context_at symbols t place) b.body n s)
-    (listed_statement (around_again symbols t (made_block symbols t place b l id)) k
+    (listed_statement (listing_context_again symbols t (made_block symbols t place b l id)) k
     (run_of (statement_offset (made_block symbols t place b l id).statements) (instruction (context_at symbols t place) b.body n s))))
     b.body
     (λ front s rest e some n k. statement_kept source file symbols t accepted bytes file_bytes others clean again place b l id made s front rest e some n k)

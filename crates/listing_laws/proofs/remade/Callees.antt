@@ -47,8 +47,8 @@ use Rattle.listing_laws.specs.ListedSource.{IsMadeOf, IsWholeAgain, again_at, co
 use Rattle.listing_laws.specs.Chains.{is_listed_type}
 use Rattle.listing_laws.specs.ListedDeclarations.{signatures_in}
 use Rattle.listing_laws.specs.Fitting.{IsListedAs}
-use Rattle.listing_laws.specs.HandedOn.{called_kinds}
-use Rattle.listing_laws.specs.Ids.{data_id, program_ids}
+use Rattle.listing_laws.specs.HandedTypes.{called_kinds}
+use Rattle.listing_laws.specs.Ids.{data_id_of_number, program_ids}
 use Rattle.listing_laws.specs.Passings.{AreNamedApart, in_upper_case}
 use Rattle.listing_laws.proofs.IdLemmas.{ids_listed}
 use Rattle.listing_laws.proofs.called.AcceptedTypes.{body_owed, whole_known}
@@ -202,19 +202,19 @@ front_or_back [] ys k x e = inr (k, e)
 front_or_back (z ∷ xs) ys zero x e = inl e
 front_or_back (z ∷ xs) ys (suc k) x e = front_or_back xs ys k x e
 
-no_data_code : (number : ℕ) (id : BlockId) → data_id number ≡ id → is_code id.kind ≡ true → ⊥
+no_data_code : (number : ℕ) (id : BlockId) → data_id_of_number number ≡ id → is_code id.kind ≡ true → ⊥
 no_data_code number id e h = let no : false ≡ true = ap (λ (i : BlockId). is_code i.kind) e ∙ h in absurd cc
 
 -- the code block of a kind and number, in the order of a listing
 code_place : (p : Program) (k : ℕ) (id : BlockId) → slice_get (program_ids p) k ≡ Some id → is_code id.kind ≡ true
     → (b : CodeBlock) × (slice_get (in_lines p.code_blocks) k ≡ Some b) × (b.id ≡ id)
-code_place p k id e code = by (front_or_back (map (λ b. b.id) (in_lines p.code_blocks)) (map (λ d. data_id d.number) p.data_blocks) k id e)
+code_place p k id e code = by (front_or_back (map (λ b. b.id) (in_lines p.code_blocks)) (map (λ d. data_id_of_number d.number) p.data_blocks) k id e)
   where
-    by : (slice_get (map (λ (b : CodeBlock). b.id) (in_lines p.code_blocks)) k ≡ Some id) ⊎ ((j : ℕ) × (slice_get (map (λ (d : DataBlock). data_id d.number) p.data_blocks) j ≡ Some id))
+    by : (slice_get (map (λ (b : CodeBlock). b.id) (in_lines p.code_blocks)) k ≡ Some id) ⊎ ((j : ℕ) × (slice_get (map (λ (d : DataBlock). data_id_of_number d.number) p.data_blocks) j ≡ Some id))
         → (b : CodeBlock) × (slice_get (in_lines p.code_blocks) k ≡ Some b) × (b.id ≡ id)
     by (inl h) = mapped_from (λ (b : CodeBlock). b.id) (in_lines p.code_blocks) k id h
     by (inr h) =
-        let d = mapped_from (λ (d : DataBlock). data_id d.number) p.data_blocks h.0 id h.1 in
+        let d = mapped_from (λ (d : DataBlock). data_id_of_number d.number) p.data_blocks h.0 id h.1 in
         absurd (no_data_code d.0.number id d.2 code)
 
 code_kind : (k : BlockKind) → is_callable k ≡ true → is_system_function k ≡ false → is_code k ≡ true

@@ -79,7 +79,7 @@ use Rattle.listing_laws.specs.Calling.{AreCalledAgain}
 use Rattle.listing_laws.specs.CallsAgain.{AreCallsAgain, IsCalledAgain, IsFoundAgain, IsRightStatement}
 use Rattle.listing_laws.specs.ListedDeclarations.{signatures_in}
 use Rattle.listing_laws.specs.Fitting.{IsBacked, IsListedAs}
-use Rattle.listing_laws.specs.HandedOn.{CallOwesTypes, formals_by_index}
+use Rattle.listing_laws.specs.HandedTypes.{CallOwesTypes, formals_by_index}
 use Rattle.listing_laws.specs.Instructions.{HasAgain}
 use Rattle.listing_laws.specs.Passings.{IsPassable, in_upper_case}
 use Rattle.listing_laws.specs.Steps.{PassesParameterOn}

@@ -24,8 +24,8 @@ use Rattle.sem_kept.proofs.accepted.RecordOrder.{Rise}
 use Rattle.listing_laws.specs.AcceptedTypes.{declared_kinds}
 use Rattle.listing_laws.specs.Chains.{AreTypesAsDeclared, HasStep, LinksHaveType, is_listed_type}
 use Rattle.listing_laws.specs.ListedDeclarations.{AreWide, signatures_in}
-use Rattle.listing_laws.specs.HandedOn.{declared_type_in}
-use Rattle.listing_laws.specs.ListingParameters.{IsParameterOf, params_in}
+use Rattle.listing_laws.specs.HandedTypes.{declared_type_in}
+use Rattle.listing_laws.specs.ListingParameters.{IsParameterOf, params_of_block}
 use Rattle.listing_laws.specs.Steps.{PassesParameterOn}
 use Rattle.listing_laws.proofs.called.AcceptedTypes.{accepted_types_kept}
 use Rattle.listing_laws.proofs.called.Listed.{ends_alike, parameters_listed}
@@ -35,15 +35,15 @@ use Rattle.listing_laws.proofs.declared.Blocks.{codes_wide, fronts_apart}
 -- ---- widths
 
 wide_in : (c : Chains) (first : ℕ) (bs : List CodeBlock) → AllByRecursion (λ s. AreWide s.params s.formals) (signatures_from c first bs) → (id : BlockId)
-    → AreWide (params_in bs id) (formals_of_block (signatures_from c first bs) id)
+    → AreWide (params_of_block bs id) (formals_of_block (signatures_from c first bs) id)
 wide_in c first [] h id = tt
 wide_in c first (b ∷ bs) h id = by (is_same_block b.id id) h.0 (wide_in c (first + length b.params) bs h.1 id)
   where
     own : List Formal
     own = formals_from c (is_function b.id.kind) false 0 first b.params
 
-    by : (t : Bool) → AreWide b.params own → AreWide (params_in bs id) (formals_of_block (signatures_from c (first + length b.params) bs) id)
-        → AreWide (if t then b.params else params_in bs id) (if t then own else formals_of_block (signatures_from c (first + length b.params) bs) id)
+    by : (t : Bool) → AreWide b.params own → AreWide (params_of_block bs id) (formals_of_block (signatures_from c (first + length b.params) bs) id)
+        → AreWide (if t then b.params else params_of_block bs id) (if t then own else formals_of_block (signatures_from c (first + length b.params) bs) id)
     by true one more = one
     by false one more = more
 
@@ -68,7 +68,7 @@ module _ (source file : List ℕ) (symbols : List Symbol) (t : Tree) (accepted :
   of_width : (id : BlockId) (i : ℕ) (f : Formal) → slice_get (formals_of_block (signatures chains blocks) id) i ≡ Some f → (h : IsParameterOf chains blocks id i f) → width_of f.kind ≡ h.param.width
   unfolding signatures
   of_width id i f there h =
-      wide_at (params_in blocks id) (formals_of_block (signatures chains blocks) id) (wide_in chains 0 blocks (codes_wide source file symbols t accepted bytes file_bytes) id) i h.param f h.there there
+      wide_at (params_of_block blocks id) (formals_of_block (signatures chains blocks) id) (wide_in chains 0 blocks (codes_wide source file symbols t accepted bytes file_bytes) id) i h.param f h.there there
 
   pub type_asked : (own other : BlockId) (i j : ℕ) (g f : Formal) → slice_get (formals_of_block (signatures_in (program_in symbols t)) own) i ≡ Some g
       → slice_get (formals_of_block (signatures_in (program_in symbols t)) other) j ≡ Some f → width_of g.kind ≡ width_of f.kind

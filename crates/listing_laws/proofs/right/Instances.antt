@@ -56,7 +56,7 @@ use Rattle.sem_kept.proofs.accepted.OperandsViews.{IsKnownDataBlock, data_there,
 use Rattle.listing_laws.specs.ListedSource.{listed_again}
 use Rattle.listing_laws.specs.Calls.{IsInstanceAt}
 use Rattle.listing_laws.specs.ListedDeclarations.{signatures_in}
-use Rattle.listing_laws.specs.Ids.{data_id, program_ids}
+use Rattle.listing_laws.specs.Ids.{data_id_of_number, program_ids}
 use Rattle.listing_laws.specs.Instructions.{HasAgain}
 use Rattle.listing_laws.proofs.IdLemmas.{blocks_found, source_ids}
 use Rattle.listing_laws.proofs.made.Origins.{at_back, data_listed, lines_count, mapped_at}
@@ -92,13 +92,13 @@ map_length : {A B : Type 0} (f : A → B) (xs : List A) → length (map f xs) �
 map_length f [] = refl
 map_length f (x ∷ xs) = ap suc (map_length f xs)
 
-id_at : (p : Program) (j : ℕ) (d : DataBlock) → slice_get p.data_blocks j ≡ Some d → slice_get (program_ids p) (length p.code_blocks + j) ≡ Some (data_id d.number)
+id_at : (p : Program) (j : ℕ) (d : DataBlock) → slice_get p.data_blocks j ≡ Some d → slice_get (program_ids p) (length p.code_blocks + j) ≡ Some (data_id_of_number d.number)
 id_at p j d e =
     let front : List BlockId = map (λ (b : CodeBlock). b.id) (in_lines p.code_blocks) in
     let size = map_length (λ (b : CodeBlock). b.id) (in_lines p.code_blocks) in
     let count = lines_count p.code_blocks in
-    at_back front (map (λ (d : DataBlock). data_id d.number) p.data_blocks) (length p.code_blocks + j) j (omega (arith, size, count))
-    ∙ mapped_at (λ (d : DataBlock). data_id d.number) p.data_blocks j d e
+    at_back front (map (λ (d : DataBlock). data_id_of_number d.number) p.data_blocks) (length p.code_blocks + j) j (omega (arith, size, count))
+    ∙ mapped_at (λ (d : DataBlock). data_id_of_number d.number) p.data_blocks j d e
 
 -- ---- layouts
 
@@ -349,11 +349,11 @@ instance_placed symbols t tree others again id n found fb inst placed numbered =
     m : ℕ
     m = length p.code_blocks + inst.place
 
-    there : known_block (data_id n) (source_block_ids c) ≡ Some m
+    there : known_block (data_id_of_number n) (source_block_ids c) ≡ Some m
     there =
-        ap (known_block (data_id n)) (listed_ids symbols t others)
-        ∙ blocks_found t symbols others m (data_id n) tree.by_layout.by_22 (rule_44_of symbols t tree)
-        (id_at p inst.place inst.stored inst.there ∙ ap (λ (k : ℕ). Some (data_id k)) inst.number)
+        ap (known_block (data_id_of_number n)) (listed_ids symbols t others)
+        ∙ blocks_found t symbols others m (data_id_of_number n) tree.by_layout.by_22 (rule_44_of symbols t tree)
+        (id_at p inst.place inst.stored inst.there ∙ ap (λ (k : ℕ). Some (data_id_of_number k)) inst.number)
 
     data_is : data_place c (name_of_data_block n) ≡ Some m
     data_is = there

@@ -26,7 +26,7 @@ use Rattle.stl_list.specs.Mnemonics.{mnemonic_of}
 use Rattle.stl_list.specs.Runs.{Run}
 use Rattle.stl_list.specs.Signatures.{Signature}
 use Rattle.stl_list.specs.Statements.{ListingContext, body_of, label_at, label_of_end, listed_statement, statement_at, statements_from, listing_context}
-use Rattle.listing_laws.specs.Nesting.{AreListedNestingsKept, AreMarksKept, IsReadable, NestingMark, mark_of, nesting_marks}
+use Rattle.listing_laws.specs.Nesting.{AreListedNestingsKept, AreMarksKept, IsReadable, NestingMark, nesting_mark_of, nesting_marks}
 use Rattle.listing_laws.specs.Statements.{statement_offset, run_of}
 use Rattle.listing_laws.proofs.RunLemmas.{runs_found}
 use Rattle.listing_laws.proofs.WordLemmas.{call_words_found, end_words_found}
@@ -82,7 +82,7 @@ word_is c body n f s is some = by_jump (jump_operation_of s.code) refl
 -- ---- the marks of statements
 
 abbrev stated_mark : (ℕ → ℕ) → SourceInstruction → List NestingMark
-stated_mark f s = mark_of (record { line = s.line; code = mnemonic_of (run_of f s.instr).op; label = None; operand = operand.Nothing; actuals = [] })
+stated_mark f s = nesting_mark_of (record { line = s.line; code = mnemonic_of (run_of f s.instr).op; label = None; operand = operand.Nothing; actuals = [] })
 
 abbrev stated_marks : (ℕ → ℕ) → List SourceInstruction → List NestingMark
 stated_marks f [] = []
@@ -90,7 +90,7 @@ stated_marks f (s ∷ ss) = stated_mark f s ++ stated_marks f ss
 
 mark_kept : (f : ℕ → ℕ) (m : Mnemonic) (line : ℕ) (i : Instr) → is_empty_statement m ≡ false → IsWorded f m i → stated_mark f (record { instr = i; line = line }) ≡ record { code = m; line = line } ∷ []
 mark_kept f m line i some e =
-    ap (λ (x : Mnemonic). mark_of (record { line = line; code = x; label = None; operand = operand.Nothing; actuals = [] })) e
+    ap (λ (x : Mnemonic). nesting_mark_of (record { line = line; code = x; label = None; operand = operand.Nothing; actuals = [] })) e
     ∙ ap (λ (b : Bool). if b then [] else record { code = m; line = line } ∷ []) some
 
 source_marks : (c : Context) (body : List Statement) (n : ℕ) (f : ℕ → ℕ) (ss : List Statement) → AllByRecursion (IsReadable c) ss → stated_marks f (stated_from c body n ss) ≡ nesting_marks ss
@@ -123,7 +123,7 @@ last_statement sur k r size =
     ∙ last_marks (line_of_statement sur.lines k) (label_at sur.targets k)
 
 next_statement : (sur : ListingContext) (k : ℕ) (r : Run) (rest : List Statement) → suc k < length sur.lines
-    → nesting_marks (statement_at sur k r ++ rest) ≡ mark_of (record { line = line_of_statement sur.lines k; code = mnemonic_of r.op; label = None; operand = operand.Nothing; actuals = [] }) ++ nesting_marks rest
+    → nesting_marks (statement_at sur k r ++ rest) ≡ nesting_mark_of (record { line = line_of_statement sur.lines k; code = mnemonic_of r.op; label = None; operand = operand.Nothing; actuals = [] }) ++ nesting_marks rest
 unfolding statement_at
 next_statement sur k r rest more =
     ap (λ (b : Bool). nesting_marks ((if b then label_of_end (line_of_statement sur.lines k) (label_at sur.targets k) else listed_statement sur k r ∷ []) ++ rest)) (ne_eqb (suc k) (length sur.lines) (λ e. omega (arith, e, more)))
@@ -136,7 +136,7 @@ listed_marks : (sur : ListingContext) (f : ℕ → ℕ) (k : ℕ) (ss : List Sou
 listed_marks sur f k [] last size lines = last_statement sur k (run_of f last.instr) (omega (arith, size))
 listed_marks sur f k (s ∷ ss) last size lines =
     next_statement sur k (run_of f s.instr) (statements_from sur (suc k) (run_all f (ss ++ last ∷ []))) (omega (arith, size))
-    ∙ ap (λ (line : ℕ). mark_of (record { line = line; code = mnemonic_of (run_of f s.instr).op; label = None; operand = operand.Nothing; actuals = [] }) ++ nesting_marks (statements_from sur (suc k) (run_all f (ss ++ last ∷ [])))) (ap (line_of_statement sur.lines) (none_more k) ∙ lines 0)
+    ∙ ap (λ (line : ℕ). nesting_mark_of (record { line = line; code = mnemonic_of (run_of f s.instr).op; label = None; operand = operand.Nothing; actuals = [] }) ++ nesting_marks (statements_from sur (suc k) (run_all f (ss ++ last ∷ [])))) (ap (line_of_statement sur.lines) (none_more k) ∙ lines 0)
     ∙ ap (λ (ms : List NestingMark). stated_mark f s ++ ms) (listed_marks sur f (suc k) ss last (omega (arith, size)) (λ j. ap (line_of_statement sur.lines) (one_more k j) ∙ lines (suc j)))
   where
     none_more : (k : ℕ) → k ≡ k + 0

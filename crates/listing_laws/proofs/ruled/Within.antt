@@ -29,7 +29,7 @@ use Rattle.stl_codegen.specs.Instruction.{call_instr, count_of_statement, end_in
 use Rattle.stl_codegen.specs.Operands.{numbered_operand, flat_operand_of, register_operand}
 use Rattle.stl_codegen.specs.Operations.{call_operation_of, end_operation_of, jump_operation_of}
 use Rattle.listing_laws.specs.LabelRules.{AreJumpsWithin, LeadsWithin}
-use Rattle.listing_laws.specs.Statements.{goes_to, jumps_to}
+use Rattle.listing_laws.specs.Statements.{is_jump_to, jumps_to}
 
 -- ---- how many statements there are
 
@@ -61,20 +61,20 @@ stated_count c body n (s ∷ ss) = by (is_empty_statement s.code) (stated_count 
 
 -- ---- where an instruction leads
 
-register_stays : (which : Register) (n : ℕ) → goes_to n (register_operand which) ≡ false
+register_stays : (which : Register) (n : ℕ) → is_jump_to n (register_operand which) ≡ false
 register_stays register.Dblg n = refl
 register_stays register.Dbno n = refl
 register_stays register.Dilg n = refl
 register_stays register.Dino n = refl
 register_stays _ n = refl
 
-number_stays : (what : Numbered) (from : Area) (byte n : ℕ) → goes_to n (numbered_operand what from byte) ≡ false
+number_stays : (what : Numbered) (from : Area) (byte n : ℕ) → is_jump_to n (numbered_operand what from byte) ≡ false
 number_stays numbered.Timer from byte n = refl
 number_stays numbered.Counter from byte n = refl
 number_stays numbered.Db from byte n = refl
 number_stays numbered.Di from byte n = refl
 
-operand_stays : (o : Operand) (v : ResolvedOperand) (n : ℕ) → goes_to n (flat_operand_of o v) ≡ false
+operand_stays : (o : Operand) (v : ResolvedOperand) (n : ℕ) → is_jump_to n (flat_operand_of o v) ≡ false
 unfolding flat_operand_of
 operand_stays o (resolved.Register which) n = register_stays which n
 operand_stays o (resolved.NumberBy what from byte) n = number_stays what from byte n

@@ -47,7 +47,7 @@ use Rattle.sem_kept.proofs.accepted.Sizes.{accepted_is_small}
 use Rattle.sem_kept.proofs.accepted.SizesSums.{summed_ones}
 use Rattle.listing_laws.specs.ListedSource.{AreWholeAgain, listed_again}
 use Rattle.listing_laws.specs.ListedDeclarations.{IsDeclaredAgain, signatures_in}
-use Rattle.listing_laws.specs.Ids.{data_id, program_ids}
+use Rattle.listing_laws.specs.Ids.{data_id_of_number, program_ids}
 use Rattle.listing_laws.specs.OwnData.{IsOwnDataAgain}
 use Rattle.listing_laws.specs.Rules.{AreDeclarationsRight, IsHeadRight}
 use Rattle.listing_laws.specs.Whole.{AreBlocksRightAgain, AreDataLaid, HasShapeAgain, IsDataAt}
@@ -202,7 +202,7 @@ data_laid y blocks p line d ready stored own = let both = by d.instance_of refl 
     by (Some number) is =
         let f = stored.instance number is in
         let named : slice_get (program_ids p) f.place ≡ Some (function_block number) =
-        mapped_there (λ (b : CodeBlock). b.id) (in_lines p.code_blocks) (map (λ (d : DataBlock). data_id d.number) p.data_blocks) f.place f.block f.there ∙ ap (λ (i : BlockId). Some i) f.id in
+        mapped_there (λ (b : CodeBlock). b.id) (in_lines p.code_blocks) (map (λ (d : DataBlock). data_id_of_number d.number) p.data_blocks) f.place f.block f.there ∙ ap (λ (i : BlockId). Some i) f.id in
         instance_laid y blocks p line d number f (ready.found f.place (function_block number) named) (ready.listed f.place f.block f.there)
         (got_there (IsDeclaredAgain (signatures_in p)) (in_lines p.code_blocks) f.place f.block ready.again f.there)
 
@@ -216,7 +216,7 @@ data_known : (y : Types) (p : Program) (line : ℕ) (d : DataBlock) (o : Option 
 data_known y p line d None h = refl
 data_known y p line d (Some number) h = ap is_unknown_shape h.shape
 
-pub data_named : (symbols : List Symbol) (ss : List Signature) (line number : ℕ) (bytes : List ℕ) (o : Option ℕ) → id_of symbols (listed_data ss line number bytes o) ≡ Some (data_id number)
+pub data_named : (symbols : List Symbol) (ss : List Signature) (line number : ℕ) (bytes : List ℕ) (o : Option ℕ) → id_of symbols (listed_data ss line number bytes o) ≡ Some (data_id_of_number number)
 data_named symbols ss line number bytes None = refl
 data_named symbols ss line number bytes (Some of) = refl
 

@@ -11,7 +11,7 @@ use Rattle.stl_lexer.specs.Tokens.{text_of}
 use Rattle.stl_lexer.specs.declared.kinds.Token.{Token}
 use Rattle.stl_lexer.specs.declared.kinds.TokenKind.TheVariants as kind
 use Rattle.stl_lexer.specs.declared.marks.Mark.TheVariants as mark
-use Rattle.stl_ast.specs.Declarations.{is_elementary}
+use Rattle.stl_ast.specs.Declarations.{is_elementary, IsCount}
 use Rattle.stl_ast.specs.Literals.{IsDecimal}
 use Rattle.stl_ast.specs.declared.declarations.Bounds.{Bounds}
 use Rattle.stl_ast.specs.declared.declarations.Declaration.{Declaration}
@@ -36,7 +36,7 @@ use Rattle.stl_print.specs.Pieces.{mark_piece, word_piece}
 use Rattle.stl_print.specs.Words.{type_word}
 use Rattle.stl_print.specs.declared.gaps.Gap.{Gap}
 use Rattle.stl_print.specs.declared.gaps.Gap.TheVariants as gap
-use Rattle.print_laws.specs.Reading.{IsByteLiteral, IsCountOf, IsNonKeywordName, IsPrintedDeclaration, IsPrintedInit, IsPrintedType}
+use Rattle.print_laws.specs.Reading.{IsByteLiteral, IsNonKeywordName, IsPrintedDeclaration, IsPrintedInit, IsPrintedType}
 use Rattle.print_laws.proofs.parsing.Lines.{first_line, flat_all_joined, semicolon, semicolon_behind, semicolon_is, semicolon_joined, tame_flat}
 use Rattle.print_laws.proofs.parsing.Operands.{Texts}
 use Rattle.print_laws.proofs.parsing.Runs.{clause_begins, either_none, label_found, no_array_at, no_arrays, no_key}
@@ -92,7 +92,7 @@ array_tame (negsuc m) (pos n) l h = rw (flat_number (suc m) (omega (arith, l)), 
 array_tame (pos m) (negsuc n) l h = rw (flat_number m l, flat_number (suc n) (omega (arith, h))) refl
 array_tame (negsuc m) (negsuc n) l h = rw (flat_number (suc m) (omega (arith, l)), flat_number (suc n) (omega (arith, h))) refl
 
-value_tame : (g : Gap) (count : Option ℕ) (value : Literal) → flat (gap_text g) ≡ true → IsCountOf count → IsByteLiteral value → all_tame (value_pieces g count value) ≡ true
+value_tame : (g : Gap) (count : Option ℕ) (value : Literal) → flat (gap_text g) ≡ true → IsCount count → IsByteLiteral value → all_tame (value_pieces g count value) ≡ true
 unfolding mark_text
 value_tame g None (literal.Byte v) h c is = literal_tame g (literal.Byte v) h is
 value_tame g (Some n) (literal.Byte v) h c is = rw (h, flat_number n c) (tame_joined (literal_pieces gap.Nothing (literal.Byte v)) _ (literal_tame gap.Nothing (literal.Byte v) refl is) refl)

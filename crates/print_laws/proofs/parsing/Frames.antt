@@ -15,6 +15,7 @@ use Rattle.stl_ast.specs.declared.declarations.Simple.{Simple}
 use Rattle.stl_ast.specs.declared.declarations.Simple.TheVariants as simple
 use Rattle.stl_ast.specs.declared.names.BlockName.{BlockName}
 use Rattle.stl_ast.specs.declared.names.BlockName.TheVariants as block
+use Rattle.stl_ast.specs.WellFormed.{MayReturn}
 use Rattle.stl_parser.specs.Clauses.{base_block_at, clause_at, clause_by_kind, free_word_clause, keyword_clause, other_clause, result_at, result_type, skip_semicolon, structure_end, word_clause}
 use Rattle.stl_parser.specs.Declarations.{after_colon}
 use Rattle.stl_parser.specs.Tables.{head_words, keywords, look_up}
@@ -27,7 +28,7 @@ use Rattle.stl_print.specs.Gaps.{gap_text}
 use Rattle.stl_print.specs.Names.{block_name_pieces}
 use Rattle.stl_print.specs.Words.{block_letters, end_word, section_word, type_word}
 use Rattle.stl_print.specs.declared.gaps.Gap.{Gap}
-use Rattle.print_laws.specs.Reading.{IsFunctionBlock, IsResultOf}
+use Rattle.print_laws.specs.Reading.{IsFunctionBlock}
 use Rattle.print_laws.proofs.parsing.Blocks.{block_read}
 use Rattle.print_laws.proofs.parsing.Operands.{Texts, of_kind}
 use Rattle.print_laws.proofs.parsing.Types.{type_found}
@@ -103,7 +104,7 @@ based_read source from line g (block.Quoted name) rest h t = absurd h
 
 -- ---- heads
 
-pub result_read : (source : List ℕ) (from line : ℕ) (k : BlockKind) (result : Option Simple) (rest : List Token) → IsResultOf k result
+pub result_read : (source : List ℕ) (from line : ℕ) (k : BlockKind) (result : Option Simple) (rest : List Token) → MayReturn k result
     → Texts source from line (result_pieces k result) → result_at source k (tokens_of from line (result_pieces k result) ++ rest) ≡ Some (result, rest)
 unfolding result_pieces result_at after_colon result_type type_word is_mark is_key has_kind key_text mark_text
 result_read source from line kinds.Fc None rest h (_, x1, (_, x2, _)) = rw (x1, x2) refl

@@ -12,6 +12,7 @@ use Rattle.stl_lexer.specs.declared.kinds.Token.{Token}
 use Rattle.stl_ast.specs.declared.declarations.Simple.{Simple}
 use Rattle.stl_ast.specs.declared.names.BlockName.{BlockName}
 use Rattle.stl_ast.specs.declared.names.BlockName.TheVariants as block
+use Rattle.stl_ast.specs.WellFormed.{MayReturn}
 use Rattle.stl_parser.specs.Clauses.{clause_at, clause_by_kind, head_clause, is_of_kind, keyword_clause, block_of_kind_at, result_at, word_clause}
 use Rattle.stl_parser.specs.Tables.{keywords, look_up}
 use Rattle.stl_parser.specs.declared.clauses.Clause.TheVariants as clause
@@ -23,7 +24,7 @@ use Rattle.stl_print.specs.Pieces.{word_piece}
 use Rattle.stl_print.specs.Words.{head_word}
 use Rattle.stl_print.specs.declared.gaps.Gap.{Gap}
 use Rattle.stl_print.specs.declared.gaps.Gap.TheVariants as gap
-use Rattle.print_laws.specs.Reading.{IsNumberedBlockOf, IsResultOf}
+use Rattle.print_laws.specs.Reading.{IsNumberedBlockOf}
 use Rattle.print_laws.proofs.parsing.Blocks.{block_read}
 use Rattle.print_laws.proofs.parsing.Frames.{result_read}
 use Rattle.print_laws.proofs.parsing.Lines.{all_flat, first_line, flat_all_joined}
@@ -56,7 +57,7 @@ head_is : (source : List ℕ) (line : ℕ) (k : BlockKind) (name : BlockName) (r
 unfolding head_clause
 head_is source line k name result ts us rest a b = rw (a, b) refl
 
-behind_head : (source : List ℕ) (from line at : ℕ) (k : BlockKind) (name : BlockName) (result : Option Simple) (rest : List Token) → IsNumberedBlockOf k name → IsResultOf k result
+behind_head : (source : List ℕ) (from line at : ℕ) (k : BlockKind) (name : BlockName) (result : Option Simple) (rest : List Token) → IsNumberedBlockOf k name → MayReturn k result
     → Texts source from line (block_name_pieces gap.Blank name ++ result_pieces k result)
     → head_clause source at k (tokens_of from line (block_name_pieces gap.Blank name ++ result_pieces k result) ++ rest) ≡ Some (clause.Head at k name result, rest, false)
 behind_head source from line at k (block.Quoted n) result rest is h t = absurd is
@@ -68,7 +69,7 @@ behind_head source from line at k (block.Number id) result rest is h t =
     (result_read source _ _ k result rest h (shown_behind source from line (block_name_pieces gap.Blank (block.Number id)) (result_pieces k result) t))
 
 pub head_read : (source : List ℕ) (from line : ℕ) (g : Gap) (p : ClausePlace) (at : ℕ) (k : BlockKind) (name : BlockName) (result : Option Simple) (rest : List Token)
-    → (k ≡ kinds.Sfc → ⊥) → IsNumberedBlockOf k name → IsResultOf k result → line + sum_by newlines_of (gap_text g) ≡ at
+    → (k ≡ kinds.Sfc → ⊥) → IsNumberedBlockOf k name → MayReturn k result → line + sum_by newlines_of (gap_text g) ≡ at
     → Texts source from line (clause_pieces g (clause.Head at k name result))
     → clause_at source p (tokens_of from line (clause_pieces g (clause.Head at k name result)) ++ rest) ≡ Some (clause.Head at k name result, rest, false)
 unfolding clause_pieces clause_at clause_by_kind word_clause keyword_clause look_up keywords head_word

@@ -12,7 +12,7 @@ use Rattle.stl_lexer.specs.declared.marks.Mark.TheVariants as mark
 use Rattle.stl_ast.specs.Blocks.{is_date_and_time, is_parameter, may_have_section, part_rank}
 use Rattle.stl_ast.specs.Declarations.{is_elementary}
 use Rattle.stl_ast.specs.Outline.{level_behind}
-use Rattle.stl_ast.specs.WellFormed.{AreSectionsInOrder}
+use Rattle.stl_ast.specs.WellFormed.{AreSectionsInOrder, MayReturn}
 use Rattle.stl_ast.specs.declared.blocks.Block.{Block}
 use Rattle.stl_ast.specs.declared.blocks.Part.{Part}
 use Rattle.stl_ast.specs.declared.blocks.PartKind.{PartKind}
@@ -40,7 +40,7 @@ use Rattle.stl_print.specs.Trees.{begin_clauses, block_clauses, declaration_clau
 use Rattle.stl_print.specs.Words.{block_letters, end_word, section_word}
 use Rattle.stl_print.specs.declared.gaps.Gap.{Gap}
 use Rattle.stl_print.specs.declared.gaps.Gap.TheVariants as gap
-use Rattle.print_laws.specs.Reading.{IsCodeBlock, IsPrintedDeclarationIn, IsFunctionBlock, IsNumberedBlockOf, IsPrintedDeclaration, IsPrintedPart, IsPrintedSetting, IsPrintedStatement, IsPrintedType, IsResultOf}
+use Rattle.print_laws.specs.Reading.{IsCodeBlock, IsPrintedDeclarationIn, IsFunctionBlock, IsNumberedBlockOf, IsPrintedDeclaration, IsPrintedPart, IsPrintedSetting, IsPrintedStatement, IsPrintedType}
 use Rattle.print_laws.proofs.parsing.Bodies.{runs_line, runs_read}
 use Rattle.print_laws.proofs.parsing.Declared.{declares_line, declares_read}
 use Rattle.print_laws.proofs.parsing.Frames.{based_read, begin_read, end_section_read, ends_read, section_read, structure_end_read, structure_read}
@@ -61,7 +61,7 @@ same_kind kinds.Db = refl
 same_kind kinds.Sfc = refl
 same_kind kinds.Udt = refl
 
-pub head_step : (line : ℕ) (k : BlockKind) (name : BlockName) (result : Option Simple) → (k ≡ kinds.Sfc → ⊥) → IsNumberedBlockOf k name → IsResultOf k result
+pub head_step : (line : ℕ) (k : BlockKind) (name : BlockName) (result : Option Simple) → (k ≡ kinds.Sfc → ⊥) → IsNumberedBlockOf k name → MayReturn k result
     → IsStep place.Outside (clause.Head line k name result) (place.Head k)
 unfolding next_place next_place_outside
 head_step line k name result apart is h =

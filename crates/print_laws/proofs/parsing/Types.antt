@@ -15,6 +15,7 @@ use Rattle.stl_ast.specs.declared.declarations.Simple.{Simple}
 use Rattle.stl_ast.specs.declared.declarations.Simple.TheVariants as simple
 use Rattle.stl_ast.specs.declared.literals.Literal.{Literal}
 use Rattle.stl_ast.specs.declared.literals.Literal.TheVariants as literal
+use Rattle.stl_ast.specs.Declarations.{IsCount}
 use Rattle.stl_parser.specs.Literals.{literal_at, literal_token}
 use Rattle.stl_parser.specs.Numbers.{int_at, number_of_token, number_up_to, signed_number_at}
 use Rattle.stl_parser.specs.Parts.{parts_from, complete_reading}
@@ -28,7 +29,7 @@ use Rattle.stl_print.specs.Pieces.{mark_piece}
 use Rattle.stl_print.specs.Words.{type_word}
 use Rattle.stl_print.specs.declared.gaps.Gap.{Gap}
 use Rattle.stl_print.specs.declared.gaps.Gap.TheVariants as gap
-use Rattle.print_laws.specs.Reading.{IsByteLiteral, IsCountOf, IsPrintedInit}
+use Rattle.print_laws.specs.Reading.{IsByteLiteral, IsPrintedInit}
 use Rattle.print_laws.proofs.parsing.Constants.{byte_value}
 use Rattle.print_laws.proofs.parsing.Numbers.{minus, number_read}
 use Rattle.print_laws.proofs.parsing.Operands.{Texts, read_number}
@@ -108,7 +109,7 @@ count_read : (source : List ℕ) (from line : ℕ) (g : Gap) (n v : ℕ) (rest :
 unfolding init_at counted_init_at counted_init_end number_of_token number_up_to literal_pieces literal_at literal_token is_mark has_kind mark_text
 count_read source from line g n v rest c h (_, x1, (_, x2, (_, x3, (_, x4, _)))) = rw (x2, x1, read_number n c, x3, byte_value v h, x4) refl
 
-value_read : (source : List ℕ) (from line : ℕ) (g : Gap) (count : Option ℕ) (value : Literal) (rest : List Token) → IsCountOf count → IsByteLiteral value
+value_read : (source : List ℕ) (from line : ℕ) (g : Gap) (count : Option ℕ) (value : Literal) (rest : List Token) → IsCount count → IsByteLiteral value
     → after_paren source rest ≡ None → Texts source from line (value_pieces g count value)
     → init_at source (tokens_of from line (value_pieces g count value) ++ rest) ≡ Some (record { count = count; value = value }, rest)
 unfolding init_at literal_pieces

@@ -20,17 +20,17 @@ loop-rest-init c = record {
 
 pub loop-rest-preserved : goal.loop-rest-preserved
 loop-rest-preserved c = record {
-  read = GoesOn-line _ _ _ _ _ _ _ _ _ _ c.loop-rest.invariant.read c.first_line.ensures.first (sym c.loop-rest.invariant.steps) c.in_ok-take_line.ensures.taken;
-  steps = c.in_ok-take_line.ensures.steps ∙ c.loop-rest.invariant.steps;
-  valid = c.in_ok-take_line.ensures.valid c.loop-rest.invariant.valid;
+  read = GoesOn-line _ _ _ _ _ _ _ _ _ _ c.loop-rest.invariant.read c.first_line.ensures.first (sym c.loop-rest.invariant.steps) c.in_ok-take_entry_line.ensures.taken;
+  steps = c.in_ok-take_entry_line.ensures.steps ∙ c.loop-rest.invariant.steps;
+  valid = c.in_ok-take_entry_line.ensures.valid c.loop-rest.invariant.valid;
   lines = omega (arith, c.loop-rest.invariant.lines, c.first_line.ensures.shorter);
 }
 
-pub returns-in_err-take_line-clause-refused : goal.returns-in_err-take_line-clause-refused
-returns-in_err-take_line-clause-refused c =
+pub returns-in_err-take_entry_line-clause-refused : goal.returns-in_err-take_entry_line-clause-refused
+returns-in_err-take_entry_line-clause-refused c =
     let fault = err_from_is_err_and c.from_residual.result c.from_residual.ensures.1 in
     rw (fault.1, fault.2)
-    (GoesOn-bad _ _ _ _ _ _ _ _ c.first_line.result.1.now _ c.loop-rest.invariant.read c.first_line.ensures.first (sym c.loop-rest.invariant.steps) c.in_err-take_line.ensures.bad)
+    (GoesOn-bad _ _ _ _ _ _ _ _ c.first_line.result.1.now _ c.loop-rest.invariant.read c.first_line.ensures.first (sym c.loop-rest.invariant.steps) c.in_err-take_entry_line.ensures.bad)
 
 pub returns-clause-spelled : goal.returns-clause-spelled
 returns-clause-spelled c = GoesOn-end _ _ _ _ _ _ c.loop-rest.invariant.read (search rules)

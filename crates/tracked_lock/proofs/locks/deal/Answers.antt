@@ -11,8 +11,8 @@ split_last-last-requires-clause-seat g c =
     let many : length c.loop-left.seat.me.0.made ≡ c.loop-left.left = ap (λ m. length m.0.made) i.3 ∙ length_fresh _ c.loop-left.left in
     (omega (arith, many, c.loop-left-test.true), ap (λ m. m.0.turn) i.3)
 
-pub first_pass-requires-clause-seat : goal.first_pass-requires-clause-seat
-first_pass-requires-clause-seat g c =
+pub pass_at_start-requires-clause-seat : goal.pass_at_start-requires-clause-seat
+pass_at_start-requires-clause-seat g c =
     let i = c.loop-left.invariant in
     let cut = cut_last _ _ _ c.loop-left.left i.0 (ap (λ m. m.0) i.3) in
     let origin = g.V.Storied.origin c.args.key.now.first.value in
@@ -25,8 +25,8 @@ loop-left-preserved g c =
     let cut = cut_rest _ _ _ left i.0 (ap (λ m. m.0) i.3) in
     let slots = ap (λ m. m.1) i.3 in
     let lock : LockView g.row.V-Origin.Denot = record { table = c.args.steps.now.table_id; origin = g.V.Storied.origin c.args.key.now.first.value ∷ []; passes = c.args.n } in
-    let same : c.first_pass.result ≡ fresh_pass lock left = search rules in
-    let put : c.insert.new.self.items ≡ c.first_pass.result ∷ c.loop-left.passes.items = search rules in (
+    let same : c.pass_at_start.result ≡ fresh_pass lock left = search rules in
+    let put : c.insert.new.self.items ≡ c.pass_at_start.result ∷ c.loop-left.passes.items = search rules in (
       omega (arith, c.loop-left-test.true),
       omega (arith, i.1),
       search rules,

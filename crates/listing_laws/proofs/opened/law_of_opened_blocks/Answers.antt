@@ -1,5 +1,0 @@
-use Rattle.listing_laws.proofs.OpenedLemmas.{opened_right}
-use Rattle.listing_laws.proofs.opened.law_of_opened_blocks.Goals as goal
-
-pub returns : goal.returns
-returns c = opened_right
