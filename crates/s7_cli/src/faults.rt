@@ -26,7 +26,7 @@ impl From<AllocError> for CompileFault {
     }
 }
 
-/// What a symbols file breaks.
+/// The fault of compiling by a fault of the symbols file: what it breaks, or want of memory.
 pub(crate) fn in_symbols(fault: SourceFault) -> CompileFault
     ensures { result ≡ fault_in_symbols fault }
 {
@@ -36,7 +36,7 @@ pub(crate) fn in_symbols(fault: SourceFault) -> CompileFault
     }
 }
 
-/// What a source breaks.
+/// The fault of compiling by a fault of the source: what it breaks, or want of memory.
 pub(crate) fn in_source(fault: SourceFault) -> CompileFault
     ensures { result ≡ fault_in_source fault }
 {

@@ -132,7 +132,8 @@ pub(crate) fn compiled_german(alloc: Global, text: &ProgramText) -> Result<Loade
     Ok(loaded_large(alloc, program)?)
 }
 
-/// Its image, of version 2 for the large profile.
+/// The image of the program of a German source with its symbols, of version 2 for the large
+/// profile.
 pub(crate) fn image_german(alloc: Global, text: &ProgramText) -> Result<Vec<u8>, Failure>
     requires { AreFilesWithinLimits text.now }
     ensures keeps { IfOk result
