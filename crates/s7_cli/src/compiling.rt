@@ -32,7 +32,7 @@ ghost use Rattle.s7_cli.specs.Compiling.{
   RefusesForSymbols,
 };
 
-use crate::faults::{CompileFault, in_source, in_symbols};
+use crate::faults::{CompileFault, fault_in_source, fault_in_symbols};
 use block_layout::{Layouts, lay_out, lay_out_sound};
 use flat_code::Program;
 use image_file::{Loaded, VerifyError, verify, write_image2};
@@ -81,7 +81,7 @@ pub(crate) fn symbols_in(
 {
     match read_symbols_in(alloc, language, symbols) {
         Ok(list) => Ok(list),
-        Err(fault) => Err(in_symbols(fault)),
+        Err(fault) => Err(fault_in_symbols(fault)),
     }
 }
 
@@ -156,7 +156,7 @@ fn laid_source(alloc: Global, source: &[u8], symbols: Symbols) -> Result<LaidSou
 {
     let tree = match tree_of(alloc, source) {
         Ok(tree) => tree,
-        Err(fault) => return Err(in_source(fault)),
+        Err(fault) => return Err(fault_in_source(fault)),
     };
     match layouts_of(alloc, &tree, &symbols) {
         Ok(layouts) => Ok(LaidSource {
@@ -164,7 +164,7 @@ fn laid_source(alloc: Global, source: &[u8], symbols: Symbols) -> Result<LaidSou
             tree,
             layouts,
         }),
-        Err(fault) => Err(in_source(fault)),
+        Err(fault) => Err(fault_in_source(fault)),
     }
 }
 
@@ -177,7 +177,7 @@ fn checked_of<'a>(alloc: Global, laid: &'a LaidSource) -> Result<CheckedSource<'
 {
     match check(alloc, &laid.tree, &laid.symbols, &laid.layouts) {
         Ok(checked) => Ok(checked),
-        Err(fault) => Err(in_source(fault)),
+        Err(fault) => Err(fault_in_source(fault)),
     }
 }
 
@@ -228,7 +228,7 @@ pub(crate) fn check_source_with(
 }
 
 /// The program of a source with symbols that were read, in either language.
-pub(crate) fn program_with(
+pub(crate) fn program_with_symbols(
     alloc: Global,
     source: &[u8],
     symbols: Symbols,
@@ -266,7 +266,7 @@ pub fn check_source(alloc: Global, source: &[u8], symbols: &[u8]) -> Result<(), 
 }
 
 /// The program of a source with its symbols.
-fn program_of(alloc: Global, source: &[u8], symbols: &[u8]) -> Result<Program, CompileFault>
+fn program_of_source(alloc: Global, source: &[u8], symbols: &[u8]) -> Result<Program, CompileFault>
     requires source { length source.now ≤ source_limit }
     requires symbols { length symbols.now ≤ symbols_limit }
     ensures ok { IfOk result (KeepsSource Large source.now symbols.now) }
@@ -276,7 +276,7 @@ fn program_of(alloc: Global, source: &[u8], symbols: &[u8]) -> Result<Program, C
 {
     law_of_files(source, symbols);
     let list = symbols_in(alloc, Language::English, symbols)?;
-    program_with(alloc, source, list)
+    program_with_symbols(alloc, source, list)
 }
 
 /// Compiles a source of at most 1,048,576 bytes with its symbols file, which has at most as many
@@ -301,7 +301,7 @@ pub fn compiled(alloc: Global, source: &[u8], symbols: &[u8]) -> Result<Loaded, 
         (RefusesEnglish source.now symbols.now) }
 {
     law_of_files(source, symbols);
-    let program = program_of(alloc, source, symbols)?;
+    let program = program_of_source(alloc, source, symbols)?;
     Ok(loaded_large(alloc, program)?)
 }
 
@@ -320,7 +320,7 @@ pub fn compiled_image(alloc: Global, source: &[u8], symbols: &[u8]) -> Result<Ve
         (RefusesEnglish source.now symbols.now) }
 {
     law_of_files(source, symbols);
-    let program = program_of(alloc, source, symbols)?;
+    let program = program_of_source(alloc, source, symbols)?;
     Ok(write_image2(alloc, &program, Profile::Large)?)
 }
 
@@ -377,7 +377,7 @@ pub fn compiles_to(
         → yes ≡ true) }
 {
     law_of_programs();
-    match program_of(alloc, source, symbols) {
+    match program_of_source(alloc, source, symbols) {
         Ok(program) => is_same_program(alloc, &program, loaded),
         Err(fault) => no_program(&fault),
     }

@@ -27,7 +27,7 @@ impl From<AllocError> for CompileFault {
 }
 
 /// The fault of compiling by a fault of the symbols file: what it breaks, or want of memory.
-pub(crate) fn in_symbols(fault: SourceFault) -> CompileFault
+pub(crate) fn fault_in_symbols(fault: SourceFault) -> CompileFault
     ensures { result ≡ fault_in_symbols fault }
 {
     match fault {
@@ -37,7 +37,7 @@ pub(crate) fn in_symbols(fault: SourceFault) -> CompileFault
 }
 
 /// The fault of compiling by a fault of the source: what it breaks, or want of memory.
-pub(crate) fn in_source(fault: SourceFault) -> CompileFault
+pub(crate) fn fault_in_source(fault: SourceFault) -> CompileFault
     ensures { result ≡ fault_in_source fault }
 {
     match fault {

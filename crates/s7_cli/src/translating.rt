@@ -17,7 +17,9 @@ ghost use Rattle.s7_cli.specs.Translating.{
   NotTranslated,
 };
 
-use crate::compiling::{check_source_with, law_of_files, loaded_large, program_with, symbols_in};
+use crate::compiling::{
+    check_source_with, law_of_files, loaded_large, program_with_symbols, symbols_in,
+};
 use crate::failures::{Failure, File};
 use crate::files::{ProgramText, limit_of};
 use de_mnemonics::{to_english, to_german};
@@ -116,7 +118,7 @@ fn german_program(alloc: Global, text: &ProgramText) -> Result<Program, Failure>
 {
     let EnglishProgram { source, symbols } = english_program(alloc, text)?;
     law_of_files(&source, text.symbols());
-    Ok(program_with(alloc, &source, symbols)?)
+    Ok(program_with_symbols(alloc, &source, symbols)?)
 }
 
 /// The program of a German source with its symbols, loaded with the large profile.

@@ -7,5 +7,5 @@ use Rattle.s7_cli.proofs.compiling.symbols_in.Goals as goal
 pub returns-in-Err-clause-refused : goal.returns-in-Err-clause-refused
 returns-in-Err-clause-refused c =
     subst (λ (f : CompileFault). RefusesSymbols c.args.language c.args.symbols.now f)
-    (sym c.in_symbols.ensures)
+    (sym c.fault_in_symbols.ensures)
     (symbols_refused c.args.language c.args.symbols.now c.in-Err.fault c.in-Err.ensures)
