@@ -9,6 +9,7 @@ use Rattle.clap.specs.Simple.{on_top}
 use Rattle.clap.specs.Walk.{is_empty}
 use Rattle.clap.specs.Words.{App, Row, Rule, all_of, fault_of, first_of, matches_of, new_app, new_rule, with_rule}
 use Rattle.clap.specs.declared.builder.action.ArgAction.TheVariants.{Set, SetTrue, Append}
+use Rattle.stl_lexer.specs.Bytes.{minus_sign}
 use Rattle.stl_symbols.specs.declared.languages.Language.TheVariants.{English, German}
 use Rattle.plc_base.specs.Decimal.{decimal_up_to}
 use Rattle.s7_cli.specs.declared.words.AskedCommand.{AskedCommand}
@@ -202,11 +203,11 @@ command_value (asked.Live image stimuli scripts steps) =
 command_value (asked.Watch image stimuli vars scripts steps) =
     Watch image.now stimuli.now vars.now (map (λ s. s.now) scripts.items) steps
 
--- a word that can be no option: it doesn't begin with a hyphen (45), or is nothing else
+-- a word that can be no option: it doesn't begin with a hyphen, or is nothing else
 abbrev pub is_plain_word : List ℕ → Bool
 is_plain_word [] = true
 is_plain_word (first ∷ []) = true
-is_plain_word (first ∷ second ∷ rest) = not (first == 45)
+is_plain_word (first ∷ second ∷ rest) = not (first == minus_sign)
 
 -- the command that words which can be no options ask for, the first of them as its word, with
 -- these options

@@ -70,7 +70,7 @@ fn read_symbols_in(
 }
 
 /// The symbols of a symbols file with addresses in a language, for a source whose symbols they are.
-pub(crate) fn symbols_in(
+pub(crate) fn symbols_for_source(
     alloc: Global,
     language: Language,
     symbols: &[u8],
@@ -116,7 +116,7 @@ fn refusal_of_statements(
 
 /// The least refusal of a tree that breaks a rule on its layout. The statements are checked with
 /// all that breaks none.
-fn least_refusal(
+fn least_refusal_of_tree(
     alloc: Global,
     tree: &Tree,
     symbols: &Symbols,
@@ -132,13 +132,13 @@ fn least_refusal(
 }
 
 /// The layouts of a tree that breaks no rule on them.
-fn layouts_of(alloc: Global, tree: &Tree, symbols: &Symbols) -> Result<Layouts, SourceFault>
+fn layouts_of_tree(alloc: Global, tree: &Tree, symbols: &Symbols) -> Result<Layouts, SourceFault>
     ensures { LaysOutTree symbols.now tree.now result }
 {
     match lay_out(alloc, tree, symbols) {
         Ok(layouts) => Ok(layouts),
         Err(SourceFault::Refused { refusal }) => {
-            let least = least_refusal(alloc, tree, symbols, refusal)?;
+            let least = least_refusal_of_tree(alloc, tree, symbols, refusal)?;
             Err(SourceFault::Refused { refusal: least })
         }
         Err(SourceFault::NoMemory) => Err(SourceFault::NoMemory),
@@ -158,7 +158,7 @@ fn laid_source(alloc: Global, source: &[u8], symbols: Symbols) -> Result<LaidSou
         Ok(tree) => tree,
         Err(fault) => return Err(fault_in_source(fault)),
     };
-    match layouts_of(alloc, &tree, &symbols) {
+    match layouts_of_tree(alloc, &tree, &symbols) {
         Ok(layouts) => Ok(LaidSource {
             symbols,
             tree,
@@ -261,7 +261,7 @@ pub fn check_source(alloc: Global, source: &[u8], symbols: &[u8]) -> Result<(), 
         (RefusesEnglish source.now symbols.now) }
 {
     law_of_files(source, symbols);
-    let list = symbols_in(alloc, Language::English, symbols)?;
+    let list = symbols_for_source(alloc, Language::English, symbols)?;
     check_source_with(alloc, source, list)
 }
 
@@ -275,7 +275,7 @@ fn program_of_source(alloc: Global, source: &[u8], symbols: &[u8]) -> Result<Pro
         (RefusesEnglish source.now symbols.now) }
 {
     law_of_files(source, symbols);
-    let list = symbols_in(alloc, Language::English, symbols)?;
+    let list = symbols_for_source(alloc, Language::English, symbols)?;
     program_with_symbols(alloc, source, list)
 }
 

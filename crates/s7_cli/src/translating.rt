@@ -18,7 +18,7 @@ ghost use Rattle.s7_cli.specs.Translating.{
 };
 
 use crate::compiling::{
-    check_source_with, law_of_files, loaded_large, program_with_symbols, symbols_in,
+    check_source_with, law_of_files, loaded_large, program_with_symbols, symbols_for_source,
 };
 use crate::failures::{Failure, File};
 use crate::files::{ProgramText, limit_of};
@@ -88,7 +88,7 @@ fn english_program(alloc: Global, text: &ProgramText) -> Result<EnglishProgram, 
     ensures refused { SaysRefusal
         (NotInEnglish text.now.source.items (symbols_text_of text.now)) result }
 {
-    let symbols = symbols_in(alloc, Language::German, text.symbols())?;
+    let symbols = symbols_for_source(alloc, Language::German, text.symbols())?;
     let source = translated_source(alloc, Language::English, &text.source)?;
     Ok(EnglishProgram { source, symbols })
 }
