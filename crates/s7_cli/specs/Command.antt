@@ -73,7 +73,8 @@ input_files_of (Go source symbols german history) =
     program_inputs source symbols ++ record { file = History; name = history } ∷ []
 input_files_of (Check source symbols german) = program_inputs source symbols
 input_files_of (Compile source symbols german image) = program_inputs source symbols
-input_files_of (Translate language source translation) = record { file = Source; name = source } ∷ []
+input_files_of (Translate language source translation) =
+    record { file = Source; name = source } ∷ []
 input_files_of (Run image history) =
     record { file = Image; name = image } ∷ record { file = History; name = history } ∷ []
 input_files_of (Gen number) = []
