@@ -47,8 +47,8 @@ fn memory_word(byte: u16) -> Var
     }
 }
 
-/// A request to read one variable.
-fn reading(var: Var) -> Vars
+/// The variables of a request that reads one.
+fn one_var(var: Var) -> Vars
     ensures { result ≡ var ∷ [] }
 {
     let mut vars = Vars::new();
@@ -77,7 +77,7 @@ fn happening(draw: u32) -> Entry
             who: OPERATOR_1,
             what: What::Ask {
                 request: Request::ReadVars {
-                    vars: reading(memory_word((2 * (draw % 100)) as u16)),
+                    vars: one_var(memory_word((2 * (draw % 100)) as u16)),
                 },
             },
         },

@@ -76,7 +76,7 @@ fn bits_line(byte: u32) -> Line
 }
 
 /// The word of bit memory that a draw's statement is about, by its first byte.
-fn word_of(draw: u32) -> u32
+fn drawn_memory_word(draw: u32) -> u32
     ensures { result ≡ drawn_memory_word draw }
 {
     2 * (draw / 8 % 100)
@@ -89,14 +89,14 @@ fn statement_line(draw: u32) -> Line
     ensures short { length result ≤ 100 }
 {
     match draw % 8 {
-        0 => numbered_line(b"L MW ", word_of(draw)),
-        1 => numbered_line(b"T MW ", word_of(draw)),
+        0 => numbered_line(b"L MW ", drawn_memory_word(draw)),
+        1 => numbered_line(b"T MW ", drawn_memory_word(draw)),
         2 => plain_line(b"+I;\n"),
         3 => plain_line(b"-I;\n"),
         4 => numbered_line(b"L ", draw),
         5 => plain_line(b"*I;\n"),
         6 => plain_line(b"XOW;\n"),
-        _ => bits_line(word_of(draw)),
+        _ => bits_line(drawn_memory_word(draw)),
     }
 }
 

@@ -29,7 +29,7 @@ use Rattle.s7_cli.specs.declared.failures.Failure.TheVariants.{WordsRefused, Rea
 use Rattle.s7_cli.specs.Answer.{CallAnswer, CallOutcome, exit_status, done_answer, read_fault_answer, refused_file_answer, refused_image_answer, says_no_answer, too_deep_answer, too_long_answer}
 use Rattle.s7_cli.specs.BoundSays.{BoundAnswer, BoundSays, CheckedAnswer, HeldAnswer, RecheckAnswer, RecheckSays, StacksSuffice, image_bounded}
 use Rattle.s7_cli.specs.BoundTexts.{IsChainLine, IsCertificateOfImage, IsBoundText, IsBoundTextOfImage}
-use Rattle.s7_cli.specs.Command.{Command, Go, Check, Compile, Translate, Run, Gen, Live, Watch, Upgrade, ListImage, Bound, Recheck, InputFile, inputs_of}
+use Rattle.s7_cli.specs.Command.{Command, Go, Check, Compile, Translate, Run, Gen, Live, Watch, Upgrade, ListImage, Bound, Recheck, InputFile, input_files_of}
 use Rattle.s7_cli.specs.Ends.{SinkMoments, IsAnswerOfCall, IsCallCutShort}
 use Rattle.s7_cli.specs.Faults.{failure_of_certificate, failure_of_loading}
 use Rattle.s7_cli.specs.Inner.{ComesBeforeLine, HasRead, SaysRefusal, TextWritten}
@@ -150,7 +150,7 @@ no_name k name none some = let e : None ≡ Some name = sym none ∙ some in cc
 
 -- of the bytes that the image holds
 bound-stacks : CertificatesKeepStacks → (d : Disk) (image certificate : List ℕ) (a : CallAnswer)
-    → ReadsFilesInTurn d (inputs_of (Bound image certificate)) (CommandSays (Bound image certificate)) a → exit_status a.outcome ≡ 0
+    → ReadsFilesInTurn d (input_files_of (Bound image certificate)) (CommandSays (Bound image certificate)) a → exit_status a.outcome ≡ 0
     → StacksSuffice (Bound image certificate) d
 bound-stacks keep d image certificate a (inl stops) zero = absurd (stop_not_done d _ a stops zero)
 bound-stacks keep d image certificate a (inr (bytes, holds, said)) zero = λ name held l is known there loads.
@@ -160,7 +160,7 @@ bound-stacks keep d image certificate a (inr (bytes, holds, said)) zero = λ nam
     bound-suffices keep bytes said.0 a l said.1 said.2 zero (subst (λ (b : List ℕ). LoadsAs b (Ok l)) same loads)
 
 recheck-stacks : CertificatesKeepStacks → (d : Disk) (image certificate : List ℕ) (a : CallAnswer)
-    → ReadsFilesInTurn d (inputs_of (Recheck image certificate)) (CommandSays (Recheck image certificate)) a → exit_status a.outcome ≡ 0
+    → ReadsFilesInTurn d (input_files_of (Recheck image certificate)) (CommandSays (Recheck image certificate)) a → exit_status a.outcome ≡ 0
     → StacksSuffice (Recheck image certificate) d
 recheck-stacks keep d image certificate a (inl stops) zero = absurd (stop_not_done d _ a stops zero)
 recheck-stacks keep d image certificate a (inr (bytes, holds, inl stops)) zero = absurd (stop_not_done d _ a stops zero)
@@ -170,7 +170,7 @@ recheck-stacks keep d image certificate a (inr (bytes, holds, inr (text, within,
     let same : held ≡ bytes = same_bytes d.before.contents image held bytes here (holds.agrees known) in
     recheck-suffices keep bytes text said.0 a l said.1 said.2 zero (subst (λ (b : List ℕ). LoadsAs b (Ok l)) same loads)
 
-pub stacks-suffice : CertificatesKeepStacks → (k : Command) (d : Disk) (a : CallAnswer) → ReadsFilesInTurn d (inputs_of k) (CommandSays k) a
+pub stacks-suffice : CertificatesKeepStacks → (k : Command) (d : Disk) (a : CallAnswer) → ReadsFilesInTurn d (input_files_of k) (CommandSays k) a
     → exit_status a.outcome ≡ 0 → StacksSuffice k d
 stacks-suffice keep (Bound image certificate) d a said zero = bound-stacks keep d image certificate a said zero
 stacks-suffice keep (Recheck image certificate) d a said zero = recheck-stacks keep d image certificate a said zero
@@ -243,14 +243,14 @@ tells image l (found.Deep chain) (bound_text.Fits certificate) loads finds is = 
 -- ---- the line of a chain was written, or a front of it
 
 deep-said : (img cert : List ℕ) (start now : FilesAt) (image : List ℕ) (l : LoadedProgram) (chain : List BlockId)
-    → HasRead start now (inputs_of (Bound img cert)) (image ∷ []) → LoadsAs image (Ok l) → IsDeepChain l.profile l.program chain
+    → HasRead start now (input_files_of (Bound img cert)) (image ∷ []) → LoadsAs image (Ok l) → IsDeepChain l.profile l.program chain
     → IsAnswerOfCall (Some (Bound img cert)) (disk_moments start now) (too_deep_answer chain)
 deep-said img cert start now image l chain read loads deep =
-    reads-all (disk_moments start now) (inputs_of (Bound img cert)) (image ∷ []) (CommandSays (Bound img cert)) (too_deep_answer chain) read.hold
+    reads-all (disk_moments start now) (input_files_of (Bound img cert)) (image ∷ []) (CommandSays (Bound img cert)) (too_deep_answer chain) read.hold
     (Ok l, loads, inr (chain, deep, refl))
 
 pub deep-written : (img cert : List ℕ) (start now : FilesAt) (s : SinkMoments) (image line : List ℕ)
-    → HasRead start now (inputs_of (Bound img cert)) (image ∷ []) → IsChainLine line image → TextWritten line s (Ok tt)
+    → HasRead start now (input_files_of (Bound img cert)) (image ∷ []) → IsChainLine line image → TextWritten line s (Ok tt)
     → ComesBeforeLine (Some (Bound img cert)) (disk_moments start now) s (Err TooDeep)
 deep-written img cert start now s image line read (l, loads, chain, deep, is) took = (
   chain_text chain,
@@ -266,7 +266,7 @@ deep-written img cert start now s image line read (l, loads, chain, deep, is) to
 
 -- the writing of the line was cut short
 deep-cut : (img cert : List ℕ) (start now : FilesAt) (s : SinkMoments) (image : List ℕ) (l : LoadedProgram) (chain : List BlockId)
-    → HasRead start now (inputs_of (Bound img cert)) (image ∷ []) → LoadsAs image (Ok l) → IsDeepChain l.profile l.program chain
+    → HasRead start now (input_files_of (Bound img cert)) (image ∷ []) → LoadsAs image (Ok l) → IsDeepChain l.profile l.program chain
     → TookPrefix s.before s.after (chain_text chain) → IsCallCutShort (Some (Bound img cert)) (disk_moments start now) s
 deep-cut img cert start now s image l chain read loads deep took = record {
   cut = inr (too_deep_answer chain, deep-said img cert start now image l chain read loads deep, read.same.reads, read.same.contents, took);
@@ -275,7 +275,7 @@ deep-cut img cert start now s image l chain read loads deep took = record {
 }
 
 deep-fails : (img cert : List ℕ) (start now : FilesAt) (s : SinkMoments) (image : List ℕ) (l : LoadedProgram) (chain : List BlockId) (failure : Failure)
-    → HasRead start now (inputs_of (Bound img cert)) (image ∷ []) → LoadsAs image (Ok l) → IsDeepChain l.profile l.program chain
+    → HasRead start now (input_files_of (Bound img cert)) (image ∷ []) → LoadsAs image (Ok l) → IsDeepChain l.profile l.program chain
     → TextWritten (chain_text chain) s (Err failure) → ComesBeforeLine (Some (Bound img cert)) (disk_moments start now) s (Err failure)
 deep-fails img cert start now s image l chain WriteFault read loads deep took = record {
   cut = deep-cut img cert start now s image l chain read loads deep took.0;
@@ -296,7 +296,7 @@ deep-fails img cert start now s image l chain SaysNo read loads deep took = absu
 deep-fails img cert start now s image l chain TooDeep read loads deep took = absurd took
 
 pub deep-unwritten : (img cert : List ℕ) (start now : FilesAt) (s : SinkMoments) (image line : List ℕ) (failure : Failure) (came : CallOutcome)
-    → came ≡ Err failure → HasRead start now (inputs_of (Bound img cert)) (image ∷ []) → IsChainLine line image
+    → came ≡ Err failure → HasRead start now (input_files_of (Bound img cert)) (image ∷ []) → IsChainLine line image
     → TextWritten line s (Err failure) → ComesBeforeLine (Some (Bound img cert)) (disk_moments start now) s came
 deep-unwritten img cert start now s image line failure came fails read (l, loads, chain, deep, is) took =
     subst (λ (o : CallOutcome). ComesBeforeLine (Some (Bound img cert)) (disk_moments start now) s o) (sym fails)

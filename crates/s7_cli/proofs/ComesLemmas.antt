@@ -7,7 +7,7 @@ use Rattle.plc_io.specs.Moments.{FilesAt, SinkAt}
 use Rattle.s7_cli.specs.declared.failures.Failure.{Failure}
 use Rattle.s7_cli.specs.declared.failures.Failure.TheVariants.{WordsRefused, ReadFault, TooLong, Refused, ImageRefused, NoListing, SaysNo, TooDeep, WriteFault, NoMemory}
 use Rattle.s7_cli.specs.Answer.{CallAnswer, CallOutcome, done_answer, refused_file_answer, refused_image_answer, no_listing_answer, says_no_answer, read_fault_answer, too_long_answer}
-use Rattle.s7_cli.specs.Command.{Command, InputFile, inputs_of, outputs_of}
+use Rattle.s7_cli.specs.Command.{Command, InputFile, input_files_of, outputs_of}
 use Rattle.s7_cli.specs.Ends.{SinkMoments, sink_moments, IsAnswerOfCall, ChangesOutputs, WritesOutputs}
 use Rattle.s7_cli.specs.Inner.{OnlyReads, FileRead, HasRead, StopsAmong, AllRead, SaysRefusal, TextWritten, ComesBeforeLine, CommandComesTo}
 use Rattle.s7_cli.specs.Reading.{Disk, disk_moments, HoldsBytes, HoldBytesInTurn, StopsAt, ReadsFilesInTurn}
@@ -183,7 +183,7 @@ unread-then {V} {W} view views start middle now is js contents failure r equal f
 -- ---- a command whose files aren't all read
 
 not-read : {V : Type 0} (view : V → List (List ℕ)) (c : Command) (start now : FilesAt) (at : SinkAt) (is rest : List InputFile)
-    (failure : Failure) → inputs_of c ≡ is ++ rest → AllRead view (disk_moments start now) is (Err failure)
+    (failure : Failure) → input_files_of c ≡ is ++ rest → AllRead view (disk_moments start now) is (Err failure)
     → ComesBeforeLine (Some c) (disk_moments start now) (sink_moments at at) (Err failure)
 not-read view c start now at is rest ReadFault are (only, stops) = record {
   line = read_fault_answer.text;
@@ -213,7 +213,7 @@ not-read view c start now at is rest TooDeep are read = absurd read
 not-read view c start now at is rest WriteFault are read = absurd read
 
 pub comes-unread : {V : Type 0} (view : V → List (List ℕ)) (c : Command) (start now : FilesAt) (at : SinkAt) (is rest : List InputFile)
-    (failure : Failure) (came : CallOutcome) → inputs_of c ≡ is ++ rest → came ≡ Err failure
+    (failure : Failure) (came : CallOutcome) → input_files_of c ≡ is ++ rest → came ≡ Err failure
     → AllRead view (disk_moments start now) is (Err failure) → ComesBeforeLine (Some c) (disk_moments start now) (sink_moments at at) came
 comes-unread view c start now at is rest failure came are equal read =
     subst (λ (o : CallOutcome). ComesBeforeLine (Some c) (disk_moments start now) (sink_moments at at) o) (sym equal)
@@ -222,12 +222,12 @@ comes-unread view c start now at is rest failure came are equal read =
 -- ---- what the files hold is refused
 
 refuses : (V : Type 0) (c : Command) (start now : FilesAt) (at : SinkAt) (contents : List (List ℕ)) (failure : Failure)
-    → HasRead start now (inputs_of c) contents → SaysRefusal {V = V} (CommandSays c contents) (Err failure)
+    → HasRead start now (input_files_of c) contents → SaysRefusal {V = V} (CommandSays c contents) (Err failure)
     → ComesBeforeLine (Some c) (disk_moments start now) (sink_moments at at) (Err failure)
 refuses V c start now at contents (Refused file refusal) read said = record {
   line = (refused_file_answer file refusal).text;
   has_line = refl;
-  answers = reads-all (disk_moments start now) (inputs_of c) contents (CommandSays c) (refused_file_answer file refusal) read.hold said;
+  answers = reads-all (disk_moments start now) (input_files_of c) contents (CommandSays c) (refused_file_answer file refusal) read.hold said;
   sink = refl;
   counts = read.same.reads;
   only_reads = only-reads start now read.same;
@@ -235,7 +235,7 @@ refuses V c start now at contents (Refused file refusal) read said = record {
 refuses V c start now at contents (ImageRefused fault) read said = record {
   line = (refused_image_answer fault).text;
   has_line = refl;
-  answers = reads-all (disk_moments start now) (inputs_of c) contents (CommandSays c) (refused_image_answer fault) read.hold said;
+  answers = reads-all (disk_moments start now) (input_files_of c) contents (CommandSays c) (refused_image_answer fault) read.hold said;
   sink = refl;
   counts = read.same.reads;
   only_reads = only-reads start now read.same;
@@ -243,7 +243,7 @@ refuses V c start now at contents (ImageRefused fault) read said = record {
 refuses V c start now at contents NoListing read said = record {
   line = no_listing_answer.text;
   has_line = refl;
-  answers = reads-all (disk_moments start now) (inputs_of c) contents (CommandSays c) no_listing_answer read.hold said;
+  answers = reads-all (disk_moments start now) (input_files_of c) contents (CommandSays c) no_listing_answer read.hold said;
   sink = refl;
   counts = read.same.reads;
   only_reads = only-reads start now read.same;
@@ -251,7 +251,7 @@ refuses V c start now at contents NoListing read said = record {
 refuses V c start now at contents SaysNo read said = record {
   line = says_no_answer.text;
   has_line = refl;
-  answers = reads-all (disk_moments start now) (inputs_of c) contents (CommandSays c) says_no_answer read.hold said;
+  answers = reads-all (disk_moments start now) (input_files_of c) contents (CommandSays c) says_no_answer read.hold said;
   sink = refl;
   counts = read.same.reads;
   only_reads = only-reads start now read.same;
@@ -263,7 +263,7 @@ refuses V c start now at contents ReadFault read said = absurd said
 refuses V c start now at contents (TooLong file) read said = record {
   line = (too_long_answer file).text;
   has_line = refl;
-  answers = reads-all (disk_moments start now) (inputs_of c) contents (CommandSays c) (too_long_answer file) read.hold said;
+  answers = reads-all (disk_moments start now) (input_files_of c) contents (CommandSays c) (too_long_answer file) read.hold said;
   sink = refl;
   counts = read.same.reads;
   only_reads = only-reads start now read.same;
@@ -271,7 +271,7 @@ refuses V c start now at contents (TooLong file) read said = record {
 refuses V c start now at contents WriteFault read said = absurd said
 
 pub comes-refused : (V : Type 0) (c : Command) (start now : FilesAt) (at : SinkAt) (contents : List (List ℕ)) (said : CallAnswer → Type 0)
-    (failure : Failure) (came : CallOutcome) → came ≡ Err failure → HasRead start now (inputs_of c) contents
+    (failure : Failure) (came : CallOutcome) → came ≡ Err failure → HasRead start now (input_files_of c) contents
     → ((a : CallAnswer) → said a → CommandSays c contents a) → SaysRefusal {V = V} said (Err failure)
     → ComesBeforeLine (Some c) (disk_moments start now) (sink_moments at at) came
 comes-refused V c start now at contents said failure came equal read each refused =
@@ -327,41 +327,41 @@ writes c start now s text (Err SaysNo) same none answers took = absurd took
 writes c start now s text (Err TooDeep) same none answers took = absurd took
 
 pub comes-written : (c : Command) (start now : FilesAt) (s : SinkMoments) (contents : List (List ℕ)) (text : List ℕ) (came : CallOutcome)
-    → outputs_of c ≡ [] → HasRead start now (inputs_of c) contents → CommandSays c contents (done_answer text)
+    → outputs_of c ≡ [] → HasRead start now (input_files_of c) contents → CommandSays c contents (done_answer text)
     → TextWritten text s came → ComesBeforeLine (Some c) (disk_moments start now) s came
 comes-written c start now s contents text came none read said took =
     writes c start now s text came read.same none
-    (reads-all (disk_moments start now) (inputs_of c) contents (CommandSays c) (done_answer text) read.hold said)
+    (reads-all (disk_moments start now) (input_files_of c) contents (CommandSays c) (done_answer text) read.hold said)
     took
 
 -- ---- what comes behind the reading of all input files
 
 -- of one, whose bytes are lent
 pub behind-one : {V : Type 0} (view : V → List ℕ) (c : Command) (i : InputFile) (start middle now : FilesAt) (v : V) (lent : List ℕ) (s : SinkMoments) (came : CallOutcome)
-    → inputs_of c ≡ i ∷ [] → lent ≡ view v → FileRead view (disk_moments start middle) i (Ok v) → CommandComesTo c (lent ∷ []) (disk_moments middle now) s came
+    → input_files_of c ≡ i ∷ [] → lent ≡ view v → FileRead view (disk_moments start middle) i (Ok v) → CommandComesTo c (lent ∷ []) (disk_moments middle now) s came
     → ComesBeforeLine (Some c) (disk_moments start now) s came
 behind-one view c i start middle now v lent s came are is read comes =
     comes start
-    (subst (λ (bytes : List ℕ). HasRead start middle (inputs_of c) (bytes ∷ [])) (sym is)
+    (subst (λ (bytes : List ℕ). HasRead start middle (input_files_of c) (bytes ∷ [])) (sym is)
     (subst (λ (inputs : List InputFile). HasRead start middle inputs (view v ∷ [])) (sym are) (file-read view start middle i v read)))
 
 -- of two
 pub behind-two : {V : Type 0} (view : V → List ℕ) (c : Command) (i j : InputFile) (start middle now : FilesAt) (v w : V) (one two : List ℕ) (s : SinkMoments)
-    (came : CallOutcome) → inputs_of c ≡ i ∷ j ∷ [] → one ≡ view v → two ≡ view w → FileRead view (disk_moments start middle) i (Ok v)
+    (came : CallOutcome) → input_files_of c ≡ i ∷ j ∷ [] → one ≡ view v → two ≡ view w → FileRead view (disk_moments start middle) i (Ok v)
     → FileRead view (disk_moments middle now) j (Ok w) → CommandComesTo c (one ∷ two ∷ []) (disk_moments now now) s came → ComesBeforeLine (Some c) (disk_moments start now) s came
 behind-two view c i j start middle now v w one two s came are first second read then comes =
     comes start
-    (subst (λ (bytes : List ℕ). HasRead start now (inputs_of c) (bytes ∷ two ∷ [])) (sym first)
-    (subst (λ (bytes : List ℕ). HasRead start now (inputs_of c) (view v ∷ bytes ∷ [])) (sym second)
+    (subst (λ (bytes : List ℕ). HasRead start now (input_files_of c) (bytes ∷ two ∷ [])) (sym first)
+    (subst (λ (bytes : List ℕ). HasRead start now (input_files_of c) (view v ∷ bytes ∷ [])) (sym second)
     (subst (λ (inputs : List InputFile). HasRead start now inputs (view v ∷ view w ∷ [])) (sym are)
     (read-then start middle now (i ∷ []) (j ∷ []) (view v ∷ []) (view w ∷ []) (file-read view start middle i v read) (file-read view middle now j w then)))))
 
 -- of several, and then of one whose bytes are lent
 pub behind-more : {V W : Type 0} (views : V → List (List ℕ)) (view : W → List ℕ) (c : Command) (is : List InputFile) (j : InputFile) (start middle now : FilesAt)
-    (v : V) (w : W) (lent : List ℕ) (s : SinkMoments) (came : CallOutcome) → inputs_of c ≡ is ++ j ∷ [] → lent ≡ view w → HasRead start middle is (views v)
+    (v : V) (w : W) (lent : List ℕ) (s : SinkMoments) (came : CallOutcome) → input_files_of c ≡ is ++ j ∷ [] → lent ≡ view w → HasRead start middle is (views v)
     → FileRead view (disk_moments middle now) j (Ok w) → CommandComesTo c (views v ++ lent ∷ []) (disk_moments now now) s came → ComesBeforeLine (Some c) (disk_moments start now) s came
 behind-more views view c is j start middle now v w lent s came are same read then comes =
     comes start
-    (subst (λ (bytes : List ℕ). HasRead start now (inputs_of c) (views v ++ bytes ∷ [])) (sym same)
+    (subst (λ (bytes : List ℕ). HasRead start now (input_files_of c) (views v ++ bytes ∷ [])) (sym same)
     (subst (λ (inputs : List InputFile). HasRead start now inputs (views v ++ view w ∷ [])) (sym are)
     (read-then start middle now is (j ∷ []) (views v) (view w ∷ []) read (file-read view middle now j w then))))

@@ -9,7 +9,7 @@ use Rattle.clap.specs.Words.{all_of, fault_of, first_of, matches_of}
 use Rattle.plc_base.specs.Decimal.{decimal_up_to, decimal_value, is_decimal}
 use Rattle.stl_parser.proofs.OptionLemmas.{both, chain_holds, map_holds, none_holds, then_holds}
 use Rattle.s7_cli.specs.Command.{Command, Gen, Live, Watch}
-use Rattle.s7_cli.specs.Words.{the_line, file_command, has_german, number_from_one_up_to, one_word_command, takes_no_source, two_word_command, three_word_command, short_command, live_command, stepped_command, watch_command, command_with_options, command_of_rows, command_of, CommandsKeepLimits, KeepsLimits}
+use Rattle.s7_cli.specs.Words.{the_line, file_command, has_german, number_from_one_up_to, one_word_command, takes_no_source, two_word_command, three_word_command, short_command, live_command_by, stepped_command, watch_command_by, command_with_options, command_of_rows, command_of, CommandsKeepLimits, KeepsLimits}
 
 decimal-limit : (most : ℕ) (word : List ℕ) → IfSome (decimal_up_to most word) (λ n. n ≤ most)
 unfolding decimal_up_to
@@ -62,7 +62,7 @@ short-limits command (first ∷ second ∷ []) symbols german = two-limits comma
 short-limits command (first ∷ second ∷ third ∷ []) symbols german = three-limits command first second third symbols german
 short-limits command (first ∷ second ∷ third ∷ fourth ∷ more) symbols german = tt
 
-live-limits : (command : List ℕ) (words : List (List ℕ)) (steps : List ℕ) → IfSome (live_command command words steps) KeepsLimits
+live-limits : (command : List ℕ) (words : List (List ℕ)) (steps : List ℕ) → IfSome (live_command_by command words steps) KeepsLimits
 live-limits command [] steps = tt
 live-limits command (image ∷ []) steps = tt
 live-limits command (image ∷ stimuli ∷ []) steps = tt
@@ -73,7 +73,7 @@ live-limits command (image ∷ stimuli ∷ script ∷ scripts) steps =
     let most : length (script ∷ scripts) ≤ 4 = grind (arith, nat_tests) in
     map_holds (number_from_one_up_to 1000000 steps) (Live image stimuli (script ∷ scripts)) _ KeepsLimits (number-limits 1000000 steps) (λ n within. (some, most, within.0, within.1)))
 
-watch-limits : (words : List (List ℕ)) (steps : List ℕ) → IfSome (watch_command words steps) KeepsLimits
+watch-limits : (words : List (List ℕ)) (steps : List ℕ) → IfSome (watch_command_by words steps) KeepsLimits
 watch-limits [] steps = tt
 watch-limits (image ∷ []) steps = tt
 watch-limits (image ∷ stimuli ∷ []) steps = tt

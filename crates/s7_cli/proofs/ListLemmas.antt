@@ -22,7 +22,7 @@ use Rattle.stl_symbols.specs.declared.languages.Language.TheVariants.{English}
 use Rattle.s7_cli.specs.declared.failures.File.TheVariants.{Listing}
 use Rattle.s7_cli.specs.declared.failures.Failure.{Failure}
 use Rattle.s7_cli.specs.Answer.{CallAnswer, exit_status}
-use Rattle.s7_cli.specs.Command.{Command, Go, Check, Compile, Translate, Run, Gen, Live, Watch, Upgrade, ListImage, Bound, Recheck, inputs_of}
+use Rattle.s7_cli.specs.Command.{Command, Go, Check, Compile, Translate, Run, Gen, Live, Watch, Upgrade, ListImage, Bound, Recheck, input_files_of}
 use Rattle.s7_cli.specs.Faults.{failure_of_loading}
 use Rattle.s7_cli.specs.Inner.{SaysRefusal}
 use Rattle.s7_cli.specs.Lines.{ok_line}
@@ -139,7 +139,7 @@ other_name : (name other : List ℕ) → Some name ≡ Some other → name ≡ o
 other_name name other is = cc
 
 list-never : CompiledHaveListings → (d : Disk) (image source symbols : List ℕ) (a : CallAnswer)
-    → ReadsFilesInTurn d (inputs_of (ListImage image source symbols)) (CommandSays (ListImage image source symbols)) a → exit_status a.outcome ≡ 9
+    → ReadsFilesInTurn d (input_files_of (ListImage image source symbols)) (CommandSays (ListImage image source symbols)) a → exit_status a.outcome ≡ 9
     → IsNotCompiled (ListImage image source symbols) d
 list-never have d image source symbols a (inl (inl (rose, gives))) nine =
     let e : exit_status a.outcome ≡ 5 = ap (λ (b : CallAnswer). exit_status b.outcome) gives in absurd (omega (arith, e, nine))
@@ -155,7 +155,7 @@ list-never have d image source symbols a (inr (bytes, holds, said)) nine = λ na
 no_name : (k : Command) (name : List ℕ) → image_listed k ≡ None → image_listed k ≡ Some name → ⊥
 no_name k name none some = let e : None ≡ Some name = sym none ∙ some in cc
 
-pub never-compiled : CompiledHaveListings → (k : Command) (d : Disk) (a : CallAnswer) → ReadsFilesInTurn d (inputs_of k) (CommandSays k) a
+pub never-compiled : CompiledHaveListings → (k : Command) (d : Disk) (a : CallAnswer) → ReadsFilesInTurn d (input_files_of k) (CommandSays k) a
     → exit_status a.outcome ≡ 9 → IsNotCompiled k d
 never-compiled have (ListImage i s y) d a said nine = list-never have d i s y a said nine
 never-compiled have (Go s y g h) d a said nine = λ name held german source symbols is known there made. no_name (Go s y g h) name refl is

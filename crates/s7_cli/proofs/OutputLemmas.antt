@@ -8,7 +8,7 @@ use Rattle.plc_io.specs.Moments.{FilesAt, SinkAt}
 use Rattle.s7_cli.specs.declared.failures.Failure.{Failure}
 use Rattle.s7_cli.specs.declared.failures.Failure.TheVariants.{WordsRefused, ReadFault, TooLong, Refused, ImageRefused, NoListing, SaysNo, TooDeep, WriteFault, NoMemory}
 use Rattle.s7_cli.specs.Answer.{CallOutcome, done_answer}
-use Rattle.s7_cli.specs.Command.{Command, inputs_of, outputs_of}
+use Rattle.s7_cli.specs.Command.{Command, input_files_of, outputs_of}
 use Rattle.s7_cli.specs.Ends.{SinkMoments, sink_moments, IsAnswerOfCall, ChangesOutputs, WritesOutputs, HoldsFront, HoldsWhole, RoseAmong, WritesTo}
 use Rattle.s7_cli.specs.Inner.{HasRead, FileWritten, TextWritten, ComesBeforeLine}
 use Rattle.s7_cli.specs.Reading.{disk_moments}
@@ -66,7 +66,7 @@ take-whole bytes = grind (arith, common_steps)
 -- ---- the write failed
 
 -- after a failure the file holds what it held, or a front of what the command writes
-front-left : (c : Command) (start middle now : FilesAt) (contents : List (List ℕ)) (name bytes : List ℕ) → HasRead start middle (inputs_of c) contents
+front-left : (c : Command) (start middle now : FilesAt) (contents : List (List ℕ)) (name bytes : List ℕ) → HasRead start middle (input_files_of c) contents
     → WritesOutputFile c contents name bytes
     → (middle.contents.told ≡ true → (now.contents.at name ≡ middle.contents.at name) ⊎ ((n : ℕ) × (now.contents.at name ≡ Some (take n bytes))))
     → HoldsFront c (disk_moments start now) name
@@ -77,7 +77,7 @@ front-left c start middle now contents name bytes read writes cut = λ known.
     ]
 
 fails : (c : Command) (start middle now : FilesAt) (at : SinkAt) (contents : List (List ℕ)) (name bytes : List ℕ) (failure : Failure)
-    → outputs_of c ≡ name ∷ [] → HasRead start middle (inputs_of c) contents → WritesOutputFile c contents name bytes
+    → outputs_of c ≡ name ∷ [] → HasRead start middle (input_files_of c) contents → WritesOutputFile c contents name bytes
     → FileWritten (disk_moments middle now) name bytes (Err failure) → ComesBeforeLine (Some c) (disk_moments start now) (sink_moments at at) (Err failure)
 fails c start middle now at contents name bytes WriteFault are read writes left =
     let later : Since start now name = since start middle now name read.same left.elsewhere left.reads in record {
@@ -113,7 +113,7 @@ fails c start middle now at contents name bytes SaysNo are read writes left = ab
 fails c start middle now at contents name bytes TooDeep are read writes left = absurd left
 
 pub comes-unwritten : (c : Command) (start middle now : FilesAt) (at : SinkAt) (contents : List (List ℕ)) (name bytes : List ℕ)
-    (failure : Failure) (came : CallOutcome) → came ≡ Err failure → outputs_of c ≡ name ∷ [] → HasRead start middle (inputs_of c) contents
+    (failure : Failure) (came : CallOutcome) → came ≡ Err failure → outputs_of c ≡ name ∷ [] → HasRead start middle (input_files_of c) contents
     → WritesOutputFile c contents name bytes → FileWritten (disk_moments middle now) name bytes (Err failure)
     → ComesBeforeLine (Some c) (disk_moments start now) (sink_moments at at) came
 comes-unwritten c start middle now at contents name bytes failure came is are read writes left =
@@ -164,12 +164,12 @@ text-behind c start now s text (Err SaysNo) answers reads counts changed whole t
 text-behind c start now s text (Err TooDeep) answers reads counts changed whole took = absurd took
 
 pub comes-output : (c : Command) (start middle now : FilesAt) (s : SinkMoments) (contents : List (List ℕ)) (name bytes text : List ℕ) (came : CallOutcome)
-    → outputs_of c ≡ name ∷ [] → HasRead start middle (inputs_of c) contents → WritesOutputFile c contents name bytes
+    → outputs_of c ≡ name ∷ [] → HasRead start middle (input_files_of c) contents → WritesOutputFile c contents name bytes
     → FileWritten (disk_moments middle now) name bytes (Ok tt) → CommandSays c contents (done_answer text) → TextWritten text s came
     → ComesBeforeLine (Some c) (disk_moments start now) s came
 comes-output c start middle now s contents name bytes text came are read writes left said took =
     text-behind c start now s text came
-    (reads-all (disk_moments start now) (inputs_of c) contents (CommandSays c) (done_answer text) read.hold said)
+    (reads-all (disk_moments start now) (input_files_of c) contents (CommandSays c) (done_answer text) read.hold said)
     later.reads (λ other. left.writes other ∙ read.same.writes other)
     (changes c start now name are later front) (whole c start now name are all) took
   where

@@ -6,7 +6,7 @@ use Rattle.plc_io.specs.Moments.{FilesAt, SinkAt}
 use Rattle.s7_cli.specs.declared.failures.Failure.{Failure}
 use Rattle.s7_cli.specs.declared.failures.Failure.TheVariants.{WordsRefused, ReadFault, TooLong, Refused, ImageRefused, NoListing, SaysNo, TooDeep, WriteFault, NoMemory}
 use Rattle.s7_cli.specs.Answer.{CallOutcome, done_answer}
-use Rattle.s7_cli.specs.Command.{Command, inputs_of, outputs_of}
+use Rattle.s7_cli.specs.Command.{Command, input_files_of, outputs_of}
 use Rattle.s7_cli.specs.Ends.{SinkMoments, sink_moments, ChangesOutputs, HoldsFront, HoldsWhole, RoseAmong}
 use Rattle.s7_cli.specs.Inner.{AreOutputs, HasRead, FileWritten, TextWritten, ComesBeforeLine, WrittenFile}
 use Rattle.s7_cli.specs.Lines.{ok_line}
@@ -58,7 +58,7 @@ changes c start now one two are later first second = record {
 }
 
 -- a file that a cut write leaves holds a front of what the command writes, or what it held
-cut-front : (c : Command) (start middle before now : FilesAt) (contents : List (List ℕ)) (to : WrittenFile) → HasRead start middle (inputs_of c) contents
+cut-front : (c : Command) (start middle before now : FilesAt) (contents : List (List ℕ)) (to : WrittenFile) → HasRead start middle (input_files_of c) contents
     → WritesOutputFile c contents to.name to.bytes → before.contents.told ≡ start.contents.told
     → before.contents.at to.name ≡ start.contents.at to.name → IsWriteCutShort before.contents now.contents to.name to.bytes
     → HoldsFront c (disk_moments start now) to.name
@@ -77,7 +77,7 @@ whole-front c start now name holds = λ known.
 -- ---- the write of the first file failed
 
 first-changes : (c : Command) (start middle now : FilesAt) (contents : List (List ℕ)) (one two : WrittenFile) → AreOutputs c contents one two
-    → HasRead start middle (inputs_of c) contents → SameElsewhere middle.contents now.contents one.name
+    → HasRead start middle (input_files_of c) contents → SameElsewhere middle.contents now.contents one.name
     → SameCounts middle.failed_reads now.failed_reads → IsWriteCutShort middle.contents now.contents one.name one.bytes
     → ChangesOutputs (Some c) (disk_moments start now)
 first-changes c start middle now contents one two are read elsewhere reads cut =
@@ -93,7 +93,7 @@ first-changes c start middle now contents one two are read elsewhere reads cut =
     }
 
 pub first-fails : (c : Command) (start middle now : FilesAt) (at : SinkAt) (contents : List (List ℕ)) (one two : WrittenFile) (failure : Failure)
-    → AreOutputs c contents one two → HasRead start middle (inputs_of c) contents
+    → AreOutputs c contents one two → HasRead start middle (input_files_of c) contents
     → FileWritten (disk_moments middle now) one.name one.bytes (Err failure) → ComesBeforeLine (Some c) (disk_moments start now) (sink_moments at at) (Err failure)
 first-fails c start middle now at contents one two WriteFault are read left = record {
   cut = record {
@@ -127,7 +127,7 @@ first-fails c start middle now at contents one two SaysNo are read left = absurd
 first-fails c start middle now at contents one two TooDeep are read left = absurd left
 
 pub first-unwritten : (c : Command) (start middle now : FilesAt) (at : SinkAt) (contents : List (List ℕ)) (one two : WrittenFile) (failure : Failure)
-    (came : CallOutcome) → came ≡ Err failure → AreOutputs c contents one two → HasRead start middle (inputs_of c) contents
+    (came : CallOutcome) → came ≡ Err failure → AreOutputs c contents one two → HasRead start middle (input_files_of c) contents
     → FileWritten (disk_moments middle now) one.name one.bytes (Err failure) → ComesBeforeLine (Some c) (disk_moments start now) (sink_moments at at) came
 first-unwritten c start middle now at contents one two failure came is are read left =
     subst (λ (o : CallOutcome). ComesBeforeLine (Some c) (disk_moments start now) (sink_moments at at) o) (sym is)
@@ -138,7 +138,7 @@ first-unwritten c start middle now at contents one two failure came is are read 
 -- what was so before the second write
 record HasFirst (c : Command) (start between : FilesAt) (contents : List (List ℕ)) (one two : WrittenFile) : Type 0 where
   are : AreOutputs c contents one two
-  hold : HoldBytesInTurn start.contents (inputs_of c) contents
+  hold : HoldBytesInTurn start.contents (input_files_of c) contents
   known : between.contents.told ≡ start.contents.told
   there : start.contents.told ≡ true → between.contents.at one.name ≡ Some one.bytes
   elsewhere : (other : List ℕ) → other ≢ one.name → between.contents.at other ≡ start.contents.at other
@@ -146,7 +146,7 @@ record HasFirst (c : Command) (start between : FilesAt) (contents : List (List �
   writes : SameCounts start.failed_writes between.failed_writes
 
 first-written : (c : Command) (start middle between : FilesAt) (contents : List (List ℕ)) (one two : WrittenFile) → AreOutputs c contents one two
-    → HasRead start middle (inputs_of c) contents → FileWritten (disk_moments middle between) one.name one.bytes (Ok tt)
+    → HasRead start middle (input_files_of c) contents → FileWritten (disk_moments middle between) one.name one.bytes (Ok tt)
     → HasFirst c start between contents one two
 first-written c start middle between contents one two are read left = record {
   are = are;
@@ -223,7 +223,7 @@ second-fails c start between now at contents one two SaysNo has left = absurd le
 second-fails c start between now at contents one two TooDeep has left = absurd left
 
 pub second-unwritten : (c : Command) (start middle between now : FilesAt) (at : SinkAt) (contents : List (List ℕ)) (one two : WrittenFile)
-    (failure : Failure) (came : CallOutcome) → came ≡ Err failure → AreOutputs c contents one two → HasRead start middle (inputs_of c) contents
+    (failure : Failure) (came : CallOutcome) → came ≡ Err failure → AreOutputs c contents one two → HasRead start middle (input_files_of c) contents
     → FileWritten (disk_moments middle between) one.name one.bytes (Ok tt) → FileWritten (disk_moments between now) two.name two.bytes (Err failure)
     → ComesBeforeLine (Some c) (disk_moments start now) (sink_moments at at) came
 second-unwritten c start middle between now at contents one two failure came is are read first left =
@@ -233,12 +233,12 @@ second-unwritten c start middle between now at contents one two failure came is 
 -- ---- both were written, and then the text, or a front of it
 
 pub comes-outputs : (c : Command) (start middle between now : FilesAt) (s : SinkMoments) (contents : List (List ℕ)) (one two : WrittenFile) (came : CallOutcome)
-    → AreOutputs c contents one two → HasRead start middle (inputs_of c) contents
+    → AreOutputs c contents one two → HasRead start middle (input_files_of c) contents
     → FileWritten (disk_moments middle between) one.name one.bytes (Ok tt) → FileWritten (disk_moments between now) two.name two.bytes (Ok tt)
     → TextWritten ok_line s came → ComesBeforeLine (Some c) (disk_moments start now) s came
 comes-outputs c start middle between now s contents one two came are read first second took =
     text-behind c start now s ok_line came
-    (reads-all (disk_moments start now) (inputs_of c) contents (CommandSays c) (done_answer ok_line) read.hold are.says)
+    (reads-all (disk_moments start now) (input_files_of c) contents (CommandSays c) (done_answer ok_line) read.hold are.says)
     later.reads (λ other. second.writes other ∙ has.writes other)
     (changes c start now one.name two.name are.outputs later (whole-front c start now one.name one-whole) (whole-front c start now two.name two-whole))
     (each c one.name two.name (λ k name. HoldsWhole k (disk_moments start now) name) are.outputs one-whole two-whole) took

@@ -13,7 +13,7 @@ use Rattle.clap.specs.Simple.{Shape, built, entered}
 use Rattle.clap.specs.Walk.{Row, Rule, Text, Waiting, Walk, finished, idle, is_empty, option, positional, settled, settled_rows, walked}
 use Rattle.clap.specs.declared.builder.value_parser.ValueParser.TheVariants as parser
 use Rattle.s7_cli.specs.Command.{Command, Watch}
-use Rattle.s7_cli.specs.Words.{the_line, command_of_rows, command_of, is_plain_word, plain_command, live_command, stepped_command, watch_command, short_command, number_from_one_up_to, ReadsGermanAnywhere, ReadsPlainWords, ReadsStepsAnywhere, ReadsSymbolsAnywhere, ReadsWordsBehindDashes, RefusesNoValue}
+use Rattle.s7_cli.specs.Words.{the_line, command_of_rows, command_of, is_plain_word, plain_command, live_command_by, stepped_command, watch_command_by, short_command, number_from_one_up_to, ReadsGermanAnywhere, ReadsPlainWords, ReadsStepsAnywhere, ReadsSymbolsAnywhere, ReadsWordsBehindDashes, RefusesNoValue}
 
 -- ---- one word
 
@@ -253,7 +253,7 @@ not_both true second asked e = rw e refl
 not_both false second asked e = refl
 
 -- more files than any command has
-none-live : (command : Text) (words : List Text) (number : Text) → are_few words ≡ false → live_command command words number ≡ None
+none-live : (command : Text) (words : List Text) (number : Text) → are_few words ≡ false → live_command_by command words number ≡ None
 none-live command [] number h = refl
 none-live command (a ∷ []) number h = refl
 none-live command (a ∷ b ∷ []) number h = refl
@@ -262,7 +262,7 @@ none-live command (a ∷ b ∷ c ∷ more) number h = not_both (bytes_eq command
 none-if : (test : Bool) (asked : Option Command) → test ≡ false → (if test then asked else None) ≡ None
 none-if test asked e = rw e refl
 
-none-watch : (words : List Text) (number : Text) → are_few words ≡ false → watch_command words number ≡ None
+none-watch : (words : List Text) (number : Text) → are_few words ≡ false → watch_command_by words number ≡ None
 none-watch [] number h = refl
 none-watch (a ∷ []) number h = refl
 none-watch (a ∷ b ∷ []) number h = refl

@@ -11,7 +11,7 @@ use Rattle.s7_cli.specs.declared.failures.Failure.TheVariants.{WordsRefused, Rea
 use Rattle.s7_cli.specs.Answer.{CallAnswer, CallOutcome, refused_file_answer, refused_image_answer, no_listing_answer, says_no_answer, too_deep_answer, read_fault_answer, too_long_answer, words_refused_answer, exit_status}
 use Rattle.stack_bound.specs.Overflow.{CertificatesKeepStacks}
 use Rattle.s7_cli.specs.BoundSays.{StacksSuffice}
-use Rattle.s7_cli.specs.Command.{Command, inputs_of}
+use Rattle.s7_cli.specs.Command.{Command, input_files_of}
 use Rattle.s7_cli.specs.Ends.{SinkMoments, IsAnswerOfCall, InputRose, OutputRose, CountsReads, LeavesFiles, ChangesOutputs, WritesOutputs, SaysWholeText, IsCallCutShort, SinkFailed, OutputFailed, IsWriteFault, IsNoMemory, EndsWithOutcome, EndsWithStatus}
 use Rattle.s7_cli.specs.Listings.{CompiledHaveListings, IsNotCompiled}
 use Rattle.s7_cli.specs.Lines.{IsFailureLine}
@@ -166,10 +166,10 @@ rows-answer c d s k a is (inr (inr (inr (inr (inr (inr gives)))))) took =
     (rows-file c d s k NoListing no_listing_answer.text 9 is refl refl
     (subst (λ (b : CallAnswer). TookBytes s.before s.after b.text) gives took) no-listing-status)
 
-rows-command : (k : Command) (d : Disk) (s : SinkMoments) (a : CallAnswer) → ReadsFilesInTurn d (inputs_of k) (CommandSays k) a
+rows-command : (k : Command) (d : Disk) (s : SinkMoments) (a : CallAnswer) → ReadsFilesInTurn d (input_files_of k) (CommandSays k) a
     → TookBytes s.before s.after a.text → Rows (Some k) d s (exit_status a.outcome)
 rows-command k d s a reads took =
-    elim (reads-kinds d (inputs_of k) (CommandSays k) a reads) [
+    elim (reads-kinds d (input_files_of k) (CommandSays k) a reads) [
       | inl (gives, rose) ↦
           subst (λ (b : CallAnswer). Rows (Some k) d s (exit_status b.outcome)) (sym gives)
           (rows-read (Some k) d s k read_fault_answer.text refl refl (subst (λ (b : CallAnswer). TookBytes s.before s.after b.text) gives took) rose)
@@ -190,17 +190,17 @@ rows (Some k) d s a reads took = rows-command k d s a reads took
 -- ---- the answer over files that tell what they hold
 
 abbrev IsDecidedStatus : Command → Disk → SinkMoments → ℕ → Type 0
-IsDecidedStatus k d s code = ((code ≡ 5) × FailsOnTheWay d (inputs_of k)) ⊎ IsCutOff code ⊎ IsDecided k d s code
+IsDecidedStatus k d s code = ((code ≡ 5) × FailsOnTheWay d (input_files_of k)) ⊎ IsCutOff code ⊎ IsDecided k d s code
 
 decided-command : OneEach → (k : Command) (d : Disk) (s : SinkMoments) (a : CallAnswer) → d.before.contents.told ≡ true
-    → ReadsFilesInTurn d (inputs_of k) (CommandSays k) a → TookBytes s.before s.after a.text → IsDecidedStatus k d s (exit_status a.outcome)
+    → ReadsFilesInTurn d (input_files_of k) (CommandSays k) a → TookBytes s.before s.after a.text → IsDecidedStatus k d s (exit_status a.outcome)
 decided-command one k d s a known reads took =
-    elim (reads-known d (inputs_of k) (CommandSays k) a known reads) [
+    elim (reads-known d (input_files_of k) (CommandSays k) a known reads) [
       | inl fails ↦ inl (ap (λ (b : CallAnswer). exit_status b.outcome) fails.0, fails.1)
       | inr allowed ↦ inr (inr (record {
         answer = a;
         allowed = allowed;
-        only = λ other also. allows-alike d.before.contents (Alike k) (same-alike k) (inputs_of k) (CommandSays k) (says-alike one k) other a also allowed;
+        only = λ other also. allows-alike d.before.contents (Alike k) (same-alike k) (input_files_of k) (CommandSays k) (says-alike one k) other a also allowed;
         status = refl;
         took = took;
       }))
@@ -219,7 +219,7 @@ complete : (c : Option Command) (d : Disk) (s : SinkMoments) (code : ℕ)
     → (InputRose c d → ⊥) → (OutputRose c d → ⊥) → (CountRose s.before.faults s.after.faults → ⊥) → (code ≡ 7) ⊎ IsDecided k d s code
 complete c d s code decides six k is known no_input no_output no_fault =
     elim (decides k is known) [
-      | inl fails ↦ absurd (no_input (subst (λ (o : Option Command). InputRose o d) (sym is) (fails-rose d (inputs_of k) fails.1)))
+      | inl fails ↦ absurd (no_input (subst (λ (o : Option Command). InputRose o d) (sym is) (fails-rose d (input_files_of k) fails.1)))
       | inr (inl (inl e)) ↦ elim (six e) [ inl rose ↦ absurd (no_fault rose) | inr rose ↦ absurd (no_output rose) ]
       | inr (inl (inr e)) ↦ inl e
       | inr (inr decided) ↦ inr decided

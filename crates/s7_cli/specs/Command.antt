@@ -68,21 +68,22 @@ watch_inputs image stimuli vars scripts =
     ∷ record { file = Vars; name = vars } ∷ script_inputs 1 scripts
 
 -- the files that a command reads, in the order in which they are read
-abbrev pub inputs_of : Command → List InputFile
-inputs_of (Go source symbols german history) =
+abbrev pub input_files_of : Command → List InputFile
+input_files_of (Go source symbols german history) =
     program_inputs source symbols ++ record { file = History; name = history } ∷ []
-inputs_of (Check source symbols german) = program_inputs source symbols
-inputs_of (Compile source symbols german image) = program_inputs source symbols
-inputs_of (Translate language source translation) = record { file = Source; name = source } ∷ []
-inputs_of (Run image history) =
+input_files_of (Check source symbols german) = program_inputs source symbols
+input_files_of (Compile source symbols german image) = program_inputs source symbols
+input_files_of (Translate language source translation) =
+    record { file = Source; name = source } ∷ []
+input_files_of (Run image history) =
     record { file = Image; name = image } ∷ record { file = History; name = history } ∷ []
-inputs_of (Gen number) = []
-inputs_of (Live image stimuli scripts steps) = live_inputs image stimuli scripts
-inputs_of (Watch image stimuli vars scripts steps) = watch_inputs image stimuli vars scripts
-inputs_of (Upgrade image upgraded) = record { file = Image; name = image } ∷ []
-inputs_of (ListImage image source symbols) = record { file = Image; name = image } ∷ []
-inputs_of (Bound image certificate) = record { file = Image; name = image } ∷ []
-inputs_of (Recheck image certificate) =
+input_files_of (Gen number) = []
+input_files_of (Live image stimuli scripts steps) = live_inputs image stimuli scripts
+input_files_of (Watch image stimuli vars scripts steps) = watch_inputs image stimuli vars scripts
+input_files_of (Upgrade image upgraded) = record { file = Image; name = image } ∷ []
+input_files_of (ListImage image source symbols) = record { file = Image; name = image } ∷ []
+input_files_of (Bound image certificate) = record { file = Image; name = image } ∷ []
+input_files_of (Recheck image certificate) =
     record { file = Image; name = image } ∷ record { file = Certificate; name = certificate } ∷ []
 
 -- the files that a command writes

@@ -111,7 +111,7 @@ IsCompiledIn language bytes source symbols =
 abbrev pub HasProgram : (source symbols : List ℕ) → Type 0
 HasProgram source symbols = HasProgramIn English source symbols
 
--- bytes are the image of a source with its symbols, with English mnemonics
+-- bytes are the image of a source with its symbols, which have English addresses
 abbrev pub IsImageOfEnglishSource : (bytes source symbols : List ℕ) → Type 0
 IsImageOfEnglishSource bytes source symbols = IsCompiledIn English bytes source symbols
 

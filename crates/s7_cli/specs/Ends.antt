@@ -6,7 +6,7 @@ use Rattle.plc_io.specs.Moments.{SinkAt}
 use Rattle.plc_io.specs.SinkBytes.{TookBytes, TookPrefix}
 use Rattle.s7_cli.specs.declared.failures.Failure.TheVariants.{ReadFault, WriteFault, NoMemory}
 use Rattle.s7_cli.specs.Answer.{CallAnswer, CallOutcome, words_refused_answer, exit_status}
-use Rattle.s7_cli.specs.Command.{Command, inputs_of, outputs_of}
+use Rattle.s7_cli.specs.Command.{Command, input_files_of, outputs_of}
 use Rattle.s7_cli.specs.Reading.{Disk, HoldBytesInTurn, ReadsFilesInTurn}
 use Rattle.s7_cli.specs.Says.{CommandSays, WritesOutputFile}
 
@@ -25,12 +25,12 @@ sink_moments before after = record { before = before; after = after }
 -- that they are
 abbrev pub IsAnswerOfCall : Option Command → Disk → CallAnswer → Type 0
 IsAnswerOfCall None d answer = answer ≡ words_refused_answer
-IsAnswerOfCall (Some c) d answer = ReadsFilesInTurn d (inputs_of c) (CommandSays c) answer
+IsAnswerOfCall (Some c) d answer = ReadsFilesInTurn d (input_files_of c) (CommandSays c) answer
 
 -- the names of a command's input files
 abbrev pub input_names : Option Command → List (List ℕ)
 input_names None = []
-input_names (Some c) = map (λ i. i.name) (inputs_of c)
+input_names (Some c) = map (λ i. i.name) (input_files_of c)
 
 -- the files that a call may write
 abbrev pub output_names : Option Command → List (List ℕ)
@@ -60,7 +60,7 @@ CountsReads d outcome = SameCounts d.before.failed_reads d.after.failed_reads
 -- what is known of them
 abbrev pub WritesTo : Command → Disk → (name bytes : List ℕ) → Type 0
 WritesTo c d name bytes =
-    (contents : List (List ℕ)) × HoldBytesInTurn d.before.contents (inputs_of c) contents
+    (contents : List (List ℕ)) × HoldBytesInTurn d.before.contents (input_files_of c) contents
     × WritesOutputFile c contents name bytes
 
 -- where the contents of files are known, an output file holds what it held, or a front of what the

@@ -10,7 +10,7 @@ use Rattle.s7_cli.specs.declared.failures.Failure.{Failure}
 use Rattle.s7_cli.specs.declared.finish.Output.{Output}
 use Rattle.s7_cli.specs.declared.failures.Failure.TheVariants.{ReadFault, TooLong, Refused, ImageRefused, NoListing, SaysNo, TooDeep, WriteFault, NoMemory}
 use Rattle.s7_cli.specs.Answer.{CallAnswer, CallOutcome, done_answer, refused_file_answer, refused_image_answer, no_listing_answer, says_no_answer, too_long_answer, read_fault_answer}
-use Rattle.s7_cli.specs.Command.{Command, InputFile, inputs_of, outputs_of}
+use Rattle.s7_cli.specs.Command.{Command, InputFile, input_files_of, outputs_of}
 use Rattle.s7_cli.specs.Ends.{SinkMoments, IsAnswerOfCall, CountsReads, SaysWholeText, IsWriteFault, IsNoMemory}
 use Rattle.s7_cli.specs.Lines.{line_of_failure, ok_line}
 use Rattle.s7_cli.specs.Reading.{Disk, disk_moments, HoldsBytes, HoldBytesInTurn, StopsAt}
@@ -131,7 +131,7 @@ ComesBeforeLine c d s (Err failure) = FailsWith c d s failure
 abbrev pub CommandComesTo :
     Command → (contents : List (List ℕ)) → Disk → SinkMoments → CallOutcome → Type 0
 CommandComesTo c contents d s came =
-    (start : FilesAt) → HasRead start d.before (inputs_of c) contents
+    (start : FilesAt) → HasRead start d.before (input_files_of c) contents
     → ComesBeforeLine (Some c) (disk_moments start d.after) s came
 
 -- a command whose input files hold this writes these bytes to this file, its only one, and `OK`

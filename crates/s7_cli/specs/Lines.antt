@@ -55,7 +55,7 @@ unfoldable pub says_no_text : List ℕ
 says_no_text = codes "certificate says no\n"
 
 -- what `check` writes for a source that is accepted, `recheck` for a certificate that holds, and
--- `compile`, `upgrade`, `list` and `bound` where they have written their files
+-- `compile`, `english`, `german`, `upgrade`, `list` and `bound` where they have written their files
 unfoldable pub ok_line : List ℕ
 ok_line = codes "OK\n"
 

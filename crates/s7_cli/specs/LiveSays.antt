@@ -52,7 +52,7 @@ pub record RanLive
   pub history : List Entry
   -- it is a live history of these lists
   pub live : IsLive loaded steps stimuli scripts history
-  -- where it isn't longer than a history may be, `run` gives the written history the same text
+  -- the written history is read as this history
   pub read_back : history_of_text loaded.program.names (history_text history) ≡ Ok history
   -- the answer is its text, done
   pub says : answer ≡ done_answer (live_text loaded history)

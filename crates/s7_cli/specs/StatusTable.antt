@@ -6,7 +6,7 @@ use Rattle.plc_io.specs.SinkBytes.{TookBytes}
 use Rattle.s7_cli.specs.declared.failures.Failure.{Failure}
 use Rattle.s7_cli.specs.Answer.{CallAnswer, exit_status}
 use Rattle.s7_cli.specs.BoundSays.{StacksSuffice}
-use Rattle.s7_cli.specs.Command.{Command, Live, Watch, Bound, inputs_of}
+use Rattle.s7_cli.specs.Command.{Command, Live, Watch, Bound, input_files_of}
 use Rattle.s7_cli.specs.Ends.{SinkMoments, InputRose, OutputRose, CutShort, ChangesOutputs, WritesOutputs}
 use Rattle.s7_cli.specs.Lines.{IsFailureLine}
 use Rattle.s7_cli.specs.Listings.{IsNotCompiled}
@@ -15,7 +15,7 @@ use Rattle.s7_cli.specs.Says.{CommandSays}
 
 -- the answer of a command that its input files allow where no read of them fails
 abbrev pub IsAllowed : Command → Disk → CallAnswer → Type 0
-IsAllowed k d answer = AllowsAnswer d.before.contents (inputs_of k) (CommandSays k) answer
+IsAllowed k d answer = AllowsAnswer d.before.contents (input_files_of k) (CommandSays k) answer
 
 -- files whose contents are known allow one text of this command. The workers of `live` and `watch`
 -- take turns in many ways, and each way has a text of its own; `bound` tells one of the chains that
@@ -60,7 +60,7 @@ pub record StatusTable (c : Option Command) (d : Disk) (s : SinkMoments) (code :
   -- and but for `live`, `watch` and `bound` their one answer; where the reading comes to an absent
   -- file they allow 5 alone
   pub decided : (k : Command) → c ≡ Some k → d.before.contents.told ≡ true
-      → ((code ≡ 5) × FailsOnTheWay d (inputs_of k)) ⊎ IsCutOff code ⊎ IsDecided k d s code
+      → ((code ≡ 5) × FailsOnTheWay d (input_files_of k)) ⊎ IsCutOff code ⊎ IsDecided k d s code
   -- over files whose contents are known, where no count of failed reads of an input file, of failed
   -- writes of an output file or of faults of the sink rose: 7 for want of memory, or the outcome
   -- that the contents allow

@@ -55,7 +55,7 @@ pub record RanWatch
   pub history : List Entry
   -- it is a live history of these lists, and of the reads of operator 4
   pub live : IsLive loaded steps stimuli (watch_lists watch_count scripts vars) history
-  -- where it isn't longer than a history may be, `run` gives the written history the same text
+  -- the written history is read as this history
   pub read_back : history_of_text loaded.program.names (history_text history) ≡ Ok history
   -- the items that were viewed
   pub seen : List Shown

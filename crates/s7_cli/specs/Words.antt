@@ -9,6 +9,7 @@ use Rattle.clap.specs.Simple.{on_top}
 use Rattle.clap.specs.Walk.{is_empty}
 use Rattle.clap.specs.Words.{App, Row, Rule, all_of, fault_of, first_of, matches_of, new_app, new_rule, with_rule}
 use Rattle.clap.specs.declared.builder.action.ArgAction.TheVariants.{Set, SetTrue, Append}
+use Rattle.stl_lexer.specs.Bytes.{minus_sign}
 use Rattle.stl_symbols.specs.declared.languages.Language.TheVariants.{English, German}
 use Rattle.plc_base.specs.Decimal.{decimal_up_to}
 use Rattle.s7_cli.specs.declared.words.AskedCommand.{AskedCommand}
@@ -118,29 +119,29 @@ short_command command (first ∷ second ∷ third ∷ []) symbols german =
 short_command command words symbols german = None
 
 -- `live IMG STIM OPS.. --steps N`, with one script to four
-abbrev pub live_command :
+abbrev pub live_command_by :
     (command : List ℕ) (words : List (List ℕ)) (steps : List ℕ) → Option Command
-live_command command (image ∷ stimuli ∷ script ∷ scripts) steps =
+live_command_by command (image ∷ stimuli ∷ script ∷ scripts) steps =
     if bytes_eq command (codes "live") && nat_le (length scripts) 3
     then option_map (Live image stimuli (script ∷ scripts)) (number_from_one_up_to 1000000 steps)
     else None
-live_command command words steps = None
+live_command_by command words steps = None
 
 -- `watch IMG STIM VARS OPS.. --steps N`, with one script to three
-abbrev pub watch_command : (words : List (List ℕ)) (steps : List ℕ) → Option Command
-watch_command (image ∷ stimuli ∷ vars ∷ script ∷ scripts) steps =
+abbrev pub watch_command_by : (words : List (List ℕ)) (steps : List ℕ) → Option Command
+watch_command_by (image ∷ stimuli ∷ vars ∷ script ∷ scripts) steps =
     if nat_le (length scripts) 2
     then option_map (Watch image stimuli vars (script ∷ scripts))
     (number_from_one_up_to 1000000 steps)
     else None
-watch_command words steps = None
+watch_command_by words steps = None
 
 -- a command with `--steps N`: `watch` or `live`
 abbrev pub stepped_command :
     (command : List ℕ) (words : List (List ℕ)) (steps : List ℕ) → Option Command
 stepped_command command words steps =
-    if bytes_eq command (codes "watch") then watch_command words steps
-    else live_command command words steps
+    if bytes_eq command (codes "watch") then watch_command_by words steps
+    else live_command_by command words steps
 
 -- the command that its word, the words behind it and the options ask for; `--steps N` goes with
 -- `live` and `watch`, and with nothing else
@@ -202,11 +203,11 @@ command_value (asked.Live image stimuli scripts steps) =
 command_value (asked.Watch image stimuli vars scripts steps) =
     Watch image.now stimuli.now vars.now (map (λ s. s.now) scripts.items) steps
 
--- a word that can be no option: it doesn't begin with a hyphen (45), or is nothing else
+-- a word that can be no option: it doesn't begin with a hyphen, or is nothing else
 abbrev pub is_plain_word : List ℕ → Bool
 is_plain_word [] = true
 is_plain_word (first ∷ []) = true
-is_plain_word (first ∷ second ∷ rest) = not (first == 45)
+is_plain_word (first ∷ second ∷ rest) = not (first == minus_sign)
 
 -- the command that words which can be no options ask for, the first of them as its word, with
 -- these options

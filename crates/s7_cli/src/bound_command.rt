@@ -27,7 +27,7 @@ enum BoundText {
 }
 
 /// The text of what was found.
-fn bound_text(alloc: Global, found: &Found) -> Result<BoundText, NoMemory>
+fn text_of_found(alloc: Global, found: &Found) -> Result<BoundText, NoMemory>
     ensures { IfOk result (IsBoundText found.now) }
 {
     let mut text = Vec::new(alloc);
@@ -51,7 +51,7 @@ fn check_bound(alloc: Global, image: &[u8]) -> Result<BoundText, Failure>
 {
     let loaded = loaded_image(alloc, image)?;
     let found = find(alloc, &loaded)?;
-    Ok(bound_text(alloc, &found)?)
+    Ok(text_of_found(alloc, &found)?)
 }
 
 /// Writes the line of a chain that is too deep.

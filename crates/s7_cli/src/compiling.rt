@@ -32,7 +32,7 @@ ghost use Rattle.s7_cli.specs.Compiling.{
   RefusesForSymbols,
 };
 
-use crate::faults::{CompileFault, in_source, in_symbols};
+use crate::faults::{CompileFault, fault_in_source, fault_in_symbols};
 use block_layout::{Layouts, lay_out, lay_out_sound};
 use flat_code::Program;
 use image_file::{Loaded, VerifyError, verify, write_image2};
@@ -70,7 +70,7 @@ fn read_symbols_in(
 }
 
 /// The symbols of a symbols file with addresses in a language, for a source whose symbols they are.
-pub(crate) fn symbols_in(
+pub(crate) fn symbols_for_source(
     alloc: Global,
     language: Language,
     symbols: &[u8],
@@ -81,7 +81,7 @@ pub(crate) fn symbols_in(
 {
     match read_symbols_in(alloc, language, symbols) {
         Ok(list) => Ok(list),
-        Err(fault) => Err(in_symbols(fault)),
+        Err(fault) => Err(fault_in_symbols(fault)),
     }
 }
 
@@ -116,7 +116,7 @@ fn refusal_of_statements(
 
 /// The least refusal of a tree that breaks a rule on its layout. The statements are checked with
 /// all that breaks none.
-fn least_refusal(
+fn least_refusal_of_tree(
     alloc: Global,
     tree: &Tree,
     symbols: &Symbols,
@@ -132,13 +132,13 @@ fn least_refusal(
 }
 
 /// The layouts of a tree that breaks no rule on them.
-fn layouts_of(alloc: Global, tree: &Tree, symbols: &Symbols) -> Result<Layouts, SourceFault>
+fn layouts_of_tree(alloc: Global, tree: &Tree, symbols: &Symbols) -> Result<Layouts, SourceFault>
     ensures { LaysOutTree symbols.now tree.now result }
 {
     match lay_out(alloc, tree, symbols) {
         Ok(layouts) => Ok(layouts),
         Err(SourceFault::Refused { refusal }) => {
-            let least = least_refusal(alloc, tree, symbols, refusal)?;
+            let least = least_refusal_of_tree(alloc, tree, symbols, refusal)?;
             Err(SourceFault::Refused { refusal: least })
         }
         Err(SourceFault::NoMemory) => Err(SourceFault::NoMemory),
@@ -156,15 +156,15 @@ fn laid_source(alloc: Global, source: &[u8], symbols: Symbols) -> Result<LaidSou
 {
     let tree = match tree_of(alloc, source) {
         Ok(tree) => tree,
-        Err(fault) => return Err(in_source(fault)),
+        Err(fault) => return Err(fault_in_source(fault)),
     };
-    match layouts_of(alloc, &tree, &symbols) {
+    match layouts_of_tree(alloc, &tree, &symbols) {
         Ok(layouts) => Ok(LaidSource {
             symbols,
             tree,
             layouts,
         }),
-        Err(fault) => Err(in_source(fault)),
+        Err(fault) => Err(fault_in_source(fault)),
     }
 }
 
@@ -177,7 +177,7 @@ fn checked_of<'a>(alloc: Global, laid: &'a LaidSource) -> Result<CheckedSource<'
 {
     match check(alloc, &laid.tree, &laid.symbols, &laid.layouts) {
         Ok(checked) => Ok(checked),
-        Err(fault) => Err(in_source(fault)),
+        Err(fault) => Err(fault_in_source(fault)),
     }
 }
 
@@ -228,7 +228,7 @@ pub(crate) fn check_source_with(
 }
 
 /// The program of a source with symbols that were read, in either language.
-pub(crate) fn program_with(
+pub(crate) fn program_with_symbols(
     alloc: Global,
     source: &[u8],
     symbols: Symbols,
@@ -261,12 +261,12 @@ pub fn check_source(alloc: Global, source: &[u8], symbols: &[u8]) -> Result<(), 
         (RefusesEnglish source.now symbols.now) }
 {
     law_of_files(source, symbols);
-    let list = symbols_in(alloc, Language::English, symbols)?;
+    let list = symbols_for_source(alloc, Language::English, symbols)?;
     check_source_with(alloc, source, list)
 }
 
 /// The program of a source with its symbols.
-fn program_of(alloc: Global, source: &[u8], symbols: &[u8]) -> Result<Program, CompileFault>
+fn program_of_source(alloc: Global, source: &[u8], symbols: &[u8]) -> Result<Program, CompileFault>
     requires source { length source.now ≤ source_limit }
     requires symbols { length symbols.now ≤ symbols_limit }
     ensures ok { IfOk result (KeepsSource Large source.now symbols.now) }
@@ -275,8 +275,8 @@ fn program_of(alloc: Global, source: &[u8], symbols: &[u8]) -> Result<Program, C
         (RefusesEnglish source.now symbols.now) }
 {
     law_of_files(source, symbols);
-    let list = symbols_in(alloc, Language::English, symbols)?;
-    program_with(alloc, source, list)
+    let list = symbols_for_source(alloc, Language::English, symbols)?;
+    program_with_symbols(alloc, source, list)
 }
 
 /// Compiles a source of at most 1,048,576 bytes with its symbols file, which has at most as many
@@ -301,7 +301,7 @@ pub fn compiled(alloc: Global, source: &[u8], symbols: &[u8]) -> Result<Loaded, 
         (RefusesEnglish source.now symbols.now) }
 {
     law_of_files(source, symbols);
-    let program = program_of(alloc, source, symbols)?;
+    let program = program_of_source(alloc, source, symbols)?;
     Ok(loaded_large(alloc, program)?)
 }
 
@@ -320,7 +320,7 @@ pub fn compiled_image(alloc: Global, source: &[u8], symbols: &[u8]) -> Result<Ve
         (RefusesEnglish source.now symbols.now) }
 {
     law_of_files(source, symbols);
-    let program = program_of(alloc, source, symbols)?;
+    let program = program_of_source(alloc, source, symbols)?;
     Ok(write_image2(alloc, &program, Profile::Large)?)
 }
 
@@ -377,7 +377,7 @@ pub fn compiles_to(
         → yes ≡ true) }
 {
     law_of_programs();
-    match program_of(alloc, source, symbols) {
+    match program_of_source(alloc, source, symbols) {
         Ok(program) => is_same_program(alloc, &program, loaded),
         Err(fault) => no_program(&fault),
     }

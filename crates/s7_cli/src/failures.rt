@@ -92,7 +92,7 @@ impl From<LoadError> for Failure {
     }
 }
 
-/// How a command comes out where this file, a history, stimuli or a script, isn't read so.
+/// The failure by a fault of this file: a history, stimuli or a script.
 pub(crate) fn failure_of_text(file: File, fault: TextFault) -> Failure
     ensures { result ≡ failure_of_text file fault }
 {

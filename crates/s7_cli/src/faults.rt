@@ -26,8 +26,8 @@ impl From<AllocError> for CompileFault {
     }
 }
 
-/// What a symbols file breaks.
-pub(crate) fn in_symbols(fault: SourceFault) -> CompileFault
+/// The fault of compiling by a fault of the symbols file: what it breaks, or want of memory.
+pub(crate) fn fault_in_symbols(fault: SourceFault) -> CompileFault
     ensures { result ≡ fault_in_symbols fault }
 {
     match fault {
@@ -36,8 +36,8 @@ pub(crate) fn in_symbols(fault: SourceFault) -> CompileFault
     }
 }
 
-/// What a source breaks.
-pub(crate) fn in_source(fault: SourceFault) -> CompileFault
+/// The fault of compiling by a fault of the source: what it breaks, or want of memory.
+pub(crate) fn fault_in_source(fault: SourceFault) -> CompileFault
     ensures { result ≡ fault_in_source fault }
 {
     match fault {

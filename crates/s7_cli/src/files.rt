@@ -10,12 +10,8 @@ use crate::failures::{Failure, File};
 use crate::lists::add;
 use plc_io::{Files, IoFault, read_to_limit};
 use std::alloc::Global;
-
-/// The most bytes of a source, of its translation, and of each text of a listing.
-const SOURCE_LIMIT: usize = 1_048_576;
-
-/// The most bytes of a symbols file.
-const SYMBOLS_LIMIT: usize = 1_048_576;
+use stl_lexer::SOURCE_LIMIT;
+use stl_symbols::SYMBOLS_LIMIT;
 
 /// The most bytes of an image.
 const IMAGE_LIMIT: usize = 8_388_608;

@@ -26,7 +26,7 @@ use std::alloc::Global;
 use var_access::Entries;
 
 /// The program of a number, compiled.
-fn program_of(alloc: Global, number: u32) -> Result<Loaded, Failure>
+fn program_of_number(alloc: Global, number: u32) -> Result<Loaded, Failure>
     ensures keeps { IfOk result (λ l. KeepsSource Large (source_text number) [] l.program) }
     ensures large { IfOk result (λ l. l.profile ≡ Large) }
     ensures refused { SaysRefusal (GenSays number) result }
@@ -66,7 +66,7 @@ fn generate<K: Sink>(alloc: Global, number: u32, out: &mut K) -> Result<(), Fail
     ensures { (files : FilesAt) → ComesBeforeLine (Some (Gen number)) (disk_moments files files)
         (sink_moments (K.shown out.old) (K.shown out.new)) result }
 {
-    let program = program_of(alloc, number)?;
+    let program = program_of_number(alloc, number)?;
     let entries = history(alloc, number)?;
     let controller = controller_behind(alloc, program, &entries)?;
     write_text(out, summary_line(number, &controller).as_slice())

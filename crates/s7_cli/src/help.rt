@@ -8,9 +8,9 @@ use plc_io::{IoFault, Sink, push_all};
 /// What the words may ask of the program itself.
 #[derive(Clone, Copy, Debug, PartialEq, Eq)]
 pub enum Question {
-    /// How it is called.
+    /// How the program is called.
     Help,
-    /// Which version it is.
+    /// Which version the program is.
     Version,
 }
 

@@ -31,7 +31,7 @@ fn short_listing(alloc: Global, loaded: &Loaded) -> Result<Listing, Failure>
 }
 
 /// The listing of a program, if it compiles to the program.
-fn listing_of(alloc: Global, loaded: &Loaded) -> Result<Listing, Failure>
+fn listing_that_compiles(alloc: Global, loaded: &Loaded) -> Result<Listing, Failure>
     requires { IsProgram loaded.now.program }
     ensures lists { IfOk result
         (λ x. IsListing x.source.items x.symbols.items loaded.now.program) }
@@ -51,7 +51,7 @@ pub(crate) fn check_listing(alloc: Global, image: &[u8]) -> Result<Listing, Fail
     ensures refused { SaysRefusal (ListSays image.now) result }
 {
     let loaded = loaded_image(alloc, image)?;
-    listing_of(alloc, &loaded)
+    listing_that_compiles(alloc, &loaded)
 }
 
 /// A law: where a listing compiles, it compiles to one program, that of the image; where `compile`

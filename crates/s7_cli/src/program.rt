@@ -19,7 +19,7 @@ use crate::run_command::cmd_run;
 use crate::translate_command::cmd_translate;
 use crate::upgrade_command::cmd_upgrade;
 use crate::watch_command::cmd_watch;
-use crate::words::{AskedCommand, read_words};
+use crate::words::{AskedCommand, read_call};
 use plc_io::{Files, Gate, Sink};
 use std::alloc::Global;
 use std::sync::Wait;
@@ -239,7 +239,7 @@ pub fn s7_main<R: Threads + Wait + Sync, F: Files, K: Sink, G: Gate + Sync>(
         let took = sink_moments (K.shown out.old) (K.shown out.new) in
         StatusTable (command_of (map string_bytes words.now)) went took result.code }
 {
-    match read_words(alloc, words) {
+    match read_call(alloc, words) {
         Ok(Some(asked)) => carry_out(rt, alloc, asked, files, out, gate),
         Ok(None) => end_command(out, Err(Failure::WordsRefused)),
         Err(_) => end_command(out, Err(Failure::NoMemory)),

@@ -17,7 +17,9 @@ ghost use Rattle.s7_cli.specs.Translating.{
   NotTranslated,
 };
 
-use crate::compiling::{check_source_with, law_of_files, loaded_large, program_with, symbols_in};
+use crate::compiling::{
+    check_source_with, law_of_files, loaded_large, program_with_symbols, symbols_for_source,
+};
 use crate::failures::{Failure, File};
 use crate::files::{ProgramText, limit_of};
 use de_mnemonics::{to_english, to_german};
@@ -86,7 +88,7 @@ fn english_program(alloc: Global, text: &ProgramText) -> Result<EnglishProgram, 
     ensures refused { SaysRefusal
         (NotInEnglish text.now.source.items (symbols_text_of text.now)) result }
 {
-    let symbols = symbols_in(alloc, Language::German, text.symbols())?;
+    let symbols = symbols_for_source(alloc, Language::German, text.symbols())?;
     let source = translated_source(alloc, Language::English, &text.source)?;
     Ok(EnglishProgram { source, symbols })
 }
@@ -116,7 +118,7 @@ fn german_program(alloc: Global, text: &ProgramText) -> Result<Program, Failure>
 {
     let EnglishProgram { source, symbols } = english_program(alloc, text)?;
     law_of_files(&source, text.symbols());
-    Ok(program_with(alloc, &source, symbols)?)
+    Ok(program_with_symbols(alloc, &source, symbols)?)
 }
 
 /// The program of a German source with its symbols, loaded with the large profile.
@@ -132,7 +134,8 @@ pub(crate) fn compiled_german(alloc: Global, text: &ProgramText) -> Result<Loade
     Ok(loaded_large(alloc, program)?)
 }
 
-/// Its image, of version 2 for the large profile.
+/// The image of the program of a German source with its symbols, of version 2 for the large
+/// profile.
 pub(crate) fn image_german(alloc: Global, text: &ProgramText) -> Result<Vec<u8>, Failure>
     requires { AreFilesWithinLimits text.now }
     ensures keeps { IfOk result

@@ -22,7 +22,7 @@ use std::thread::Threads;
 use var_access::{Entry, Vars};
 use watch_board::{Board, Shown};
 
-/// How many operators have scripts, or none.
+/// How many operators of a watch may have a script: all but the last.
 const SCRIPTS: usize = 3;
 
 /// How many passes the station of a watch has: those of a stepper, a feeder and four operators.

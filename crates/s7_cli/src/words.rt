@@ -1,7 +1,7 @@
 ghost use Rattle.std.specs.Prelude.{◌≡◌, ◌≢◌, false, map, string_bytes, option_map, IfOk, None};
 ghost use Rattle.clap.specs.Words.{FailsBy, app_of, fault_of, found_of, kind_of, matches_of, rows_of, rule_of};
 ghost use Rattle.clap.specs.declared.error.kind.ErrorKind.TheVariants.{OutOfMemory};
-ghost use Rattle.s7_cli.specs.Words.{the_line, command_rule, files_rule, symbols_rule, steps_rule, german_rule, has_german, takes_no_source, number_from_one_up_to, one_word_command, file_command, two_word_command, short_command, three_word_command, live_command, stepped_command, watch_command, command_with_options, command_of_rows, command_of, command_value, CommandsKeepLimits, ReadsPlainWords, ReadsGermanAnywhere, ReadsStepsAnywhere, ReadsSymbolsAnywhere, ReadsWordsBehindDashes, RefusesNoValue};
+ghost use Rattle.s7_cli.specs.Words.{the_line, command_rule, files_rule, symbols_rule, steps_rule, german_rule, has_german, takes_no_source, number_from_one_up_to, one_word_command, file_command, two_word_command, short_command, three_word_command, live_command_by, stepped_command, watch_command_by, command_with_options, command_of_rows, command_of, command_value, CommandsKeepLimits, ReadsPlainWords, ReadsGermanAnywhere, ReadsStepsAnywhere, ReadsSymbolsAnywhere, ReadsWordsBehindDashes, RefusesNoValue};
 
 use arrayvec::ArrayVec;
 use clap::error::ErrorKind;
@@ -14,7 +14,7 @@ use stl_symbols::Language;
 const MOST_NUMBER: u32 = 10_000;
 
 /// The most steps of a live run.
-const MOST_STEPS: u32 = 1_000_000;
+const MOST_LIVE_STEPS: u32 = 1_000_000;
 
 /// The most operators of a live run.
 const MOST_SCRIPTS: usize = 4;
@@ -174,7 +174,7 @@ fn find_matches<'a>(alloc: Global, words: &'a [String]) -> Result<ArgMatches<'a>
 }
 
 /// The number that a word writes in decimal digits, from 1 to `most`.
-fn number_up_to(word: &str, most: u32) -> Option<u32>
+fn number_from_one_up_to(word: &str, most: u32) -> Option<u32>
     ensures { result ≡ number_from_one_up_to most word.now }
 {
     let number = decimal_up_to(word.as_bytes(), most)?;
@@ -205,7 +205,7 @@ fn one_word_command<'a>(
             german,
         }),
         "gen" if takes_no_source(symbols, german) => Some(AskedCommand::Gen {
-            number: number_up_to(word, MOST_NUMBER)?,
+            number: number_from_one_up_to(word, MOST_NUMBER)?,
         }),
         _ => None,
     }
@@ -324,9 +324,9 @@ fn short_command<'a>(
 }
 
 /// The command `live`, with these words behind it and so many steps.
-fn live_command<'a>(command: &str, words: &[&'a str], steps: &str) -> Option<AskedCommand<'a>>
+fn live_command_by<'a>(command: &str, words: &[&'a str], steps: &str) -> Option<AskedCommand<'a>>
     ensures { option_map command_value result ≡
-        live_command command.now (map (λ w. w.now) words.now) steps.now }
+        live_command_by command.now (map (λ w. w.now) words.now) steps.now }
 {
     match words {
         [image, stimuli, scripts @ ..] if command == "live" && !scripts.is_empty() => {
@@ -334,7 +334,7 @@ fn live_command<'a>(command: &str, words: &[&'a str], steps: &str) -> Option<Ask
                 image,
                 stimuli,
                 scripts: ArrayVec::try_from(scripts).ok()?,
-                steps: number_up_to(steps, MOST_STEPS)?,
+                steps: number_from_one_up_to(steps, MOST_LIVE_STEPS)?,
             })
         }
         _ => None,
@@ -342,9 +342,9 @@ fn live_command<'a>(command: &str, words: &[&'a str], steps: &str) -> Option<Ask
 }
 
 /// The command `watch`, with these words behind it and so many steps.
-fn watch_command<'a>(words: &[&'a str], steps: &str) -> Option<AskedCommand<'a>>
+fn watch_command_by<'a>(words: &[&'a str], steps: &str) -> Option<AskedCommand<'a>>
     ensures { option_map command_value result ≡
-        watch_command (map (λ w. w.now) words.now) steps.now }
+        watch_command_by (map (λ w. w.now) words.now) steps.now }
 {
     match words {
         [image, stimuli, vars, scripts @ ..] if !scripts.is_empty() => Some(AskedCommand::Watch {
@@ -352,7 +352,7 @@ fn watch_command<'a>(words: &[&'a str], steps: &str) -> Option<AskedCommand<'a>>
             stimuli,
             vars,
             scripts: ArrayVec::try_from(scripts).ok()?,
-            steps: number_up_to(steps, MOST_STEPS)?,
+            steps: number_from_one_up_to(steps, MOST_LIVE_STEPS)?,
         }),
         _ => None,
     }
@@ -364,9 +364,9 @@ fn stepped_command<'a>(command: &str, words: &[&'a str], steps: &str) -> Option<
         stepped_command command.now (map (λ w. w.now) words.now) steps.now }
 {
     if command == "watch" {
-        watch_command(words, steps)
+        watch_command_by(words, steps)
     } else {
-        live_command(command, words, steps)
+        live_command_by(command, words, steps)
     }
 }
 
@@ -445,7 +445,7 @@ fn refusal<'a>(error: &Error) -> Result<Option<AskedCommand<'a>>, AllocError>
 /// An option may stand anywhere. NUMBER is 1 to 10,000 and N is 1 to 1,000,000, in decimal digits
 /// without a sign; zeros may lead. Any other words are refused, by `None`. Fails where memory is
 /// wanting.
-pub fn read_words(alloc: Global, words: &[String]) -> Result<Option<AskedCommand<'_>>, AllocError>
+pub fn read_call(alloc: Global, words: &[String]) -> Result<Option<AskedCommand<'_>>, AllocError>
     ensures { IfOk result
         (λ asked. option_map command_value asked ≡ command_of (map string_bytes words.now)) }
 {

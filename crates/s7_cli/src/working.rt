@@ -130,7 +130,7 @@ pub(crate) fn together(s: &Station, first: WorkerResult, others: WorkerResult) -
 }
 
 /// The first pass, off the front.
-fn first_pass(passes: &mut Vec<Pass<Shared>>) -> Pass<Shared>
+fn take_first_pass(passes: &mut Vec<Pass<Shared>>) -> Pass<Shared>
     requires { 0 < length passes.old.items }
     ensures { passes.old.items ≡ result ∷ passes.new.items }
 {
@@ -166,7 +166,7 @@ fn make_scripts<R: Threads + Wait + Sync, G: Gate + Sync>(
         ≡ passes_made_whole passes.items (map (λ v. v.items) scripts.now)) }
     ensures fault { KnowsFault s.now result.0.seen result.1 }
 {
-    let first = first_pass(&mut passes);
+    let first = take_first_pass(&mut passes);
     let (script, others) = first_and_others(scripts);
     if others.is_empty() {
         return make_entries(rt, s, first, script, gate);
@@ -213,7 +213,7 @@ fn feed_and_ask<R: Threads + Wait + Sync, G: Gate + Sync>(
         ≡ passes_made_whole passes.items (stimuli.now ∷ map (λ v. v.items) scripts.now)) }
     ensures fault { KnowsFault s.now result.0.seen result.1 }
 {
-    let feeder = first_pass(&mut passes);
+    let feeder = take_first_pass(&mut passes);
     let (fed, asked) = join(
         rt,
         || -> WorkerResult
@@ -264,7 +264,7 @@ pub fn work<R: Threads + Wait + Sync, G: Gate + Sync>(
         (map (λ v. v.items) scripts.now) result.0 (is_ok result.1) }
     ensures fault { KnowsFault s.now result.0.seen result.1 }
 {
-    let stepper = first_pass(&mut passes);
+    let stepper = take_first_pass(&mut passes);
     let (stepped, others) = join(
         rt,
         || -> WorkerResult

@@ -40,7 +40,7 @@ fn add_outputs(n: u64, outputs: &[(u16, u8)], text: &mut Vec<u8>) -> Result<(), 
 }
 
 /// Appends the line of the mode that entry `n` began, if it began one.
-fn add_mode(n: u64, mode: Option<Mode>, text: &mut Vec<u8>) -> Result<(), NoMemory>
+fn add_changed_mode(n: u64, mode: Option<Mode>, text: &mut Vec<u8>) -> Result<(), NoMemory>
     ensures { OnOk result (text.new.items ≡ text.old.items ++ changed_mode_text n mode) }
 {
     match mode {
@@ -50,7 +50,7 @@ fn add_mode(n: u64, mode: Option<Mode>, text: &mut Vec<u8>) -> Result<(), NoMemo
 }
 
 /// Whether an entry showed nothing, so that it has no lines.
-fn is_silent(seen: &Observed) -> bool
+fn is_nothing_shown(seen: &Observed) -> bool
     ensures { result ≡ true → seen.now ≡ nothing_shown }
 {
     seen.mon.is_none() && seen.outputs.as_slice().is_empty() && seen.mode.is_none()
@@ -64,7 +64,7 @@ fn add_seen(n: u64, seen: &Observed, text: &mut Vec<u8>) -> Result<(), NoMemory>
 {
     add_record(n, seen.mon, text)?;
     add_outputs(n, seen.outputs.as_slice(), text)?;
-    add_mode(n, seen.mode, text)
+    add_changed_mode(n, seen.mode, text)
 }
 
 /// Appends what entry `n` showed, which mostly is nothing.
@@ -72,7 +72,7 @@ fn add_seen(n: u64, seen: &Observed, text: &mut Vec<u8>) -> Result<(), NoMemory>
 fn add_shown(n: u64, seen: &Observed, text: &mut Vec<u8>) -> Result<(), NoMemory>
     ensures { OnOk result (text.new.items ≡ text.old.items ++ shown_text n seen.now) }
 {
-    if is_silent(seen) {
+    if is_nothing_shown(seen) {
         return Ok(());
     }
     add_seen(n, seen, text)
@@ -115,7 +115,11 @@ fn add_event(controller: &mut Controller, entry: &Entry, text: &mut Vec<u8>) -> 
 }
 
 /// Applies an entry, and appends its lines.
-fn add_entry(controller: &mut Controller, entry: &Entry, text: &mut Vec<u8>) -> Result<(), NoMemory>
+fn apply_entry(
+    controller: &mut Controller,
+    entry: &Entry,
+    text: &mut Vec<u8>,
+) -> Result<(), NoMemory>
     requires room { 1 ≤ controller.old.spare }
     requires valid { IsValid entry.now }
     ensures applied { controller.new ≡ with_entries controller.old (entry.now ∷ []) }
@@ -145,7 +149,7 @@ fn write_applied<K: Sink>(
         (lines_behind controller.old (entry.now ∷ [])) result }
 {
     text.clear();
-    add_entry(controller, entry, text)?;
+    apply_entry(controller, entry, text)?;
     push_all(out, text)
 }
 
@@ -201,7 +205,7 @@ fn write_run<K: Sink>(
 }
 
 /// Applies the entries of runs, and writes their lines.
-fn write_runs<K: Sink>(
+fn replay_runs<K: Sink>(
     controller: &mut Controller,
     runs: &[Run],
     out: &mut K,
@@ -236,5 +240,5 @@ pub fn write_entries<K: Sink>(
     ensures text { WroteText (K.shown out.old) (K.shown out.new)
         (lines_behind controller.old entries.now.entries) result }
 {
-    write_runs(controller, entries.runs(), out, text)
+    replay_runs(controller, entries.runs(), out, text)
 }

@@ -6,7 +6,7 @@ use Rattle.s7_cli.proofs.compiling.checked_of.Goals as goal
 
 pub returns-in-Err-clause-refused : goal.returns-in-Err-clause-refused
 returns-in-Err-clause-refused c =
-    subst (λ (f : CompileFault). RefusesLaid c.args.laid.now f) (sym c.in_source.ensures)
+    subst (λ (f : CompileFault). RefusesLaid c.args.laid.now f) (sym c.fault_in_source.ensures)
     (λ source is.
     statements_fault source c.args.laid.now c.args.laid.now.tree c.in-Err.fault is
     c.in-Err.ensures)

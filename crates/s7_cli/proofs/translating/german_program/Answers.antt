@@ -15,30 +15,30 @@ returns-in_err-source-clause-refused c =
     let fault = err_from_is_err_and c.from_residual.result c.from_residual.ensures.1 in
     english-refused _ EnglishProgram c.args.text.now.source.items (symbols_text_of c.args.text.now) _ _ (fault.1 ∙ ap Err fault.2) c.in_err-source.ensures.refused
 
-pub returns-in_err-program_with-clause-refused : goal.returns-in_err-program_with-clause-refused
-returns-in_err-program_with-clause-refused c =
-    let fault = err_from_is_err_and c.from_residual-in_err-program_with.result c.from_residual-in_err-program_with.ensures.1 in
-    text-refused _ c.args.text.now.source.items (symbols_text_of c.args.text.now) c.deref-2.result.now c.in_ok-source.field-0.symbols c.in_err-program_with.field-0.0 _
+pub returns-in_err-program_with_symbols-clause-refused : goal.returns-in_err-program_with_symbols-clause-refused
+returns-in_err-program_with_symbols-clause-refused c =
+    let fault = err_from_is_err_and c.from_residual-in_err-program_with_symbols.result c.from_residual-in_err-program_with_symbols.ensures.1 in
+    text-refused _ c.args.text.now.source.items (symbols_text_of c.args.text.now) c.deref-2.result.now c.in_ok-source.field-0.symbols c.in_err-program_with_symbols.field-0.0 _
     (fault.1 ∙ ap Err fault.2)
     c.in_ok-source.ensures.symbols
     (subst (λ (t : List ℕ). IsEnglish true c.args.text.now.source.items t) (sym c.deref-2.ensures.value)
     c.in_ok-source.ensures.english)
-    c.in_err-program_with.ensures.refused
+    c.in_err-program_with_symbols.ensures.refused
 
 pub returns-clause-keeps : goal.returns-clause-keeps
 returns-clause-keeps c =
     let given : List ℕ = symbols_text_of c.args.text.now in (
       c.in_ok-source.field-0.source.items,
       c.in_ok-source.ensures.english,
-      subst (λ (t : List ℕ). KeepsSourceIn German Large t given c.in_ok-program_with.field-0) c.deref-2.ensures.value
-          (c.in_ok-program_with.ensures.ok German given
+      subst (λ (t : List ℕ). KeepsSourceIn German Large t given c.in_ok-program_with_symbols.field-0) c.deref-2.ensures.value
+          (c.in_ok-program_with_symbols.ensures.ok German given
           (subst (AreFiles c.deref-2.result.now) c.symbols.ensures
           (subst (λ (t : List ℕ). AreFiles t c.symbols.result.now) (c.deref.ensures.value ∙ sym c.deref-2.ensures.value) c.law_of_files.ensures))
           c.in_ok-source.ensures.symbols),
     )
 
-pub program_with-requires-clause-read : goal.program_with-requires-clause-read
-program_with-requires-clause-read c = (
+pub program_with_symbols-requires-clause-read : goal.program_with_symbols-requires-clause-read
+program_with_symbols-requires-clause-read c = (
   German,
   symbols_text_of c.args.text.now,
   subst (AreFiles c.deref-2.result.now) c.symbols.ensures
@@ -54,8 +54,8 @@ returns-clause-made c =
       kept.0,
       kept.1,
       kept.2,
-      subst (λ (t : List ℕ). CompilesTo German t given c.in_ok-program_with.field-0) c.deref-2.ensures.value
-          (c.in_ok-program_with.ensures.compiles German given c.in_ok-source.ensures.symbols),
+      subst (λ (t : List ℕ). CompilesTo German t given c.in_ok-program_with_symbols.field-0) c.deref-2.ensures.value
+          (c.in_ok-program_with_symbols.ensures.compiles German given c.in_ok-source.ensures.symbols),
       subst (AreFiles c.in_ok-source.field-0.source.items) c.symbols.ensures
           (subst (λ (t : List ℕ). AreFiles t c.symbols.result.now) c.deref.ensures.value c.law_of_files.ensures),
     )

@@ -1,7 +1,7 @@
 use Rattle.std.proofs.Common.{◌∙◌, ap, Err, rules}
 use Rattle.std.proofs.lemmas.Result.{err_from_is_err_and}
 use Rattle.s7_cli.proofs.run.EntryLemmas.{run-valid, runs-cut, runs-more}
-use Rattle.s7_cli.proofs.run_text.entries.write_runs.Goals as goal
+use Rattle.s7_cli.proofs.run_text.entries.replay_runs.Goals as goal
 
 pub write_run-requires-clause-valid : goal.write_run-requires-clause-valid
 write_run-requires-clause-valid g c =

@@ -3,7 +3,7 @@ use Rattle.std.specs.Option.{unwrap_or}
 use Rattle.plc_base.specs.declared.refusals.Refusal.{Refusal}
 use Rattle.sem_kept.specs.Meaning.{IsSound}
 use Rattle.s7_cli.proofs.CompileLemmas.{refused_so}
-use Rattle.s7_cli.proofs.compiling.least_refusal.Goals as goal
+use Rattle.s7_cli.proofs.compiling.least_refusal_of_tree.Goals as goal
 
 pub returns-clause-found : goal.returns-clause-found
 returns-clause-found c =

@@ -3,7 +3,7 @@ use Rattle.std.proofs.lemmas.Result.{IfOk-weaker}
 use Rattle.std.specs.Prelude.{option_map}
 use Rattle.s7_cli.specs.Words.{command_value}
 use Rattle.s7_cli.proofs.MatchLemmas.{command_of-found, command_of-refused}
-use Rattle.s7_cli.proofs.words.read_words.Goals as goal
+use Rattle.s7_cli.proofs.words.read_call.Goals as goal
 
 pub returns-in-Ok : goal.returns-in-Ok
 returns-in-Ok c = c.command_of_rows.ensures ∙ command_of-found _ _ c.in-Ok.ensures.fails c.in-Ok.ensures.finds

@@ -4,7 +4,7 @@ use Rattle.flat_code.specs.Programs.{Program}
 use Rattle.s7_cli.specs.Compiling.{CompilesWith, KeepsWith, RefusesForSymbols}
 use Rattle.s7_cli.specs.declared.faults.CompileFault.{CompileFault}
 use Rattle.s7_cli.proofs.CompileLemmas.{generated_compiles, generated_runs, refused_laid}
-use Rattle.s7_cli.proofs.compiling.program_with.Goals as goal
+use Rattle.s7_cli.proofs.compiling.program_with_symbols.Goals as goal
 
 pub returns-in_err-checked-clause-refused : goal.returns-in_err-checked-clause-refused
 returns-in_err-checked-clause-refused c =
