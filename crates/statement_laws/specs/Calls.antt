@@ -150,7 +150,7 @@ binding_of access (named.Place (named.Fixed a w byte bit)) p =
 binding_of access (named.PlaceIn block w byte bit) p =
     if is_data_block_loaded block p
     then binding_at access (location_of_parts area.Db block byte bit w 0) p
-    else Err errors.no_data_block
+    else Err errors.absent_data_block_error
 binding_of access (named.Parameter index w) p =
     binding_passed_on (slice_get p.local.inner.bindings index)
 binding_of access _ p = Err no_operand

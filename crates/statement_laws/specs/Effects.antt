@@ -283,7 +283,7 @@ address_after address count = accumulators.with_low 24 address ((address + count
 
 -- an instruction on the registers that reads a BCD number; error 16#21 where there is none
 abbrev pub on_bcd : (Regs → Option Regs) → ExecState → Result ExecState ℕ
-on_bcd f p = then_ok (ok_or (f (registers_of p)) errors.bad_bcd) (λ r. Ok (with_regs r p))
+on_bcd f p = then_ok (ok_or (f (registers_of p)) errors.bcd_error) (λ r. Ok (with_regs r p))
 
 -- the constant of an operand in so many bits, where there is one
 abbrev pub constant_of_width : (w : ℕ) → NamedItem → Option ℕ
@@ -315,7 +315,7 @@ with_logic_string_ended r = record r { status = record r.status { or = false; fc
 abbrev pub or_error : {A : Type 0} → (code : ℕ) → Result A TimerFault → Result A ℕ
 or_error code (Ok x) = Ok x
 or_error code (Err NoNumber) = Err code
-or_error code (Err BadBcd) = Err errors.bad_bcd
+or_error code (Err BadBcd) = Err errors.bcd_error
 
 -- an instruction on the timer of a number; error 16#26 where there is none, 16#21 where it finds
 -- a digit above 9
@@ -323,7 +323,7 @@ abbrev pub on_timer :
     (timers.Timer → Option timers.Timer) → ItemNumber → ExecState → Result ExecState ℕ
 on_timer f n p =
     then_ok (number_of_item n p) (λ which.
-    then_ok (or_error errors.no_timer (change_at_number f p.timers which)) (λ all.
+    then_ok (or_error errors.absent_timer_error (change_at_number f p.timers which)) (λ all.
     on_regs with_logic_string_ended (record p { timers = all })))
 
 -- an instruction on the counter of a number; error 16#27 where there is none, 16#21 where it finds
@@ -332,7 +332,7 @@ abbrev pub on_counter :
     (counters.Counter → Option counters.Counter) → ItemNumber → ExecState → Result ExecState ℕ
 on_counter f n p =
     then_ok (number_of_item n p) (λ which.
-    then_ok (or_error errors.no_counter (change_at_number f p.counters which)) (λ all.
+    then_ok (or_error errors.absent_counter_error (change_at_number f p.counters which)) (λ all.
     on_regs with_logic_string_ended (record p { counters = all })))
 
 -- SP, SE, SD, SS or SF: a timer is started by the RLO, with the time in the low word of
@@ -383,7 +383,7 @@ with_open false n p = with_inner (record p.local.inner { db = Some n }) p
 -- 16#3A where it isn't loaded
 abbrev pub opens_block_number : (di : Bool) → ℕ → ExecState → Result ExecState ℕ
 opens_block_number di n p =
-    if is_data_block_loaded n p then Ok (with_open di n p) else Err errors.no_data_block
+    if is_data_block_loaded n p then Ok (with_open di n p) else Err errors.absent_data_block_error
 
 -- OPN: a data block is opened by its number
 abbrev pub opens_data_block : NamedItem → ExecState → Result ExecState ℕ

@@ -4,48 +4,48 @@
 use Rattle.std.specs.Prelude.{ℕ}
 
 -- a BCD digit above 9, or a sign that is none
-abbrev pub bad_bcd : ℕ
-bad_bcd = 0x21
+abbrev pub bcd_error : ℕ
+bcd_error = 0x21
 
 -- no such place in I, Q, M, L, DB or DI, to read
-abbrev pub no_place : ℕ
-no_place = 0x22
+abbrev pub absent_place_error : ℕ
+absent_place_error = 0x22
 
 -- a pointer to no area, or to a bit in the peripheral area, to read
-abbrev pub bad_area : ℕ
-bad_area = 0x24
+abbrev pub pointer_area_fault : ℕ
+pointer_area_fault = 0x24
 
 -- no timer of the number
-abbrev pub no_timer : ℕ
-no_timer = 0x26
+abbrev pub absent_timer_error : ℕ
+absent_timer_error = 0x26
 
 -- no counter of the number
-abbrev pub no_counter : ℕ
-no_counter = 0x27
+abbrev pub absent_counter_error : ℕ
+absent_counter_error = 0x27
 
 -- a byte, word or double word at a pointer whose bit isn't 0, to read
-abbrev pub alignment_error : ℕ
-alignment_error = 0x28
+abbrev pub pointer_bit_fault : ℕ
+pointer_bit_fault = 0x28
 
 -- no data block is open in the DB register
-abbrev pub no_db_open : ℕ
-no_db_open = 0x32
+abbrev pub closed_db_error : ℕ
+closed_db_error = 0x32
 
 -- no data block is open in the DI register
-abbrev pub no_di_open : ℕ
-no_di_open = 0x33
+abbrev pub closed_di_error : ℕ
+closed_di_error = 0x33
 
 -- a data block that isn't loaded
-abbrev pub no_data_block : ℕ
-no_data_block = 0x3A
+abbrev pub absent_data_block_error : ℕ
+absent_data_block_error = 0x3A
 
 -- no such place in the peripheral area, to read
-abbrev pub no_peripheral : ℕ
-no_peripheral = 0x42
+abbrev pub peripheral_read_error : ℕ
+peripheral_read_error = 0x42
 
 -- no such place in the peripheral area, to write
-abbrev pub no_peripheral_to_write : ℕ
-no_peripheral_to_write = 0x43
+abbrev pub peripheral_write_error : ℕ
+peripheral_write_error = 0x43
 
 -- how many brackets stand open in a block at most: seven
 abbrev pub most_open_brackets : ℕ

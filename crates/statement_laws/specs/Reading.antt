@@ -84,9 +84,9 @@ place_in_open_block (Some number) error byte bit width =
 -- error 16#32 or 16#33; in L in the local bytes of the innermost frame; else in memory
 unfoldable pub place_in_area : Area → (byte bit : ℕ) → Width → ExecState → Result Location ℕ
 place_in_area area.Db byte bit width p =
-    place_in_open_block p.local.inner.db errors.no_db_open byte bit width
+    place_in_open_block p.local.inner.db errors.closed_db_error byte bit width
 place_in_area area.Di byte bit width p =
-    place_in_open_block p.local.inner.di errors.no_di_open byte bit width
+    place_in_open_block p.local.inner.di errors.closed_di_error byte bit width
 place_in_area area.L byte bit width p =
     Ok (location_of_parts area.L 0 byte bit width (length p.local.locals.starts - 1))
 place_in_area a byte bit width p = Ok (location_of_parts a 0 byte bit width 0)
@@ -94,10 +94,10 @@ place_in_area a byte bit width p = Ok (location_of_parts a 0 byte bit width 0)
 -- the error where there is no such place: 16#22 where it is read, 16#23 where it is written;
 -- in the peripheral area 16#42 and 16#43
 abbrev pub missing_place_error : Access → Area → ℕ
-missing_place_error Reading area.P = errors.no_peripheral
-missing_place_error Reading _ = errors.no_place
-missing_place_error Writing area.P = errors.no_peripheral_to_write
-missing_place_error Writing _ = errors.no_place + 1
+missing_place_error Reading area.P = errors.peripheral_read_error
+missing_place_error Reading _ = errors.absent_place_error
+missing_place_error Writing area.P = errors.peripheral_write_error
+missing_place_error Writing _ = errors.absent_place_error + 1
 
 -- the number at a place, in local bytes or in memory
 abbrev pub number_at_location : Area → Location → ExecState → Option ℕ
@@ -133,14 +133,14 @@ suits_width _ pointer = bit_of_pointer pointer == 0
 -- the error of a pointer to a byte, word or double word that has a bit: 16#28 where it is
 -- read, 16#29 where it is written
 abbrev pub pointer_bit_error : Access → ℕ
-pointer_bit_error Reading = errors.alignment_error
-pointer_bit_error Writing = errors.alignment_error + 1
+pointer_bit_error Reading = errors.pointer_bit_fault
+pointer_bit_error Writing = errors.pointer_bit_fault + 1
 
 -- the error of a pointer to no area, or to a bit in the peripheral area: 16#24 where it is
 -- read, 16#25 where it is written
 abbrev pub pointer_area_error : Access → ℕ
-pointer_area_error Reading = errors.bad_area
-pointer_area_error Writing = errors.bad_area + 1
+pointer_area_error Reading = errors.pointer_area_fault
+pointer_area_error Writing = errors.pointer_area_fault + 1
 
 -- where a pointer leads in an area
 unfoldable pub place_at_pointer_in_area :
@@ -233,13 +233,13 @@ number_of_item (named.InWord from byte) p = stored_number from byte widths.Word 
 abbrev pub of_timer : {A : Type 0} → (Timer → A) → ItemNumber → ExecState → Result A ℕ
 of_timer read n p =
     then_ok (number_of_item n p)
-    (λ number. ok_or (option_map read (slice_get p.timers number)) errors.no_timer)
+    (λ number. ok_or (option_map read (slice_get p.timers number)) errors.absent_timer_error)
 
 -- what is read of the counter of a number; error 16#27 where there is none
 abbrev pub of_counter : {A : Type 0} → (Counter → A) → ItemNumber → ExecState → Result A ℕ
 of_counter read n p =
     then_ok (number_of_item n p)
-    (λ number. ok_or (option_map read (slice_get p.counters number)) errors.no_counter)
+    (λ number. ok_or (option_map read (slice_get p.counters number)) errors.absent_counter_error)
 
 -- the number at a place or of a constant
 unfoldable pub number_of_operand : NamedItem → ExecState → Result ℕ ℕ
