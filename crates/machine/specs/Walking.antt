@@ -58,7 +58,8 @@ list_jump most ops target at number =
 abbrev pub binding_by :
     Operand → List Param → List Binding → Local → Areas → Result (List Binding) ℕ
 binding_by (operand.Pass index actual) params bindings s m =
-    then_ok (binding_for_param (slice_get params index) actual s m) (λ b. Ok (binding_set bindings index b))
+    then_ok (binding_for_param (slice_get params index) actual s m)
+    (λ b. Ok (binding_set bindings index b))
 binding_by _ params bindings s m = Ok bindings
 
 -- the parameters bound by the ops of a statement from one op on: each op that passes one binds it,
@@ -82,7 +83,8 @@ bindings_by_ops (suc most) ops at params bindings s m =
     bindings_by_ops most ops next params bound s m)
 
 -- what all parameters stand for, by the ops of the statement at an offset
-abbrev pub bindings_of_statement : List OpData → ℕ → List Param → Local → Areas → Result (List Binding) ℕ
+abbrev pub bindings_of_statement :
+    List OpData → ℕ → List Param → Local → Areas → Result (List Binding) ℕ
 bindings_of_statement ops at params s m =
     bindings_by_ops most_ops_of_statement ops at params (no_bindings params) s m
 

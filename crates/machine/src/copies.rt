@@ -12,14 +12,14 @@ use frames::{Binding, Bindings, Running};
 use plc_base::{Area, Place};
 use plc_mem::Memory;
 
-// IN and IN_OUT.
+// Whether the call copies a parameter into the instance: IN, IN_OUT.
 fn comes_in(param: &Param) -> bool
     ensures { result ≡ comes_in_of param.now }
 {
     param.section == SECTION_IN || param.section == SECTION_IN_OUT
 }
 
-// OUT and IN_OUT.
+// Whether the return copies a parameter out of the instance: OUT, IN_OUT.
 fn goes_out(param: &Param) -> bool
     ensures { result ≡ goes_out_of param.now }
 {
@@ -41,7 +41,7 @@ fn in_instance(param: &Param, instance: u16) -> Location
     }
 }
 
-// A number to a place.
+// Writes a number to a place.
 pub(crate) fn put(to: &Location, number: u32, s: &mut Running, m: &mut Memory)
     ensures { BecomesLocalMemory (put_of to.now number (local_memory_of s.old m.old))
         s.old s.new m.new }
@@ -53,7 +53,7 @@ pub(crate) fn put(to: &Location, number: u32, s: &mut Running, m: &mut Memory)
     }
 }
 
-// The number at a place to a place.
+// Copies the number at one place to another.
 #[tactic(auto, unfolding(crate::specs::Copies::number_copied))]
 fn copy(from: &Location, to: &Location, s: &mut Running, m: &mut Memory)
     ensures { BecomesLocalMemory (number_copied from.now to.now (local_memory_of s.old m.old))

@@ -33,7 +33,7 @@ impl<'a> Model for CalledBlock<'a> {
     } };
 }
 
-/// OS 0, OR 0, STA 1, /FC 0.
+/// The registers at a call or return: OS 0, OR 0, STA 1, /FC 0.
 pub(crate) fn at_block(r: &mut Regs)
     ensures { r.new ≡ at_block_of r.old }
 {

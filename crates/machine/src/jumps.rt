@@ -47,7 +47,7 @@ pub(crate) fn is_taken(operation: JumpOperation, r: &Regs) -> bool
     }
 }
 
-/// RLO 1, STA 1, OR 0, /FC 0.
+/// The registers after JC, JCN, JCB or JNB: RLO 1, STA 1, OR 0, /FC 0.
 pub(crate) fn test_rlo(r: &mut Regs)
     ensures { r.new ≡ rlo_tested r.old }
 {

@@ -27,11 +27,11 @@ use timers_counters::{Counters, Timers};
 /// whether it was executed.
 #[derive(Clone, Copy)]
 pub(crate) enum Silent {
-    /// It shows nothing, and its block stays the running one.
+    /// The statement shows nothing, and its block stays the running one.
     Inside,
-    /// It shows nothing, and another block may run after it.
+    /// The statement shows nothing, and another block may run after it.
     Across,
-    /// It isn't sure to show nothing; or it was tried, and nothing was done.
+    /// The statement isn't sure to show nothing; or it was tried, and nothing was done.
     Not,
 }
 
@@ -74,7 +74,8 @@ fn is_bound_inside(binding: Option<Binding>) -> bool
     }
 }
 
-// Whether no place in the peripheral area is written, by the operand alone.
+// Whether it is sure, by the operand and what parameters stand for, that no place in the
+// peripheral area is written.
 fn has_place_inside(operand: &Operand, s: &Running) -> bool
     ensures { result ≡ has_place_inside_of operand.now s.now.frame.bindings }
 {

@@ -42,7 +42,7 @@ impl Inputs {
         self.numbers.push(number);
     }
 
-    /// The numbers.
+    /// The numbers of the IN parameters, in their order.
     pub fn as_slice(&self) -> &[u32]
         ensures { result.now ≡ self.now }
     {

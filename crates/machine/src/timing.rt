@@ -11,7 +11,7 @@ use plc_mem::Memory;
 use status_word::Regs;
 use timers_counters::{Counters, Timers};
 
-/// OR 0, /FC 0.
+/// Ends the logic string: OR 0, /FC 0.
 fn end_string(r: &mut Regs)
     ensures { r.new ≡ logic_string_ended r.old }
 {

@@ -131,7 +131,7 @@ fn bcd_of_numbered(kind: u8, number: u16, t: &Timers, n: &Counters) -> Result<u3
     }
 }
 
-/// The number of a timer or counter: its own, or the word at a place.
+/// The number of a timer or counter: the one in the operand, or the word at a place.
 #[tactic(auto, unfolding(crate::specs::Values::number_named))]
 pub(crate) fn number_named(operand: &Operand, s: &Running, m: &Memory) -> Result<u16, u8>
     ensures { result ≡ number_named_of operand.now (local_of s.now) m.now }

@@ -39,7 +39,8 @@ impl Model for StatementWalk {
     ghost view = { λ w. record { opens = w.opens; last = w.last; next = w.next } };
 }
 
-/// What stands open after a further op.
+/// The data block that a statement opens first, behind a further op: the one so far, or that of a
+/// USEDB.
 pub(crate) fn opens_after(opens: Option<u16>, operand: &Operand) -> Option<u16>
     ensures { result ≡ opens_after_op opens operand.now }
 {
@@ -81,7 +82,7 @@ fn walk_to(code: &LoadedCode<'_>, at: u32, opens: Option<u16>) -> Option<Stateme
     Some(StatementWalk { opens, last, next })
 }
 
-/// The rest of a statement, from its second op on, with what stands open.
+/// The rest of a statement, from its second op on, with the data block that it opens first so far.
 #[tactic(auto, using(crate::proofs::Walks::walk_nowhere, crate::proofs::Walks::walk_stops, crate::proofs::Walks::walk_ends_there, crate::proofs::Walks::walk_goes_on))]
 #[inline(never)]
 pub(crate) fn walk_on(code: &LoadedCode<'_>, at: u32, opens: Option<u16>) -> Option<StatementWalk>

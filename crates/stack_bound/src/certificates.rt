@@ -155,7 +155,7 @@ impl<'a> Bounds<'a> {
         }
     }
 
-    /// What they say first of a block.
+    /// What the bounds say first of a block.
     pub(crate) fn of(&self, block: BlockId) -> Option<Bound>
         ensures { result ≡ bound_of block self.now }
     {
@@ -166,7 +166,7 @@ impl<'a> Bounds<'a> {
         }
     }
 
-    /// The place where a block stands first among them.
+    /// The place where a block stands first among the bounds.
     #[tactic(auto, using(crate::proofs::PlaceLemmas::walk_finds_place))]
     pub(crate) fn place_of(&self, block: BlockId) -> Option<usize>
         ensures { result ≡ place_of_bound block self.now }
@@ -178,7 +178,7 @@ impl<'a> Bounds<'a> {
         }
     }
 
-    /// Whether no block stands among them twice.
+    /// Whether no block stands among the bounds twice.
     #[tactic(auto, using(crate::proofs::OrderLemmas::risen_once))]
     pub(crate) fn are_once(&self) -> bool
         ensures { result ≡ has_each_block_once self.now }
