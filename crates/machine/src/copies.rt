@@ -5,7 +5,7 @@ ghost use Rattle.machine.specs.Outcomes.{BecomesLocalMemory};
 ghost use Rattle.machine.specs.Copies.{is_copied_in as comes_in_of, is_copied_out as goes_out_of, instance_parameter_location as in_instance_of, number_stored as put_of, number_copied, actual_copied_to as passed_to_of, copied_to_actual as given_to_of, param_in as param_in_of, param_out as param_out_of, params_copied_in as params_in_of, params_out as params_out_of};
 
 use crate::loads::low;
-use crate::places::{Location, number_at};
+use crate::places::{Location, location_number};
 use crate::values::write;
 use flat_code::{Param, SECTION_IN, SECTION_IN_OUT, SECTION_OUT};
 use frames::{Binding, Bindings, Running};
@@ -59,7 +59,7 @@ fn copy(from: &Location, to: &Location, s: &mut Running, m: &mut Memory)
     ensures { BecomesLocalMemory (number_copied from.now to.now (local_memory_of s.old m.old))
         s.old s.new m.new }
 {
-    let number = number_at(from, &s.locals, m).unwrap_or(0);
+    let number = location_number(from, &s.locals, m).unwrap_or(0);
     put(to, number, s, m);
 }
 
@@ -139,7 +139,7 @@ fn param_out(
 }
 
 /// Copies the parameters of a function block into its instance.
-pub(crate) fn params_in(
+pub(crate) fn copy_params_in(
     params: &[Param],
     bindings: &Bindings,
     instance: u16,
@@ -159,7 +159,7 @@ pub(crate) fn params_in(
 }
 
 /// Copies the parameters of a function block out of its instance.
-pub(crate) fn params_out(
+pub(crate) fn copy_params_out(
     params: &[Param],
     bindings: &Bindings,
     instance: u16,

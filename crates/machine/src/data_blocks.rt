@@ -6,7 +6,7 @@ ghost use Rattle.machine.specs.Outcomes.{ChangesRunningRegs, ChangesLocal};
 ghost use Rattle.machine.specs.DataBlocks.{is_block_loaded as is_loaded_in, opened_if, block_opened_by, registers_exchanged, number_opened as number_opened_of, len_opened as len_opened_of, open_block_fact as open_block_fact_of, loading_open_block};
 
 use crate::loads::put_loaded;
-use crate::places::number_from;
+use crate::places::pointer_word;
 use flat_code::{DB_REGISTER_NUMBER, Operand};
 use frames::{Frame, Running};
 use plc_base::error_codes;
@@ -48,7 +48,7 @@ pub(crate) fn open(operand: &Operand, s: &mut Running, m: &Memory) -> Result<(),
             from,
             byte,
         } => {
-            let number = number_from(from, byte, s, m)?;
+            let number = pointer_word(from, byte, s, m)?;
             open_if_loaded(register, number, s, m)
         }
         _ => Err(0),

@@ -140,7 +140,7 @@ pub(crate) fn area_location(
 
 /// The number at a place, if each of its bits exists.
 #[inline(always)]
-pub(crate) fn number_at(at: &Location, locals: &Locals, m: &Memory) -> Option<u32>
+pub(crate) fn location_number(at: &Location, locals: &Locals, m: &Memory) -> Option<u32>
     ensures value { result ≡ location_number at.now locals.now m.now }
     ensures fits { IfSome result (λ n. n < 2 ^ bit_count at.now.width) }
 {
@@ -157,7 +157,7 @@ pub(crate) fn read(at: &Location, s: &Running, m: &Memory) -> Result<u32, u8>
     ensures value { result ≡ read_of at.now (local_of s.now) m.now }
     ensures fits { IfOk result (λ n. n < 2 ^ bit_count at.now.width) }
 {
-    match number_at(at, &s.locals, m) {
+    match location_number(at, &s.locals, m) {
         Some(number) => Ok(number),
         None => Err(Access::Reading.absent(at.place.area)),
     }
@@ -166,7 +166,7 @@ pub(crate) fn read(at: &Location, s: &Running, m: &Memory) -> Result<u32, u8>
 /// The number at a place of an area.
 #[inline(never)]
 #[tactic(auto, unfolding(crate::specs::Places::direct_number, crate::specs::Places::open_area_location))]
-pub(crate) fn number_in_area(
+pub(crate) fn direct_number(
     area: Area,
     byte: u16,
     bit: u8,
@@ -186,14 +186,14 @@ pub(crate) fn number_in_area(
 fn pointer(from: Area, byte: u16, s: &Running, m: &Memory) -> Result<u32, u8>
     ensures { result ≡ pointer_of from byte Width.Dword (local_of s.now) m.now }
 {
-    number_in_area(from, byte, 0, Width::Dword, s, m)
+    direct_number(from, byte, 0, Width::Dword, s, m)
 }
 
 /// The word at the own place of the number of a timer, counter or data block.
-pub(crate) fn number_from(from: Area, byte: u16, s: &Running, m: &Memory) -> Result<u16, u8>
+pub(crate) fn pointer_word(from: Area, byte: u16, s: &Running, m: &Memory) -> Result<u16, u8>
     ensures { result ≡ pointer_of from byte Width.Word (local_of s.now) m.now }
 {
-    let number = number_in_area(from, byte, 0, Width::Word, s, m)?;
+    let number = direct_number(from, byte, 0, Width::Word, s, m)?;
     Ok(number as u16)
 }
 

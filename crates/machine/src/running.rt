@@ -15,7 +15,7 @@ ghost use Rattle.machine.specs.Walking.{walk_with};
 use crate::fetching::Fetched;
 use crate::outcomes::Outcome;
 use crate::performing::{is_called, is_ended, is_jl, perform, perform_apart};
-use crate::walking::{jump_of, opens_after, walk_on};
+use crate::walking::{jump_of_number, opens_after, walk_on};
 use flat_code::{CallOperation, EndOperation, Operand, Operation, kind_of_code};
 use frames::{Activation, Binding, Bindings, Running};
 use image_file::{Loaded, LoadedCode};
@@ -50,7 +50,7 @@ fn may_write(operation: Operation) -> bool
     )
 }
 
-fn is_inside(area: Area) -> bool
+fn is_inside_area(area: Area) -> bool
     ensures { result ≡ is_inside_of area }
 {
     !matches!(area, Area::P)
@@ -60,7 +60,7 @@ fn is_named_inside(area: Option<Area>) -> bool
     ensures { result ≡ is_named_inside_of area }
 {
     match area {
-        Some(area) => is_inside(area),
+        Some(area) => is_inside_area(area),
         None => false,
     }
 }
@@ -69,7 +69,7 @@ fn is_bound_inside(binding: Option<Binding>) -> bool
     ensures { result ≡ is_bound_inside_of binding }
 {
     match binding {
-        Some(Binding::AtPlace { place, .. }) => is_inside(place.area),
+        Some(Binding::AtPlace { place, .. }) => is_inside_area(place.area),
         _ => true,
     }
 }
@@ -80,8 +80,8 @@ fn has_place_inside(operand: &Operand, s: &Running) -> bool
     ensures { result ≡ has_place_inside_of operand.now s.now.frame.bindings }
 {
     match *operand {
-        Operand::Direct { area, .. } => is_inside(area),
-        Operand::ByMemory { area, .. } => is_inside(area),
+        Operand::Direct { area, .. } => is_inside_area(area),
+        Operand::ByMemory { area, .. } => is_inside_area(area),
         Operand::ByRegister { area, .. } => is_named_inside(area),
         Operand::Parameter { index, .. } => is_bound_inside(s.frame.bindings.get(index)),
         _ => true,
@@ -102,7 +102,7 @@ fn is_silent_jump(operand: &Operand) -> bool
         → result ≡ is_silent (instr_of operation.Jump operand.now opens passings next ops) a }
 {
     match *operand {
-        Operand::Jump { kind, .. } => !is_jl(jump_of(kind)),
+        Operand::Jump { kind, .. } => !is_jl(jump_of_number(kind)),
         _ => false,
     }
 }
@@ -159,7 +159,7 @@ fn across(silent: bool) -> Silent
 
 // Whether the last op of a statement is sure to show nothing.
 #[inline(always)]
-fn kind_of_op(operation: Operation, operand: &Operand, a: &Activation) -> Silent
+fn silent_kind_of_op(operation: Operation, operand: &Operand, a: &Activation) -> Silent
     requires { a.now.ended ≡ false }
     ensures silent { (opens : Option ℕ) (passings : List Passing) (next : ℕ) (ops : List OpData)
         → shows_nothing result
@@ -178,13 +178,13 @@ fn kind_of_op(operation: Operation, operand: &Operand, a: &Activation) -> Silent
 
 // Whether a statement that was found is sure to show nothing.
 #[inline(always)]
-fn kind_of(f: &Fetched<'_>, a: &Activation) -> Silent
+fn silent_kind_of(f: &Fetched<'_>, a: &Activation) -> Silent
     requires { a.now.ended ≡ false }
     ensures silent { shows_nothing result ≡ is_silent f.now.instr a.now }
     ensures inside { is_still_inside result ≡ true → stays_in_block f.now.instr ≡ true }
 {
     let last = f.last;
-    kind_of_op(last.operation(), &last.operand, a)
+    silent_kind_of_op(last.operation(), &last.operand, a)
 }
 
 // A statement that was found, if it is sure to show nothing and doesn't fail. A call or a return is
@@ -211,7 +211,7 @@ fn pass(
     ensures block { is_still_inside result ≡ true
         → a.new.running.frame.block ≡ a.old.running.frame.block }
 {
-    match kind_of(f, a) {
+    match silent_kind_of(f, a) {
         Silent::Not => Silent::Not,
         Silent::Across => across(perform_apart(c, f, a, m, t, n, spare, other)),
         Silent::Inside => inside(perform(c, f, a, m, t, n, spare, other)),

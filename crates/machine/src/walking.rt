@@ -147,7 +147,7 @@ pub(crate) fn pick(code: &LoadedCode<'_>, target: u32, next: u32, r: &Regs) -> u
 
 /// The jump of a kind.
 #[tactic(auto, unfolding(flat_code::specs::Kinds::jump_of_number))]
-pub(crate) fn jump_of(kind: u8) -> JumpOperation
+pub(crate) fn jump_of_number(kind: u8) -> JumpOperation
     ensures { result ≡ jump_of_kind kind }
 {
     let place = usize::from(kind);

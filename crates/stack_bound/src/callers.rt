@@ -5,7 +5,7 @@ ghost use Rattle.image_file.specs.Readers.{block_ids};
 ghost use Rattle.stack_bound.specs.Calls.{callee_of_op};
 ghost use Rattle.stack_bound.specs.Places.{caller_in, callers_of, place_in, places_called, with_place};
 
-use crate::calls::callee_of;
+use crate::calls::callee_of_op;
 use crate::certificates::Bounds;
 use flat_code::Op;
 use image_file::{Loaded, LoadedCode};
@@ -48,7 +48,7 @@ impl Caller {
 fn place_called(blocks: &Bounds<'_>, op: &Op) -> Option<usize>
     ensures { result ≡ place_in blocks.now (callee_of_op op.now) }
 {
-    blocks.place_of(callee_of(op)?)
+    blocks.place_of(callee_of_op(op)?)
 }
 
 /// Adds a place, if there is one.
