@@ -4,7 +4,7 @@ ghost use Rattle.machine.specs.ExecState.{local_of};
 ghost use Rattle.machine.specs.Bindings.{param_access as access_of_param, bound_place as bound_place_of, binding_of_caller as passed_on_of, bound_actual as bound_actual_of, binding_for_param as binding_for_param_of, no_bindings as unsupplied_of};
 
 use crate::data_blocks::is_loaded;
-use crate::places::{Access, Location, area_location, location_number};
+use crate::places::{Access, Location, NO_OPERAND, area_location, location_number};
 use flat_code::{Param, Passed, SECTION_OUT};
 use frames::{Binding, Bindings, Running};
 use plc_base::{Area, Place, error_codes};
@@ -39,7 +39,7 @@ fn binding_of_caller(binding: Option<Binding>) -> Result<Binding, u8>
 {
     match binding {
         Some(binding) => Ok(binding),
-        None => Err(0),
+        None => Err(NO_OPERAND),
     }
 }
 
@@ -97,7 +97,7 @@ pub(crate) fn binding_for_param(
 {
     match params.get(usize::from(index)) {
         Some(param) => bound_actual(param_access(param), actual, s, m),
-        None => Err(0),
+        None => Err(NO_OPERAND),
     }
 }
 

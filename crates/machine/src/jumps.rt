@@ -47,7 +47,8 @@ pub(crate) fn is_taken(operation: JumpOperation, r: &Regs) -> bool
     }
 }
 
-/// The registers after a statement that the RLO decides (JC, JCN, JCB, JNB, CC, BEC): RLO 1, STA 1, OR 0, /FC 0.
+/// The registers after a statement that the RLO decides (JC, JCN, JCB, JNB, CC, BEC): RLO 1, STA 1,
+/// OR 0, /FC 0.
 pub(crate) fn test_rlo(r: &mut Regs)
     ensures { r.new ≡ rlo_tested r.old }
 {

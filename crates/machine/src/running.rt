@@ -6,7 +6,8 @@ ghost use Rattle.flat_code.specs.Ops.{OpData};
 ghost use Rattle.flat_code.specs.declared.operations.Operation.TheVariants as operation;
 ghost use Rattle.frames.specs.declared.Activation.{Activation as ActivationOf};
 ghost use Rattle.image_file.specs.Readers.{block_by_id};
-ghost use Rattle.machine.specs.Flat.{code_of, instr_of, most_ops_of_statement, op_run_at};
+ghost use Rattle.flat_code.specs.Codes.{most_ops};
+ghost use Rattle.machine.specs.Flat.{code_of, instr_of, op_run_at};
 ghost use Rattle.machine.specs.Lasting.{IsStatementReady};
 ghost use Rattle.machine.specs.Silent.{GoesOrStays, RunsSilently, StaysReady, goes_on_by_kind, has_caller as has_caller_of, shows_nothing, has_place_inside as has_place_inside_of, is_bound_inside as is_bound_inside_of, is_inside_area as is_inside_of, is_named_inside as is_named_inside_of, is_next_statement_of_kind, is_silent, is_still_inside, keeps_outputs as keeps_outputs_of, may_write as may_write_of, stays_in_block};
 ghost use Rattle.machine.specs.Statement.{IsNotStuck, instruction_step, statement_step, global_store};
@@ -237,7 +238,7 @@ fn pass_further(
     requires block { block_by_id a.old.running.frame.block c.now.program.code_blocks
         ≡ Some code.now }
     requires walk { option_map (walk_with None)
-        (op_run_at most_ops_of_statement code.now.code a.old.running.frame.at)
+        (op_run_at most_ops code.now.code a.old.running.frame.at)
         ≡ option_map (walk_with opens) (op_run_at 63 code.now.code second) }
     ensures goes { GoesOrStays (statement_step (code_of c.now.program)
         a.old (global_store m.old t.old n.old))

@@ -6,7 +6,9 @@ ghost use Rattle.machine.specs.ExecState.{local_of};
 ghost use Rattle.machine.specs.Outcomes.{ChangesLocalMemory};
 ghost use Rattle.machine.specs.Values.{number_of_binding as number_of_binding_of, operand_number as number_of, bit_of_numbered as bit_of_numbered_of, value_of_numbered as value_of_numbered_of, bcd_of_numbered as bcd_of_numbered_of, number_named as number_named_of, bcd_loaded as bcd_loaded_of, with_timer_error, checked_bit as tested_of, load_value as loaded_of, bit_of_number, number_written_at as write_of};
 
-use crate::places::{Access, Location, area_location, operand_location, pointer_word, read};
+use crate::places::{
+    Access, Location, NO_OPERAND, area_location, operand_location, pointer_word, read,
+};
 use flat_code::{CONDITIONS, Operand, TIMER_KIND};
 use frames::{Binding, Running};
 use plc_base::{Area, Flag, Width, error_codes};
@@ -32,7 +34,7 @@ fn number_of_binding(binding: Option<Binding>, s: &Running, m: &Memory) -> Resul
             read(&at, s, m)
         }
         Some(Binding::Constant { value }) => Ok(value),
-        _ => Err(0),
+        _ => Err(NO_OPERAND),
     }
 }
 
@@ -139,7 +141,7 @@ pub(crate) fn number_named(operand: &Operand, s: &Running, m: &Memory) -> Result
     match *operand {
         Operand::Numbered { number, .. } => Ok(number),
         Operand::NumberedBy { from, byte, .. } => pointer_word(from, byte, s, m),
-        _ => Err(0),
+        _ => Err(NO_OPERAND),
     }
 }
 
@@ -286,7 +288,7 @@ pub(crate) fn bcd_loaded(
             let number = pointer_word(from, byte, s, m)?;
             bcd_of_numbered(kind, number, t, n)
         }
-        _ => Err(0),
+        _ => Err(NO_OPERAND),
     }
 }
 

@@ -4,7 +4,8 @@ ghost use Rattle.std.specs.Option.{option_map};
 ghost use Rattle.flat_code.specs.Kinds.{jump_of_number as jump_of_kind};
 ghost use Rattle.flat_code.specs.PlacedOps.{op_placed};
 ghost use Rattle.machine.specs.ExecState.{local_of};
-ghost use Rattle.machine.specs.Flat.{op_run_at, most_ops_of_statement, list_of, most_listed};
+ghost use Rattle.flat_code.specs.Codes.{most_ops};
+ghost use Rattle.machine.specs.Flat.{op_run_at, list_of, most_listed};
 ghost use Rattle.machine.specs.Jumps.{list_goal};
 ghost use Rattle.machine.specs.Walking.{walk_with, walk_by, opens_after as opens_after_op, bindings_of_statement, binding_by};
 
@@ -59,7 +60,7 @@ pub(crate) fn opens_after(opens: Option<u16>, operand: &Operand) -> Option<u16>
 #[inline(always)]
 pub(crate) fn walk_from(code: &LoadedCode<'_>, at: u32) -> Option<StatementWalk>
     ensures { result ≡ option_map (walk_with None)
-        (op_run_at most_ops_of_statement code.now.code at) }
+        (op_run_at most_ops code.now.code at) }
 {
     let (op, next) = code.op(at)?;
     if op.last {
