@@ -9,7 +9,8 @@ use Rattle.flat_code.specs.PlacedOps.{line_placed}
 use Rattle.flat_code.specs.Programs.{CodeBlock, Program}
 use Rattle.image_file.specs.Readers.{block_by_id, line_at_offset}
 use Rattle.machine.specs.Code.{Code, Fetched}
-use Rattle.machine.specs.Flat.{code_of, statement_fetched, op_run_at, most_ops_of_statement, OpRun, fetched_of}
+use Rattle.flat_code.specs.Codes.{most_ops}
+use Rattle.machine.specs.Flat.{code_of, statement_fetched, op_run_at, OpRun, fetched_of}
 use Rattle.machine.specs.Statement.{GlobalStore, IsNotStuck, step_found, statement_step}
 use Rattle.controller.specs.Ready.{HasStatement, CanExecute}
 use Rattle.controller.specs.Start.{global_store_at_rest}
@@ -38,12 +39,12 @@ run_spot b block line None there = absurd cc
 run_spot b block line (Some run) there = refl
 
 line_spot : (b : CodeBlock) (block : BlockId) (at : ℕ) (line : Option ℕ)
-    → IsSome (option_and_then (λ n. option_map (fetched_of b.code n) (op_run_at most_ops_of_statement b.code at)) line)
+    → IsSome (option_and_then (λ n. option_map (fetched_of b.code n) (op_run_at most_ops b.code at)) line)
     → spot_by block line
     ≡ option_map (λ (f : Fetched). record { block = block; line = f.line })
-    (option_and_then (λ n. option_map (fetched_of b.code n) (op_run_at most_ops_of_statement b.code at)) line)
+    (option_and_then (λ n. option_map (fetched_of b.code n) (op_run_at most_ops b.code at)) line)
 line_spot b block at None there = absurd cc
-line_spot b block at (Some line) there = run_spot b block line (op_run_at most_ops_of_statement b.code at) there
+line_spot b block at (Some line) there = run_spot b block line (op_run_at most_ops b.code at) there
 
 block_spot : (block : BlockId) (at : ℕ) (b : Option CodeBlock)
     → IsSome (option_and_then (λ b. statement_fetched b at) b)

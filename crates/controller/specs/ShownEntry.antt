@@ -42,7 +42,7 @@ is_same_mode before after = false
 abbrev pub changed_mode : (before after : Mode) → Option Mode
 changed_mode before after = if is_same_mode before after then None else Some after
 
--- where nothing is recorded and nothing changes nothing is shown
+-- what an entry shows where nothing is recorded and nothing changes
 abbrev pub nothing_shown : Observed
 nothing_shown = record { mon = None; outputs = []; mode = None }
 

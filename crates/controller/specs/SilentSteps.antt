@@ -31,7 +31,7 @@ GoesOnSilently code count [] new w w' = (count ≡ 0) × (new ≡ []) × (w' ≡
 GoesOnSilently code count (a ∷ below) new w w' =
     (b : Activation) × (new ≡ b ∷ below) × RunsSilently code count a b w w'
 
--- ---- before which steps it stops
+-- ---- before which steps a silent run stops
 
 -- the running activation goes on with a statement of the silent kind
 abbrev pub goes_on_silently : Code → List Activation → GlobalStore → Bool

@@ -20,7 +20,7 @@ use Rattle.controller.specs.Beginning.{ob_activation, with_ob_begun}
 use Rattle.controller.specs.State.{State, diagnosis_recorded, restart_record}
 use Rattle.controller.specs.Stepping.{run_starts}
 
--- the numbers of all organization blocks of the profile
+-- the numbers of all organization blocks that there are
 abbrev pub all_obs : List ℕ
 all_obs =
     1 ∷ 10 ∷ 11 ∷ 12 ∷ 13 ∷ 14 ∷ 15 ∷ 16 ∷ 17 ∷ 20 ∷ 21 ∷ 22 ∷ 23
@@ -97,4 +97,5 @@ restart_cleared s =
 -- and OB 100 or RUN begins
 unfoldable pub warm_restarted : Code → State → State
 warm_restarted code s =
-    state_in_startup (startup_ob s.profile code) (restart_cleared (diagnosis_recorded restart_record 0 s))
+    state_in_startup (startup_ob s.profile code)
+    (restart_cleared (diagnosis_recorded restart_record 0 s))

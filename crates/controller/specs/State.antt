@@ -50,8 +50,8 @@ stop_record = 5
 abbrev pub restart_record : ℕ
 restart_record = 6
 
--- the state with a record of diagnostics more, a code and its detail, under the number of the last
--- entry
+-- the state with one more record of diagnostics, a code and its detail, under the number of the
+-- last entry
 abbrev pub diagnosis_recorded : (code info : ℕ) → State → State
 diagnosis_recorded code info s =
     record s {

@@ -4,7 +4,7 @@ ghost use Rattle.plc_base.specs.StopCauses.{by_operator};
 ghost use Rattle.plc_base.specs.Widths.{bit_count};
 ghost use Rattle.machine.specs.Flat.{code_of};
 ghost use Rattle.var_access.specs.Entry.{IsRequest};
-ghost use Rattle.controller.specs.Asking.{request_reply, request_effect, done_or_no_such as answer_if, values_from, var_written};
+ghost use Rattle.controller.specs.Asking.{request_reply, request_effect, done_or_no_such as answer_if, values_from as values_of, var_written};
 ghost use Rattle.controller.specs.Ready.{IsReady};
 ghost use Rattle.controller.specs.Stack.{IsActivationStack};
 ghost use Rattle.controller.specs.Start.{warm_restarted};
@@ -22,11 +22,11 @@ use var_access::{Numbers, Reply, Request, Var};
 
 // The values of variables, or the index, from 1, of the first one that doesn't exist.
 #[tactic(auto, using(crate::proofs::AskingLemmas::one_more_value, crate::proofs::AskingLemmas::no_value_yet, crate::proofs::AskingLemmas::one_absent, crate::proofs::AskingLemmas::all_values))]
-fn read_vars(memory: &Memory, vars: &[Var]) -> Result<Numbers, u8>
+fn values_from(memory: &Memory, vars: &[Var]) -> Result<Numbers, u8>
     requires { length vars.now ≤ 8 }
     ensures { MatchResult result
-        (λ values. values_from memory.now 1 vars.now ≡ Ok values)
-        (λ index. values_from memory.now 1 vars.now ≡ Err index) }
+        (λ values. values_of memory.now 1 vars.now ≡ Ok values)
+        (λ index. values_of memory.now 1 vars.now ≡ Err index) }
 {
     let mut values = Numbers::new();
     let mut index = 1;
@@ -134,7 +134,7 @@ impl Cpu {
             ≡ request_reply (code_of program.now.program) request.now (cpu_state self.now) }
     {
         match request {
-            Request::ReadVars { vars } => match read_vars(&self.memory, vars.as_slice()) {
+            Request::ReadVars { vars } => match values_from(&self.memory, vars.as_slice()) {
                 Ok(values) => Reply::Values { values },
                 Err(index) => Reply::NoSuch { index },
             },

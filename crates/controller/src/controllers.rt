@@ -51,7 +51,7 @@ impl Model for Controller {
     ghost invariant = { IsReplay };
 }
 
-fn number_at(numbers: &[u16], place: usize) -> Option<u16>
+fn data_block_number_at(numbers: &[u16], place: usize) -> Option<u16>
     ensures { result ≡ slice_get numbers.now place }
 {
     numbers.get(place).copied()
@@ -193,7 +193,7 @@ impl Controller {
     pub fn observed(&self) -> &Observed
         ensures { result.now ≡ last_shown self.now }
     {
-        self.observer.seen()
+        self.observer.last_shown()
     }
 
     /// How many entries the history has.
@@ -253,14 +253,14 @@ impl Controller {
         ensures { option_map (λ b. (b.0, b.1.now)) result
             ≡ slice_get (blocks_after self.now) place }
     {
-        match number_at(self.numbers.as_slice(), place) {
+        match data_block_number_at(self.numbers.as_slice(), place) {
             None => None,
-            Some(number) => self.numbered(number),
+            Some(number) => self.number_with_bytes(number),
         }
     }
 
     // A data block's number with its bytes.
-    fn numbered(&self, number: u16) -> Option<(u16, &[u8])>
+    fn number_with_bytes(&self, number: u16) -> Option<(u16, &[u8])>
         ensures { option_map (λ b. (b.0, b.1.now)) result ≡ option_map (with_number number)
             (finmap.get (final_state self.now).store.memory.data_blocks number) }
     {

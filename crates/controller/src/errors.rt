@@ -34,7 +34,7 @@ fn cause_without(ob: u16) -> u8
     }
 }
 
-/// What failed.
+/// The start event of a synchronous error.
 pub(crate) fn failure(code: u8, at: Option<Spot>) -> StartEvent
     ensures value { result ≡ failure_of code at }
     ensures ob { event_ob result ≡ ob_of_error code }

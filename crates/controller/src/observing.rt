@@ -202,7 +202,7 @@ impl Observer {
     }
 
     /// What the last entry showed.
-    pub fn seen(&self) -> &Observed
+    pub fn last_shown(&self) -> &Observed
         ensures { result.now ≡ self.now.seen }
     {
         &self.seen

@@ -27,7 +27,7 @@ pub(crate) const STARTUP_OB: u16 = 100;
 const STARTUP_CLASS: u8 = 27;
 
 /// Record of diagnostics: a warm restart.
-const RESTARTED: u16 = 6;
+const RESTART_RECORD: u16 = 6;
 
 /// The organization blocks that there are.
 static OBS: [u16; 35] = [
@@ -168,7 +168,7 @@ impl Cpu {
             ≡ warm_restarted (code_of program.now.program) (cpu_state self.old) }
         ensures stack { IsActivationStack self.new.mode self.new.activations }
     {
-        self.diagnose(RESTARTED, 0);
+        self.diagnose(RESTART_RECORD, 0);
         self.memory.clear_unretained();
         self.timers = Timers::new(self.profile);
         self.counters.clear_unretained();

@@ -12,7 +12,7 @@ use monitor::DiagRecord;
 use plc_base::{Mode, Spot};
 
 /// Record of diagnostics: STOP, with its cause.
-const STOPPED: u16 = 5;
+const STOP_RECORD: u16 = 5;
 
 /// Whether the mode is STOP.
 pub(crate) fn is_stop(mode: Mode) -> bool
@@ -48,7 +48,7 @@ impl Cpu {
     pub(crate) fn halt_at(&mut self, at: Option<Spot>, cause: u8)
         ensures { cpu_state self.new ≡ stop_entered_at at cause (cpu_state self.old) }
     {
-        self.diagnose(STOPPED, u16::from(cause));
+        self.diagnose(STOP_RECORD, u16::from(cause));
         self.memory.clear_outputs();
         self.mode = Mode::Stop { cause, at };
         self.activations.clear();

@@ -11,7 +11,8 @@ use Rattle.machine.specs.Bindings.{param_bindings, bound_params, no_bindings}
 use Rattle.machine.specs.Entering.{block_call, call_with_bindings, CalledBlock, Fails}
 use Rattle.flat_code.specs.declared.kinds.JumpOperation.{JumpOperation}
 use Rattle.machine.specs.Code.{Code}
-use Rattle.machine.specs.Flat.{most_ops_of_statement, is_jl, jump_by_operation}
+use Rattle.flat_code.specs.Codes.{most_ops}
+use Rattle.machine.specs.Flat.{is_jl, jump_by_operation}
 use Rattle.machine.specs.Statement.{GlobalStore, instruction_step, jump_step}
 use Rattle.machine.specs.SystemCalls.{system_call, system_call_arguments}
 use Rattle.machine.specs.Walking.{bindings_of_statement, passings_at}
@@ -23,7 +24,7 @@ pub call_unbound :
     → block_call called (passings_at ops at) next a m ≡ Fails code
 unfolding block_call param_bindings
 call_unbound called params next a m ops at code is e =
-    rw is (rw (sym (binds_along most_ops_of_statement ops at params (no_bindings params) (local_of a.running) m)) (rw e refl))
+    rw is (rw (sym (binds_along most_ops ops at params (no_bindings params) (local_of a.running) m)) (rw e refl))
 
 bound_again :
     (called : CalledBlock) (params : List Param) (passings : List Passing) (next : ℕ) (a : Activation) (m : Areas)
@@ -41,14 +42,14 @@ pub call_bound :
 unfolding block_call param_bindings
 call_bound called params next a m ops at bindings is e =
     bound_again called params (passings_at ops at) next a m is
-    (rw (sym (binds_along most_ops_of_statement ops at params (no_bindings params) (local_of a.running) m)) e)
+    (rw (sym (binds_along most_ops ops at params (no_bindings params) (local_of a.running) m)) e)
 
 pub system_unbound :
     (params : List Param) (s : Local) (m : Areas) (ops : List OpData) (at code : ℕ)
     → bindings_of_statement ops at params s m ≡ Err code → system_call params (passings_at ops at) s m ≡ Err code
 unfolding system_call param_bindings
 system_unbound params s m ops at code e =
-    rw (sym (binds_along most_ops_of_statement ops at params (no_bindings params) s m)) (rw e refl)
+    rw (sym (binds_along most_ops ops at params (no_bindings params) s m)) (rw e refl)
 
 pub system_bound :
     (params : List Param) (s : Local) (m : Areas) (ops : List OpData) (at : ℕ) (bindings : List Binding)
@@ -56,7 +57,7 @@ pub system_bound :
     → system_call params (passings_at ops at) s m ≡ Ok (system_call_arguments params bindings s m)
 unfolding system_call param_bindings
 system_bound params s m ops at bindings e =
-    rw (sym (binds_along most_ops_of_statement ops at params (no_bindings params) s m)) (rw e refl)
+    rw (sym (binds_along most_ops ops at params (no_bindings params) s m)) (rw e refl)
 
 -- a jump that isn't JL
 pub jumps_plainly :

@@ -38,7 +38,7 @@ use Rattle.machine.specs.declared.places.Access.{Access}
 use Rattle.machine.specs.declared.places.Access.TheVariants.{Reading, Writing}
 use Rattle.machine.specs.declared.places.Location.{Location}
 use Rattle.machine.specs.BitLogic.{regs_after_bit_check, put_bit, with_local_regs, bit_before, bit_assigned, assigned_at, bit_set, bit_set_at, local_memory_after_edge, local_memory_after_edge_at}
-use Rattle.machine.specs.DataBlocks.{is_block_loaded, opened_if, block_opened_by, loading_open_block}
+use Rattle.machine.specs.DataBlocks.{is_block_loaded, block_opened_if, block_opened_by, loading_open_block}
 use Rattle.machine.specs.Effect.{effect_on_regs, on_local, on_local_memory, on_timers, on_counters, kind_of_numbered_operand, set_effect, reset_effect, enable_effect, operation_effect}
 use Rattle.machine.specs.Lasting.{is_error_code}
 use Rattle.machine.specs.Loads.{regs_after_load, regs_after_bcd_load, number_transferred}
@@ -473,7 +473,7 @@ counted_known accu_operation.Btd r = bcd_given _
 counted_known _ r = tt
 
 -- data blocks
-open_known : (loaded : Bool) (register number : ℕ) (s : Local) → IfKnownError (opened_if loaded register number s)
+open_known : (loaded : Bool) (register number : ℕ) (s : Local) → IfKnownError (block_opened_if loaded register number s)
 open_known true register number s = tt
 open_known false register number s = refl
 
@@ -481,7 +481,7 @@ opening_known : (o : Operand) (s : Local) (m : Areas) → admits forms.Open o �
 unfolding block_opened_by admits
 opening_known (operand.OpenBlock register number) s m h = open_known (is_block_loaded number m) register number s
 opening_known (operand.OpenBy register from byte) s m h =
-    then_known (pointer_number from byte widths.Word s m) (λ number. opened_if (is_block_loaded number m) register number s) (pointer_known from byte widths.Word s m)
+    then_known (pointer_number from byte widths.Word s m) (λ number. block_opened_if (is_block_loaded number m) register number s) (pointer_known from byte widths.Word s m)
     (λ number. open_known (is_block_loaded number m) register number s)
 opening_known (operand.Numbered kind number) s m h = absurd (kind_none kind forms.Open refl refl h)
 opening_known (operand.NumberedBy kind from byte) s m h = absurd (kind_none kind forms.Open refl refl h)

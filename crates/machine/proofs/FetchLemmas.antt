@@ -17,7 +17,8 @@ use Rattle.machine.specs.Code.{Code, Fetched}
 use Rattle.frames.specs.ParameterBindings.{binding_set}
 use Rattle.machine.specs.ExecState.{Local, then_ok}
 use Rattle.machine.specs.Bindings.{bound_params, binding_for_param}
-use Rattle.machine.specs.Flat.{OpRun, op_run_at, run_with, with_op, most_ops_of_statement, passings_of, use_db_of, with_passing, fetched_of, statement_fetched, instr_of}
+use Rattle.flat_code.specs.Codes.{most_ops}
+use Rattle.machine.specs.Flat.{OpRun, op_run_at, run_with, with_op, passings_of, use_db_of, with_passing, fetched_of, statement_fetched, instr_of}
 use Rattle.machine.specs.Statement.{GlobalStore, step_found, instruction_step, IsNotStuck}
 use Rattle.machine.specs.Walking.{StatementWalk, walk_with, bindings_by_ops, binding_by, bindings_after_op, passings_up_to, passings_with, statement_of_walk}
 
@@ -145,7 +146,7 @@ run_passes (suc most) ops at r h =
 
 -- what was found along the ops is the statement at the offset
 with_line :
-    (b : CodeBlock) (at : ℕ) (line : Option ℕ) (found : Option OpRun) (walk : StatementWalk) → op_run_at most_ops_of_statement b.code at ≡ found
+    (b : CodeBlock) (at : ℕ) (line : Option ℕ) (found : Option OpRun) (walk : StatementWalk) → op_run_at most_ops b.code at ≡ found
     → line_placed 0 true b.code b.lines at ≡ line → is_some line ≡ true → Some walk ≡ option_map (walk_with None) found
     → option_and_then (λ line. option_map (fetched_of b.code line) found) line ≡ Some (statement_of_walk b at walk)
 with_line b at None found walk is placed there h = cc
@@ -156,16 +157,16 @@ with_line b at (Some line) (Some r) walk is placed there h =
       instr = instr_of (operation_of r.last.code) r.last.operand (use_db_of r.before) z r.next b.code;
       next = r.next;
       line = line;
-    })) (run_passes most_ops_of_statement b.code at r is))
+    })) (run_passes most_ops b.code at r is))
 
 pub found_at :
     (b : CodeBlock) (at : ℕ) (walk there : StatementWalk) → there ≡ walk → is_some (line_placed 0 true b.code b.lines at) ≡ true
-    → Some walk ≡ option_map (walk_with None) (op_run_at most_ops_of_statement b.code at)
+    → Some walk ≡ option_map (walk_with None) (op_run_at most_ops b.code at)
     → statement_fetched b at ≡ Some (statement_of_walk b at there)
 unfolding statement_fetched
 found_at b at walk there same line h =
     rw same
-    (with_line b at (line_placed 0 true b.code b.lines at) (op_run_at most_ops_of_statement b.code at) walk refl refl line h)
+    (with_line b at (line_placed 0 true b.code b.lines at) (op_run_at most_ops b.code at) walk refl refl line h)
 
 -- where a statement is, so are its line and its run
 has_line :
@@ -187,20 +188,20 @@ no_walk (Some r) h some = none_some (walk_with None r) (sym h)
 
 pub found_there :
     (b : CodeBlock) (at : ℕ) (walk there : StatementWalk) → there ≡ walk → is_some (statement_fetched b at) ≡ true
-    → Some walk ≡ option_map (walk_with None) (op_run_at most_ops_of_statement b.code at)
+    → Some walk ≡ option_map (walk_with None) (op_run_at most_ops b.code at)
     → statement_fetched b at ≡ Some (statement_of_walk b at there)
 unfolding statement_fetched
 found_there b at walk there same is h =
     found_at b at walk there same
-    (has_line (line_placed 0 true b.code b.lines at) (op_run_at most_ops_of_statement b.code at) b.code is) h
+    (has_line (line_placed 0 true b.code b.lines at) (op_run_at most_ops b.code at) b.code is) h
 
 pub found_nowhere :
-    (b : CodeBlock) (at : ℕ) → None ≡ option_map (walk_with None) (op_run_at most_ops_of_statement b.code at)
+    (b : CodeBlock) (at : ℕ) → None ≡ option_map (walk_with None) (op_run_at most_ops b.code at)
     → is_some (statement_fetched b at) ≡ true → ⊥
 unfolding statement_fetched
 found_nowhere b at h there =
-    no_walk (op_run_at most_ops_of_statement b.code at) h
-    (has_run (line_placed 0 true b.code b.lines at) (op_run_at most_ops_of_statement b.code at) b.code there)
+    no_walk (op_run_at most_ops b.code at) h
+    (has_run (line_placed 0 true b.code b.lines at) (op_run_at most_ops b.code at) b.code there)
 
 -- a statement that isn't stuck is there
 pub goes_there : (c : Code) (f : Option Fetched) (a : Activation) (w : GlobalStore) → IsNotStuck (step_found c f a w) → is_some f ≡ true
@@ -210,7 +211,7 @@ goes_there c (Some f) a w there = refl
 -- and comes to what its instruction comes to
 pub found_is :
     (b : CodeBlock) (at : ℕ) (walk there : StatementWalk) (c : Code) (a : Activation) (w : GlobalStore) → there ≡ walk
-    → Some walk ≡ option_map (walk_with None) (op_run_at most_ops_of_statement b.code at) → IsNotStuck (step_found c (statement_fetched b at) a w)
+    → Some walk ≡ option_map (walk_with None) (op_run_at most_ops b.code at) → IsNotStuck (step_found c (statement_fetched b at) a w)
     → step_found c (statement_fetched b at) a w ≡ instruction_step c (statement_of_walk b at there).instr (statement_of_walk b at there).next a w
 found_is b at walk there c a w same h goes =
     ap (λ (f : Option Fetched). step_found c f a w)
@@ -226,7 +227,7 @@ by_line (Some line) found ops h = cc
 pub no_line :
     (b : CodeBlock) (at : ℕ) → is_some (line_placed 0 true b.code b.lines at) ≡ false → statement_fetched b at ≡ None
 unfolding statement_fetched
-no_line b at h = by_line (line_placed 0 true b.code b.lines at) (op_run_at most_ops_of_statement b.code at) b.code h
+no_line b at h = by_line (line_placed 0 true b.code b.lines at) (op_run_at most_ops b.code at) b.code h
 
 by_run :
     (line : Option ℕ) (found : Option OpRun) (ops : List OpData) → None ≡ option_map (walk_with None) found
@@ -236,6 +237,6 @@ by_run (Some line) None ops h = refl
 by_run (Some line) (Some r) ops h = absurd (none_some (walk_with None r) (sym h))
 
 pub no_run :
-    (b : CodeBlock) (at : ℕ) → None ≡ option_map (walk_with None) (op_run_at most_ops_of_statement b.code at) → statement_fetched b at ≡ None
+    (b : CodeBlock) (at : ℕ) → None ≡ option_map (walk_with None) (op_run_at most_ops b.code at) → statement_fetched b at ≡ None
 unfolding statement_fetched
-no_run b at h = by_run (line_placed 0 true b.code b.lines at) (op_run_at most_ops_of_statement b.code at) b.code h
+no_run b at h = by_run (line_placed 0 true b.code b.lines at) (op_run_at most_ops b.code at) b.code h

@@ -40,7 +40,7 @@ use Rattle.machine.specs.Relay.{is_writing_off, with_frame_relay, with_relay_zon
 use Rattle.machine.specs.Loads.{number_transferred, local_memory_after_transfer}
 use Rattle.machine.specs.Timing.{timer_reset, counter_reset, timer_freed, counter_freed}
 use Rattle.machine.specs.Pointers.{pointer_effect, address_loaded, address_transferred, regs_set}
-use Rattle.machine.specs.DataBlocks.{is_block_loaded, opened_if, block_opened_by, registers_exchanged}
+use Rattle.machine.specs.DataBlocks.{is_block_loaded, block_opened_if, block_opened_by, registers_exchanged}
 use Rattle.machine.specs.Effect.{effect_on_regs, on_local, on_local_memory, on_timers, on_counters, kind_of_numbered_operand, set_effect, reset_effect, enable_effect, operation_effect, with_db_opened, statement_effect}
 use Rattle.machine.specs.Fitting.{OpenAt, codes_of, open_in_frame, IsOpen, SameSizes}
 use Rattle.machine.proofs.Sizes.{same_sizes, writing_sizes}
@@ -415,13 +415,13 @@ opened_at w number p false quiet loaded = record {
 
 opened_keeps :
     (w : Operation) (register number : ℕ) (p : ExecState) (loaded : Bool) → KeepsOpen w → is_block_loaded number p.memory ≡ loaded
-    → IfDone (Keeps w p) (on_local p (opened_if loaded register number p.local))
+    → IfDone (Keeps w p) (on_local p (block_opened_if loaded register number p.local))
 opened_keeps w register number p true quiet is = opened_at w number p (register == db_register_number) quiet is
 opened_keeps w register number p false quiet is = tt
 
 by_pointer_keeps :
     (w : Operation) (register : ℕ) (p : ExecState) (found : Result ℕ ℕ) → KeepsOpen w
-    → IfDone (Keeps w p) (on_local p (then_ok found (λ number. opened_if (is_block_loaded number p.memory) register number p.local)))
+    → IfDone (Keeps w p) (on_local p (then_ok found (λ number. block_opened_if (is_block_loaded number p.memory) register number p.local)))
 by_pointer_keeps w register p (Ok number) quiet = opened_keeps w register number p (is_block_loaded number p.memory) quiet refl
 by_pointer_keeps w register p (Err e) quiet = tt
 

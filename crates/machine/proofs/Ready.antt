@@ -31,7 +31,8 @@ use Rattle.image_file.specs.VerifiedProgram.{placed_at, IsVerifiedOp, IsReaderOp
 use Rattle.machine.specs.Code.{Code, BlockHead}
 use Rattle.machine.specs.Fitting.{OpenCodes, FrameFits, FramesFit, FitsBlock, ActivationFits}
 use Rattle.flat_code.specs.Forms.{is_callable_number, kind_of_code, payload_fits}
-use Rattle.machine.specs.Flat.{OpRun, op_run_at, run_with, with_op, most_ops_of_statement, code_of, block_head_of, call_by_number, instr_of, fetched_of, use_db_of, passings_of, statement_fetched}
+use Rattle.flat_code.specs.Codes.{most_ops}
+use Rattle.machine.specs.Flat.{OpRun, op_run_at, run_with, with_op, code_of, block_head_of, call_by_number, instr_of, fetched_of, use_db_of, passings_of, statement_fetched}
 use Rattle.machine.specs.Statement.{GlobalStore, statement_step, IsNotStuck}
 use Rattle.machine.specs.There.{is_block_callable, is_called_block_there, is_statement_complete}
 use Rattle.machine.proofs.FetchLemmas.{none_some}
@@ -261,8 +262,8 @@ at_block :
 unfolding statement_fetched
 at_block p own at None verifies placed_law table_law calls_law called_law block head there = there
 at_block p own at (Some b) verifies placed_law table_law calls_law called_law block head there =
-    with_line p b own (line_placed 0 true b.code b.lines at) (op_run_at most_ops_of_statement b.code at)
-    (λ r is. let last : HasLast b.code r = last_placed most_ops_of_statement b.code at r is
+    with_line p b own (line_placed 0 true b.code b.lines at) (op_run_at most_ops b.code at)
+    (λ r is. let last : HasLast b.code r = last_placed most_ops b.code at r is
     in last_calls p own b last.0 r.next r.last verifies placed_law table_law calls_law called_law block last.1)
     (rw block head) there
 

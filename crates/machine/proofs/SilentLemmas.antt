@@ -19,7 +19,8 @@ use Rattle.machine.specs.Code.{Code, Fetched, BlockHead}
 use Rattle.machine.specs.Effect.{statement_effect}
 use Rattle.machine.specs.Entering.{Call, Fails, Stops, Enters, CalledBlock, block_call, call_with_bindings, entry_or_stop, instance_supplied}
 use Rattle.machine.specs.Bindings.{param_bindings}
-use Rattle.machine.specs.Flat.{code_of, most_ops_of_statement, op_run_at, statement_fetched}
+use Rattle.flat_code.specs.Codes.{most_ops}
+use Rattle.machine.specs.Flat.{code_of, op_run_at, statement_fetched}
 use Rattle.machine.specs.Lasting.{IsStatementReady}
 use Rattle.machine.specs.ExecState.{ExecState, local_of, exec_state_of, local_memory_of}
 use Rattle.machine.specs.Silent.{GoesSilently, GoesOrStays, RunsSilently, StaysReady, goes_on_by_kind, is_going_on, has_caller as has_caller_of, is_next_statement_of_kind, is_silent, keeps_outputs}
@@ -231,7 +232,7 @@ performs_there p b f a w is found ready =
 -- by what was found along its ops
 pub found_passes :
     (p : Program) (b : CodeBlock) (a : Activation) (w : GlobalStore) (walk there : StatementWalk) → there ≡ walk
-    → Some walk ≡ option_map (walk_with None) (op_run_at most_ops_of_statement b.code a.running.frame.at)
+    → Some walk ≡ option_map (walk_with None) (op_run_at most_ops b.code a.running.frame.at)
     → block_by_id a.running.frame.block p.code_blocks ≡ Some b → IsStatementReady p a
     → statement_fetched b a.running.frame.at ≡ Some (statement_of_walk b a.running.frame.at there)
 found_passes p b a w walk there same h is ready =

@@ -9,7 +9,7 @@ use Rattle.flat_code.specs.declared.image_fields.OpenBracket.{OpenBracket}
 use Rattle.flat_code.specs.declared.operations.EndOperation.TheVariants as ends
 use Rattle.flat_code.specs.declared.operations.Operation.TheVariants as operation
 use Rattle.flat_code.specs.Blocks.{prepares_statement}
-use Rattle.flat_code.specs.Codes.{size_of_op}
+use Rattle.flat_code.specs.Codes.{size_of_op, most_ops}
 use Rattle.flat_code.specs.Loading.{Verifies}
 use Rattle.flat_code.specs.OpCodes.{op_code_of as op_code}
 use Rattle.flat_code.specs.Ops.{OpData}
@@ -19,7 +19,7 @@ use Rattle.flat_code.specs.Programs.{CodeBlock, Program}
 use Rattle.flat_code.specs.Operations.{operation_of}
 use Rattle.image_file.specs.Readers.{block_by_id}
 use Rattle.image_file.specs.VerifiedProgram.{placed_at, IsVerifiedOp, HasNext}
-use Rattle.machine.specs.Flat.{OpRun, op_run_at, with_op, most_ops_of_statement, fetched_of, statement_fetched, code_of}
+use Rattle.machine.specs.Flat.{OpRun, op_run_at, with_op, fetched_of, statement_fetched, code_of}
 use Rattle.machine.specs.ImageLaws.{ImageLaws}
 use Rattle.machine.specs.Fitting.{OpenAt}
 use Rattle.machine.specs.OpenBrackets.{check_named, checks_of, open_at, open_before, open_in, open_codes}
@@ -200,7 +200,7 @@ run_found None there = absurd cc
 
 fetched_there :
     (b : CodeBlock) (at line : ℕ) (r : OpRun) → line_placed 0 true b.code b.lines at ≡ Some line
-    → op_run_at most_ops_of_statement b.code at ≡ Some r → statement_fetched b at ≡ Some (fetched_of b.code line r)
+    → op_run_at most_ops b.code at ≡ Some r → statement_fetched b at ≡ Some (fetched_of b.code line r)
 unfolding statement_fetched
 fetched_there b at line r has run = rw (has, run) refl
 
@@ -208,8 +208,8 @@ pub statement_there :
     (l : ImageLaws) (p : Program) (block : BlockId) (at : ℕ) (held : OpenAt) → StatementStart p block at held
     → Statement p block at held
 statement_there l p block at held s =
-    let few : most_ops_of_statement + length s.q.before ≡ 64 = ap (λ (z : List OpData). 64 + length z) (none_before s.q.before s.begun) in
-    let r = run_found (op_run_at most_ops_of_statement s.b.code s.q.at) (run_there l p s.b most_ops_of_statement s.q s.op few) in
+    let few : most_ops + length s.q.before ≡ 64 = ap (λ (z : List OpData). 64 + length z) (none_before s.q.before s.begun) in
+    let r = run_found (op_run_at most_ops s.b.code s.q.at) (run_there l p s.b most_ops s.q s.op few) in
     let line = l.lines p s.b s.q s.op s.begun in
     let there : statement_fetched s.b at ≡ Some (fetched_of s.b.code line.line r.0) =
     ap (statement_fetched s.b) (sym s.offset) ∙ fetched_there s.b s.q.at line.line r.0 line.is r.1 in
@@ -218,7 +218,7 @@ statement_there l p block at held s =
       line = line.line;
       run = r.0;
       fetched = rw s.found there;
-      run_end = run_is l p s.b most_ops_of_statement s.q r.0 s.op r.1;
+      run_end = run_is l p s.b most_ops s.q r.0 s.op r.1;
     }
 
 pub opens_there :

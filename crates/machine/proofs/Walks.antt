@@ -4,6 +4,7 @@ use Rattle.std.proofs.Common.{◌≡◌, ◌∙◌, [], ◌∷◌, ℕ, unwrap_o
 use Rattle.std.specs.Option.{option_map}
 use Rattle.plc_mem.specs.Areas.{Areas}
 use Rattle.frames.specs.declared.bindings.Binding.{Binding}
+use Rattle.flat_code.specs.Codes.{first_found}
 use Rattle.flat_code.specs.Ops.{OpData}
 use Rattle.flat_code.specs.PlacedOps.{op_placed}
 use Rattle.flat_code.specs.declared.operands.Operand.{Operand}
@@ -11,7 +12,7 @@ use Rattle.flat_code.specs.declared.operands.Operand.TheVariants as operand
 use Rattle.flat_code.specs.declared.programs.Param.{Param}
 use Rattle.machine.specs.ExecState.{Local, then_ok}
 use Rattle.machine.specs.Flat.{OpRun, op_run_at, run_with, use_db_of, use_db_first, list_of, list_with, with_op}
-use Rattle.machine.specs.Walking.{StatementWalk, walk_by, walk_with, first_present, opens_after, list_jump, bindings_by_ops, binding_by, bindings_after_op}
+use Rattle.machine.specs.Walking.{StatementWalk, walk_by, walk_with, opens_after, list_jump, bindings_by_ops, binding_by, bindings_after_op}
 
 -- what is behind a count of which some are done
 one_less : (k most : ℕ) → k < most → most - k ≡ suc (most - suc k)
@@ -33,13 +34,13 @@ run_none : (ops : List OpData) (at : ℕ) → op_run_at 0 ops at ≡ None
 unfolding op_run_at
 run_none ops at = refl
 
-first_alone : (opens : Option ℕ) → first_present opens None ≡ opens
+first_alone : (opens : Option ℕ) → first_found opens None ≡ opens
 first_alone None = refl
 first_alone (Some number) = refl
 
 first_moves_none :
     (more : Option ℕ) (o : Operand)
-    → use_db_first o more ≡ first_present (use_db_first o None) more
+    → use_db_first o more ≡ first_found (use_db_first o None) more
 first_moves_none more (operand.UseDb number) = refl
 first_moves_none more operand.Nothing = refl
 first_moves_none more (operand.Literal value) = refl
@@ -58,7 +59,7 @@ first_moves_none more (operand.OpenBy register from byte) = refl
 
 first_moves :
     (opens more : Option ℕ) (o : Operand)
-    → first_present opens (use_db_first o more) ≡ first_present (opens_after opens o) more
+    → first_found opens (use_db_first o more) ≡ first_found (opens_after opens o) more
 first_moves (Some number) more o = refl
 first_moves None more o = first_moves_none more o
 

@@ -18,8 +18,8 @@ use Rattle.machine.specs.ExecState.{Local, then_ok}
 use Rattle.machine.specs.Places.{location_at, area_location, location_number, error_of_absent_place, no_operand}
 use Rattle.machine.specs.DataBlocks.{is_block_loaded}
 
--- how a parameter of the section of a declaration is tested when it is bound: OUT alone as a place
--- that is written
+-- with which errors the place bound for a parameter fails: for OUT with those of writing (23, 43),
+-- else with those of reading (22, 42)
 abbrev pub param_access : Param → Access
 param_access p = if p.section == section_out then Writing else Reading
 

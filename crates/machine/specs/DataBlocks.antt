@@ -26,17 +26,17 @@ block_opened register number s =
 
 -- a running block with a data block opened in the DB (1) or DI (2) register, if it is loaded; else
 -- error 3A
-abbrev pub opened_if : Bool → (register number : ℕ) → Local → Result Local ℕ
-opened_if loaded register number s =
+abbrev pub block_opened_if : Bool → (register number : ℕ) → Local → Result Local ℕ
+block_opened_if loaded register number s =
     if loaded then Ok (block_opened register number s) else Err errors.no_data_block
 
 -- OPN of a number, or of the number in a word of memory
 unfoldable pub block_opened_by : Operand → Local → Areas → Result Local ℕ
 block_opened_by (operand.OpenBlock register number) s m =
-    opened_if (is_block_loaded number m) register number s
+    block_opened_if (is_block_loaded number m) register number s
 block_opened_by (operand.OpenBy register from byte) s m =
     then_ok (pointer_number from byte widths.Word s m) (λ number.
-    opened_if (is_block_loaded number m) register number s)
+    block_opened_if (is_block_loaded number m) register number s)
 block_opened_by _ s m = Err no_operand
 
 -- CDB: a running block with the contents of the DB and DI registers exchanged

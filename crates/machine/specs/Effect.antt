@@ -86,7 +86,7 @@ enable_effect (Some kind) o p =
     if is_timer_kind kind then on_timers p (timer_freed o p.local p.memory p.timers)
     else on_counters p (counter_freed o p.local p.memory p.counters)
 
--- each instruction word with its operand: what it makes of the parts, or its synchronous error
+-- what an operation with its operand leaves of all that it works on, or its synchronous error
 unfoldable pub operation_effect : Operation → Operand → ExecState → Result ExecState ℕ
 operation_effect operation.Nop o p = Ok p
 operation_effect operation.Bld o p = Ok p

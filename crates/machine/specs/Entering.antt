@@ -99,7 +99,8 @@ block_call called passings next a m =
     call_with_bindings (param_bindings called.params passings (local_of a.running) m)
     called next a m
 
--- a call whose parameters are bound leaves its arguments as that says; after a stop as they were
+-- what a call leaves of activation and memory, by its answer: where it enters those of the called
+-- block, after a stop those of before; it doesn't fail
 abbrev pub LeavesCall :
     Call → (old new : Activation) (m m' : Areas) → Result (Unit {0}) FrameFault → Type 0
 LeavesCall (Stops fault) old new m m' (Err why) = (why ≡ fault) × (new ≡ old) × (m' ≡ m)

@@ -51,7 +51,7 @@ local_memory_of s m = record { local = local_of s; memory = m }
 abbrev pub exec_state_of : Running → Areas → List Timer → List Counter → ExecState
 exec_state_of s m t n = record { local = local_of s; memory = m; timers = t; counters = n }
 
--- the running block with these parts; its block and position stay
+-- the running block with these registers, frame data and local data; its block and position stay
 abbrev pub with_local : Running → Local → Running
 with_local s o =
     record s { regs = o.regs; frame = with_frame_data s.frame o.inner; locals = o.locals }

@@ -107,7 +107,7 @@ pub record FitsHead (h : BlockHead) (f : Frame) (below : List Frame) (m : Areas)
   -- the frame of a function block has an instance where it needs one, no other has one
   pub instance : HasInstance f.block.kind h m f.instance
 
--- a frame is that of a block that is there (its head), and what is open in the frame fits this head
+-- a frame is that of a block that is there (its head), and what the frame holds fits this head
 abbrev pub FitsBlock : Option BlockHead → Frame → (below : List Frame) → Areas → Type 0
 FitsBlock None f below m = ⊥
 FitsBlock (Some h) f below m = FitsHead h f below m

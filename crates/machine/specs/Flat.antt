@@ -3,6 +3,7 @@
 use Rattle.std.specs.Prelude.{ℕ, zero, suc, ◌==◌, Bool, true, false, List, [], ◌∷◌, Option, Some, None, if◌then◌else◌}
 use Rattle.std.specs.Option.{option_map, option_and_then}
 use Rattle.plc_base.specs.declared.blocks.BlockKind.{BlockKind}
+use Rattle.flat_code.specs.Codes.{most_ops}
 use Rattle.flat_code.specs.Instr.{Instr, Does, Jumps, JumpsByList, Calls, Returns, Passing}
 use Rattle.flat_code.specs.Forms.{kind_of_code}
 use Rattle.flat_code.specs.Kinds.{jump_of_number}
@@ -46,10 +47,6 @@ run_with (Some r) more =
 unfoldable pub op_run_at : (most : ℕ) → List OpData → ℕ → Option OpRun
 op_run_at zero ops at = None
 op_run_at (suc most) ops at = run_with (op_placed 0 ops at) (λ next. op_run_at most ops next)
-
--- how many ops a statement has at most: 64
-abbrev pub most_ops_of_statement : ℕ
-most_ops_of_statement = 64
 
 -- the data block that a statement opens first, given an op that prepares and what the ops behind it
 -- open: the block of a USEDB op, else theirs
@@ -142,7 +139,7 @@ fetched_of ops line r = record {
 unfoldable pub statement_fetched : CodeBlock → ℕ → Option Fetched
 statement_fetched b at =
     option_and_then
-    (λ line. option_map (fetched_of b.code line) (op_run_at most_ops_of_statement b.code at))
+    (λ line. option_map (fetched_of b.code line) (op_run_at most_ops b.code at))
     (line_placed 0 true b.code b.lines at)
 
 -- the head of a code block: all but its kind, number, ops and source lines

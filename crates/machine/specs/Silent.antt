@@ -86,7 +86,7 @@ has_place_inside _ bindings = true
 abbrev pub keeps_outputs : Operation → Operand → List Binding → Bool
 keeps_outputs w o bindings = not (may_write w) || has_place_inside o bindings
 
--- ---- before which statements it stops
+-- ---- before which statements a silent run stops
 
 -- whether the activation goes on after a statement: not after a synchronous error, a system
 -- function, a stop or the end of the organization block

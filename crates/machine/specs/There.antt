@@ -8,7 +8,7 @@ use Rattle.flat_code.specs.Instr.{Instr, Calls, Returns}
 use Rattle.machine.specs.Code.{Code, Fetched}
 use Rattle.machine.specs.SystemCalls.{system_function}
 
--- whether a block can be called: it is a system function of the profile, or a block of the program
+-- whether a block can be called: it is one of the nine system functions, or a block of the program
 abbrev pub is_block_callable : Code → BlockId → Bool
 is_block_callable c block =
     if is_system_function block.kind

@@ -14,7 +14,8 @@ use Rattle.flat_code.specs.Operations.{operation_of}
 use Rattle.machine.specs.Code.{Fetched}
 use Rattle.machine.specs.ExecState.{Local, then_ok}
 use Rattle.machine.specs.Bindings.{binding_for_param, no_bindings}
-use Rattle.machine.specs.Flat.{OpRun, use_db_of, use_db_first, list_of, most_ops_of_statement, with_passing, instr_of}
+use Rattle.flat_code.specs.Codes.{first_found, most_ops}
+use Rattle.machine.specs.Flat.{OpRun, use_db_of, use_db_first, list_of, with_passing, instr_of}
 
 -- what going along the ops of a statement finds: the data block that the statement opens first, its
 -- last op, and the offset behind it
@@ -26,16 +27,11 @@ pub record StatementWalk : Type 0 where
   -- the byte offset behind the last op
   pub next : ℕ
 
--- the first of two optional numbers that is there
-abbrev pub first_present : Option ℕ → Option ℕ → Option ℕ
-first_present None more = more
-first_present (Some number) more = Some number
-
 -- what going along a run of ops finds; the data block `opens` that was opened before the run counts
 -- first, then the first USEDB in it
 abbrev pub walk_with : Option ℕ → OpRun → StatementWalk
 walk_with opens r = record {
-  opens = first_present opens (use_db_of r.before);
+  opens = first_found opens (use_db_of r.before);
   last = r.last;
   next = r.next;
 }
@@ -47,7 +43,7 @@ walk_by opens r = record { opens = opens; last = r.0; next = r.1 }
 -- the data block that a statement opens first, behind a further op: the one so far, or that of a
 -- USEDB
 abbrev pub opens_after : Option ℕ → Operand → Option ℕ
-opens_after opens o = first_present opens (use_db_first o None)
+opens_after opens o = first_found opens (use_db_first o None)
 
 -- the jump of a number in the list of a JL, or the list's end
 abbrev pub list_jump : (most : ℕ) → List OpData → (target at number : ℕ) → ℕ
@@ -58,7 +54,8 @@ list_jump most ops target at number =
 abbrev pub binding_by :
     Operand → List Param → List Binding → Local → Areas → Result (List Binding) ℕ
 binding_by (operand.Pass index actual) params bindings s m =
-    then_ok (binding_for_param (slice_get params index) actual s m) (λ b. Ok (binding_set bindings index b))
+    then_ok (binding_for_param (slice_get params index) actual s m)
+    (λ b. Ok (binding_set bindings index b))
 binding_by _ params bindings s m = Ok bindings
 
 -- the parameters bound by the ops of a statement from one op on: each op that passes one binds it,
@@ -82,9 +79,10 @@ bindings_by_ops (suc most) ops at params bindings s m =
     bindings_by_ops most ops next params bound s m)
 
 -- what all parameters stand for, by the ops of the statement at an offset
-abbrev pub bindings_of_statement : List OpData → ℕ → List Param → Local → Areas → Result (List Binding) ℕ
+abbrev pub bindings_of_statement :
+    List OpData → ℕ → List Param → Local → Areas → Result (List Binding) ℕ
 bindings_of_statement ops at params s m =
-    bindings_by_ops most_ops_of_statement ops at params (no_bindings params) s m
+    bindings_by_ops most_ops ops at params (no_bindings params) s m
 
 -- what a further op and the ops behind it pass; the last op of a statement passes nothing
 abbrev pub passings_with : Option (OpData × ℕ) → (ℕ → List Passing) → List Passing
@@ -99,7 +97,7 @@ passings_up_to (suc most) ops at =
 
 -- what the statement at an offset passes
 abbrev pub passings_at : List OpData → ℕ → List Passing
-passings_at ops at = passings_up_to most_ops_of_statement ops at
+passings_at ops at = passings_up_to most_ops ops at
 
 -- the statement at an offset of a block, by what was found along its ops
 abbrev pub statement_of_walk : CodeBlock → ℕ → StatementWalk → Fetched

@@ -4,13 +4,13 @@ ghost use Rattle.machine.specs.ExecState.{local_of};
 ghost use Rattle.machine.specs.Bindings.{param_access as access_of_param, bound_place as bound_place_of, binding_of_caller as passed_on_of, bound_actual as bound_actual_of, binding_for_param as binding_for_param_of, no_bindings as unsupplied_of};
 
 use crate::data_blocks::is_loaded;
-use crate::places::{Access, Location, area_location, number_at};
+use crate::places::{Access, Location, NO_OPERAND, area_location, location_number};
 use flat_code::{Param, Passed, SECTION_OUT};
 use frames::{Binding, Bindings, Running};
 use plc_base::{Area, Place, error_codes};
 use plc_mem::Memory;
 
-fn access_of(param: &Param) -> Access
+fn param_access(param: &Param) -> Access
     ensures { result ≡ access_of_param param.now }
 {
     if param.section == SECTION_OUT {
@@ -24,7 +24,7 @@ fn access_of(param: &Param) -> Access
 fn bound_place(access: Access, at: &Location, s: &Running, m: &Memory) -> Result<Binding, u8>
     ensures { result ≡ bound_place_of access at.now (local_of s.now) m.now }
 {
-    match number_at(at, &s.locals, m) {
+    match location_number(at, &s.locals, m) {
         Some(_) => Ok(Binding::AtPlace {
             place: at.place,
             width: at.width,
@@ -39,7 +39,7 @@ fn binding_of_caller(binding: Option<Binding>) -> Result<Binding, u8>
 {
     match binding {
         Some(binding) => Ok(binding),
-        None => Err(0),
+        None => Err(NO_OPERAND),
     }
 }
 
@@ -96,8 +96,8 @@ pub(crate) fn binding_for_param(
         ≡ binding_for_param_of (slice_get params.now index) actual (local_of s.now) m.now }
 {
     match params.get(usize::from(index)) {
-        Some(param) => bound_actual(access_of(param), actual, s, m),
-        None => Err(0),
+        Some(param) => bound_actual(param_access(param), actual, s, m),
+        None => Err(NO_OPERAND),
     }
 }
 

@@ -5,7 +5,7 @@ ghost use Rattle.machine.specs.Outcomes.{ChangesLocalMemory, ChangesRunningRegs}
 ghost use Rattle.status_word.specs.StatusNumber.{bit_as_number as number_of_bit};
 ghost use Rattle.machine.specs.BitLogic.{regs_after_bit_check, put_bit as put_bit_of, bit_before as bit_before_of, bit_after_set as bit_after_of, bit_assigned, assigned_at, bit_set_at as set_at_of, bit_set as bit_set_of, local_memory_after_edge as edge_of};
 
-use crate::places::{Access, Location, area_location, number_at, operand_location};
+use crate::places::{Access, Location, area_location, location_number, operand_location};
 use crate::relay::power_flow;
 use crate::values::{checked_bit, write};
 use flat_code::Operand;
@@ -35,7 +35,7 @@ pub(crate) fn check(
     Ok(())
 }
 
-fn bit_number(bit: bool) -> u32
+fn bit_as_number(bit: bool) -> u32
     ensures value { result ≡ number_of_bit bit }
     ensures fits { result < 2 }
 {
@@ -48,7 +48,7 @@ fn bit_number(bit: bool) -> u32
 fn bit_before(at: &Location, s: &Running, m: &Memory) -> Result<bool, u8>
     ensures { result ≡ bit_before_of at.now (local_of s.now) m.now }
 {
-    match number_at(at, &s.locals, m) {
+    match location_number(at, &s.locals, m) {
         Some(number) => Ok(number == 1),
         None => Err(Access::Writing.absent(at.place.area)),
     }
@@ -61,7 +61,7 @@ fn put_bit(at: &Location, bit: bool, regs: Regs, s: &mut Running, m: &mut Memory
     ensures { ChangesLocalMemory (put_bit_of at.now bit regs (local_of s.old) m.old)
         s.old s.new m.old m.new result }
 {
-    write(at, bit_number(bit), s, m)?;
+    write(at, bit_as_number(bit), s, m)?;
     s.regs = regs;
     Ok(())
 }
@@ -74,7 +74,7 @@ fn assign_at(at: &Location, s: &mut Running, m: &mut Memory) -> Result<(), u8>
         s.old s.new m.old m.new result }
 {
     let value = power_flow(s);
-    write(at, bit_number(value), s, m)?;
+    write(at, bit_as_number(value), s, m)?;
     s.regs.store(value);
     Ok(())
 }

@@ -5,21 +5,21 @@ ghost use Rattle.machine.specs.Outcomes.{BecomesLocalMemory};
 ghost use Rattle.machine.specs.Copies.{is_copied_in as comes_in_of, is_copied_out as goes_out_of, instance_parameter_location as in_instance_of, number_stored as put_of, number_copied, actual_copied_to as passed_to_of, copied_to_actual as given_to_of, param_in as param_in_of, param_out as param_out_of, params_copied_in as params_in_of, params_out as params_out_of};
 
 use crate::loads::low;
-use crate::places::{Location, number_at};
+use crate::places::{Location, location_number};
 use crate::values::write;
 use flat_code::{Param, SECTION_IN, SECTION_IN_OUT, SECTION_OUT};
 use frames::{Binding, Bindings, Running};
 use plc_base::{Area, Place};
 use plc_mem::Memory;
 
-// IN and IN_OUT.
+// Whether the call copies a parameter into the instance: IN, IN_OUT.
 fn comes_in(param: &Param) -> bool
     ensures { result ≡ comes_in_of param.now }
 {
     param.section == SECTION_IN || param.section == SECTION_IN_OUT
 }
 
-// OUT and IN_OUT.
+// Whether the return copies a parameter out of the instance: OUT, IN_OUT.
 fn goes_out(param: &Param) -> bool
     ensures { result ≡ goes_out_of param.now }
 {
@@ -41,7 +41,7 @@ fn in_instance(param: &Param, instance: u16) -> Location
     }
 }
 
-// A number to a place.
+// Writes a number to a place.
 pub(crate) fn put(to: &Location, number: u32, s: &mut Running, m: &mut Memory)
     ensures { BecomesLocalMemory (put_of to.now number (local_memory_of s.old m.old))
         s.old s.new m.new }
@@ -53,13 +53,13 @@ pub(crate) fn put(to: &Location, number: u32, s: &mut Running, m: &mut Memory)
     }
 }
 
-// The number at a place to a place.
+// Copies the number at one place to another.
 #[tactic(auto, unfolding(crate::specs::Copies::number_copied))]
 fn copy(from: &Location, to: &Location, s: &mut Running, m: &mut Memory)
     ensures { BecomesLocalMemory (number_copied from.now to.now (local_memory_of s.old m.old))
         s.old s.new m.new }
 {
-    let number = number_at(from, &s.locals, m).unwrap_or(0);
+    let number = location_number(from, &s.locals, m).unwrap_or(0);
     put(to, number, s, m);
 }
 
@@ -139,7 +139,7 @@ fn param_out(
 }
 
 /// Copies the parameters of a function block into its instance.
-pub(crate) fn params_in(
+pub(crate) fn copy_params_in(
     params: &[Param],
     bindings: &Bindings,
     instance: u16,
@@ -159,7 +159,7 @@ pub(crate) fn params_in(
 }
 
 /// Copies the parameters of a function block out of its instance.
-pub(crate) fn params_out(
+pub(crate) fn copy_params_out(
     params: &[Param],
     bindings: &Bindings,
     instance: u16,

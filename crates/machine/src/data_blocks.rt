@@ -3,10 +3,10 @@ ghost use Rattle.std.specs.Prelude.{◌≡◌, ◌<◌};
 ghost use Rattle.frames.specs.FrameData.{frame_data_of};
 ghost use Rattle.machine.specs.ExecState.{local_of, with_local};
 ghost use Rattle.machine.specs.Outcomes.{ChangesRunningRegs, ChangesLocal};
-ghost use Rattle.machine.specs.DataBlocks.{is_block_loaded as is_loaded_in, opened_if, block_opened_by, registers_exchanged, number_opened as number_opened_of, len_opened as len_opened_of, open_block_fact as open_block_fact_of, loading_open_block};
+ghost use Rattle.machine.specs.DataBlocks.{is_block_loaded as is_loaded_in, block_opened_if, block_opened_by, registers_exchanged, number_opened as number_opened_of, len_opened as len_opened_of, open_block_fact as open_block_fact_of, loading_open_block};
 
 use crate::loads::put_loaded;
-use crate::places::number_from;
+use crate::places::{NO_OPERAND, pointer_word};
 use flat_code::{DB_REGISTER_NUMBER, Operand};
 use frames::{Frame, Running};
 use plc_base::error_codes;
@@ -21,7 +21,8 @@ pub(crate) fn is_loaded(number: u16, m: &Memory) -> bool
 
 // Opens a data block in the DB (1) or DI (2) register, if it is loaded.
 fn open_if_loaded(register: u8, number: u16, s: &mut Running, m: &Memory) -> Result<(), u8>
-    ensures { ChangesLocal (opened_if (is_loaded_in number m.now) register number (local_of s.old))
+    ensures { ChangesLocal
+        (block_opened_if (is_loaded_in number m.now) register number (local_of s.old))
         s.old s.new result }
 {
     if !is_loaded(number, m) {
@@ -48,10 +49,10 @@ pub(crate) fn open(operand: &Operand, s: &mut Running, m: &Memory) -> Result<(),
             from,
             byte,
         } => {
-            let number = number_from(from, byte, s, m)?;
+            let number = pointer_word(from, byte, s, m)?;
             open_if_loaded(register, number, s, m)
         }
-        _ => Err(0),
+        _ => Err(NO_OPERAND),
     }
 }
 
@@ -111,6 +112,6 @@ pub(crate) fn load_open_block(operand: &Operand, s: &mut Running, m: &Memory) ->
             put_loaded(&mut s.regs, number);
             Ok(())
         }
-        _ => Err(0),
+        _ => Err(NO_OPERAND),
     }
 }

@@ -3,7 +3,7 @@ ghost use Rattle.std.specs.Prelude.{◌≡◌, ◌<◌, ◌≤◌, length, None}
 ghost use Rattle.frames.specs.Activations.{block_entered, entry_fault, frames_of};
 ghost use Rattle.machine.specs.Entering.{at_block as at_block_of, di_of as di_of_instance, called_frame as fresh_of, caller_at, instance_supplied, entry_or_stop, Enters, LeavesCall};
 
-use crate::copies::params_in;
+use crate::copies::copy_params_in;
 use flat_code::Param;
 use frames::{Activation, Bindings, Frame, FrameFault, Relay};
 use plc_base::BlockId;
@@ -33,7 +33,7 @@ impl<'a> Model for CalledBlock<'a> {
     } };
 }
 
-/// OS 0, OR 0, STA 1, /FC 0.
+/// The registers at a call or return: OS 0, OR 0, STA 1, /FC 0.
 pub(crate) fn at_block(r: &mut Regs)
     ensures { r.new ≡ at_block_of r.old }
 {
@@ -95,7 +95,7 @@ fn supply(
 {
     match instance {
         None => {}
-        Some(instance) => params_in(params, bindings, instance, &mut a.running, m),
+        Some(instance) => copy_params_in(params, bindings, instance, &mut a.running, m),
     }
 }
 

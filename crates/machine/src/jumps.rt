@@ -6,7 +6,7 @@ use flat_code::JumpOperation;
 use plc_base::Flag;
 use status_word::Regs;
 
-fn count_down(r: &mut Regs)
+fn decrement_loop_counter(r: &mut Regs)
     ensures { r.new ≡ loop_counter_decremented r.old }
 {
     alu::add_const(r, 0xFFFF);
@@ -17,7 +17,7 @@ fn still_counts(r: &Regs) -> bool
     ensures { result ≡ is_taken_of JumpOperation.Loop r.now }
 {
     let mut after = *r;
-    count_down(&mut after);
+    decrement_loop_counter(&mut after);
     after.a1 % 0x1_0000 != 0
 }
 
@@ -47,7 +47,8 @@ pub(crate) fn is_taken(operation: JumpOperation, r: &Regs) -> bool
     }
 }
 
-/// RLO 1, STA 1, OR 0, /FC 0.
+/// The registers after a statement that the RLO decides (JC, JCN, JCB, JNB, CC, BEC): RLO 1, STA 1,
+/// OR 0, /FC 0.
 pub(crate) fn test_rlo(r: &mut Regs)
     ensures { r.new ≡ rlo_tested r.old }
 {
@@ -85,13 +86,13 @@ pub(crate) fn put_jump(operation: JumpOperation, r: &mut Regs)
         }
         JumpOperation::Jbi | JumpOperation::Jnbi => test_br(r),
         JumpOperation::Jos => r.status.os = false,
-        JumpOperation::Loop => count_down(r),
+        JumpOperation::Loop => decrement_loop_counter(r),
         _ => {}
     }
 }
 
 /// Where a jump goes on.
-pub(crate) fn goes_to(taken: bool, target: u32, next: u32) -> u32
+pub(crate) fn jump_goal(taken: bool, target: u32, next: u32) -> u32
     ensures { result ≡ goes_to_of taken target next }
 {
     if taken { target } else { next }

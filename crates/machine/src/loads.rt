@@ -75,7 +75,7 @@ pub(crate) fn low(width: Width, number: u32) -> u32
 /// The lowest bits of a number to the place of an operand.
 #[tactic(auto, unfolding(crate::specs::Loads::number_transferred))]
 #[inline(never)]
-pub(crate) fn put_number(
+pub(crate) fn transfer_number(
     number: u32,
     operand: &Operand,
     s: &mut Running,
@@ -126,7 +126,7 @@ pub(crate) fn transfer(operand: &Operand, s: &mut Running, m: &mut Memory) -> Re
             byte,
             bit,
         } => put_direct(number, area, width, byte, bit, s, m),
-        _ => put_number(number, operand, s, m),
+        _ => transfer_number(number, operand, s, m),
     }
 }
 

@@ -3,6 +3,7 @@ ghost use Rattle.machine.specs.ExecState.{local_of};
 ghost use Rattle.machine.specs.Outcomes.{ChangesLocal};
 ghost use Rattle.machine.specs.Nesting.{nesting_opened, nesting_closed};
 
+use crate::places::NO_OPERAND;
 use frames::Running;
 use plc_base::Check;
 
@@ -15,7 +16,7 @@ pub(crate) fn nest(with: Check, s: &mut Running) -> Result<(), u8>
     if s.frame.brackets.begin(&mut s.regs, with) {
         Ok(())
     } else {
-        Err(0)
+        Err(NO_OPERAND)
     }
 }
 
@@ -28,6 +29,6 @@ pub(crate) fn unnest(s: &mut Running) -> Result<(), u8>
     if s.frame.brackets.close(&mut s.regs) {
         Ok(())
     } else {
-        Err(0)
+        Err(NO_OPERAND)
     }
 }

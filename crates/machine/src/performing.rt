@@ -22,11 +22,11 @@ ghost use Rattle.machine.specs.declared.outcomes.Outcome.{Outcome as OutcomeOf};
 
 use crate::entering::{CalledBlock, at_block, enter_if_room};
 use crate::fetching::Fetched;
-use crate::jumps::{goes_to, is_taken, put_jump, test_rlo};
+use crate::jumps::{is_taken, jump_goal, put_jump, test_rlo};
 use crate::outcomes::Outcome;
 use crate::returning::return_from_block;
-use crate::system_calls::{inputs_of, result_of, system_function};
-use crate::walking::{bind_all, jump_of, pick};
+use crate::system_calls::{inputs_from, result_from, system_function};
+use crate::walking::{bind_all, jump_of_number, pick};
 use crate::whole::effect_with;
 use flat_code::{
     CallOperation, EndOperation, JumpOperation, Operand, Operation, Param, kind_of_code,
@@ -101,7 +101,7 @@ fn jump_to(operation: JumpOperation, target: u32, next: u32, a: &mut Activation)
 {
     let taken = is_taken(operation, &a.running.regs);
     put_jump(operation, &mut a.running.regs);
-    a.running.frame.at = goes_to(taken, target, next);
+    a.running.frame.at = jump_goal(taken, target, next);
 }
 
 // A jump, JL among them. The activation goes on.
@@ -299,8 +299,8 @@ fn call_system(
         params.now bindings.now a.old m.now)) number next
         a.old) a.old a.new w w result }
 {
-    let inputs = inputs_of(params, bindings, &a.running, m);
-    let result = result_of(params, bindings);
+    let inputs = inputs_from(params, bindings, &a.running, m);
+    let result = result_from(params, bindings);
     at_block(&mut a.running.regs);
     a.running.frame.at = next;
     Outcome::SysCall {
@@ -516,7 +516,7 @@ fn perform_op(
     match operation {
         Operation::Jump => match *operand {
             Operand::Jump { kind, target } => {
-                jump(code, jump_of(kind), target, next, a);
+                jump(code, jump_of_number(kind), target, next, a);
                 true
             }
             _ => perform_other(opens, operation, operand, next, a, m, t, n, other),

@@ -2,12 +2,16 @@
 ghost use Rattle.std.specs.Prelude.{◌≡◌, ◌<◌, ◌^◌, Some, IfOk, IfSome};
 ghost use Rattle.plc_base.specs.Widths.{bit_count};
 ghost use Rattle.machine.specs.ExecState.{local_of};
-ghost use Rattle.machine.specs.Places.{error_of, innermost_frame_index as innermost_of, open_block_location as in_register_of, open_area_location as in_area_of, error_of_absent_place as absent_of, location_number, number_read_at as read_of, direct_number as direct_of, pointer_number as pointer_of, is_aligned as is_aligned_of, location_at_pointer as at_pointer_of, pointer_location as by_pointer_of, location_in_named_area as in_named_of, area_location as placed_of, area_crossing_location as by_crossing_of, address_moved_by as moved_of, register_address as address_of, register_location as by_register_of, binding_location as of_binding_of, operand_location as located_of};
+ghost use Rattle.machine.specs.Places.{error_of, innermost_frame_index as innermost_of, open_block_location as in_register_of, open_area_location as in_area_of, error_of_absent_place as absent_of, location_number as location_number_of, number_read_at as read_of, direct_number as direct_of, pointer_number as pointer_of, is_aligned as is_aligned_of, location_at_pointer as at_pointer_of, pointer_location as by_pointer_of, location_in_named_area as in_named_of, area_location as placed_of, area_crossing_location as by_crossing_of, address_moved_by as moved_of, register_address as address_of, register_location as by_register_of, binding_location as of_binding_of, operand_location as located_of};
 
 use flat_code::{AR1_NUMBER, Operand};
 use frames::{Binding, Locals, Running};
 use plc_base::{Area, Place, Width, error_codes, place_of_pointer};
 use plc_mem::Memory;
+
+/// The error code of an operand that the instruction doesn't take: never in a program that is
+/// loaded.
+pub(crate) const NO_OPERAND: u8 = 0;
 
 /// Whether a place is to be read or written.
 #[derive(Clone, Copy)]
@@ -140,8 +144,8 @@ pub(crate) fn area_location(
 
 /// The number at a place, if each of its bits exists.
 #[inline(always)]
-pub(crate) fn number_at(at: &Location, locals: &Locals, m: &Memory) -> Option<u32>
-    ensures value { result ≡ location_number at.now locals.now m.now }
+pub(crate) fn location_number(at: &Location, locals: &Locals, m: &Memory) -> Option<u32>
+    ensures value { result ≡ location_number_of at.now locals.now m.now }
     ensures fits { IfSome result (λ n. n < 2 ^ bit_count at.now.width) }
 {
     match at.place.area {
@@ -157,7 +161,7 @@ pub(crate) fn read(at: &Location, s: &Running, m: &Memory) -> Result<u32, u8>
     ensures value { result ≡ read_of at.now (local_of s.now) m.now }
     ensures fits { IfOk result (λ n. n < 2 ^ bit_count at.now.width) }
 {
-    match number_at(at, &s.locals, m) {
+    match location_number(at, &s.locals, m) {
         Some(number) => Ok(number),
         None => Err(Access::Reading.absent(at.place.area)),
     }
@@ -166,7 +170,7 @@ pub(crate) fn read(at: &Location, s: &Running, m: &Memory) -> Result<u32, u8>
 /// The number at a place of an area.
 #[inline(never)]
 #[tactic(auto, unfolding(crate::specs::Places::direct_number, crate::specs::Places::open_area_location))]
-pub(crate) fn number_in_area(
+pub(crate) fn direct_number(
     area: Area,
     byte: u16,
     bit: u8,
@@ -186,14 +190,14 @@ pub(crate) fn number_in_area(
 fn pointer(from: Area, byte: u16, s: &Running, m: &Memory) -> Result<u32, u8>
     ensures { result ≡ pointer_of from byte Width.Dword (local_of s.now) m.now }
 {
-    number_in_area(from, byte, 0, Width::Dword, s, m)
+    direct_number(from, byte, 0, Width::Dword, s, m)
 }
 
 /// The word at the own place of the number of a timer, counter or data block.
-pub(crate) fn number_from(from: Area, byte: u16, s: &Running, m: &Memory) -> Result<u16, u8>
+pub(crate) fn pointer_word(from: Area, byte: u16, s: &Running, m: &Memory) -> Result<u16, u8>
     ensures { result ≡ pointer_of from byte Width.Word (local_of s.now) m.now }
 {
-    let number = number_in_area(from, byte, 0, Width::Word, s, m)?;
+    let number = direct_number(from, byte, 0, Width::Word, s, m)?;
     Ok(number as u16)
 }
 
@@ -303,7 +307,7 @@ fn of_binding(binding: Option<Binding>) -> Result<Location, u8>
             width,
             frame,
         }),
-        _ => Err(0),
+        _ => Err(NO_OPERAND),
     }
 }
 
@@ -341,6 +345,6 @@ pub(crate) fn operand_location(
             bits,
         } => by_register(access, area, width, address(register, s), bits, s),
         Operand::Parameter { index, .. } => of_binding(s.frame.bindings.get(index)),
-        _ => Err(0),
+        _ => Err(NO_OPERAND),
     }
 }

@@ -4,7 +4,7 @@ ghost use Rattle.machine.specs.ExecState.{local_of};
 ghost use Rattle.machine.specs.Outcomes.{ChangesLocalMemory};
 ghost use Rattle.machine.specs.Pointers.{address_loaded, address_transferred, offset_added as offset_added_of, address_added as address_after_of, pointer_effect, sign_extended as sign_extended_of};
 
-use crate::loads::{put_loaded, put_number};
+use crate::loads::{put_loaded, transfer_number};
 use crate::values::number;
 use flat_code::{Operand, PointerOperation};
 use frames::Running;
@@ -34,7 +34,7 @@ fn transfer_address(
             put_loaded(&mut s.regs, address);
             Ok(())
         }
-        _ => put_number(address, operand, s, m),
+        _ => transfer_number(address, operand, s, m),
     }
 }
 

@@ -4,6 +4,7 @@ ghost use Rattle.machine.specs.ExecState.{local_of};
 ghost use Rattle.machine.specs.Outcomes.{ChangesLocal};
 ghost use Rattle.machine.specs.Relay.{opening_zone, ending_zone, power_flow as power_flow_of, relay_effect};
 
+use crate::places::NO_OPERAND;
 use flat_code::RelayOperation;
 use frames::Running;
 
@@ -21,7 +22,7 @@ fn open_zone(s: &mut Running) -> Result<(), u8>
     ensures { ChangesLocal (opening_zone (local_of s.old)) s.old s.new result }
 {
     if !s.frame.relay.open(s.regs.status.rlo) {
-        return Err(0);
+        return Err(NO_OPERAND);
     }
     s.regs.store(true);
     Ok(())
@@ -33,7 +34,7 @@ fn end_zone(s: &mut Running) -> Result<(), u8>
     ensures { ChangesLocal (ending_zone (local_of s.old)) s.old s.new result }
 {
     if !s.frame.relay.end() {
-        return Err(0);
+        return Err(NO_OPERAND);
     }
     s.regs.store(true);
     Ok(())

@@ -2,7 +2,7 @@
 ghost use Rattle.std.specs.Prelude.{◌≡◌, ◌≤◌, length, false};
 ghost use Rattle.machine.specs.Returning.{outputs_copied_back, block_return, IsReturnOf, ExitsRunningBlock};
 
-use crate::copies::params_out;
+use crate::copies::copy_params_out;
 use crate::entering::at_block;
 use flat_code::Param;
 use frames::Activation;
@@ -18,7 +18,7 @@ fn give_back(params: &[Param], a: &mut Activation, m: &mut Memory)
         None => {}
         Some(instance) => {
             let bindings = a.running.frame.bindings.copied();
-            params_out(params, &bindings, instance, &mut a.running, m);
+            copy_params_out(params, &bindings, instance, &mut a.running, m);
         }
     }
 }

@@ -6,7 +6,8 @@ ghost use Rattle.flat_code.specs.Ops.{OpData};
 ghost use Rattle.flat_code.specs.declared.operations.Operation.TheVariants as operation;
 ghost use Rattle.frames.specs.declared.Activation.{Activation as ActivationOf};
 ghost use Rattle.image_file.specs.Readers.{block_by_id};
-ghost use Rattle.machine.specs.Flat.{code_of, instr_of, most_ops_of_statement, op_run_at};
+ghost use Rattle.flat_code.specs.Codes.{most_ops};
+ghost use Rattle.machine.specs.Flat.{code_of, instr_of, op_run_at};
 ghost use Rattle.machine.specs.Lasting.{IsStatementReady};
 ghost use Rattle.machine.specs.Silent.{GoesOrStays, RunsSilently, StaysReady, goes_on_by_kind, has_caller as has_caller_of, shows_nothing, has_place_inside as has_place_inside_of, is_bound_inside as is_bound_inside_of, is_inside_area as is_inside_of, is_named_inside as is_named_inside_of, is_next_statement_of_kind, is_silent, is_still_inside, keeps_outputs as keeps_outputs_of, may_write as may_write_of, stays_in_block};
 ghost use Rattle.machine.specs.Statement.{IsNotStuck, instruction_step, statement_step, global_store};
@@ -15,7 +16,7 @@ ghost use Rattle.machine.specs.Walking.{walk_with};
 use crate::fetching::Fetched;
 use crate::outcomes::Outcome;
 use crate::performing::{is_called, is_ended, is_jl, perform, perform_apart};
-use crate::walking::{jump_of, opens_after, walk_on};
+use crate::walking::{jump_of_number, opens_after, walk_on};
 use flat_code::{CallOperation, EndOperation, Operand, Operation, kind_of_code};
 use frames::{Activation, Binding, Bindings, Running};
 use image_file::{Loaded, LoadedCode};
@@ -27,11 +28,11 @@ use timers_counters::{Counters, Timers};
 /// whether it was executed.
 #[derive(Clone, Copy)]
 pub(crate) enum Silent {
-    /// It shows nothing, and its block stays the running one.
+    /// The statement shows nothing, and its block stays the running one.
     Inside,
-    /// It shows nothing, and another block may run after it.
+    /// The statement shows nothing, and another block may run after it.
     Across,
-    /// It isn't sure to show nothing; or it was tried, and nothing was done.
+    /// The statement isn't sure to show nothing; or it was tried, and nothing was done.
     Not,
 }
 
@@ -50,7 +51,7 @@ fn may_write(operation: Operation) -> bool
     )
 }
 
-fn is_inside(area: Area) -> bool
+fn is_inside_area(area: Area) -> bool
     ensures { result ≡ is_inside_of area }
 {
     !matches!(area, Area::P)
@@ -60,7 +61,7 @@ fn is_named_inside(area: Option<Area>) -> bool
     ensures { result ≡ is_named_inside_of area }
 {
     match area {
-        Some(area) => is_inside(area),
+        Some(area) => is_inside_area(area),
         None => false,
     }
 }
@@ -69,18 +70,19 @@ fn is_bound_inside(binding: Option<Binding>) -> bool
     ensures { result ≡ is_bound_inside_of binding }
 {
     match binding {
-        Some(Binding::AtPlace { place, .. }) => is_inside(place.area),
+        Some(Binding::AtPlace { place, .. }) => is_inside_area(place.area),
         _ => true,
     }
 }
 
-// Whether no place in the peripheral area is written, by the operand alone.
+// Whether it is sure, by the operand and what parameters stand for, that no place in the
+// peripheral area is written.
 fn has_place_inside(operand: &Operand, s: &Running) -> bool
     ensures { result ≡ has_place_inside_of operand.now s.now.frame.bindings }
 {
     match *operand {
-        Operand::Direct { area, .. } => is_inside(area),
-        Operand::ByMemory { area, .. } => is_inside(area),
+        Operand::Direct { area, .. } => is_inside_area(area),
+        Operand::ByMemory { area, .. } => is_inside_area(area),
         Operand::ByRegister { area, .. } => is_named_inside(area),
         Operand::Parameter { index, .. } => is_bound_inside(s.frame.bindings.get(index)),
         _ => true,
@@ -101,7 +103,7 @@ fn is_silent_jump(operand: &Operand) -> bool
         → result ≡ is_silent (instr_of operation.Jump operand.now opens passings next ops) a }
 {
     match *operand {
-        Operand::Jump { kind, .. } => !is_jl(jump_of(kind)),
+        Operand::Jump { kind, .. } => !is_jl(jump_of_number(kind)),
         _ => false,
     }
 }
@@ -158,7 +160,7 @@ fn across(silent: bool) -> Silent
 
 // Whether the last op of a statement is sure to show nothing.
 #[inline(always)]
-fn kind_of_op(operation: Operation, operand: &Operand, a: &Activation) -> Silent
+fn silent_kind_of_op(operation: Operation, operand: &Operand, a: &Activation) -> Silent
     requires { a.now.ended ≡ false }
     ensures silent { (opens : Option ℕ) (passings : List Passing) (next : ℕ) (ops : List OpData)
         → shows_nothing result
@@ -177,13 +179,13 @@ fn kind_of_op(operation: Operation, operand: &Operand, a: &Activation) -> Silent
 
 // Whether a statement that was found is sure to show nothing.
 #[inline(always)]
-fn kind_of(f: &Fetched<'_>, a: &Activation) -> Silent
+fn silent_kind_of(f: &Fetched<'_>, a: &Activation) -> Silent
     requires { a.now.ended ≡ false }
     ensures silent { shows_nothing result ≡ is_silent f.now.instr a.now }
     ensures inside { is_still_inside result ≡ true → stays_in_block f.now.instr ≡ true }
 {
     let last = f.last;
-    kind_of_op(last.operation(), &last.operand, a)
+    silent_kind_of_op(last.operation(), &last.operand, a)
 }
 
 // A statement that was found, if it is sure to show nothing and doesn't fail. A call or a return is
@@ -210,7 +212,7 @@ fn pass(
     ensures block { is_still_inside result ≡ true
         → a.new.running.frame.block ≡ a.old.running.frame.block }
 {
-    match kind_of(f, a) {
+    match silent_kind_of(f, a) {
         Silent::Not => Silent::Not,
         Silent::Across => across(perform_apart(c, f, a, m, t, n, spare, other)),
         Silent::Inside => inside(perform(c, f, a, m, t, n, spare, other)),
@@ -236,7 +238,7 @@ fn pass_further(
     requires block { block_by_id a.old.running.frame.block c.now.program.code_blocks
         ≡ Some code.now }
     requires walk { option_map (walk_with None)
-        (op_run_at most_ops_of_statement code.now.code a.old.running.frame.at)
+        (op_run_at most_ops code.now.code a.old.running.frame.at)
         ≡ option_map (walk_with opens) (op_run_at 63 code.now.code second) }
     ensures goes { GoesOrStays (statement_step (code_of c.now.program)
         a.old (global_store m.old t.old n.old))

@@ -13,7 +13,7 @@ use image_file::{Loaded, LoadedCode};
 use plc_mem::Memory;
 use timers_counters::{Counters, Timers};
 
-fn is_error(outcome: &Outcome) -> bool
+fn is_sync_error(outcome: &Outcome) -> bool
     ensures { result ≡ is_error_of outcome.now }
 {
     matches!(outcome, Outcome::SyncError { .. })
@@ -45,7 +45,7 @@ fn execute(
     if perform(c, f, a, m, t, n, spare, &mut other) {
         return Outcome::Went;
     }
-    if is_error(&other) {
+    if is_sync_error(&other) {
         a.running.frame.at = f.next;
         return other;
     }

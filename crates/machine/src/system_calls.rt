@@ -2,9 +2,9 @@
 ghost use Rattle.std.specs.Prelude.{◌≡◌, ◌≤◌, ◌++◌, ◌<◌, [], ◌∷◌, length, IfSome};
 ghost use Rattle.std.specs.Option.{option_map};
 ghost use Rattle.machine.specs.ExecState.{local_of};
-ghost use Rattle.machine.specs.SystemCalls.{system_function as system_function_of, input_of as input_of_binding, count_inputs, inputs_from, result_from};
+ghost use Rattle.machine.specs.SystemCalls.{system_function as system_function_of, input_of as input_of_binding, count_inputs, inputs_from as inputs_of, result_from as result_of};
 
-use crate::places::{Location, number_at};
+use crate::places::{Location, location_number};
 use arrayvec::ArrayVec;
 use flat_code::{Param, SECTION_IN, SECTION_OUT, system_function_params};
 use frames::{Binding, Bindings, Running};
@@ -42,7 +42,7 @@ impl Inputs {
         self.numbers.push(number);
     }
 
-    /// The numbers.
+    /// The numbers of the IN parameters, in their order.
     pub fn as_slice(&self) -> &[u32]
         ensures { result.now ≡ self.now }
     {
@@ -77,7 +77,7 @@ fn input_of(binding: Option<Binding>, s: &Running, m: &Memory) -> u32
                 width,
                 frame,
             };
-            number_at(&at, &s.locals, m).unwrap_or(0)
+            location_number(&at, &s.locals, m).unwrap_or(0)
         }
         Some(Binding::Constant { value }) => value,
         _ => 0,
@@ -85,10 +85,10 @@ fn input_of(binding: Option<Binding>, s: &Running, m: &Memory) -> u32
 }
 
 /// The numbers of the IN parameters.
-pub(crate) fn inputs_of(params: &[Param], bindings: &Bindings, s: &Running, m: &Memory) -> Inputs
+pub(crate) fn inputs_from(params: &[Param], bindings: &Bindings, s: &Running, m: &Memory) -> Inputs
     requires few { length params.now ≤ 4 }
     requires inputs { count_inputs params.now ≤ 3 }
-    ensures { result ≡ inputs_from params.now 0 bindings.now (local_of s.now) m.now }
+    ensures { result ≡ inputs_of params.now 0 bindings.now (local_of s.now) m.now }
 {
     let mut inputs = Inputs::new();
     let mut index = 0u8;
@@ -102,9 +102,9 @@ pub(crate) fn inputs_of(params: &[Param], bindings: &Bindings, s: &Running, m: &
 }
 
 /// What RET_VAL is bound to.
-pub(crate) fn result_of(params: &[Param], bindings: &Bindings) -> Option<Binding>
+pub(crate) fn result_from(params: &[Param], bindings: &Bindings) -> Option<Binding>
     requires { length params.now ≤ 4 }
-    ensures { result ≡ result_from params.now 0 bindings.now }
+    ensures { result ≡ result_of params.now 0 bindings.now }
 {
     let mut index = 0u8;
     for param in params {

@@ -11,7 +11,7 @@ use plc_mem::Memory;
 use status_word::Regs;
 use timers_counters::{Counters, Timers};
 
-/// OR 0, /FC 0.
+/// Ends the logic string: OR 0, /FC 0.
 fn end_string(r: &mut Regs)
     ensures { r.new ≡ logic_string_ended r.old }
 {
@@ -19,7 +19,7 @@ fn end_string(r: &mut Regs)
     r.status.fc = false;
 }
 
-fn operation_of(s: &Running) -> u16
+fn start_word(s: &Running) -> u16
     ensures { result ≡ word_of_own (local_of s.now) }
 {
     (s.regs.a1 % 0x1_0000) as u16
@@ -39,7 +39,7 @@ pub(crate) fn start(
         s.old s.new t.old t.new result }
 {
     let number = number_named(operand, s, m)?;
-    match t.start(number, how, s.regs.status.rlo, operation_of(s)) {
+    match t.start(number, how, s.regs.status.rlo, start_word(s)) {
         Ok(()) => {
             end_string(&mut s.regs);
             Ok(())
@@ -144,7 +144,7 @@ pub(crate) fn set_counter(
         s.old s.new n.old n.new result }
 {
     let number = number_named(operand, s, m)?;
-    match n.set(number, s.regs.status.rlo, operation_of(s)) {
+    match n.set(number, s.regs.status.rlo, start_word(s)) {
         Ok(()) => {
             end_string(&mut s.regs);
             Ok(())

@@ -6,7 +6,9 @@ ghost use Rattle.machine.specs.ExecState.{local_of};
 ghost use Rattle.machine.specs.Outcomes.{ChangesLocalMemory};
 ghost use Rattle.machine.specs.Values.{number_of_binding as number_of_binding_of, operand_number as number_of, bit_of_numbered as bit_of_numbered_of, value_of_numbered as value_of_numbered_of, bcd_of_numbered as bcd_of_numbered_of, number_named as number_named_of, bcd_loaded as bcd_loaded_of, with_timer_error, checked_bit as tested_of, load_value as loaded_of, bit_of_number, number_written_at as write_of};
 
-use crate::places::{Access, Location, area_location, number_from, operand_location, read};
+use crate::places::{
+    Access, Location, NO_OPERAND, area_location, operand_location, pointer_word, read,
+};
 use flat_code::{CONDITIONS, Operand, TIMER_KIND};
 use frames::{Binding, Running};
 use plc_base::{Area, Flag, Width, error_codes};
@@ -32,7 +34,7 @@ fn number_of_binding(binding: Option<Binding>, s: &Running, m: &Memory) -> Resul
             read(&at, s, m)
         }
         Some(Binding::Constant { value }) => Ok(value),
-        _ => Err(0),
+        _ => Err(NO_OPERAND),
     }
 }
 
@@ -55,7 +57,7 @@ pub(crate) fn number(operand: &Operand, s: &Running, m: &Memory) -> Result<u32, 
 // The number of an operand with a fixed place.
 #[tactic(auto, unfolding(crate::specs::Values::operand_number, crate::specs::Places::operand_location))]
 #[inline(always)]
-fn direct_number(
+fn direct_operand_number(
     area: Area,
     width: Width,
     byte: u16,
@@ -131,15 +133,15 @@ fn bcd_of_numbered(kind: u8, number: u16, t: &Timers, n: &Counters) -> Result<u3
     }
 }
 
-/// The number of a timer or counter: its own, or the word at a place.
+/// The number of a timer or counter: the one in the operand, or the word at a place.
 #[tactic(auto, unfolding(crate::specs::Values::number_named))]
 pub(crate) fn number_named(operand: &Operand, s: &Running, m: &Memory) -> Result<u16, u8>
     ensures { result ≡ number_named_of operand.now (local_of s.now) m.now }
 {
     match *operand {
         Operand::Numbered { number, .. } => Ok(number),
-        Operand::NumberedBy { from, byte, .. } => number_from(from, byte, s, m),
-        _ => Err(0),
+        Operand::NumberedBy { from, byte, .. } => pointer_word(from, byte, s, m),
+        _ => Err(NO_OPERAND),
     }
 }
 
@@ -174,7 +176,7 @@ fn checked_bit_elsewhere(
     match *operand {
         Operand::Numbered { kind, number } => bit_of_numbered(kind, number, t, n),
         Operand::NumberedBy { kind, from, byte } => {
-            let number = number_from(from, byte, s, m)?;
+            let number = pointer_word(from, byte, s, m)?;
             bit_of_numbered(kind, number, t, n)
         }
         Operand::OfStatus { condition } => Ok(s.regs.flag(flag_of(condition))),
@@ -190,13 +192,13 @@ fn direct_bit(area: Area, byte: u16, bit: u8, s: &Running, m: &Memory) -> Result
         (local_of s.now) m.now) }
 {
     let number = match area {
-        Area::I => direct_number(Area::I, Width::Bit, byte, bit, s, m),
-        Area::Q => direct_number(Area::Q, Width::Bit, byte, bit, s, m),
-        Area::M => direct_number(Area::M, Width::Bit, byte, bit, s, m),
-        Area::Db => direct_number(Area::Db, Width::Bit, byte, bit, s, m),
-        Area::Di => direct_number(Area::Di, Width::Bit, byte, bit, s, m),
-        Area::L => direct_number(Area::L, Width::Bit, byte, bit, s, m),
-        Area::P => direct_number(Area::P, Width::Bit, byte, bit, s, m),
+        Area::I => direct_operand_number(Area::I, Width::Bit, byte, bit, s, m),
+        Area::Q => direct_operand_number(Area::Q, Width::Bit, byte, bit, s, m),
+        Area::M => direct_operand_number(Area::M, Width::Bit, byte, bit, s, m),
+        Area::Db => direct_operand_number(Area::Db, Width::Bit, byte, bit, s, m),
+        Area::Di => direct_operand_number(Area::Di, Width::Bit, byte, bit, s, m),
+        Area::L => direct_operand_number(Area::L, Width::Bit, byte, bit, s, m),
+        Area::P => direct_operand_number(Area::P, Width::Bit, byte, bit, s, m),
     };
     Ok(number? == 1)
 }
@@ -239,7 +241,7 @@ fn load_value_elsewhere(
     match *operand {
         Operand::Numbered { kind, number } => value_of_numbered(kind, number, t, n),
         Operand::NumberedBy { kind, from, byte } => {
-            let number = number_from(from, byte, s, m)?;
+            let number = pointer_word(from, byte, s, m)?;
             value_of_numbered(kind, number, t, n)
         }
         _ => number(operand, s, m),
@@ -264,7 +266,7 @@ pub(crate) fn load_value(
             width,
             byte,
             bit,
-        } => direct_number(area, width, byte, bit, s, m),
+        } => direct_operand_number(area, width, byte, bit, s, m),
         _ => load_value_elsewhere(operand, s, m, t, n),
     }
 }
@@ -283,10 +285,10 @@ pub(crate) fn bcd_loaded(
     match *operand {
         Operand::Numbered { kind, number } => bcd_of_numbered(kind, number, t, n),
         Operand::NumberedBy { kind, from, byte } => {
-            let number = number_from(from, byte, s, m)?;
+            let number = pointer_word(from, byte, s, m)?;
             bcd_of_numbered(kind, number, t, n)
         }
-        _ => Err(0),
+        _ => Err(NO_OPERAND),
     }
 }
 

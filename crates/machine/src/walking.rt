@@ -4,7 +4,8 @@ ghost use Rattle.std.specs.Option.{option_map};
 ghost use Rattle.flat_code.specs.Kinds.{jump_of_number as jump_of_kind};
 ghost use Rattle.flat_code.specs.PlacedOps.{op_placed};
 ghost use Rattle.machine.specs.ExecState.{local_of};
-ghost use Rattle.machine.specs.Flat.{op_run_at, most_ops_of_statement, list_of, most_listed};
+ghost use Rattle.flat_code.specs.Codes.{most_ops};
+ghost use Rattle.machine.specs.Flat.{op_run_at, list_of, most_listed};
 ghost use Rattle.machine.specs.Jumps.{list_goal};
 ghost use Rattle.machine.specs.Walking.{walk_with, walk_by, opens_after as opens_after_op, bindings_of_statement, binding_by};
 
@@ -39,7 +40,8 @@ impl Model for StatementWalk {
     ghost view = { λ w. record { opens = w.opens; last = w.last; next = w.next } };
 }
 
-/// What stands open after a further op.
+/// The data block that a statement opens first, behind a further op: the one so far, or that of a
+/// USEDB.
 pub(crate) fn opens_after(opens: Option<u16>, operand: &Operand) -> Option<u16>
     ensures { result ≡ opens_after_op opens operand.now }
 {
@@ -58,7 +60,7 @@ pub(crate) fn opens_after(opens: Option<u16>, operand: &Operand) -> Option<u16>
 #[inline(always)]
 pub(crate) fn walk_from(code: &LoadedCode<'_>, at: u32) -> Option<StatementWalk>
     ensures { result ≡ option_map (walk_with None)
-        (op_run_at most_ops_of_statement code.now.code at) }
+        (op_run_at most_ops code.now.code at) }
 {
     let (op, next) = code.op(at)?;
     if op.last {
@@ -81,7 +83,7 @@ fn walk_to(code: &LoadedCode<'_>, at: u32, opens: Option<u16>) -> Option<Stateme
     Some(StatementWalk { opens, last, next })
 }
 
-/// The rest of a statement, from its second op on, with what stands open.
+/// The rest of a statement, from its second op on, with the data block that it opens first so far.
 #[tactic(auto, using(crate::proofs::Walks::walk_nowhere, crate::proofs::Walks::walk_stops, crate::proofs::Walks::walk_ends_there, crate::proofs::Walks::walk_goes_on))]
 #[inline(never)]
 pub(crate) fn walk_on(code: &LoadedCode<'_>, at: u32, opens: Option<u16>) -> Option<StatementWalk>
@@ -146,7 +148,7 @@ pub(crate) fn pick(code: &LoadedCode<'_>, target: u32, next: u32, r: &Regs) -> u
 
 /// The jump of a kind.
 #[tactic(auto, unfolding(flat_code::specs::Kinds::jump_of_number))]
-pub(crate) fn jump_of(kind: u8) -> JumpOperation
+pub(crate) fn jump_of_number(kind: u8) -> JumpOperation
     ensures { result ≡ jump_of_kind kind }
 {
     let place = usize::from(kind);

@@ -9,6 +9,7 @@ use crate::data_blocks::{exchange, is_loaded, load_open_block, open};
 use crate::loads::{load, load_bcd, load_status, transfer, transfer_status};
 use crate::nesting::{nest, unnest};
 use crate::numbers::{add, combine, number, shift};
+use crate::places::NO_OPERAND;
 use crate::pointers::point;
 use crate::relay::relay;
 use crate::timing::{
@@ -87,7 +88,7 @@ fn free(
         s.old s.new m.now m.now t.old t.new n.old n.new result }
 {
     match kind_named(operand) {
-        None => Err(0),
+        None => Err(NO_OPERAND),
         Some(TIMER_KIND) => free_timer(operand, s, m, t),
         Some(_) => free_counter(operand, s, m, n),
     }
@@ -186,7 +187,7 @@ pub(crate) fn effect(
         | Operation::Pass
         | Operation::Jump
         | Operation::Call(_)
-        | Operation::End(_) => { Err(0) }
+        | Operation::End(_) => { Err(NO_OPERAND) }
     }
 }
 

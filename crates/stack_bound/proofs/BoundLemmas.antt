@@ -7,7 +7,7 @@ use Rattle.plc_base.specs.declared.blocks.BlockId.{BlockId}
 use Rattle.plc_base.specs.declared.blocks.BlockKind.TheVariants.{Ob}
 use Rattle.flat_code.specs.Programs.{CodeBlock, Program}
 use Rattle.image_file.specs.Readers.{block_by_id}
-use Rattle.stack_bound.specs.Calls.{Calls, CallsIn}
+use Rattle.stack_bound.specs.Calls.{CallsBlock, CallsIn}
 use Rattle.stack_bound.specs.Certificates.{bound_of, CountsItself, CountsCalled, IsCertificateOf, IsBoundWithinLimits}
 use Rattle.stack_bound.specs.Chains.{CallEachOther, IsCallChain, IsTooDeep, bytes_of_chain, local_bytes, most_local_bytes}
 use Rattle.stack_bound.specs.Finding.{last_block_of}
@@ -23,7 +23,7 @@ abbrev CountedBy : (local_len : ℕ) → Bound → Option Bound → Type 0
 CountedBy len e None = ⊥
 CountedBy len e (Some f) = (f.depth + 1 ≤ e.depth) × (len + f.bytes ≤ e.bytes)
 
-counted_by : (z : Profile) (p : Program) (c : List Bound) (x d : BlockId) (e : Bound) (calls : Calls p x d)
+counted_by : (z : Profile) (p : Program) (c : List Bound) (x d : BlockId) (e : Bound) (calls : CallsBlock p x d)
     → IsCertificateOf z p c → bound_of x c ≡ Some e → CountedBy calls.from.local_len e (bound_of d c)
 counted_by z p c x d e calls holds found =
     by (bound_of d c)
@@ -59,7 +59,7 @@ counts_one p x e b there own = (
     bytes_of : (a len bytes : ℕ) → a ≡ len → len ≤ bytes → a + 0 ≤ bytes
     bytes_of a len bytes is within = omega (arith, is, within)
 
-counts_more : (p : Program) (x d : BlockId) (more : List BlockId) (e f : Bound) (calls : Calls p x d)
+counts_more : (p : Program) (x d : BlockId) (more : List BlockId) (e f : Bound) (calls : CallsBlock p x d)
     → (f.depth + 1 ≤ e.depth) × (calls.from.local_len + f.bytes ≤ e.bytes) → Counts p d more f
     → Counts p x (d ∷ more) e
 counts_more p x d more e f calls by counts = (

@@ -4,7 +4,7 @@ use Rattle.std.specs.Prelude.{◌==◌}
 use Rattle.std.specs.Option.{option_map, option_and_then}
 use Rattle.plc_base.specs.declared.blocks.BlockId.{BlockId}
 use Rattle.plc_base.specs.declared.blocks.BlockKind.{BlockKind}
-use Rattle.flat_code.specs.Codes.{size_of_op}
+use Rattle.flat_code.specs.Codes.{size_of_op, most_ops}
 use Rattle.flat_code.specs.Forms.{kind_of_code}
 use Rattle.flat_code.specs.Instr.{Instr, Calls, Does, Jumps, JumpsByList, Returns, Passing}
 use Rattle.flat_code.specs.Ops.{OpData}
@@ -19,7 +19,7 @@ use Rattle.flat_code.specs.declared.operations.CallOperation.{CallOperation}
 use Rattle.flat_code.specs.declared.operations.Operation.{Operation}
 use Rattle.flat_code.specs.declared.operations.Operation.TheVariants as operation
 use Rattle.machine.specs.Code.{Fetched}
-use Rattle.machine.specs.Flat.{OpRun, with_op, run_with, op_run_at, most_ops_of_statement, use_db_of, passings_of, jump_by_operation, list_of, most_listed, is_jl, call_by_number, instr_of, fetched_of, statement_fetched}
+use Rattle.machine.specs.Flat.{OpRun, with_op, run_with, op_run_at, use_db_of, passings_of, jump_by_operation, list_of, most_listed, is_jl, call_by_number, instr_of, fetched_of, statement_fetched}
 use Rattle.stack_bound.specs.Calls.{block_named, callee_in, CallsIn}
 
 -- the op of an offset is one of the ops
@@ -277,17 +277,17 @@ unfolding statement_fetched
 statement_calls b at f call block named given is calls =
     lined (line_placed 0 true b.code b.lines at) is
   where
-    ran : (line : ℕ) (run : Option OpRun) → op_run_at most_ops_of_statement b.code at ≡ run
+    ran : (line : ℕ) (run : Option OpRun) → op_run_at most_ops b.code at ≡ run
         → option_map (fetched_of b.code line) run ≡ Some f → CallsIn b.code block
     ran line None found none = absurd cc
     ran line (Some r) found some =
-        calls_in r.last b.code block (last_in most_ops_of_statement b.code at r found)
+        calls_in r.last b.code block (last_in most_ops b.code at r found)
         (called_is (operation_of r.last.code) r.last.operand (use_db_of r.before) (passings_of r.before) r.next
         b.code call block named given
         (ap (λ (o : Option Fetched). instr_in f o) some ∙ calls))
 
     lined : (line : Option ℕ)
-        → option_and_then (λ n. option_map (fetched_of b.code n) (op_run_at most_ops_of_statement b.code at)) line ≡ Some f
+        → option_and_then (λ n. option_map (fetched_of b.code n) (op_run_at most_ops b.code at)) line ≡ Some f
         → CallsIn b.code block
     lined None none = absurd cc
-    lined (Some n) some = ran n (op_run_at most_ops_of_statement b.code at) refl some
+    lined (Some n) some = ran n (op_run_at most_ops b.code at) refl some

@@ -11,11 +11,11 @@ use Rattle.plc_base.specs.declared.blocks.BlockId.{BlockId}
 use Rattle.plc_base.specs.declared.blocks.BlockKind.TheVariants.{Ob}
 use Rattle.flat_code.specs.Programs.{CodeBlock, Program}
 use Rattle.image_file.specs.Readers.{block_by_id, block_ids, is_same_id}
-use Rattle.stack_bound.specs.Calls.{Calls, CallsIn}
+use Rattle.stack_bound.specs.Calls.{CallsBlock, CallsIn}
 use Rattle.stack_bound.specs.Certificates.{bound_of, HasLoadedBlocksOnly, HasEachBlockOnce, CountsItself, CountsCalled, IsCertificateOf, IsBoundWithinLimits}
 use Rattle.stack_bound.specs.Finding.{AreAmong, IsAtMost, IsLeastCertificate, IsOnChain, last_block_of}
 use Rattle.stack_bound.specs.Layers.{bound_above, bounds_above, layer_above, layer_of_height, most_called, measure_of_bound, measure_if_bound, measure_in_layer, measure_of_block, with_bound}
-use Rattle.stack_bound.specs.Marks.{marked_behind, marks_of_round}
+use Rattle.stack_bound.specs.Marks.{marked_bounds_behind, marks_of_round}
 use Rattle.stack_bound.specs.declared.certificates.Bound.{Bound}
 use Rattle.stack_bound.specs.declared.measures.Measure.{Measure}
 use Rattle.stack_bound.specs.declared.measures.Measure.TheVariants.{Depth, Bytes}
@@ -88,7 +88,7 @@ MarkedOf : (Bound → Type 0) → List Bound → List Bound → BlockId → Boun
 MarkedOf P all seen x e = (bound_of x all ≡ Some e) × P e × (e.block ≡ x) × (bound_of x seen ≡ None)
 
 marked_of : (P : Bound → Type 0) (all seen : List Bound) (ms : List Bool) (list : List Bound) (x : BlockId) (e : Bound)
-    → EachMarked P ms list → EntriesAre all list → bound_of x (marked_behind seen ms list) ≡ Some e
+    → EachMarked P ms list → EntriesAre all list → bound_of x (marked_bounds_behind seen ms list) ≡ Some e
     → (bound_of x all ≡ Some e) × P e × (e.block ≡ x) × (bound_of x seen ≡ None)
 marked_of P all seen [] list x e each entries is = absurd cc
 marked_of P all seen (m ∷ ms) [] x e each entries is = absurd cc
@@ -116,24 +116,24 @@ marked_of P all seen (m ∷ ms) (b ∷ list) x e each entries is =
         )
 
     kept_by : (m && is_none (bound_of b.block seen)) ≡ true → (test : Bool) → is_same_id b.block x ≡ test
-        → (if test then Some b else bound_of x (marked_behind (seen ++ b ∷ []) ms list)) ≡ Some e
-        → (bound_of x (marked_behind (seen ++ b ∷ []) ms list) ≡ Some e → Fact (seen ++ b ∷ []))
+        → (if test then Some b else bound_of x (marked_bounds_behind (seen ++ b ∷ []) ms list)) ≡ Some e
+        → (bound_of x (marked_bounds_behind (seen ++ b ∷ []) ms list) ≡ Some e → Fact (seen ++ b ∷ []))
         → Fact seen
     kept_by kept true same here next = first kept same here
     kept_by kept false same later next =
         let fact = next later in (fact.0, fact.1, fact.2, front_none x seen (b ∷ []) fact.3)
 
     by : (test : Bool) → (m && is_none (bound_of b.block seen)) ≡ test
-        → bound_of x (if test then b ∷ marked_behind (seen ++ b ∷ []) ms list else marked_behind seen ms list) ≡ Some e
-        → (bound_of x (marked_behind seen ms list) ≡ Some e → Fact seen)
-        → (bound_of x (marked_behind (seen ++ b ∷ []) ms list) ≡ Some e → Fact (seen ++ b ∷ []))
+        → bound_of x (if test then b ∷ marked_bounds_behind (seen ++ b ∷ []) ms list else marked_bounds_behind seen ms list) ≡ Some e
+        → (bound_of x (marked_bounds_behind seen ms list) ≡ Some e → Fact seen)
+        → (bound_of x (marked_bounds_behind (seen ++ b ∷ []) ms list) ≡ Some e → Fact (seen ++ b ∷ []))
         → Fact seen
     by true kept found next after = kept_by kept (is_same_id b.block x) refl found after
     by false left found next after = next found
 
 -- a block that was seen isn't there again
 not_again : (seen : List Bound) (ms : List Bool) (list : List Bound) (x : BlockId)
-    → IsSome (bound_of x seen) → bound_of x (marked_behind seen ms list) ≡ None
+    → IsSome (bound_of x seen) → bound_of x (marked_bounds_behind seen ms list) ≡ None
 not_again seen [] list x was = refl
 not_again seen (m ∷ ms) [] x was = refl
 not_again seen (m ∷ ms) (b ∷ list) x was =
@@ -154,27 +154,27 @@ not_again seen (m ∷ ms) (b ∷ list) x was =
         wrong none some = cc
 
     by : (test : Bool) → (m && is_none (bound_of b.block seen)) ≡ test
-        → bound_of x (marked_behind seen ms list) ≡ None
-        → bound_of x (marked_behind (seen ++ b ∷ []) ms list) ≡ None
-        → bound_of x (if test then b ∷ marked_behind (seen ++ b ∷ []) ms list else marked_behind seen ms list) ≡ None
+        → bound_of x (marked_bounds_behind seen ms list) ≡ None
+        → bound_of x (marked_bounds_behind (seen ++ b ∷ []) ms list) ≡ None
+        → bound_of x (if test then b ∷ marked_bounds_behind (seen ++ b ∷ []) ms list else marked_bounds_behind seen ms list) ≡ None
     by true kept next after = rw (apart kept (is_same_id b.block x) refl) after
     by false left next after = next
 
-pub marked_once : (seen : List Bound) (ms : List Bool) (list : List Bound) → HasEachBlockOnce (marked_behind seen ms list)
+pub marked_once : (seen : List Bound) (ms : List Bool) (list : List Bound) → HasEachBlockOnce (marked_bounds_behind seen ms list)
 marked_once seen [] list = tt
 marked_once seen (m ∷ ms) [] = tt
 marked_once seen (m ∷ ms) (b ∷ list) =
     by (m && is_none (bound_of b.block seen)) (marked_once seen ms list) (marked_once (seen ++ b ∷ []) ms list)
   where
-    by : (test : Bool) → HasEachBlockOnce (marked_behind seen ms list) → HasEachBlockOnce (marked_behind (seen ++ b ∷ []) ms list)
-        → HasEachBlockOnce (if test then b ∷ marked_behind (seen ++ b ∷ []) ms list else marked_behind seen ms list)
+    by : (test : Bool) → HasEachBlockOnce (marked_bounds_behind seen ms list) → HasEachBlockOnce (marked_bounds_behind (seen ++ b ∷ []) ms list)
+        → HasEachBlockOnce (if test then b ∷ marked_bounds_behind (seen ++ b ∷ []) ms list else marked_bounds_behind seen ms list)
     by true next after = (not_again (seen ++ b ∷ []) ms list b.block (last_found seen b), after)
     by false next after = next
 
 -- a block of which the first entry is marked is there
 marked_has : (seen : List Bound) (ms : List Bool) (list : List Bound) (x : BlockId) (e : Bound)
     → FirstOf ms list x → bound_of x list ≡ Some e → bound_of x seen ≡ None
-    → bound_of x (marked_behind seen ms list) ≡ Some e
+    → bound_of x (marked_bounds_behind seen ms list) ≡ Some e
 marked_has seen ms [] x e all is none = absurd cc
 marked_has seen [] (b ∷ list) x e all is none = absurd all
 marked_has seen (m ∷ ms) (b ∷ list) x e all is none =
@@ -182,30 +182,30 @@ marked_has seen (m ∷ ms) (b ∷ list) x e all is none =
     (λ apart later unseen. marked_has (seen ++ b ∷ []) ms list x e (all.1 apart) later unseen)
   where
     here : is_same_id b.block x ≡ true → Some b ≡ Some e
-        → bound_of x (if m && is_none (bound_of b.block seen) then b ∷ marked_behind (seen ++ b ∷ []) ms list else marked_behind seen ms list) ≡ Some e
+        → bound_of x (if m && is_none (bound_of b.block seen) then b ∷ marked_bounds_behind (seen ++ b ∷ []) ms list else marked_bounds_behind seen ms list) ≡ Some e
     here same first =
         rw (all.0 same)
         (rw (is_none_of (bound_of b.block seen) (subst (λ (y : BlockId). bound_of y seen ≡ None) (sym (same_is b.block x same)) none))
         (rw same first))
 
-    kept : (test : Bool) → is_same_id b.block x ≡ false → bound_of x (marked_behind seen ms list) ≡ Some e
-        → bound_of x (marked_behind (seen ++ b ∷ []) ms list) ≡ Some e
-        → bound_of x (if test then b ∷ marked_behind (seen ++ b ∷ []) ms list else marked_behind seen ms list) ≡ Some e
+    kept : (test : Bool) → is_same_id b.block x ≡ false → bound_of x (marked_bounds_behind seen ms list) ≡ Some e
+        → bound_of x (marked_bounds_behind (seen ++ b ∷ []) ms list) ≡ Some e
+        → bound_of x (if test then b ∷ marked_bounds_behind (seen ++ b ∷ []) ms list else marked_bounds_behind seen ms list) ≡ Some e
     kept true apart next after = rw apart after
     kept false apart next after = next
 
     by : (test : Bool) → is_same_id b.block x ≡ test → (if test then Some b else bound_of x list) ≡ Some e
-        → (is_same_id b.block x ≡ false → bound_of x list ≡ Some e → bound_of x (marked_behind seen ms list) ≡ Some e)
+        → (is_same_id b.block x ≡ false → bound_of x list ≡ Some e → bound_of x (marked_bounds_behind seen ms list) ≡ Some e)
         → (is_same_id b.block x ≡ false → bound_of x list ≡ Some e → bound_of x (seen ++ b ∷ []) ≡ None
-        → bound_of x (marked_behind (seen ++ b ∷ []) ms list) ≡ Some e)
-        → bound_of x (if m && is_none (bound_of b.block seen) then b ∷ marked_behind (seen ++ b ∷ []) ms list else marked_behind seen ms list) ≡ Some e
+        → bound_of x (marked_bounds_behind (seen ++ b ∷ []) ms list) ≡ Some e)
+        → bound_of x (if m && is_none (bound_of b.block seen) then b ∷ marked_bounds_behind (seen ++ b ∷ []) ms list else marked_bounds_behind seen ms list) ≡ Some e
     by true same first next after = here same first
     by false apart later next after =
         kept (m && is_none (bound_of b.block seen)) apart (next apart later)
         (after apart later (behind_none x seen b none apart))
 
 each_kept : (P : Bound → Type 0) (seen : List Bound) (ms : List Bool) (list : List Bound) → EachMarked P ms list
-    → AllByRecursion P (marked_behind seen ms list)
+    → AllByRecursion P (marked_bounds_behind seen ms list)
 each_kept P seen [] list each = tt
 each_kept P seen (m ∷ ms) [] each = tt
 each_kept P seen (m ∷ ms) (b ∷ list) each =
@@ -213,23 +213,23 @@ each_kept P seen (m ∷ ms) (b ∷ list) each =
     (each_kept P (seen ++ b ∷ []) ms list each.1)
   where
     by : (test : Bool) → (m && is_none (bound_of b.block seen)) ≡ test
-        → AllByRecursion P (marked_behind seen ms list)
-        → AllByRecursion P (marked_behind (seen ++ b ∷ []) ms list)
-        → AllByRecursion P (if test then b ∷ marked_behind (seen ++ b ∷ []) ms list else marked_behind seen ms list)
+        → AllByRecursion P (marked_bounds_behind seen ms list)
+        → AllByRecursion P (marked_bounds_behind (seen ++ b ∷ []) ms list)
+        → AllByRecursion P (if test then b ∷ marked_bounds_behind (seen ++ b ∷ []) ms list else marked_bounds_behind seen ms list)
     by true kept next after = (each.0 (and_parts m (is_none (bound_of b.block seen)) kept).0, after)
     by false left next after = next
 
 loaded_kept : (p : Program) (seen : List Bound) (ms : List Bool) (list : List Bound) → HasLoadedBlocksOnly p list
-    → HasLoadedBlocksOnly p (marked_behind seen ms list)
+    → HasLoadedBlocksOnly p (marked_bounds_behind seen ms list)
 loaded_kept p seen [] list loaded = tt
 loaded_kept p seen (m ∷ ms) [] loaded = tt
 loaded_kept p seen (m ∷ ms) (b ∷ list) loaded =
     by (m && is_none (bound_of b.block seen)) (loaded_kept p seen ms list loaded.1)
     (loaded_kept p (seen ++ b ∷ []) ms list loaded.1)
   where
-    by : (test : Bool) → HasLoadedBlocksOnly p (marked_behind seen ms list)
-        → HasLoadedBlocksOnly p (marked_behind (seen ++ b ∷ []) ms list)
-        → HasLoadedBlocksOnly p (if test then b ∷ marked_behind (seen ++ b ∷ []) ms list else marked_behind seen ms list)
+    by : (test : Bool) → HasLoadedBlocksOnly p (marked_bounds_behind seen ms list)
+        → HasLoadedBlocksOnly p (marked_bounds_behind (seen ++ b ∷ []) ms list)
+        → HasLoadedBlocksOnly p (if test then b ∷ marked_bounds_behind (seen ++ b ∷ []) ms list else marked_bounds_behind seen ms list)
     by true next after = (loaded.0, after)
     by false next after = next
 
@@ -264,7 +264,7 @@ among_more [] all id among = tt
 among_more (a ∷ some) all id among = inr among
 
 are_among : (p : Program) (layer : List Bound) (ids : List BlockId) (seen : List Bound) (ms : List Bool)
-    → AreAmong (blocks_in (marked_behind seen ms (bounds_above p layer ids))) ids
+    → AreAmong (blocks_in (marked_bounds_behind seen ms (bounds_above p layer ids))) ids
 are_among p layer [] seen [] = tt
 are_among p layer [] seen (m ∷ ms) = tt
 are_among p layer (id ∷ ids) seen ms =
@@ -272,20 +272,20 @@ are_among p layer (id ∷ ids) seen ms =
   where
     kept : (test : Bool) (b : CodeBlock) (rest : List Bool)
         → ((before : List Bound) (marks : List Bool)
-        → AreAmong (blocks_in (marked_behind before marks (bounds_above p layer ids))) ids)
-        → AreAmong (blocks_in (if test then bound_above layer id b ∷ marked_behind (seen ++ bound_above layer id b ∷ []) rest (bounds_above p layer ids)
-        else marked_behind seen rest (bounds_above p layer ids))) (id ∷ ids)
+        → AreAmong (blocks_in (marked_bounds_behind before marks (bounds_above p layer ids))) ids)
+        → AreAmong (blocks_in (if test then bound_above layer id b ∷ marked_bounds_behind (seen ++ bound_above layer id b ∷ []) rest (bounds_above p layer ids)
+        else marked_bounds_behind seen rest (bounds_above p layer ids))) (id ∷ ids)
     kept true b rest next = inl (refl, next (seen ++ bound_above layer id b ∷ []) rest)
     kept false b rest next =
-        among_more (blocks_in (marked_behind seen rest (bounds_above p layer ids))) ids id (next seen rest)
+        among_more (blocks_in (marked_bounds_behind seen rest (bounds_above p layer ids))) ids id (next seen rest)
 
     by : (found : Option CodeBlock) (rest : List Bool)
         → ((before : List Bound) (marks : List Bool)
-        → AreAmong (blocks_in (marked_behind before marks (bounds_above p layer ids))) ids)
-        → AreAmong (blocks_in (marked_behind seen rest
+        → AreAmong (blocks_in (marked_bounds_behind before marks (bounds_above p layer ids))) ids)
+        → AreAmong (blocks_in (marked_bounds_behind seen rest
         (with_bound (option_map (bound_above layer id) found) (bounds_above p layer ids)))) (id ∷ ids)
     by None rest next =
-        among_more (blocks_in (marked_behind seen rest (bounds_above p layer ids))) ids id (next seen rest)
+        among_more (blocks_in (marked_bounds_behind seen rest (bounds_above p layer ids))) ids id (next seen rest)
     by (Some b) [] next = tt
     by (Some b) (m ∷ rest) next =
         kept (m && is_none (bound_of (bound_above layer id b).block seen)) b rest next
@@ -294,7 +294,7 @@ are_among p layer (id ∷ ids) seen ms =
 
 -- the marked bounds of the highest layer
 abbrev pub certificate : Profile → Program → List Bound
-certificate z p = marked_behind [] (marks_of_round (most_frames z) p (highest z p)) (highest z p)
+certificate z p = marked_bounds_behind [] (marks_of_round (most_frames z) p (highest z p)) (highest z p)
 
 abbrev loaded_highest : (z : Profile) (p : Program) → HasLoadedBlocksOnly p (highest z p)
 loaded_highest z p = are_loaded p (layer_of_height (most_frames z) p) (block_ids p)
@@ -355,7 +355,7 @@ holds_calls z p x called b d (Some e) none there to calls is =
     on : IsOnChain p x
     on = (said_by_layer z p x e is).1
 
-    call : Calls p x called
+    call : CallsBlock p x called
     call = record { from = b; to = d; is_loaded = there; called_is_loaded = to; calls = calls }
 
     counted : (m : Measure)
@@ -431,7 +431,7 @@ all_by P Q [] step all = tt
 all_by P Q (b ∷ list) step all = (step b all.0, all_by P Q list step all.1)
 
 pub least : (z : Profile) (p : Program) → NoneOver z p (highest z p)
-    → IsLeastCertificate z p (marked_behind [] (marks_of_round (most_frames z) p (layer_of_height (suc (most_frames z)) p))
+    → IsLeastCertificate z p (marked_bounds_behind [] (marks_of_round (most_frames z) p (layer_of_height (suc (most_frames z)) p))
     (layer_of_height (suc (most_frames z)) p))
 least z p none = record {
   fits = λ chain is deep. none_deep z p (certificate z p) chain (certificate_holds z p none) is deep;

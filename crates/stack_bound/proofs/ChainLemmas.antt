@@ -8,7 +8,7 @@ use Rattle.plc_base.specs.declared.Profile.{Profile}
 use Rattle.plc_base.specs.declared.blocks.BlockId.{BlockId}
 use Rattle.flat_code.specs.Programs.{CodeBlock, Program}
 use Rattle.image_file.specs.Readers.{block_by_id}
-use Rattle.stack_bound.specs.Calls.{Calls, CallsIn}
+use Rattle.stack_bound.specs.Calls.{CallsBlock, CallsIn}
 use Rattle.stack_bound.specs.Chains.{CallEachOther, IsCallChain, IsTooDeep, bytes_of_chain, local_bytes, most_local_bytes}
 use Rattle.stack_bound.specs.Deepest.{IsMostCalled, IsLoadedObOver, LeadsOver, is_chain_too_deep, measure_of_chain}
 use Rattle.stack_bound.specs.Finding.{IsDeepChain}
@@ -28,13 +28,13 @@ more_of a b is = grind (arith, nat_tests)
 -- ---- one block more
 
 calls_more : (p : Program) (first : BlockId) (rest : List BlockId) (x y : BlockId)
-    → CallEachOther p first (rest ++ x ∷ []) → Calls p x y
+    → CallEachOther p first (rest ++ x ∷ []) → CallsBlock p x y
     → CallEachOther p first ((rest ++ x ∷ []) ++ y ∷ [])
 calls_more p first [] x y each calls = (each.0, (calls, tt))
 calls_more p first (next ∷ rest) x y each calls = (each.0, calls_more p next rest x y each.1 calls)
 
 chain_more : (p : Program) (chain : List BlockId) (x y : BlockId) → IsCallChain p (chain ++ x ∷ [])
-    → Calls p x y → IsCallChain p ((chain ++ x ∷ []) ++ y ∷ [])
+    → CallsBlock p x y → IsCallChain p ((chain ++ x ∷ []) ++ y ∷ [])
 chain_more p [] x y is calls = (is.0, is.1, (calls, tt))
 chain_more p (ob ∷ rest) x y is calls = (is.0, is.1, calls_more p ob rest x y is.2 calls)
 
@@ -183,11 +183,11 @@ said_loaded p m k block some = by (block_by_id block p.code_blocks) refl
     by (Some b) is = refl
 
 calls_of : (p : Program) (block called : BlockId) (b : CodeBlock) → block_by_id block p.code_blocks ≡ Some b
-    → CallsIn b.code called → IsSome (block_by_id called p.code_blocks) → Calls p block called
+    → CallsIn b.code called → IsSome (block_by_id called p.code_blocks) → CallsBlock p block called
 calls_of p block called b is calls loaded = by (block_by_id called p.code_blocks) refl loaded
   where
     by : (found : Option CodeBlock) → block_by_id called p.code_blocks ≡ found → IsSome found
-        → Calls p block called
+        → CallsBlock p block called
     by None there none = absurd cc
     by (Some d) there some =
         record { from = b; to = d; is_loaded = is; called_is_loaded = there; calls = calls }

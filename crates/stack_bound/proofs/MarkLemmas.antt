@@ -2,7 +2,7 @@
 use Rattle.std.proofs.Common.{◌≡◌, ℕ, suc, ◌<◌, Bool, true, false, List, [], ◌∷◌, ◌++◌, length, refl, ap, arith, if◌then◌else◌}
 use Rattle.plc_base.specs.declared.blocks.BlockId.{BlockId}
 use Rattle.image_file.specs.Readers.{is_same_id}
-use Rattle.stack_bound.specs.Marks.{with_block_marked, marked_behind}
+use Rattle.stack_bound.specs.Marks.{with_block_marked, marked_bounds_behind}
 use Rattle.stack_bound.specs.declared.certificates.Bound.{Bound}
 
 -- ---- lengths
@@ -28,7 +28,7 @@ no_more [] = refl
 no_more (b ∷ list) = ap (λ (rest : List Bound). b ∷ rest) (no_more list)
 
 pub none_kept : (seen : List Bound) (marks : List Bool) (left : List Bound) → length left < 1
-    → seen ++ marked_behind seen marks left ≡ seen
+    → seen ++ marked_bounds_behind seen marks left ≡ seen
 none_kept seen [] left none = no_more seen
 none_kept seen (m ∷ marks) [] none = no_more seen
 none_kept seen (m ∷ marks) (b ∷ left) none = absurd (omega (arith, none))

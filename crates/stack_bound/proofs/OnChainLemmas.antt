@@ -11,7 +11,7 @@ use Rattle.plc_base.specs.declared.blocks.BlockKind.TheVariants.{Ob, Fc, Fb, Db,
 use Rattle.flat_code.specs.Ops.{OpData}
 use Rattle.flat_code.specs.Programs.{CodeBlock, Program}
 use Rattle.image_file.specs.Readers.{block_by_id, block_ids, is_same_id}
-use Rattle.stack_bound.specs.Calls.{Calls, CallsIn, callee_of_op}
+use Rattle.stack_bound.specs.Calls.{CallsBlock, CallsIn, callee_of_op}
 use Rattle.stack_bound.specs.Certificates.{bound_of, HasLoadedBlocksOnly}
 use Rattle.stack_bound.specs.Chains.{CallEachOther, IsCallChain, most_local_bytes}
 use Rattle.stack_bound.specs.Deepest.{IsLoadedObOver, first_over, measure_over, ob_over, over_or}
@@ -259,7 +259,7 @@ few_on_chain profile p x on none =
 -- ---- one block more
 
 extend : (p : Program) (x : BlockId) (rest : List BlockId) (y : BlockId) → CallEachOther p x rest
-    → Calls p (last_block_of x rest) y → CallEachOther p x (rest ++ y ∷ [])
+    → CallsBlock p (last_block_of x rest) y → CallEachOther p x (rest ++ y ∷ [])
 extend p x [] y each calls = (calls, tt)
 extend p x (d ∷ more) y each calls = (each.0, extend p d more y each.1 calls)
 
@@ -267,7 +267,7 @@ last_more : (x : BlockId) (rest : List BlockId) (y : BlockId) → last_block_of 
 last_more x [] y = refl
 last_more x (d ∷ more) y = last_more d more y
 
-pub on_chain_more : (p : Program) (x y : BlockId) → IsOnChain p x → Calls p x y → IsOnChain p y
+pub on_chain_more : (p : Program) (x y : BlockId) → IsOnChain p x → CallsBlock p x y → IsOnChain p y
 on_chain_more p x y on calls = record {
   ob = on.ob;
   rest = on.rest ++ y ∷ [];
@@ -275,7 +275,7 @@ on_chain_more p x y on calls = record {
     on.is_chain.0,
     on.is_chain.1,
     extend p on.ob on.rest y on.is_chain.2
-        (subst (λ (z : BlockId). Calls p z y) (sym on.ends) calls),
+        (subst (λ (z : BlockId). CallsBlock p z y) (sym on.ends) calls),
   );
   ends = last_more on.ob on.rest y;
 }
@@ -434,7 +434,7 @@ front_calls p x d [] each = tt
 front_calls p x d (e ∷ more) each = (each.0, front_calls p d e more each.1)
 
 last_calls : (p : Program) (x d : BlockId) (more : List BlockId) → CallEachOther p x (d ∷ more)
-    → Calls p (last_block_of x (front_of d more)) (last_block_of d more)
+    → CallsBlock p (last_block_of x (front_of d more)) (last_block_of d more)
 last_calls p x d [] each = each.0
 last_calls p x d (e ∷ more) each = last_calls p d e more each.1
 
@@ -461,7 +461,7 @@ rounds_mark p j (suc k) ob (d ∷ more) is few =
     (fewer (length (front_of d more)) (length more) k (front_len d more) few))
     (layer_has p (layer_of_height j p) (last_block_of ob (front_of d more)) call.from call.is_loaded) call.is_loaded call.calls
   where
-    call : Calls p (last_block_of ob (front_of d more)) (last_block_of d more)
+    call : CallsBlock p (last_block_of ob (front_of d more)) (last_block_of d more)
     call = last_calls p ob d more is.2
 
 -- so is each block on a chain

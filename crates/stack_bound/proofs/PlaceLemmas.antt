@@ -13,7 +13,7 @@ use Rattle.stack_bound.specs.Certificates.{bound_of}
 use Rattle.stack_bound.specs.Layers.{AreBoundsAtMost, bound_above, bound_above_in, bounds_above, layer_of_height, most_called, measure_of_bound, measure_if_bound, measure_in_layer, with_bound}
 use Rattle.stack_bound.specs.Marks.{with_block_marked, with_callees_marked, mark_called, mark_called_by, mark_callee, mark_ops, marks_of_round, ob_marks}
 use Rattle.stack_bound.specs.Order.{IsHalved, bound_at, are_blocks_rising}
-use Rattle.stack_bound.specs.Places.{CallerData, bound_alone, bound_by, bounds_alone, caller_in, caller_of, callers_of, layers_by, mark_callers, mark_if, mark_places, marks_by, most_at, measure_at_place, place_in, place_of_bound, places_called, with_caller, with_place}
+use Rattle.stack_bound.specs.Places.{CallerData, bound_alone, bound_by, bounds_alone, caller_in, caller_of, callers_of, layers_by, mark_callers, mark_if, mark_places, marks_by, most_at, measure_at_place, place_of_callee, place_of_bound, places_called, with_caller, with_place}
 use Rattle.stack_bound.specs.Walking.{ops_after_offset}
 use Rattle.stack_bound.specs.declared.certificates.Bound.{Bound}
 use Rattle.stack_bound.specs.declared.measures.Measure.{Measure}
@@ -133,7 +133,7 @@ place_same x (a ∷ xs) (b ∷ ys) same =
     ap (λ (o : Option ℕ). if is_same_id a.block x then Some 0 else option_map suc o) (place_same x xs ys same.1)
     ∙ ap (λ (y : BlockId). if is_same_id y x then Some 0 else option_map suc (place_of_bound x ys)) same.0
 
-called_same : (callee : Option BlockId) (xs ys : List Bound) → SameBlocks xs ys → place_in xs callee ≡ place_in ys callee
+called_same : (callee : Option BlockId) (xs ys : List Bound) → SameBlocks xs ys → place_of_callee xs callee ≡ place_of_callee ys callee
 called_same None xs ys same = refl
 called_same (Some x) xs ys same = place_same x xs ys same
 
@@ -142,7 +142,7 @@ places_same : (ops : List OpData) (xs ys : List Bound) → SameBlocks xs ys
 places_same [] xs ys same = refl
 places_same (op ∷ ops) xs ys same =
     ap (λ (o : Option ℕ). with_place o (places_called xs ops)) (called_same (callee_of_op op) xs ys same)
-    ∙ ap (λ (rest : List ℕ). with_place (place_in ys (callee_of_op op)) rest) (places_same ops xs ys same)
+    ∙ ap (λ (rest : List ℕ). with_place (place_of_callee ys (callee_of_op op)) rest) (places_same ops xs ys same)
 
 caller_same : (id : BlockId) (found : Option CodeBlock) (xs ys : List Bound) → SameBlocks xs ys
     → option_map (caller_of xs id) found ≡ option_map (caller_of ys id) found
@@ -196,7 +196,7 @@ number_there m x (b ∷ layer) = by (is_same_id b.block x) (number_there m x lay
     by false rest = rest ∙ placed_later m b layer (place_of_bound x layer)
 
 callee_there : (m : Measure) (callee : Option BlockId) (layer : List Bound)
-    → measure_in_layer m layer callee ≡ number_placed m layer (place_in layer callee)
+    → measure_in_layer m layer callee ≡ number_placed m layer (place_of_callee layer callee)
 callee_there m None layer = refl
 callee_there m (Some x) layer = number_there m x layer
 
@@ -213,8 +213,8 @@ most_there : (m : Measure) (layer : List Bound) (ops : List OpData)
 most_there m layer [] = refl
 most_there m layer (op ∷ ops) =
     ap (λ (n : ℕ). max n (most_called m layer ops)) (callee_there m (callee_of_op op) layer)
-    ∙ ap (λ (n : ℕ). max (number_placed m layer (place_in layer (callee_of_op op))) n) (most_there m layer ops)
-    ∙ most_placed m layer (place_in layer (callee_of_op op)) (places_called layer ops)
+    ∙ ap (λ (n : ℕ). max (number_placed m layer (place_of_callee layer (callee_of_op op))) n) (most_there m layer ops)
+    ∙ most_placed m layer (place_of_callee layer (callee_of_op op)) (places_called layer ops)
 
 -- ---- layers
 
@@ -348,7 +348,7 @@ mark_there (m ∷ marks) (b ∷ list) x = by (is_same_id b.block x) (mark_there 
     by false later = ap (λ (rest : List Bool). m ∷ rest) later ∙ mark_later m marks (place_of_bound x list)
 
 mark_called_there : (marks : List Bool) (list : List Bound) (callee : Option BlockId)
-    → mark_callee marks list callee ≡ mark_placed marks (place_in list callee)
+    → mark_callee marks list callee ≡ mark_placed marks (place_of_callee list callee)
 mark_called_there marks list None = refl
 mark_called_there marks list (Some x) = mark_there marks list x
 
@@ -363,7 +363,7 @@ ops_there marks list [] = refl
 ops_there marks list (op ∷ ops) =
     ops_there (mark_callee marks list (callee_of_op op)) list ops
     ∙ ap (λ (ms : List Bool). mark_places ms (places_called list ops)) (mark_called_there marks list (callee_of_op op))
-    ∙ places_then marks (place_in list (callee_of_op op)) (places_called list ops)
+    ∙ places_then marks (place_of_callee list (callee_of_op op)) (places_called list ops)
 
 mark_is : (p : Program) (list : List Bound) (marks : List Bool) (m : Bool) (id : BlockId) (b : CodeBlock) (d : Bound)
     → d.block ≡ id → block_by_id id p.code_blocks ≡ Some b
@@ -433,14 +433,14 @@ one_more_place xs (Some place) rest = sym (append_assoc xs (place ∷ []) rest)
 
 -- one more op
 pub place_added : (list : List Bound) (code : List OpData) (at : ℕ) (op : OpData) (next : ℕ) (called added : List ℕ)
-    (place : Option ℕ) → op_placed 0 code at ≡ Some (op, next) → place ≡ place_in list (callee_of_op op)
+    (place : Option ℕ) → op_placed 0 code at ≡ Some (op, next) → place ≡ place_of_callee list (callee_of_op op)
     → added ≡ called ++ with_place place []
     → places_called list code ≡ called ++ places_called list (ops_after_offset 0 code at)
     → places_called list code ≡ added ++ places_called list (ops_after_offset 0 code next)
 place_added list code at op next called added place there is adds so_far =
     so_far
     ∙ ap (λ (ops : List OpData). called ++ places_called list ops) (walk_goes_on 0 code at op next there)
-    ∙ one_more_place called (place_in list (callee_of_op op)) (places_called list (ops_after_offset 0 code next))
+    ∙ one_more_place called (place_of_callee list (callee_of_op op)) (places_called list (ops_after_offset 0 code next))
     ∙ ap (λ (o : Option ℕ). (called ++ with_place o []) ++ places_called list (ops_after_offset 0 code next)) (sym is)
     ∙ ap (λ (xs : List ℕ). xs ++ places_called list (ops_after_offset 0 code next)) (sym adds)
 

@@ -34,7 +34,7 @@ CallsIn (op ∷ ops) called = (callee_of_op op ≡ Some called) ⊎ CallsIn ops 
 
 -- a loaded block calls a loaded block, which may be itself, where its code has CALL, UC or CC of it. A
 -- system function is none: no program has code of it
-pub record Calls (p : Program) (caller called : BlockId) : Type 0 where
+pub record CallsBlock (p : Program) (caller called : BlockId) : Type 0 where
   -- the caller, with its code
   pub from : CodeBlock
   -- the called block, with its code

@@ -20,7 +20,8 @@ use Rattle.stack_bound.specs.declared.texts.CertificateFault.TheVariants.{BadLin
 -- the line of a bound
 unfoldable pub bound_text : Bound → List ℕ
 bound_text b =
-    kind_text b.block.kind ++ (codes " " ++ (decimal b.block.number ++ (codes " DEPTH " ++ (decimal b.depth
+    kind_text b.block.kind ++ (codes " " ++ (decimal b.block.number
+    ++ (codes " DEPTH " ++ (decimal b.depth
     ++ (codes " BYTES " ++ (decimal b.bytes ++ codes "\n"))))))
 
 -- the lines of the bounds of a list, one behind the other
@@ -29,7 +30,7 @@ certificate_text list = flat_map bound_text list
 
 -- ---- read
 
--- a bound of its kind, number, depth and bytes
+-- the bound of these parts: kind and number of the block, depth, bytes
 abbrev pub bound_of_parts : (BlockKind × ℕ) × (ℕ × ℕ) → Bound
 bound_of_parts p = record {
   block = record { kind = p.0.0; number = p.0.1 };
@@ -93,7 +94,8 @@ abbrev pub bound_of_line_first :
 bound_of_line_first line (Err rule) more = Err (record { line = line; rule = rule })
 bound_of_line_first line (Ok b) more = bounds_in_front (b ∷ []) (more b)
 
--- lines from one with this number on, behind one of a block
+-- the bounds of lines, the first of which has this number and stands behind the line of a block
+-- (None: none), or the first refusal
 unfoldable pub bounds_of_lines :
     Program → (line : ℕ) → Option BlockId → List (List ℕ) → Result (List Bound) Refusal
 bounds_of_lines p line before [] = Ok []
@@ -103,7 +105,7 @@ bounds_of_lines p line before (text ∷ more) =
     bound_of_line_first line (bound_line p before text)
     (λ b. bounds_of_lines p (line + 1) (Some b.block) more)
 
--- a whole text, whose lines are counted from 1
+-- the bounds that a text spells, its lines counted from 1, or the refusal of its first bad line
 unfoldable pub certificate_of : Program → List ℕ → Result (List Bound) Refusal
 certificate_of p text = bounds_of_lines p 1 None (lines text)
 

@@ -6,7 +6,7 @@ use Rattle.plc_base.specs.declared.blocks.BlockId.{BlockId}
 use Rattle.plc_base.specs.declared.blocks.BlockKind.TheVariants.{Ob}
 use Rattle.flat_code.specs.Programs.{CodeBlock, Program}
 use Rattle.image_file.specs.Readers.{block_by_id}
-use Rattle.stack_bound.specs.Calls.{Calls}
+use Rattle.stack_bound.specs.Calls.{CallsBlock}
 
 -- the local bytes that an activation has at most
 abbrev pub most_local_bytes : ℕ
@@ -15,7 +15,7 @@ most_local_bytes = 1024
 -- each block calls the one behind it
 abbrev pub CallEachOther : Program → BlockId → List BlockId → Type 0
 CallEachOther p caller [] = Unit {0}
-CallEachOther p caller (called ∷ rest) = Calls p caller called × CallEachOther p called rest
+CallEachOther p caller (called ∷ rest) = CallsBlock p caller called × CallEachOther p called rest
 
 -- a chain begins with a loaded organization block, and each block calls the next
 abbrev pub IsCallChain : Program → List BlockId → Type 0

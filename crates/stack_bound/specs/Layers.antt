@@ -74,7 +74,7 @@ bounds_above p layer (id ∷ ids) =
 abbrev pub layer_above : Program → List Bound → List Bound
 layer_above p layer = bounds_above p layer (block_ids p)
 
--- the layers, the lowest of which is empty
+-- the layer of a height: the one of height 0 is empty, each other is above the next lower one
 abbrev pub layer_of_height : ℕ → Program → List Bound
 layer_of_height zero p = []
 layer_of_height (suc k) p = layer_above p (layer_of_height k p)

@@ -55,10 +55,10 @@ marks_of_round (suc k) p list =
     with_callees_marked p list (ob_marks list) (marks_of_round k p list) list
 
 -- the bounds that are marked, each block once: behind those that were seen
-abbrev pub marked_behind : (seen : List Bound) → List Bool → List Bound → List Bound
-marked_behind seen [] list = []
-marked_behind seen (m ∷ marks) [] = []
-marked_behind seen (m ∷ marks) (b ∷ list) =
+abbrev pub marked_bounds_behind : (seen : List Bound) → List Bool → List Bound → List Bound
+marked_bounds_behind seen [] list = []
+marked_bounds_behind seen (m ∷ marks) [] = []
+marked_bounds_behind seen (m ∷ marks) (b ∷ list) =
     if m && is_none (bound_of b.block seen)
-    then b ∷ marked_behind (seen ++ b ∷ []) marks list
-    else marked_behind seen marks list
+    then b ∷ marked_bounds_behind (seen ++ b ∷ []) marks list
+    else marked_bounds_behind seen marks list

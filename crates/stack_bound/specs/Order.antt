@@ -23,7 +23,7 @@ abbrev pub are_blocks_rising : List Bound → Bool
 are_blocks_rising [] = true
 are_blocks_rising (b ∷ rest) = stands_before_bounds b rest && are_blocks_rising rest
 
--- the bound of a block, if it is the one of a bound that may be there
+-- a bound that may be there (None: none), if it is one of the block
 abbrev pub bound_if_of : BlockId → Option Bound → Option Bound
 bound_if_of block None = None
 bound_if_of block (Some b) = if is_same_id b.block block then Some b else None

@@ -22,9 +22,9 @@ place_of_bound block (b ∷ rest) =
     if is_same_id b.block block then Some 0 else option_map suc (place_of_bound block rest)
 
 -- the place where a block that an op may call stands first among bounds
-abbrev pub place_in : List Bound → Option BlockId → Option ℕ
-place_in list None = None
-place_in list (Some block) = place_of_bound block list
+abbrev pub place_of_callee : List Bound → Option BlockId → Option ℕ
+place_of_callee list None = None
+place_of_callee list (Some block) = place_of_bound block list
 
 -- a place that may be there, in front of others
 abbrev pub with_place : Option ℕ → List ℕ → List ℕ
@@ -35,7 +35,7 @@ with_place (Some place) rest = place ∷ rest
 abbrev pub places_called : List Bound → List OpData → List ℕ
 places_called list [] = []
 places_called list (op ∷ ops) =
-    with_place (place_in list (callee_of_op op)) (places_called list ops)
+    with_place (place_of_callee list (callee_of_op op)) (places_called list ops)
 
 -- a block, with its local bytes and the places of the blocks that it calls
 pub record CallerData : Type 0 where

@@ -3,9 +3,9 @@ ghost use Rattle.std.specs.Prelude.{◌≡◌, ◌++◌, [], ◌∷◌, IfOk, On
 ghost use Rattle.std.specs.Option.{option_map};
 ghost use Rattle.image_file.specs.Readers.{block_ids};
 ghost use Rattle.stack_bound.specs.Calls.{callee_of_op};
-ghost use Rattle.stack_bound.specs.Places.{caller_in, callers_of, place_in, places_called, with_place};
+ghost use Rattle.stack_bound.specs.Places.{caller_in, callers_of, place_of_callee, places_called, with_place};
 
-use crate::calls::callee_of;
+use crate::calls::callee_of_op;
 use crate::certificates::Bounds;
 use flat_code::Op;
 use image_file::{Loaded, LoadedCode};
@@ -46,9 +46,9 @@ impl Caller {
 
 /// The place of the block that an op calls.
 fn place_called(blocks: &Bounds<'_>, op: &Op) -> Option<usize>
-    ensures { result ≡ place_in blocks.now (callee_of_op op.now) }
+    ensures { result ≡ place_of_callee blocks.now (callee_of_op op.now) }
 {
-    blocks.place_of(callee_of(op)?)
+    blocks.place_of(callee_of_op(op)?)
 }
 
 /// Adds a place, if there is one.

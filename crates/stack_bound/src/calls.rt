@@ -6,7 +6,7 @@ use flat_code::{Op, Operand, Operation, kind_of_code};
 use plc_base::BlockId;
 
 /// The block that an op calls.
-pub(crate) fn callee_of(op: &Op) -> Option<BlockId>
+pub(crate) fn callee_of_op(op: &Op) -> Option<BlockId>
     ensures { result ≡ callee_of_op op.now }
 {
     let Operation::Call(_) = op.operation() else {

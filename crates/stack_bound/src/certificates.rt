@@ -83,7 +83,7 @@ fn bound_at(list: &[Bound], place: usize, block: BlockId) -> Option<Bound>
 }
 
 /// The place of a block in a list whose blocks rise, by halving it.
-fn place_in(list: &[Bound], block: BlockId) -> usize
+fn halving_place(list: &[Bound], block: BlockId) -> usize
     requires { are_blocks_rising list.now ≡ true }
     ensures { IsHalved list.now block result }
 {
@@ -96,7 +96,7 @@ fn bound_by_halving(list: &[Bound], block: BlockId) -> Option<Bound>
     requires { are_blocks_rising list.now ≡ true }
     ensures { result ≡ bound_of block list.now }
 {
-    bound_at(list, place_in(list, block), block)
+    bound_at(list, halving_place(list, block), block)
 }
 
 /// The place of a block in a list whose blocks rise, by halving it.
@@ -105,7 +105,7 @@ fn place_by_halving(list: &[Bound], block: BlockId) -> Option<usize>
     requires { are_blocks_rising list.now ≡ true }
     ensures { result ≡ place_of_bound block list.now }
 {
-    let place = place_in(list, block);
+    let place = halving_place(list, block);
     if bound_at(list, place, block).is_some() {
         Some(place)
     } else {
@@ -155,7 +155,7 @@ impl<'a> Bounds<'a> {
         }
     }
 
-    /// What they say first of a block.
+    /// What the bounds say first of a block.
     pub(crate) fn of(&self, block: BlockId) -> Option<Bound>
         ensures { result ≡ bound_of block self.now }
     {
@@ -166,7 +166,7 @@ impl<'a> Bounds<'a> {
         }
     }
 
-    /// The place where a block stands first among them.
+    /// The place where a block stands first among the bounds.
     #[tactic(auto, using(crate::proofs::PlaceLemmas::walk_finds_place))]
     pub(crate) fn place_of(&self, block: BlockId) -> Option<usize>
         ensures { result ≡ place_of_bound block self.now }
@@ -178,7 +178,7 @@ impl<'a> Bounds<'a> {
         }
     }
 
-    /// Whether no block stands among them twice.
+    /// Whether no block stands among the bounds twice.
     #[tactic(auto, using(crate::proofs::OrderLemmas::risen_once))]
     pub(crate) fn are_once(&self) -> bool
         ensures { result ≡ has_each_block_once self.now }

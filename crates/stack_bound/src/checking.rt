@@ -6,7 +6,7 @@ ghost use Rattle.stack_bound.specs.Checking.{counts_called, counts_callee, count
 ghost use Rattle.stack_bound.specs.Overflow.{NeverOverflows};
 ghost use Rattle.plc_base.specs.Kinds.{is_organization_block};
 
-use crate::calls::callee_of;
+use crate::calls::callee_of_op;
 use crate::certificates::{Bound, Bounds};
 use crate::measures::MOST_LOCAL_BYTES;
 use image_file::{Loaded, LoadedCode};
@@ -48,7 +48,7 @@ fn counts_ops(l: &Loaded, c: &Bounds<'_>, b: &Bound, code: &LoadedCode<'_>) -> b
     let local_len = code.local_len();
     let mut at = 0;
     while let Some((op, next)) = code.op(at) {
-        if !counts_callee(l, c, local_len, b, callee_of(&op)) {
+        if !counts_callee(l, c, local_len, b, callee_of_op(&op)) {
             return false;
         }
         at = next;
@@ -57,7 +57,7 @@ fn counts_ops(l: &Loaded, c: &Bounds<'_>, b: &Bound, code: &LoadedCode<'_>) -> b
 }
 
 /// Whether a bound is of a loaded block, and counts the block itself and what it calls.
-fn counts_block(l: &Loaded, c: &Bounds<'_>, b: &Bound) -> bool
+fn counts_its_block(l: &Loaded, c: &Bounds<'_>, b: &Bound) -> bool
     ensures { result ≡ counts_its_block l.now.program c.now b.now }
 {
     match l.block(b.block) {
@@ -73,7 +73,7 @@ fn each_counts(l: &Loaded, c: &Bounds<'_>, list: &[Bound]) -> bool
 {
     let mut left = list;
     while let [b, rest @ ..] = left {
-        if !counts_block(l, c, b) {
+        if !counts_its_block(l, c, b) {
             return false;
         }
         left = rest;
@@ -82,7 +82,7 @@ fn each_counts(l: &Loaded, c: &Bounds<'_>, list: &[Bound]) -> bool
 }
 
 /// Whether a bound is there, and within the limits of an activation.
-fn is_within(profile: Profile, b: Option<Bound>) -> bool
+fn is_bound_within_limits(profile: Profile, b: Option<Bound>) -> bool
     ensures { result ≡ is_bound_within_limits profile b }
 {
     match b {
@@ -91,7 +91,7 @@ fn is_within(profile: Profile, b: Option<Bound>) -> bool
     }
 }
 
-fn is_organization_block(block: BlockId) -> bool
+fn is_ob_id(block: BlockId) -> bool
     ensures { result ≡ is_organization_block block.kind }
 {
     matches!(block.kind, BlockKind::Ob)
@@ -102,7 +102,7 @@ fn obs_within(l: &Loaded, c: &Bounds<'_>) -> bool
 {
     let mut left = l.blocks();
     while let [block, rest @ ..] = left {
-        if is_organization_block(*block) && !is_within(l.profile(), c.of(*block)) {
+        if is_ob_id(*block) && !is_bound_within_limits(l.profile(), c.of(*block)) {
             return false;
         }
         left = rest;

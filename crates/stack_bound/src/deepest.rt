@@ -7,9 +7,9 @@ ghost use Rattle.stack_bound.specs.Deepest.{IsMostCalled, IsLoadedObOver, better
 ghost use Rattle.stack_bound.specs.Finding.{IsDeepChain};
 ghost use Rattle.stack_bound.specs.Layers.{layer_of_height, limit_of_measure, measure_in_layer};
 
-use crate::calls::callee_of;
+use crate::calls::callee_of_op;
 use crate::certificates::{Bound, Bounds};
-use crate::layers::number_in;
+use crate::layers::measure_in_layer;
 use crate::measures::{MOST_LOCAL_BYTES, Measure};
 use flat_code::Op;
 use image_file::{Loaded, LoadedCode};
@@ -34,8 +34,8 @@ pub(crate) struct Over {
 fn better(measure: Measure, layer: &Bounds<'_>, best: &Best, op: &Op) -> Best
     ensures { result ≡ better_callee measure layer.now best.now op.now }
 {
-    let block = callee_of(op);
-    let most = number_in(measure, layer, block);
+    let block = callee_of_op(op);
+    let most = measure_in_layer(measure, layer, block);
     if best.most < most {
         Best { block, most }
     } else {
@@ -45,7 +45,7 @@ fn better(measure: Measure, layer: &Bounds<'_>, best: &Best, op: &Op) -> Best
 
 /// A called block of which a layer says most; `None` where it says nothing of any.
 #[tactic(auto, using(crate::proofs::WalkLemmas::walk_goes_on, crate::proofs::WalkLemmas::walk_ends, crate::proofs::WalkLemmas::all_behind, crate::proofs::DeepestLemmas::best_called))]
-fn most_called(measure: Measure, layer: &Bounds<'_>, code: &LoadedCode<'_>) -> Option<BlockId>
+fn block_most_called(measure: Measure, layer: &Bounds<'_>, code: &LoadedCode<'_>) -> Option<BlockId>
     ensures { IsMostCalled measure layer.now code.now.code result }
 {
     let mut best = Best {
@@ -103,7 +103,7 @@ pub(crate) fn first_over(l: &Loaded, layer: &Bounds<'_>) -> Option<Over>
 }
 
 /// Whether a chain of so many blocks and local bytes is too deep.
-fn is_too_deep(profile: Profile, blocks: usize, bytes: u32) -> bool
+fn is_chain_too_deep(profile: Profile, blocks: usize, bytes: u32) -> bool
     ensures { result ≡ is_chain_too_deep profile blocks bytes }
 {
     blocks > profile.most_frames() || bytes > MOST_LOCAL_BYTES
@@ -128,10 +128,10 @@ pub(crate) fn chain_from(
     while let Some(code) = l.block(block) {
         chain.push(block)?;
         bytes += u32::from(code.local_len());
-        if is_too_deep(profile, chain.len(), bytes) {
+        if is_chain_too_deep(profile, chain.len(), bytes) {
             return Ok(chain);
         }
-        let Some(called) = most_called(over.measure, layer, &code) else {
+        let Some(called) = block_most_called(over.measure, layer, &code) else {
             unreachable!()
         };
         block = called;

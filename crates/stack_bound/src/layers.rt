@@ -13,7 +13,7 @@ use plc_base::{BlockId, NoMemory};
 use std::alloc::Global;
 
 /// What a layer says of a block that may be called.
-pub(crate) fn number_in(measure: Measure, layer: &Bounds<'_>, callee: Option<BlockId>) -> u32
+pub(crate) fn measure_in_layer(measure: Measure, layer: &Bounds<'_>, callee: Option<BlockId>) -> u32
     ensures { result ≡ measure_in_layer measure layer.now callee }
 {
     let Some(block) = callee else {
@@ -26,7 +26,7 @@ pub(crate) fn number_in(measure: Measure, layer: &Bounds<'_>, callee: Option<Blo
 }
 
 /// The bound of a block that calls none.
-fn bound_alone(l: &Loaded, block: BlockId) -> Option<Bound>
+fn bound_alone_in(l: &Loaded, block: BlockId) -> Option<Bound>
     ensures bound { result ≡ bound_alone_in l.now.program block }
     ensures low { IfSome result (IsBoundAtMost 65536) }
 {
@@ -47,7 +47,7 @@ pub(crate) fn first_layer(alloc: Global, l: &Loaded) -> Result<Vec<Bound>, NoMem
     let mut layer = Vec::new(alloc);
     let mut left = l.blocks();
     while let [block, rest @ ..] = left {
-        if let Some(b) = bound_alone(l, *block) {
+        if let Some(b) = bound_alone_in(l, *block) {
             layer.push(b)?;
         }
         left = rest;
@@ -91,7 +91,7 @@ fn most_at(layer: &[Bound], places: &[usize]) -> Most
 }
 
 /// The bound of a caller above a layer, none of whose numbers is above another one.
-fn bound_above(layer: &[Bound], caller: &Caller, highest: u32) -> Bound
+fn bound_by(layer: &[Bound], caller: &Caller, highest: u32) -> Bound
     requires low { AreBoundsAtMost highest layer.now }
     requires room { highest + 65536 ≤ 0xFFFFFFFF }
     ensures bound { result ≡ bound_by layer.now caller.now }
@@ -120,7 +120,7 @@ fn layer_above(
     let mut layer = Vec::with_capacity(alloc, callers.len())?;
     let mut left = callers;
     while let [caller, rest @ ..] = left {
-        layer.push(bound_above(below, caller, highest))?;
+        layer.push(bound_by(below, caller, highest))?;
         left = rest;
     }
     Ok(layer)

@@ -1,6 +1,6 @@
 //! The blocks that stand on chains.
 ghost use Rattle.std.specs.Prelude.{◌≡◌, [], length, slice_set, true, IfOk};
-ghost use Rattle.stack_bound.specs.Marks.{marked_behind, ob_marks};
+ghost use Rattle.stack_bound.specs.Marks.{marked_bounds_behind, ob_marks};
 ghost use Rattle.stack_bound.specs.Places.{mark_callers, mark_if, mark_places, marks_by};
 
 use crate::callers::Caller;
@@ -100,7 +100,7 @@ pub(crate) fn marked_bounds(
     list: &[Bound],
     marks: &[bool],
 ) -> Result<Vec<Bound>, NoMemory>
-    ensures { IfOk result (λ v. v.items ≡ marked_behind [] marks.now list.now) }
+    ensures { IfOk result (λ v. v.items ≡ marked_bounds_behind [] marks.now list.now) }
 {
     let mut kept = Vec::new(alloc);
     let mut left = list;

@@ -16,7 +16,7 @@ pub(crate) enum Measure {
 }
 
 impl Measure {
-    /// What an activation has at most.
+    /// What an activation has at most in the measure.
     pub(crate) fn limit(self, profile: Profile) -> u32
         ensures { result ≡ limit_of_measure profile self }
     {
@@ -26,7 +26,7 @@ impl Measure {
         }
     }
 
-    /// What a bound says.
+    /// What a bound says in the measure.
     pub(crate) fn number(self, b: &Bound) -> u32
         ensures { result ≡ measure_of_bound self b.now }
     {

@@ -65,7 +65,7 @@ pub fn write_certificate(list: &[Bound], out: &mut Vec<u8>) -> Result<(), NoMemo
 }
 
 /// What the four words say that aren't fixed.
-fn parts_read(kind: &[u8], number: &[u8], depth: &[u8], bytes: &[u8]) -> Result<Bound, u16>
+fn bound_read(kind: &[u8], number: &[u8], depth: &[u8], bytes: &[u8]) -> Result<Bound, u16>
     ensures { result ≡ bound_read kind.now number.now depth.now bytes.now }
 {
     let ((kind, number), (depth, bytes)) = both(
@@ -105,7 +105,7 @@ fn bound_words(line: &[u8]) -> Result<Bound, u16>
     if first_word(rest).is_some() || first != b"DEPTH".as_slice() || second != b"BYTES".as_slice() {
         return Err(NOT_IN_GRAMMAR);
     }
-    parts_read(kind, number, depth, bytes)
+    bound_read(kind, number, depth, bytes)
 }
 
 fn comes_behind(before: Option<BlockId>, block: BlockId) -> bool

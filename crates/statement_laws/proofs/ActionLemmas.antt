@@ -582,17 +582,17 @@ names_data_block (named.DataBlock di n) = true
 names_data_block _ = false
 
 opened_same : (di : Bool) (n : ℕ) (p : ExecState)
-    → effect.on_local p (data_blocks.opened_if (data_blocks.is_block_loaded n p.memory) (if di then 2 else 1) n p.local)
+    → effect.on_local p (data_blocks.block_opened_if (data_blocks.is_block_loaded n p.memory) (if di then 2 else 1) n p.local)
     ≡ own.opens_block_number di n p
 opened_same true n p = by (data_blocks.is_block_loaded n p.memory)
   where
-    by : (b : Bool) → effect.on_local p (data_blocks.opened_if b 2 n p.local)
+    by : (b : Bool) → effect.on_local p (data_blocks.block_opened_if b 2 n p.local)
         ≡ (if b then Ok (own.with_open true n p) else Err errors.no_data_block)
     by true = refl
     by false = refl
 opened_same false n p = by (data_blocks.is_block_loaded n p.memory)
   where
-    by : (b : Bool) → effect.on_local p (data_blocks.opened_if b 1 n p.local)
+    by : (b : Bool) → effect.on_local p (data_blocks.block_opened_if b 1 n p.local)
         ≡ (if b then Ok (own.with_open false n p) else Err errors.no_data_block)
     by true = refl
     by false = refl
@@ -608,10 +608,10 @@ unfolding effect.operation_effect data_blocks.block_opened_by reading.number_of_
 open_same (named.DataBlock di (named.Written n)) p e = opened_same di n p
 open_same (named.DataBlock di (named.InWord from byte)) p e =
     own_then p (places.pointer_number from byte widths.Word p.local p.memory)
-    (λ n. data_blocks.opened_if (data_blocks.is_block_loaded n p.memory) (if di then 2 else 1) n p.local)
+    (λ n. data_blocks.block_opened_if (data_blocks.is_block_loaded n p.memory) (if di then 2 else 1) n p.local)
     ∙ then_same (places.pointer_number from byte widths.Word p.local p.memory)
     (reading.stored_number from byte widths.Word p)
-    (λ n. effect.on_local p (data_blocks.opened_if (data_blocks.is_block_loaded n p.memory) (if di then 2 else 1) n p.local))
+    (λ n. effect.on_local p (data_blocks.block_opened_if (data_blocks.is_block_loaded n p.memory) (if di then 2 else 1) n p.local))
     (λ n. own.opens_block_number di n p)
     (standing_same from byte widths.Word p) (λ n. opened_same di n p)
 open_same _ p e = absurd (false≢true e)

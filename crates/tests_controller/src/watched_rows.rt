@@ -57,7 +57,7 @@ fn cpu_after_start(alloc: Global, program: &str) -> Result<Cpu, Fail> {
 /// Looks at a state, where such a mode is seen and no output.
 fn sees(rt: &impl Abort, observer: &mut Observer, state: &Cpu, mode: Option<Mode>) {
     observer.look(state, None);
-    let seen = observer.seen();
+    let seen = observer.last_shown();
     same(rt, "the mode", seen.mode, mode);
     same(rt, "no output", seen.outputs.as_slice().is_empty(), true);
 }
@@ -65,13 +65,13 @@ fn sees(rt: &impl Abort, observer: &mut Observer, state: &Cpu, mode: Option<Mode
 /// What one observer sees of a state in RUN and of one in STARTUP.
 fn modes_are_seen(rt: &impl Abort, run: &Cpu, startup: &Cpu) {
     let mut observer = Observer::new(run);
-    same(rt, "at first", observer.seen().mode, None);
+    same(rt, "at first", observer.last_shown().mode, None);
     sees(rt, &mut observer, run, None);
     sees(rt, &mut observer, startup, Some(Mode::Startup));
     sees(rt, &mut observer, startup, None);
     sees(rt, &mut observer, run, Some(Mode::Run));
     observer.pass();
-    same(rt, "without a look", observer.seen().mode, None);
+    same(rt, "without a look", observer.last_shown().mode, None);
 }
 
 /// The other state is a start with OB 100.

@@ -7,7 +7,7 @@ use Rattle.std.specs.List.{AllByRecursion}
 use Rattle.plc_base.specs.declared.blocks.BlockKind.{BlockKind}
 use Rattle.plc_base.specs.declared.blocks.BlockKind.TheVariants as kinds
 use Rattle.plc_base.specs.Kinds.{is_callable, kind_number}
-use Rattle.flat_code.specs.Codes.{size_of_op}
+use Rattle.flat_code.specs.Codes.{size_of_op, most_ops}
 use Rattle.flat_code.specs.Forms.{kind_of_code}
 use Rattle.flat_code.specs.Instr.{Instr, Passing, Does, Jumps, JumpsByList, Calls, Returns}
 use Rattle.flat_code.specs.Laws.{OperationsHaveTheirCodes, JumpsHaveTheirKinds}
@@ -20,7 +20,7 @@ use Rattle.flat_code.specs.declared.operands.Operand.{Operand}
 use Rattle.flat_code.specs.declared.operands.Operand.TheVariants as operand
 use Rattle.flat_code.specs.declared.operations.Operation.{Operation}
 use Rattle.flat_code.specs.declared.operations.Operation.TheVariants as operation
-use Rattle.machine.specs.Flat.{OpRun, op_run_at, with_op, most_ops_of_statement, use_db_of, passings_of, list_of, most_listed, instance_named, instr_of, fetched_of, statement_fetched}
+use Rattle.machine.specs.Flat.{OpRun, op_run_at, with_op, use_db_of, passings_of, list_of, most_listed, instance_named, instr_of, fetched_of, statement_fetched}
 use Rattle.stl_codegen.specs.EmittedOps.{ops_of, op_with_end_mark, use_db_ops, pass_ops, jump_op, call_op, end_op, instance_number_or_zero}
 use Rattle.flat_code.specs.declared.operations.EndOperation.TheVariants as ends
 use Rattle.stl_codegen.specs.CompiledBlock.{SourceInstruction, ops_in, offset_from, offset_of_statement, operand_with_target, op_with_target, placed_ops, code_in, lines_in}
@@ -193,12 +193,12 @@ run_of (suc most) xs (x ∷ front) op ys fs last few =
 
 pub run_is :
     (ps : List InstrParts) (p : InstrParts) (qs : List InstrParts) → IsPartedStatement p → length p.front ≤ 63
-    → op_run_at most_ops_of_statement (flat (ps ++ p ∷ qs)) (extent ps)
+    → op_run_at most_ops (flat (ps ++ p ∷ qs)) (extent ps)
     ≡ Some (record { before = p.front; last = p.end; next = extent ps + bytes_of p })
 run_is ps p qs h few =
     rw (flat_append ps (p ∷ qs)) (rw (sym (total_flat ps)) (run_of 64 (flat ps) p.front p.end (flat qs) h.front h.end (omega (arith, few))))
 
-run_none : (ps : List InstrParts) → op_run_at most_ops_of_statement (flat ps) (extent ps) ≡ None
+run_none : (ps : List InstrParts) → op_run_at most_ops (flat ps) (extent ps) ≡ None
 unfolding op_run_at
 run_none ps =
     let end = op_at_end 0 (flat ps) in
@@ -547,7 +547,7 @@ lines_behind [] s rest = refl
 lines_behind (x ∷ front) s rest = lines_behind front s rest
 
 found_in :
-    (b : CodeBlock) (at line next : ℕ) (r : OpRun) → line_placed 0 true b.code b.lines at ≡ Some line → op_run_at most_ops_of_statement b.code at ≡ Some r
+    (b : CodeBlock) (at line next : ℕ) (r : OpRun) → line_placed 0 true b.code b.lines at ≡ Some line → op_run_at most_ops b.code at ≡ Some r
     → statement_fetched b at ≡ Some (fetched_of b.code line r)
 unfolding statement_fetched
 found_in b at line next r is run = rw is (rw run refl)
@@ -599,9 +599,9 @@ statement_here b front s rest operations jumps is lines h =
         ∙ ap (slice_get b.lines) (aimed_count f (parts front) ∙ parts_count front)
         ∙ ap (λ (z : List ℕ). slice_get z (length front)) lines ∙ lines_behind front s rest
 
-    run_there : op_run_at most_ops_of_statement b.code (ends_at front) ≡ Some run
-    run_there = ap (λ (z : List OpData). op_run_at most_ops_of_statement z (ends_at front)) code
-        ∙ ap (op_run_at most_ops_of_statement (flat (ps ++ p ∷ qs))) (sym at)
+    run_there : op_run_at most_ops b.code (ends_at front) ≡ Some run
+    run_there = ap (λ (z : List OpData). op_run_at most_ops z (ends_at front)) code
+        ∙ ap (op_run_at most_ops (flat (ps ++ p ∷ qs))) (sym at)
         ∙ run_is ps p qs (aimed_is f (parts_of_instr s.instr) (is_statement s.instr)) (few_before f (length front) s.instr rest h)
 
     next_at : extent ps + bytes_of p ≡ ends_at (front ++ s ∷ [])

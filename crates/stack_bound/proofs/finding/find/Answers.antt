@@ -4,7 +4,7 @@ use Rattle.image_file.specs.Readers.{block_ids}
 use Rattle.stack_bound.specs.Deepest.{IsLoadedObOver, first_over}
 use Rattle.stack_bound.specs.Finding.{IsLeastCertificate}
 use Rattle.stack_bound.specs.Layers.{layer_of_height}
-use Rattle.stack_bound.specs.Marks.{marked_behind, marks_of_round}
+use Rattle.stack_bound.specs.Marks.{marked_bounds_behind, marks_of_round}
 use Rattle.stack_bound.specs.Places.{CallerData, bounds_alone, callers_of, layers_by, marks_by}
 use Rattle.stack_bound.specs.declared.certificates.Bound.{Bound}
 use Rattle.stack_bound.proofs.CertificateLemmas.{least}
@@ -53,11 +53,11 @@ returns c =
     ∙ ap (λ (k : List CallerData). marks_by k c.in_ok-layer.layer.items (most_frames c.args.l.now.profile)) callers_are
     ∙ ap (λ (x : List Bound). marks_by (program_callers c.args.l.now.program) x (most_frames c.args.l.now.profile)) layer_is
     ∙ marks_are c.args.l.now.program (layer_of_height (most_frames c.args.l.now.profile) c.args.l.now.program) (most_frames c.args.l.now.profile) in
-    let list_is : c.in_ok-list.list.items ≡ marked_behind [] c.in_ok-marks.marks.items c.in_ok-layer.layer.items = search rules in
+    let list_is : c.in_ok-list.list.items ≡ marked_bounds_behind [] c.in_ok-marks.marks.items c.in_ok-layer.layer.items = search rules in
     subst (λ (x : List Bound). IsLeastCertificate c.args.l.now.profile c.args.l.now.program x)
     (sym (list_is
-    ∙ ap (λ (m : List Bool). marked_behind [] m c.in_ok-layer.layer.items) marks_is
-    ∙ ap (λ (x : List Bound). marked_behind [] (marks_of_round (most_frames c.args.l.now.profile) c.args.l.now.program (layer_of_height (suc (most_frames c.args.l.now.profile)) c.args.l.now.program)) x) layer_is))
+    ∙ ap (λ (m : List Bool). marked_bounds_behind [] m c.in_ok-layer.layer.items) marks_is
+    ∙ ap (λ (x : List Bound). marked_bounds_behind [] (marks_of_round (most_frames c.args.l.now.profile) c.args.l.now.program (layer_of_height (suc (most_frames c.args.l.now.profile)) c.args.l.now.program)) x) layer_is))
     (least c.args.l.now.profile c.args.l.now.program
     (subst (λ (x : List Bound). first_over c.args.l.now.profile x (block_ids c.args.l.now.program) ≡ None) is
     (sym c.first_over.ensures ∙ c.in_default.is)))

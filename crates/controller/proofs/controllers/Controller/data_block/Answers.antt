@@ -30,6 +30,6 @@ returns-in-Some c =
     ap (λ (s : State). data_block_numbers (finmap.entries s.store.memory.data_blocks)) (sym after)
     ∙ memory_numbers c.self.inside.program.program now.store.memory c.self.invariant.verifies c.self.invariant.fit.memory
     ∙ sym c.self.invariant.numbers in
-    c.numbered.ensures
+    c.number_with_bytes.ensures
     ∙ sym (block_there (final_state c.args.self.now).store.memory.data_blocks c.self.inside.numbers.items c.args.place c.in-Some.number are
     (ap (λ (ns : List ℕ). slice_get ns c.args.place) (sym c.as_slice.ensures.value) ∙ sym c.in-Some.ensures))

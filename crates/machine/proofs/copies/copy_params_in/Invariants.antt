@@ -1,7 +1,7 @@
 use Rattle.std.proofs.Common.{◌≡◌, drop}
 use Rattle.machine.specs.ExecState.{local_of, local_memory_of, with_local}
 use Rattle.machine.specs.Copies.{params_copied_in}
-use Rattle.machine.proofs.copies.params_in.Given as goal
+use Rattle.machine.proofs.copies.copy_params_in.Given as goal
 
 abbrev pub invariant-loop-param : goal.invariant-loop-param
 invariant-loop-param l = record {

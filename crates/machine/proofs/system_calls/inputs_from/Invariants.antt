@@ -1,7 +1,7 @@
 use Rattle.std.proofs.Common.{◌≡◌, ◌+◌, ◌≤◌, ◌++◌, length, drop}
 use Rattle.machine.specs.ExecState.{local_of}
 use Rattle.machine.specs.SystemCalls.{inputs_from, count_inputs}
-use Rattle.machine.proofs.system_calls.inputs_of.Given as goal
+use Rattle.machine.proofs.system_calls.inputs_from.Given as goal
 
 abbrev pub invariant-loop-param : goal.invariant-loop-param
 invariant-loop-param l = record {

@@ -1,7 +1,7 @@
 use Rattle.std.proofs.Common.{◌≤◌, ℕ, List, sym, subst, arith}
 use Rattle.stack_bound.specs.declared.measures.Measure.TheVariants.{Depth, Bytes}
 use Rattle.stack_bound.proofs.PlaceLemmas.{low_at}
-use Rattle.stack_bound.proofs.layers.bound_above.Goals as goal
+use Rattle.stack_bound.proofs.layers.bound_by.Goals as goal
 
 pub overflow_add-result : goal.overflow_add-result
 overflow_add-result c =

@@ -1,7 +1,7 @@
 use Rattle.std.proofs.Common.{◌≡◌, ◌+◌, length}
 use Rattle.controller.specs.Asking.{values_from}
 use Rattle.controller.proofs.AskingLemmas.{values_behind}
-use Rattle.controller.proofs.asking.read_vars.Given as goal
+use Rattle.controller.proofs.asking.values_from.Given as goal
 
 -- the values so far, and then those of what is left, are all; the next index is theirs and one
 abbrev pub invariant-loop-left : goal.invariant-loop-left

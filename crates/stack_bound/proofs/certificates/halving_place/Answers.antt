@@ -2,7 +2,7 @@ use Rattle.std.proofs.Common.{rules}
 use Rattle.std.proofs.lemmas.List.Sorted.{IsPartitionPoint-from_clause}
 use Rattle.stack_bound.specs.Order.{is_before}
 use Rattle.stack_bound.proofs.OrderLemmas.{blocks_partitioned}
-use Rattle.stack_bound.proofs.certificates.place_in.Goals as goal
+use Rattle.stack_bound.proofs.certificates.halving_place.Goals as goal
 
 pub returns : goal.returns
 returns c =

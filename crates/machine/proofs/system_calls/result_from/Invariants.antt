@@ -1,6 +1,6 @@
 use Rattle.std.proofs.Common.{◌≡◌, drop}
 use Rattle.machine.specs.SystemCalls.{result_from}
-use Rattle.machine.proofs.system_calls.result_of.Given as goal
+use Rattle.machine.proofs.system_calls.result_from.Given as goal
 
 abbrev pub invariant-loop-param : goal.invariant-loop-param
 invariant-loop-param l = record {

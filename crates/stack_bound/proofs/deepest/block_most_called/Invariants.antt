@@ -1,7 +1,7 @@
 use Rattle.std.proofs.Common.{◌≡◌, length, None}
 use Rattle.stack_bound.specs.Deepest.{best_callee_from}
 use Rattle.stack_bound.specs.Walking.{ops_after_offset}
-use Rattle.stack_bound.proofs.deepest.most_called.Given as goal
+use Rattle.stack_bound.proofs.deepest.block_most_called.Given as goal
 
 -- from here on it is the same
 abbrev pub invariant-loop-op : goal.invariant-loop-op
