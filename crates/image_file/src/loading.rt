@@ -83,7 +83,7 @@ fn data_lens(alloc: Global, datas: &Option<Vec<DataBlock>>) -> Result<Option<Dat
     }
 }
 
-/// What may be there, by reference.
+/// The lengths of the data blocks, if they are there, by reference.
 fn ref_of(lens: &Option<DataLens>) -> Option<&DataLens>
     ensures { option_map (λ d. d.now) result ≡ lens.now }
 {

@@ -34,6 +34,7 @@ fn is_past_locals(environment: &BlockEnvironment, area: Area, width: Width, byte
     }
 }
 
+/// Whether a place has a bit that its width doesn't have, or lies past the block's local bytes.
 pub(crate) fn is_bad_place(
     environment: &BlockEnvironment,
     area: Area,
@@ -72,6 +73,7 @@ pub(crate) fn own_parameter(environment: &BlockEnvironment, index: u8) -> Option
     }
 }
 
+/// Whether there is no such parameter (`None`), or it has another width.
 pub(crate) fn lacks_own(parameter: Option<ParameterRecord>, width: Width) -> bool
     ensures { result ≡ lacks_own_parameter parameter width }
 {
@@ -81,6 +83,7 @@ pub(crate) fn lacks_own(parameter: Option<ParameterRecord>, width: Width) -> boo
     }
 }
 
+/// Whether the parameter is an IN; one that is absent (`None`) is none.
 pub(crate) fn is_input(parameter: Option<ParameterRecord>) -> bool
     ensures { result ≡ is_in_parameter parameter }
 {
@@ -140,7 +143,7 @@ fn pass_index(op: &Op) -> Option<u8>
     }
 }
 
-/// The index of the PASS next before.
+/// The index of the last PASS among the ops before; `None` without one.
 fn pass_before(before: &[Op]) -> Option<u8>
     ensures { result ≡ pass_before None before.now }
 {
@@ -170,6 +173,7 @@ pub(crate) fn is_stray_pass(before: &[Op], last: &Op, index: u8) -> bool
     last.code != CALL || !is_above(index, pass_before(before))
 }
 
+/// Whether what a PASS passes has a fault by itself, whatever parameter it is for.
 pub(crate) fn is_bad_actual(environment: &BlockEnvironment, actual: Passed) -> bool
     ensures { result ≡ is_bad_actual (environment_of environment.now) actual }
 {

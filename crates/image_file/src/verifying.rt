@@ -2,7 +2,7 @@
 ghost use Rattle.std.specs.Prelude.{◌≡◌, ◌+◌, ◌<◌, ◌≤◌, ◌^◌, ◌∷◌, ◌++◌, [], length, drop, OnOk, IfOk, if◌then◌else◌};
 ghost use Rattle.std.specs.Option.{option_map};
 ghost use Rattle.flat_code.specs.Codes.{size_of_op, code_bytes};
-ghost use Rattle.flat_code.specs.PlacedOps.{codes_of_few_brackets, statement_spots, spot_at};
+ghost use Rattle.flat_code.specs.PlacedOps.{codes_of_few_brackets, starts_of_statements, statement_start_at};
 ghost use Rattle.flat_code.specs.Blocks.{are_other_brackets, call_fault_among, nesting_fault, target_fault, jump_fault, operand_fault, call_fault, op_faults, open_faults, open_zone_faults, block_faults};
 ghost use Rattle.image_file.specs.OpChecking.{AllUpTo, ZonesUpTo, environment_of, placed_of};
 ghost use Rattle.image_file.specs.Least.{with_faults};
@@ -87,7 +87,7 @@ fn target_fault(
     target: u32,
 ) -> Option<u16>
     ensures { result ≡ target_fault (option_map
-        (λ v. v.items) here.now) zones (spot_at statements.now target) }
+        (λ v. v.items) here.now) zones (statement_start_at statements.now target) }
 {
     match statements.at(target) {
         None => Some(6),
@@ -277,7 +277,7 @@ fn check_ops(
     least: Option<LoadFault>,
 ) -> Result<Option<LoadFault>, NoMemory>
     requires room { start + length (code_bytes ops.now) < 2 ^ 32 }
-    requires all { statements.now ≡ statement_spots ops.now }
+    requires all { statements.now ≡ starts_of_statements ops.now }
     ensures { IfOk result (λ l. l
         ≡ with_faults least (block_faults (environment_of environment.now) start ops.now)) }
 {

@@ -69,7 +69,8 @@ abbrev pub block_opened_by_ops : List OpData → Option ℕ
 block_opened_by_ops [] = None
 block_opened_by_ops (op ∷ ops) = block_of_use_db op.operand
 
--- the name of the parameter of an index
+-- the name that a block's parameter of an index has among `formals`; `p` and the index where there
+-- is none
 abbrev pub name_at : List Formal → ℕ → List ℕ
 name_at formals index = name_or index (slice_get formals index)
   where

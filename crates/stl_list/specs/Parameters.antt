@@ -10,7 +10,7 @@ use Rattle.stl_ast.specs.declared.declarations.Simple.{Simple}
 use Rattle.stl_ast.specs.declared.declarations.Simple.TheVariants as simple
 use Rattle.stl_types.specs.declared.parameters.Formal.{Formal}
 
--- the name of the parameter of an index
+-- `p` and the index: the name of a parameter that isn't the return value
 abbrev pub parameter_name : ℕ → List ℕ
 parameter_name index = codes "p" ++ decimal index
 

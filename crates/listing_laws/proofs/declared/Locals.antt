@@ -13,7 +13,7 @@ use Rattle.flat_code.specs.Blocks.{Environment, at_offset, block_faults, faults_
 use Rattle.flat_code.specs.Operations.{operation_of}
 use Rattle.flat_code.specs.Ops.{OpData}
 use Rattle.flat_code.specs.Codes.{size_of_op}
-use Rattle.flat_code.specs.PlacedOps.{PlacedOp, StatementSpot, before_next, brackets_after, ops_placed, statement_spots, zones_behind_op}
+use Rattle.flat_code.specs.PlacedOps.{PlacedOp, StatementStart, before_next, brackets_after, ops_placed, starts_of_statements, zones_behind_op}
 use Rattle.flat_code.specs.declared.image_fields.OpenBracket.{OpenBracket}
 use Rattle.flat_code.specs.Programs.{CodeBlock}
 use Rattle.flat_code.specs.declared.operands.Operand.TheVariants as flat
@@ -90,14 +90,14 @@ actual_near around (passed.InBlock number area.M w byte bit) e = tt
 actual_near around (passed.InBlock number area.Di w byte bit) e = tt
 actual_near around (passed.InBlock number area.P w byte bit) e = tt
 
-operand_near : (around : Environment) (ss : List StatementSpot) (p : PlacedOp) (o : FlatOperand) → operand_fault around ss p o ≡ None → NearOperand around.local_len o
+operand_near : (around : Environment) (ss : List StatementStart) (p : PlacedOp) (o : FlatOperand) → operand_fault around ss p o ≡ None → NearOperand around.local_len o
 operand_near around ss p (flat.Direct a w byte bit) e =
     place_near around a w byte bit (or_second (lacks_width p.op w) (is_bad_place around a w byte bit) (no_seven (lacks_width p.op w || is_bad_place around a w byte bit) e))
 operand_near around ss p (flat.Pass index actual) e =
     actual_near around actual (or_second (is_stray_pass p index) (is_bad_actual around actual) (no_seven (is_stray_pass p index || is_bad_actual around actual) e))
 operand_near around ss p _ e = tt
 
-ops_near : (around : Environment) (ss : List StatementSpot) (at : ℕ) (brackets : List OpenBracket) (zones : List ℕ) (before ops : List OpData)
+ops_near : (around : Environment) (ss : List StatementStart) (at : ℕ) (brackets : List OpenBracket) (zones : List ℕ) (before ops : List OpData)
     → faults_over around ss 0 (ops_placed at brackets zones before ops) ≡ [] → AllByRecursion (NearOp around.local_len) ops
 unfolding op_faults
 ops_near around ss at brackets zones before [] e = tt
@@ -112,7 +112,7 @@ ops_near around ss at brackets zones before (op ∷ ops) e =
 
 pub code_near : (around : Environment) (ops : List OpData) → block_faults around 0 ops ≡ [] → AllByRecursion (NearOp around.local_len) ops
 unfolding block_faults
-code_near around ops e = ops_near around (statement_spots ops) 0 [] [] [] ops (none_left _ _ (none_left _ _ e))
+code_near around ops e = ops_near around (starts_of_statements ops) 0 [] [] [] ops (none_left _ _ (none_left _ _ e))
 
 -- ---- operands of the listing
 

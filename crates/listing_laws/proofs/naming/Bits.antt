@@ -14,7 +14,7 @@ use Rattle.flat_code.specs.Forms.{passed_coding, actual_fits, direct_coding, pay
 use Rattle.flat_code.specs.Image.{IsProgram, record_of_block}
 use Rattle.flat_code.specs.Loading.{AreVerified, Verifies, environment_of_block, lens_of}
 use Rattle.flat_code.specs.Ops.{OpData, is_op}
-use Rattle.flat_code.specs.PlacedOps.{PlacedOp, StatementSpot, before_next, brackets_after, ops_placed, statement_spots, zones_behind_op}
+use Rattle.flat_code.specs.PlacedOps.{PlacedOp, StatementStart, before_next, brackets_after, ops_placed, starts_of_statements, zones_behind_op}
 use Rattle.flat_code.specs.Programs.{CodeBlock, Program}
 use Rattle.flat_code.specs.Records.{BlockRecord}
 use Rattle.flat_code.specs.declared.image_fields.OpenBracket.{OpenBracket}
@@ -78,7 +78,7 @@ passed_bit around (passed.InBlock number area.Di w byte bit) h e = absurd cc
 passed_bit around (passed.InBlock number area.L w byte bit) h e = absurd cc
 passed_bit around (passed.InBlock number area.P w byte bit) h e = absurd cc
 
-operand_bit : (around : Environment) (ss : List StatementSpot) (p : PlacedOp) (o : FlatOperand) → payload_fits o ≡ true → operand_fault around ss p o ≡ None → OperandBit o
+operand_bit : (around : Environment) (ss : List StatementStart) (p : PlacedOp) (o : FlatOperand) → payload_fits o ≡ true → operand_fault around ss p o ≡ None → OperandBit o
 unfolding passed_coding
 operand_bit around ss p (flat.Direct a w byte bit) h e =
     place_bit w bit (direct_bit a w byte bit h)
@@ -92,7 +92,7 @@ payload_is : (op : OpData) → is_op op.code op.operand ≡ true → payload_fit
 unfolding is_op
 payload_is op e = (and_parts _ (payload_fits op.operand) e).1
 
-ops_bits : (around : Environment) (ss : List StatementSpot) (at : ℕ) (brackets : List OpenBracket) (zones : List ℕ) (before ops : List OpData) → are_ops ops ≡ true
+ops_bits : (around : Environment) (ss : List StatementStart) (at : ℕ) (brackets : List OpenBracket) (zones : List ℕ) (before ops : List OpData) → are_ops ops ≡ true
     → faults_over around ss 0 (ops_placed at brackets zones before ops) ≡ [] → AllByRecursion OpBit ops
 unfolding op_faults
 ops_bits around ss at brackets zones before [] is e = tt
@@ -108,7 +108,7 @@ ops_bits around ss at brackets zones before (op ∷ ops) is e =
 
 code_bits : (around : Environment) (ops : List OpData) → are_ops ops ≡ true → block_faults around 0 ops ≡ [] → AllByRecursion OpBit ops
 unfolding block_faults
-code_bits around ops is e = ops_bits around (statement_spots ops) 0 [] [] [] ops is (none_left _ _ (none_left _ _ e))
+code_bits around ops is e = ops_bits around (starts_of_statements ops) 0 [] [] [] ops is (none_left _ _ (none_left _ _ e))
 
 -- ---- statements
 

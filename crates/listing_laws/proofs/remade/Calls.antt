@@ -14,7 +14,7 @@ use Rattle.plc_base.specs.declared.blocks.BlockKind.{BlockKind}
 use Rattle.plc_base.specs.declared.blocks.BlockKind.TheVariants as kinds
 use Rattle.plc_base.specs.declared.places.Width.{Width}
 use Rattle.flat_code.specs.declared.image_fields.TheConstants.{SECTION_IN}
-use Rattle.flat_code.specs.Blocks.{Environment, CalleeSeen as FlatCallee, are_all_passed, is_bad_actual, is_bad_call, is_in_parameter, lacks_own_parameter, misfits_index, misfits_parameter, parameter_meant, signature_of}
+use Rattle.flat_code.specs.Blocks.{Environment, CalleeSignature as FlatCallee, are_all_passed, is_bad_actual, is_bad_call, is_in_parameter, lacks_own_parameter, misfits_index, misfits_parameter, parameter_meant, signature_of}
 use Rattle.flat_code.specs.Forms.{actual_fits}
 use Rattle.flat_code.specs.Image.{record_of_block, record_of_param}
 use Rattle.flat_code.specs.Instr.{Calls, Instr, Passing}
