@@ -42,7 +42,7 @@ pub use operations::{
 pub use ops::Op;
 pub use programs::{CodeBlock, DataBlock, Param, Program};
 pub use record_numbers::{
-    number_of_area, area_of_number, kind_of_code, kind_of_number, width_of_number,
+    area_of_number, kind_of_code, kind_of_number, number_of_area, width_of_number,
 };
 pub use stamps::Stamp;
 pub use system_functions::{system_function_params, system_function_records};

@@ -22,7 +22,7 @@ use Rattle.flat_code.specs.declared.operations.EndOperation.TheVariants as ends
 use Rattle.flat_code.specs.declared.operations.Operation.TheVariants as operation
 use Rattle.flat_code.specs.declared.operations.RelayOperation.TheVariants as relay
 use Rattle.flat_code.specs.Ops.{OpData, is_op}
-use Rattle.flat_code.specs.Codes.{size_of_op}
+use Rattle.flat_code.specs.Codes.{size_of_op, most_ops}
 use Rattle.flat_code.specs.Programs.{CodeBlock, Program}
 use Rattle.flat_code.specs.Image.{record_of_block, record_of_param, kind_of_number}
 use Rattle.flat_code.specs.Loading.{Verifies, lens_of, environment_of_block}
@@ -92,7 +92,7 @@ CodeGoesOn = (p : Program) (b : CodeBlock) (q : PlacedOp) → IsVerifiedOp p b q
 -- the statement of an op has at most 64 ops, of which all but the last are USEDB or PASS
 pub record StatementIsRight (q : PlacedOp) : Type 0 where
   -- fewer than 64 ops of the statement stand before the op
-  pub few : length q.before < 64
+  pub few : length q.before < most_ops
   -- the op ends its statement exactly where it is neither USEDB nor PASS
   pub ended : q.op.last ≡ not (prepares_statement q.op.code)
 

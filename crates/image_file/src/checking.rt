@@ -9,7 +9,7 @@ ghost use Rattle.image_file.specs.Least.{with_faults};
 
 use crate::faults::LoadFault;
 use crate::numbers::{CLOSE_ZONE, NEST_A, NEST_XN, OPEN_ZONE, PASS, UNNEST, USE_DB};
-use crate::reader::lesser;
+use crate::reader::lesser_fault;
 use arrayvec::ArrayVec;
 use flat_code::{Op, OpenBracket};
 use plc_base::NoMemory;
@@ -208,6 +208,6 @@ pub(crate) fn lesser_if(least: Option<LoadFault>, at: u32, code: Option<u16>) ->
 {
     match code {
         None => least,
-        Some(code) => lesser(least, at, code),
+        Some(code) => lesser_fault(least, at, code),
     }
 }

@@ -233,7 +233,7 @@ fn check(alloc: Global, bytes: &[u8]) -> Result<CheckResult, NoMemory>
 }
 
 /// The program of an image without fault.
-fn loaded(alloc: Global, image: ImageRead) -> Result<Loaded, NoMemory>
+fn program_of_image(alloc: Global, image: ImageRead) -> Result<Loaded, NoMemory>
     requires program { IsProgram (program_read image) }
     requires few { HaveFewParameters (blocks_of (map located_block image.blocks.items)) }
     requires verifies { Verifies (program_read image) }
@@ -259,7 +259,7 @@ pub fn load(alloc: Global, bytes: &[u8]) -> Result<Loaded, LoadError>
     match check(alloc, bytes)? {
         CheckResult::Faulty { fault } => Err(LoadError::Fault { fault }),
         CheckResult::Clean { image } => {
-            let loaded = loaded(alloc, image)?;
+            let loaded = program_of_image(alloc, image)?;
             Ok(loaded)
         }
     }

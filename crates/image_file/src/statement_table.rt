@@ -5,7 +5,7 @@ ghost use Rattle.flat_code.specs.Codes.{code_bytes};
 ghost use Rattle.flat_code.specs.PlacedOps.{codes_of_few_brackets, starts_of_statements, statement_start_at};
 
 use crate::checking::{OpenInCode, StatementStart, codes_of_few_brackets, is_last};
-use crate::tables::{place_at, table_of};
+use crate::tables::{place_at_offset, table_of};
 use flat_code::Op;
 use plc_base::NoMemory;
 use std::alloc::Global;
@@ -111,7 +111,7 @@ impl Statements {
     pub(crate) fn at(&self, at: u32) -> Option<&StatementStart>
         ensures { option_map (λ s. s.now) result ≡ statement_start_at self.now at }
     {
-        let place = place_at(self.table.as_slice(), at)?;
+        let place = place_at_offset(self.table.as_slice(), at)?;
         statement_at(self.list.as_slice(), place)
     }
 }

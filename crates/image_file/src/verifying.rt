@@ -16,10 +16,10 @@ use crate::environments::{BlockEnvironment, DataLens};
 use crate::faults::LoadFault;
 use crate::numbers::{CALL, JUMP_LIST};
 use crate::operands::{
-    ending_op, is_bad_actual, is_bad_place, is_input, is_stray_pass, is_stray_use_db, lacks_own,
-    lacks_width, leads, own_parameter, writes,
+    ending_op, is_bad_actual, is_bad_place, is_in_parameter, is_stray_pass, is_stray_use_db,
+    lacks_own_parameter, lacks_width, leads, parameter_meant, writes_operand,
 };
-use crate::reader::lesser;
+use crate::reader::lesser_fault;
 use crate::statement_table::Statements;
 use arrayvec::ArrayVec;
 use flat_code::{Op, OpenBracket, Operand};
@@ -137,9 +137,9 @@ fn operand_fault(
             seven_if(lacks_width(op, width))
         }
         Operand::Parameter { index, width } => {
-            let own = own_parameter(environment, index);
-            let written = writes(op.code) && is_input(own);
-            seven_if(lacks_width(op, width) || lacks_own(own, width) || written)
+            let own = parameter_meant(environment, index);
+            let written = writes_operand(op.code) && is_in_parameter(own);
+            seven_if(lacks_width(op, width) || lacks_own_parameter(own, width) || written)
         }
         Operand::Jump { kind, target } => jump_fault(statements, op, place, kind, target),
         Operand::UseDb { .. } => {
@@ -226,7 +226,7 @@ fn check_open(
 {
     let mut least = least;
     for bracket in brackets {
-        least = lesser(least, start + bracket.at, 8);
+        least = lesser_fault(least, start + bracket.at, 8);
     }
     least
 }
@@ -244,7 +244,7 @@ fn check_open_zones(
 {
     let mut least = least;
     for zone in zones {
-        least = lesser(least, start + *zone, 8);
+        least = lesser_fault(least, start + *zone, 8);
     }
     least
 }

@@ -9,7 +9,7 @@ ghost use Rattle.image_file.specs.Writing.{BlockFitsFields, DataFitsFields, Name
 
 use crate::records::HeadRead;
 use flat_code::{
-    CodeBlock, DataBlock, NameEntry, Op, Param, Program, Stamp, number_of_area, encode_op,
+    CodeBlock, DataBlock, NameEntry, Op, Param, Program, Stamp, encode_op, number_of_area,
 };
 use plc_base::{NoMemory, Profile};
 use std::alloc::Global;

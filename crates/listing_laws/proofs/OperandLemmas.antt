@@ -20,7 +20,7 @@ use Rattle.stl_lexer.specs.Bytes.{is_word_byte, is_word_start}
 use Rattle.stl_types.specs.declared.parameters.Formal.{Formal}
 use Rattle.stl_list.specs.Actuals.{passed_operand}
 use Rattle.stl_list.specs.Operands.{name_of_data_block, implied_operand, instance_name, name_at, block_opened_by_ops, operand_by, own_parameter, plain_operand, timer_or_counter, block_of_use_db}
-use Rattle.stl_list.specs.Runs.{number_at}
+use Rattle.stl_list.specs.Runs.{statement_number_at}
 use Rattle.print_laws.specs.Standing.{IsNonTitleName, IsNumberedOrNone, IsPrintableOperand}
 use Rattle.listing_laws.proofs.NameLemmas.{AreFormals, either_way, instruction_printable, label_is, parameter_is, typed_printable}
 use Rattle.listing_laws.proofs.RangeLemmas.{IsListedOp}
@@ -93,7 +93,7 @@ operand_is formals starts opened o (flat.ByRegister a width register bits) named
 operand_is formals starts opened o (flat.Parameter index width) named block e w = own_is formals index (omega (arith, byte_is index (and_parts (nat_lt index 256) _ e).0)) named
 operand_is formals starts opened o (flat.Numbered kind number) named block e w = timer_is kind number (number_is number (and_parts _ (nat_lt number 65536) e).1)
 operand_is formals starts opened o (flat.NumberedBy kind from byte) named block e w = number_is byte (and_parts _ (nat_lt byte 65536) (and_parts _ _ e).1).1
-operand_is formals starts opened o (flat.Jump kind target) named block e w = label_is (number_at starts target)
+operand_is formals starts opened o (flat.Jump kind target) named block e w = label_is (statement_number_at starts target)
 operand_is formals starts opened o (flat.OfStatus condition) named block e w = tt
 operand_is formals starts opened o (flat.UseDb number) named block e w = tt
 operand_is formals starts opened o (flat.Pass index p) named block e w = tt

@@ -4,7 +4,7 @@ use Rattle.flat_code.specs.declared.image_fields.TheConstants.{SECTION_OUT}
 use Rattle.flat_code.specs.declared.programs.Param.{Param}
 use Rattle.stl_types.specs.Parameters.{system_formals}
 use Rattle.stl_types.specs.declared.parameters.Formal.{Formal}
-use Rattle.stl_list.specs.JoinedParameters.{Chains}
+use Rattle.stl_list.specs.JoinedParameters.{PassingChains}
 use Rattle.stl_list.specs.Signatures.{formals_from, is_behind}
 use Rattle.listing_laws.specs.Passings.{AreNamedApart}
 
@@ -19,7 +19,7 @@ ReturnsLast returns behind (p ∷ ps) =
 -- of them
 abbrev pub AreOwnNamesApart : Type 0
 AreOwnNamesApart =
-    (c : Chains) (returns : Bool) (first : ℕ) (ps : List Param) → length ps ≤ 65536
+    (c : PassingChains) (returns : Bool) (first : ℕ) (ps : List Param) → length ps ≤ 65536
     → ReturnsLast returns false ps → AreNamedApart (formals_from c returns false 0 first ps)
 
 -- the parameters of each system function have names of their own

@@ -27,7 +27,7 @@ use Rattle.stl_list.specs.Constants.{instruction_constant}
 use Rattle.stl_list.specs.JoinedParameters.{called_id}
 use Rattle.stl_list.specs.Labels.{label_of_number}
 use Rattle.stl_list.specs.Parameters.{parameter_name}
-use Rattle.stl_list.specs.Runs.{Run, number_at}
+use Rattle.stl_list.specs.Runs.{StatementOps, statement_number_at}
 
 -- the letters of an area; those of peripherals say which way they are used
 abbrev pub letters_for_area : (writes : Bool) → Area → Letters
@@ -148,10 +148,10 @@ operand_by formals starts opened o flat.Nothing = implied_operand o
 operand_by formals starts opened o (flat.Literal value) = instruction_constant o value
 operand_by formals starts opened o (flat.Parameter index width) = own_parameter formals index
 operand_by formals starts opened o (flat.Jump kind target) =
-    operand.Label (label_of_number (number_at starts target))
+    operand.Label (label_of_number (statement_number_at starts target))
 operand_by formals starts opened o other = plain_operand opened o other
 
 -- the operand of a statement
-abbrev pub operand_of_run : List Formal → (starts : List ℕ) → Run → Operand
+abbrev pub operand_of_run : List Formal → (starts : List ℕ) → StatementOps → Operand
 operand_of_run formals starts r =
     operand_by formals starts (block_opened_by_ops r.before) (operation_of r.op.code) r.op.operand

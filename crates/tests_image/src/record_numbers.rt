@@ -2,7 +2,7 @@
 
 use crate::compare::same;
 use flat_code::{
-    Stamp, number_of_area, area_of_number, kind_of_code, kind_of_number, width_of_number,
+    Stamp, area_of_number, kind_of_code, kind_of_number, number_of_area, width_of_number,
 };
 use plc_base::{Area, BlockKind, Place, Profile, Width};
 use std::process::Abort;

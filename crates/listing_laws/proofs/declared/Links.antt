@@ -34,7 +34,7 @@ use Rattle.stl_types.specs.Parameters.{system_formals}
 use Rattle.stl_types.specs.declared.parameters.Formal.{Formal}
 use Rattle.block_layout.specs.Offsets.{width_of}
 use Rattle.stl_list.specs.JoinedParameters.{block_links, call_links, called_id, called_kind, first_of, joined_link, joined_links, links, links_from, links_of_runs, passed_parameter, run_links, system_link, system_links, system_parameters, typed_link}
-use Rattle.stl_list.specs.Runs.{Run, runs, runs_from}
+use Rattle.stl_list.specs.Runs.{StatementOps, runs, runs_from}
 use Rattle.block_layout.proofs.CommonLemmas.{none_left, none_right, or_first, or_second}
 use Rattle.sem_kept.proofs.accepted.OperandsFormals.{Matched, system_matched}
 use Rattle.listing_laws.proofs.declared.Chains.{IsGoodLink, widths}
@@ -113,7 +113,7 @@ ops_right a lens ss at brackets zones before (op ∷ ops) known e =
 -- ---- statements
 
 -- the ops of a statement
-abbrev IsRightRun : Environment → Run → Type 0
+abbrev IsRightRun : Environment → StatementOps → Type 0
 IsRightRun a r = AllByRecursion (λ op. IsPassedRight a r.op.operand op.operand) r.before × IsCalledRight a r.op.operand
 
 -- the op that ends a statement, of which these are left
@@ -414,7 +414,7 @@ run_good : (a : Environment) (blocks : List CodeBlock) (first : ℕ) (b : CodeBl
 run_good a blocks first b before (flat.Called kind number instance) among called h = call_good a blocks first b kind number instance before among called h
 run_good a blocks first b before _ among called h = tt
 
-runs_good : (a : Environment) (blocks : List CodeBlock) (first : ℕ) (b : CodeBlock) (rs : List Run) → IsAmong a blocks first b → AllByRecursion (IsRightRun a) rs
+runs_good : (a : Environment) (blocks : List CodeBlock) (first : ℕ) (b : CodeBlock) (rs : List StatementOps) → IsAmong a blocks first b → AllByRecursion (IsRightRun a) rs
     → AllByRecursion (IsGoodLink (widths blocks)) (links_of_runs blocks first rs)
 runs_good a blocks first b [] among h = tt
 runs_good a blocks first b (r ∷ rs) among (one, more) =

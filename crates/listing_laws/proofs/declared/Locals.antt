@@ -35,7 +35,7 @@ use Rattle.stl_list.specs.Constants.{instruction_constant, pointer_constant}
 use Rattle.stl_list.specs.JoinedParameters.{called_id}
 use Rattle.stl_list.specs.Lines.{line_of_statement}
 use Rattle.stl_list.specs.Operands.{implied_operand, letters_for_area, block_opened_by_ops, operand_by, plain_operand, timer_or_counter, operation_writes_operand}
-use Rattle.stl_list.specs.Runs.{Run, runs, runs_from}
+use Rattle.stl_list.specs.Runs.{StatementOps, runs, runs_from}
 use Rattle.stl_list.specs.Signatures.{Signature, called_formals}
 use Rattle.stl_list.specs.Statements.{ListingContext, body_of, label_at, label_of_end, listed_statement, statement_at, statements_from, listing_context}
 use Rattle.block_layout.proofs.CommonLemmas.{none_left, none_right, or_second}
@@ -203,10 +203,10 @@ farthest_append most (x ∷ xs) ys h k =
     let more = farthest_append most xs ys (omega (arith, h)) k in
     omega (arith, h, more)
 
-NearRun : (most : ℕ) → Run → Type 0
+NearRun : (most : ℕ) → StatementOps → Type 0
 NearRun most r = AllByRecursion (NearOp most) r.before × NearOp most r.op
 
-statement_near : (most : ℕ) (s : ListingContext) (n : ℕ) (r : Run) → NearRun most r → farthest_operand_end (listed_statement s n r ∷ []) ≤ most
+statement_near : (most : ℕ) (s : ListingContext) (n : ℕ) (r : StatementOps) → NearRun most r → farthest_operand_end (listed_statement s n r ∷ []) ≤ most
 unfolding NearRun
 statement_near most s n r (before, op) =
     let a = operand_end most s.formals s.starts (block_opened_by_ops r.before) (operation_of r.op.code) r.op.operand op in
@@ -217,13 +217,13 @@ end_near : (most line : ℕ) (label : Option (List ℕ)) → farthest_operand_en
 end_near most line None = omega arith
 end_near most line (Some label) = omega arith
 
-at_near : (most : ℕ) (s : ListingContext) (n : ℕ) (r : Run) → NearRun most r → farthest_operand_end (statement_at s n r) ≤ most
+at_near : (most : ℕ) (s : ListingContext) (n : ℕ) (r : StatementOps) → NearRun most r → farthest_operand_end (statement_at s n r) ≤ most
 unfolding statement_at
 at_near most s n r h =
     either_way (λ l. farthest_operand_end l ≤ most) (suc n == length s.lines) (label_of_end (line_of_statement s.lines n) (label_at s.targets n)) (listed_statement s n r ∷ [])
     (end_near most (line_of_statement s.lines n) (label_at s.targets n)) (statement_near most s n r h)
 
-from_near : (most : ℕ) (s : ListingContext) (n : ℕ) (rs : List Run) → AllByRecursion (NearRun most) rs → farthest_operand_end (statements_from s n rs) ≤ most
+from_near : (most : ℕ) (s : ListingContext) (n : ℕ) (rs : List StatementOps) → AllByRecursion (NearRun most) rs → farthest_operand_end (statements_from s n rs) ≤ most
 from_near most s n [] h = omega arith
 from_near most s n (r ∷ rs) (one, more) =
     farthest_append most (statement_at s n r) (statements_from s (suc n) rs) (at_near most s n r one) (from_near most s (suc n) rs more)

@@ -23,7 +23,7 @@ use Rattle.flat_code.specs.declared.operands.Operand.{Operand as FlatOperand}
 use Rattle.flat_code.specs.declared.operands.Passed.TheVariants as passed
 use Rattle.flat_code.specs.declared.operands.Passed.{Passed}
 use Rattle.stl_ast.specs.Operands.{IsBitOf}
-use Rattle.stl_list.specs.Runs.{Run, runs, runs_from}
+use Rattle.stl_list.specs.Runs.{StatementOps, runs, runs_from}
 use Rattle.block_layout.proofs.CommonLemmas.{none_left, none_right, or_first, or_second}
 use Rattle.listing_laws.proofs.FormLemmas.{IsHead, program_heads}
 use Rattle.listing_laws.proofs.NameLemmas.{either_way}
@@ -112,7 +112,7 @@ code_bits around ops is e = ops_bits around (starts_of_statements ops) 0 [] [] [
 
 -- ---- statements
 
-abbrev pub RunBit : Run → Type 0
+abbrev pub RunBit : StatementOps → Type 0
 RunBit r = AllByRecursion (λ op. OperandBit op.operand) r.before × OperandBit r.op.operand
 
 runs_bits : (before ops : List OpData) → AllByRecursion OpBit before → AllByRecursion OpBit ops → AllByRecursion RunBit (runs_from before ops)

@@ -26,7 +26,7 @@ use Rattle.stl_codegen.specs.CompiledBlock.{compiled_block}
 use Rattle.stl_codegen.specs.GeneratedProgram.{code_block}
 use Rattle.stl_codegen.specs.Instruction.{in_parameter_order}
 use Rattle.stl_list.specs.CodeBlocks.{in_lines, listed_block}
-use Rattle.stl_list.specs.JoinedParameters.{Chains, chains_of}
+use Rattle.stl_list.specs.JoinedParameters.{PassingChains, chains_of}
 use Rattle.stl_list.specs.Lines.{stands_before}
 use Rattle.stl_list.specs.Parameters.{name_of, parameter_name, return_name, section_of}
 use Rattle.stl_list.specs.Signatures.{Signature, formals_from, formals_of_block, is_behind}
@@ -47,7 +47,7 @@ use Rattle.listing_laws.proofs.remade.Cells.{order_again}
 -- ---- names and sections of formals
 
 -- what has the name of a return value is an OUT
-returned_output : (c : Chains) (returns behind : Bool) (index first : ℕ) (ps : List Param)
+returned_output : (c : PassingChains) (returns behind : Bool) (index first : ℕ) (ps : List Param)
     → AllByRecursion (λ f. f.name ≡ return_name → f.section ≡ part.Output) (formals_from c returns behind index first ps)
 returned_output c returns behind index first [] = tt
 returned_output c returns behind index first (p ∷ ps) = (by behind (p.section == SECTION_OUT) refl, returned_output c returns (is_behind returns behind p) (suc index) (suc first) ps)
@@ -184,7 +184,7 @@ listed_code source file symbols t accepted bytes file_bytes others clean again p
     cb : CodeBlock
     cb = compiled_block (code_block (context_at symbols t place) b l id)
 
-    c : Chains
+    c : PassingChains
     c = chains_of (program_in symbols t).code_blocks
 
     ss : List Signature

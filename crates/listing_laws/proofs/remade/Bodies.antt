@@ -39,7 +39,7 @@ use Rattle.stl_list.specs.Actuals.{actuals_before}
 use Rattle.stl_list.specs.Labels.{label_of_number}
 use Rattle.stl_list.specs.Lines.{line_of_statement}
 use Rattle.stl_list.specs.Operands.{name_of_data_block}
-use Rattle.stl_list.specs.Runs.{number_at}
+use Rattle.stl_list.specs.Runs.{statement_number_at}
 use Rattle.stl_list.specs.Signatures.{Signature, called_formals, formals_of_block}
 use Rattle.stl_list.specs.Statements.{ListingContext, listed_statement}
 use Rattle.sem_kept.specs.AcceptedSource.{IsAccepted, program_in}
@@ -192,7 +192,7 @@ module _ (source file : List ℕ) (symbols : List Symbol) (t : Tree) (accepted :
             split_holds (λ (z : SourceInstruction). LeadsWithin (length (statements_of c b)) z.instr) (statements_of c b) here.before
             (record { instr = instruction c b.body here.number s; line = s.line }) here.after (jumps_within c b) here.is target leaps
 
-        at : number_at sur.starts (f target) ≡ target
+        at : statement_number_at sur.starts (f target) ≡ target
         at = numbers_found sb.statements target ∙ smaller target (length sb.statements) within
 
         long : length (lines_in sb.statements) ≡ length sb.statements

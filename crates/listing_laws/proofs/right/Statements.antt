@@ -57,7 +57,7 @@ use Rattle.stl_list.specs.Actuals.{actual_of_passed, actuals_before, actuals_by,
 use Rattle.stl_list.specs.Constants.{instruction_constant}
 use Rattle.stl_list.specs.Labels.{label_of_number}
 use Rattle.stl_list.specs.Operands.{name_of_data_block, implied_operand, operand_by, plain_operand}
-use Rattle.stl_list.specs.Runs.{number_at}
+use Rattle.stl_list.specs.Runs.{statement_number_at}
 use Rattle.stl_list.specs.Signatures.{called_formals}
 use Rattle.stl_list.specs.Statements.{ListingContext, listed_statement}
 use Rattle.sem_kept.specs.SettledStatements.{HasCalled, HasInstruction, HasOperand, IsResolvedStatement}
@@ -213,7 +213,7 @@ jump_right y c listed sur f body k s how types h word =
     n = target_of body s.operand
 
     name : List ℕ
-    name = label_of_number (number_at sur.starts (f (target_of body s.operand)))
+    name = label_of_number (statement_number_at sur.starts (f (target_of body s.operand)))
 
     is : instruction c body k s ≡ jump_instr how k n
     is = jump_instruction c body k s how h
