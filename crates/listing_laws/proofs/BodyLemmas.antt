@@ -40,7 +40,7 @@ use Rattle.stl_lexer.specs.Forms.{is_word}
 use Rattle.stl_parser.specs.Tables.{flags, look_up, registers}
 use Rattle.stl_list.specs.Constants.{instruction_constant, open_block_name, pointer_area, pointer_letters}
 use Rattle.stl_list.specs.Mnemonics.{mnemonic_of_jump, mnemonic_of, mnemonic_by, mnemonic_of_code}
-use Rattle.stl_parser.specs.Operands.{holds_pointer}
+use Rattle.stl_parser.specs.Operands.{holds_pointer, data_block_name}
 use Rattle.stl_types.specs.declared.parameters.Formal.{Formal}
 use Rattle.stl_list.specs.Actuals.{actual_for, actual_here, actuals_before, actuals_by, is_written, passed_operand}
 use Rattle.stl_list.specs.JoinedParameters.{called_id, system_parameters}
@@ -49,7 +49,7 @@ use Rattle.stl_list.specs.Lines.{line_of_statement}
 use Rattle.stl_list.specs.Runs.{StatementOps, statement_number_at, runs}
 use Rattle.stl_list.specs.Signatures.{Signature, called_formals, formals_of_block}
 use Rattle.stl_list.specs.Statements.{ListingContext, body_of, label_at, label_of_end, listed_statement, statement_at, statements_from, listing_context}
-use Rattle.stl_list.specs.Operands.{name_of_data_block, direct_operand, implied_operand, instance_name, letters_for_area, name_at, operand_by, plain_operand, timer_or_counter, operation_writes_operand, block_opened_by_ops, own_parameter, read_letters, block_of_use_db}
+use Rattle.stl_list.specs.Operands.{direct_operand, implied_operand, instance_name, letters_for_area, name_at, operand_by, plain_operand, timer_or_counter, operation_writes_operand, block_opened_by_ops, own_parameter, read_letters, block_of_use_db}
 use Rattle.print_laws.specs.Reading.{FitsSyntax, IsArea, IsAreaOf, IsBlockOf, IsCallOperand, IsPrintedLabelOf, IsOpenOperand, IsPassedOperand, IsPrintedActual, IsPrintedOperand, IsPrintedStatement, IsRegister, IsJumpOperand, PrintedSyntax, block_call, bracket, call, empty, jump, opens, plain, syntax_of}
 use Rattle.print_laws.specs.Standing.{IsNonTitleName as IsCutName}
 use Rattle.listing_laws.proofs.FormLemmas.{labels_printed, typed_printed}
@@ -123,7 +123,7 @@ name_word formals index h named = by (slice_get formals index) refl (named_word 
 -- ---- fixed places
 
 -- the block that a statement opens first
-opened_block : (opened : Option ℕ) (writes : Bool) (a : Area) → MatchOption opened (Unit {0}) (λ n. n ≤ 65535) → IsOpenedIn opened a → IsBlockOf (option_map name_of_data_block opened) (letters_for_area writes a)
+opened_block : (opened : Option ℕ) (writes : Bool) (a : Area) → MatchOption opened (Unit {0}) (λ n. n ≤ 65535) → IsOpenedIn opened a → IsBlockOf (option_map data_block_name opened) (letters_for_area writes a)
 opened_block None writes a h k = tt
 opened_block (Some n) writes a h k = ((refl, h), ap (letters_for_area writes) k)
 
@@ -410,7 +410,7 @@ before_printed line formals called (op ∷ before) named others (one, more) (pla
 instance_called : (kind number instance : ℕ) → IsNumber number → IsNumber instance → (instance ≡ 0) ⊎ (kind ≡ kind_number kinds.Fb) → IsCallOperand (operand.Called (block.Number (called_id kind number)) (instance_name instance))
 instance_called kind number instance n i (inl none) = subst (λ (k : ℕ). IsCallOperand (operand.Called (block.Number (called_id kind number)) (instance_name k))) (sym none) n
 instance_called kind number instance n i (inr fb) = subst (λ (k : ℕ). IsCallOperand (operand.Called (block.Number (called_id k number)) (instance_name instance))) (sym fb)
-    (either_way (λ o. IsCallOperand (operand.Called (block.Number (called_id (kind_number kinds.Fb) number)) o)) (instance == 0) None (Some (name_of_data_block instance)) n ((refl, n), (refl, i)))
+    (either_way (λ o. IsCallOperand (operand.Called (block.Number (called_id (kind_number kinds.Fb) number)) o)) (instance == 0) None (Some (data_block_name instance)) n ((refl, n), (refl, i)))
 
 -- CALL with its actual parameters, or UC and CC
 called_fits : (line code kind number instance : ℕ) (formals called : List Formal) (before : List OpData) → code < 128 → is_call_form (takes_of code) ≡ true → IsNumber number → IsNumber instance

@@ -189,9 +189,9 @@ pub(crate) struct PassingChains {
 }
 
 impl Model for PassingChains {
-    ghost use Rattle.stl_list.specs.JoinedParameters.{PassingChains as ChainsData};
+    ghost use Rattle.stl_list.specs.JoinedParameters.{PassingChains as PassingChainsData};
 
-    ghost Value = { ChainsData };
+    ghost Value = { PassingChainsData };
 
     ghost view = { λ c. record {
       labels = c.labels.items;

@@ -5,9 +5,9 @@ ghost use Rattle.std.specs.List.Sorted.{IsStrictlySortedBy};
 ghost use Rattle.std.specs.Ordering.{nat_cmp};
 ghost use Rattle.stl_list.specs.Labels.{label_of_number};
 ghost use Rattle.stl_list.specs.Runs.{statement_number_at};
+ghost use Rattle.stl_parser.specs.Operands.{data_block_name};
 ghost use Rattle.stl_list.specs.Operands.{
   condition_operand,
-  name_of_data_block,
   direct_operand,
   implied_operand,
   instance_name,
@@ -86,7 +86,7 @@ fn writes(operation: Operation) -> bool
 
 /// A data block by its number.
 pub(crate) fn data_block_name(number: u16) -> BlockName
-    ensures { result ≡ name_of_data_block number }
+    ensures { result ≡ data_block_name number }
 {
     BlockName::Number {
         id: BlockId {
@@ -199,7 +199,7 @@ fn instance_name(instance: u16) -> Option<BlockName>
 }
 
 fn block_name(opened: Option<u16>) -> Option<BlockName>
-    ensures { result ≡ option_map name_of_data_block opened }
+    ensures { result ≡ option_map data_block_name opened }
 {
     match opened {
         None => None,

@@ -56,7 +56,8 @@ use Rattle.stl_codegen.specs.GeneratedProgram.{code_block, code_blocks_of, data_
 use Rattle.stl_codegen.specs.Instruction.{source_block_at, in_parameter_order, instr_by, instruction, passings_to, resolved_instr, return_last, operand_instr}
 use Rattle.stl_codegen.specs.Operations.{call_operation_of}
 use Rattle.stl_list.specs.JoinedParameters.{system_parameters}
-use Rattle.stl_list.specs.Operands.{name_of_data_block, name_at, own_parameter as own_named}
+use Rattle.stl_parser.specs.Operands.{data_block_name}
+use Rattle.stl_list.specs.Operands.{name_at, own_parameter as own_named}
 use Rattle.stl_list.specs.Signatures.{Signature, called_formals, formals_of_block}
 use Rattle.sem_kept.specs.AcceptedSource.{IsAccepted, program_in}
 use Rattle.sem_kept.specs.CodedBlocks.{StatementHasBytes}
@@ -458,7 +459,7 @@ module _ (source file : List ℕ) (symbols : List Symbol) (t : Tree) (accepted :
             some_number false z = refl
             some_number true z =
                 let zero_is : number ≡ 0 = eqb-true number 0 z in
-                absurd (no_zero listed (subst (λ n. data_number listed (name_of_data_block n) ≡ Some n) zero_is store))
+                absurd (no_zero listed (subst (λ n. data_number listed (data_block_name n) ≡ Some n) zero_is store))
         backed (passed.Parameter number w) is right k store =
             let record_there = no_own (parameter_meant here number) w right in
             let mine = own_there number record_there.0 record_there.1 in
@@ -473,7 +474,7 @@ module _ (source file : List ℕ) (symbols : List Symbol) (t : Tree) (accepted :
     pub call_again : IsFoundAgain c listed own called s cid instance callee
     call_again = record {
       found = again_called.callee;
-      is = callee_numbered listed cid (option_map name_of_data_block instance) again_called.callee again_called.found;
+      is = callee_numbered listed cid (option_map data_block_name instance) again_called.callee again_called.found;
       same = again_called.same ∙ sym same_callee;
       size = sym (order_long (source_block_at listed.blocks again_called.callee.place) again_called.callee.formals) ∙ ap length again_called.order ∙ length-map called in_upper_case
           ∙ sym again_called.kinds
