@@ -131,11 +131,11 @@ here_fits at i total ops op lt is h = omega (arith, h, ap (λ (z : List OpData).
 
 -- ---- the statements
 
-pub spots_next : (front : List StatementStart) (at i end : ℕ) (begin : Bool) (brackets after : List OpenBracket) (zones zones' : List ℕ) (ops : List OpData) (op : OpData) (now : List StatementStart)
+pub starts_next : (front : List StatementStart) (at i end : ℕ) (begin : Bool) (brackets after : List OpenBracket) (zones zones' : List ℕ) (ops : List OpData) (op : OpData) (now : List StatementStart)
     → i < length ops → op ≡ get_or ops i op → end ≡ at + size_of_op op → after ≡ brackets_after at op.code brackets → zones' ≡ zones_behind_op at op.code zones
     → now ≡ cond begin (front ++ record { at = at; codes = codes_of_few_brackets brackets; zones = length zones } ∷ []) front
     → now ++ statement_starts_from end op.last after zones' (drop (i + 1) ops) ≡ front ++ statement_starts_from at begin brackets zones (drop i ops)
-spots_next front at i end begin brackets after zones zones' ops op now lt is e a o n =
+starts_next front at i end begin brackets after zones zones' ops op now lt is e a o n =
     rw (n, e, a, o, drop_next ops i op lt is) (by begin)
   where
     here : StatementStart
@@ -148,8 +148,8 @@ spots_next front at i end begin brackets after zones zones' ops op now lt is e a
     by true = append_assoc front (here ∷ []) behind
     by false = refl
 
-pub spots_done : (front : List StatementStart) (at i : ℕ) (begin : Bool) (brackets : List OpenBracket) (zones : List ℕ) (ops : List OpData) → length ops ≤ i → front ++ statement_starts_from at begin brackets zones (drop i ops) ≡ front
-spots_done front at i begin brackets zones ops le = rw (drop_of_length-le ops {i = i} le) (append-nil front)
+pub starts_done : (front : List StatementStart) (at i : ℕ) (begin : Bool) (brackets : List OpenBracket) (zones : List ℕ) (ops : List OpData) → length ops ≤ i → front ++ statement_starts_from at begin brackets zones (drop i ops) ≡ front
+starts_done front at i begin brackets zones ops le = rw (drop_of_length-le ops {i = i} le) (append-nil front)
 
 one_fault : (least : Option LoadFault) (f : ℕ × ℕ) → with_faults least (f ∷ []) ≡ with_fault least f
 unfolding with_faults

@@ -36,11 +36,11 @@ pub record IsTableOf (starts : List ℕ) (len : ℕ) (table : List ℕ) : Type 0
       (at : ℕ) → at < len → slice_index_or table at no_index ≡ table_entry (start_index at starts)
 
 -- a table finds the statements of a block: it has at each offset of the code the index among
--- `spots` of the statement that begins there
+-- `statements` of the statement that begins there
 abbrev pub FindsStatements : List StatementStart → List ℕ → Type 0
-FindsStatements spots table =
+FindsStatements statements table =
     (at : ℕ)
-    → option_and_then (λ place. slice_get spots place) (slice_get table at) ≡ statement_start_at spots at
+    → option_and_then (λ place. slice_get statements place) (slice_get table at) ≡ statement_start_at statements at
 
 -- a table finds the lengths of data blocks: it has at each number the index among `lens` of the
 -- data block of that number

@@ -45,7 +45,7 @@ use Rattle.sem_kept.proofs.compiled.Reading.{aimed_append, aimed_are, aimed_byte
 use Rattle.sem_kept.proofs.compiled.Runs.{InstrParts, bytes_of, flat as flat_parts, size_aimed, total}
 use Rattle.sem_kept.specs.Jumps.{AllLandRight, LandsRight, jump_fault_of}
 use Rattle.plc_base.proofs.TruthLemmas.{or_met_behind}
-use Rattle.sem_kept.proofs.accepted.JumpsCode.{AreQuiet, IsFound, IsQuiet, codes_after, count_after, found_by, left_after, open_after, placed_all, spot_there}
+use Rattle.sem_kept.proofs.accepted.JumpsCode.{AreQuiet, IsFound, IsQuiet, codes_after, count_after, found_by, left_after, open_after, placed_all, start_there}
 use Rattle.flat_code.proofs.BracketLemmas.{codes_behind, codes_fault, codes_opened, count_behind, count_fault, count_is, fault_is, few_codes, few_is, no_zones, none_left, zone_fault_is}
 use Rattle.sem_kept.proofs.accepted.JumpsRules.{AreNestedAlike, AreRightFrom, HasList, IsRightAt, IsLabelOfJump, behind_more, by_29, by_31, by_47, by_49, few_open, functions, has_list, right_body, same_landings, target_is, target_past, zones_more}
 use Rattle.sem_kept.proofs.accepted.JumpsOperations.{IsLastOf, TakesRight, behind_codes, behind_count, bracket_right, codes_of_source_brackets, front_quiet, leads_to_label, last_of, last_op_of_instr, zone_right}
@@ -335,17 +335,17 @@ place_is c body ret pre rest e =
     ∙ position_is (stated_from c body 0 pre) (stated_from c body (count_of_statements pre) rest ++ ret ∷ [])
 
 -- the statement behind statements, and what is open there
-spot_behind : (f : ℕ → ℕ) (front : List SourceInstruction) (s : SourceInstruction) (rest : List SourceInstruction)
+start_behind : (f : ℕ → ℕ) (front : List SourceInstruction) (s : SourceInstruction) (rest : List SourceInstruction)
     → IsFound (statement_start_at (starts_of_statements (the_code f (front ++ s ∷ rest))) (ends_at front))
     (few_codes (codes_after (aimed_parts f (parts front)) []))
     (count_after (aimed_parts f (parts front)) 0)
-spot_behind f front s rest =
+start_behind f front s rest =
     found_by _ _ _ _ _ _
     (ap (λ (z : List InstrParts). statement_start_at (starts_of_statements (flat_parts z)) (ends_at front)) cut
     ∙ ap (statement_start_at (starts_of_statements (flat_parts (ps ++ aimed_part f (parts_of_instr s.instr) ∷ aimed_parts f (parts rest)))))
     (sym (aimed_extent f (parts front)) ∙ omega arith))
     refl refl
-    (spot_there 0 [] [] ps (aimed_part f (parts_of_instr s.instr)) (aimed_parts f (parts rest))
+    (start_there 0 [] [] ps (aimed_part f (parts_of_instr s.instr)) (aimed_parts f (parts rest))
     (aimed_are f (parts front) (parts_are front)) (parts_quiet f front) (part_quiet f s.instr)
     (aimed_is f (parts_of_instr s.instr) (is_statement s.instr)))
   where
@@ -357,18 +357,18 @@ spot_behind f front s rest =
     cut = ap (aimed_parts f) (parts_append front (s ∷ rest))
         ∙ aimed_append f (parts front) (parts (s ∷ rest))
 
-spot_of : (c : Context) (body : List Statement) (ret : SourceInstruction) (f : ℕ → ℕ) (pre rest : List Statement)
+start_of : (c : Context) (body : List Statement) (ret : SourceInstruction) (f : ℕ → ℕ) (pre rest : List Statement)
     → body ≡ pre ++ rest → AllByRecursion TakesRight pre
     → IsFound (statement_start_at (starts_of_statements (the_code f (whole c body ret))) (ends_of c body pre))
     (few_codes (codes_of_source_brackets (brackets_behind_all [] pre))) (length (zones_behind_all [] pre))
-spot_of c body ret f pre rest e takes =
+start_of c body ret f pre rest e takes =
     let h = has_first (stated_from c body (count_of_statements pre) rest) ret in
     found_by _ _ _ _ _ _
     (ap (λ (z : List SourceInstruction). statement_start_at (starts_of_statements (the_code f z)) (ends_of c body pre))
     (whole_cut c body ret pre rest e ∙ ap (λ (z : List SourceInstruction). stated_from c body 0 pre ++ z) h.is))
     (ap few_codes (stated_codes f c body 0 [] pre takes))
     (stated_zones f c body 0 [] pre takes)
-    (spot_behind f (stated_from c body 0 pre) h.first h.rest)
+    (start_behind f (stated_from c body 0 pre) h.first h.rest)
 
 -- ---- the list of a JL
 
@@ -490,7 +490,7 @@ jump_right : (ss : List StatementStart) (p : PlacedOp) (kind target : ℕ) (code
 jump_right ss p kind target codes count list here zones there =
     ap (λ (t : Bool). if t then Some 6 else target_fault (codes_of_few_brackets p.brackets) (length p.zones) (statement_start_at ss target)) list
     ∙ ap (target_fault (codes_of_few_brackets p.brackets) (length p.zones)) there.is
-    ∙ no_difference codes (codes_of_few_brackets p.brackets) (length p.zones) there.spot here there.codes_are
+    ∙ no_difference codes (codes_of_few_brackets p.brackets) (length p.zones) there.start here there.codes_are
     (there.zones_are ∙ sym zones)
 
 -- only a JL has a list
@@ -532,7 +532,7 @@ lands c body ret pre s post name all e right label =
     (ap few_codes
     (sym (same_functions (brackets_behind_all [] pre) (brackets_behind_all [] there.before) same.functions)))
     (sym same.zones)
-    (spot_of c body ret f there.before there.rest there.whole
+    (start_of c body ret f there.before there.rest there.whole
     (all_front TakesRight there.before there.rest
     (subst (AllByRecursion TakesRight) there.whole all.takes)))
   where
