@@ -339,7 +339,8 @@ abbrev pub jump_fault : List StatementStart → PlacedOp → ℕ → ℕ → Opt
 jump_fault statements p kind target =
     if is_bad_list p kind target then Some 6
     else
-    target_fault (codes_of_few_brackets p.brackets) (length p.zones) (statement_start_at statements target)
+    target_fault (codes_of_few_brackets p.brackets) (length p.zones)
+    (statement_start_at statements target)
 
 -- ---- ops
 

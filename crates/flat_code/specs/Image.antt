@@ -623,7 +623,8 @@ counts_layout = seen_as counts_of_row row_of_counts count_rows
 
 -- the n code blocks of an image; without code faults no fault 9, and fault 5 only for bytes that
 -- begin no op
-unfoldable pub code_blocks_layout : (with_code_faults : Bool) → (n : ℕ) → FieldLayout (List BlockRecord)
+unfoldable pub code_blocks_layout : (with_code_faults : Bool) → (n : ℕ)
+    → FieldLayout (List BlockRecord)
 code_blocks_layout with_code_faults n =
     list_layout (code_block_layout with_code_faults) after_block (0, 0) n
 

@@ -49,7 +49,8 @@ reading_given x cur = record { notes = []; found = Some (x, cur) }
 -- reading goes on with what was found and the place behind it; where nothing was found it ends
 -- there
 abbrev pub go_on :
-    {A B : Type 0} → List ReadingNote → Option (A × Cursor) → (A → Cursor → ReadResult B) → ReadResult B
+    {A B : Type 0} → List ReadingNote → Option (A × Cursor) → (A → Cursor → ReadResult B)
+    → ReadResult B
 go_on notes None f = record { notes = notes; found = None }
 go_on notes (Some x) f = record { notes = notes ++ (f x.0 x.1).notes; found = (f x.0 x.1).found }
 
@@ -137,7 +138,8 @@ read_many l next s (suc n) cur =
 
 -- a list of n values one behind the other; `s` is the state before the first, `next` gives the one
 -- behind a value, by which the layout of the next value is chosen
-abbrev pub list_layout : {S A : Type 0} → (S → FieldLayout A) → (S → A → S) → S → ℕ → FieldLayout (List A)
+abbrev pub list_layout : {S A : Type 0} → (S → FieldLayout A) → (S → A → S) → S → ℕ
+    → FieldLayout (List A)
 list_layout l next s n = record {
   spell = spell_many l next s;
   good = good_many l next s n;

@@ -127,7 +127,8 @@ pub record StatementStart : Type 0 where
 
 -- the statements of ops of which the first begins at the offset `at`, behind these open brackets
 -- and zones; `begin`: whether that op begins a statement or goes on with one
-abbrev pub statement_starts_from : ℕ → Bool → List OpenBracket → List ℕ → List OpData → List StatementStart
+abbrev pub statement_starts_from : ℕ → Bool → List OpenBracket → List ℕ → List OpData
+    → List StatementStart
 statement_starts_from at begin brackets zones [] = []
 statement_starts_from at begin brackets zones (op ∷ ops) =
     if begin

@@ -40,7 +40,8 @@ pub record IsTableOf (starts : List ℕ) (len : ℕ) (table : List ℕ) : Type 0
 abbrev pub FindsStatements : List StatementStart → List ℕ → Type 0
 FindsStatements statements table =
     (at : ℕ)
-    → option_and_then (λ place. slice_get statements place) (slice_get table at) ≡ statement_start_at statements at
+    → option_and_then (λ place. slice_get statements place) (slice_get table at)
+    ≡ statement_start_at statements at
 
 -- a table finds the lengths of data blocks: it has at each number the index among `lens` of the
 -- data block of that number

@@ -46,7 +46,8 @@ IsOpenedFor o (Some number) = is_in_db o ≡ true
 
 -- what a CALL passes to the block that is seen: each parameter by an index above the last one
 -- before it, with an actual parameter that isn't bad and fits
-abbrev pub ArePassed : Environment → Option CalleeSignature → (before : Option ℕ) → List Passing → Type 0
+abbrev pub ArePassed : Environment → Option CalleeSignature → (before : Option ℕ) → List Passing
+    → Type 0
 ArePassed a s before [] = Unit {0}
 ArePassed a s before (p ∷ ps) =
     (is_above p.index before ≡ true) × (is_bad_actual a p.actual ≡ false)

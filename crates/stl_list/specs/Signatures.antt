@@ -28,7 +28,8 @@ is_behind returns behind p = behind || returns && p.section == SECTION_IN_OUT
 
 -- a parameter of an index with its number among all; `behind`: an IN_OUT of a function stands
 -- before it
-abbrev pub formal_of_param : PassingChains → (behind : Bool) → (index parameter : ℕ) → Param → Formal
+abbrev pub formal_of_param : PassingChains → (behind : Bool) → (index parameter : ℕ) → Param
+    → Formal
 formal_of_param c behind index parameter p =
     formal (name_of (behind && p.section == SECTION_OUT) index) (section_of p.section)
     (kind_at c parameter p.width)

@@ -230,7 +230,8 @@ pub(crate) fn direct_operand(
 /// The label of the statement at an offset.
 fn target(alloc: Global, starts: &[u32], offset: u32) -> Result<Operand, NoMemory>
     requires { IsStrictlySortedBy nat_cmp starts.now }
-    ensures { IfOk result (λ o. o ≡ Operand.Label (label_of_number (statement_number_at starts.now offset))) }
+    ensures { IfOk result
+        (λ o. o ≡ Operand.Label (label_of_number (statement_number_at starts.now offset))) }
 {
     Ok(Operand::Label {
         name: label_of_number(alloc, statement_number_at(starts, offset))?,
