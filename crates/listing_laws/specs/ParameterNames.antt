@@ -1,6 +1,6 @@
 -- The names of the parameters of the blocks in a listing: each has its own.
 use Rattle.std.specs.Prelude.{◌≡◌, ◌≤◌, ℕ, Bool, true, false, ◌&&◌, ◌==◌, List, [], ◌∷◌, length, Some}
-use Rattle.flat_code.specs.declared.image_fields.TheConstants.{SECTION_OUT}
+use Rattle.flat_code.specs.Records.{section_out}
 use Rattle.flat_code.specs.declared.programs.Param.{Param}
 use Rattle.stl_types.specs.Parameters.{system_formals}
 use Rattle.stl_types.specs.declared.parameters.Formal.{Formal}
@@ -12,7 +12,7 @@ use Rattle.listing_laws.specs.Passings.{AreNamedApart}
 abbrev pub ReturnsLast : (returns behind : Bool) → List Param → Type 0
 ReturnsLast returns behind [] = Unit {0}
 ReturnsLast returns behind (p ∷ ps) =
-    ((behind && p.section == SECTION_OUT) ≡ true → ps ≡ [])
+    ((behind && p.section == section_out) ≡ true → ps ≡ [])
     × ReturnsLast returns (is_behind returns behind p) ps
 
 -- the parameters of a block in a listing have names of their own, where a return value is the last

@@ -3,7 +3,7 @@ use Rattle.std.specs.Prelude.{ℕ, suc, ◌+◌, ◌==◌, Bool, false, ◌&&◌
 use Rattle.plc_base.specs.Kinds.{is_function, is_same_block, is_system_function}
 use Rattle.plc_base.specs.declared.blocks.BlockId.{BlockId}
 use Rattle.flat_code.specs.Programs.{CodeBlock}
-use Rattle.flat_code.specs.declared.image_fields.TheConstants.{SECTION_OUT, SECTION_IN_OUT}
+use Rattle.flat_code.specs.Records.{section_out, section_in_out}
 use Rattle.flat_code.specs.declared.programs.Param.{Param}
 use Rattle.stl_types.specs.Parameters.{formal}
 use Rattle.stl_types.specs.declared.parameters.Formal.{Formal}
@@ -24,14 +24,14 @@ pub record Signature : Type 0 where
 
 -- whether an IN_OUT of a function stands here or before. `returns`: the block is a function
 abbrev pub is_behind : (returns behind : Bool) → Param → Bool
-is_behind returns behind p = behind || returns && p.section == SECTION_IN_OUT
+is_behind returns behind p = behind || returns && p.section == section_in_out
 
 -- a parameter of an index with its number among all; `behind`: an IN_OUT of a function stands
 -- before it
 abbrev pub formal_of_param : PassingChains → (behind : Bool) → (index parameter : ℕ) → Param
     → Formal
 formal_of_param c behind index parameter p =
-    formal (name_of (behind && p.section == SECTION_OUT) index) (section_of p.section)
+    formal (name_of (behind && p.section == section_out) index) (section_of p.section)
     (kind_at c parameter p.width)
 
 -- parameters from an index on. `returns`: the block may have a return value; `behind`: an IN_OUT

@@ -9,7 +9,7 @@ use Rattle.std.proofs.lemmas.Fmt.{decimal_injective}
 use Rattle.std.proofs.lemmas.Option.{same_Some, slice_get_within}
 use Rattle.std.proofs.lemmas.Slice.Eq.{bytes_eq-Decides}
 use Rattle.plc_base.specs.Folding.{upper_case_name}
-use Rattle.flat_code.specs.declared.image_fields.TheConstants.{SECTION_OUT}
+use Rattle.flat_code.specs.Records.{section_out}
 use Rattle.flat_code.specs.declared.programs.Param.{Param}
 use Rattle.stl_ast.specs.declared.declarations.Simple.TheVariants as simple
 use Rattle.stl_types.specs.Parameters.{dtime_formal, mode_formal, ob_nr_formal, return_value_formal, sign_formal, system_formals}
@@ -67,7 +67,7 @@ name_is : (c : PassingChains) (back behind : Bool) (index first : ℕ) (ps : Lis
     → (i : ℕ) (f : Formal) → slice_get (formals_from c back behind index first ps) i ≡ Some f → NameAt (index + length ps) (index + i) f.name
 name_is c back behind index first [] h i f e = absurd cc
 name_is c back behind index first (p ∷ ps) h zero f e =
-    subst (λ (g : Formal). NameAt (index + length (p ∷ ps)) (index + 0) g.name) (same_Some _ f e) (by (behind && p.section == SECTION_OUT) h.0)
+    subst (λ (g : Formal). NameAt (index + length (p ∷ ps)) (index + 0) g.name) (same_Some _ f e) (by (behind && p.section == section_out) h.0)
   where
     at : index ≡ index + 0
     at = omega arith

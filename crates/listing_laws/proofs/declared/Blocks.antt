@@ -9,12 +9,11 @@ use Rattle.plc_base.specs.Kinds.{is_code, is_data_block, is_data_type, is_functi
 use Rattle.plc_base.specs.declared.blocks.BlockId.{BlockId}
 use Rattle.plc_base.specs.declared.blocks.BlockKind.{BlockKind}
 use Rattle.plc_base.specs.declared.blocks.BlockKind.TheVariants as kinds
-use Rattle.flat_code.specs.declared.image_fields.TheConstants.{SECTION_IN, SECTION_IN_OUT, SECTION_OUT}
 use Rattle.flat_code.specs.Blocks.{Environment, block_faults}
 use Rattle.flat_code.specs.Image.{record_of_block}
 use Rattle.flat_code.specs.Loading.{AreVerified, environment_of_block, lens_of}
 use Rattle.flat_code.specs.Programs.{CodeBlock, DataBlock}
-use Rattle.flat_code.specs.Records.{BlockRecord}
+use Rattle.flat_code.specs.Records.{BlockRecord, section_in, section_in_out, section_out}
 use Rattle.flat_code.specs.declared.programs.Param.{Param}
 use Rattle.stl_ast.specs.Literals.{AreBytes}
 use Rattle.stl_ast.specs.WellFormed.{IsShapeOf, MayReturn}
@@ -130,7 +129,7 @@ groups_from returns params ins outs [] (Some k) is e input output in_out few =
         last = [];
         are = e ∙ ap (λ z. (ins ++ z) ++ r ∷ []) (append-nil outs) ∙ append_assoc ins outs (r ∷ []) ∙ ap (λ z. ins ++ z) (sym (append-nil (outs ++ r ∷ [])));
         input = input;
-        output = all_append (λ p. p.section ≡ SECTION_OUT) outs (r ∷ []) output (refl, tt);
+        output = all_append (λ p. p.section ≡ section_out) outs (r ∷ []) output (refl, tt);
         in_out = tt;
         ends = Ends refl;
         short = omega (arith, size, a, b, c, d, few);
@@ -357,13 +356,13 @@ sourced symbols t k b l id h e code = record {
         own_fb = ap is_function_block kind ∙ fb
 
         ins : List Param
-        ins = section_params false l.components SECTION_IN parts.ins
+        ins = section_params false l.components section_in parts.ins
 
         outs : List Param
-        outs = section_params false l.components SECTION_OUT parts.outs
+        outs = section_params false l.components section_out parts.outs
 
         both : List Param
-        both = section_params false l.components SECTION_IN_OUT parts.both
+        both = section_params false l.components section_in_out parts.both
 
         are : params_of b l ≡ (ins ++ (outs ++ both)) ++ returned_params b.result
         are =

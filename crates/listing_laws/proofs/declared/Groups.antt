@@ -2,7 +2,7 @@
 use Rattle.std.proofs.Common.{◌≡◌, ℕ, suc, ◌+◌, ◌<◌, ◌^◌, Bool, true, false, List, [], ◌∷◌, ◌++◌, length, refl, sym, ap, subst, ◌∙◌, arith}
 use Rattle.std.specs.Prelude.{◌==◌, ◌&&◌, ◌||◌}
 use Rattle.std.specs.List.{AllByRecursion}
-use Rattle.flat_code.specs.declared.image_fields.TheConstants.{SECTION_IN_OUT, SECTION_OUT}
+use Rattle.flat_code.specs.Records.{section_in_out, section_out}
 use Rattle.flat_code.specs.declared.programs.Param.{Param}
 use Rattle.stl_ast.specs.declared.blocks.PartKind.{PartKind}
 use Rattle.stl_ast.specs.declared.blocks.PartKind.TheVariants as part
@@ -21,7 +21,7 @@ AreOf section ps = AllByRecursion (λ p. p.section ≡ section) ps
 -- a return value behind an IN_OUT, or none
 pub data HasEnd (returns : Bool) (both last : List Param) : Type 0 where
   Ends : last ≡ [] → HasEnd returns both last
-  Returns : (r p : Param) (ps : List Param) → returns ≡ true → both ≡ p ∷ ps → last ≡ r ∷ [] → r.section ≡ SECTION_OUT → HasEnd returns both last
+  Returns : (r p : Param) (ps : List Param) → returns ≡ true → both ≡ p ∷ ps → last ≡ r ∷ [] → r.section ≡ section_out → HasEnd returns both last
 
 -- the parameters of a block in the order of an image. `returns`: it is a function
 pub record HasGroups (returns : Bool) (params : List Param) : Type 0 where
@@ -58,7 +58,7 @@ formals_append c returns behind index first (p ∷ ps) rest =
     ap (λ z. formal_of_param c behind index first p ∷ z) (more ∙ (λ i. formals_from c returns (is_behind returns behind p) (suc index) (suc first) ps ++ formals_from c returns after (a i) (b i) rest))
 
 -- no IN_OUT among these
-still : (returns : Bool) (section : ℕ) (ps : List Param) → (section == SECTION_IN_OUT) ≡ false → AreOf section ps → behind_after returns false ps ≡ false
+still : (returns : Bool) (section : ℕ) (ps : List Param) → (section == section_in_out) ≡ false → AreOf section ps → behind_after returns false ps ≡ false
 unfolding behind_after
 still returns section [] apart h = refl
 still returns section (p ∷ ps) apart (is, more) =
@@ -85,11 +85,11 @@ behind_both behind p ps (is, more) =
     by true = refl
     by false = refl
 
-numbered_from : (c : PassingChains) (returns behind : Bool) (index first section : ℕ) (ps : List Param) → (section == SECTION_OUT) ≡ false → AreOf section ps
+numbered_from : (c : PassingChains) (returns behind : Bool) (index first section : ℕ) (ps : List Param) → (section == section_out) ≡ false → AreOf section ps
     → AreNumbered index (formals_from c returns behind index first ps)
 numbered_from c returns behind index first section [] apart h = tt
 numbered_from c returns behind index first section (p ∷ ps) apart (is, more) =
-    let none : (behind && p.section == SECTION_OUT) ≡ false = ap (λ n. behind && n == SECTION_OUT) is ∙ ap (λ t. behind && t) apart ∙ by behind in
+    let none : (behind && p.section == section_out) ≡ false = ap (λ n. behind && n == section_out) is ∙ ap (λ t. behind && t) apart ∙ by behind in
     (ap (λ t. name_of t index) none, numbered_from c returns (is_behind returns behind p) (suc index) (suc first) section ps apart more)
   where
     by : (t : Bool) → (t && false) ≡ false
@@ -136,7 +136,7 @@ last_is : (c : PassingChains) (returns : Bool) (index first : ℕ) (both last : 
 last_is c returns index first both last (Ends e) h = NoLast (ap (λ z. formals_from c returns (behind_after returns false both) index first z) e)
 last_is c returns index first both last (Returns r p ps is some alone section) h =
     subst (λ z. IsLast (formals_from c returns (behind_after returns false both) index first z)) (sym alone)
-    (LastReturned _ (ap (λ t. name_of t index) (ap (λ t. t && r.section == SECTION_OUT) there ∙ ap (λ n. n == SECTION_OUT) section)) refl)
+    (LastReturned _ (ap (λ t. name_of t index) (ap (λ t. t && r.section == section_out) there ∙ ap (λ n. n == section_out) section)) refl)
   where
     there : behind_after returns false both ≡ true
     there =

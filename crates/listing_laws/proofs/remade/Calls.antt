@@ -13,7 +13,7 @@ use Rattle.plc_base.specs.declared.blocks.BlockId.{BlockId}
 use Rattle.plc_base.specs.declared.blocks.BlockKind.{BlockKind}
 use Rattle.plc_base.specs.declared.blocks.BlockKind.TheVariants as kinds
 use Rattle.plc_base.specs.declared.places.Width.{Width}
-use Rattle.flat_code.specs.declared.image_fields.TheConstants.{SECTION_IN}
+use Rattle.flat_code.specs.Records.{section_in}
 use Rattle.flat_code.specs.Blocks.{Environment, CalleeSignature as FlatCallee, are_all_passed, is_bad_actual, is_bad_call, is_in_parameter, lacks_own_parameter, misfits_index, misfits_parameter, parameter_meant, signature_of}
 use Rattle.flat_code.specs.Forms.{actual_fits}
 use Rattle.flat_code.specs.Image.{record_of_block, record_of_param}
@@ -463,7 +463,7 @@ module _ (source file : List ℕ) (symbols : List Symbol) (t : Tree) (accepted :
         backed (passed.Parameter number w) is right k store =
             let record_there = no_own (parameter_meant here number) w right in
             let mine = own_there number record_there.0 record_there.1 in
-            let parts = or_parts (not (q.0.width == width_number w)) (not (q.0.section == SECTION_IN) && is_in_parameter (parameter_meant here number)) k in
+            let parts = or_parts (not (q.0.width == width_number w)) (not (q.0.section == section_in) && is_in_parameter (parameter_meant here number)) k in
             let wide : width_of mine.formal.kind ≡ width_of asks.0.kind
             = same_kinds_wide asks.0 mine.formal q.0 record_there.0 w asks.2 mine.as_listed parts.0 (ap (λ o. lacks_own_parameter o w) (sym record_there.1) ∙ right) in
             let on = passes_on lower p.index number w higher (e ∙ ap (λ (x : Passed). lower ++ record { index = p.index; actual = x } ∷ higher) is) in
