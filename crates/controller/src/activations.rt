@@ -19,7 +19,7 @@ ghost use Rattle.controller.specs.Ticking.{active_obs};
 use crate::beginning::{at_begin, local_len_of, ob_block, set_start_bytes};
 use crate::errors::failure;
 use crate::serving::{Answer, serve};
-use crate::spots::spot_at;
+use crate::spots::statement_start_at;
 use arrayvec::ArrayVec;
 use frames::{Activation, Binding, Bindings, Frame};
 use image_file::Loaded;
@@ -77,7 +77,7 @@ fn spot_of(program: &Loaded, a: &Activation) -> Option<Spot>
     requires { CanExecute (code_of program.now.program) a.now }
     ensures { result ≡ spot_of_frame (code_of program.now.program) a.now.running.frame }
 {
-    spot_at(program, a.running.frame.block, a.running.frame.at)
+    statement_start_at(program, a.running.frame.block, a.running.frame.at)
 }
 
 // The organization blocks of activations.

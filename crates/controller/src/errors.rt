@@ -10,7 +10,7 @@ ghost use Rattle.controller.specs.Views.{cpu_state};
 
 use crate::activations::At;
 use crate::cpus::Cpu;
-use crate::spots::spot_at;
+use crate::spots::statement_start_at;
 use image_file::Loaded;
 use ob_sched::StartEvent;
 use plc_base::{Spot, stop_causes};
@@ -73,7 +73,7 @@ impl Cpu {
             return;
         };
         let is_inside = is_synchronous(running.ob);
-        let at = spot_at(program, position.block, position.at);
+        let at = statement_start_at(program, position.block, position.at);
         self.diagnose(SYNCHRONOUS_ERROR, u16::from(code));
         if is_inside {
             self.halt_at(at, stop_causes::IN_ERROR_OB);

@@ -6,7 +6,7 @@ ghost use Rattle.controller.specs.Monitoring.{is_monitored as is_monitored_block
 ghost use Rattle.controller.specs.Ready.{HasStatement};
 
 use crate::activations::At;
-use crate::spots::spot_at;
+use crate::spots::statement_start_at;
 use image_file::Loaded;
 use monitor::MonRecord;
 use plc_base::BlockId;
@@ -36,7 +36,7 @@ pub(crate) fn statement_record(
     if !is_monitored(monitored, position.block) {
         return None;
     }
-    let at = spot_at(program, position.block, position.at)?;
+    let at = statement_start_at(program, position.block, position.at)?;
     Some(MonRecord {
         block: at.block,
         line: at.line,

@@ -9,7 +9,7 @@ use plc_base::{BlockId, Spot};
 
 /// A block and the source line of its statement at an offset.
 #[tactic(auto, using(crate::proofs::ReadyLemmas::spot_read))]
-pub(crate) fn spot_at(program: &Loaded, block: BlockId, at: u32) -> Option<Spot>
+pub(crate) fn statement_start_at(program: &Loaded, block: BlockId, at: u32) -> Option<Spot>
     requires { HasStatement (code_of program.now.program) block at }
     ensures { result ≡ spot_in (code_of program.now.program) block at }
 {

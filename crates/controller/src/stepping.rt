@@ -13,7 +13,7 @@ ghost use Rattle.controller.specs.Views.{cpu_state};
 use crate::activations::At;
 use crate::cpus::Cpu;
 use crate::monitoring::statement_record;
-use crate::spots::spot_at;
+use crate::spots::statement_start_at;
 use crate::starting::STARTUP_OB;
 use frames::Binding;
 use image_file::Loaded;
@@ -65,7 +65,7 @@ impl Cpu {
             .serve(number, inputs, to, &mut self.memory, &mut self.sched);
         let regs = self.activations.regs().unwrap_or(position.regs);
         if let Some(cause) = stop {
-            self.halt_at(spot_at(program, position.block, position.at), cause);
+            self.halt_at(statement_start_at(program, position.block, position.at), cause);
         }
         regs
     }
@@ -95,7 +95,7 @@ impl Cpu {
                 result,
             } => return self.call_system(program, position, number, &inputs, result),
             Outcome::Stop { cause } => self.halt_at(
-                spot_at(program, position.block, position.at),
+                statement_start_at(program, position.block, position.at),
                 cause,
             ),
         }

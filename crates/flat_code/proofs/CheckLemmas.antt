@@ -12,7 +12,7 @@ use Rattle.flat_code.specs.Checking.{all_good, good_params, good_lines, good_blo
 use Rattle.flat_code.specs.Codes.{are_ops, code_bytes, code_layout, size_of_op}
 use Rattle.flat_code.specs.Faults.{field_fault, name_fault}
 use Rattle.flat_code.specs.Image.{zero_u8, zero_u16, plain_u16, plain_u32, width_field, bytes_fit, section_field, parameter_byte, parameter_bit, parameter_rows, parameter_layout, kind_field, parameter_count_layout, block_number_layout, local_length_layout, instance_bytes_layout, Head, head_layout, head_rows, same_state, parameters_layout, line_field, line_after, lines_layout, code_and_lines, block_rows, head_of_block, plain_block, code_block_layout, after_block, record_of_block, record_of_param, data_number_layout, instance_field, data_length_layout, contents_layout, data_rows, data_block_layout, after_data, name_len, name_bytes, name_area, name_bit, name_rows, name_record, after_name, name_of_entry, data_count, RecordCounts, counts_layout, count_rows, code_blocks_layout, data_blocks_layout, names_layout, body_rows, parts_of_records, records_of, records_layout, body_layout, front_size, IsProgram}
-use Rattle.flat_code.specs.Layout.{Layout, is_fine, good_many, spell_many}
+use Rattle.flat_code.specs.Layout.{FieldLayout, is_fine, good_many, spell_many}
 use Rattle.flat_code.specs.Ops.{OpData, IsOp, op_bytes}
 use Rattle.flat_code.specs.Programs.{CodeBlock, DataBlock, NameEntry, Program}
 use Rattle.flat_code.specs.Records.{BlockRecord, NameRecord}
@@ -29,7 +29,7 @@ zero_word_good = refl
 -- ---- the tests
 
 -- as many values as there are
-good_many_is_all : {S A : Type 0} (l : S → Layout A) (next : S → A → S) (s : S) (xs : List A) → good_many l next s (length xs) xs ≡ all_good l next s xs
+good_many_is_all : {S A : Type 0} (l : S → FieldLayout A) (next : S → A → S) (s : S) (xs : List A) → good_many l next s (length xs) xs ≡ all_good l next s xs
 good_many_is_all l next s [] = refl
 good_many_is_all l next s (x ∷ xs) = ap (λ (t : Bool). (l s).good x && t) (good_many_is_all l next (next s x) xs)
 
@@ -115,7 +115,7 @@ records_good p =
 
 -- ---- the bytes
 
-many_sized : {S A : Type 0} (l : S → Layout A) (next : S → A → S) (size : A → ℕ) → ((s : S) (x : A) → length ((l s).spell x) ≡ size x) → (s : S) (xs : List A) → length (spell_many l next s xs) ≡ sum_by size xs
+many_sized : {S A : Type 0} (l : S → FieldLayout A) (next : S → A → S) (size : A → ℕ) → ((s : S) (x : A) → length ((l s).spell x) ≡ size x) → (s : S) (xs : List A) → length (spell_many l next s xs) ≡ sum_by size xs
 many_sized l next size each s [] = refl
 many_sized l next size each s (x ∷ xs) =
     let more = many_sized l next size each (next s x) xs in

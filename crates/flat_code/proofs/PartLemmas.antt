@@ -7,7 +7,7 @@ use Rattle.plc_base.specs.declared.blocks.BlockKind.TheVariants as blocks
 use Rattle.flat_code.specs.Codes.{code_layout}
 use Rattle.flat_code.specs.Faults.{field_fault, fault_unless_met}
 use Rattle.flat_code.specs.Image.{BlockParts, Head, after_block, block_number_layout, block_rows, code_and_lines, code_block_layout, code_blocks_layout, head_layout, head_rows, instance_bytes_layout, kind_field, lines_layout, local_length_layout, parameter_count_layout, parameters_layout, plain_u16, plain_u32, record_of_block, row_of_block_parts, row_of_head, zero_u16}
-use Rattle.flat_code.specs.Layout.{Layout, chain_layout, good_many, is_fine}
+use Rattle.flat_code.specs.Layout.{FieldLayout, chain_layout, good_many, is_fine}
 use Rattle.flat_code.specs.declared.image_fields.ParameterRecord.{ParameterRecord}
 use Rattle.flat_code.specs.Ops.{OpData}
 use Rattle.flat_code.specs.Programs.{CodeBlock}
@@ -16,11 +16,11 @@ pub unless_fine : (b : Bool) (code : ℕ) → is_fine (fault_unless_met b code) 
 unless_fine true code h = refl
 unless_fine false code h = absurd cc
 
-pub chain_parts : {A B : Type 0} (l : Layout A) (m : A → Layout B) (x : A × B) → (chain_layout l m).good x ≡ true → (l.good x.0 ≡ true) × ((m x.0).good x.1 ≡ true)
+pub chain_parts : {A B : Type 0} (l : FieldLayout A) (m : A → FieldLayout B) (x : A × B) → (chain_layout l m).good x ≡ true → (l.good x.0 ≡ true) × ((m x.0).good x.1 ≡ true)
 chain_parts l m x h = and_parts (l.good x.0) ((m x.0).good x.1) h
 
 -- what holds of each record without fault holds of all of a list without fault
-pub all_of_many : {S A B : Type 0} (l : S → Layout A) (next : S → A → S) (record_of : B → A) (P : B → Type 0)
+pub all_of_many : {S A B : Type 0} (l : S → FieldLayout A) (next : S → A → S) (record_of : B → A) (P : B → Type 0)
     → ((s : S) (y : B) → (l s).good (record_of y) ≡ true → P y)
     → (s : S) (n : ℕ) (ys : List B) → good_many l next s n (map record_of ys) ≡ true → AllByRecursion P ys
 all_of_many l next record_of P each s n [] h = tt
@@ -39,25 +39,25 @@ dword_fits n good = ltb-true n 4294967296 (and_parts (ltb n 4294967296) true goo
 
 -- ---- the head of a code block, from each of its fields on
 
-abbrev pub from_size : Layout ℕ
+abbrev pub from_size : FieldLayout ℕ
 from_size = plain_u32
 
-abbrev pub from_zero : Layout (ℕ × ℕ)
+abbrev pub from_zero : FieldLayout (ℕ × ℕ)
 from_zero = chain_layout zero_u16 (λ zero. from_size)
 
-abbrev pub from_statements : Layout (ℕ × (ℕ × ℕ))
+abbrev pub from_statements : FieldLayout (ℕ × (ℕ × ℕ))
 from_statements = chain_layout plain_u16 (λ statements. from_zero)
 
-abbrev pub from_instance : ℕ → Layout (ℕ × (ℕ × (ℕ × ℕ)))
+abbrev pub from_instance : ℕ → FieldLayout (ℕ × (ℕ × (ℕ × ℕ)))
 from_instance kind = chain_layout (instance_bytes_layout kind) (λ instance. from_statements)
 
-abbrev pub from_locals : ℕ → Layout (ℕ × (ℕ × (ℕ × (ℕ × ℕ))))
+abbrev pub from_locals : ℕ → FieldLayout (ℕ × (ℕ × (ℕ × (ℕ × ℕ))))
 from_locals kind = chain_layout (local_length_layout kind) (λ locals. from_instance kind)
 
-abbrev pub from_number : ℕ × ℕ → ℕ → Layout (ℕ × (ℕ × (ℕ × (ℕ × (ℕ × ℕ)))))
+abbrev pub from_number : ℕ × ℕ → ℕ → FieldLayout (ℕ × (ℕ × (ℕ × (ℕ × (ℕ × ℕ)))))
 from_number before kind = chain_layout (block_number_layout before.0 before.1 kind) (λ number. from_locals kind)
 
-abbrev pub from_params : ℕ × ℕ → ℕ → Layout (ℕ × (ℕ × (ℕ × (ℕ × (ℕ × (ℕ × ℕ))))))
+abbrev pub from_params : ℕ × ℕ → ℕ → FieldLayout (ℕ × (ℕ × (ℕ × (ℕ × (ℕ × (ℕ × ℕ))))))
 from_params before kind = chain_layout (parameter_count_layout kind) (λ params. from_number before kind)
 
 -- the fields of a head without fault
@@ -95,7 +95,7 @@ head_params before h good =
 
 -- ---- a code block
 
-abbrev pub behind_head : Bool → ℕ → Head → Layout (List ParameterRecord × (List OpData × List ℕ))
+abbrev pub behind_head : Bool → ℕ → Head → FieldLayout (List ParameterRecord × (List OpData × List ℕ))
 behind_head with_code_faults start h = chain_layout (parameters_layout h) (λ params. code_and_lines with_code_faults start h)
 
 -- the parts of a block without fault

@@ -16,7 +16,7 @@ use Rattle.flat_code.specs.Ops.{OpData}
 use Rattle.flat_code.specs.Records.{BlockRecord}
 use Rattle.flat_code.specs.Codes.{size_of_op, first_found}
 use Rattle.flat_code.specs.declared.image_fields.OpenBracket.{OpenBracket}
-use Rattle.flat_code.specs.PlacedOps.{PlacedOp, code_places, begins_its_statement, is_empty_list, last_op, is_opening, open_behind, zones_left, codes_of_few_brackets, most_brackets, most_zones, StatementSpot, statement_spots, spot_at}
+use Rattle.flat_code.specs.PlacedOps.{PlacedOp, code_places, begins_its_statement, is_empty_list, last_op, is_opening, open_behind, zones_left, codes_of_few_brackets, most_brackets, most_zones, StatementStart, starts_of_statements, statement_start_at}
 use Rattle.flat_code.specs.OpCodes.{op_code_of}
 use Rattle.flat_code.specs.Kinds.{jump_number}
 use Rattle.flat_code.specs.Records.{section_in, section_out}
@@ -95,22 +95,22 @@ system_params n =
 
 -- what is called, as a CALL sees it: its kind (2 FC, 3 FB, 5 SFC), the bytes of an instance, the
 -- parameters
-abbrev pub CalleeSeen : Type 0
-CalleeSeen = ℕ × ℕ × List ParameterRecord
+abbrev pub CalleeSignature : Type 0
+CalleeSignature = ℕ × ℕ × List ParameterRecord
 
 -- the first block of a kind (2 FC, 3 FB) and number, as a CALL sees it
-abbrev pub block_with : ℕ → ℕ → List BlockSignature → Option CalleeSeen
+abbrev pub block_with : ℕ → ℕ → List BlockSignature → Option CalleeSignature
 block_with kind number [] = None
 block_with kind number (b ∷ bs) =
     if b.kind == kind && b.number == number then Some (b.kind, b.instance_len, b.params)
     else block_with kind number bs
 
 -- an SFC with these parameters, as a CALL sees it: it has no instance bytes
-abbrev pub callee_of_system : List ParameterRecord → CalleeSeen
+abbrev pub callee_of_system : List ParameterRecord → CalleeSignature
 callee_of_system params = (kind_number kinds.Sfc, 0, params)
 
 -- the block that is called, by kind and number: a system function (kind 5), or one of the program
-unfoldable pub callee_among : List BlockSignature → ℕ → ℕ → Option CalleeSeen
+unfoldable pub callee_among : List BlockSignature → ℕ → ℕ → Option CalleeSignature
 callee_among blocks kind number =
     if kind == kind_number kinds.Sfc then option_map callee_of_system (system_params number)
     else block_with kind number blocks
@@ -235,7 +235,7 @@ misfits_index environment (Some q) actual = misfits_parameter environment q actu
 
 -- whether what is passed doesn't fit the parameter of an index of what is called; where that is
 -- absent (None) the fault is one of the CALL, not of its PASS
-abbrev pub misfits_callee : Environment → Option CalleeSeen → ℕ → Passed → Bool
+abbrev pub misfits_callee : Environment → Option CalleeSignature → ℕ → Passed → Bool
 misfits_callee environment None index actual = false
 misfits_callee environment (Some s) index actual =
     misfits_index environment (slice_get s.2 index) actual
@@ -270,7 +270,7 @@ is_short_instance needed (Some len) = nat_lt len needed
 
 -- whether the instance of a call, by its data block's number, isn't right: none (0) is right where
 -- the block has no parameters; one is given to function blocks alone, and is there and long enough
-abbrev pub is_bad_instance : List (ℕ × ℕ) → CalleeSeen → ℕ → Bool
+abbrev pub is_bad_instance : List (ℕ × ℕ) → CalleeSignature → ℕ → Bool
 is_bad_instance data_lens s instance =
     if s.0 == kind_number kinds.Fb
     then (if instance == 0 then not (is_empty_list s.2)
@@ -280,7 +280,7 @@ is_bad_instance data_lens s instance =
 -- whether a call is fault 7: what is called is absent (None), a function or system function isn't
 -- passed all its parameters, or the instance isn't right; `before`: the ops of the statement before
 -- the call
-abbrev pub is_bad_call : List (ℕ × ℕ) → Option CalleeSeen → ℕ → List OpData → Bool
+abbrev pub is_bad_call : List (ℕ × ℕ) → Option CalleeSignature → ℕ → List OpData → Bool
 is_bad_call data_lens None instance before = true
 is_bad_call data_lens (Some s) instance before =
     not (s.0 == kind_number kinds.Fb) && not (are_all_passed 0 s.2 before)
@@ -324,22 +324,23 @@ are_other_brackets (Some codes) (Some others) = not (are_same_codes codes others
 
 -- the fault 8 of a jump at whose target other brackets, or another number of zones, stand open than
 -- at the jump itself; `codes`, `zones`: what stands open at the jump
-abbrev pub nesting_fault : Option (List ℕ) → ℕ → StatementSpot → Option ℕ
+abbrev pub nesting_fault : Option (List ℕ) → ℕ → StatementStart → Option ℕ
 nesting_fault codes zones there =
     if are_other_brackets codes there.codes || not (zones == there.zones) then Some 8 else None
 
 -- the fault of a jump by the statement at its target: 6 where none begins there, 8 where other
 -- brackets or another number of zones stand open
-abbrev pub target_fault : Option (List ℕ) → ℕ → Option StatementSpot → Option ℕ
+abbrev pub target_fault : Option (List ℕ) → ℕ → Option StatementStart → Option ℕ
 target_fault codes zones None = Some 6
 target_fault codes zones (Some there) = nesting_fault codes zones there
 
 -- the fault of a jump: 6 for the list of a JL, else 6 or 8 by what begins at the target
-abbrev pub jump_fault : List StatementSpot → PlacedOp → ℕ → ℕ → Option ℕ
+abbrev pub jump_fault : List StatementStart → PlacedOp → ℕ → ℕ → Option ℕ
 jump_fault statements p kind target =
     if is_bad_list p kind target then Some 6
     else
-    target_fault (codes_of_few_brackets p.brackets) (length p.zones) (spot_at statements target)
+    target_fault (codes_of_few_brackets p.brackets) (length p.zones)
+    (statement_start_at statements target)
 
 -- ---- ops
 
@@ -348,7 +349,7 @@ abbrev pub seven_if : Bool → Option ℕ
 seven_if b = if b then Some 7 else None
 
 -- the fault of an op's operand that needs only its own block: 7, and for a jump 6 or 8
-abbrev pub operand_fault : Environment → List StatementSpot → PlacedOp → Operand → Option ℕ
+abbrev pub operand_fault : Environment → List StatementStart → PlacedOp → Operand → Option ℕ
 operand_fault environment statements p (operand.Direct a w byte bit) =
     seven_if (lacks_width p.op w || is_bad_place environment a w byte bit)
 operand_fault environment statements p (operand.ByMemory a w from byte) =
@@ -415,7 +416,7 @@ at_offset at (Some code) = (at, code) ∷ []
 
 -- the faults of one op, each at the op's own offset (`start` is where the code begins): of its
 -- operand, of what is called or passed, of its end mark, of its bracket, of its zone
-unfoldable pub op_faults : Environment → List StatementSpot → ℕ → PlacedOp → List (ℕ × ℕ)
+unfoldable pub op_faults : Environment → List StatementStart → ℕ → PlacedOp → List (ℕ × ℕ)
 op_faults environment statements start p =
     at_offset (start + p.at) (operand_fault environment statements p p.op.operand)
     ++ at_offset (start + p.at) (call_fault environment environment.data_lens p)
@@ -424,7 +425,7 @@ op_faults environment statements start p =
     ++ at_offset (start + p.at) (zone_fault p.op.code p.zones)
 
 -- the faults of ops one behind the other, in code that begins at the offset `start`
-abbrev pub faults_over : Environment → List StatementSpot → ℕ → List PlacedOp → List (ℕ × ℕ)
+abbrev pub faults_over : Environment → List StatementStart → ℕ → List PlacedOp → List (ℕ × ℕ)
 faults_over environment statements start [] = []
 faults_over environment statements start (p ∷ rest) =
     op_faults environment statements start p ++ faults_over environment statements start rest
@@ -443,6 +444,6 @@ open_zone_faults start (at ∷ zones) = (start + at, 8) ∷ open_zone_faults sta
 -- those of brackets and zones that its end leaves open
 unfoldable pub block_faults : Environment → ℕ → List OpData → List (ℕ × ℕ)
 block_faults environment start ops =
-    faults_over environment (statement_spots ops) start (code_places ops)
+    faults_over environment (starts_of_statements ops) start (code_places ops)
     ++ open_faults start (open_behind 0 [] ops)
     ++ open_zone_faults start (zones_left 0 [] ops)

@@ -2,12 +2,12 @@
 use Rattle.std.specs.Prelude.{ℕ, ◌+◌, ◌*◌, nat_le, nat_lt, Bool, true, false, ◌&&◌, List, [], ◌∷◌, length, map, sum_by}
 use Rattle.flat_code.specs.Codes.{code_bytes}
 use Rattle.flat_code.specs.Image.{after_block, after_data, after_name, code_block_layout, data_block_layout, line_after, line_field, name_of_entry, name_record, parameter_layout, record_of_block, record_of_param, same_state}
-use Rattle.flat_code.specs.Layout.{Layout}
+use Rattle.flat_code.specs.Layout.{FieldLayout}
 use Rattle.flat_code.specs.Programs.{CodeBlock, DataBlock, NameEntry, Program}
 use Rattle.flat_code.specs.declared.programs.Param.{Param}
 
 -- whether values one behind the other are without fault, each checked by a state of those before it
-abbrev pub all_good : {S A : Type 0} → (S → Layout A) → (S → A → S) → S → List A → Bool
+abbrev pub all_good : {S A : Type 0} → (S → FieldLayout A) → (S → A → S) → S → List A → Bool
 all_good l next s [] = true
 all_good l next s (x ∷ xs) = (l s).good x && all_good l next (next s x) xs
 

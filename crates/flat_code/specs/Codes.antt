@@ -4,7 +4,7 @@ use Rattle.flat_code.specs.Ops.{OpData, is_op, op_bytes, op_at}
 use Rattle.flat_code.specs.OpCodes.{op_code_of as code_of_operation}
 use Rattle.flat_code.specs.declared.operations.Operation.TheVariants as operation
 use Rattle.flat_code.specs.declared.operations.EndOperation.TheVariants as ends_by
-use Rattle.flat_code.specs.Layout.{Cursor, ReadResult, Layout, reading_ended, reading_given}
+use Rattle.flat_code.specs.Layout.{Cursor, ReadResult, FieldLayout, is_fine, reading_ended, reading_given}
 
 -- an op in front of ops that were read and of the bytes that are left behind them
 abbrev pub cons_op : OpData → List OpData × List ℕ → List OpData × List ℕ
@@ -107,16 +107,11 @@ read_code with_code_faults n cur =
     (ops_from n (take n cur.rest))
     (record { at = cur.at + n; rest = drop n cur.rest })
 
--- whether no offset was found (None), so that there is no fault 5
-abbrev pub is_nowhere : Option ℕ → Bool
-is_nowhere None = true
-is_nowhere (Some at) = false
-
 -- the code field of n bytes; without code faults the 65th op and a wrong last op are no faults
-unfoldable pub code_layout : (with_code_faults : Bool) → (n : ℕ) → Layout (List OpData)
+unfoldable pub code_layout : (with_code_faults : Bool) → (n : ℕ) → FieldLayout (List OpData)
 code_layout with_code_faults n = record {
   spell = code_bytes;
   good = λ ops.
-      are_ops ops && is_nowhere (stop_at with_code_faults ops []) && length (code_bytes ops) == n;
+      are_ops ops && is_fine (stop_at with_code_faults ops []) && length (code_bytes ops) == n;
   read = read_code with_code_faults n;
 }

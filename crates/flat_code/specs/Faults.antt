@@ -105,8 +105,8 @@ ends_blank [] = false
 ends_blank (x ∷ []) = x == 32
 ends_blank (x ∷ xs) = ends_blank xs
 
--- the fault 4 of a name: it rises from the name before it, has no lower-case letter, and no blank
--- at its end
+-- the fault 4 of a name, unless it rises from the name before it, has no lower-case letter, and no
+-- blank at its end
 unfoldable pub name_fault : List ℕ → List ℕ → Option ℕ
 name_fault before name =
     fault_unless_met (is_earlier_name before name && is_upper name && not (ends_blank name)) 4

@@ -240,8 +240,8 @@ passed_coding = record { fits = actual_fits; spell = actual_spelled; read = pass
 abbrev pub pass_coding : Coding (ℕ × Passed)
 pass_coding = then_coding u8 passed_coding
 
--- the bytes of an op of form 0B (11) behind its first byte: index of the parameter, and what is
--- passed
+-- the bytes of an op of PASS behind its first byte: the form 0B (11), the index of the parameter,
+-- and what is passed
 abbrev pub pass_bytes : ℕ → Passed → List ℕ
 pass_bytes index passed = 11 ∷ pass_coding.spell (index, passed)
 

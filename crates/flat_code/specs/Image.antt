@@ -13,11 +13,11 @@ use Rattle.flat_code.specs.Coding.{Coding, u8, u16, u32, behind_fifth, behind_fo
 use Rattle.flat_code.specs.Forms.{area_code, area_of_code, kind_of_code, width_of_number}
 use Rattle.flat_code.specs.Ops.{OpData}
 use Rattle.flat_code.specs.Programs.{CodeBlock, DataBlock, NameEntry, Program}
-use Rattle.flat_code.specs.Records.{BlockRecord, NameRecord, Records}
+use Rattle.flat_code.specs.Records.{BlockRecord, NameRecord, ImageRecords}
 use Rattle.flat_code.specs.Faults.{field_fault, name_fault}
 use Rattle.flat_code.specs.Stamps.{version_number, profile_field_of, stamp_of}
 use Rattle.flat_code.specs.declared.stamps.Stamp.{Stamp}
-use Rattle.flat_code.specs.Layout.{Note, Faulty, Whole, AllBlocks, Cursor, ReadResult, Layout, reading_ended, bind_reading, field_layout, chain_layout, checked_layout, located_layout, list_layout, seen_as, noted_layout}
+use Rattle.flat_code.specs.Layout.{ReadingNote, Faulty, Whole, AllBlocks, Cursor, ReadResult, FieldLayout, reading_ended, bind_reading, field_layout, chain_layout, checked_layout, located_layout, list_layout, seen_as, noted_layout}
 use Rattle.flat_code.specs.Codes.{code_bytes, code_layout, if_checked}
 
 -- the fault of a field that is checked later, or not at all: None, whatever number it has
@@ -25,23 +25,23 @@ abbrev pub no_fault : ℕ → Option ℕ
 no_fault n = None
 
 -- any u16: statement count, counts of code blocks and names, byte of a name
-unfoldable pub plain_u16 : Layout ℕ
+unfoldable pub plain_u16 : FieldLayout ℕ
 plain_u16 = field_layout u16 no_fault
 
 -- any u32: code length, total length
-unfoldable pub plain_u32 : Layout ℕ
+unfoldable pub plain_u32 : FieldLayout ℕ
 plain_u32 = field_layout u32 no_fault
 
 -- the reserved byte of a parameter: 0, else fault 4
-unfoldable pub zero_u8 : Layout ℕ
+unfoldable pub zero_u8 : FieldLayout ℕ
 zero_u8 = field_layout u8 (λ n. field_fault (field.Reserved n))
 
 -- a reserved u16 of the counts, a code block's head or a data block: 0, else fault 4
-unfoldable pub zero_u16 : Layout ℕ
+unfoldable pub zero_u16 : FieldLayout ℕ
 zero_u16 = field_layout u16 (λ n. field_fault (field.Reserved n))
 
 -- the width of a parameter, or of a name's variable: 1 to 4, else fault 4
-unfoldable pub width_field : Layout ℕ
+unfoldable pub width_field : FieldLayout ℕ
 width_field = field_layout u8 (λ n. field_fault (field.Width n))
 
 -- whether each number of a list is a byte, below 256
@@ -59,17 +59,17 @@ bytes_coding n = record {
 
 -- the section of a parameter, 1 VAR_INPUT, 2 VAR_OUTPUT or 3 VAR_IN_OUT, else fault 4. A parameter
 -- has the fields section u8, width u8, byte u16, bit u8, zero u8
-unfoldable pub section_field : Layout ℕ
+unfoldable pub section_field : FieldLayout ℕ
 section_field = field_layout u8 (λ n. field_fault (field.Section n))
 
 -- the byte of a parameter of the width `w` (1 to 4): in an FB (kind 3) so that it lies within the
 -- `instance` bytes, in an FC 0
-unfoldable pub parameter_byte : ℕ → ℕ → ℕ → Layout ℕ
+unfoldable pub parameter_byte : ℕ → ℕ → ℕ → FieldLayout ℕ
 parameter_byte kind instance w =
     field_layout u16 (λ n. field_fault (field.ParameterByte kind instance w n))
 
 -- the bit of a parameter: 0 to 7 in an FB, whatever the width is, and 0 in an FC
-unfoldable pub parameter_bit : ℕ → Layout ℕ
+unfoldable pub parameter_bit : ℕ → FieldLayout ℕ
 parameter_bit kind = field_layout u8 (λ n. field_fault (field.ParameterBit kind n))
 
 -- the fields of a parameter of a code block, six bytes of an image
@@ -105,7 +105,7 @@ parameter_row f = (f.section, (f.width, (f.byte, (f.bit, f.reserved))))
 
 -- the layout of a parameter as a row of its fields, in a block of this kind (1 OB, 2 FC, 3 FB) with
 -- so many instance bytes
-unfoldable pub parameter_rows : ℕ → ℕ → Layout ParameterRow
+unfoldable pub parameter_rows : ℕ → ℕ → FieldLayout ParameterRow
 parameter_rows kind instance =
     chain_layout section_field (λ section.
     chain_layout width_field (λ width.
@@ -127,7 +127,7 @@ fields_of_parameter p = record {
 }
 
 -- the six bytes of a parameter as its record
-unfoldable pub parameter_layout : ℕ → ℕ → Layout ParameterRecord
+unfoldable pub parameter_layout : ℕ → ℕ → FieldLayout ParameterRecord
 parameter_layout kind instance =
     seen_as
     (λ r. parameter_of_fields (parameter_fields r))
@@ -137,27 +137,27 @@ parameter_layout kind instance =
 -- the kind of a code block, 1 OB, 2 FC or 3 FB, not below `before`, that of the block before it (0
 -- for none), else fault 4. A head has the fields kind u8, parameter count u8, number u16, local
 -- bytes u16, instance bytes u16, statement count u16, zero u16, code length u32
-unfoldable pub kind_field : ℕ → Layout ℕ
+unfoldable pub kind_field : ℕ → FieldLayout ℕ
 kind_field before = field_layout u8 (λ n. field_fault (field.Kind before n))
 
 -- the parameter count of a code block: at most 60, and 0 for an OB, else fault 4
-unfoldable pub parameter_count_layout : ℕ → Layout ℕ
+unfoldable pub parameter_count_layout : ℕ → FieldLayout ℕ
 parameter_count_layout kind = field_layout u8 (λ n. field_fault (field.ParameterCount kind n))
 
 -- the number of a code block: one that there is of its kind; above `before`, that of the block
 -- before it, where this has the same kind; else fault 4
-unfoldable pub block_number_layout : ℕ → ℕ → ℕ → Layout ℕ
+unfoldable pub block_number_layout : ℕ → ℕ → ℕ → FieldLayout ℕ
 block_number_layout kind_before before kind =
     field_layout u16 (λ n. field_fault (field.Number kind_before before kind n))
 
 -- how many local bytes (area L) a code block has: at most 1,024; at least 20 for an OB, which has
 -- its start information there; else fault 4
-unfoldable pub local_length_layout : ℕ → Layout ℕ
+unfoldable pub local_length_layout : ℕ → FieldLayout ℕ
 local_length_layout kind = field_layout u16 (λ n. field_fault (field.LocalBytes kind n))
 
 -- how many bytes an instance of a code block has: at most 16,384 for an FB, and 0 for another
 -- block, else fault 4
-unfoldable pub instance_bytes_layout : ℕ → Layout ℕ
+unfoldable pub instance_bytes_layout : ℕ → FieldLayout ℕ
 instance_bytes_layout kind = field_layout u16 (λ n. field_fault (field.InstanceBytes kind n))
 
 -- the head of a code block, the first sixteen bytes of it in an image
@@ -215,7 +215,7 @@ row_of_head h = (
 
 -- the head of a code block as a row of its fields, behind a block of kind and number `before` (0
 -- and 0 for none)
-unfoldable pub head_rows : ℕ × ℕ → Layout HeadRow
+unfoldable pub head_rows : ℕ × ℕ → FieldLayout HeadRow
 head_rows before =
     chain_layout (kind_field before.0) (λ kind.
     chain_layout (parameter_count_layout kind) (λ params.
@@ -227,7 +227,7 @@ head_rows before =
 
 -- the head of a code block, sixteen bytes, behind a block of kind and number `before` (0 and 0 for
 -- none)
-unfoldable pub head_layout : ℕ × ℕ → Layout Head
+unfoldable pub head_layout : ℕ × ℕ → FieldLayout Head
 head_layout before = seen_as head_of_row row_of_head (head_rows before)
 
 -- the state behind a parameter: the one before it, since parameters are checked one by one
@@ -235,7 +235,7 @@ abbrev pub same_state : ℕ → ParameterRecord → ℕ
 same_state s p = s
 
 -- as many parameters of a code block as its head counts, by its kind and instance bytes
-unfoldable pub parameters_layout : Head → Layout (List ParameterRecord)
+unfoldable pub parameters_layout : Head → FieldLayout (List ParameterRecord)
 parameters_layout h =
     list_layout (λ s. parameter_layout h.kind h.instance_bytes) same_state 0 h.parameter_count
 
@@ -250,7 +250,7 @@ line_after before line = line
 
 -- the source line of a statement: not 0, nor below that of the statement before, `before` (0 for
 -- none), else fault 9; without code faults any u32
-unfoldable pub line_field : (with_code_faults : Bool) → (before : ℕ) → Layout ℕ
+unfoldable pub line_field : (with_code_faults : Bool) → (before : ℕ) → FieldLayout ℕ
 line_field with_code_faults before =
     field_layout u32 (λ n. if_checked with_code_faults (field_fault (field.Line before n)))
 
@@ -258,7 +258,7 @@ line_field with_code_faults before =
 -- statements; with code faults, fault 9 at the statement count (`start` + 8) where the ops have
 -- another number of end marks
 unfoldable pub lines_layout :
-    (with_code_faults : Bool) → (start : ℕ) → Head → List OpData → Layout (List ℕ)
+    (with_code_faults : Bool) → (start : ℕ) → Head → List OpData → FieldLayout (List ℕ)
 lines_layout with_code_faults start h ops =
     checked_layout (start + 8)
     (if_checked with_code_faults
@@ -268,7 +268,7 @@ lines_layout with_code_faults start h ops =
 -- the ops and source lines of a code block at offset `start`, behind this head and the parameters;
 -- without code faults no fault 9, and fault 5 only for bytes that begin no op
 unfoldable pub code_and_lines :
-    (with_code_faults : Bool) → (start : ℕ) → Head → Layout (List OpData × List ℕ)
+    (with_code_faults : Bool) → (start : ℕ) → Head → FieldLayout (List OpData × List ℕ)
 code_and_lines with_code_faults start h =
     chain_layout
     (code_layout with_code_faults h.code_length)
@@ -306,7 +306,7 @@ row_of_block_parts p = (p.head, (p.params, (p.code, p.lines)))
 -- block of kind and number `before`; without code faults no fault 9, and fault 5 only for bytes
 -- that begin no op
 unfoldable pub block_rows :
-    (with_code_faults : Bool) → (before : ℕ × ℕ) → (start : ℕ) → Layout BlockRow
+    (with_code_faults : Bool) → (before : ℕ × ℕ) → (start : ℕ) → FieldLayout BlockRow
 block_rows with_code_faults before start =
     chain_layout (head_layout before) (λ h.
     chain_layout (parameters_layout h) (λ params. code_and_lines with_code_faults start h))
@@ -350,7 +350,7 @@ parts_of_block b = record {
 -- a code block at offset `start` of the image, as its record, behind a block of kind and number
 -- `before`; no note says that it was read whole
 unfoldable pub plain_block :
-    (with_code_faults : Bool) → (before : ℕ × ℕ) → (start : ℕ) → Layout BlockRecord
+    (with_code_faults : Bool) → (before : ℕ × ℕ) → (start : ℕ) → FieldLayout BlockRecord
 plain_block with_code_faults before start =
     seen_as
     (λ r. block_of_parts (parts_of_block_row r))
@@ -359,20 +359,20 @@ plain_block with_code_faults before start =
 
 -- the note of a code block that begins at offset `start` and was read whole: its code begins behind
 -- a head of 16 bytes and 6 bytes for each parameter
-abbrev pub whole_note : ℕ → BlockRecord → Note
+abbrev pub whole_note : ℕ → BlockRecord → ReadingNote
 whole_note start b = Whole (start + 16 + 6 * length b.params) b
 
 -- a code block at offset `start` of the image, noted once it was read whole, so that its faults 6
 -- to 8 are checked
 abbrev pub code_block_at :
-    (with_code_faults : Bool) → (before : ℕ × ℕ) → (start : ℕ) → Layout BlockRecord
+    (with_code_faults : Bool) → (before : ℕ × ℕ) → (start : ℕ) → FieldLayout BlockRecord
 code_block_at with_code_faults before start =
     noted_layout (whole_note start) (plain_block with_code_faults before start)
 
 -- a code block at any offset of the image, behind one of kind and number `before` (0 and 0 for
 -- none)
 unfoldable pub code_block_layout :
-    (with_code_faults : Bool) → (before : ℕ × ℕ) → Layout BlockRecord
+    (with_code_faults : Bool) → (before : ℕ × ℕ) → FieldLayout BlockRecord
 code_block_layout with_code_faults before = located_layout (code_block_at with_code_faults before)
 
 -- the state behind a code block, by which the next one is checked: its kind and number
@@ -382,21 +382,21 @@ after_block before b = (b.kind, b.number)
 -- the number of a data block: 1 to 2,047, and above `before`, that of the data block before it (0
 -- for none), else fault 4. A data block has the fields number u16, instance u16, length u16, zero
 -- u16, bytes
-unfoldable pub data_number_layout : ℕ → Layout ℕ
+unfoldable pub data_number_layout : ℕ → FieldLayout ℕ
 data_number_layout before = field_layout u16 (λ n. field_fault (field.DataNumber before n))
 
 -- the FB of an instance data block: 0 for none, or the number of the FB plus 1, so at most 2,048;
 -- that there is this FB isn't tested
-unfoldable pub instance_field : Layout ℕ
+unfoldable pub instance_field : FieldLayout ℕ
 instance_field = field_layout u16 (λ n. field_fault (field.InstanceOf n))
 
 -- the length of a data block in bytes: at most 16,384, and at most 2,097,152 together with
 -- `before`, the bytes of all data blocks before it, else fault 4
-unfoldable pub data_length_layout : ℕ → Layout ℕ
+unfoldable pub data_length_layout : ℕ → FieldLayout ℕ
 data_length_layout before = field_layout u16 (λ n. field_fault (field.DataBytes before n))
 
 -- the n bytes of a data block, of any values
-unfoldable pub contents_layout : ℕ → Layout (List ℕ)
+unfoldable pub contents_layout : ℕ → FieldLayout (List ℕ)
 contents_layout n = field_layout (bytes_coding n) (λ bs. None)
 
 -- the fields of a data block of an image
@@ -432,7 +432,7 @@ data_row f = (f.number, (f.instance, (f.length, (f.reserved, f.bytes))))
 
 -- the layout of a data block as a row of its fields, behind a data block of number `before.0` (0
 -- for none), with `before.1` bytes in all data blocks before
-unfoldable pub data_rows : ℕ × ℕ → Layout DataRow
+unfoldable pub data_rows : ℕ × ℕ → FieldLayout DataRow
 data_rows before =
     chain_layout (data_number_layout before.0) (λ number.
     chain_layout instance_field (λ instance.
@@ -470,7 +470,7 @@ fields_of_data d = record {
 
 -- a data block of an image, behind a data block of number `before.0` (0 for none), with `before.1`
 -- bytes in all data blocks before
-unfoldable pub data_block_layout : ℕ × ℕ → Layout DataBlock
+unfoldable pub data_block_layout : ℕ × ℕ → FieldLayout DataBlock
 data_block_layout before =
     seen_as
     (λ r. data_of_fields (data_fields r))
@@ -484,20 +484,20 @@ after_data before d = (d.number, before.1 + length d.bytes)
 
 -- the length of a name in bytes: 1 to 24, else fault 4. A name has the fields length u8, bytes,
 -- area u8, width u8, byte u16, bit u8
-unfoldable pub name_len : Layout ℕ
+unfoldable pub name_len : FieldLayout ℕ
 name_len = field_layout u8 (λ n. field_fault (field.NameLength n))
 
 -- the n bytes of a name: above those of the name `before` (empty for none), without a to z, without
 -- a blank at the end, else fault 4
-unfoldable pub name_bytes : List ℕ → ℕ → Layout (List ℕ)
+unfoldable pub name_bytes : List ℕ → ℕ → FieldLayout (List ℕ)
 name_bytes before n = field_layout (bytes_coding n) (name_fault before)
 
 -- the area of a name's variable: 16#81 I, 16#82 Q, 16#83 M, else fault 4
-unfoldable pub name_area : Layout ℕ
+unfoldable pub name_area : FieldLayout ℕ
 name_area = field_layout u8 (λ n. field_fault (field.NameArea n))
 
 -- the bit of a name's variable: 0 to 7 where its width w is 1 (a bit), else 0
-unfoldable pub name_bit : ℕ → Layout ℕ
+unfoldable pub name_bit : ℕ → FieldLayout ℕ
 name_bit w = field_layout u8 (λ n. field_fault (field.NameBit w n))
 
 -- the fields of a name of an image, with the place of the variable that it names
@@ -535,7 +535,7 @@ abbrev pub name_row : NameFields → NameRow
 name_row f = (f.length, (f.name, (f.area, (f.width, (f.byte, f.bit)))))
 
 -- the layout of a name as a row of its fields, behind the name `before` (empty for none)
-unfoldable pub name_rows : List ℕ → Layout NameRow
+unfoldable pub name_rows : List ℕ → FieldLayout NameRow
 name_rows before =
     chain_layout name_len (λ n.
     chain_layout (name_bytes before n) (λ name.
@@ -566,7 +566,7 @@ fields_of_name n = record {
 
 -- a name of an image and the variable that it names, as its record, behind the name `before` (empty
 -- for none)
-unfoldable pub name_record : List ℕ → Layout NameRecord
+unfoldable pub name_record : List ℕ → FieldLayout NameRecord
 name_record before =
     seen_as
     (λ r. name_of_fields (name_fields r))
@@ -579,7 +579,7 @@ after_name before n = n.name
 
 -- the count of an image's data blocks: at most 256, else fault 4. The counts stand behind the total
 -- length: code blocks u16, data blocks u16, names u16, zero u16
-unfoldable pub data_count : Layout ℕ
+unfoldable pub data_count : FieldLayout ℕ
 data_count = field_layout u16 (λ n. field_fault (field.DataBlockCount n))
 
 -- how many records of each kind an image has, the last eight bytes of its header
@@ -611,32 +611,33 @@ abbrev pub row_of_counts : RecordCounts → CountRow
 row_of_counts c = (c.code_blocks, (c.data_blocks, (c.names, c.reserved)))
 
 -- the counts of an image, the last eight bytes of its header, as a row
-unfoldable pub count_rows : Layout CountRow
+unfoldable pub count_rows : FieldLayout CountRow
 count_rows =
     chain_layout plain_u16 (λ codes.
     chain_layout data_count (λ datas.
     chain_layout plain_u16 (λ names. zero_u16)))
 
 -- the counts of an image, the last eight bytes of its header
-unfoldable pub counts_layout : Layout RecordCounts
+unfoldable pub counts_layout : FieldLayout RecordCounts
 counts_layout = seen_as counts_of_row row_of_counts count_rows
 
 -- the n code blocks of an image; without code faults no fault 9, and fault 5 only for bytes that
 -- begin no op
-unfoldable pub code_blocks_layout : (with_code_faults : Bool) → (n : ℕ) → Layout (List BlockRecord)
+unfoldable pub code_blocks_layout : (with_code_faults : Bool) → (n : ℕ)
+    → FieldLayout (List BlockRecord)
 code_blocks_layout with_code_faults n =
     list_layout (code_block_layout with_code_faults) after_block (0, 0) n
 
 -- the n data blocks of an image; no note says that they were read
-abbrev pub plain_data_blocks : ℕ → Layout (List DataBlock)
+abbrev pub plain_data_blocks : ℕ → FieldLayout (List DataBlock)
 plain_data_blocks n = list_layout data_block_layout after_data (0, 0) n
 
 -- the n data blocks of an image; behind the last one it is noted that all blocks were read
-unfoldable pub data_blocks_layout : ℕ → Layout (List DataBlock)
+unfoldable pub data_blocks_layout : ℕ → FieldLayout (List DataBlock)
 data_blocks_layout n = noted_layout AllBlocks (plain_data_blocks n)
 
 -- the n names of an image
-unfoldable pub names_layout : ℕ → Layout (List NameRecord)
+unfoldable pub names_layout : ℕ → FieldLayout (List NameRecord)
 names_layout n = list_layout name_record after_name [] n
 
 -- the parts of an image behind the total length
@@ -670,14 +671,14 @@ row_of_body_parts p = (p.counts, (p.code_blocks, (p.data_blocks, p.names)))
 
 -- the layout of all behind the total length as a row of its parts; without code faults no fault 9,
 -- and fault 5 only for bytes that begin no op
-unfoldable pub body_rows : (with_code_faults : Bool) → Layout BodyRow
+unfoldable pub body_rows : (with_code_faults : Bool) → FieldLayout BodyRow
 body_rows with_code_faults =
     chain_layout counts_layout (λ c.
     chain_layout (code_blocks_layout with_code_faults c.code_blocks) (λ blocks.
     chain_layout (data_blocks_layout c.data_blocks) (λ datas. names_layout c.names)))
 
 -- the records of an image, without the counts: the lists are as long as these say
-abbrev pub records_of_parts : BodyParts → Records
+abbrev pub records_of_parts : BodyParts → ImageRecords
 records_of_parts p = record {
   code_blocks = p.code_blocks;
   data_blocks = p.data_blocks;
@@ -685,7 +686,7 @@ records_of_parts p = record {
 }
 
 -- the counts of an image with these records: the lengths of their lists; the reserved field is 0
-abbrev pub counts_of : Records → RecordCounts
+abbrev pub counts_of : ImageRecords → RecordCounts
 counts_of r = record {
   code_blocks = length r.code_blocks;
   data_blocks = length r.data_blocks;
@@ -694,7 +695,7 @@ counts_of r = record {
 }
 
 -- the parts of an image behind the total length, by its records
-abbrev pub parts_of_records : Records → BodyParts
+abbrev pub parts_of_records : ImageRecords → BodyParts
 parts_of_records r = record {
   counts = counts_of r;
   code_blocks = r.code_blocks;
@@ -704,7 +705,7 @@ parts_of_records r = record {
 
 -- all records of an image, with their counts before them; without code faults no fault 9, and fault
 -- 5 only for bytes that begin no op
-unfoldable pub records_layout : (with_code_faults : Bool) → Layout Records
+unfoldable pub records_layout : (with_code_faults : Bool) → FieldLayout ImageRecords
 records_layout with_code_faults =
     seen_as
     (λ r. records_of_parts (parts_of_body_row r))
@@ -803,7 +804,7 @@ name_of_entry e = record {
 }
 
 -- the program of records; data blocks are the same in both
-abbrev pub program_of_records : Records → Program
+abbrev pub program_of_records : ImageRecords → Program
 program_of_records r = record {
   code_blocks = map block_of_record r.code_blocks;
   data_blocks = r.data_blocks;
@@ -811,7 +812,7 @@ program_of_records r = record {
 }
 
 -- the records of a program; data blocks are the same in both
-abbrev pub records_of : Program → Records
+abbrev pub records_of : Program → ImageRecords
 records_of p = record {
   code_blocks = map record_of_block p.code_blocks;
   data_blocks = p.data_blocks;
@@ -820,21 +821,21 @@ records_of p = record {
 
 -- a program as the bytes behind the total length: the counts, then all records; without code faults
 -- no fault 9, and fault 5 only for bytes that begin no op
-unfoldable pub body_layout : (with_code_faults : Bool) → Layout Program
+unfoldable pub body_layout : (with_code_faults : Bool) → FieldLayout Program
 body_layout with_code_faults =
     seen_as program_of_records records_of (records_layout with_code_faults)
 
 -- the magic of an image, the bytes `S7FB`, else fault 1. The front of an image has the fields magic
 -- u32, version u16, profile u16, total length u32
-unfoldable pub magic_field : Layout ℕ
+unfoldable pub magic_field : FieldLayout ℕ
 magic_field = field_layout u32 (λ n. field_fault (field.Magic n))
 
 -- the version of an image: 1 or 2, else fault 2
-unfoldable pub version_field : Layout ℕ
+unfoldable pub version_field : FieldLayout ℕ
 version_field = field_layout u16 (λ n. field_fault (field.Version n))
 
 -- the profile of an image: in version 2 1 for Small or 2 for Large, in version 1 0, else fault 4
-unfoldable pub profile_field : ℕ → Layout ℕ
+unfoldable pub profile_field : ℕ → FieldLayout ℕ
 profile_field version = field_layout u16 (λ n. field_fault (field.Profile version n))
 
 -- the front of an image: the fields of its header up to the total length, twelve bytes
@@ -868,7 +869,7 @@ row_of_front f = (f.magic, (f.version, (f.profile, f.total_length)))
 
 -- the first twelve bytes of an image as a row of fields; whether the total length is right is
 -- tested by `read_cut_off`
-unfoldable pub front_rows : Layout FrontRow
+unfoldable pub front_rows : FieldLayout FrontRow
 front_rows =
     chain_layout magic_field (λ magic.
     chain_layout version_field (λ version.
@@ -876,7 +877,7 @@ front_rows =
 
 -- the front of an image, its first twelve bytes; whether the total length is right is tested by
 -- `read_cut_off`
-unfoldable pub front_layout : Layout Front
+unfoldable pub front_layout : FieldLayout Front
 front_layout = seen_as front_of_row row_of_front front_rows
 
 -- how many bytes the front of an image has: 4 magic, 2 version, 2 profile, 4 total length

@@ -7,13 +7,13 @@ use Rattle.flat_code.specs.Records.{BlockRecord}
 
 -- what reading notes: a fault at an offset, by its code; a code block that was read whole, with the
 -- offset at which its code begins; and that all code and data blocks were read
-pub data Note : Type 0 where
+pub data ReadingNote : Type 0 where
   -- a fault at an offset in the image, by its code
-  Faulty : (at : ℕ) (code : ℕ) → Note
+  Faulty : (at : ℕ) (code : ℕ) → ReadingNote
   -- a code block that was read whole, with the offset in the image at which its code begins
-  Whole : (start : ℕ) (block : BlockRecord) → Note
+  Whole : (start : ℕ) (block : BlockRecord) → ReadingNote
   -- all code blocks and these data blocks were read
-  AllBlocks : (blocks : List DataBlock) → Note
+  AllBlocks : (blocks : List DataBlock) → ReadingNote
 
 -- a place in the bytes: its offset, and what is left from there
 pub record Cursor : Type 0 where
@@ -25,12 +25,12 @@ pub record Cursor : Type 0 where
 -- what reading gives: notes, and the value found with the place behind it; None where it ended
 pub record ReadResult (A : Type 0) : Type 0 where
   -- what was noted, in the order of reading
-  pub notes : List Note
+  pub notes : List ReadingNote
   -- the value and the place behind it; None where a fault ended the reading
   pub found : Option (A × Cursor)
 
 -- how a value stands in an image: its bytes, whether it is without fault, and how it is read
-pub record Layout (A : Type 0) : Type 0 where
+pub record FieldLayout (A : Type 0) : Type 0 where
   -- the bytes of a value
   pub spell : A → List ℕ
   -- whether each field of a value fits its bytes and has no fault
@@ -49,7 +49,8 @@ reading_given x cur = record { notes = []; found = Some (x, cur) }
 -- reading goes on with what was found and the place behind it; where nothing was found it ends
 -- there
 abbrev pub go_on :
-    {A B : Type 0} → List Note → Option (A × Cursor) → (A → Cursor → ReadResult B) → ReadResult B
+    {A B : Type 0} → List ReadingNote → Option (A × Cursor) → (A → Cursor → ReadResult B)
+    → ReadResult B
 go_on notes None f = record { notes = notes; found = None }
 go_on notes (Some x) f = record { notes = notes ++ (f x.0 x.1).notes; found = (f x.0 x.1).found }
 
@@ -59,7 +60,7 @@ abbrev pub bind_reading : {A B : Type 0} → ReadResult A → (A → Cursor → 
 bind_reading r f = go_on r.notes r.found f
 
 -- the note of a fault, if there is one
-abbrev pub fault_note : ℕ → Option ℕ → List Note
+abbrev pub fault_note : ℕ → Option ℕ → List ReadingNote
 fault_note at None = []
 fault_note at (Some code) = Faulty at code ∷ []
 
@@ -78,7 +79,7 @@ field_of fault_in cur (Some r) = record {
 }
 
 -- a field is good where its value fits and has no fault; a fault is noted, and reading goes on
-abbrev pub field_layout : {A : Type 0} → Coding A → (A → Option ℕ) → Layout A
+abbrev pub field_layout : {A : Type 0} → Coding A → (A → Option ℕ) → FieldLayout A
 field_layout c fault_in = record {
   spell = c.spell;
   good = λ x. c.fits x && is_fine (fault_in x);
@@ -86,7 +87,7 @@ field_layout c fault_in = record {
 }
 
 -- two values one behind the other; the layout of the second may depend on the first
-abbrev pub chain_layout : {A B : Type 0} → Layout A → (A → Layout B) → Layout (A × B)
+abbrev pub chain_layout : {A B : Type 0} → FieldLayout A → (A → FieldLayout B) → FieldLayout (A × B)
 chain_layout l m = record {
   spell = λ x. l.spell x.0 ++ (m x.0).spell x.1;
   good = λ x. l.good x.0 && (m x.0).good x.1;
@@ -96,7 +97,7 @@ chain_layout l m = record {
 }
 
 -- a layout with a fault at an earlier offset `at` that is found only now; None where there is none
-abbrev pub checked_layout : {A : Type 0} → ℕ → Option ℕ → Layout A → Layout A
+abbrev pub checked_layout : {A : Type 0} → ℕ → Option ℕ → FieldLayout A → FieldLayout A
 checked_layout at fault l = record {
   spell = l.spell;
   good = λ x. is_fine fault && l.good x;
@@ -107,7 +108,7 @@ checked_layout at fault l = record {
 }
 
 -- a layout that depends on the offset at which its value begins; its bytes don't
-abbrev pub located_layout : {A : Type 0} → (ℕ → Layout A) → Layout A
+abbrev pub located_layout : {A : Type 0} → (ℕ → FieldLayout A) → FieldLayout A
 located_layout l = record {
   spell = (l 0).spell;
   good = (l 0).good;
@@ -116,12 +117,12 @@ located_layout l = record {
 
 -- the bytes of values one behind the other; the layout of each depends on a state of those before
 -- it
-abbrev pub spell_many : {S A : Type 0} → (S → Layout A) → (S → A → S) → S → List A → List ℕ
+abbrev pub spell_many : {S A : Type 0} → (S → FieldLayout A) → (S → A → S) → S → List A → List ℕ
 spell_many l next s [] = []
 spell_many l next s (x ∷ xs) = (l s).spell x ++ spell_many l next (next s x) xs
 
 -- whether a list has exactly n values, each good by the state of those before it
-abbrev pub good_many : {S A : Type 0} → (S → Layout A) → (S → A → S) → S → ℕ → List A → Bool
+abbrev pub good_many : {S A : Type 0} → (S → FieldLayout A) → (S → A → S) → S → ℕ → List A → Bool
 good_many l next s zero [] = true
 good_many l next s zero (x ∷ xs) = false
 good_many l next s (suc n) [] = false
@@ -129,7 +130,7 @@ good_many l next s (suc n) (x ∷ xs) = (l s).good x && good_many l next (next s
 
 -- reading n values one behind the other; where reading one ends, no list is found
 abbrev pub read_many :
-    {S A : Type 0} → (S → Layout A) → (S → A → S) → S → ℕ → Cursor → ReadResult (List A)
+    {S A : Type 0} → (S → FieldLayout A) → (S → A → S) → S → ℕ → Cursor → ReadResult (List A)
 read_many l next s zero cur = reading_given [] cur
 read_many l next s (suc n) cur =
     bind_reading ((l s).read cur) (λ x after.
@@ -137,7 +138,8 @@ read_many l next s (suc n) cur =
 
 -- a list of n values one behind the other; `s` is the state before the first, `next` gives the one
 -- behind a value, by which the layout of the next value is chosen
-abbrev pub list_layout : {S A : Type 0} → (S → Layout A) → (S → A → S) → S → ℕ → Layout (List A)
+abbrev pub list_layout : {S A : Type 0} → (S → FieldLayout A) → (S → A → S) → S → ℕ
+    → FieldLayout (List A)
 list_layout l next s n = record {
   spell = spell_many l next s;
   good = good_many l next s n;
@@ -146,7 +148,7 @@ list_layout l next s n = record {
 
 -- a layout whose values are of another type, with the bytes and faults of the layout `l`: `to`
 -- makes such a value of one of `l`, `from` the one of `l` that is spelled
-abbrev pub seen_as : {A B : Type 0} → (A → B) → (B → A) → Layout A → Layout B
+abbrev pub seen_as : {A B : Type 0} → (A → B) → (B → A) → FieldLayout A → FieldLayout B
 seen_as to from l = record {
   spell = λ y. l.spell (from y);
   good = λ y. l.good (from y);
@@ -154,7 +156,7 @@ seen_as to from l = record {
 }
 
 -- a layout by which a value that was read whole is noted
-abbrev pub noted_layout : {A : Type 0} → (A → Note) → Layout A → Layout A
+abbrev pub noted_layout : {A : Type 0} → (A → ReadingNote) → FieldLayout A → FieldLayout A
 noted_layout note l = record {
   spell = l.spell;
   good = l.good;
@@ -163,7 +165,7 @@ noted_layout note l = record {
 }
 
 -- the faults among notes, each by its offset and its code
-abbrev pub faults_in : List Note → List (ℕ × ℕ)
+abbrev pub faults_in : List ReadingNote → List (ℕ × ℕ)
 faults_in [] = []
 faults_in (Faulty at code ∷ notes) = (at, code) ∷ faults_in notes
 faults_in (Whole start block ∷ notes) = faults_in notes

@@ -3,7 +3,7 @@ use Rattle.std.specs.Prelude.{◌≡◌, ℕ, List, [], ◌∷◌, ◌++◌, len
 use Rattle.std.specs.Option.{option_map}
 use Rattle.flat_code.specs.Programs.{DataBlock, Program}
 use Rattle.flat_code.specs.Records.{BlockRecord}
-use Rattle.flat_code.specs.Layout.{Note, Faulty, Whole, AllBlocks, Cursor, faults_in}
+use Rattle.flat_code.specs.Layout.{ReadingNote, Faulty, Whole, AllBlocks, Cursor, faults_in}
 use Rattle.flat_code.specs.Image.{image, IsProgram, IsRight, read_image, record_of_block}
 use Rattle.flat_code.specs.declared.stamps.Stamp.{Stamp}
 use Rattle.flat_code.specs.Blocks.{signature_of, Environment, block_faults}
@@ -29,7 +29,7 @@ environment_of_block data_lens all b = record {
 -- that was read whole
 
 -- the code blocks that notes say were read whole, each with the offset in the image of its code
-abbrev pub whole_blocks : List Note → List (ℕ × BlockRecord)
+abbrev pub whole_blocks : List ReadingNote → List (ℕ × BlockRecord)
 whole_blocks [] = []
 whole_blocks (Faulty at code ∷ notes) = whole_blocks notes
 whole_blocks (Whole start block ∷ notes) = (start, block) ∷ whole_blocks notes
@@ -42,7 +42,7 @@ later_data_blocks before None = before
 later_data_blocks before (Some blocks) = Some blocks
 
 -- the data blocks of the note that all blocks were read; None where reading ended before that
-abbrev pub all_blocks : List Note → Option (List DataBlock)
+abbrev pub all_blocks : List ReadingNote → Option (List DataBlock)
 all_blocks [] = None
 all_blocks (Faulty at code ∷ notes) = all_blocks notes
 all_blocks (Whole start block ∷ notes) = all_blocks notes
@@ -63,7 +63,7 @@ op_faults_of_blocks data_lens all (b ∷ bs) =
     ++ op_faults_of_blocks data_lens all bs
 
 -- the faults of fields that reading noted, and the faults 6 to 8 of the blocks that were read whole
-abbrev pub faults_in_notes : List Note → List (ℕ × ℕ)
+abbrev pub faults_in_notes : List ReadingNote → List (ℕ × ℕ)
 faults_in_notes notes =
     faults_in notes
     ++ op_faults_of_blocks

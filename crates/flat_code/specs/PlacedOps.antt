@@ -116,7 +116,7 @@ codes_of_few_brackets brackets =
     if nat_le (length brackets) most_brackets then Some (bracket_codes brackets) else None
 
 -- a statement of a block, as a jump to it sees it
-pub record StatementSpot : Type 0 where
+pub record StatementStart : Type 0 where
   -- the offset in bytes at which the statement begins in the block's code
   pub at : ℕ
   -- the op codes of the brackets that stand open there, the outermost first; None for more than
@@ -127,18 +127,19 @@ pub record StatementSpot : Type 0 where
 
 -- the statements of ops of which the first begins at the offset `at`, behind these open brackets
 -- and zones; `begin`: whether that op begins a statement or goes on with one
-abbrev pub spots_from : ℕ → Bool → List OpenBracket → List ℕ → List OpData → List StatementSpot
-spots_from at begin brackets zones [] = []
-spots_from at begin brackets zones (op ∷ ops) =
+abbrev pub statement_starts_from : ℕ → Bool → List OpenBracket → List ℕ → List OpData
+    → List StatementStart
+statement_starts_from at begin brackets zones [] = []
+statement_starts_from at begin brackets zones (op ∷ ops) =
     if begin
     then record { at = at; codes = codes_of_few_brackets brackets; zones = length zones }
-    ∷ spots_from
+    ∷ statement_starts_from
     (at + size_of_op op)
     op.last
     (brackets_after at op.code brackets)
     (zones_behind_op at op.code zones)
     ops
-    else spots_from
+    else statement_starts_from
     (at + size_of_op op)
     op.last
     (brackets_after at op.code brackets)
@@ -146,13 +147,13 @@ spots_from at begin brackets zones (op ∷ ops) =
     ops
 
 -- the statements of a block's code
-abbrev pub statement_spots : List OpData → List StatementSpot
-statement_spots ops = spots_from 0 true [] [] ops
+abbrev pub starts_of_statements : List OpData → List StatementStart
+starts_of_statements ops = statement_starts_from 0 true [] [] ops
 
 -- the statement that begins at an offset; None where none begins there
-abbrev pub spot_at : List StatementSpot → ℕ → Option StatementSpot
-spot_at [] at = None
-spot_at (s ∷ ss) at = if s.at == at then Some s else spot_at ss at
+abbrev pub statement_start_at : List StatementStart → ℕ → Option StatementStart
+statement_start_at [] at = None
+statement_start_at (s ∷ ss) at = if s.at == at then Some s else statement_start_at ss at
 
 -- the op that ends the statement of the op `op`, by the ops behind it: the first with an end mark,
 -- with none the last op of all

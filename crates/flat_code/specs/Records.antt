@@ -48,7 +48,7 @@ pub record NameRecord : Type 0 where
   pub bit : ℕ
 
 -- all records of an image, behind its counts
-pub record Records : Type 0 where
+pub record ImageRecords : Type 0 where
   -- OBs, FCs and FBs, in the order of kind and number
   pub code_blocks : List BlockRecord
   -- data blocks, in the order of their numbers

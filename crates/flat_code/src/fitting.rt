@@ -40,13 +40,13 @@ fn is_place(byte: u16, bit: u8) -> bool
 }
 
 /// Whether a pointer may stand at the place.
-fn is_pointer(area: Area, byte: u16) -> bool
+fn fits_pointer_place(area: Area, byte: u16) -> bool
     ensures { result ≡ (pointer_area_coding.fits area && u16.fits byte) }
 {
     matches!(area, Area::M | Area::Db | Area::Di | Area::L) && fits_u16(byte)
 }
 
-fn is_in_memory(area: Area) -> bool
+fn is_memory_area(area: Area) -> bool
     ensures { result ≡ memory_area_coding.fits area }
 {
     !matches!(area, Area::P)
@@ -58,11 +58,11 @@ fn crosses(area: Option<Area>) -> bool
 {
     match area {
         None => true,
-        Some(area) => is_in_memory(area),
+        Some(area) => is_memory_area(area),
     }
 }
 
-fn is_callable(kind: u8) -> bool
+fn is_callable_number(kind: u8) -> bool
     ensures { result ≡ callable_coding.fits kind }
 {
     kind == FUNCTION || kind == FUNCTION_BLOCK || kind == SYSTEM_FUNCTION
@@ -103,7 +103,7 @@ impl Operand {
                 from,
                 byte,
                 ..
-            } => is_in_memory(area) && is_pointer(from, byte),
+            } => is_memory_area(area) && fits_pointer_place(from, byte),
             Operand::ByRegister {
                 area,
                 register,
@@ -113,7 +113,7 @@ impl Operand {
             Operand::Parameter { index, .. } => fits_u8(index),
             Operand::Numbered { kind, number } => is_one_or_two(kind) && fits_u16(number),
             Operand::NumberedBy { kind, from, byte } => {
-                is_one_or_two(kind) && is_pointer(from, byte)
+                is_one_or_two(kind) && fits_pointer_place(from, byte)
             }
             Operand::Jump { kind, target } => kind <= 17 && fits_u32(target),
             Operand::OfStatus { condition } => 1 <= condition && condition <= 10,
@@ -123,13 +123,13 @@ impl Operand {
                 kind,
                 number,
                 instance,
-            } => is_callable(kind) && fits_u16(number) && fits_u16(instance),
+            } => is_callable_number(kind) && fits_u16(number) && fits_u16(instance),
             Operand::OpenBlock { register, number } => is_one_or_two(register) && fits_u16(number),
             Operand::OpenBy {
                 register,
                 from,
                 byte,
-            } => is_one_or_two(register) && is_pointer(from, byte),
+            } => is_one_or_two(register) && fits_pointer_place(from, byte),
         }
     }
 }

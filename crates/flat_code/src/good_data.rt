@@ -9,7 +9,7 @@ use crate::good_blocks::{is_fine, is_good_u8, is_good_u16};
 use crate::image_fields::Field;
 use crate::names::{NameEntry, ends_blank, is_name_before, is_upper_case};
 use crate::programs::DataBlock;
-use crate::record_numbers::area_number;
+use crate::record_numbers::number_of_area;
 
 /// A law: bytes fit a field of their number.
 fn law_of_bytes(bytes: &[u8])
@@ -97,7 +97,7 @@ fn is_good_name(before: &[u8], entry: &NameEntry) -> bool
     ensures { result ≡ (name_record before.now).good (name_of_entry entry.now) }
 {
     let name = entry.name.as_slice();
-    let area = area_number(&entry.place);
+    let area = number_of_area(&entry.place);
     let width = entry.width.number();
     law_of_bytes(name);
     law_of_word(entry.place.byte);

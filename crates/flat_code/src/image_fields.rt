@@ -137,18 +137,18 @@ fn fault_unless(fine: bool, code: u16) -> Option<u16>
 }
 
 /// Whether there is an organization block of the number.
-fn is_organization_block(number: u16) -> bool
+fn is_existing_ob(number: u16) -> bool
     ensures { result ≡ is_existing_ob number }
 {
     matches!(number, 1 | 10..=17 | 20..=23 | 30..=38 | 40..=47 | 80 | 85 | 100 | 121 | 122)
 }
 
 /// Whether a code block may have the number.
-fn is_block_number(kind: u8, number: u16) -> bool
+fn has_number(kind: u8, number: u16) -> bool
     ensures { result ≡ has_number kind number }
 {
     if kind == BlockKind::Ob.number() {
-        is_organization_block(number)
+        is_existing_ob(number)
     } else {
         number <= 2047
     }
@@ -202,7 +202,7 @@ impl Field {
                 number,
             } => {
                 let rises = kind != kind_before || before < number;
-                fault_unless(is_block_number(kind, number) && rises, 4)
+                fault_unless(has_number(kind, number) && rises, 4)
             }
             Field::LocalBytes { kind, bytes } => {
                 let organization_block = kind == BlockKind::Ob.number();

@@ -79,7 +79,7 @@ pub static JUMPS: [JumpOperation; 18] = [
 
 /// The jump of a kind.
 #[tactic(auto, unfolding(crate::specs::Kinds::jump_of_number))]
-pub fn jump_of(kind: u8) -> JumpOperation
+pub fn jump_of_number(kind: u8) -> JumpOperation
     requires { kind < 18 }
     ensures { result ≡ jump_of_kind kind }
 {
@@ -120,7 +120,7 @@ pub fn flag_of(condition: u8) -> Flag
 }
 
 /// The number of a condition.
-pub fn condition_of(flag: Flag) -> u8
+pub fn condition_number(flag: Flag) -> u8
     ensures { result ≡ condition_of_flag flag }
 {
     match flag {

@@ -30,8 +30,8 @@ pub use image_fields::{
 };
 pub use kinds::{
     AR1_NUMBER, CONDITIONS, COUNTER_KIND, DB_REGISTER_NUMBER, DI_REGISTER_NUMBER, FUNCTION,
-    FUNCTION_BLOCK, JUMPS, JumpOperation, SYSTEM_FUNCTION, TIMER_KIND, condition_of, flag_of,
-    jump_of,
+    FUNCTION_BLOCK, JUMPS, JumpOperation, SYSTEM_FUNCTION, TIMER_KIND, condition_number, flag_of,
+    jump_of_number,
 };
 pub use names::{NameEntry, Names, ends_blank, is_name_before, is_upper_case, order_of};
 pub use operands::{Operand, Passed};
@@ -42,7 +42,7 @@ pub use operations::{
 pub use ops::Op;
 pub use programs::{CodeBlock, DataBlock, Param, Program};
 pub use record_numbers::{
-    area_number, area_of_number, kind_of_code, kind_of_number, width_of_number,
+    area_of_number, kind_of_code, kind_of_number, number_of_area, width_of_number,
 };
 pub use stamps::Stamp;
 pub use system_functions::{system_function_params, system_function_records};

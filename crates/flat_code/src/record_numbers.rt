@@ -3,7 +3,7 @@ ghost use Rattle.std.specs.Prelude.{◌≡◌};
 ghost use Rattle.flat_code.specs.Forms.{area_code, kind_of_code, width_of_number};
 ghost use Rattle.flat_code.specs.Image.{area_of_number, kind_of_number, number_of_area};
 
-use crate::fields::{area_of, width_of};
+use crate::fields::{area_of_code, width_of_code};
 use crate::kinds::{FUNCTION, FUNCTION_BLOCK, ORGANIZATION_BLOCK, SYSTEM_FUNCTION};
 use plc_base::{Area, BlockKind, Place, Width};
 
@@ -12,7 +12,7 @@ use plc_base::{Area, BlockKind, Place, Width};
 pub fn width_of_number(number: u8) -> Width
     ensures { result ≡ width_of_number number }
 {
-    match width_of(number) {
+    match width_of_code(number) {
         Some(width) => width,
         None => Width::Bit,
     }
@@ -57,7 +57,7 @@ pub(crate) fn code_of_area(area: Area) -> u8
 pub fn area_of_number(number: u8) -> Area
     ensures { result ≡ area_of_number number }
 {
-    match area_of(number) {
+    match area_of_code(number) {
         Some(Area::I) => Area::I,
         Some(Area::Q) => Area::Q,
         _ => Area::M,
@@ -65,7 +65,7 @@ pub fn area_of_number(number: u8) -> Area
 }
 
 /// The area of a name's variable as an image has it: 0x81 I, 0x82 Q, 0x83 M; 0 for the others.
-pub fn area_number(place: &Place) -> u8
+pub fn number_of_area(place: &Place) -> u8
     ensures { result ≡ number_of_area place.now.number place.now.area }
 {
     if place.number != 0 {

@@ -9,7 +9,7 @@ use Rattle.flat_code.specs.Codes.{size_of_op, code_bytes}
 use Rattle.flat_code.specs.OpCodes.{op_code_of}
 use Rattle.flat_code.specs.declared.operations.Operation.TheVariants as operation
 use Rattle.flat_code.specs.declared.operations.RelayOperation.TheVariants as relay
-use Rattle.flat_code.specs.PlacedOps.{PlacedOp, ops_placed, code_places, is_opening, outer_brackets, brackets_after, zones_behind_op, before_next, open_behind, zones_left, StatementSpot, statement_spots, spots_from, codes_of_few_brackets}
+use Rattle.flat_code.specs.PlacedOps.{PlacedOp, ops_placed, code_places, is_opening, outer_brackets, brackets_after, zones_behind_op, before_next, open_behind, zones_left, StatementStart, starts_of_statements, statement_starts_from, codes_of_few_brackets}
 use Rattle.flat_code.specs.Blocks.{Environment, is_ju_operand, leads_to_target, op_faults, faults_over, open_faults, open_zone_faults, block_faults}
 use Rattle.image_file.specs.declared.faults.LoadFault.{LoadFault}
 use Rattle.image_file.specs.Least.{with_fault, with_faults}
@@ -88,7 +88,7 @@ zone_at n (suc i) d (x ∷ zones) lt h = zone_at n i d zones (omega (arith, lt))
 
 -- ---- one op more
 
-pub faults_next : (environment : Environment) (ss : List StatementSpot) (start at i : ℕ) (brackets after : List OpenBracket) (zones zones' : List ℕ) (before next : List OpData) (ops : List OpData) (op : OpData) (least mid : Option LoadFault) (end : ℕ)
+pub faults_next : (environment : Environment) (ss : List StatementStart) (start at i : ℕ) (brackets after : List OpenBracket) (zones zones' : List ℕ) (before next : List OpData) (ops : List OpData) (op : OpData) (least mid : Option LoadFault) (end : ℕ)
     → i < length ops → op ≡ get_or ops i op → mid ≡ with_faults least (op_faults environment ss start (record { at = at; brackets = brackets; zones = zones; before = before; op = op; rest = drop (i + 1) ops }))
     → end ≡ at + size_of_op op → after ≡ brackets_after at op.code brackets → zones' ≡ zones_behind_op at op.code zones → next ≡ before_next op before
     → with_faults mid (faults_over environment ss start (ops_placed end after zones' next (drop (i + 1) ops))) ≡ with_faults least (faults_over environment ss start (ops_placed at brackets zones before (drop i ops)))
@@ -103,7 +103,7 @@ faults_next environment ss start at i brackets after zones zones' before next op
     ∙ ap (λ (z : List ℕ). with_faults mid (faults_over environment ss start (ops_placed end after z (before_next op before) (drop (i + 1) ops)))) (sym o)
     ∙ ap (λ (z : List OpData). with_faults mid (faults_over environment ss start (ops_placed end after zones' z (drop (i + 1) ops)))) (sym b))
 
-pub faults_done : (environment : Environment) (ss : List StatementSpot) (start at i : ℕ) (brackets : List OpenBracket) (zones : List ℕ) (before ops : List OpData) (least : Option LoadFault) → length ops ≤ i → with_faults least (faults_over environment ss start (ops_placed at brackets zones before (drop i ops))) ≡ least
+pub faults_done : (environment : Environment) (ss : List StatementStart) (start at i : ℕ) (brackets : List OpenBracket) (zones : List ℕ) (before ops : List OpData) (least : Option LoadFault) → length ops ≤ i → with_faults least (faults_over environment ss start (ops_placed at brackets zones before (drop i ops))) ≡ least
 unfolding with_faults
 faults_done environment ss start at i brackets zones before ops least le = rw (drop_of_length-le ops {i = i} le) refl
 
@@ -131,25 +131,25 @@ here_fits at i total ops op lt is h = omega (arith, h, ap (λ (z : List OpData).
 
 -- ---- the statements
 
-pub spots_next : (front : List StatementSpot) (at i end : ℕ) (begin : Bool) (brackets after : List OpenBracket) (zones zones' : List ℕ) (ops : List OpData) (op : OpData) (now : List StatementSpot)
+pub starts_next : (front : List StatementStart) (at i end : ℕ) (begin : Bool) (brackets after : List OpenBracket) (zones zones' : List ℕ) (ops : List OpData) (op : OpData) (now : List StatementStart)
     → i < length ops → op ≡ get_or ops i op → end ≡ at + size_of_op op → after ≡ brackets_after at op.code brackets → zones' ≡ zones_behind_op at op.code zones
     → now ≡ cond begin (front ++ record { at = at; codes = codes_of_few_brackets brackets; zones = length zones } ∷ []) front
-    → now ++ spots_from end op.last after zones' (drop (i + 1) ops) ≡ front ++ spots_from at begin brackets zones (drop i ops)
-spots_next front at i end begin brackets after zones zones' ops op now lt is e a o n =
+    → now ++ statement_starts_from end op.last after zones' (drop (i + 1) ops) ≡ front ++ statement_starts_from at begin brackets zones (drop i ops)
+starts_next front at i end begin brackets after zones zones' ops op now lt is e a o n =
     rw (n, e, a, o, drop_next ops i op lt is) (by begin)
   where
-    here : StatementSpot
+    here : StatementStart
     here = record { at = at; codes = codes_of_few_brackets brackets; zones = length zones }
 
-    behind : List StatementSpot
-    behind = spots_from (at + size_of_op op) op.last (brackets_after at op.code brackets) (zones_behind_op at op.code zones) (drop (i + 1) ops)
+    behind : List StatementStart
+    behind = statement_starts_from (at + size_of_op op) op.last (brackets_after at op.code brackets) (zones_behind_op at op.code zones) (drop (i + 1) ops)
 
     by : (b : Bool) → cond b (front ++ here ∷ []) front ++ behind ≡ front ++ cond b (here ∷ behind) behind
     by true = append_assoc front (here ∷ []) behind
     by false = refl
 
-pub spots_done : (front : List StatementSpot) (at i : ℕ) (begin : Bool) (brackets : List OpenBracket) (zones : List ℕ) (ops : List OpData) → length ops ≤ i → front ++ spots_from at begin brackets zones (drop i ops) ≡ front
-spots_done front at i begin brackets zones ops le = rw (drop_of_length-le ops {i = i} le) (append-nil front)
+pub starts_done : (front : List StatementStart) (at i : ℕ) (begin : Bool) (brackets : List OpenBracket) (zones : List ℕ) (ops : List OpData) → length ops ≤ i → front ++ statement_starts_from at begin brackets zones (drop i ops) ≡ front
+starts_done front at i begin brackets zones ops le = rw (drop_of_length-le ops {i = i} le) (append-nil front)
 
 one_fault : (least : Option LoadFault) (f : ℕ × ℕ) → with_faults least (f ∷ []) ≡ with_fault least f
 unfolding with_faults
@@ -182,19 +182,19 @@ zone_faults_done start i zones least le = rw (drop_of_length-le zones {i = i} le
 pub room_here : (at i total : ℕ) (ops : List OpData) (op : OpData) → i < length ops → op ≡ get_or ops i op → at + length (code_bytes (drop i ops)) ≡ total → at + size_of_op op + length (code_bytes (drop (i + 1) ops)) ≡ total
 room_here at i total ops op lt is h = omega (arith, h, ap (λ (z : List OpData). length (code_bytes z)) (drop_next ops i op lt is), code_len op (drop (i + 1) ops))
 
-pub same_place : (environment : Environment) (ss ss' : List StatementSpot) (start at : ℕ) (brackets brackets' : List OpenBracket) (zones zones' : List ℕ) (before before' : List OpData) (op : OpData) (rest rest' : List OpData) (least : Option LoadFault)
+pub same_place : (environment : Environment) (ss ss' : List StatementStart) (start at : ℕ) (brackets brackets' : List OpenBracket) (zones zones' : List ℕ) (before before' : List OpData) (op : OpData) (rest rest' : List OpData) (least : Option LoadFault)
     → ss ≡ ss' → brackets ≡ brackets' → zones ≡ zones' → before ≡ before' → rest ≡ rest'
     → with_faults least (op_faults environment ss start (record { at = at; brackets = brackets; zones = zones; before = before; op = op; rest = rest })) ≡ with_faults least (op_faults environment ss' start (record { at = at; brackets = brackets'; zones = zones'; before = before'; op = op; rest = rest' }))
 same_place environment ss ss' start at brackets brackets' zones zones' before before' op rest rest' least p q o r s = rw (p, q, o, r, s) refl
 
-pub check_done : (environment : Environment) (ss : List StatementSpot) (start at i : ℕ) (brackets : List OpenBracket) (zones : List ℕ) (before ops : List OpData) (least first result : Option LoadFault) → length ops ≤ i → ss ≡ statement_spots ops
+pub check_done : (environment : Environment) (ss : List StatementStart) (start at i : ℕ) (brackets : List OpenBracket) (zones : List ℕ) (before ops : List OpData) (least first result : Option LoadFault) → length ops ≤ i → ss ≡ starts_of_statements ops
     → with_faults least (faults_over environment ss start (ops_placed at brackets zones before (drop i ops))) ≡ with_faults first (faults_over environment ss start (code_places ops))
     → open_behind at brackets (drop i ops) ≡ open_behind 0 [] ops → zones_left at zones (drop i ops) ≡ zones_left 0 [] ops
     → result ≡ with_faults (with_faults least (open_faults start brackets)) (open_zone_faults start zones) → result ≡ with_faults first (block_faults environment start ops)
 unfolding block_faults
 check_done environment ss start at i brackets zones before ops least first result le s f o l r =
-    let over = faults_over environment (statement_spots ops) start (code_places ops) in
-    let done : least ≡ with_faults first over = sym (faults_done environment ss start at i brackets zones before ops least le) ∙ f ∙ ap (λ (z : List StatementSpot). with_faults first (faults_over environment z start (code_places ops))) s in
+    let over = faults_over environment (starts_of_statements ops) start (code_places ops) in
+    let done : least ≡ with_faults first over = sym (faults_done environment ss start at i brackets zones before ops least le) ∙ f ∙ ap (λ (z : List StatementStart). with_faults first (faults_over environment z start (code_places ops))) s in
     let open_ones : brackets ≡ open_behind 0 [] ops = sym (open_done at i brackets ops le) ∙ o in
     let left : zones ≡ zones_left 0 [] ops = sym (left_open_done at i zones ops le) ∙ l in
     r ∙ ap (λ (z : Option LoadFault). with_faults (with_faults z (open_faults start brackets)) (open_zone_faults start zones)) done

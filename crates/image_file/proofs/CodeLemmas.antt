@@ -8,8 +8,8 @@ use Rattle.flat_code.specs.declared.operations.EndOperation.TheVariants as ends
 use Rattle.flat_code.specs.declared.operations.Operation.TheVariants as operation
 use Rattle.flat_code.proofs.CodingLemmas.{IsBytes, BeginsWith}
 use Rattle.flat_code.proofs.OpLemmas.{op_again, op_takes, long_enough}
-use Rattle.flat_code.specs.Layout.{Cursor, ReadResult, reading_ended, reading_given}
-use Rattle.flat_code.specs.Codes.{cons_op, ops_next, ops_from, ends_by_be, are_ops, code_bytes, if_checked, overlong_statement, first_found, stop_at, read_ops, read_code, is_nowhere, code_layout, size_of_op, last_place}
+use Rattle.flat_code.specs.Layout.{Cursor, ReadResult, reading_ended, reading_given, is_fine}
+use Rattle.flat_code.specs.Codes.{cons_op, ops_next, ops_from, ends_by_be, are_ops, code_bytes, if_checked, overlong_statement, first_found, stop_at, read_ops, read_code, code_layout, size_of_op, last_place}
 use Rattle.image_file.specs.Walking.{ops_behind_front, HasReadOps}
 use Rattle.image_file.proofs.LayoutLemmas.{at_place, Finds, Spells, IsLaidOut, given_finds}
 
@@ -76,7 +76,7 @@ nothing_left : (with_code_faults : Bool) (ops : List OpData) (left : List ℕ) �
 nothing_left with_code_faults ops [] h = refl
 nothing_left with_code_faults ops (byte ∷ left) h = absurd (first_some (if_checked with_code_faults (overlong_statement 0 0 ops)) (length (code_bytes ops)) h)
 
-pub is_none : (o : Option ℕ) → is_nowhere o ≡ true → o ≡ None
+pub is_none : (o : Option ℕ) → is_fine o ≡ true → o ≡ None
 is_none None h = refl
 is_none (Some at) h = absurd cc
 
@@ -94,15 +94,15 @@ code_takes with_code_faults n cur ops end are h =
     let text : take n cur.rest ≡ code_bytes r.0 = t.0.parts ∙ ap (λ (z : List ℕ). code_bytes r.0 ++ z) nothing ∙ append-nil (code_bytes r.0) in
     let size : length (code_bytes r.0) ≡ n = ap length (sym text) ∙ omega (arith, length-take n cur.rest) in
     let whole : cur.rest ≡ code_bytes r.0 ++ drop n cur.rest = sym (take-append-drop n cur.rest) ∙ ap (λ (z : List ℕ). z ++ drop n cur.rest) text in
-    let fine : is_nowhere (stop_at with_code_faults r.0 []) ≡ true = ap (λ (z : List ℕ). is_nowhere (stop_at with_code_faults r.0 z)) (sym nothing) ∙ ap is_nowhere f.0 in
+    let fine : is_fine (stop_at with_code_faults r.0 []) ≡ true = ap (λ (z : List ℕ). is_fine (stop_at with_code_faults r.0 z)) (sym nothing) ∙ ap is_fine f.0 in
     let here : Spells (List OpData) (code_layout with_code_faults n) cur r.0 next =
-    record { text = record { parts = whole; rest_fits = bytes_dropped n cur.rest are }; good = and_from (are_ops r.0 && is_nowhere (stop_at with_code_faults r.0 [])) _ (and_from (are_ops r.0) _ t.1 fine) (eq-eqb _ _ size) } in
+    record { text = record { parts = whole; rest_fits = bytes_dropped n cur.rest are }; good = and_from (are_ops r.0 && is_fine (stop_at with_code_faults r.0 [])) _ (and_from (are_ops r.0) _ t.1 fine) (eq-eqb _ _ size) } in
     subst (λ (z : List OpData). Spells (List OpData) (code_layout with_code_faults n) cur z end) made.0 (subst (λ (z : Cursor). Spells (List OpData) (code_layout with_code_faults n) cur r.0 z) made.1 here))
 
-code_again : (with_code_faults : Bool) (n : ℕ) (ops : List OpData) (at : ℕ) (rest : List ℕ) → (are_ops ops && is_nowhere (stop_at with_code_faults ops []) && eqb (length (code_bytes ops)) n) ≡ true → Finds (List OpData) (read_code with_code_faults n (at_place at (code_bytes ops ++ rest))) ops (at_place (at + length (code_bytes ops)) rest)
+code_again : (with_code_faults : Bool) (n : ℕ) (ops : List OpData) (at : ℕ) (rest : List ℕ) → (are_ops ops && is_fine (stop_at with_code_faults ops []) && eqb (length (code_bytes ops)) n) ≡ true → Finds (List OpData) (read_code with_code_faults n (at_place at (code_bytes ops ++ rest))) ops (at_place (at + length (code_bytes ops)) rest)
 code_again with_code_faults n ops at rest good =
-    let g = and_parts (are_ops ops && is_nowhere (stop_at with_code_faults ops [])) (eqb (length (code_bytes ops)) n) good in
-    let f = and_parts (are_ops ops) (is_nowhere (stop_at with_code_faults ops [])) g.0 in
+    let g = and_parts (are_ops ops && is_fine (stop_at with_code_faults ops [])) (eqb (length (code_bytes ops)) n) good in
+    let f = and_parts (are_ops ops) (is_fine (stop_at with_code_faults ops [])) g.0 in
     let size : length (code_bytes ops) ≡ n = eqb-true _ _ g.1 in
     let bytes = code_bytes ops ++ rest in
     let long : ltb (length bytes) n ≡ false = le-ltb _ _ (omega (arith, size, length-append (code_bytes ops) rest)) in

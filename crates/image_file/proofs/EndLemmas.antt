@@ -6,7 +6,7 @@ use Rattle.flat_code.specs.Programs.{DataBlock, Program}
 use Rattle.flat_code.specs.declared.stamps.Stamp.{Stamp}
 use Rattle.flat_code.specs.Records.{BlockRecord, NameRecord}
 use Rattle.flat_code.specs.declared.image_fields.ParameterRecord.{ParameterRecord}
-use Rattle.flat_code.specs.Layout.{Note, Faulty, AllBlocks, Cursor, ReadResult, Layout, reading_ended, reading_given, go_on, bind_reading, fault_note, field_of, field_layout, chain_layout, checked_layout, located_layout, read_many, list_layout, seen_as, noted_layout, faults_in}
+use Rattle.flat_code.specs.Layout.{ReadingNote, Faulty, AllBlocks, Cursor, ReadResult, FieldLayout, reading_ended, reading_given, go_on, bind_reading, fault_note, field_of, field_layout, chain_layout, checked_layout, located_layout, read_many, list_layout, seen_as, noted_layout, faults_in}
 use Rattle.flat_code.specs.Codes.{ops_from, stop_at, read_ops, read_code, code_layout}
 use Rattle.flat_code.specs.Image.{no_fault, plain_u16, plain_u32, zero_u8, zero_u16, width_field, bytes_coding, section_field, parameter_byte, parameter_bit, parameter_rows, parameter_fields, parameter_row, parameter_of_fields, fields_of_parameter, parameter_layout, kind_field, parameter_count_layout, block_number_layout, local_length_layout, instance_bytes_layout, Head, head_of_row, row_of_head, head_rows, head_layout, same_state, parameters_layout, line_after, line_field, lines_layout, code_and_lines, BlockRow, parts_of_block_row, row_of_block_parts, block_rows, block_of_parts, parts_of_block, plain_block, whole_note, code_block_at, code_block_layout, after_block, data_number_layout, instance_field, data_length_layout, contents_layout, data_rows, data_fields, data_row, data_of_fields, fields_of_data, data_block_layout, after_data, name_len, name_bytes, name_area, name_bit, name_rows, name_fields, name_row, name_of_fields, fields_of_name, name_record, after_name, data_count, RecordCounts, counts_of_row, row_of_counts, count_rows, counts_layout, code_blocks_layout, plain_data_blocks, data_blocks_layout, names_layout, parts_of_body_row, row_of_body_parts, body_rows, records_of_parts, parts_of_records, records_layout, program_of_records, records_of, body_layout, magic_field, version_field, profile_field, Front, front_of_row, row_of_front, front_rows, front_layout, front_size, stamp_in, end_layout, read_cut_off, read_by, read_image}
 use Rattle.image_file.proofs.LayoutLemmas.{no_faults, at_place}
@@ -15,10 +15,10 @@ use Rattle.image_file.proofs.LayoutLemmas.{no_faults, at_place}
 abbrev Ends : {A : Type 0} → ReadResult A → Type 0
 Ends r = r.found ≡ None → faults_in r.notes ≡ [] → ⊥
 
-record Sound (A : Type 0) (l : Layout A) : Type 0 where
+record Sound (A : Type 0) (l : FieldLayout A) : Type 0 where
   ends : (cur : Cursor) → Ends (l.read cur)
 
-go_ends : {A B : Type 0} (notes : List Note) (o : Option (A × Cursor)) (f : A → Cursor → ReadResult B) → (o ≡ None → faults_in notes ≡ [] → ⊥) → ((x : A) (next : Cursor) → Ends (f x next)) → Ends (go_on notes o f)
+go_ends : {A B : Type 0} (notes : List ReadingNote) (o : Option (A × Cursor)) (f : A → Cursor → ReadResult B) → (o ≡ None → faults_in notes ≡ [] → ⊥) → ((x : A) (next : Cursor) → Ends (f x next)) → Ends (go_on notes o f)
 go_ends {A = A} {B = B} notes None f p q e clean = p refl clean
 go_ends {A = A} {B = B} notes (Some x) f p q e clean = q x.0 x.1 e (no_faults notes (f x.0 x.1).notes clean).1
 
@@ -38,29 +38,29 @@ field_of_ends {A = A} fault_in cur (Some r) e clean = cc
 field_sound : {A : Type 0} (c : Coding A) (fault_in : A → Option ℕ) → Sound A (field_layout c fault_in)
 field_sound {A = A} c fault_in = record { ends = λ cur. field_of_ends fault_in cur (c.read cur.rest) }
 
-chain_sound : {A B : Type 0} (l : Layout A) (m : A → Layout B) → Sound A l → ((x : A) → Sound B (m x)) → Sound (A × B) (chain_layout l m)
+chain_sound : {A B : Type 0} (l : FieldLayout A) (m : A → FieldLayout B) → Sound A l → ((x : A) → Sound B (m x)) → Sound (A × B) (chain_layout l m)
 chain_sound {A = A} {B = B} l m p q = record { ends = λ cur. bind_ends (l.read cur) (λ x next. bind_reading ((m x).read next) (λ y end. reading_given (x, y) end)) (p.ends cur) (λ x next. bind_ends ((m x).read next) (λ y end. reading_given (x, y) end) ((q x).ends next) (λ y end. given_ends (x, y) end)) }
 
-checked_sound : {A : Type 0} (at : ℕ) (fault : Option ℕ) (l : Layout A) → Sound A l → Sound A (checked_layout at fault l)
+checked_sound : {A : Type 0} (at : ℕ) (fault : Option ℕ) (l : FieldLayout A) → Sound A l → Sound A (checked_layout at fault l)
 checked_sound {A = A} at fault l p = record { ends = λ cur e clean. p.ends cur e (no_faults (fault_note at fault) (l.read cur).notes clean).1 }
 
-seen_sound : {A B : Type 0} (to : A → B) (from : B → A) (l : Layout A) → Sound A l → Sound B (seen_as to from l)
+seen_sound : {A B : Type 0} (to : A → B) (from : B → A) (l : FieldLayout A) → Sound A l → Sound B (seen_as to from l)
 seen_sound {A = A} {B = B} to from l p = record { ends = λ cur. bind_ends (l.read cur) (λ x end. reading_given (to x) end) (p.ends cur) (λ x end. given_ends (to x) end) }
 
-noted_ends : {A : Type 0} (notes : List Note) (x : A) (end : Cursor) → Ends {A = A} (record { notes = notes; found = Some (x, end) })
+noted_ends : {A : Type 0} (notes : List ReadingNote) (x : A) (end : Cursor) → Ends {A = A} (record { notes = notes; found = Some (x, end) })
 noted_ends {A = A} notes x end e clean = cc
 
-remembered_sound : {A : Type 0} (note : A → Note) (l : Layout A) → Sound A l → Sound A (noted_layout note l)
+remembered_sound : {A : Type 0} (note : A → ReadingNote) (l : FieldLayout A) → Sound A l → Sound A (noted_layout note l)
 remembered_sound {A = A} note l p = record { ends = λ cur. bind_ends (l.read cur) (λ x end. record { notes = note x ∷ []; found = Some (x, end) }) (p.ends cur) (λ x end. noted_ends (note x ∷ []) x end) }
 
-located_sound : {A : Type 0} (l : ℕ → Layout A) → ((at : ℕ) → Sound A (l at)) → Sound A (located_layout l)
+located_sound : {A : Type 0} (l : ℕ → FieldLayout A) → ((at : ℕ) → Sound A (l at)) → Sound A (located_layout l)
 located_sound {A = A} l p = record { ends = λ cur. (p cur.at).ends cur }
 
-many_ends : {S A : Type 0} (l : S → Layout A) (next : S → A → S) → ((s : S) → Sound A (l s)) → (s : S) (n : ℕ) (cur : Cursor) → Ends (read_many l next s n cur)
+many_ends : {S A : Type 0} (l : S → FieldLayout A) (next : S → A → S) → ((s : S) → Sound A (l s)) → (s : S) (n : ℕ) (cur : Cursor) → Ends (read_many l next s n cur)
 many_ends {S = S} {A = A} l next p s zero cur = given_ends [] cur
 many_ends {S = S} {A = A} l next p s (suc n) cur = bind_ends ((l s).read cur) (λ x after. bind_reading (read_many l next (next s x) n after) (λ xs end. reading_given (x ∷ xs) end)) ((p s).ends cur) (λ x after. bind_ends (read_many l next (next s x) n after) (λ xs end. reading_given (x ∷ xs) end) (many_ends l next p (next s x) n after) (λ xs end. given_ends (x ∷ xs) end))
 
-many_sound : {S A : Type 0} (l : S → Layout A) (next : S → A → S) → ((s : S) → Sound A (l s)) → (s : S) (n : ℕ) → Sound (List A) (list_layout l next s n)
+many_sound : {S A : Type 0} (l : S → FieldLayout A) (next : S → A → S) → ((s : S) → Sound A (l s)) → (s : S) (n : ℕ) → Sound (List A) (list_layout l next s n)
 many_sound l next p s n = record { ends = many_ends l next p s n }
 
 cond_ends : {A : Type 0} (b : Bool) (x y : ReadResult A) → Ends x → Ends y → Ends (cond b x y)
@@ -167,7 +167,7 @@ front_sound = seen_sound front_of_row row_of_front front_rows
     chain_sound version_field _ (field_sound u16 _) (λ version.
     chain_sound (profile_field version) (λ profile. plain_u32) (field_sound u16 _) (λ profile. field_sound u32 no_fault))))
 
-joined_ends : {A : Type 0} (notes : List Note) (r : ReadResult A) → Ends r → Ends {A = A} (record { notes = notes ++ r.notes; found = r.found })
+joined_ends : {A : Type 0} (notes : List ReadingNote) (r : ReadResult A) → Ends r → Ends {A = A} (record { notes = notes ++ r.notes; found = r.found })
 joined_ends {A = A} notes r p e clean = p e (no_faults notes r.notes clean).1
 
 cut_ends : (stamp : Stamp) (size total : ℕ) (cur : Cursor) → Ends (read_cut_off true stamp size total cur)

@@ -18,10 +18,10 @@ use Rattle.flat_code.specs.Coding.{u8, u16, u32}
 use Rattle.flat_code.specs.Forms.{area_code, width_of_number}
 use Rattle.flat_code.specs.Ops.{OpData}
 use Rattle.flat_code.specs.Programs.{CodeBlock, DataBlock, NameEntry, Program}
-use Rattle.flat_code.specs.Records.{BlockRecord, NameRecord, Records}
+use Rattle.flat_code.specs.Records.{BlockRecord, NameRecord, ImageRecords}
 use Rattle.flat_code.specs.Faults.{field_fault, name_fault, fault_unless_met, is_in_range}
-use Rattle.flat_code.specs.Layout.{Faulty, AllBlocks, Cursor, ReadResult, Layout, reading_ended, bind_reading, is_fine, chain_layout, spell_many, good_many, faults_in}
-use Rattle.flat_code.specs.Codes.{are_ops, code_bytes, stop_at, is_nowhere, code_layout, if_checked}
+use Rattle.flat_code.specs.Layout.{Faulty, AllBlocks, Cursor, ReadResult, FieldLayout, reading_ended, bind_reading, is_fine, chain_layout, spell_many, good_many, faults_in}
+use Rattle.flat_code.specs.Codes.{are_ops, code_bytes, stop_at, code_layout, if_checked}
 use Rattle.plc_base.specs.declared.profiles.Profile.TheVariants as profiles
 use Rattle.flat_code.specs.Stamps.{version_number, profile_field_of, stamp_of}
 use Rattle.flat_code.specs.declared.stamps.Stamp.{Stamp}
@@ -86,7 +86,7 @@ name_len_is : (before : List ℕ) (n : ℕ) (bs : List ℕ) → (name_bytes befo
 unfolding name_bytes
 name_len_is before n bs good = let c = and_parts ((bytes_coding n).fits bs) (is_fine (name_fault before bs)) good in eqb-true (length bs) n (and_parts (eqb (length bs) n) (bytes_fit bs) c.0).0
 
-many_count : {S A : Type 0} (l : S → Layout A) (next : S → A → S) (s : S) (n : ℕ) (xs : List A) → good_many l next s n xs ≡ true → n ≡ length xs
+many_count : {S A : Type 0} (l : S → FieldLayout A) (next : S → A → S) (s : S) (n : ℕ) (xs : List A) → good_many l next s n xs ≡ true → n ≡ length xs
 many_count l next s zero [] h = refl
 many_count l next s zero (x ∷ xs) h = absurd cc
 many_count l next s (suc n) [] h = absurd cc
@@ -175,7 +175,7 @@ lines_count with_code_faults start h ops lines good =
 
 code_size : (with_code_faults : Bool) (n : ℕ) (ops : List OpData) → (code_layout with_code_faults n).good ops ≡ true → length (code_bytes ops) ≡ n
 unfolding code_layout
-code_size with_code_faults n ops good = eqb-true (length (code_bytes ops)) n (and_parts (are_ops ops && is_nowhere (stop_at with_code_faults ops [])) (eqb (length (code_bytes ops)) n) good).1
+code_size with_code_faults n ops good = eqb-true (length (code_bytes ops)) n (and_parts (are_ops ops && is_fine (stop_at with_code_faults ops [])) (eqb (length (code_bytes ops)) n) good).1
 
 -- a block without fault has the counts of its lists
 block_row_is : (with_code_faults : Bool) (before : ℕ × ℕ) (start : ℕ) (x : BlockRow) → (block_rows with_code_faults before start).good x ≡ true → row_of_block_parts (parts_of_block (block_of_parts (parts_of_block_row x))) ≡ x
@@ -207,13 +207,13 @@ code_blocks_laid with_code_faults n = many_laid (code_block_layout with_code_fau
 
 -- ---- data blocks
 
-abbrev data_from_zero : ℕ → Layout (ℕ × List ℕ)
+abbrev data_from_zero : ℕ → FieldLayout (ℕ × List ℕ)
 data_from_zero n = chain_layout zero_u16 (λ zero. contents_layout n)
 
-abbrev data_from_len : ℕ → Layout (ℕ × (ℕ × List ℕ))
+abbrev data_from_len : ℕ → FieldLayout (ℕ × (ℕ × List ℕ))
 data_from_len sum = chain_layout (data_length_layout sum) data_from_zero
 
-abbrev data_from_instance : ℕ → Layout (ℕ × (ℕ × (ℕ × List ℕ)))
+abbrev data_from_instance : ℕ → FieldLayout (ℕ × (ℕ × (ℕ × List ℕ)))
 data_from_instance sum = chain_layout instance_field (λ instance. data_from_len sum)
 
 data_rows_laid : (before : ℕ × ℕ) → IsLaidOut DataRow (data_rows before)
@@ -258,16 +258,16 @@ data_blocks_laid n = remembered_laid AllBlocks (plain_data_blocks n) (λ ds. ref
 
 -- ---- names
 
-abbrev name_from_byte : ℕ → Layout (ℕ × ℕ)
+abbrev name_from_byte : ℕ → FieldLayout (ℕ × ℕ)
 name_from_byte w = chain_layout plain_u16 (λ byte. name_bit w)
 
-abbrev name_from_width : Layout (ℕ × (ℕ × ℕ))
+abbrev name_from_width : FieldLayout (ℕ × (ℕ × ℕ))
 name_from_width = chain_layout width_field name_from_byte
 
-abbrev name_from_area : Layout (ℕ × (ℕ × (ℕ × ℕ)))
+abbrev name_from_area : FieldLayout (ℕ × (ℕ × (ℕ × ℕ)))
 name_from_area = chain_layout name_area (λ area. name_from_width)
 
-abbrev name_from_bytes : List ℕ → ℕ → Layout (List ℕ × (ℕ × (ℕ × (ℕ × ℕ))))
+abbrev name_from_bytes : List ℕ → ℕ → FieldLayout (List ℕ × (ℕ × (ℕ × (ℕ × ℕ))))
 name_from_bytes before n = chain_layout (name_bytes before n) (λ name. name_from_area)
 
 name_rows_laid : (before : List ℕ) → IsLaidOut NameRow (name_rows before)
@@ -314,10 +314,10 @@ names_laid n = many_laid name_record after_name name_record_laid [] n
 
 -- ---- all records
 
-abbrev counts_from_names : Layout (ℕ × ℕ)
+abbrev counts_from_names : FieldLayout (ℕ × ℕ)
 counts_from_names = chain_layout plain_u16 (λ names. zero_u16)
 
-abbrev counts_from_datas : Layout (ℕ × (ℕ × ℕ))
+abbrev counts_from_datas : FieldLayout (ℕ × (ℕ × ℕ))
 counts_from_datas = chain_layout data_count (λ datas. counts_from_names)
 
 count_rows_laid : IsLaidOut CountRow count_rows
@@ -340,7 +340,7 @@ counts_zero c good =
     let d = chain_parts plain_u16 (λ names. zero_u16) row.1.1 b.1 in
     zero_u16_is c.reserved d.1
 
-abbrev blocks_and_names : Bool → RecordCounts → Layout (List BlockRecord × (List DataBlock × List NameRecord))
+abbrev blocks_and_names : Bool → RecordCounts → FieldLayout (List BlockRecord × (List DataBlock × List NameRecord))
 blocks_and_names with_code_faults c = chain_layout (code_blocks_layout with_code_faults c.code_blocks) (λ blocks. chain_layout (data_blocks_layout c.data_blocks) (λ datas. names_layout c.names))
 
 body_rows_laid : (with_code_faults : Bool) → IsLaidOut BodyRow (body_rows with_code_faults)
@@ -386,7 +386,7 @@ body_row_is with_code_faults x good =
     ap (λ (z : CountRow). let r : BodyRow = (counts_of_row z, x.1) in r)
     (quad (sym (codes_count with_code_faults c.code_blocks x.1.0 g.codes_good)) (sym (datas_count c.data_blocks x.1.1.0 g.datas_good)) (sym (names_count c.names x.1.1.1 g.names_good)) (sym (counts_zero c g.counts_good)))
 
-pub records_laid : (with_code_faults : Bool) → IsLaidOut Records (records_layout with_code_faults)
+pub records_laid : (with_code_faults : Bool) → IsLaidOut ImageRecords (records_layout with_code_faults)
 unfolding records_layout
 records_laid with_code_faults = seen_laid (λ r. records_of_parts (parts_of_body_row r)) (λ r. row_of_body_parts (parts_of_records r)) (body_rows with_code_faults) (body_row_is with_code_faults) (λ r good. refl) (body_rows_laid with_code_faults)
 
@@ -444,7 +444,7 @@ area_back n h =
     let high : n ≤ 131 = leb-true n (area_code area.M) b.1 in
     area_shape n (n - 129) (omega (arith, low)) (omega (arith, high))
 
-there_many : {S A B : Type 0} (l : S → Layout A) (next : S → A → S) (to : A → B) (from : B → A) → ((s : S) (x : A) → (l s).good x ≡ true → from (to x) ≡ x) → (s : S) (n : ℕ) (xs : List A) → good_many l next s n xs ≡ true → map from (map to xs) ≡ xs
+there_many : {S A B : Type 0} (l : S → FieldLayout A) (next : S → A → S) (to : A → B) (from : B → A) → ((s : S) (x : A) → (l s).good x ≡ true → from (to x) ≡ x) → (s : S) (n : ℕ) (xs : List A) → good_many l next s n xs ≡ true → map from (map to xs) ≡ xs
 there_many l next to from h s zero [] good = refl
 there_many l next to from h s zero (x ∷ xs) good = absurd cc
 there_many l next to from h s (suc n) [] good = absurd cc
@@ -452,7 +452,7 @@ there_many l next to from h s (suc n) (x ∷ xs) good =
     let g = and_parts ((l s).good x) (good_many l next (next s x) n xs) good in
     rw (h s x g.0, there_many l next to from h (next s x) n xs g.1) refl
 
-back_many : {S A B : Type 0} (l : S → Layout A) (next : S → A → S) (to : A → B) (from : B → A) → ((s : S) (y : B) → (l s).good (from y) ≡ true → to (from y) ≡ y) → (s : S) (n : ℕ) (ys : List B) → good_many l next s n (map from ys) ≡ true → map to (map from ys) ≡ ys
+back_many : {S A B : Type 0} (l : S → FieldLayout A) (next : S → A → S) (to : A → B) (from : B → A) → ((s : S) (y : B) → (l s).good (from y) ≡ true → to (from y) ≡ y) → (s : S) (n : ℕ) (ys : List B) → good_many l next s n (map from ys) ≡ true → map to (map from ys) ≡ ys
 back_many l next to from h s zero [] good = refl
 back_many l next to from h s zero (y ∷ ys) good = absurd cc
 back_many l next to from h s (suc n) [] good = absurd cc
@@ -523,15 +523,15 @@ names_there : (n : ℕ) (es : List NameEntry) → (names_layout n).good (map nam
 unfolding names_layout
 names_there n es good = back_many name_record after_name entry_of_name name_of_entry name_there [] n es good
 
-pub good_records : (with_code_faults : Bool) (r : Records) → (records_layout with_code_faults).good r ≡ true → GoodRecords with_code_faults (parts_of_records r)
+pub good_records : (with_code_faults : Bool) (r : ImageRecords) → (records_layout with_code_faults).good r ≡ true → GoodRecords with_code_faults (parts_of_records r)
 unfolding records_layout
 good_records with_code_faults r good = good_parts with_code_faults (parts_of_records r) good
 
-pub records_back : (with_code_faults : Bool) (r : Records) → (records_layout with_code_faults).good r ≡ true → records_of (program_of_records r) ≡ r
+pub records_back : (with_code_faults : Bool) (r : ImageRecords) → (records_layout with_code_faults).good r ≡ true → records_of (program_of_records r) ≡ r
 records_back with_code_faults r good =
     let p = good_records with_code_faults r good in
-    ap (λ (z : List BlockRecord). let y : Records = record { code_blocks = z; data_blocks = r.data_blocks; names = map name_of_entry (map entry_of_name r.names) } in y) (codes_back with_code_faults (length r.code_blocks) r.code_blocks p.codes_good)
-    ∙ ap (λ (z : List NameRecord). let y : Records = record { code_blocks = r.code_blocks; data_blocks = r.data_blocks; names = z } in y) (names_back (length r.names) r.names p.names_good)
+    ap (λ (z : List BlockRecord). let y : ImageRecords = record { code_blocks = z; data_blocks = r.data_blocks; names = map name_of_entry (map entry_of_name r.names) } in y) (codes_back with_code_faults (length r.code_blocks) r.code_blocks p.codes_good)
+    ∙ ap (λ (z : List NameRecord). let y : ImageRecords = record { code_blocks = r.code_blocks; data_blocks = r.data_blocks; names = z } in y) (names_back (length r.names) r.names p.names_good)
 
 records_there : (with_code_faults : Bool) (p : Program) → (records_layout with_code_faults).good (records_of p) ≡ true → program_of_records (records_of p) ≡ p
 records_there with_code_faults p good =
@@ -545,7 +545,7 @@ body_laid with_code_faults = seen_laid program_of_records records_of (records_la
 
 -- ---- what is checked changes no byte, and is right where it isn't checked
 
-pub many_text : {S A : Type 0} (l m : S → Layout A) (next : S → A → S) → ((s : S) (x : A) → (l s).spell x ≡ (m s).spell x) → (s : S) (xs : List A) → spell_many l next s xs ≡ spell_many m next s xs
+pub many_text : {S A : Type 0} (l m : S → FieldLayout A) (next : S → A → S) → ((s : S) (x : A) → (l s).spell x ≡ (m s).spell x) → (s : S) (xs : List A) → spell_many l next s xs ≡ spell_many m next s xs
 many_text l m next same s [] = refl
 many_text l m next same s (x ∷ xs) = rw (same s x, many_text l m next same (next s x) xs) refl
 
@@ -575,7 +575,7 @@ pub same_text : (with_code_faults : Bool) (p : Program) → (body_layout with_co
 same_text true p = true_text p
 same_text false p = refl
 
-many_weaker : {S A : Type 0} (l m : S → Layout A) (next : S → A → S) → ((s : S) (x : A) → (l s).good x ≡ true → (m s).good x ≡ true) → (s : S) (n : ℕ) (xs : List A) → good_many l next s n xs ≡ true → good_many m next s n xs ≡ true
+many_weaker : {S A : Type 0} (l m : S → FieldLayout A) (next : S → A → S) → ((s : S) (x : A) → (l s).good x ≡ true → (m s).good x ≡ true) → (s : S) (n : ℕ) (xs : List A) → good_many l next s n xs ≡ true → good_many m next s n xs ≡ true
 many_weaker l m next weaker s zero [] h = refl
 many_weaker l m next weaker s zero (x ∷ xs) h = absurd cc
 many_weaker l m next weaker s (suc n) [] h = absurd cc
@@ -590,8 +590,8 @@ line_weaker s x h = let g = and_parts (ltb x 4294967296) (is_fine (field_fault (
 code_weaker : (n : ℕ) (ops : List OpData) → (code_layout true n).good ops ≡ true → (code_layout false n).good ops ≡ true
 unfolding code_layout
 code_weaker n ops h =
-    let a = and_parts (are_ops ops && is_nowhere (stop_at true ops [])) (eqb (length (code_bytes ops)) n) h in
-    let b = and_parts (are_ops ops) (is_nowhere (stop_at true ops [])) a.0 in
+    let a = and_parts (are_ops ops && is_fine (stop_at true ops [])) (eqb (length (code_bytes ops)) n) h in
+    let b = and_parts (are_ops ops) (is_fine (stop_at true ops [])) a.0 in
     and_from (are_ops ops && true) (eqb (length (code_bytes ops)) n) (and_from (are_ops ops) true b.0 refl) a.1
 
 lines_weaker : (h : Head) (ops : List OpData) (lines : List ℕ) → (lines_layout true 0 h ops).good lines ≡ true → (lines_layout false 0 h ops).good lines ≡ true
@@ -625,10 +625,10 @@ good_weaker p h = let x = parts_of_records (records_of p) in all_good x (good_pa
 
 -- ---- the header
 
-abbrev front_from_profile : ℕ → Layout (ℕ × ℕ)
+abbrev front_from_profile : ℕ → FieldLayout (ℕ × ℕ)
 front_from_profile version = chain_layout (profile_field version) (λ profile. plain_u32)
 
-abbrev front_from_version : Layout (ℕ × (ℕ × ℕ))
+abbrev front_from_version : FieldLayout (ℕ × (ℕ × ℕ))
 front_from_version = chain_layout version_field front_from_profile
 
 front_rows_laid : IsLaidOut FrontRow front_rows

@@ -5,11 +5,11 @@ use Rattle.std.proofs.lemmas.Bool.{and_parts, and_from}
 use Rattle.std.proofs.lemmas.Option.{same_Some}
 use Rattle.flat_code.specs.Coding.{Coding}
 use Rattle.flat_code.proofs.CodingLemmas.{IsBytes, BeginsWith, IsExact}
-use Rattle.flat_code.specs.Layout.{Note, Faulty, Whole, AllBlocks, Cursor, ReadResult, Layout, reading_given, go_on, bind_reading, fault_note, is_fine, field_of, field_layout, chain_layout, checked_layout, located_layout, spell_many, good_many, read_many, list_layout, seen_as, noted_layout, faults_in}
+use Rattle.flat_code.specs.Layout.{ReadingNote, Faulty, Whole, AllBlocks, Cursor, ReadResult, FieldLayout, reading_given, go_on, bind_reading, fault_note, is_fine, field_of, field_layout, chain_layout, checked_layout, located_layout, spell_many, good_many, read_many, list_layout, seen_as, noted_layout, faults_in}
 
 -- ---- faults of notes
 
-pub faults-append : (a b : List Note) → faults_in (a ++ b) ≡ faults_in a ++ faults_in b
+pub faults-append : (a b : List ReadingNote) → faults_in (a ++ b) ≡ faults_in a ++ faults_in b
 faults-append [] b = refl
 faults-append (Faulty at code ∷ a) b = ap (λ (z : List (ℕ × ℕ)). (at, code) ∷ z) (faults-append a b)
 faults-append (Whole start block ∷ a) b = faults-append a b
@@ -19,10 +19,10 @@ nil_parts : (a b : List (ℕ × ℕ)) → a ++ b ≡ [] → (a ≡ []) × (b ≡
 nil_parts [] b e = (refl, e)
 nil_parts (x ∷ a) b e = absurd cc
 
-pub no_faults : (a b : List Note) → faults_in (a ++ b) ≡ [] → (faults_in a ≡ []) × (faults_in b ≡ [])
+pub no_faults : (a b : List ReadingNote) → faults_in (a ++ b) ≡ [] → (faults_in a ≡ []) × (faults_in b ≡ [])
 no_faults a b e = nil_parts (faults_in a) (faults_in b) (sym (faults-append a b) ∙ e)
 
-pub no_faults_join : (a b : List Note) → faults_in a ≡ [] → faults_in b ≡ [] → faults_in (a ++ b) ≡ []
+pub no_faults_join : (a b : List ReadingNote) → faults_in a ≡ [] → faults_in b ≡ [] → faults_in (a ++ b) ≡ []
 no_faults_join a b p q = faults-append a b ∙ rw (p, q) refl
 
 pub noted_none : (at : ℕ) (o : Option ℕ) → is_fine o ≡ true → faults_in (fault_note at o) ≡ []
@@ -43,11 +43,11 @@ pub record Finds (A : Type 0) (r : ReadResult A) (x : A) (end : Cursor) : Type 0
   pub found : r.found ≡ Some (x, end)
   pub clean : faults_in r.notes ≡ []
 
-pub record Spells (A : Type 0) (l : Layout A) (cur : Cursor) (x : A) (end : Cursor) : Type 0 where
+pub record Spells (A : Type 0) (l : FieldLayout A) (cur : Cursor) (x : A) (end : Cursor) : Type 0 where
   pub text : BeginsWith cur.rest (l.spell x) end.rest
   pub good : l.good x ≡ true
 
-pub record IsLaidOut (A : Type 0) (l : Layout A) : Type 0 where
+pub record IsLaidOut (A : Type 0) (l : FieldLayout A) : Type 0 where
   pub again : (x : A) (at : ℕ) (rest : List ℕ) → l.good x ≡ true → Finds A (l.read (at_place at (l.spell x ++ rest))) x (at_place (at + length (l.spell x)) rest)
   pub takes : (cur : Cursor) (x : A) (end : Cursor) → IsBytes cur.rest → Finds A (l.read cur) x end → Spells A l cur x end
 
@@ -58,7 +58,7 @@ pub record ReadingParts (A B : Type 0) (r : ReadResult A) (f : A → Cursor → 
   pub one : Finds A r first next
   pub two : Finds B (f first next) y end
 
-go_parts : {A B : Type 0} (notes : List Note) (o : Option (A × Cursor)) (f : A → Cursor → ReadResult B) (y : B) (end : Cursor) → Finds B (go_on notes o f) y end → ReadingParts A B (record { notes = notes; found = o }) f y end
+go_parts : {A B : Type 0} (notes : List ReadingNote) (o : Option (A × Cursor)) (f : A → Cursor → ReadResult B) (y : B) (end : Cursor) → Finds B (go_on notes o f) y end → ReadingParts A B (record { notes = notes; found = o }) f y end
 go_parts {A = A} {B = B} notes None f y end h = let e = h.found in absurd cc
 go_parts {A = A} {B = B} notes (Some x) f y end h =
     let p = no_faults notes (f x.0 x.1).notes h.clean in
@@ -104,7 +104,7 @@ field_laid {A = A} c fault_in exact = record {
 
 -- ---- one behind the other
 
-pub chain_laid : {A B : Type 0} (l : Layout A) (m : A → Layout B) → IsLaidOut A l → ((x : A) → IsLaidOut B (m x)) → IsLaidOut (A × B) (chain_layout l m)
+pub chain_laid : {A B : Type 0} (l : FieldLayout A) (m : A → FieldLayout B) → IsLaidOut A l → ((x : A) → IsLaidOut B (m x)) → IsLaidOut (A × B) (chain_layout l m)
 chain_laid {A = A} {B = B} l m first second = record {
   again = λ x at rest good.
       let g = and_parts (l.good x.0) ((m x.0).good x.1) good in
@@ -130,7 +130,7 @@ chain_laid {A = A} {B = B} l m first second = record {
 
 -- ---- a fault that is found only now
 
-pub checked_laid : {A : Type 0} (at : ℕ) (fault : Option ℕ) (l : Layout A) → IsLaidOut A l → IsLaidOut A (checked_layout at fault l)
+pub checked_laid : {A : Type 0} (at : ℕ) (fault : Option ℕ) (l : FieldLayout A) → IsLaidOut A l → IsLaidOut A (checked_layout at fault l)
 checked_laid {A = A} at fault l exact = record {
   again = λ x from rest good.
       let g = and_parts (is_fine fault) (l.good x) good in
@@ -144,7 +144,7 @@ checked_laid {A = A} at fault l exact = record {
 
 -- ---- the same bytes for another type
 
-pub seen_laid : {A B : Type 0} (to : A → B) (from : B → A) (l : Layout A) → ((x : A) → l.good x ≡ true → from (to x) ≡ x) → ((y : B) → l.good (from y) ≡ true → to (from y) ≡ y) → IsLaidOut A l → IsLaidOut B (seen_as to from l)
+pub seen_laid : {A B : Type 0} (to : A → B) (from : B → A) (l : FieldLayout A) → ((x : A) → l.good x ≡ true → from (to x) ≡ x) → ((y : B) → l.good (from y) ≡ true → to (from y) ≡ y) → IsLaidOut A l → IsLaidOut B (seen_as to from l)
 seen_laid {A = A} {B = B} to from l there back exact = record {
   again = λ y at rest good.
       let one = exact.again (from y) at rest good in
@@ -162,7 +162,7 @@ seen_laid {A = A} {B = B} to from l there back exact = record {
 
 -- ---- a value that is noted
 
-pub remembered_laid : {A : Type 0} (note : A → Note) (l : Layout A) → ((x : A) → faults_in (note x ∷ []) ≡ []) → IsLaidOut A l → IsLaidOut A (noted_layout note l)
+pub remembered_laid : {A : Type 0} (note : A → ReadingNote) (l : FieldLayout A) → ((x : A) → faults_in (note x ∷ []) ≡ []) → IsLaidOut A l → IsLaidOut A (noted_layout note l)
 remembered_laid {A = A} note l none exact = record {
   again = λ x at rest good.
       let one = exact.again x at rest good in
@@ -179,7 +179,7 @@ remembered_laid {A = A} note l none exact = record {
 
 -- ---- many
 
-many_again : {S A : Type 0} (l : S → Layout A) (next : S → A → S) → ((s : S) → IsLaidOut A (l s)) → (n : ℕ) (s : S) (xs : List A) (at : ℕ) (rest : List ℕ) → good_many l next s n xs ≡ true
+many_again : {S A : Type 0} (l : S → FieldLayout A) (next : S → A → S) → ((s : S) → IsLaidOut A (l s)) → (n : ℕ) (s : S) (xs : List A) (at : ℕ) (rest : List ℕ) → good_many l next s n xs ≡ true
     → Finds (List A) (read_many l next s n (at_place at (spell_many l next s xs ++ rest))) xs (at_place (at + length (spell_many l next s xs)) rest)
 many_again {S = S} {A = A} l next exact zero s [] at rest good = record { found = ap (λ (k : ℕ). Some ([], at_place k rest)) (omega arith); clean = refl }
 many_again {S = S} {A = A} l next exact zero s (x ∷ xs) at rest good = absurd cc
@@ -198,7 +198,7 @@ many_again {S = S} {A = A} l next exact (suc n) s (x ∷ xs) at rest good =
     (record { found = ap (λ (k : ℕ). Some (x ∷ xs, at_place k rest)) place; clean = refl }) in
     bind_finds ((l s).read (at_place at ((front ++ tail) ++ rest))) (λ x after. bind_reading (read_many l next (next s x) n after) (λ xs end. reading_given (x ∷ xs) end)) x mid (x ∷ xs) end one_here inner
 
-many_takes : {S A : Type 0} (l : S → Layout A) (next : S → A → S) → ((s : S) → IsLaidOut A (l s)) → (n : ℕ) (s : S) (cur : Cursor) (xs : List A) (end : Cursor) → IsBytes cur.rest → Finds (List A) (read_many l next s n cur) xs end → Spells (List A) (list_layout l next s n) cur xs end
+many_takes : {S A : Type 0} (l : S → FieldLayout A) (next : S → A → S) → ((s : S) → IsLaidOut A (l s)) → (n : ℕ) (s : S) (cur : Cursor) (xs : List A) (end : Cursor) → IsBytes cur.rest → Finds (List A) (read_many l next s n cur) xs end → Spells (List A) (list_layout l next s n) cur xs end
 many_takes {S = S} {A = A} l next exact zero s cur xs end are h =
     let made = given_finds [] xs cur end h in
     subst (λ (z : List A). Spells (List A) (list_layout l next s zero) cur z end) made.0 (subst (λ (z : Cursor). Spells (List A) (list_layout l next s zero) cur [] z) made.1 (record { text = record { parts = refl; rest_fits = are }; good = refl }))
@@ -212,12 +212,12 @@ many_takes {S = S} {A = A} l next exact (suc n) s cur xs end are h =
     let here : Spells (List A) (list_layout l next s (suc n)) cur (p.first ∷ q.first) q.next = record { text = record { parts = text; rest_fits = u.text.rest_fits }; good = and_from ((l s).good p.first) (good_many l next (next s p.first) n q.first) t.good u.good } in
     subst (λ (z : List A). Spells (List A) (list_layout l next s (suc n)) cur z end) made.0 (subst (λ (z : Cursor). Spells (List A) (list_layout l next s (suc n)) cur (p.first ∷ q.first) z) made.1 here)
 
-pub many_laid : {S A : Type 0} (l : S → Layout A) (next : S → A → S) → ((s : S) → IsLaidOut A (l s)) → (s : S) (n : ℕ) → IsLaidOut (List A) (list_layout l next s n)
+pub many_laid : {S A : Type 0} (l : S → FieldLayout A) (next : S → A → S) → ((s : S) → IsLaidOut A (l s)) → (s : S) (n : ℕ) → IsLaidOut (List A) (list_layout l next s n)
 many_laid l next exact s n = record { again = many_again l next exact n s; takes = many_takes l next exact n s }
 
 -- ---- a layout that knows where it begins
 
-pub located_laid : {A : Type 0} (l : ℕ → Layout A) → ((at : ℕ) (x : A) → (l at).spell x ≡ (l 0).spell x) → ((at : ℕ) (x : A) → (l at).good x ≡ (l 0).good x) → ((at : ℕ) → IsLaidOut A (l at)) → IsLaidOut A (located_layout l)
+pub located_laid : {A : Type 0} (l : ℕ → FieldLayout A) → ((at : ℕ) (x : A) → (l at).spell x ≡ (l 0).spell x) → ((at : ℕ) (x : A) → (l at).good x ≡ (l 0).good x) → ((at : ℕ) → IsLaidOut A (l at)) → IsLaidOut A (located_layout l)
 located_laid {A = A} l spelled goods exact = record {
   again = λ x at rest good.
       subst (λ (t : List ℕ). Finds A ((l at).read (at_place at (t ++ rest))) x (at_place (at + length t) rest)) (spelled at x)

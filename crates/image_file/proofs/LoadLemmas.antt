@@ -9,7 +9,7 @@ use Rattle.flat_code.specs.Programs.{CodeBlock, DataBlock, NameEntry, Program}
 use Rattle.flat_code.specs.declared.stamps.Stamp.{Stamp}
 use Rattle.flat_code.specs.Records.{BlockRecord, NameRecord}
 use Rattle.flat_code.specs.declared.programs.DataBlock.{DataBlock as Block}
-use Rattle.flat_code.specs.Layout.{Note, Faulty, Whole, AllBlocks, Cursor, faults_in}
+use Rattle.flat_code.specs.Layout.{ReadingNote, Faulty, Whole, AllBlocks, Cursor, faults_in}
 use Rattle.flat_code.specs.Image.{program_of_records, read_image, IsProgram, record_of_block, block_of_record, entry_of_name}
 use Rattle.flat_code.specs.Blocks.{BlockSignature, signature_of, Environment, block_faults}
 use Rattle.flat_code.specs.Loading.{environment_of_block, op_faults_of_blocks, lens_of, later_data_blocks, whole_blocks, all_blocks, blocks_of, faults_of, GivesProgram, Verifies}
@@ -49,7 +49,7 @@ checked_done lens all bs i least le = rw (drop_of_length-le bs {i = i} le) refl
 
 -- ---- what one pass keeps
 
-wholes_kept : (bs : List (ℕ × BlockRecord)) (notes : List Note) → with_wholes bs notes ≡ bs ++ whole_blocks notes
+wholes_kept : (bs : List (ℕ × BlockRecord)) (notes : List ReadingNote) → with_wholes bs notes ≡ bs ++ whole_blocks notes
 wholes_kept bs [] = sym (append-nil bs)
 wholes_kept bs (Faulty at code ∷ notes) = wholes_kept bs notes
 wholes_kept bs (Whole start block ∷ notes) = wholes_kept (bs ++ (start, block) ∷ []) notes ∙ append_assoc bs ((start, block) ∷ []) (whole_blocks notes)
@@ -59,7 +59,7 @@ later_some : (d : Option (List DataBlock)) (l : List DataBlock) (a : Option (Lis
 later_some d l None = refl
 later_some d l (Some m) = refl
 
-datas_kept : (d : Option (List DataBlock)) (notes : List Note) → with_all d notes ≡ later_data_blocks d (all_blocks notes)
+datas_kept : (d : Option (List DataBlock)) (notes : List ReadingNote) → with_all d notes ≡ later_data_blocks d (all_blocks notes)
 datas_kept d [] = refl
 datas_kept d (Faulty at code ∷ notes) = datas_kept d notes
 datas_kept d (Whole start block ∷ notes) = datas_kept d notes

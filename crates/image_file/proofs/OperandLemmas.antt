@@ -22,8 +22,8 @@ use Rattle.flat_code.specs.Programs.{CodeBlock, Program}
 use Rattle.flat_code.specs.Image.{record_of_param, record_of_block}
 use Rattle.flat_code.specs.Loading.{lens_of}
 use Rattle.flat_code.specs.Table.{takes_of, has_memory_width}
-use Rattle.flat_code.specs.PlacedOps.{PlacedOp, statement_spots, begins_its_statement, last_op}
-use Rattle.flat_code.specs.Blocks.{signature_of, CalleeSeen, block_with, callee_among, is_odd_bit, is_past_locals, is_bad_place, lacks_width, writes_operand, parameter_meant, lacks_own_parameter, is_in_parameter, is_in_db, is_above, pass_before, is_stray_pass, is_bad_actual, misfits_index, misfits_callee, misfits_call, are_all_passed, is_bad_instance, is_bad_call, seven_if, operand_fault, call_fault_among}
+use Rattle.flat_code.specs.PlacedOps.{PlacedOp, starts_of_statements, begins_its_statement, last_op}
+use Rattle.flat_code.specs.Blocks.{signature_of, CalleeSignature, block_with, callee_among, is_odd_bit, is_past_locals, is_bad_place, lacks_width, writes_operand, parameter_meant, lacks_own_parameter, is_in_parameter, is_in_db, is_above, pass_before, is_stray_pass, is_bad_actual, misfits_index, misfits_callee, misfits_call, are_all_passed, is_bad_instance, is_bad_call, seven_if, operand_fault, call_fault_among}
 use Rattle.image_file.specs.Readers.{is_same_id, block_by_id}
 use Rattle.image_file.specs.VerifiedProgram.{IsVerifiedOp, LiesWithin, HasParam, FitsOperand, FitsPassed, FitsPrepared, block_signatures, FitsCall, FitsParameter, IsCalledBlock}
 use Rattle.image_file.proofs.ImageLemmas.{width_there}
@@ -83,7 +83,7 @@ has_param p b index w e = by_kind (eqb (kind_number b.id.kind) (kind_number kind
 not_written : (code section : ℕ) → (writes_operand code && eqb section section_in) ≡ false → writes_operand code ≡ true → section ≡ section_in → ⊥
 not_written code section e w is = let f : true ≡ false = sym (rw (w, eq-eqb section section_in is) refl) ∙ e in absurd cc
 
-fits_operand : (p : Program) (b : CodeBlock) (q : PlacedOp) (o : Operand) → operand_fault (environment_in p b) (statement_spots b.code) q o ≡ None → FitsOperand b q.op o
+fits_operand : (p : Program) (b : CodeBlock) (q : PlacedOp) (o : Operand) → operand_fault (environment_in p b) (starts_of_statements b.code) q o ≡ None → FitsOperand b q.op o
 fits_operand p b q (operand.Direct a w byte bit) e =
     let s = or_parts (lacks_width q.op w) (is_bad_place (environment_in p b) a w byte bit) (seven_none _ e) in
     let f = fits_place p b a w byte bit s.1 in
@@ -125,7 +125,7 @@ fits_passed p b (passed.InBlock number area.M w byte bit) e = absurd cc
 fits_passed p b (passed.InBlock number area.Di w byte bit) e = absurd cc
 fits_passed p b (passed.InBlock number area.L w byte bit) e = absurd cc
 
-fits_prepared : (p : Program) (b : CodeBlock) (q : PlacedOp) (o : Operand) → operand_fault (environment_in p b) (statement_spots b.code) q o ≡ None → FitsPrepared b q o
+fits_prepared : (p : Program) (b : CodeBlock) (q : PlacedOp) (o : Operand) → operand_fault (environment_in p b) (starts_of_statements b.code) q o ≡ None → FitsPrepared b q o
 fits_prepared p b q (operand.UseDb number) e =
     let s = or_parts (not (begins_its_statement q)) (not (is_in_db (last_op q).operand)) (seven_none _ e) in
     (not-false (begins_its_statement q) s.0, not-false (is_in_db (last_op q).operand) s.1)
@@ -155,7 +155,7 @@ prepared_fits p b q h = fits_prepared p b q q.op.operand (op_none p b q h).opera
 among : (p : Program) (b : CodeBlock) (q : PlacedOp) (o : Operand) → IsVerifiedOp p b q → q.op.operand ≡ o → call_fault_among (environment_in p b) (lens_of p.data_blocks) q o ≡ None
 among p b q o h is = subst (λ (z : Operand). call_fault_among (environment_in p b) (lens_of p.data_blocks) q z ≡ None) is (op_none p b q h).call
 
-fits_call : (p : Program) (q : PlacedOp) (kind number instance : ℕ) (found : Option CalleeSeen) → callee_among (block_signatures p) kind number ≡ found → is_bad_call (lens_of p.data_blocks) found instance q.before ≡ false → FitsCall p q kind number instance
+fits_call : (p : Program) (q : PlacedOp) (kind number instance : ℕ) (found : Option CalleeSignature) → callee_among (block_signatures p) kind number ≡ found → is_bad_call (lens_of p.data_blocks) found instance q.before ≡ false → FitsCall p q kind number instance
 fits_call p q kind number instance None is e = absurd cc
 fits_call p q kind number instance (Some s) is e =
     let o = or_parts (not (eqb s.0 3) && not (are_all_passed 0 s.2 q.before)) (is_bad_instance (lens_of p.data_blocks) s instance) e in
@@ -172,25 +172,25 @@ fits_call p q kind number instance (Some s) is e =
 pub call_fits : (p : Program) (b : CodeBlock) (q : PlacedOp) (kind number instance : ℕ) → IsVerifiedOp p b q → q.op.operand ≡ operand.Called kind number instance → FitsCall p q kind number instance
 call_fits p b q kind number instance h is = fits_call p q kind number instance (callee_among (block_signatures p) kind number) refl (seven_none _ (among p b q (operand.Called kind number instance) h is))
 
-fits_index : (p : Program) (b : CodeBlock) (called : CalleeSeen) (index : ℕ) (actual : Passed) (o : Option ParameterRecord) → slice_get called.2 index ≡ o → misfits_index (environment_in p b) o actual ≡ false → FitsParameter p b called index actual
+fits_index : (p : Program) (b : CodeBlock) (called : CalleeSignature) (index : ℕ) (actual : Passed) (o : Option ParameterRecord) → slice_get called.2 index ≡ o → misfits_index (environment_in p b) o actual ≡ false → FitsParameter p b called index actual
 fits_index p b called index actual None is e = absurd cc
 fits_index p b called index actual (Some parameter) is e = record { parameter = parameter; there = is; fits = e }
 
-pub passed_fits : (p : Program) (b : CodeBlock) (q : PlacedOp) (index : ℕ) (actual : Passed) (kind number instance : ℕ) (called : CalleeSeen) → IsVerifiedOp p b q → q.op.operand ≡ operand.Pass index actual → (last_op q).operand ≡ operand.Called kind number instance → callee_among (block_signatures p) kind number ≡ Some called → FitsParameter p b called index actual
+pub passed_fits : (p : Program) (b : CodeBlock) (q : PlacedOp) (index : ℕ) (actual : Passed) (kind number instance : ℕ) (called : CalleeSignature) → IsVerifiedOp p b q → q.op.operand ≡ operand.Pass index actual → (last_op q).operand ≡ operand.Called kind number instance → callee_among (block_signatures p) kind number ≡ Some called → FitsParameter p b called index actual
 passed_fits p b q index actual kind number instance called h is last there =
-    let code = (fits_prepared p b q (operand.Pass index actual) (subst (λ (z : Operand). operand_fault (environment_in p b) (statement_spots b.code) q z ≡ None) is (op_none p b q h).operand)).0 in
+    let code = (fits_prepared p b q (operand.Pass index actual) (subst (λ (z : Operand). operand_fault (environment_in p b) (starts_of_statements b.code) q z ≡ None) is (op_none p b q h).operand)).0 in
     let bad = seven_none _ (among p b q (operand.Pass index actual) h is) in
     let here : misfits_call (environment_in p b) (last_op q).operand index actual ≡ false = rw (eq-eqb (last_op q).code 0x78 code) at bad in
     let whom : misfits_callee (environment_in p b) (callee_among (block_signatures p) kind number) index actual ≡ false = subst (λ (z : Operand). misfits_call (environment_in p b) z index actual ≡ false) last here in
-    fits_index p b called index actual (slice_get called.2 index) refl (subst (λ (z : Option CalleeSeen). misfits_callee (environment_in p b) z index actual ≡ false) there whom)
+    fits_index p b called index actual (slice_get called.2 index) refl (subst (λ (z : Option CalleeSignature). misfits_callee (environment_in p b) z index actual ≡ false) there whom)
 
 -- what is called among blocks
-record IsCalleeBlock (bs : List CodeBlock) (id : BlockId) (kind : ℕ) (called : CalleeSeen) : Type 0 where
+record IsCalleeBlock (bs : List CodeBlock) (id : BlockId) (kind : ℕ) (called : CalleeSignature) : Type 0 where
   block : CodeBlock
   there : block_by_id id bs ≡ Some block
   same : called ≡ (kind, block.instance_len, map record_of_param block.params)
 
-found_in : (bs : List CodeBlock) (id : BlockId) (kind : ℕ) (called : CalleeSeen) → ((k : BlockKind) → eqb (kind_number k) kind ≡ eqb (kind_order k) (kind_order id.kind)) → block_with kind id.number (map signature_of (map record_of_block bs)) ≡ Some called → IsCalleeBlock bs id kind called
+found_in : (bs : List CodeBlock) (id : BlockId) (kind : ℕ) (called : CalleeSignature) → ((k : BlockKind) → eqb (kind_number k) kind ≡ eqb (kind_order k) (kind_order id.kind)) → block_with kind id.number (map signature_of (map record_of_block bs)) ≡ Some called → IsCalleeBlock bs id kind called
 found_in [] id kind called agree e = absurd cc
 found_in (b ∷ bs) id kind called agree e =
     by (eqb (kind_number b.id.kind) kind && eqb b.id.number id.number) refl (ap (λ (z : Bool). z && eqb b.id.number id.number) (sym (agree b.id.kind))) e (λ h. found_in bs id kind called agree h)
@@ -203,7 +203,7 @@ found_in (b ∷ bs) id kind called agree e =
         record {
           block = b;
           there = rw (s ∙ t) refl;
-          same = sym (same_Some (kind_number b.id.kind, b.instance_len, map record_of_param b.params) called e) ∙ ap (λ (n : ℕ). let c : CalleeSeen = (n, b.instance_len, map record_of_param b.params) in c) k;
+          same = sym (same_Some (kind_number b.id.kind, b.instance_len, map record_of_param b.params) called e) ∙ ap (λ (n : ℕ). let c : CalleeSignature = (n, b.instance_len, map record_of_param b.params) in c) k;
         }
     by false t s e more = let m = more e in record { block = m.block; there = rw (s ∙ t) m.there; same = m.same }
 
@@ -223,14 +223,14 @@ function_blocks_agree kinds.Db = refl
 function_blocks_agree kinds.Sfc = refl
 function_blocks_agree kinds.Udt = refl
 
-function_there : (p : Program) (number : ℕ) (called : CalleeSeen) → callee_among (block_signatures p) (kind_number kinds.Fc) number ≡ Some called → IsCalledBlock p (kind_number kinds.Fc) number called
+function_there : (p : Program) (number : ℕ) (called : CalleeSignature) → callee_among (block_signatures p) (kind_number kinds.Fc) number ≡ Some called → IsCalledBlock p (kind_number kinds.Fc) number called
 unfolding callee_among
 function_there p number called e = let f = found_in p.code_blocks (record { kind = kinds.Fc; number = number }) (kind_number kinds.Fc) called functions_agree e in record { block = f.block; there = f.there; same = f.same }
 
-function_block_there : (p : Program) (number : ℕ) (called : CalleeSeen) → callee_among (block_signatures p) (kind_number kinds.Fb) number ≡ Some called → IsCalledBlock p (kind_number kinds.Fb) number called
+function_block_there : (p : Program) (number : ℕ) (called : CalleeSignature) → callee_among (block_signatures p) (kind_number kinds.Fb) number ≡ Some called → IsCalledBlock p (kind_number kinds.Fb) number called
 unfolding callee_among
 function_block_there p number called e = let f = found_in p.code_blocks (record { kind = kinds.Fb; number = number }) (kind_number kinds.Fb) called function_blocks_agree e in record { block = f.block; there = f.there; same = f.same }
 
-pub called_there : (p : Program) (kind number : ℕ) (called : CalleeSeen) → (kind ≡ kind_number kinds.Fc) ⊎ (kind ≡ kind_number kinds.Fb) → callee_among (block_signatures p) kind number ≡ Some called → IsCalledBlock p kind number called
+pub called_there : (p : Program) (kind number : ℕ) (called : CalleeSignature) → (kind ≡ kind_number kinds.Fc) ⊎ (kind ≡ kind_number kinds.Fb) → callee_among (block_signatures p) kind number ≡ Some called → IsCalledBlock p kind number called
 called_there p kind number called (inl is) e = subst (λ (k : ℕ). IsCalledBlock p k number called) (sym is) (function_there p number called (subst (λ (k : ℕ). callee_among (block_signatures p) k number ≡ Some called) is e))
 called_there p kind number called (inr is) e = subst (λ (k : ℕ). IsCalledBlock p k number called) (sym is) (function_block_there p number called (subst (λ (k : ℕ). callee_among (block_signatures p) k number ≡ Some called) is e))

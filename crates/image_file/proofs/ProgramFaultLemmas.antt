@@ -6,7 +6,7 @@ use Rattle.std.proofs.lemmas.List.{take-append-drop}
 use Rattle.plc_base.proofs.ListLemmas.{drop_next, nil_parts}
 use Rattle.flat_code.specs.declared.image_fields.Field.TheVariants.{StatementCount, Line}
 use Rattle.flat_code.specs.Ops.{OpData}
-use Rattle.flat_code.specs.Codes.{size_of_op, are_ops, code_bytes, code_fault, code_layout, ends_by_be, is_nowhere, last_place, overlong_statement, stop_at}
+use Rattle.flat_code.specs.Codes.{size_of_op, are_ops, code_bytes, code_fault, code_layout, ends_by_be, last_place, overlong_statement, stop_at}
 use Rattle.flat_code.specs.Blocks.{Environment, BlockSignature, signature_of, at_offset, block_faults}
 use Rattle.flat_code.specs.Faults.{field_fault}
 use Rattle.flat_code.specs.Image.{end_marks, head_layout, head_of_block, parts_of_block, parameters_layout, line_field, line_after, lines_layout, code_and_lines, block_rows, plain_block, code_block_layout, after_block, code_blocks_layout, data_blocks_layout, counts_layout, parts_of_records, row_of_body_parts, body_rows, records_layout, records_of, record_of_block, body_layout, IsProgram, IsRight}
@@ -63,10 +63,10 @@ ends_badly ops last at some is end at_is =
     rw (e, place) refl
 
 pub whole_next : (i : ℕ) (bs : List CodeBlock) (b : CodeBlock) → i < length bs → b ≡ get_or bs i b → code_fault b.code ≡ None → are_whole (map record_of_block (drop (i + 1) bs)) ≡ are_whole (map record_of_block (drop i bs))
-whole_next i bs b lt is none = sym (ap (λ (z : List CodeBlock). are_whole (map record_of_block z)) (drop_next bs i b lt is) ∙ ap (λ (z : Option ℕ). is_nowhere z && are_whole (map record_of_block (drop (i + 1) bs))) none)
+whole_next i bs b lt is none = sym (ap (λ (z : List CodeBlock). are_whole (map record_of_block z)) (drop_next bs i b lt is) ∙ ap (λ (z : Option ℕ). is_fine z && are_whole (map record_of_block (drop (i + 1) bs))) none)
 
 pub whole_not : (i at : ℕ) (bs : List CodeBlock) (b : CodeBlock) → i < length bs → b ≡ get_or bs i b → code_fault b.code ≡ Some at → false ≡ are_whole (map record_of_block (drop i bs))
-whole_not i at bs b lt is some = sym (ap (λ (z : List CodeBlock). are_whole (map record_of_block z)) (drop_next bs i b lt is) ∙ ap (λ (z : Option ℕ). is_nowhere z && are_whole (map record_of_block (drop (i + 1) bs))) some)
+whole_not i at bs b lt is some = sym (ap (λ (z : List CodeBlock). are_whole (map record_of_block z)) (drop_next bs i b lt is) ∙ ap (λ (z : Option ℕ). is_fine z && are_whole (map record_of_block (drop (i + 1) bs))) some)
 
 -- ---- faults 9
 
@@ -157,7 +157,7 @@ clean_parts environment b e =
 pub clean_from : (environment : Environment) (b : BlockRecord) → Clean environment b → faults_of_block environment b ≡ []
 clean_from environment b h = rw (h.code, h.count, h.lines, h.ops) refl
 
-pub is_whole : (o : Option ℕ) → o ≡ None → is_nowhere o ≡ true
+pub is_whole : (o : Option ℕ) → o ≡ None → is_fine o ≡ true
 is_whole None e = refl
 is_whole (Some at) e = absurd cc
 
@@ -184,9 +184,9 @@ lines_right (suc n) before (line ∷ lines) h e =
 code_right : (n : ℕ) (ops : List OpData) → (code_layout false n).good ops ≡ true → code_fault ops ≡ None → (code_layout true n).good ops ≡ true
 unfolding code_layout
 code_right n ops h e =
-    let a = and_parts (are_ops ops && is_nowhere (stop_at false ops [])) (eqb (length (code_bytes ops)) n) h in
-    let b = and_parts (are_ops ops) (is_nowhere (stop_at false ops [])) a.0 in
-    and_from (are_ops ops && is_nowhere (code_fault ops)) (eqb (length (code_bytes ops)) n) (and_from (are_ops ops) (is_nowhere (code_fault ops)) b.0 (is_whole (code_fault ops) e)) a.1
+    let a = and_parts (are_ops ops && is_fine (stop_at false ops [])) (eqb (length (code_bytes ops)) n) h in
+    let b = and_parts (are_ops ops) (is_fine (stop_at false ops [])) a.0 in
+    and_from (are_ops ops && is_fine (code_fault ops)) (eqb (length (code_bytes ops)) n) (and_from (are_ops ops) (is_fine (code_fault ops)) b.0 (is_whole (code_fault ops) e)) a.1
 
 lines_of_right : (b : BlockRecord) → (lines_layout false 0 (head_of_block b) b.code).good b.lines ≡ true → count_faults b ≡ [] → line_faults 0 b.lines ≡ [] → (lines_layout true 0 (head_of_block b) b.code).good b.lines ≡ true
 unfolding lines_layout

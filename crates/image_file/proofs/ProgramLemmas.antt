@@ -11,7 +11,7 @@ use Rattle.plc_base.specs.declared.blocks.BlockKind.{BlockKind}
 use Rattle.plc_base.specs.declared.blocks.BlockKind.TheVariants as kinds
 use Rattle.flat_code.specs.Faults.{field_fault, fault_unless_met, is_in_range, is_existing_ob, has_number}
 use Rattle.flat_code.specs.Layout.{is_fine, chain_layout, good_many}
-use Rattle.flat_code.specs.Codes.{size_of_op, code_bytes, code_layout, are_ops, ends_by_be, overlong_statement, first_found, is_nowhere, last_place, stop_at, if_checked}
+use Rattle.flat_code.specs.Codes.{size_of_op, code_bytes, code_layout, are_ops, ends_by_be, overlong_statement, first_found, last_place, stop_at, if_checked}
 use Rattle.flat_code.specs.declared.image_fields.Field.TheVariants.{StatementCount}
 use Rattle.flat_code.specs.Ops.{OpData, is_op}
 use Rattle.flat_code.specs.Programs.{CodeBlock, Program}
@@ -116,7 +116,7 @@ pub record IsRightCode (b : CodeBlock) : Type 0 where
 abbrev pub AreRight : List CodeBlock → Type 0
 AreRight bs = AllByRecursion IsRightCode bs
 
-stops_nowhere : (long : Option ℕ) (last : ℕ) (ended : Bool) → is_nowhere (first_found long (cond ended None (Some last))) ≡ true → (long ≡ None) × (ended ≡ true)
+stops_nowhere : (long : Option ℕ) (last : ℕ) (ended : Bool) → is_fine (first_found long (cond ended None (Some last))) ≡ true → (long ≡ None) × (ended ≡ true)
 stops_nowhere None last true h = (refl, refl)
 stops_nowhere None last false h = absurd cc
 stops_nowhere (Some at) last ended h = absurd cc
@@ -124,8 +124,8 @@ stops_nowhere (Some at) last ended h = absurd cc
 code_right : (n : ℕ) (ops : List OpData) → (code_layout true n).good ops ≡ true → (overlong_statement 0 0 ops ≡ None) × (ends_by_be ops ≡ true) × (are_ops ops ≡ true)
 unfolding code_layout
 code_right n ops h =
-    let a = and_parts (are_ops ops && is_nowhere (stop_at true ops [])) (eqb (length (code_bytes ops)) n) h in
-    let b = and_parts (are_ops ops) (is_nowhere (stop_at true ops [])) a.0 in
+    let a = and_parts (are_ops ops && is_fine (stop_at true ops [])) (eqb (length (code_bytes ops)) n) h in
+    let b = and_parts (are_ops ops) (is_fine (stop_at true ops [])) a.0 in
     let stops = stops_nowhere (overlong_statement 0 0 ops) (last_place 0 ops) (ends_by_be ops) b.1 in
     (stops.0, stops.1, b.0)
 

@@ -5,7 +5,7 @@ use Rattle.std.specs.List.{AllByRecursion}
 use Rattle.plc_base.specs.declared.blocks.BlockId.{BlockId}
 use Rattle.flat_code.specs.declared.image_fields.Field.TheVariants.{StatementCount, Line}
 use Rattle.flat_code.specs.Ops.{OpData}
-use Rattle.flat_code.specs.Codes.{are_ops, code_bytes, code_fault, code_layout, is_nowhere}
+use Rattle.flat_code.specs.Codes.{are_ops, code_bytes, code_fault, code_layout}
 use Rattle.flat_code.specs.Blocks.{at_offset}
 use Rattle.flat_code.specs.Faults.{field_fault}
 use Rattle.flat_code.specs.Image.{end_marks, head_of_block, line_field, line_after, lines_layout, code_block_layout, records_of, record_of_block, body_layout, image, IsProgram, IsRight}
@@ -51,8 +51,8 @@ lines_clean (suc n) before (line ∷ lines) h =
 code_clean : (n : ℕ) (ops : List OpData) → (code_layout true n).good ops ≡ true → code_fault ops ≡ None
 unfolding code_layout
 code_clean n ops h =
-    let a = and_parts (are_ops ops && is_nowhere (code_fault ops)) (eqb (length (code_bytes ops)) n) h in
-    is_none (code_fault ops) (and_parts (are_ops ops) (is_nowhere (code_fault ops)) a.0).1
+    let a = and_parts (are_ops ops && is_fine (code_fault ops)) (eqb (length (code_bytes ops)) n) h in
+    is_none (code_fault ops) (and_parts (are_ops ops) (is_fine (code_fault ops)) a.0).1
 
 -- what the fields of a block without fault say
 record Right (b : BlockRecord) : Type 0 where

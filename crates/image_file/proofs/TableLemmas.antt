@@ -11,7 +11,7 @@ use Rattle.flat_code.specs.Ops.{OpData}
 use Rattle.flat_code.specs.Codes.{size_of_op, code_bytes}
 use Rattle.flat_code.specs.declared.image_fields.OpenBracket.{OpenBracket}
 use Rattle.flat_code.specs.Blocks.{BlockSignature, block_with, length_of_data}
-use Rattle.flat_code.specs.PlacedOps.{StatementSpot, statement_spots, spots_from, spot_at, codes_of_few_brackets, brackets_after, zones_behind_op}
+use Rattle.flat_code.specs.PlacedOps.{StatementStart, starts_of_statements, statement_starts_from, statement_start_at, codes_of_few_brackets, brackets_after, zones_behind_op}
 use Rattle.image_file.specs.Tables.{start_index, no_index, table_entry, IsTableOf, FindsStatements, FindsLens, call_key, signature_callee, found_callee, FindsCallees}
 use Rattle.image_file.proofs.CheckLemmas.{code_len}
 use Rattle.image_file.proofs.MarkLemmas.{two_bytes}
@@ -78,44 +78,44 @@ by_table {A = A} xs keys len table t count key within =
     by (Some place) e = ap (λ (k : ℕ). slice_get xs k) e
 
 -- a statement at its place
-spot_moved : (s : StatementSpot) (ss : List StatementSpot) (o : Option ℕ) → option_and_then (λ place. slice_get (s ∷ ss) place) (option_map suc o) ≡ option_and_then (λ place. slice_get ss place) o
-spot_moved s ss None = refl
-spot_moved s ss (Some k) = refl
+start_moved : (s : StatementStart) (ss : List StatementStart) (o : Option ℕ) → option_and_then (λ place. slice_get (s ∷ ss) place) (option_map suc o) ≡ option_and_then (λ place. slice_get ss place) o
+start_moved s ss None = refl
+start_moved s ss (Some k) = refl
 
-spots_found : (ss : List StatementSpot) (at : ℕ) → option_and_then (λ place. slice_get ss place) (start_index at (map (λ z. z.at) ss)) ≡ spot_at ss at
-spots_found [] at = refl
-spots_found (s ∷ ss) at = by (eqb s.at at) (spots_found ss at)
+starts_found : (ss : List StatementStart) (at : ℕ) → option_and_then (λ place. slice_get ss place) (start_index at (map (λ z. z.at) ss)) ≡ statement_start_at ss at
+starts_found [] at = refl
+starts_found (s ∷ ss) at = by (eqb s.at at) (starts_found ss at)
   where
-    by : (b : Bool) → option_and_then (λ place. slice_get ss place) (start_index at (map (λ z. z.at) ss)) ≡ spot_at ss at
-        → option_and_then (λ place. slice_get (s ∷ ss) place) (cond b (Some 0) (option_map suc (start_index at (map (λ z. z.at) ss)))) ≡ cond b (Some s) (spot_at ss at)
+    by : (b : Bool) → option_and_then (λ place. slice_get ss place) (start_index at (map (λ z. z.at) ss)) ≡ statement_start_at ss at
+        → option_and_then (λ place. slice_get (s ∷ ss) place) (cond b (Some 0) (option_map suc (start_index at (map (λ z. z.at) ss)))) ≡ cond b (Some s) (statement_start_at ss at)
     by true more = refl
-    by false more = spot_moved s ss (start_index at (map (λ z. z.at) ss)) ∙ more
+    by false more = start_moved s ss (start_index at (map (λ z. z.at) ss)) ∙ more
 
-spots_end : (from : ℕ) (begin : Bool) (brackets : List OpenBracket) (zones : List ℕ) (ops : List OpData) (at : ℕ) → from + length (code_bytes ops) ≤ at → spot_at (spots_from from begin brackets zones ops) at ≡ None
-spots_end from begin brackets zones [] at past = refl
-spots_end from begin brackets zones (op ∷ ops) at past =
+starts_end : (from : ℕ) (begin : Bool) (brackets : List OpenBracket) (zones : List ℕ) (ops : List OpData) (at : ℕ) → from + length (code_bytes ops) ≤ at → statement_start_at (statement_starts_from from begin brackets zones ops) at ≡ None
+starts_end from begin brackets zones [] at past = refl
+starts_end from begin brackets zones (op ∷ ops) at past =
     let len = code_len op ops in
     let p = two_bytes op in
-    by begin (ne_eqb from at (λ e. omega (arith, e, p, len, past))) (spots_end (from + size_of_op op) op.last (brackets_after from op.code brackets) (zones_behind_op from op.code zones) ops at (omega (arith, len, past)))
+    by begin (ne_eqb from at (λ e. omega (arith, e, p, len, past))) (starts_end (from + size_of_op op) op.last (brackets_after from op.code brackets) (zones_behind_op from op.code zones) ops at (omega (arith, len, past)))
   where
-    behind : List StatementSpot
-    behind = spots_from (from + size_of_op op) op.last (brackets_after from op.code brackets) (zones_behind_op from op.code zones) ops
+    behind : List StatementStart
+    behind = statement_starts_from (from + size_of_op op) op.last (brackets_after from op.code brackets) (zones_behind_op from op.code zones) ops
 
-    by : (b : Bool) → eqb from at ≡ false → spot_at behind at ≡ None → spot_at (cond b (record { at = from; codes = codes_of_few_brackets brackets; zones = length zones } ∷ behind) behind) at ≡ None
+    by : (b : Bool) → eqb from at ≡ false → statement_start_at behind at ≡ None → statement_start_at (cond b (record { at = from; codes = codes_of_few_brackets brackets; zones = length zones } ∷ behind) behind) at ≡ None
     by true f more = rw f more
     by false f more = more
 
-pub finds_statements : (ops : List OpData) (ss : List StatementSpot) (keys : List ℕ) (len : ℕ) (table : List ℕ) → ss ≡ statement_spots ops → keys ≡ map (λ z. z.at) ss → len ≡ length (code_bytes ops) → IsTableOf keys len table → FindsStatements ss table
+pub finds_statements : (ops : List OpData) (ss : List StatementStart) (keys : List ℕ) (len : ℕ) (table : List ℕ) → ss ≡ starts_of_statements ops → keys ≡ map (λ z. z.at) ss → len ≡ length (code_bytes ops) → IsTableOf keys len table → FindsStatements ss table
 finds_statements ops ss keys len table is keys_is len_is t at = by (cases_lt at len)
   where
-    by : (at < len) ⊎ (len ≤ at) → option_and_then (λ place. slice_get ss place) (slice_get table at) ≡ spot_at ss at
+    by : (at < len) ⊎ (len ≤ at) → option_and_then (λ place. slice_get ss place) (slice_get table at) ≡ statement_start_at ss at
     by (inl within) =
         by_table ss keys len table t (sym (ap length keys_is ∙ length-map ss (λ z. z.at))) at within
         ∙ ap (λ (z : List ℕ). option_and_then (λ place. slice_get ss place) (start_index at z)) keys_is
-        ∙ spots_found ss at
+        ∙ starts_found ss at
     by (inr past) =
         ap (λ (o : Option ℕ). option_and_then (λ place. slice_get ss place) o) (get_past table at (omega (arith, past, t.size)))
-        ∙ sym (ap (λ (z : List StatementSpot). spot_at z at) is ∙ spots_end 0 true [] [] ops at (omega (arith, past, len_is)))
+        ∙ sym (ap (λ (z : List StatementStart). statement_start_at z at) is ∙ starts_end 0 true [] [] ops at (omega (arith, past, len_is)))
 
 -- a length at its place
 len_moved : (d : ℕ × ℕ) (ds : List (ℕ × ℕ)) (o : Option ℕ) → option_map (λ z. z.1) (option_and_then (λ place. slice_get (d ∷ ds) place) (option_map suc o)) ≡ option_map (λ z. z.1) (option_and_then (λ place. slice_get ds place) o)

@@ -14,7 +14,7 @@ use Rattle.flat_code.specs.Programs.{CodeBlock, Program}
 use Rattle.flat_code.specs.Records.{BlockRecord}
 use Rattle.flat_code.specs.Image.{record_of_block, end_marks}
 use Rattle.flat_code.specs.Loading.{AreVerified, lens_of, environment_of_block}
-use Rattle.flat_code.specs.PlacedOps.{PlacedOp, ops_placed, code_places, op_placed, line_placed, begins_its_statement, is_empty_list, most_brackets, most_zones, StatementSpot, statement_spots, is_opening, outer_brackets, brackets_after, zones_behind_op, open_behind, zones_left, before_next}
+use Rattle.flat_code.specs.PlacedOps.{PlacedOp, ops_placed, code_places, op_placed, line_placed, begins_its_statement, is_empty_list, most_brackets, most_zones, StatementStart, starts_of_statements, is_opening, outer_brackets, brackets_after, zones_behind_op, open_behind, zones_left, before_next}
 use Rattle.flat_code.specs.Blocks.{Environment, operand_fault, call_fault, mark_fault, bracket_fault, zone_fault, at_offset, op_faults, faults_over, open_faults, open_zone_faults, block_faults, prepares_statement, seven_if}
 use Rattle.image_file.specs.Readers.{is_same_id, block_by_id}
 use Rattle.image_file.specs.VerifiedProgram.{placed_at, IsVerifiedOp, HasNext, BracketsAreRight, ZonesAreRight, StatementIsRight, HasLine}
@@ -30,14 +30,14 @@ none_here at None e = refl
 none_here at (Some code) e = absurd cc
 
 -- an op without fault
-pub record NoFault (a : Environment) (ss : List StatementSpot) (q : PlacedOp) : Type 0 where
+pub record NoFault (a : Environment) (ss : List StatementStart) (q : PlacedOp) : Type 0 where
   pub operand : operand_fault a ss q q.op.operand ≡ None
   pub call : call_fault a a.data_lens q ≡ None
   pub mark : mark_fault q.op ≡ None
   pub bracket : bracket_fault q.op.code q.brackets ≡ None
   pub zone : zone_fault q.op.code q.zones ≡ None
 
-no_fault : (a : Environment) (ss : List StatementSpot) (start : ℕ) (q : PlacedOp) → op_faults a ss start q ≡ [] → NoFault a ss q
+no_fault : (a : Environment) (ss : List StatementStart) (start : ℕ) (q : PlacedOp) → op_faults a ss start q ≡ [] → NoFault a ss q
 unfolding op_faults
 no_fault a ss start q none =
     let at = start + q.at in
@@ -58,7 +58,7 @@ no_fault a ss start q none =
       zone = none_here at (zone_fault q.op.code q.zones) w.1;
     }
 
-each : (a : Environment) (ss : List StatementSpot) (start : ℕ) (rest : List PlacedOp) (at : ℕ) (q : PlacedOp) → faults_over a ss start rest ≡ [] → placed_at at rest ≡ Some q → op_faults a ss start q ≡ []
+each : (a : Environment) (ss : List StatementStart) (start : ℕ) (rest : List PlacedOp) (at : ℕ) (q : PlacedOp) → faults_over a ss start rest ≡ [] → placed_at at rest ≡ Some q → op_faults a ss start q ≡ []
 each a ss start [] at q none found = absurd cc
 each a ss start (p ∷ rest) at q none found =
     let n = nil_parts (op_faults a ss start p) (faults_over a ss start rest) none in
@@ -79,7 +79,7 @@ verified_at lens all (c ∷ bs) b id h found =
 
 -- the parts of a block without fault
 record NoneIn (a : Environment) (ops : List OpData) : Type 0 where
-  over : faults_over a (statement_spots ops) 0 (code_places ops) ≡ []
+  over : faults_over a (starts_of_statements ops) 0 (code_places ops) ≡ []
   ends : open_behind 0 [] ops ≡ []
   zones_end : zones_left 0 [] ops ≡ []
 
@@ -94,15 +94,15 @@ no_zone_open start (at ∷ zones) e = absurd cc
 none_in : (a : Environment) (ops : List OpData) → block_faults a 0 ops ≡ [] → NoneIn a ops
 unfolding block_faults
 none_in a ops e =
-    let m = nil_parts (faults_over a (statement_spots ops) 0 (code_places ops) ++ open_faults 0 (open_behind 0 [] ops)) (open_zone_faults 0 (zones_left 0 [] ops)) e in
-    let n = nil_parts (faults_over a (statement_spots ops) 0 (code_places ops)) (open_faults 0 (open_behind 0 [] ops)) m.0 in
+    let m = nil_parts (faults_over a (starts_of_statements ops) 0 (code_places ops) ++ open_faults 0 (open_behind 0 [] ops)) (open_zone_faults 0 (zones_left 0 [] ops)) e in
+    let n = nil_parts (faults_over a (starts_of_statements ops) 0 (code_places ops)) (open_faults 0 (open_behind 0 [] ops)) m.0 in
     record { over = n.0; ends = none_open 0 (open_behind 0 [] ops) n.1; zones_end = no_zone_open 0 (zones_left 0 [] ops) m.1 }
 
 none_of : (p : Program) (b : CodeBlock) (q : PlacedOp) → IsVerifiedOp p b q → NoneIn (environment_in p b) b.code
 none_of p b q h = none_in (environment_in p b) b.code (verified_at (lens_of p.data_blocks) (map record_of_block p.code_blocks) p.code_blocks b h.id h.verifies.blocks h.block)
 
-pub op_none : (p : Program) (b : CodeBlock) (q : PlacedOp) → IsVerifiedOp p b q → NoFault (environment_in p b) (statement_spots b.code) q
-op_none p b q h = no_fault (environment_in p b) (statement_spots b.code) 0 q (each (environment_in p b) (statement_spots b.code) 0 (code_places b.code) q.at q (none_of p b q h).over h.place)
+pub op_none : (p : Program) (b : CodeBlock) (q : PlacedOp) → IsVerifiedOp p b q → NoFault (environment_in p b) (starts_of_statements b.code) q
+op_none p b q h = no_fault (environment_in p b) (starts_of_statements b.code) 0 q (each (environment_in p b) (starts_of_statements b.code) 0 (code_places b.code) q.at q (none_of p b q h).over h.place)
 
 -- ---- the readers' op is the one in its place
 
@@ -256,7 +256,7 @@ few_opened at code brackets none most = by (is_opening code) refl
     by true e = let room = room_for code brackets none e in let l = length-append brackets (record { at = at; code = code } ∷ []) in omega (arith, room, l)
     by false e = by_close (eqb code (op_code_of operation.Unnest))
 
-few_at : (a : Environment) (ss : List StatementSpot) (from : ℕ) (brackets : List OpenBracket) (zones : List ℕ) (before ops : List OpData) (at : ℕ) (q : PlacedOp) → faults_over a ss 0 (ops_placed from brackets zones before ops) ≡ [] → length brackets ≤ most_brackets → placed_at at (ops_placed from brackets zones before ops) ≡ Some q → length q.brackets ≤ most_brackets
+few_at : (a : Environment) (ss : List StatementStart) (from : ℕ) (brackets : List OpenBracket) (zones : List ℕ) (before ops : List OpData) (at : ℕ) (q : PlacedOp) → faults_over a ss 0 (ops_placed from brackets zones before ops) ≡ [] → length brackets ≤ most_brackets → placed_at at (ops_placed from brackets zones before ops) ≡ Some q → length q.brackets ≤ most_brackets
 few_at a ss from brackets zones before [] at q none most found = absurd cc
 few_at a ss from brackets zones before (o ∷ ops) at q none most found =
     let here : PlacedOp = record { at = from; brackets = brackets; zones = zones; before = before; op = o; rest = ops } in
@@ -273,7 +273,7 @@ pub brackets_right : (p : Program) (b : CodeBlock) (q : PlacedOp) → IsVerified
 brackets_right p b q h =
     let none = op_none p b q h in
     record {
-      few = few_at (environment_in p b) (statement_spots b.code) 0 [] [] [] b.code q.at q (none_of p b q h).over (omega arith) h.place;
+      few = few_at (environment_in p b) (starts_of_statements b.code) 0 [] [] [] b.code q.at q (none_of p b q h).over (omega arith) h.place;
       room = λ e. room_for q.op.code q.brackets none.bracket e;
       there = λ e. there_by q.op.code q.brackets none.bracket e;
     }
@@ -289,7 +289,7 @@ few_zones_behind at code zones none most = by (eqb code (op_code_of (operation.R
     by true e = let room = room_below most_zones (length zones) (rw e at none) in let l = length-append zones (at ∷ []) in omega (arith, room, l)
     by false e = by_close (eqb code (op_code_of (operation.Relay relay.Close)))
 
-few_zones_at : (a : Environment) (ss : List StatementSpot) (from : ℕ) (brackets : List OpenBracket) (zones : List ℕ) (before ops : List OpData) (at : ℕ) (q : PlacedOp) → faults_over a ss 0 (ops_placed from brackets zones before ops) ≡ [] → length zones ≤ most_zones → placed_at at (ops_placed from brackets zones before ops) ≡ Some q → length q.zones ≤ most_zones
+few_zones_at : (a : Environment) (ss : List StatementStart) (from : ℕ) (brackets : List OpenBracket) (zones : List ℕ) (before ops : List OpData) (at : ℕ) (q : PlacedOp) → faults_over a ss 0 (ops_placed from brackets zones before ops) ≡ [] → length zones ≤ most_zones → placed_at at (ops_placed from brackets zones before ops) ≡ Some q → length q.zones ≤ most_zones
 few_zones_at a ss from brackets zones before [] at q none most found = absurd cc
 few_zones_at a ss from brackets zones before (o ∷ ops) at q none most found =
     let here : PlacedOp = record { at = from; brackets = brackets; zones = zones; before = before; op = o; rest = ops } in
@@ -309,7 +309,7 @@ pub zones_right : (p : Program) (b : CodeBlock) (q : PlacedOp) → IsVerifiedOp 
 zones_right p b q h =
     let none = op_none p b q h in
     record {
-      few = few_zones_at (environment_in p b) (statement_spots b.code) 0 [] [] [] b.code q.at q (none_of p b q h).over (omega arith) h.place;
+      few = few_zones_at (environment_in p b) (starts_of_statements b.code) 0 [] [] [] b.code q.at q (none_of p b q h).over (omega arith) h.place;
       room = λ e. zone_room q.op.code q.zones none.zone e;
       there = λ e. zone_there q.op.code q.zones none.zone e;
     }

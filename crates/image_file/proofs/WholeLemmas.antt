@@ -8,13 +8,13 @@ use Rattle.flat_code.specs.Coding.{Coding, u8, u16, u32}
 use Rattle.flat_code.specs.Ops.{OpData}
 use Rattle.flat_code.specs.Programs.{DataBlock, Program}
 use Rattle.flat_code.specs.declared.stamps.Stamp.{Stamp}
-use Rattle.flat_code.specs.Records.{BlockRecord, NameRecord, Records}
+use Rattle.flat_code.specs.Records.{BlockRecord, NameRecord, ImageRecords}
 use Rattle.flat_code.specs.declared.image_fields.ParameterRecord.{ParameterRecord}
-use Rattle.flat_code.specs.Layout.{Note, Faulty, Whole, AllBlocks, Cursor, ReadResult, Layout, reading_ended, reading_given, go_on, bind_reading, fault_note, field_of, field_layout, chain_layout, checked_layout, located_layout, read_many, list_layout, seen_as, noted_layout, faults_in}
+use Rattle.flat_code.specs.Layout.{ReadingNote, Faulty, Whole, AllBlocks, Cursor, ReadResult, FieldLayout, reading_ended, reading_given, go_on, bind_reading, fault_note, field_of, field_layout, chain_layout, checked_layout, located_layout, read_many, list_layout, seen_as, noted_layout, faults_in}
 use Rattle.flat_code.specs.Codes.{ops_from, stop_at, read_ops, read_code, code_layout}
 use Rattle.flat_code.specs.Image.{no_fault, plain_u16, plain_u32, zero_u8, zero_u16, width_field, bytes_coding, section_field, parameter_byte, parameter_bit, parameter_rows, parameter_fields, parameter_row, parameter_of_fields, fields_of_parameter, parameter_layout, kind_field, parameter_count_layout, block_number_layout, local_length_layout, instance_bytes_layout, Head, head_of_row, row_of_head, head_rows, head_layout, same_state, parameters_layout, line_after, line_field, lines_layout, code_and_lines, BlockRow, parts_of_block_row, row_of_block_parts, block_rows, block_of_parts, parts_of_block, plain_block, whole_note, code_block_at, code_block_layout, after_block, data_number_layout, instance_field, data_length_layout, contents_layout, data_rows, data_fields, data_row, data_of_fields, fields_of_data, data_block_layout, after_data, name_len, name_bytes, name_area, name_bit, name_rows, name_fields, name_row, name_of_fields, fields_of_name, name_record, after_name, data_count, RecordCounts, counts_of_row, row_of_counts, count_rows, counts_layout, code_blocks_layout, plain_data_blocks, data_blocks_layout, names_layout, BodyRow, parts_of_body_row, row_of_body_parts, body_rows, records_of_parts, parts_of_records, records_layout, record_of_block, program_of_records, records_of, body_layout, magic_field, version_field, profile_field, Front, front_of_row, row_of_front, front_rows, front_layout, front_size, stamp_in, end_layout, read_cut_off, read_by, read_image}
 use Rattle.flat_code.specs.declared.image_fields.OpenBracket.{OpenBracket}
-use Rattle.flat_code.specs.PlacedOps.{PlacedOp, StatementSpot, statement_spots, code_places, open_behind, zones_left}
+use Rattle.flat_code.specs.PlacedOps.{PlacedOp, StatementStart, starts_of_statements, code_places, open_behind, zones_left}
 use Rattle.flat_code.specs.Blocks.{Environment, operand_fault, call_fault, mark_fault, bracket_fault, zone_fault, at_offset, op_faults, faults_over, open_faults, open_zone_faults, block_faults}
 use Rattle.flat_code.specs.Loading.{lens_of, later_data_blocks, environment_of_block, whole_blocks, all_blocks, blocks_of, op_faults_of_blocks, faults_of, GivesProgram, AreVerified, IsLoadable}
 use Rattle.flat_code.proofs.CodingLemmas.{IsBytes}
@@ -37,13 +37,13 @@ nothing : NotedBlocks
 nothing = record { codes = []; datas = None }
 
 -- the blocks that notes name
-blocks_in : List Note → NotedBlocks
+blocks_in : List ReadingNote → NotedBlocks
 blocks_in notes = record { codes = blocks_of (whole_blocks notes); datas = all_blocks notes }
 
 same_blocks : {a b : List BlockRecord} {x y : Option (List DataBlock)} → a ≡ b → x ≡ y → ◌≡◌ {A = NotedBlocks} (record { codes = a; datas = x }) (record { codes = b; datas = y })
 same_blocks p q = rw (p, q) refl
 
-wholes-append : (a b : List Note) → blocks_of (whole_blocks (a ++ b)) ≡ blocks_of (whole_blocks a) ++ blocks_of (whole_blocks b)
+wholes-append : (a b : List ReadingNote) → blocks_of (whole_blocks (a ++ b)) ≡ blocks_of (whole_blocks a) ++ blocks_of (whole_blocks b)
 wholes-append [] b = refl
 wholes-append (Faulty at code ∷ a) b = wholes-append a b
 wholes-append (Whole start block ∷ a) b = ap (λ (z : List BlockRecord). block ∷ z) (wholes-append a b)
@@ -57,13 +57,13 @@ later-none : (a : Option (List DataBlock)) → later_data_blocks None a ≡ a
 later-none None = refl
 later-none (Some lens) = refl
 
-all-append : (a b : List Note) → all_blocks (a ++ b) ≡ later_data_blocks (all_blocks a) (all_blocks b)
+all-append : (a b : List ReadingNote) → all_blocks (a ++ b) ≡ later_data_blocks (all_blocks a) (all_blocks b)
 all-append [] b = sym (later-none (all_blocks b))
 all-append (Faulty at code ∷ a) b = all-append a b
 all-append (Whole start block ∷ a) b = all-append a b
 all-append (AllBlocks blocks ∷ a) b = ap (later_data_blocks (Some blocks)) (all-append a b) ∙ later-assoc (Some blocks) (all_blocks a) (all_blocks b)
 
-blocks_in-append : (a b : List Note) → blocks_in (a ++ b) ≡ join (blocks_in a) (blocks_in b)
+blocks_in-append : (a b : List ReadingNote) → blocks_in (a ++ b) ≡ join (blocks_in a) (blocks_in b)
 unfolding blocks_in join
 blocks_in-append a b = same_blocks (wholes-append a b) (all-append a b)
 
@@ -99,7 +99,7 @@ unfolding blocks_in data_blocks_of
 all_are_noted ds = refl
 
 -- what a layout notes of what it finds
-record Notes (A : Type 0) (l : Layout A) (view : A → NotedBlocks) : Type 0 where
+record Notes (A : Type 0) (l : FieldLayout A) (view : A → NotedBlocks) : Type 0 where
   says : (cur : Cursor) (x : A) (end : Cursor) → (l.read cur).found ≡ Some (x, end) → blocks_in (l.read cur).notes ≡ view x
 
 record Steps (A B : Type 0) (r : ReadResult A) (f : A → Cursor → ReadResult B) (y : B) (end : Cursor) : Type 0 where
@@ -110,7 +110,7 @@ record Steps (A B : Type 0) (r : ReadResult A) (f : A → Cursor → ReadResult 
   are : (bind_reading r f).notes ≡ r.notes ++ (f first next).notes
   notes : blocks_in (bind_reading r f).notes ≡ join (blocks_in r.notes) (blocks_in (f first next).notes)
 
-go_steps : {A B : Type 0} (notes : List Note) (o : Option (A × Cursor)) (f : A → Cursor → ReadResult B) (y : B) (end : Cursor) → (go_on notes o f).found ≡ Some (y, end) → Steps A B (record { notes = notes; found = o }) f y end
+go_steps : {A B : Type 0} (notes : List ReadingNote) (o : Option (A × Cursor)) (f : A → Cursor → ReadResult B) (y : B) (end : Cursor) → (go_on notes o f).found ≡ Some (y, end) → Steps A B (record { notes = notes; found = o }) f y end
 go_steps {A = A} {B = B} notes None f y end e = absurd cc
 go_steps {A = A} {B = B} notes (Some x) f y end e = record { first = x.0; next = x.1; one = refl; two = e; are = refl; notes = blocks_in-append notes (f x.0 x.1).notes }
 
@@ -124,7 +124,7 @@ field_of_notes {A = A} fault_in cur (Some r) x end h = none_noted cur.at (fault_
 field_notes : {A : Type 0} (c : Coding A) (fault_in : A → Option ℕ) → Notes A (field_layout c fault_in) (λ x. nothing)
 field_notes {A = A} c fault_in = record { says = λ cur x end e. field_of_notes fault_in cur (c.read cur.rest) x end e }
 
-chain_notes : {A B : Type 0} (l : Layout A) (m : A → Layout B) (v : A → NotedBlocks) (w : A → B → NotedBlocks) → Notes A l v → ((x : A) → Notes B (m x) (w x)) → Notes (A × B) (chain_layout l m) (λ x. join (v x.0) (w x.0 x.1))
+chain_notes : {A B : Type 0} (l : FieldLayout A) (m : A → FieldLayout B) (v : A → NotedBlocks) (w : A → B → NotedBlocks) → Notes A l v → ((x : A) → Notes B (m x) (w x)) → Notes (A × B) (chain_layout l m) (λ x. join (v x.0) (w x.0 x.1))
 chain_notes {A = A} {B = B} l m v w p q = record {
   says = λ cur x end e.
       let a = steps (l.read cur) (λ x next. bind_reading ((m x).read next) (λ y end. reading_given (x, y) end)) x end e in
@@ -136,10 +136,10 @@ chain_notes {A = A} {B = B} l m v w p q = record {
       ∙ ap (λ (z : NotedBlocks). join (v a.first) z) inner ∙ ap (λ (z : A × B). join (v z.0) (w z.0 z.1)) x_is;
 }
 
-checked_notes : {A : Type 0} (at : ℕ) (fault : Option ℕ) (l : Layout A) (v : A → NotedBlocks) → Notes A l v → Notes A (checked_layout at fault l) v
+checked_notes : {A : Type 0} (at : ℕ) (fault : Option ℕ) (l : FieldLayout A) (v : A → NotedBlocks) → Notes A l v → Notes A (checked_layout at fault l) v
 checked_notes {A = A} at fault l v p = record { says = λ cur x end e. blocks_in-append (fault_note at fault) (l.read cur).notes ∙ ap (λ (z : NotedBlocks). join z (blocks_in (l.read cur).notes)) (none_noted at fault) ∙ nothing-join (blocks_in (l.read cur).notes) ∙ p.says cur x end e }
 
-seen_notes : {A B : Type 0} (to : A → B) (from : B → A) (l : Layout A) (v : A → NotedBlocks) (w : B → NotedBlocks) → ((x : A) → v x ≡ w (to x)) → Notes A l v → Notes B (seen_as to from l) w
+seen_notes : {A B : Type 0} (to : A → B) (from : B → A) (l : FieldLayout A) (v : A → NotedBlocks) (w : B → NotedBlocks) → ((x : A) → v x ≡ w (to x)) → Notes A l v → Notes B (seen_as to from l) w
 seen_notes {A = A} {B = B} to from l v w same p = record {
   says = λ cur y end e.
       let a = steps (l.read cur) (λ x end. reading_given (to x) end) y end e in
@@ -147,7 +147,7 @@ seen_notes {A = A} {B = B} to from l v w same p = record {
       a.notes ∙ ap (λ (z : NotedBlocks). join (blocks_in (l.read cur).notes) z) none_at_all ∙ join-nothing (blocks_in (l.read cur).notes) ∙ p.says cur a.first a.next a.one ∙ same a.first ∙ ap w (ap (λ (z : B × Cursor). z.0) made);
 }
 
-remembered_notes : {A : Type 0} (note : A → Note) (l : Layout A) (w : A → NotedBlocks) → ((x : A) → blocks_in (note x ∷ []) ≡ w x) → Notes A l (λ x. nothing) → Notes A (noted_layout note l) w
+remembered_notes : {A : Type 0} (note : A → ReadingNote) (l : FieldLayout A) (w : A → NotedBlocks) → ((x : A) → blocks_in (note x ∷ []) ≡ w x) → Notes A l (λ x. nothing) → Notes A (noted_layout note l) w
 remembered_notes {A = A} note l w tells p = record {
   says = λ cur b end e.
       let a = steps (l.read cur) (λ x end. record { notes = note x ∷ []; found = Some (x, end) }) b end e in
@@ -155,14 +155,14 @@ remembered_notes {A = A} note l w tells p = record {
       a.notes ∙ ap (λ (z : NotedBlocks). join z (blocks_in (note a.first ∷ []))) (p.says cur a.first a.next a.one) ∙ nothing-join (blocks_in (note a.first ∷ [])) ∙ tells a.first ∙ ap (λ (z : A × Cursor). w z.0) made;
 }
 
-located_notes : {A : Type 0} (l : ℕ → Layout A) (v : A → NotedBlocks) → ((at : ℕ) → Notes A (l at) v) → Notes A (located_layout l) v
+located_notes : {A : Type 0} (l : ℕ → FieldLayout A) (v : A → NotedBlocks) → ((at : ℕ) → Notes A (l at) v) → Notes A (located_layout l) v
 located_notes {A = A} l v p = record { says = λ cur x end e. (p cur.at).says cur x end e }
 
 all_of : {A : Type 0} → (A → NotedBlocks) → List A → NotedBlocks
 all_of v [] = nothing
 all_of v (x ∷ xs) = join (v x) (all_of v xs)
 
-many_says : {S A : Type 0} (l : S → Layout A) (next : S → A → S) (v : A → NotedBlocks) → ((s : S) → Notes A (l s) v) → (s : S) (n : ℕ) (cur : Cursor) (xs : List A) (end : Cursor) → (read_many l next s n cur).found ≡ Some (xs, end) → blocks_in (read_many l next s n cur).notes ≡ all_of v xs
+many_says : {S A : Type 0} (l : S → FieldLayout A) (next : S → A → S) (v : A → NotedBlocks) → ((s : S) → Notes A (l s) v) → (s : S) (n : ℕ) (cur : Cursor) (xs : List A) (end : Cursor) → (read_many l next s n cur).found ≡ Some (xs, end) → blocks_in (read_many l next s n cur).notes ≡ all_of v xs
 unfolding all_of
 many_says {S = S} {A = A} l next v p s zero cur xs end e = let made = same_Some ([], cur) (xs, end) e in none_at_all ∙ ap (λ (z : List A × Cursor). all_of v z.0) made
 many_says {S = S} {A = A} l next v p s (suc n) cur xs end e =
@@ -173,14 +173,14 @@ many_says {S = S} {A = A} l next v p s (suc n) cur xs end e =
     a.notes ∙ ap (λ (z : NotedBlocks). join z (blocks_in (bind_reading (read_many l next (next s a.first) n a.next) (λ xs end. reading_given (a.first ∷ xs) end)).notes)) ((p s).says cur a.first a.next a.one)
     ∙ ap (λ (z : NotedBlocks). join (v a.first) z) inner ∙ ap (λ (z : List A × Cursor). all_of v z.0) made
 
-many_notes : {S A : Type 0} (l : S → Layout A) (next : S → A → S) (v : A → NotedBlocks) → ((s : S) → Notes A (l s) v) → (s : S) (n : ℕ) → Notes (List A) (list_layout l next s n) (all_of v)
+many_notes : {S A : Type 0} (l : S → FieldLayout A) (next : S → A → S) (v : A → NotedBlocks) → ((s : S) → Notes A (l s) v) → (s : S) (n : ℕ) → Notes (List A) (list_layout l next s n) (all_of v)
 many_notes l next v p s n = record { says = many_says l next v p s n }
 
 -- layouts that note no block
-weaker : {A : Type 0} (l : Layout A) (v w : A → NotedBlocks) → ((x : A) → v x ≡ w x) → Notes A l v → Notes A l w
+weaker : {A : Type 0} (l : FieldLayout A) (v w : A → NotedBlocks) → ((x : A) → v x ≡ w x) → Notes A l v → Notes A l w
 weaker {A = A} l v w same p = record { says = λ cur x end e. p.says cur x end e ∙ same x }
 
-chain_none : {A B : Type 0} (l : Layout A) (m : A → Layout B) → Notes A l (λ x. nothing) → ((x : A) → Notes B (m x) (λ y. nothing)) → Notes (A × B) (chain_layout l m) (λ x. nothing)
+chain_none : {A B : Type 0} (l : FieldLayout A) (m : A → FieldLayout B) → Notes A l (λ x. nothing) → ((x : A) → Notes B (m x) (λ y. nothing)) → Notes (A × B) (chain_layout l m) (λ x. nothing)
 chain_none {A = A} {B = B} l m p q = weaker (chain_layout l m) (λ x. join nothing nothing) (λ x. nothing) (λ x. nothing-join nothing) (chain_notes l m (λ x. nothing) (λ x y. nothing) p q)
 
 all_none : {A : Type 0} (xs : List A) → all_of (λ x. nothing) xs ≡ nothing
@@ -188,7 +188,7 @@ unfolding all_of
 all_none [] = refl
 all_none (x ∷ xs) = nothing-join (all_of (λ x. nothing) xs) ∙ all_none xs
 
-many_none : {S A : Type 0} (l : S → Layout A) (next : S → A → S) → ((s : S) → Notes A (l s) (λ x. nothing)) → (s : S) (n : ℕ) → Notes (List A) (list_layout l next s n) (λ xs. nothing)
+many_none : {S A : Type 0} (l : S → FieldLayout A) (next : S → A → S) → ((s : S) → Notes A (l s) (λ x. nothing)) → (s : S) (n : ℕ) → Notes (List A) (list_layout l next s n) (λ xs. nothing)
 many_none l next p s n = weaker (list_layout l next s n) (all_of (λ x. nothing)) (λ xs. nothing) (λ xs. all_none xs) (many_notes l next (λ x. nothing) p s n)
 
 cond_found : {A : Type 0} (b : Bool) (x y : ReadResult A) (v : A) (end : Cursor) (t : NotedBlocks) → (cond b x y).found ≡ Some (v, end) → (x.found ≡ Some (v, end) → blocks_in x.notes ≡ t) → (y.found ≡ Some (v, end) → blocks_in y.notes ≡ t) → blocks_in (cond b x y).notes ≡ t
@@ -305,14 +305,14 @@ body_rows_notes =
     chain_notes (data_blocks_layout c.data_blocks) (λ datas. names_layout c.names) data_blocks_of (λ ds ns. nothing) (data_blocks_notes c.data_blocks) (λ datas. names_notes c.names)))
 
 -- all blocks of records
-blocks_of_records : Records → NotedBlocks
+blocks_of_records : ImageRecords → NotedBlocks
 blocks_of_records r = record { codes = r.code_blocks; datas = Some r.data_blocks }
 
 records_joined : (x : BodyRow) → join nothing (blocks_and_names x.1) ≡ blocks_of_records (records_of_parts (parts_of_body_row x))
 unfolding join nothing data_blocks_of blocks_of_records
 records_joined x = same_blocks (append-nil x.1.0) refl
 
-records_notes : Notes Records (records_layout true) blocks_of_records
+records_notes : Notes ImageRecords (records_layout true) blocks_of_records
 unfolding records_layout
 records_notes = seen_notes (λ r. records_of_parts (parts_of_body_row r)) (λ r. row_of_body_parts (parts_of_records r)) (body_rows true) (λ r. join nothing (blocks_and_names r.1)) blocks_of_records records_joined body_rows_notes
 
@@ -328,12 +328,12 @@ unfolding blocks_in nothing
 cond_note true at code = refl
 cond_note false at code = refl
 
-abbrev are_good : Records → Type 0
+abbrev are_good : ImageRecords → Type 0
 are_good r = (records_layout true).good r ≡ true
 
 -- the records that were found without fault
-record FromRecords (p : Program) (notes : List Note) : Type 0 where
-  records : Records
+record FromRecords (p : Program) (notes : List ReadingNote) : Type 0 where
+  records : ImageRecords
   program : program_of_records records ≡ p
   good : are_good records
   noted : blocks_in notes ≡ blocks_of_records records
@@ -402,7 +402,7 @@ image_from text p end are e clean =
     }
 
 -- what reading without fault noted, by the program
-pub record AreNotesOf (p : Program) (notes : List Note) : Type 0 where
+pub record AreNotesOf (p : Program) (notes : List ReadingNote) : Type 0 where
   pub codes : blocks_of (whole_blocks notes) ≡ map record_of_block p.code_blocks
   pub datas : all_blocks notes ≡ Some p.data_blocks
 
@@ -412,8 +412,8 @@ image_noted text stamp p end are e clean =
     let f = image_from text (stamp, p) end are e clean in
     let back : records_of p ≡ f.records = ap records_of (sym f.program) ∙ records_back true f.records f.good in
     record {
-      codes = ap (λ (z : NotedBlocks). z.codes) f.noted ∙ sym (ap (λ (z : Records). z.code_blocks) back);
-      datas = ap (λ (z : NotedBlocks). z.datas) f.noted ∙ sym (ap (λ (z : Records). Some z.data_blocks) back);
+      codes = ap (λ (z : NotedBlocks). z.codes) f.noted ∙ sym (ap (λ (z : ImageRecords). z.code_blocks) back);
+      datas = ap (λ (z : NotedBlocks). z.datas) f.noted ∙ sym (ap (λ (z : ImageRecords). Some z.data_blocks) back);
     }
 
 -- ---- verifying
@@ -425,7 +425,7 @@ elsewhere : (at other : ℕ) (o : Option ℕ) → at_offset at o ≡ [] → at_o
 elsewhere at other None e = refl
 elsewhere at other (Some code) e = absurd cc
 
-op_moved : (environment : Environment) (ps : List StatementSpot) (start other : ℕ) (p : PlacedOp) → op_faults environment ps start p ≡ [] → op_faults environment ps other p ≡ []
+op_moved : (environment : Environment) (ps : List StatementStart) (start other : ℕ) (p : PlacedOp) → op_faults environment ps start p ≡ [] → op_faults environment ps other p ≡ []
 unfolding op_faults
 op_moved environment ps start other p e =
     let at = start + p.at in
@@ -441,7 +441,7 @@ op_moved environment ps start other p e =
     let l = nil_parts a b m.0 in
     nil_join (nil_join (nil_join (nil_join (elsewhere at to (operand_fault environment ps p p.op.operand) l.0) (elsewhere at to (call_fault environment environment.data_lens p) l.1)) (elsewhere at to (mark_fault p.op) m.1)) (elsewhere at to (bracket_fault p.op.code p.brackets) n.1)) (elsewhere at to (zone_fault p.op.code p.zones) o.1)
 
-over_moved : (environment : Environment) (ps : List StatementSpot) (start other : ℕ) (rest : List PlacedOp) → faults_over environment ps start rest ≡ [] → faults_over environment ps other rest ≡ []
+over_moved : (environment : Environment) (ps : List StatementStart) (start other : ℕ) (rest : List PlacedOp) → faults_over environment ps start rest ≡ [] → faults_over environment ps other rest ≡ []
 over_moved environment ps start other [] e = refl
 over_moved environment ps start other (p ∷ rest) e =
     let n = nil_parts (op_faults environment ps start p) (faults_over environment ps start rest) e in
@@ -459,9 +459,9 @@ open_zones_moved start other (at ∷ zones) e = absurd cc
 pub moved : (environment : Environment) (start other : ℕ) (ops : List OpData) → block_faults environment start ops ≡ [] → block_faults environment other ops ≡ []
 unfolding block_faults
 moved environment start other ops e =
-    let m = nil_parts (faults_over environment (statement_spots ops) start (code_places ops) ++ open_faults start (open_behind 0 [] ops)) (open_zone_faults start (zones_left 0 [] ops)) e in
-    let n = nil_parts (faults_over environment (statement_spots ops) start (code_places ops)) (open_faults start (open_behind 0 [] ops)) m.0 in
-    nil_join (nil_join (over_moved environment (statement_spots ops) start other (code_places ops) n.0) (open_moved start other (open_behind 0 [] ops) n.1)) (open_zones_moved start other (zones_left 0 [] ops) m.1)
+    let m = nil_parts (faults_over environment (starts_of_statements ops) start (code_places ops) ++ open_faults start (open_behind 0 [] ops)) (open_zone_faults start (zones_left 0 [] ops)) e in
+    let n = nil_parts (faults_over environment (starts_of_statements ops) start (code_places ops)) (open_faults start (open_behind 0 [] ops)) m.0 in
+    nil_join (nil_join (over_moved environment (starts_of_statements ops) start other (code_places ops) n.0) (open_moved start other (open_behind 0 [] ops) n.1)) (open_zones_moved start other (zones_left 0 [] ops) m.1)
 
 verified : (lens : List (ℕ × ℕ)) (all : List BlockRecord) (bs : List (ℕ × BlockRecord)) → op_faults_of_blocks (Some lens) all bs ≡ [] → AreVerified lens all (blocks_of bs)
 verified lens all [] e = tt

@@ -4,8 +4,8 @@ use Rattle.std.proofs.lemmas.Bool.{le-ltb, lt-ltb, or_from}
 use Rattle.plc_base.proofs.TruthLemmas.{or_met_behind}
 use Rattle.flat_code.specs.Programs.{DataBlock, Program}
 use Rattle.flat_code.specs.declared.stamps.Stamp.{Stamp}
-use Rattle.flat_code.specs.Records.{BlockRecord, NameRecord, Records}
-use Rattle.flat_code.specs.Layout.{Faulty, Cursor, ReadResult, Layout, reading_ended, bind_reading, chain_layout, list_layout}
+use Rattle.flat_code.specs.Records.{BlockRecord, NameRecord, ImageRecords}
+use Rattle.flat_code.specs.Layout.{Faulty, Cursor, ReadResult, FieldLayout, reading_ended, bind_reading, chain_layout, list_layout}
 use Rattle.flat_code.specs.Image.{RecordCounts, counts_layout, code_blocks_layout, data_blocks_layout, names_layout, name_record, after_name, BodyRow, parts_of_body_row, row_of_body_parts, body_rows, records_of_parts, parts_of_records, records_layout, program_of_records, records_of, body_layout, Front, front_layout, front_size, stamp_in, end_layout, read_cut_off, read_by, read_image}
 use Rattle.image_file.specs.declared.stops.Stop.{Stop}
 use Rattle.image_file.specs.declared.stops.Stop.TheVariants as stop
@@ -15,16 +15,16 @@ use Rattle.image_file.proofs.ImageLemmas.{StampedProgram}
 use Rattle.image_file.proofs.RunLemmas.{chain_goes, chain_ends, chain_breaks, seen_goes, seen_ends, go_read, run_is_read, ended_read, noted_read}
 
 -- the records of a row, and the row of records
-abbrev to_records : BodyRow → Records
+abbrev to_records : BodyRow → ImageRecords
 to_records r = records_of_parts (parts_of_body_row r)
 
-abbrev from_records : Records → BodyRow
+abbrev from_records : ImageRecords → BodyRow
 from_records r = row_of_body_parts (parts_of_records r)
 
-abbrev after_codes : RecordCounts → Layout (List DataBlock × List NameRecord)
+abbrev after_codes : RecordCounts → FieldLayout (List DataBlock × List NameRecord)
 after_codes c = chain_layout (data_blocks_layout c.data_blocks) (λ datas. names_layout c.names)
 
-abbrev after_counts : RecordCounts → Layout (List BlockRecord × (List DataBlock × List NameRecord))
+abbrev after_counts : RecordCounts → FieldLayout (List BlockRecord × (List DataBlock × List NameRecord))
 after_counts c = chain_layout (code_blocks_layout true c.code_blocks) (λ blocks. after_codes c)
 
 names_are : (n : ℕ) (cur : Cursor) (log : Log) → run_layout (list_layout name_record after_name [] n) cur log ≡ run_layout (names_layout n) cur log
@@ -84,7 +84,7 @@ cut_is stamp size total cur log low there high =
     let shape : read_cut_off true stamp size total cur ≡ record { notes = cond (eqb size total) [] (Faulty total 10 ∷ []) ++ (inner stamp total cur).notes; found = (inner stamp total cur).found } = rw (fits, small) refl in
     ap (λ (r : ReadResult StampedProgram). run_of_read r log) shape ∙ noted_read (cond (eqb size total) [] (Faulty total 10 ∷ [])) (inner stamp total cur) log
 
-inner_stops : (stamp : Stamp) (total : ℕ) (cur : Cursor) (log last : Log) → ◌≡◌ {A = RunResult Records} (Stops last) (run_layout (records_layout true) (cut_cursor total cur) log) → ◌≡◌ {A = RunResult StampedProgram} (Stops last) (run_of_read (inner stamp total cur) log)
+inner_stops : (stamp : Stamp) (total : ℕ) (cur : Cursor) (log last : Log) → ◌≡◌ {A = RunResult ImageRecords} (Stops last) (run_layout (records_layout true) (cut_cursor total cur) log) → ◌≡◌ {A = RunResult StampedProgram} (Stops last) (run_of_read (inner stamp total cur) log)
 unfolding inner body_layout
 inner_stops stamp total cur log last h =
     let b : ◌≡◌ {A = RunResult Program} (Stops last) (run_layout (body_layout true) (cut_cursor total cur) log) = seen_ends program_of_records records_of (records_layout true) (cut_cursor total cur) last log h in
@@ -94,7 +94,7 @@ end_read : (stamp : Stamp) (p : Program) (end : Cursor) (log : Log) → run_of_r
 unfolding run_of_read
 end_read stamp p end log = refl
 
-inner_goes : (stamp : Stamp) (total : ℕ) (cur : Cursor) (log last : Log) (x : Records) (end : Cursor) → Continues x end last ≡ run_layout (records_layout true) (cut_cursor total cur) log → Continues (stamp, program_of_records x) end (log_after last (cond (eqb (length end.rest) 0) [] (Faulty end.at 10 ∷ []))) ≡ run_of_read (inner stamp total cur) log
+inner_goes : (stamp : Stamp) (total : ℕ) (cur : Cursor) (log last : Log) (x : ImageRecords) (end : Cursor) → Continues x end last ≡ run_layout (records_layout true) (cut_cursor total cur) log → Continues (stamp, program_of_records x) end (log_after last (cond (eqb (length end.rest) 0) [] (Faulty end.at 10 ∷ []))) ≡ run_of_read (inner stamp total cur) log
 unfolding inner body_layout
 inner_goes stamp total cur log last x end h =
     let b : Continues (program_of_records x) end last ≡ run_layout (body_layout true) (cut_cursor total cur) log = seen_goes program_of_records records_of (records_layout true) x end (cut_cursor total cur) last log h in
@@ -115,7 +115,7 @@ rest_stops view stop.AtFault r stamp size total differ cur place log mid low the
     inner_stops stamp total cur mid (log_of r) (h ∙ ap (λ (z : Cursor). run_layout (records_layout true) z mid) at_place) ∙ ap (run_of_read (inner stamp total cur)) mid_is ∙ sym (cut_is stamp size total cur log low there high)
 rest_stops view stop.NoMemory r stamp size total differ cur place log mid low there high d m at_place h = tt
 
-pub rest_goes : (stamp : Stamp) (x : Records) (end : Cursor) (size total : ℕ) (differ left : Bool) (cur place : Cursor) (log mid last after : Log) → 20 ≤ total → total ≤ size → total ≤ 8388608 → differ ≡ not (eqb size total) → mid ≡ log_after log (cond differ (Faulty total 10 ∷ []) [])
+pub rest_goes : (stamp : Stamp) (x : ImageRecords) (end : Cursor) (size total : ℕ) (differ left : Bool) (cur place : Cursor) (log mid last after : Log) → 20 ≤ total → total ≤ size → total ≤ 8388608 → differ ≡ not (eqb size total) → mid ≡ log_after log (cond differ (Faulty total 10 ∷ []) [])
     → place ≡ cut_cursor total cur → Continues x end last ≡ run_layout (records_layout true) place mid → left ≡ not (eqb (length end.rest) 0) → after ≡ log_after last (cond left (Faulty end.at 10 ∷ []) []) → Continues (stamp, program_of_records x) end after ≡ run_of_read (read_cut_off true stamp size total cur) log
 rest_goes stamp x end size total differ left cur place log mid last after low there high d m at_place h l a =
     let mid_is : mid ≡ log_after log (cond (eqb size total) [] (Faulty total 10 ∷ [])) = m ∙ ap (log_after log) (note_unless_equal size total differ total d) in

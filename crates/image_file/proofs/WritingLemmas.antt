@@ -3,22 +3,22 @@ use Rattle.std.proofs.Common.{◌≡◌, ℕ, false, List, [], ◌∷◌, ◌++�
 use Rattle.std.specs.Int.{w32, to_be_bytes}
 use Rattle.flat_code.specs.Codes.{code_bytes, code_layout}
 use Rattle.flat_code.specs.Image.{parameter_byte, parameter_bit, parameter_rows, parameter_layout, same_state, kind_field, block_number_layout, head_rows, head_layout, head_of_block, parameters_layout, line_field, line_after, lines_layout, code_and_lines, block_rows, plain_block, code_block_layout, after_block, data_number_layout, data_length_layout, data_rows, data_block_layout, after_data, name_bytes, name_rows, name_record, after_name, names_layout, counts_layout, counts_of, code_blocks_layout, data_blocks_layout, body_rows, records_of, records_layout, body_layout}
-use Rattle.flat_code.specs.Layout.{Layout, spell_many}
+use Rattle.flat_code.specs.Layout.{FieldLayout, spell_many}
 use Rattle.flat_code.specs.Programs.{Program}
 use Rattle.flat_code.specs.Records.{BlockRecord}
 use Rattle.flat_code.specs.declared.image_fields.ParameterRecord.{ParameterRecord}
 use Rattle.image_file.proofs.ImageLemmas.{many_text}
 
 -- what was written, and the records that are left to be written from some state, are all
-pub record Left {S A : Type 0} (l : S → Layout A) (next : S → A → S) (out : List ℕ) (xs : List A) (all : List ℕ) : Type 0 where
+pub record Left {S A : Type 0} (l : S → FieldLayout A) (next : S → A → S) (out : List ℕ) (xs : List A) (all : List ℕ) : Type 0 where
   pub state : S
   pub is : out ++ spell_many l next state xs ≡ all
 
 -- layouts that spell the same, whatever came before
-pub record Spells {S A : Type 0} (l : S → Layout A) (spell : A → List ℕ) : Type 0 where
+pub record Spells {S A : Type 0} (l : S → FieldLayout A) (spell : A → List ℕ) : Type 0 where
   pub same : (s : S) (x : A) → (l s).spell x ≡ spell x
 
-pub one_left : {S A : Type 0} (l : S → Layout A) (next : S → A → S) (spell : A → List ℕ) (out after : List ℕ) (x : A) (xs ys : List A) (all : List ℕ) → Spells l spell → ys ≡ x ∷ xs → after ≡ out ++ spell x → Left l next out ys all → Left l next after xs all
+pub one_left : {S A : Type 0} (l : S → FieldLayout A) (next : S → A → S) (spell : A → List ℕ) (out after : List ℕ) (x : A) (xs ys : List A) (all : List ℕ) → Spells l spell → ys ≡ x ∷ xs → after ≡ out ++ spell x → Left l next out ys all → Left l next after xs all
 one_left {A = A} l next spell out after x xs ys all same shape e left =
     let here = subst (λ (z : List A). out ++ spell_many l next left.state z ≡ all) shape left.is in
     record {

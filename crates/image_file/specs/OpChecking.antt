@@ -4,7 +4,7 @@ use Rattle.std.specs.Option.{option_map}
 use Rattle.std.specs.Borrow.{Bor}
 use Rattle.flat_code.specs.declared.image_fields.OpenBracket.{OpenBracket}
 use Rattle.flat_code.specs.declared.image_fields.ParameterRecord.{ParameterRecord}
-use Rattle.flat_code.specs.Blocks.{Environment, CalleeSeen}
+use Rattle.flat_code.specs.Blocks.{Environment, CalleeSignature}
 use Rattle.flat_code.specs.Ops.{OpData}
 use Rattle.flat_code.specs.PlacedOps.{PlacedOp}
 use Rattle.image_file.specs.declared.environments.BlockEnvironment.{BlockEnvironment}
@@ -21,7 +21,7 @@ environment_of s = record {
 }
 
 -- a called block as a CALL sees it, by the kind, instance bytes and parameters that a search found
-abbrev pub callee_values : ℕ × ℕ × Bor (List ParameterRecord) → CalleeSeen
+abbrev pub callee_values : ℕ × ℕ × Bor (List ParameterRecord) → CalleeSignature
 callee_values r = (r.0, r.1, r.2.now)
 
 -- each of open brackets was opened at the offset `n` of the code or before

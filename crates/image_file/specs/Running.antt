@@ -4,8 +4,8 @@ use Rattle.std.specs.Option.{option_map}
 use Rattle.std.specs.Borrow.{Bor}
 use Rattle.flat_code.specs.declared.image_fields.Field.{Field}
 use Rattle.flat_code.specs.Faults.{field_fault}
-use Rattle.flat_code.specs.Layout.{Note, Faulty, Whole, AllBlocks, Cursor, ReadResult, Layout, fault_note, faults_in}
-use Rattle.flat_code.specs.Records.{BlockRecord, NameRecord, Records}
+use Rattle.flat_code.specs.Layout.{ReadingNote, Faulty, Whole, AllBlocks, Cursor, ReadResult, FieldLayout, fault_note, faults_in}
+use Rattle.flat_code.specs.Records.{BlockRecord, NameRecord, ImageRecords}
 use Rattle.flat_code.specs.Programs.{DataBlock, Program}
 use Rattle.flat_code.specs.Image.{Head, RecordCounts, Front, program_of_records, read_image}
 use Rattle.flat_code.specs.declared.stamps.Stamp.{Stamp}
@@ -41,14 +41,14 @@ pub record Log : Type 0 where
 
 -- code blocks, and behind them those that notes say were read whole, each with the offset of its
 -- code
-abbrev pub with_wholes : List (ℕ × BlockRecord) → List Note → List (ℕ × BlockRecord)
+abbrev pub with_wholes : List (ℕ × BlockRecord) → List ReadingNote → List (ℕ × BlockRecord)
 with_wholes blocks [] = blocks
 with_wholes blocks (Faulty at code ∷ notes) = with_wholes blocks notes
 with_wholes blocks (Whole start block ∷ notes) = with_wholes (blocks ++ (start, block) ∷ []) notes
 with_wholes blocks (AllBlocks datas ∷ notes) = with_wholes blocks notes
 
 -- the data blocks of the last note that all blocks were read; `datas` where no note says so
-abbrev pub with_all : Option (List DataBlock) → List Note → Option (List DataBlock)
+abbrev pub with_all : Option (List DataBlock) → List ReadingNote → Option (List DataBlock)
 with_all datas [] = datas
 with_all datas (Faulty at code ∷ notes) = with_all datas notes
 with_all datas (Whole start block ∷ notes) = with_all datas notes
@@ -56,7 +56,7 @@ with_all datas (AllBlocks found ∷ notes) = with_all (Some found) notes
 
 -- what one pass keeps behind notes, by what it kept before them: the lesser fault, more code
 -- blocks, the data blocks once all blocks were read
-unfoldable pub log_after : Log → List Note → Log
+unfoldable pub log_after : Log → List ReadingNote → Log
 log_after log notes = record {
   least = with_faults log.least (faults_in notes);
   blocks = with_wholes log.blocks notes;
@@ -77,7 +77,7 @@ run_result None log = Stops log
 run_result (Some x) log = Continues x.0 x.1 log
 
 -- reading a value by its layout from a place on, where `log` was kept before
-unfoldable pub run_layout : {A : Type 0} → Layout A → Cursor → Log → RunResult A
+unfoldable pub run_layout : {A : Type 0} → FieldLayout A → Cursor → Log → RunResult A
 run_layout l cur log = run_result (l.read cur).found (log_after log (l.read cur).notes)
 
 -- a reading, and then `f` with what it read; where it ended at a fault, nothing more is read
@@ -174,9 +174,9 @@ counts_values c = record {
 -- all records were read, the names are answered and the blocks kept, or reading ended at a fault;
 -- nothing is said where memory is wanting
 abbrev pub IsRecordsRun :
-    {X : Type 0} → (X → List NameRecord) → Result X Stop → Reader → RunResult Records → Type 0
+    {X : Type 0} → (X → List NameRecord) → Result X Stop → Reader → RunResult ImageRecords → Type 0
 IsRecordsRun view (Ok names) r all =
-    (x : Records) × (Continues x (reader_cursor r) (log_of r) ≡ all) × (x.names ≡ view names)
+    (x : ImageRecords) × (Continues x (reader_cursor r) (log_of r) ≡ all) × (x.names ≡ view names)
 IsRecordsRun view (Err stop.AtFault) r all = Stops (log_of r) ≡ all
 IsRecordsRun view (Err stop.NoMemory) r all = Unit {0}
 
@@ -202,7 +202,7 @@ run_of_read r log = run_result r.found (log_after log r.notes)
 abbrev pub IsFoundRun :
     Option (Stamp × List NameRecord) → Reader → RunResult (Stamp × Program) → Type 0
 IsFoundRun (Some found) r all =
-    (x : Records) × (end : Cursor)
+    (x : ImageRecords) × (end : Cursor)
     × (Continues (found.0, program_of_records x) end (log_of r) ≡ all) × (x.names ≡ found.1)
 IsFoundRun None r all = Stops (log_of r) ≡ all
 
@@ -220,7 +220,7 @@ abbrev pub HasFound :
     → Type 0
 HasFound text blocks datas None = (read_image text).found ≡ None
 HasFound text blocks datas (Some found) =
-    (x : Records) × (end : Cursor)
+    (x : ImageRecords) × (end : Cursor)
     × ((read_image text).found ≡ Some ((found.0, program_of_records x), end)) × (x.names ≡ found.1)
     × (blocks ≡ whole_blocks (read_image text).notes) × (datas ≡ all_blocks (read_image text).notes)
 

@@ -5,8 +5,8 @@ use Rattle.plc_base.specs.Kinds.{kind_number, kind_order}
 use Rattle.plc_base.specs.declared.blocks.BlockKind.TheVariants as kinds
 use Rattle.plc_base.specs.declared.blocks.BlockId.{BlockId}
 use Rattle.flat_code.specs.Codes.{code_bytes}
-use Rattle.flat_code.specs.Blocks.{BlockSignature, CalleeSeen, block_with, length_of_data}
-use Rattle.flat_code.specs.PlacedOps.{StatementSpot, spot_at}
+use Rattle.flat_code.specs.Blocks.{BlockSignature, CalleeSignature, block_with, length_of_data}
+use Rattle.flat_code.specs.PlacedOps.{StatementStart, statement_start_at}
 use Rattle.flat_code.specs.Programs.{CodeBlock}
 use Rattle.image_file.specs.Readers.{block_by_id}
 
@@ -36,11 +36,12 @@ pub record IsTableOf (starts : List ℕ) (len : ℕ) (table : List ℕ) : Type 0
       (at : ℕ) → at < len → slice_index_or table at no_index ≡ table_entry (start_index at starts)
 
 -- a table finds the statements of a block: it has at each offset of the code the index among
--- `spots` of the statement that begins there
-abbrev pub FindsStatements : List StatementSpot → List ℕ → Type 0
-FindsStatements spots table =
+-- `statements` of the statement that begins there
+abbrev pub FindsStatements : List StatementStart → List ℕ → Type 0
+FindsStatements statements table =
     (at : ℕ)
-    → option_and_then (λ place. slice_get spots place) (slice_get table at) ≡ spot_at spots at
+    → option_and_then (λ place. slice_get statements place) (slice_get table at)
+    ≡ statement_start_at statements at
 
 -- a table finds the lengths of data blocks: it has at each number the index among `lens` of the
 -- data block of that number
@@ -60,11 +61,11 @@ call_key b =
     else 131072
 
 -- a called block as a CALL sees it, without the number by which it was found
-abbrev pub signature_callee : BlockSignature → CalleeSeen
+abbrev pub signature_callee : BlockSignature → CalleeSignature
 signature_callee b = (b.kind, b.instance_len, b.params)
 
 -- the block that a table finds by a key (`call_key`), as a CALL sees it; None where it finds none
-abbrev pub found_callee : List BlockSignature → List ℕ → ℕ → Option CalleeSeen
+abbrev pub found_callee : List BlockSignature → List ℕ → ℕ → Option CalleeSignature
 found_callee blocks table key =
     option_map signature_callee
     (option_and_then (λ place. slice_get blocks place) (slice_get table key))

@@ -22,14 +22,14 @@ use Rattle.flat_code.specs.declared.operations.EndOperation.TheVariants as ends
 use Rattle.flat_code.specs.declared.operations.Operation.TheVariants as operation
 use Rattle.flat_code.specs.declared.operations.RelayOperation.TheVariants as relay
 use Rattle.flat_code.specs.Ops.{OpData, is_op}
-use Rattle.flat_code.specs.Codes.{size_of_op}
+use Rattle.flat_code.specs.Codes.{size_of_op, most_ops}
 use Rattle.flat_code.specs.Programs.{CodeBlock, Program}
 use Rattle.flat_code.specs.Image.{record_of_block, record_of_param, kind_of_number}
 use Rattle.flat_code.specs.Loading.{Verifies, lens_of, environment_of_block}
 use Rattle.flat_code.specs.Records.{section_in}
 use Rattle.flat_code.specs.Table.{takes_of, has_memory_width}
 use Rattle.flat_code.specs.PlacedOps.{PlacedOp, op_placed, line_placed, code_places, begins_its_statement, bracket_codes, is_opening, brackets_after, zones_behind_op, most_brackets, most_zones, before_next, last_op}
-use Rattle.flat_code.specs.Blocks.{BlockSignature, signature_of, CalleeSeen, callee_among, writes_operand, prepares_statement, is_odd_bit, is_in_db, is_above, pass_before, are_all_passed, is_bad_instance, misfits_parameter, leads_to_target}
+use Rattle.flat_code.specs.Blocks.{BlockSignature, signature_of, CalleeSignature, callee_among, writes_operand, prepares_statement, is_odd_bit, is_in_db, is_above, pass_before, are_all_passed, is_bad_instance, misfits_parameter, leads_to_target}
 use Rattle.image_file.specs.Readers.{block_by_id}
 
 -- the op of code that begins at the offset `at`, in its place; None where none begins there
@@ -92,7 +92,7 @@ CodeGoesOn = (p : Program) (b : CodeBlock) (q : PlacedOp) → IsVerifiedOp p b q
 -- the statement of an op has at most 64 ops, of which all but the last are USEDB or PASS
 pub record StatementIsRight (q : PlacedOp) : Type 0 where
   -- fewer than 64 ops of the statement stand before the op
-  pub few : length q.before < 64
+  pub few : length q.before < most_ops
   -- the op ends its statement exactly where it is neither USEDB nor PASS
   pub ended : q.op.last ≡ not (prepares_statement q.op.code)
 
@@ -288,7 +288,7 @@ block_signatures p = map signature_of (map record_of_block p.code_blocks)
 -- no parameters
 pub record FitsCall (p : Program) (q : PlacedOp) (kind number instance : ℕ) : Type 0 where
   -- the called block or system function, as the CALL sees it
-  pub called : CalleeSeen
+  pub called : CalleeSignature
   -- a block of the program, or a system function, has the kind and number of the call
   pub there : callee_among (block_signatures p) kind number ≡ Some called
   -- each parameter is passed, but where a function block is called
@@ -307,7 +307,7 @@ CallsFit =
 pub record FitsParameter
     (p : Program)
     (b : CodeBlock)
-    (called : CalleeSeen)
+    (called : CalleeSignature)
     (index : ℕ)
     (actual : Passed) : Type 0 where
   -- the parameter to which the actual parameter is passed
@@ -329,14 +329,14 @@ pub record FitsParameter
 abbrev pub PassedFit : Type 0
 PassedFit =
     (p : Program) (b : CodeBlock) (q : PlacedOp) (index : ℕ) (actual : Passed)
-    (kind number instance : ℕ) (called : CalleeSeen)
+    (kind number instance : ℕ) (called : CalleeSignature)
     → IsVerifiedOp p b q → q.op.operand ≡ operand.Pass index actual
     → (last_op q).operand ≡ operand.Called kind number instance
     → callee_among (block_signatures p) kind number ≡ Some called
     → FitsParameter p b called index actual
 
 -- a function or function block that is called is a block of the program
-pub record IsCalledBlock (p : Program) (kind number : ℕ) (called : CalleeSeen) : Type 0 where
+pub record IsCalledBlock (p : Program) (kind number : ℕ) (called : CalleeSignature) : Type 0 where
   -- the code block that is called
   pub block : CodeBlock
   -- the program has the called block, by the kind and number of the call
@@ -350,7 +350,7 @@ pub record IsCalledBlock (p : Program) (kind number : ℕ) (called : CalleeSeen)
 -- the call sees, whether the program verifies or not
 abbrev pub CalledAreThere : Type 0
 CalledAreThere =
-    (p : Program) (kind number : ℕ) (called : CalleeSeen)
+    (p : Program) (kind number : ℕ) (called : CalleeSignature)
     → (kind ≡ kind_number kinds.Fc) ⊎ (kind ≡ kind_number kinds.Fb)
     → callee_among (block_signatures p) kind number ≡ Some called
     → IsCalledBlock p kind number called

@@ -3,7 +3,8 @@
 use Rattle.std.specs.Prelude.{◌≡◌, ℕ, Bool, true, false, ◌&&◌, List, [], ◌∷◌, ◌++◌, length, map, Option, Some, None}
 use Rattle.plc_base.specs.declared.blocks.BlockId.{BlockId}
 use Rattle.flat_code.specs.declared.image_fields.Field.TheVariants as field
-use Rattle.flat_code.specs.Codes.{code_fault, is_nowhere}
+use Rattle.flat_code.specs.Codes.{code_fault}
+use Rattle.flat_code.specs.Layout.{is_fine}
 use Rattle.flat_code.specs.Blocks.{Environment, at_offset, block_faults}
 use Rattle.flat_code.specs.Faults.{field_fault}
 use Rattle.flat_code.specs.Image.{end_marks, record_of_block}
@@ -40,7 +41,7 @@ faults_of_block environment b = faults_unless (code_fault b.code) environment b
 -- whether no code block has a fault 5 in its code: only then are calls checked
 abbrev pub are_whole : List BlockRecord → Bool
 are_whole [] = true
-are_whole (b ∷ bs) = is_nowhere (code_fault b.code) && are_whole bs
+are_whole (b ∷ bs) = is_fine (code_fault b.code) && are_whole bs
 
 -- the numbers and lengths in bytes of data blocks where calls are checked (true); None where calls
 -- aren't checked

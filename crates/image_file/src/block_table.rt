@@ -46,7 +46,7 @@ pub(crate) fn block_table(alloc: Global, blocks: &[LoadedBlock]) -> Result<Vec<u
 }
 
 /// Where in its list a block stands by a table.
-pub(crate) fn place_in(table: &[u16], block: BlockId) -> Option<usize>
+pub(crate) fn index_in_table(table: &[u16], block: BlockId) -> Option<usize>
     requires { length table.now ≡ slots }
     ensures { result ≡ option_map (λ slot. slice_index_or table.now slot 0) (slot_of block) }
 {

@@ -5,7 +5,7 @@ ghost use Rattle.flat_code.specs.Image.{Head, head_layout, parameter_layout, par
 ghost use Rattle.flat_code.specs.Layout.{list_layout, chain_layout};
 ghost use Rattle.image_file.specs.Running.{reader_run, run_layout, reader_cursor, log_of, head_values, IsReaderRun, IsBlockRun, IsBlocksRun};
 
-use crate::codes::ops_in;
+use crate::codes::ops_of_code;
 use crate::reader::Reader;
 use crate::records::{BlockRead, HeadRead, LocatedBlock};
 use crate::stops::{ReadingEnd, Stop};
@@ -132,7 +132,7 @@ impl Reader<'_> {
             return Err(Stop::AtFault);
         }
         let (code, rest) = self.rest.split_at(size as usize);
-        let found = ops_in(alloc, code)?;
+        let found = ops_of_code(alloc, code)?;
         match found.fault {
             Some(offset) => {
                 self.note(self.at + offset, 5);

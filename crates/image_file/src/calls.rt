@@ -1,7 +1,7 @@
 //! Calls: what a CALL, UC or CC may not do, and what its PASS ops may not pass.
 ghost use Rattle.std.specs.Prelude.{◌≡◌, None};
 ghost use Rattle.flat_code.specs.PlacedOps.{is_empty_list, PlacedOp, last_op};
-ghost use Rattle.flat_code.specs.Blocks.{CalleeSeen, is_short_instance, is_bad_instance, is_bad_call, are_all_passed, misfits_index, misfits_callee, misfits_call, callee_among};
+ghost use Rattle.flat_code.specs.Blocks.{CalleeSignature, is_short_instance, is_bad_instance, is_bad_call, are_all_passed, misfits_index, misfits_callee, misfits_call, callee_among};
 ghost use Rattle.image_file.specs.OpChecking.{environment_of};
 
 use crate::environments::{BlockEnvironment, DataLens, callee};

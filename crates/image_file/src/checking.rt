@@ -2,14 +2,14 @@
 ghost use Rattle.std.specs.Prelude.{◌≡◌, ◌+◌, ◌<◌, ◌≤◌, ◌^◌, [], length, drop, OnOk, IfOk};
 ghost use Rattle.std.specs.Option.{option_map};
 ghost use Rattle.flat_code.specs.Codes.{size_of_op, code_bytes};
-ghost use Rattle.flat_code.specs.PlacedOps.{PlacedOp, is_empty_list, brackets_after, zones_behind_op, before_next, codes_of_few_brackets, spot_at, statement_spots, open_behind, code_places};
+ghost use Rattle.flat_code.specs.PlacedOps.{PlacedOp, is_empty_list, brackets_after, zones_behind_op, before_next, codes_of_few_brackets, statement_start_at, starts_of_statements, open_behind, code_places};
 ghost use Rattle.flat_code.specs.Blocks.{seven_if, are_same_codes, target_fault, jump_fault, operand_fault, call_fault, mark_fault, bracket_fault, zone_fault, at_offset, op_faults, faults_over, open_faults, block_faults};
 ghost use Rattle.image_file.specs.OpChecking.{AllUpTo, environment_of};
 ghost use Rattle.image_file.specs.Least.{with_faults};
 
 use crate::faults::LoadFault;
 use crate::numbers::{CLOSE_ZONE, NEST_A, NEST_XN, OPEN_ZONE, PASS, UNNEST, USE_DB};
-use crate::reader::lesser;
+use crate::reader::lesser_fault;
 use arrayvec::ArrayVec;
 use flat_code::{Op, OpenBracket};
 use plc_base::NoMemory;
@@ -27,9 +27,9 @@ pub(crate) struct StatementStart {
 
 impl Model for StatementStart {
     ghost use Rattle.std.specs.Option.{option_map};
-    ghost use Rattle.flat_code.specs.PlacedOps.{StatementSpot};
+    ghost use Rattle.flat_code.specs.PlacedOps.{StatementStart as StatementStartData};
 
-    ghost Value = { StatementSpot };
+    ghost Value = { StatementStartData };
 
     ghost view = { λ s. record {
       at = s.at;
@@ -131,6 +131,7 @@ pub(crate) fn prepare(before: &mut Vec<Op>, op: &Op) -> Result<(), NoMemory>
     Ok(())
 }
 
+/// Whether two places have equally many open brackets, with the same op codes in the same order.
 pub(crate) fn same_codes(codes: &[u8], others: &[u8]) -> bool
     ensures { result ≡ are_same_codes codes.now others.now }
 {
@@ -149,12 +150,14 @@ pub(crate) fn same_codes(codes: &[u8], others: &[u8]) -> bool
     rest.is_empty()
 }
 
+/// The fault 7 where a test holds.
 pub(crate) fn seven_if(faulty: bool) -> Option<u16>
     ensures { result ≡ seven_if faulty }
 {
     if faulty { Some(7) } else { None }
 }
 
+/// The fault 7 of an end mark on USEDB or PASS, and of another op that has none.
 pub(crate) fn mark_fault(op: &Op) -> Option<u16>
     ensures { result ≡ mark_fault op.now }
 {
@@ -162,6 +165,7 @@ pub(crate) fn mark_fault(op: &Op) -> Option<u16>
     seven_if(if prepares { op.last } else { !op.last })
 }
 
+/// The fault 8 of an op's bracket: `)` without open bracket, or an eighth open bracket.
 pub(crate) fn bracket_fault(code: u8, brackets: &[OpenBracket]) -> Option<u16>
     ensures { result ≡ bracket_fault code brackets.now }
 {
@@ -174,6 +178,8 @@ pub(crate) fn bracket_fault(code: u8, brackets: &[OpenBracket]) -> Option<u16>
     None
 }
 
+/// The fault 8 of an op's zone of the master control relay: `)MCR` without open zone, or a ninth
+/// open zone.
 pub(crate) fn zone_fault(code: u8, zones: &[u32]) -> Option<u16>
     ensures { result ≡ zone_fault code zones.now }
 {
@@ -202,6 +208,6 @@ pub(crate) fn lesser_if(least: Option<LoadFault>, at: u32, code: Option<u16>) ->
 {
     match code {
         None => least,
-        Some(code) => lesser(least, at, code),
+        Some(code) => lesser_fault(least, at, code),
     }
 }

@@ -18,14 +18,14 @@ pub(crate) struct OpsFound {
 }
 
 /// Whether an op is BE with the end mark.
-pub(crate) fn is_end(op: &Op) -> bool
+pub(crate) fn is_block_end(op: &Op) -> bool
     ensures { result ≡ (op.now.code == op_code_of (operation.End ends.Be) && op.now.last) }
 {
     op.code == BLOCK_END && op.last
 }
 
 /// How many ops of its statement stand up to an op, behind so many.
-pub(crate) fn count_behind(op: &Op, count: u8) -> u8
+pub(crate) fn count_behind_op(op: &Op, count: u8) -> u8
     requires { count < 255 }
     ensures { result ≡ (if op.now.last then 0 else suc count) }
 {
@@ -34,7 +34,7 @@ pub(crate) fn count_behind(op: &Op, count: u8) -> u8
 
 /// The ops of code. The fault is the 65th op of a statement, or a place where no op begins, or the
 /// last op, where it isn't BE with the end mark.
-pub(crate) fn ops_in(alloc: Global, code: &[u8]) -> Result<OpsFound, NoMemory>
+pub(crate) fn ops_of_code(alloc: Global, code: &[u8]) -> Result<OpsFound, NoMemory>
     requires { length code.now < 2 ^ 32 }
     ensures fault { IfOk result (λ r. r.fault
         ≡ stop_at true (ops_from (length code.now) code.now).0 (ops_from
@@ -56,8 +56,8 @@ pub(crate) fn ops_in(alloc: Global, code: &[u8]) -> Result<OpsFound, NoMemory>
                 fault: Some(at),
             });
         }
-        ended = is_end(&found.0);
-        count = count_behind(&found.0, count);
+        ended = is_block_end(&found.0);
+        count = count_behind_op(&found.0, count);
         ops.push(found.0)?;
         last = at;
         at = found.1;

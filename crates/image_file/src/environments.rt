@@ -5,7 +5,7 @@ ghost use Rattle.flat_code.specs.Blocks.{block_with, callee_among};
 ghost use Rattle.image_file.specs.OpChecking.{callee_values};
 ghost use Rattle.image_file.specs.Tables.{call_key, signature_callee, found_callee};
 
-use crate::tables::{place_at, table_of};
+use crate::tables::{place_at_offset, table_of};
 use flat_code::{
     FUNCTION, FUNCTION_BLOCK, ParameterRecord, SYSTEM_FUNCTION, system_function_records,
 };
@@ -191,12 +191,12 @@ fn found_callee<'a>(
 ) -> Option<(u8, u16, &'a [ParameterRecord])>
     ensures { option_map callee_values result ≡ found_callee blocks.now table.now key }
 {
-    let place = place_at(table, key)?;
-    callee_at(blocks, place)
+    let place = place_at_offset(table, key)?;
+    callee_at_place(blocks, place)
 }
 
 /// The block at a place of a list.
-fn callee_at(blocks: &[SignatureRead], place: usize) -> Option<(u8, u16, &[ParameterRecord])>
+fn callee_at_place(blocks: &[SignatureRead], place: usize) -> Option<(u8, u16, &[ParameterRecord])>
     ensures { option_map callee_values result
         ≡ option_map signature_callee (slice_get blocks.now place) }
 {
@@ -235,7 +235,7 @@ impl DataLens {
     pub(crate) fn of(&self, number: u16) -> Option<usize>
         ensures { result ≡ length_of_data number self.now }
     {
-        let place = place_at(self.table.as_slice(), u32::from(number))?;
+        let place = place_at_offset(self.table.as_slice(), u32::from(number))?;
         len_at(self.list.as_slice(), place)
     }
 }

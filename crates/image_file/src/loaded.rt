@@ -3,7 +3,7 @@ ghost use Rattle.std.specs.Option.{option_map};
 ghost use Rattle.image_file.specs.Readers.{block_by_id, data_block_id, data_bytes_of};
 ghost use Rattle.image_file.specs.Tables.{AreSmall, FindsBlocks, HaveSlots};
 
-use crate::block_table::{block_table, id_of, place_in};
+use crate::block_table::{block_table, id_of, index_in_table};
 use crate::copies::program_again;
 use crate::heads::CodeBlockHead;
 use crate::loaded_blocks::LoadedBlock;
@@ -89,7 +89,7 @@ fn data_id(block: &DataBlock) -> BlockId
 }
 
 /// The block at a place of a list.
-fn block_at(blocks: &[LoadedBlock], place: usize) -> Option<&LoadedBlock>
+fn block_at_place(blocks: &[LoadedBlock], place: usize) -> Option<&LoadedBlock>
     ensures { option_map (λ b. b.now) result ≡ slice_get blocks.now place }
 {
     blocks.get(place)
@@ -101,12 +101,12 @@ fn block_of<'a>(blocks: &'a [LoadedBlock], table: &[u16], block: BlockId) -> Opt
     requires slots { HaveSlots blocks.now }
     ensures { option_map (λ b. b.now) result ≡ block_by_id block blocks.now }
 {
-    let place = place_in(table, block)?;
-    block_at(blocks, place)
+    let place = index_in_table(table, block)?;
+    block_at_place(blocks, place)
 }
 
 /// The bytes of the data block of a number.
-fn bytes_of(number: u16, blocks: &[DataBlock]) -> Option<&[u8]>
+fn data_bytes_of(number: u16, blocks: &[DataBlock]) -> Option<&[u8]>
     ensures { option_map (λ d. d.now) result ≡ data_bytes_of number blocks.now }
 {
     for block in blocks {
@@ -231,7 +231,7 @@ impl Loaded {
         ensures { option_map (λ d. d.now) result
             ≡ data_bytes_of number self.now.program.data_blocks }
     {
-        bytes_of(number, self.data_blocks.as_slice())
+        data_bytes_of(number, self.data_blocks.as_slice())
     }
 
     /// The whole program, once more.

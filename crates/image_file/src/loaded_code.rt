@@ -29,14 +29,14 @@ impl<'a> Model for LoadedCode<'a> {
 
 /// The mark of an offset.
 #[inline(always)]
-fn mark_at(marks: &[u32], at: u32) -> Option<u32>
+fn mark_at_offset(marks: &[u32], at: u32) -> Option<u32>
     ensures { result ≡ slice_get marks.now at }
 {
     marks.get(at as usize).copied()
 }
 
 /// The line of the statement that a mark numbers. Other marks are past the end of the lines.
-fn line_of(lines: &[u32], mark: u32) -> Option<u32>
+fn line_of_mark(lines: &[u32], mark: u32) -> Option<u32>
     ensures { result ≡ slice_get lines.now mark }
 {
     lines.get(mark as usize).copied()
@@ -79,7 +79,7 @@ impl<'a> LoadedCode<'a> {
     pub fn op(&self, at: u32) -> Option<(Op, u32)>
         ensures { result ≡ op_placed 0 self.now.code at }
     {
-        let mark = mark_at(self.marks, at)?;
+        let mark = mark_at_offset(self.marks, at)?;
         if mark == NOWHERE {
             return None;
         }
@@ -92,7 +92,7 @@ impl<'a> LoadedCode<'a> {
     pub fn part(&self, at: u32) -> Option<(Op, u32)>
         ensures { result ≡ op_placed 0 self.now.code at }
     {
-        let mark = mark_at(self.marks, at)?;
+        let mark = mark_at_offset(self.marks, at)?;
         if mark == NOWHERE {
             return None;
         }
@@ -104,8 +104,8 @@ impl<'a> LoadedCode<'a> {
     pub fn line(&self, at: u32) -> Option<u32>
         ensures { result ≡ line_placed 0 true self.now.code self.now.lines at }
     {
-        let mark = mark_at(self.marks, at)?;
-        line_of(self.lines, mark)
+        let mark = mark_at_offset(self.marks, at)?;
+        line_of_mark(self.lines, mark)
     }
 
     /// How many bytes the block's local data has.

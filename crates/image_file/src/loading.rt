@@ -83,7 +83,7 @@ fn data_lens(alloc: Global, datas: &Option<Vec<DataBlock>>) -> Result<Option<Dat
     }
 }
 
-/// What may be there, by reference.
+/// The lengths of the data blocks, if they are there, by reference.
 fn ref_of(lens: &Option<DataLens>) -> Option<&DataLens>
     ensures { option_map (λ d. d.now) result ≡ lens.now }
 {
@@ -233,7 +233,7 @@ fn check(alloc: Global, bytes: &[u8]) -> Result<CheckResult, NoMemory>
 }
 
 /// The program of an image without fault.
-fn loaded(alloc: Global, image: ImageRead) -> Result<Loaded, NoMemory>
+fn program_of_image(alloc: Global, image: ImageRead) -> Result<Loaded, NoMemory>
     requires program { IsProgram (program_read image) }
     requires few { HaveFewParameters (blocks_of (map located_block image.blocks.items)) }
     requires verifies { Verifies (program_read image) }
@@ -259,7 +259,7 @@ pub fn load(alloc: Global, bytes: &[u8]) -> Result<Loaded, LoadError>
     match check(alloc, bytes)? {
         CheckResult::Faulty { fault } => Err(LoadError::Fault { fault }),
         CheckResult::Clean { image } => {
-            let loaded = loaded(alloc, image)?;
+            let loaded = program_of_image(alloc, image)?;
             Ok(loaded)
         }
     }

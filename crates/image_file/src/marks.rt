@@ -15,7 +15,7 @@ use std::alloc::Global;
 const INSIDE: u32 = 0xFFFF_FFFE;
 
 /// The mark of an op behind so many statements.
-fn mark_of(begins: bool, statements: u32) -> u32
+fn mark_of_op(begins: bool, statements: u32) -> u32
     ensures { result ≡ (if begins then statements else inside_mark) }
 {
     if begins { statements } else { INSIDE }
@@ -55,7 +55,7 @@ pub(crate) fn bytes_and_marks(alloc: Global, ops: &[Op]) -> Result<(Vec<u8>, Vec
     let mut begins = true;
     for op in ops {
         encode_op(op, &mut bytes)?;
-        mark(&mut marks, mark_of(begins, statements), op.size())?;
+        mark(&mut marks, mark_of_op(begins, statements), op.size())?;
         begins = is_last(op);
         statements = statements_behind(begins, statements);
     }

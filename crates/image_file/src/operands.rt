@@ -34,6 +34,7 @@ fn is_past_locals(environment: &BlockEnvironment, area: Area, width: Width, byte
     }
 }
 
+/// Whether a place has a bit that its width doesn't have, or lies past the block's local bytes.
 pub(crate) fn is_bad_place(
     environment: &BlockEnvironment,
     area: Area,
@@ -55,14 +56,14 @@ pub(crate) fn lacks_width(op: &Op, width: Width) -> bool
 }
 
 /// Whether an instruction writes its operand.
-pub(crate) fn writes(code: u8) -> bool
+pub(crate) fn writes_operand(code: u8) -> bool
     ensures { result ≡ writes_operand code }
 {
     TRANSFER <= code && code <= EDGE_NEGATIVE
 }
 
 /// The parameter of the function that runs.
-pub(crate) fn own_parameter(environment: &BlockEnvironment, index: u8) -> Option<ParameterRecord>
+pub(crate) fn parameter_meant(environment: &BlockEnvironment, index: u8) -> Option<ParameterRecord>
     ensures { result ≡ parameter_meant (environment_of environment.now) index }
 {
     if environment.kind == FUNCTION {
@@ -72,7 +73,8 @@ pub(crate) fn own_parameter(environment: &BlockEnvironment, index: u8) -> Option
     }
 }
 
-pub(crate) fn lacks_own(parameter: Option<ParameterRecord>, width: Width) -> bool
+/// Whether there is no such parameter (`None`), or it has another width.
+pub(crate) fn lacks_own_parameter(parameter: Option<ParameterRecord>, width: Width) -> bool
     ensures { result ≡ lacks_own_parameter parameter width }
 {
     match parameter {
@@ -81,7 +83,8 @@ pub(crate) fn lacks_own(parameter: Option<ParameterRecord>, width: Width) -> boo
     }
 }
 
-pub(crate) fn is_input(parameter: Option<ParameterRecord>) -> bool
+/// Whether the parameter is an IN; one that is absent (`None`) is none.
+pub(crate) fn is_in_parameter(parameter: Option<ParameterRecord>) -> bool
     ensures { result ≡ is_in_parameter parameter }
 {
     match parameter {
@@ -140,7 +143,7 @@ fn pass_index(op: &Op) -> Option<u8>
     }
 }
 
-/// The index of the PASS next before.
+/// The index of the last PASS among the ops before; `None` without one.
 fn pass_before(before: &[Op]) -> Option<u8>
     ensures { result ≡ pass_before None before.now }
 {
@@ -170,6 +173,7 @@ pub(crate) fn is_stray_pass(before: &[Op], last: &Op, index: u8) -> bool
     last.code != CALL || !is_above(index, pass_before(before))
 }
 
+/// Whether what a PASS passes has a fault by itself, whatever parameter it is for.
 pub(crate) fn is_bad_actual(environment: &BlockEnvironment, actual: Passed) -> bool
     ensures { result ≡ is_bad_actual (environment_of environment.now) actual }
 {
@@ -181,7 +185,10 @@ pub(crate) fn is_bad_actual(environment: &BlockEnvironment, actual: Passed) -> b
             byte,
             bit,
         } => is_bad_place(environment, area, width, byte, bit),
-        Passed::Parameter { index, width } => lacks_own(own_parameter(environment, index), width),
+        Passed::Parameter { index, width } => lacks_own_parameter(
+            parameter_meant(environment, index),
+            width,
+        ),
         Passed::InBlock {
             area: Area::Db,
             width,
@@ -218,7 +225,8 @@ pub(crate) fn misfits_parameter(
         Passed::Direct { width, .. } => parameter.width != width.number(),
         Passed::Parameter { index, width } => {
             parameter.width != width.number()
-                || parameter.section != SECTION_IN && is_input(own_parameter(environment, index))
+                || parameter.section != SECTION_IN
+                    && is_in_parameter(parameter_meant(environment, index))
         }
         Passed::InBlock { width, .. } => parameter.width != width.number(),
     }

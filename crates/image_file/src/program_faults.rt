@@ -13,7 +13,7 @@ ghost use Rattle.image_file.specs.Writing.{BlockFitsFields};
 
 use crate::blocks::end_mark_count;
 use crate::checking::lesser_if;
-use crate::codes::{count_behind, is_end};
+use crate::codes::{count_behind_op, is_block_end};
 use crate::environments::{BlockEnvironment, DataLens, SignatureRead, Signatures};
 use crate::faults::{LoadFault, VerifyFault};
 use crate::loaded::Loaded;
@@ -36,7 +36,7 @@ fn overlong_statement(ops: &[Op]) -> Option<u32>
         if count == 64 {
             return Some(at);
         }
-        count = count_behind(op, count);
+        count = count_behind_op(op, count);
         at += op.size();
     }
     None
@@ -50,7 +50,7 @@ fn without_end(ops: &[Op]) -> Option<u32>
     match ops {
         [] => Some(0),
         [front @ .., last] => {
-            if is_end(last) {
+            if is_block_end(last) {
                 None
             } else {
                 Some(code_len(front))

@@ -24,7 +24,7 @@ pub(crate) struct Reader<'a> {
 }
 
 /// The lesser of the fault so far and another.
-pub(crate) fn lesser(least: Option<LoadFault>, at: u32, code: u16) -> Option<LoadFault>
+pub(crate) fn lesser_fault(least: Option<LoadFault>, at: u32, code: u16) -> Option<LoadFault>
     ensures { result ≡ with_fault least (at, code) }
 {
     let smaller = match least {
@@ -47,7 +47,7 @@ impl<'a> Reader<'a> {
         ensures blocks { self.new.blocks.items ≡ self.old.blocks.items }
         ensures datas { self.new.datas ≡ self.old.datas }
     {
-        self.least = lesser(self.least, at, code);
+        self.least = lesser_fault(self.least, at, code);
     }
 
     /// Notes the fault of a field at an offset, if it has one.

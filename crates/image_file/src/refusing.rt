@@ -4,8 +4,8 @@ use std::alloc::AllocError;
 /// Why bytes aren't loaded.
 #[derive(Clone, Copy, Debug, PartialEq, Eq)]
 pub enum LoadError {
-    /// They aren't the image of a program that verifies; the fault is the least by offset, then
-    /// code.
+    /// The bytes aren't the image of a program that verifies; the fault is the least by offset,
+    /// then code.
     Fault { fault: LoadFault },
     /// Memory was wanting.
     NoMemory,
@@ -25,7 +25,7 @@ impl From<AllocError> for LoadError {
 /// Why a program isn't taken for one that verifies.
 #[derive(Clone, Copy, Debug, PartialEq, Eq)]
 pub enum VerifyError {
-    /// It has a fault: the least by offset, then code, of the first block that has one.
+    /// The program has a fault: the least by offset, then code, of the first block that has one.
     Fault { fault: VerifyFault },
     /// Memory was wanting.
     NoMemory,

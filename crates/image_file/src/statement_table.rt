@@ -2,10 +2,10 @@
 ghost use Rattle.std.specs.Prelude.{◌≡◌, ◌++◌, ◌∷◌, [], ◌<◌, ◌^◌, length, map, slice_get, if◌then◌else◌, OnOk, IfOk};
 ghost use Rattle.std.specs.Option.{option_map};
 ghost use Rattle.flat_code.specs.Codes.{code_bytes};
-ghost use Rattle.flat_code.specs.PlacedOps.{codes_of_few_brackets, statement_spots, spot_at};
+ghost use Rattle.flat_code.specs.PlacedOps.{codes_of_few_brackets, starts_of_statements, statement_start_at};
 
 use crate::checking::{OpenInCode, StatementStart, codes_of_few_brackets, is_last};
-use crate::tables::{place_at, table_of};
+use crate::tables::{place_at_offset, table_of};
 use flat_code::Op;
 use plc_base::NoMemory;
 use std::alloc::Global;
@@ -20,10 +20,10 @@ pub(crate) struct Statements {
 
 impl Model for Statements {
     ghost use Rattle.std.specs.Prelude.{List};
-    ghost use Rattle.flat_code.specs.PlacedOps.{StatementSpot};
+    ghost use Rattle.flat_code.specs.PlacedOps.{StatementStart as StatementStartData};
     ghost use Rattle.image_file.specs.Tables.{FindsStatements};
 
-    ghost Value = { List StatementSpot };
+    ghost Value = { List StatementStartData };
 
     ghost view = { λ s. s.list.items };
 
@@ -33,7 +33,7 @@ impl Model for Statements {
 /// The statements of ops, and the offset after the last op.
 fn statement_list(alloc: Global, ops: &[Op]) -> Result<(Vec<StatementStart>, u32), NoMemory>
     requires { length (code_bytes ops.now) < 2 ^ 32 }
-    ensures statements { IfOk result (λ r. r.0.items ≡ statement_spots ops.now) }
+    ensures statements { IfOk result (λ r. r.0.items ≡ starts_of_statements ops.now) }
     ensures end { IfOk result (λ r. r.1 ≡ length (code_bytes ops.now)) }
 {
     let mut statements = Vec::new(alloc);
@@ -99,7 +99,7 @@ impl Statements {
     /// The statements of ops.
     pub(crate) fn of(alloc: Global, ops: &[Op]) -> Result<Self, NoMemory>
         requires { length (code_bytes ops.now) < 2 ^ 32 }
-        ensures { IfOk result (λ s. s ≡ statement_spots ops.now) }
+        ensures { IfOk result (λ s. s ≡ starts_of_statements ops.now) }
     {
         let (list, end) = statement_list(alloc, ops)?;
         let offsets = offsets_of(alloc, list.as_slice())?;
@@ -109,9 +109,9 @@ impl Statements {
 
     /// The statement that begins at an offset.
     pub(crate) fn at(&self, at: u32) -> Option<&StatementStart>
-        ensures { option_map (λ s. s.now) result ≡ spot_at self.now at }
+        ensures { option_map (λ s. s.now) result ≡ statement_start_at self.now at }
     {
-        let place = place_at(self.table.as_slice(), at)?;
+        let place = place_at_offset(self.table.as_slice(), at)?;
         statement_at(self.list.as_slice(), place)
     }
 }

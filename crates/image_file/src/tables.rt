@@ -34,7 +34,7 @@ pub(crate) fn table_of(alloc: Global, starts: &[u32], len: usize) -> Result<Vec<
 }
 
 /// What a table has at an offset.
-pub(crate) fn place_at(table: &[u32], at: u32) -> Option<usize>
+pub(crate) fn place_at_offset(table: &[u32], at: u32) -> Option<usize>
     ensures { result ≡ slice_get table.now at }
 {
     let place = table.get(at as usize)?;

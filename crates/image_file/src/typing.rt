@@ -56,7 +56,7 @@ pub(crate) fn code_blocks(
     Ok(typed)
 }
 
-fn entry_of(name: NameRead) -> NameEntry
+fn entry_of_name(name: NameRead) -> NameEntry
     ensures { result ≡ entry_of_name name }
 {
     let place = Place {
@@ -76,7 +76,10 @@ fn entry_of(name: NameRead) -> NameEntry
 pub(crate) fn entries(alloc: Global, names: Vec<NameRead>) -> Result<Vec<NameEntry>, NoMemory>
     ensures { IfOk result (λ v. v.items ≡ map entry_of_name names.items) }
 {
-    names.into_iter().map(|name| entry_of(name)).collect(alloc)
+    names
+        .into_iter()
+        .map(|name| entry_of_name(name))
+        .collect(alloc)
 }
 
 /// The program of what was read.

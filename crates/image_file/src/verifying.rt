@@ -2,7 +2,7 @@
 ghost use Rattle.std.specs.Prelude.{◌≡◌, ◌+◌, ◌<◌, ◌≤◌, ◌^◌, ◌∷◌, ◌++◌, [], length, drop, OnOk, IfOk, if◌then◌else◌};
 ghost use Rattle.std.specs.Option.{option_map};
 ghost use Rattle.flat_code.specs.Codes.{size_of_op, code_bytes};
-ghost use Rattle.flat_code.specs.PlacedOps.{codes_of_few_brackets, statement_spots, spot_at};
+ghost use Rattle.flat_code.specs.PlacedOps.{codes_of_few_brackets, starts_of_statements, statement_start_at};
 ghost use Rattle.flat_code.specs.Blocks.{are_other_brackets, call_fault_among, nesting_fault, target_fault, jump_fault, operand_fault, call_fault, op_faults, open_faults, open_zone_faults, block_faults};
 ghost use Rattle.image_file.specs.OpChecking.{AllUpTo, ZonesUpTo, environment_of, placed_of};
 ghost use Rattle.image_file.specs.Least.{with_faults};
@@ -16,10 +16,10 @@ use crate::environments::{BlockEnvironment, DataLens};
 use crate::faults::LoadFault;
 use crate::numbers::{CALL, JUMP_LIST};
 use crate::operands::{
-    ending_op, is_bad_actual, is_bad_place, is_input, is_stray_pass, is_stray_use_db, lacks_own,
-    lacks_width, leads, own_parameter, writes,
+    ending_op, is_bad_actual, is_bad_place, is_in_parameter, is_stray_pass, is_stray_use_db,
+    lacks_own_parameter, lacks_width, leads, parameter_meant, writes_operand,
 };
-use crate::reader::lesser;
+use crate::reader::lesser_fault;
 use crate::statement_table::Statements;
 use arrayvec::ArrayVec;
 use flat_code::{Op, OpenBracket, Operand};
@@ -87,7 +87,7 @@ fn target_fault(
     target: u32,
 ) -> Option<u16>
     ensures { result ≡ target_fault (option_map
-        (λ v. v.items) here.now) zones (spot_at statements.now target) }
+        (λ v. v.items) here.now) zones (statement_start_at statements.now target) }
 {
     match statements.at(target) {
         None => Some(6),
@@ -137,9 +137,9 @@ fn operand_fault(
             seven_if(lacks_width(op, width))
         }
         Operand::Parameter { index, width } => {
-            let own = own_parameter(environment, index);
-            let written = writes(op.code) && is_input(own);
-            seven_if(lacks_width(op, width) || lacks_own(own, width) || written)
+            let own = parameter_meant(environment, index);
+            let written = writes_operand(op.code) && is_in_parameter(own);
+            seven_if(lacks_width(op, width) || lacks_own_parameter(own, width) || written)
         }
         Operand::Jump { kind, target } => jump_fault(statements, op, place, kind, target),
         Operand::UseDb { .. } => {
@@ -226,7 +226,7 @@ fn check_open(
 {
     let mut least = least;
     for bracket in brackets {
-        least = lesser(least, start + bracket.at, 8);
+        least = lesser_fault(least, start + bracket.at, 8);
     }
     least
 }
@@ -244,7 +244,7 @@ fn check_open_zones(
 {
     let mut least = least;
     for zone in zones {
-        least = lesser(least, start + *zone, 8);
+        least = lesser_fault(least, start + *zone, 8);
     }
     least
 }
@@ -277,7 +277,7 @@ fn check_ops(
     least: Option<LoadFault>,
 ) -> Result<Option<LoadFault>, NoMemory>
     requires room { start + length (code_bytes ops.now) < 2 ^ 32 }
-    requires all { statements.now ≡ statement_spots ops.now }
+    requires all { statements.now ≡ starts_of_statements ops.now }
     ensures { IfOk result (λ l. l
         ≡ with_faults least (block_faults (environment_of environment.now) start ops.now)) }
 {

@@ -9,7 +9,7 @@ ghost use Rattle.image_file.specs.Writing.{BlockFitsFields, DataFitsFields, Name
 
 use crate::records::HeadRead;
 use flat_code::{
-    CodeBlock, DataBlock, NameEntry, Op, Param, Program, Stamp, area_number, encode_op,
+    CodeBlock, DataBlock, NameEntry, Op, Param, Program, Stamp, encode_op, number_of_area,
 };
 use plc_base::{NoMemory, Profile};
 use std::alloc::Global;
@@ -182,7 +182,7 @@ fn put_name(out: &mut Vec<u8>, entry: &NameEntry) -> Result<(), NoMemory>
     out.push(entry.name.len() as u8)?;
     out.extend_from_slice(entry.name.as_slice())?;
     out.extend_from_slice(&[
-        area_number(&entry.place),
+        number_of_area(&entry.place),
         entry.width.number(),
         a,
         b,

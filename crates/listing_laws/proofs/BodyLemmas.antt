@@ -39,17 +39,17 @@ use Rattle.stl_lexer.specs.Bytes.{is_word_byte, is_word_start}
 use Rattle.stl_lexer.specs.Forms.{is_word}
 use Rattle.stl_parser.specs.Tables.{flags, look_up, registers}
 use Rattle.stl_list.specs.Constants.{instruction_constant, open_block_name, pointer_area, pointer_letters}
-use Rattle.stl_list.specs.Mnemonics.{jump_word, mnemonic_of, word_by, word_of}
-use Rattle.stl_parser.specs.Operands.{holds_pointer}
+use Rattle.stl_list.specs.Mnemonics.{mnemonic_of_jump, mnemonic_of, mnemonic_by, mnemonic_of_code}
+use Rattle.stl_parser.specs.Operands.{holds_pointer, data_block_name}
 use Rattle.stl_types.specs.declared.parameters.Formal.{Formal}
 use Rattle.stl_list.specs.Actuals.{actual_for, actual_here, actuals_before, actuals_by, is_written, passed_operand}
 use Rattle.stl_list.specs.JoinedParameters.{called_id, system_parameters}
 use Rattle.stl_list.specs.Labels.{label_of_number}
 use Rattle.stl_list.specs.Lines.{line_of_statement}
-use Rattle.stl_list.specs.Runs.{Run, number_at, runs}
+use Rattle.stl_list.specs.Runs.{StatementOps, statement_number_at, runs}
 use Rattle.stl_list.specs.Signatures.{Signature, called_formals, formals_of_block}
 use Rattle.stl_list.specs.Statements.{ListingContext, body_of, label_at, label_of_end, listed_statement, statement_at, statements_from, listing_context}
-use Rattle.stl_list.specs.Operands.{name_of_data_block, direct_operand, implied_operand, instance_name, letters_for_area, name_at, operand_by, plain_operand, timer_or_counter, operation_writes_operand, block_opened_by_ops, own_parameter, read_letters, block_of_use_db}
+use Rattle.stl_list.specs.Operands.{direct_operand, implied_operand, instance_name, letters_for_area, name_at, operand_by, plain_operand, timer_or_counter, operation_writes_operand, block_opened_by_ops, own_parameter, read_letters, block_of_use_db}
 use Rattle.print_laws.specs.Reading.{FitsSyntax, IsArea, IsAreaOf, IsBlockOf, IsCallOperand, IsPrintedLabelOf, IsOpenOperand, IsPassedOperand, IsPrintedActual, IsPrintedOperand, IsPrintedStatement, IsRegister, IsJumpOperand, PrintedSyntax, block_call, bracket, call, empty, jump, opens, plain, syntax_of}
 use Rattle.print_laws.specs.Standing.{IsNonTitleName as IsCutName}
 use Rattle.listing_laws.proofs.FormLemmas.{labels_printed, typed_printed}
@@ -123,7 +123,7 @@ name_word formals index h named = by (slice_get formals index) refl (named_word 
 -- ---- fixed places
 
 -- the block that a statement opens first
-opened_block : (opened : Option ℕ) (writes : Bool) (a : Area) → MatchOption opened (Unit {0}) (λ n. n ≤ 65535) → IsOpenedIn opened a → IsBlockOf (option_map name_of_data_block opened) (letters_for_area writes a)
+opened_block : (opened : Option ℕ) (writes : Bool) (a : Area) → MatchOption opened (Unit {0}) (λ n. n ≤ 65535) → IsOpenedIn opened a → IsBlockOf (option_map data_block_name opened) (letters_for_area writes a)
 opened_block None writes a h k = tt
 opened_block (Some n) writes a h k = ((refl, h), ap (letters_for_area writes) k)
 
@@ -239,29 +239,29 @@ follows : (a b : Bool) → (not a || b) ≡ true → a ≡ true → b ≡ true
 follows true b h e = h
 follows false b h e = absurd (false≢true e)
 
-plain_word : (c : ℕ) → c < 128 → is_plain_takes (takes_of c) ≡ true → is_plain (syntax_of (word_of c)) ≡ true
-unfolding takes_of operation_of word_of
-plain_word c h e = follows _ _ (agree_below_at (λ c. not (is_plain_takes (takes_of c)) || is_plain (syntax_of (word_of c))) (λ c. true) 128 c refl h) e
+plain_word : (c : ℕ) → c < 128 → is_plain_takes (takes_of c) ≡ true → is_plain (syntax_of (mnemonic_of_code c)) ≡ true
+unfolding takes_of operation_of mnemonic_of_code
+plain_word c h e = follows _ _ (agree_below_at (λ c. not (is_plain_takes (takes_of c)) || is_plain (syntax_of (mnemonic_of_code c))) (λ c. true) 128 c refl h) e
 
-nothing_word : (c : ℕ) → c < 128 → takes_nothing (takes_of c) ≡ true → (is_plain (syntax_of (word_of c)) || is_bracket (syntax_of (word_of c)) && is_nothing (implied_operand (operation_of c))) ≡ true
-unfolding takes_of operation_of word_of
-nothing_word c h e = follows _ _ (agree_below_at (λ c. not (takes_nothing (takes_of c)) || (is_plain (syntax_of (word_of c)) || is_bracket (syntax_of (word_of c)) && is_nothing (implied_operand (operation_of c)))) (λ c. true) 128 c refl h) e
+nothing_word : (c : ℕ) → c < 128 → takes_nothing (takes_of c) ≡ true → (is_plain (syntax_of (mnemonic_of_code c)) || is_bracket (syntax_of (mnemonic_of_code c)) && is_nothing (implied_operand (operation_of c))) ≡ true
+unfolding takes_of operation_of mnemonic_of_code
+nothing_word c h e = follows _ _ (agree_below_at (λ c. not (takes_nothing (takes_of c)) || (is_plain (syntax_of (mnemonic_of_code c)) || is_bracket (syntax_of (mnemonic_of_code c)) && is_nothing (implied_operand (operation_of c)))) (λ c. true) 128 c refl h) e
 
-call_word : (c : ℕ) → c < 128 → is_call_form (takes_of c) ≡ true → is_calling (syntax_of (word_of c)) ≡ true
-unfolding takes_of operation_of word_of
-call_word c h e = follows _ _ (agree_below_at (λ c. not (is_call_form (takes_of c)) || is_calling (syntax_of (word_of c))) (λ c. true) 128 c refl h) e
+call_word : (c : ℕ) → c < 128 → is_call_form (takes_of c) ≡ true → is_calling (syntax_of (mnemonic_of_code c)) ≡ true
+unfolding takes_of operation_of mnemonic_of_code
+call_word c h e = follows _ _ (agree_below_at (λ c. not (is_call_form (takes_of c)) || is_calling (syntax_of (mnemonic_of_code c))) (λ c. true) 128 c refl h) e
 
-open_word : (c : ℕ) → c < 128 → is_open (takes_of c) ≡ true → is_opens (syntax_of (word_of c)) ≡ true
-unfolding takes_of operation_of word_of
-open_word c h e = follows _ _ (agree_below_at (λ c. not (is_open (takes_of c)) || is_opens (syntax_of (word_of c))) (λ c. true) 128 c refl h) e
+open_word : (c : ℕ) → c < 128 → is_open (takes_of c) ≡ true → is_opens (syntax_of (mnemonic_of_code c)) ≡ true
+unfolding takes_of operation_of mnemonic_of_code
+open_word c h e = follows _ _ (agree_below_at (λ c. not (is_open (takes_of c)) || is_opens (syntax_of (mnemonic_of_code c))) (λ c. true) 128 c refl h) e
 
-prepares_word : (c : ℕ) → c < 128 → (is_use_db (takes_of c) || is_pass (takes_of c)) ≡ true → is_empty_statement (word_of c) ≡ true
-unfolding takes_of operation_of word_of
-prepares_word c h e = follows _ _ (agree_below_at (λ c. not (is_use_db (takes_of c) || is_pass (takes_of c)) || is_empty_statement (word_of c)) (λ c. true) 128 c refl h) e
+prepares_word : (c : ℕ) → c < 128 → (is_use_db (takes_of c) || is_pass (takes_of c)) ≡ true → is_empty_statement (mnemonic_of_code c) ≡ true
+unfolding takes_of operation_of mnemonic_of_code
+prepares_word c h e = follows _ _ (agree_below_at (λ c. not (is_use_db (takes_of c) || is_pass (takes_of c)) || is_empty_statement (mnemonic_of_code c)) (λ c. true) 128 c refl h) e
 
-jumping_word : (k : ℕ) → k < 18 → is_jumping (syntax_of (jump_word k)) ≡ true
-unfolding jump_word
-jumping_word k h = agree_below_at (λ k. is_jumping (syntax_of (jump_word k))) (λ k. true) 18 k refl h
+jumping_word : (k : ℕ) → k < 18 → is_jumping (syntax_of (mnemonic_of_jump k)) ≡ true
+unfolding mnemonic_of_jump
+jumping_word k h = agree_below_at (λ k. is_jumping (syntax_of (mnemonic_of_jump k))) (λ k. true) 18 k refl h
 
 either_true : (a b : Bool) → a ≡ true → (a || b) ≡ true
 either_true true b h = refl
@@ -410,20 +410,20 @@ before_printed line formals called (op ∷ before) named others (one, more) (pla
 instance_called : (kind number instance : ℕ) → IsNumber number → IsNumber instance → (instance ≡ 0) ⊎ (kind ≡ kind_number kinds.Fb) → IsCallOperand (operand.Called (block.Number (called_id kind number)) (instance_name instance))
 instance_called kind number instance n i (inl none) = subst (λ (k : ℕ). IsCallOperand (operand.Called (block.Number (called_id kind number)) (instance_name k))) (sym none) n
 instance_called kind number instance n i (inr fb) = subst (λ (k : ℕ). IsCallOperand (operand.Called (block.Number (called_id k number)) (instance_name instance))) (sym fb)
-    (either_way (λ o. IsCallOperand (operand.Called (block.Number (called_id (kind_number kinds.Fb) number)) o)) (instance == 0) None (Some (name_of_data_block instance)) n ((refl, n), (refl, i)))
+    (either_way (λ o. IsCallOperand (operand.Called (block.Number (called_id (kind_number kinds.Fb) number)) o)) (instance == 0) None (Some (data_block_name instance)) n ((refl, n), (refl, i)))
 
 -- CALL with its actual parameters, or UC and CC
 called_fits : (line code kind number instance : ℕ) (formals called : List Formal) (before : List OpData) → code < 128 → is_call_form (takes_of code) ≡ true → IsNumber number → IsNumber instance
     → IsCallBy before code kind instance → AllByRecursion (IsPrintedActual line) (actuals_before line formals called before)
-    → FitsSyntax line (syntax_of (word_of code)) (operand.Called (block.Number (called_id kind number)) (instance_name instance)) (actuals_before line formals called before)
-unfolding word_of
+    → FitsSyntax line (syntax_of (mnemonic_of_code code)) (operand.Called (block.Number (called_id kind number)) (instance_name instance)) (actuals_before line formals called before)
+unfolding mnemonic_of_code
 called_fits line code kind number instance formals called before h e n i (inl is) all =
-    subst (λ (c : ℕ). FitsSyntax line (syntax_of (word_of c)) (operand.Called (block.Number (called_id kind number)) (instance_name instance)) (actuals_before line formals called before)) (sym is.0)
+    subst (λ (c : ℕ). FitsSyntax line (syntax_of (mnemonic_of_code c)) (operand.Called (block.Number (called_id kind number)) (instance_name instance)) (actuals_before line formals called before)) (sym is.0)
     (instance_called kind number instance n i is.1, all)
 called_fits line code kind number instance formals called before h e n i (inr is) all =
-    subst (λ (k : ℕ). FitsSyntax line (syntax_of (word_of code)) (operand.Called (block.Number (called_id kind number)) (instance_name k)) (actuals_before line formals called before)) (sym is.0)
-    (subst (λ (b : List OpData). FitsSyntax line (syntax_of (word_of code)) (operand.Called (block.Number (called_id kind number)) None) (actuals_before line formals called b)) (sym is.1)
-    (calls_fit line (syntax_of (word_of code)) (called_id kind number) (call_word code h e) n))
+    subst (λ (k : ℕ). FitsSyntax line (syntax_of (mnemonic_of_code code)) (operand.Called (block.Number (called_id kind number)) (instance_name k)) (actuals_before line formals called before)) (sym is.0)
+    (subst (λ (b : List OpData). FitsSyntax line (syntax_of (mnemonic_of_code code)) (operand.Called (block.Number (called_id kind number)) None) (actuals_before line formals called b)) (sym is.1)
+    (calls_fit line (syntax_of (mnemonic_of_code code)) (called_id kind number) (call_word code h e) n))
 
 -- ---- statements
 
@@ -439,39 +439,39 @@ timer_printed kind number h = either_way IsPrintedOperand (kind == timer_kind) (
 -- operand and actual parameters of the last op of a statement
 fits : (ss : List Signature) (line : ℕ) (formals : List Formal) (starts : List ℕ) (before : List OpData) (code : ℕ) (o : FlatOperand) → AreBlocksWords ss → AreWords formals
     → AllByRecursion IsOp before → AllByRecursion (λ op. PreparesPlace op.operand) before → code < 128 → admits (takes_of code) o ≡ true → payload_fits o ≡ true → IsLastOperandPrinted before code o
-    → is_empty_statement (word_by code o) ≡ false
-    → FitsSyntax line (syntax_of (word_by code o)) (operand_by formals starts (block_opened_by_ops before) (operation_of code) o) (actuals_by ss line formals before o)
+    → is_empty_statement (mnemonic_by code o) ≡ false
+    → FitsSyntax line (syntax_of (mnemonic_by code o)) (operand_by formals starts (block_opened_by_ops before) (operation_of code) o) (actuals_by ss line formals before o)
 unfolding operand_by plain_operand actuals_by admits
 fits ss line formals starts before code flat.Nothing known named ops prepares h a e shown word =
-    bare_fits line (syntax_of (word_of code)) (implied_operand (operation_of code)) (nothing_word code h a) (implied_printed (operation_of code))
+    bare_fits line (syntax_of (mnemonic_of_code code)) (implied_operand (operation_of code)) (nothing_word code h a) (implied_printed (operation_of code))
 fits ss line formals starts before code (flat.Literal value) known named ops prepares h a e shown word =
-    plain_fits line (syntax_of (word_of code)) (instruction_constant (operation_of code) value) (plain_word code h (literal_plain (takes_of code) value a)) (constant_printed (operation_of code) value (ltb-true value 4294967296 e))
+    plain_fits line (syntax_of (mnemonic_of_code code)) (instruction_constant (operation_of code) value) (plain_word code h (literal_plain (takes_of code) value a)) (constant_printed (operation_of code) value (ltb-true value 4294967296 e))
 fits ss line formals starts before code (flat.Direct ar w byte bit) known named ops prepares h a e shown word =
-    plain_fits line (syntax_of (word_of code)) _ (plain_word code h (direct_plain (takes_of code) a))
+    plain_fits line (syntax_of (mnemonic_of_code code)) _ (plain_word code h (direct_plain (takes_of code) a))
     (place_printed (block_opened_by_ops before) (operation_writes_operand (operation_of code)) ar w byte bit (opened_number before ops) shown.0 shown.1 (byte_place ar w byte bit e))
 fits ss line formals starts before code (flat.ByMemory ar w from byte) known named ops prepares h a e shown word =
     let parts = and_parts (is_memory_area ar) (holds_pointers from && nat_lt byte 65536) e in
     let more = and_parts (holds_pointers from) (nat_lt byte 65536) parts.1 in
-    plain_fits line (syntax_of (word_of code)) _ (plain_word code h (indirect_plain (takes_of code) a)) (memory_is ar w parts.0, pointer_is from more.0, number_is byte more.1)
+    plain_fits line (syntax_of (mnemonic_of_code code)) _ (plain_word code h (indirect_plain (takes_of code) a)) (memory_is ar w parts.0, pointer_is from more.0, number_is byte more.1)
 fits ss line formals starts before code (flat.ByRegister ar w register bits) known named ops prepares h a e shown word =
     let parts = and_parts (is_crossing_area ar) ((nat_lt register 256 && (nat_le 1 register && nat_le register 2)) && nat_lt bits 4294967296) e in
     let within_ = (and_parts (nat_lt register 256) (nat_le 1 register && nat_le register 2) (and_parts (nat_lt register 256 && (nat_le 1 register && nat_le register 2)) (nat_lt bits 4294967296) parts.1).0).1 in
     let bounds = and_parts (nat_le 1 register) (nat_le register 2) within_ in
-    plain_fits line (syntax_of (word_of code)) _ (plain_word code h (indirect_plain (takes_of code) a)) (crossing_is ar w parts.0, one_or_two register bounds.0 bounds.1, shown)
+    plain_fits line (syntax_of (mnemonic_of_code code)) _ (plain_word code h (indirect_plain (takes_of code) a)) (crossing_is ar w parts.0, one_or_two register bounds.0 bounds.1, shown)
 fits ss line formals starts before code (flat.Parameter index w) known named ops prepares h a e shown word =
     let few = ltb-true index 256 (and_parts (nat_lt index 256) _ e).0 in
-    plain_fits line (syntax_of (word_of code)) _ (plain_word code h (indirect_plain (takes_of code) a)) (name_word formals index (omega (arith, few)) named)
+    plain_fits line (syntax_of (mnemonic_of_code code)) _ (plain_word code h (indirect_plain (takes_of code) a)) (name_word formals index (omega (arith, few)) named)
 fits ss line formals starts before code (flat.Numbered kind number) known named ops prepares h a e shown word =
-    plain_fits line (syntax_of (word_of code)) _ (plain_word code h (kind_plain (takes_of code) kind a)) (timer_printed kind number (number_is number (and_parts _ (nat_lt number 65536) e).1))
+    plain_fits line (syntax_of (mnemonic_of_code code)) _ (plain_word code h (kind_plain (takes_of code) kind a)) (timer_printed kind number (number_is number (and_parts _ (nat_lt number 65536) e).1))
 fits ss line formals starts before code (flat.NumberedBy kind from byte) known named ops prepares h a e shown word =
     let parts = and_parts (holds_pointers from) (nat_lt byte 65536) (and_parts _ (holds_pointers from && nat_lt byte 65536) e).1 in
-    plain_fits line (syntax_of (word_of code)) _ (plain_word code h (kind_plain (takes_of code) kind a)) (pointer_is from parts.0, number_is byte parts.1)
+    plain_fits line (syntax_of (mnemonic_of_code code)) _ (plain_word code h (kind_plain (takes_of code) kind a)) (pointer_is from parts.0, number_is byte parts.1)
 fits ss line formals starts before code (flat.Jump kind target) known named ops prepares h a e shown word =
     let most = leb-true kind 17 (and_parts (nat_le 0 kind) (nat_le kind 17) (and_parts (nat_lt kind 256) _ (and_parts _ (nat_lt target 4294967296) e).0).1).1 in
-    let label = labels_printed (number_at starts target) in
-    jump_fits line (syntax_of (jump_word kind)) _ (jumping_word kind (omega (arith, most))) (label.is_name.word, label.short)
+    let label = labels_printed (statement_number_at starts target) in
+    jump_fits line (syntax_of (mnemonic_of_jump kind)) _ (jumping_word kind (omega (arith, most))) (label.is_name.word, label.short)
 fits ss line formals starts before code (flat.OfStatus condition) known named ops prepares h a e shown word =
-    plain_fits line (syntax_of (word_of code)) _ (plain_word code h (condition_plain (takes_of code) a)) tt
+    plain_fits line (syntax_of (mnemonic_of_code code)) _ (plain_word code h (condition_plain (takes_of code) a)) tt
 fits ss line formals starts before code (flat.UseDb number) known named ops prepares h a e shown word =
     absurd (false≢true (sym word ∙ prepares_word code h (either_true (is_use_db (takes_of code)) (is_pass (takes_of code)) a)))
 fits ss line formals starts before code (flat.Pass index p) known named ops prepares h a e shown word =
@@ -482,13 +482,13 @@ fits ss line formals starts before code (flat.Called kind number instance) known
     called_fits line code kind number instance formals called before h a (number_is number parts.0) (number_is instance parts.1) shown
     (before_printed line formals called before named (called_words ss (called_id kind number) known) ops prepares)
 fits ss line formals starts before code (flat.OpenBlock register number) known named ops prepares h a e shown word =
-    opens_fits line (syntax_of (word_of code)) _ (open_word code h a) (refl, number_is number (and_parts _ (nat_lt number 65536) e).1)
+    opens_fits line (syntax_of (mnemonic_of_code code)) _ (open_word code h a) (refl, number_is number (and_parts _ (nat_lt number 65536) e).1)
 fits ss line formals starts before code (flat.OpenBy register from byte) known named ops prepares h a e shown word =
     let parts = and_parts (holds_pointers from) (nat_lt byte 65536) (and_parts _ (holds_pointers from && nat_lt byte 65536) e).1 in
-    opens_fits line (syntax_of (word_of code)) _ (open_word code h a) (pointer_is from parts.0, number_is byte parts.1)
+    opens_fits line (syntax_of (mnemonic_of_code code)) _ (open_word code h a) (pointer_is from parts.0, number_is byte parts.1)
 
 -- a statement whose op is of the table
-run_fits : (s : ListingContext) (n : ℕ) (r : Run) → AreBlocksWords s.signatures → AreWords s.formals → IsSourceRun r
+run_fits : (s : ListingContext) (n : ℕ) (r : StatementOps) → AreBlocksWords s.signatures → AreWords s.formals → IsSourceRun r
     → FitsSyntax (line_of_statement s.lines n) (syntax_of (mnemonic_of r.op)) (operand_by s.formals s.starts (block_opened_by_ops r.before) (operation_of r.op.code) r.op.operand) (actuals_by s.signatures (line_of_statement s.lines n) s.formals r.before r.op.operand)
 unfolding is_op
 run_fits s n r known named is =
@@ -499,13 +499,13 @@ run_fits s n r known named is =
 label_printed : (targets : List Bool) (n : ℕ) → IsPrintedLabelOf (label_at targets n)
 label_printed targets n = either_way IsPrintedLabelOf (unwrap_or (slice_get targets n) false) (Some (label_of_number n)) None (labels_printed n) tt
 
-statement_printed : (s : ListingContext) (n : ℕ) (r : Run) → AreBlocksWords s.signatures → AreWords s.formals → IsSourceRun r → IsPrintedStatement (listed_statement s n r)
+statement_printed : (s : ListingContext) (n : ℕ) (r : StatementOps) → AreBlocksWords s.signatures → AreWords s.formals → IsSourceRun r → IsPrintedStatement (listed_statement s n r)
 statement_printed s n r known named is = record { label = label_printed s.targets n; fits = run_fits s n r known named is }
 
 no_label : (line : ℕ) (targets : List Bool) (n : ℕ) → unwrap_or (slice_get targets n) false ≡ false → label_of_end line (label_at targets n) ≡ []
 no_label line targets n e = ap (λ (b : Bool). label_of_end line (if b then Some (label_of_number n) else None)) e
 
-at_printed : (s : ListingContext) (n : ℕ) (r : Run) → AreBlocksWords s.signatures → AreWords s.formals → IsSourceRun r → (suc n ≡ length s.lines → unwrap_or (slice_get s.targets n) false ≡ false)
+at_printed : (s : ListingContext) (n : ℕ) (r : StatementOps) → AreBlocksWords s.signatures → AreWords s.formals → IsSourceRun r → (suc n ≡ length s.lines → unwrap_or (slice_get s.targets n) false ≡ false)
     → AllByRecursion IsPrintedStatement (statement_at s n r)
 unfolding statement_at
 at_printed s n r known named is free =
@@ -513,7 +513,7 @@ at_printed s n r known named is free =
     (λ e. subst (λ (l : List Statement). AllByRecursion IsPrintedStatement l) (sym (no_label (line_of_statement s.lines n) s.targets n (free (eqb-true (suc n) (length s.lines) e)))) tt)
     (λ e. (statement_printed s n r known named is, tt))
 
-from_printed : (s : ListingContext) (n : ℕ) (rs : List Run) → AreBlocksWords s.signatures → AreWords s.formals → AllByRecursion IsSourceRun rs → ((k : ℕ) → suc k ≡ length s.lines → unwrap_or (slice_get s.targets k) false ≡ false)
+from_printed : (s : ListingContext) (n : ℕ) (rs : List StatementOps) → AreBlocksWords s.signatures → AreWords s.formals → AllByRecursion IsSourceRun rs → ((k : ℕ) → suc k ≡ length s.lines → unwrap_or (slice_get s.targets k) false ≡ false)
     → AllByRecursion IsPrintedStatement (statements_from s n rs)
 from_printed s n [] known named h free = tt
 from_printed s n (r ∷ rs) known named (one, more) free =

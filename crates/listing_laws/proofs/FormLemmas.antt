@@ -36,7 +36,7 @@ use Rattle.stl_list.specs.CodeBlocks.{in_lines, listed_block, listed_blocks, res
 use Rattle.stl_list.specs.Constants.{typed_constant}
 use Rattle.stl_list.specs.DataBlocks.{function_block, known_settings, listed_data, listed_data_blocks}
 use Rattle.stl_list.specs.Initial.{byte_at, byte_here, byte_setting, byte_settings, initial_run, inits_from, inits_of, parameter_here, parameter_setting, parameter_settings, settings_of, value_in, values_of}
-use Rattle.stl_list.specs.JoinedParameters.{Chains, chains_of}
+use Rattle.stl_list.specs.JoinedParameters.{PassingChains, chains_of}
 use Rattle.stl_list.specs.Labels.{label_of_number, three_digits}
 use Rattle.stl_list.specs.Lines.{first_statement_line, line_behind_statements, stands_before}
 use Rattle.stl_list.specs.Parameters.{is_return, parameter_name, return_name}
@@ -148,32 +148,32 @@ record IsFormed (s : Signature) : Type 0 where
   formals : AreFormalsOf s.id.kind s.formals
   instance_len : s.instance_len ≤ 65536
 
-formals_named : (c : Chains) (returns behind : Bool) (index first : ℕ) (ps : List Param) → index + length ps < 2 ^ 64 → AreNamed (formals_from c returns behind index first ps)
+formals_named : (c : PassingChains) (returns behind : Bool) (index first : ℕ) (ps : List Param) → index + length ps < 2 ^ 64 → AreNamed (formals_from c returns behind index first ps)
 formals_named c returns behind index first [] h = tt
 formals_named c returns behind index first (p ∷ ps) h =
     (either_way IsNonKeywordName _ return_name (parameter_name index) return_is (parameter_named index (omega (arith, h))), formals_named c returns (is_behind returns behind p) (suc index) (suc first) ps (omega (arith, h)))
 
-no_return : (c : Chains) (index first : ℕ) (ps : List Param) → find is_return (formals_from c false false index first ps) ≡ None
+no_return : (c : PassingChains) (index first : ℕ) (ps : List Param) → find is_return (formals_from c false false index first ps) ≡ None
 no_return c index first [] = refl
 no_return c index first (p ∷ ps) = no_return c (suc index) (suc first) ps
 
-no_formals : (c : Chains) (returns behind : Bool) (index first : ℕ) (ps : List Param) → length ps ≡ 0 → formals_from c returns behind index first ps ≡ []
+no_formals : (c : PassingChains) (returns behind : Bool) (index first : ℕ) (ps : List Param) → length ps ≡ 0 → formals_from c returns behind index first ps ≡ []
 no_formals c returns behind index first [] h = refl
 no_formals c returns behind index first (p ∷ ps) h = absurd (omega (arith, h))
 
-signature_formed : (c : Chains) (first : ℕ) (b : CodeBlock) → IsListedCode b → IsHead b → AreFormalsOf b.id.kind (formals_from c (is_function b.id.kind) false 0 first b.params)
+signature_formed : (c : PassingChains) (first : ℕ) (b : CodeBlock) → IsListedCode b → IsHead b → AreFormalsOf b.id.kind (formals_from c (is_function b.id.kind) false 0 first b.params)
 signature_formed c first b is head = record {
   named = formals_named c (is_function b.id.kind) false 0 first b.params (omega (arith, is.params));
   result = λ e. rw e (no_return c 0 first b.params);
   none = λ e. no_formals c (is_function b.id.kind) false 0 first b.params (head.none e);
 }
 
-signatures_formed : (c : Chains) (first : ℕ) (bs : List CodeBlock) → AllByRecursion IsListedCode bs → AllByRecursion IsHead bs → AllByRecursion IsFormed (signatures_from c first bs)
+signatures_formed : (c : PassingChains) (first : ℕ) (bs : List CodeBlock) → AllByRecursion IsListedCode bs → AllByRecursion IsHead bs → AllByRecursion IsFormed (signatures_from c first bs)
 signatures_formed c first [] h k = tt
 signatures_formed c first (b ∷ bs) (one, more) (head, heads) =
     (record { formals = signature_formed c first b one head; instance_len = one.instance_len }, signatures_formed c (first + length b.params) bs more heads)
 
-all_formed : (c : Chains) (bs : List CodeBlock) → AllByRecursion IsListedCode bs → AllByRecursion IsHead bs → AllByRecursion IsFormed (signatures c bs)
+all_formed : (c : PassingChains) (bs : List CodeBlock) → AllByRecursion IsListedCode bs → AllByRecursion IsHead bs → AllByRecursion IsFormed (signatures c bs)
 unfolding signatures
 all_formed c bs h k = signatures_formed c 0 bs h k
 

@@ -9,7 +9,7 @@ use Rattle.stl_symbols.specs.Names.{name_place}
 use Rattle.stl_types.specs.Labels.{is_repeated_label, label_of as label_in, labels_twice}
 use Rattle.stl_list.specs.Labels.{label_of_number}
 use Rattle.stl_list.specs.Lines.{line_of_statement}
-use Rattle.stl_list.specs.Runs.{Run, runs}
+use Rattle.stl_list.specs.Runs.{StatementOps, runs}
 use Rattle.stl_list.specs.Statements.{ListingContext, body_of, label_at, label_of_end, listed_statement, statement_at, statements_from, listing_context}
 use Rattle.listing_laws.specs.Jumps.{AreLabelsOnce}
 use Rattle.listing_laws.proofs.LabelLemmas.{other_label}
@@ -51,7 +51,7 @@ end_twice : (k : ℕ) (before : List (List ℕ)) (line : ℕ) (b : Bool) (rest :
 end_twice k before line true rest few h more = one_twice k before line true rest few h more
 end_twice k before line false rest few h more = more before (others_later k before h)
 
-at_twice : (sur : ListingContext) (k : ℕ) (before : List (List ℕ)) (r : Run) (rest : List Statement) → k < 93312 → Others k before
+at_twice : (sur : ListingContext) (k : ℕ) (before : List (List ℕ)) (r : StatementOps) (rest : List Statement) → k < 93312 → Others k before
     → ((next : List (List ℕ)) → Others (suc k) next → NoneTwice next rest) → NoneTwice before (statement_at sur k r ++ rest)
 unfolding statement_at
 at_twice sur k before r rest few h more = by (suc k == length sur.lines)
@@ -60,7 +60,7 @@ at_twice sur k before r rest few h more = by (suc k == length sur.lines)
     by true = end_twice k before (line_of_statement sur.lines k) (unwrap_or (slice_get sur.targets k) false) rest few h more
     by false = one_twice k before (line_of_statement sur.lines k) (unwrap_or (slice_get sur.targets k) false) rest few h more
 
-from_twice : (sur : ListingContext) (k : ℕ) (before : List (List ℕ)) (rs : List Run) → k + length rs ≤ 93312 → Others k before → NoneTwice before (statements_from sur k rs)
+from_twice : (sur : ListingContext) (k : ℕ) (before : List (List ℕ)) (rs : List StatementOps) → k + length rs ≤ 93312 → Others k before → NoneTwice before (statements_from sur k rs)
 from_twice sur k before [] few h = refl
 from_twice sur k before (r ∷ rs) few h =
     at_twice sur k before r (statements_from sur (suc k) rs) (omega (arith, few)) h (λ next others. from_twice sur (suc k) next rs (omega (arith, few)) others)

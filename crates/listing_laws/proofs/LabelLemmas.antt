@@ -16,8 +16,8 @@ use Rattle.stl_codegen.specs.CompiledBlock.{SourceInstruction, operand_with_targ
 use Rattle.stl_codegen.specs.Instruction.{target_in}
 use Rattle.stl_list.specs.Labels.{base_36_digit, label_of_number, three_digits}
 use Rattle.stl_list.specs.Lines.{line_of_statement}
-use Rattle.stl_list.specs.Mnemonics.{mnemonic_of, word_by}
-use Rattle.stl_list.specs.Runs.{Run, target_marks}
+use Rattle.stl_list.specs.Mnemonics.{mnemonic_of, mnemonic_by}
+use Rattle.stl_list.specs.Runs.{StatementOps, target_marks}
 use Rattle.stl_list.specs.Statements.{ListingContext, body_of, label_alone, label_at, label_of_end, listed_statement, statement_at, statements_from, listing_context}
 use Rattle.listing_laws.specs.Labels.{AreLabelsApart, AreLabelsReached, HasWord}
 use Rattle.listing_laws.specs.Statements.{statement_offset, run_of}
@@ -89,7 +89,7 @@ last_found line n found rest e =
     ap (λ (o : Option (List ℕ)). target_in (label_of_number n) (label_of_end line o ++ rest)) e
     ∙ found_here (label_of_number n) (label_alone line (label_of_number n)) rest (same_label n)
 
-first_found : (sur : ListingContext) (n : ℕ) (r : Run) (rest : List Statement) → unwrap_or (slice_get sur.targets n) false ≡ true → target_in (label_of_number n) (statement_at sur n r ++ rest) ≡ 0
+first_found : (sur : ListingContext) (n : ℕ) (r : StatementOps) (rest : List Statement) → unwrap_or (slice_get sur.targets n) false ≡ true → target_in (label_of_number n) (statement_at sur n r ++ rest) ≡ 0
 unfolding statement_at
 first_found sur n r rest h = by (suc n == length sur.lines)
   where
@@ -97,7 +97,7 @@ first_found sur n r rest h = by (suc n == length sur.lines)
     by true = last_found (line_of_statement sur.lines n) n (label_at sur.targets n) rest (here sur.targets n h)
     by false = found_here (label_of_number n) (listed_statement sur n r) rest (ap (has_label (label_of_number n)) (here sur.targets n h) ∙ same_label n)
 
-next_found : (sur : ListingContext) (k n : ℕ) (r : Run) (rest : List Statement) → k < n → n < 93312 → suc k < length sur.lines → is_empty_statement (mnemonic_of r.op) ≡ false
+next_found : (sur : ListingContext) (k n : ℕ) (r : StatementOps) (rest : List Statement) → k < n → n < 93312 → suc k < length sur.lines → is_empty_statement (mnemonic_of r.op) ≡ false
     → target_in (label_of_number n) (statement_at sur k r ++ rest) ≡ 1 + target_in (label_of_number n) rest
 unfolding statement_at
 next_found sur k n r rest h few more some =
@@ -141,7 +141,7 @@ reached_from sur f k n (s ∷ ss) words size few marked low high =
         omega (arith, found, more)
 
 -- a word goes by no target
-operand_words : (f : ℕ → ℕ) (op_code : ℕ) (o : Operand) → word_by op_code (operand_with_target f o) ≡ word_by op_code (operand_with_target (λ n. n) o)
+operand_words : (f : ℕ → ℕ) (op_code : ℕ) (o : Operand) → mnemonic_by op_code (operand_with_target f o) ≡ mnemonic_by op_code (operand_with_target (λ n. n) o)
 operand_words f op_code (operand.Jump kind target) = refl
 operand_words f op_code _ = refl
 
@@ -162,4 +162,4 @@ labels_reached signatures lines b n words size few within jumps =
     let sur = listing_context signatures lines (compiled_block b) in
     let f = statement_offset b.statements in
     let found = reached_from sur f 0 n b.statements (placed_words f b.statements words) (omega (arith, size)) (omega (arith, size, few)) (targets_found b.statements n within ∙ jumps) (omega arith) (omega (arith, within)) in
-    ap (λ (rs : List Run). target_in (label_of_number n) (statements_from sur 0 rs)) (runs_found b.statements) ∙ omega (arith, found)
+    ap (λ (rs : List StatementOps). target_in (label_of_number n) (statements_from sur 0 rs)) (runs_found b.statements) ∙ omega (arith, found)

@@ -20,7 +20,7 @@ use Rattle.stl_lexer.specs.Bytes.{is_word_byte, is_word_start}
 use Rattle.stl_types.specs.Parameters.{dtime_formal, is_one_of, mode_formal, ob_nr_formal, return_value_formal, sign_formal, system_formals}
 use Rattle.stl_types.specs.declared.parameters.Formal.{Formal}
 use Rattle.stl_list.specs.Constants.{instruction_constant, open_block_name, typed_constant}
-use Rattle.stl_list.specs.JoinedParameters.{Chains, system_parameters}
+use Rattle.stl_list.specs.JoinedParameters.{PassingChains, system_parameters}
 use Rattle.stl_list.specs.Labels.{base_36_digit, label_of_number, three_digits}
 use Rattle.stl_list.specs.Parameters.{parameter_name, return_name}
 use Rattle.stl_list.specs.Signatures.{Signature, called_formals, formals_from, formals_of_block, is_behind, signatures, signatures_from}
@@ -106,7 +106,7 @@ system_named n =
     (formals_known (is_one_of (43 ∷ 46 ∷ []) n) [] _ tt
     (formals_known (nat_eq n 64) (return_value_formal simple.Time ∷ []) None (return_is, tt) tt)))))
 
-formals_named : (c : Chains) (returns behind : Bool) (index first : ℕ) (ps : List Param) → index + length ps < 2 ^ 64 → AreFormals (formals_from c returns behind index first ps)
+formals_named : (c : PassingChains) (returns behind : Bool) (index first : ℕ) (ps : List Param) → index + length ps < 2 ^ 64 → AreFormals (formals_from c returns behind index first ps)
 formals_named c returns behind index first [] h = tt
 formals_named c returns behind index first (p ∷ ps) h =
     (either_way IsNonTitleName _ return_name (parameter_name index) return_is (parameter_is index (omega (arith, h))), formals_named c returns (is_behind returns behind p) (suc index) (suc first) ps (omega (arith, h)))
@@ -118,12 +118,12 @@ IsSignature s = AreFormals s.formals × (s.instance_len ≤ 65536)
 abbrev pub AreSignatures : List Signature → Type 0
 AreSignatures ss = AllByRecursion IsSignature ss
 
-signatures_named : (c : Chains) (first : ℕ) (bs : List CodeBlock) → AllByRecursion IsListedCode bs → AreSignatures (signatures_from c first bs)
+signatures_named : (c : PassingChains) (first : ℕ) (bs : List CodeBlock) → AllByRecursion IsListedCode bs → AreSignatures (signatures_from c first bs)
 signatures_named c first [] h = tt
 signatures_named c first (b ∷ bs) (one, more) =
     ((formals_named c (is_function b.id.kind) false 0 first b.params (omega (arith, one.params)), one.instance_len), signatures_named c (first + length b.params) bs more)
 
-pub all_signatures : (c : Chains) (bs : List CodeBlock) → AllByRecursion IsListedCode bs → AreSignatures (signatures c bs)
+pub all_signatures : (c : PassingChains) (bs : List CodeBlock) → AllByRecursion IsListedCode bs → AreSignatures (signatures c bs)
 unfolding signatures
 all_signatures c bs h = signatures_named c 0 bs h
 

@@ -19,8 +19,9 @@ use Rattle.stl_ast.specs.declared.operands.Operand.TheVariants as operand
 use Rattle.stl_lexer.specs.Bytes.{is_word_byte, is_word_start}
 use Rattle.stl_types.specs.declared.parameters.Formal.{Formal}
 use Rattle.stl_list.specs.Actuals.{passed_operand}
-use Rattle.stl_list.specs.Operands.{name_of_data_block, implied_operand, instance_name, name_at, block_opened_by_ops, operand_by, own_parameter, plain_operand, timer_or_counter, block_of_use_db}
-use Rattle.stl_list.specs.Runs.{number_at}
+use Rattle.stl_parser.specs.Operands.{data_block_name}
+use Rattle.stl_list.specs.Operands.{implied_operand, instance_name, name_at, block_opened_by_ops, operand_by, own_parameter, plain_operand, timer_or_counter, block_of_use_db}
+use Rattle.stl_list.specs.Runs.{statement_number_at}
 use Rattle.print_laws.specs.Standing.{IsNonTitleName, IsNumberedOrNone, IsPrintableOperand}
 use Rattle.listing_laws.proofs.NameLemmas.{AreFormals, either_way, instruction_printable, label_is, parameter_is, typed_printable}
 use Rattle.listing_laws.proofs.RangeLemmas.{IsListedOp}
@@ -60,15 +61,15 @@ own_is formals index h named = ((name_is formals index h named).0, tt)
 
 -- ---- operands
 
-pub opened_is : (before : List OpData) → AllByRecursion IsListedOp before → IsNumberedOrNone (option_map name_of_data_block (block_opened_by_ops before))
+pub opened_is : (before : List OpData) → AllByRecursion IsListedOp before → IsNumberedOrNone (option_map data_block_name (block_opened_by_ops before))
 opened_is [] h = tt
 opened_is (op ∷ ops) (one, more) = used op.operand one.0 where
-  used : (f : FlatOperand) → payload_fits f ≡ true → IsNumberedOrNone (option_map name_of_data_block (block_of_use_db f))
+  used : (f : FlatOperand) → payload_fits f ≡ true → IsNumberedOrNone (option_map data_block_name (block_of_use_db f))
   used (flat.UseDb number) e = number_is number e
   used _ e = tt
 
 instance_is : (instance : ℕ) → instance ≤ 65535 → IsNumberedOrNone (instance_name instance)
-instance_is instance h = either_way IsNumberedOrNone (instance == 0) None (Some (name_of_data_block instance)) tt h
+instance_is instance h = either_way IsNumberedOrNone (instance == 0) None (Some (data_block_name instance)) tt h
 
 timer_is : (kind number : ℕ) → number ≤ 65535 → IsPrintableOperand (timer_or_counter kind number)
 timer_is kind number h = either_way IsPrintableOperand (kind == timer_kind) (operand.Timer number) (operand.Counter number) h h
@@ -81,7 +82,7 @@ implied_is (operation.Pointer pointers.Lar1Ar2) = (refl, refl)
 implied_is (operation.Pointer pointers.Tar1Ar2) = (refl, refl)
 implied_is _ = tt
 
-pub operand_is : (formals : List Formal) (starts : List ℕ) (opened : Option ℕ) (o : Operation) (f : FlatOperand) → AreFormals formals → IsNumberedOrNone (option_map name_of_data_block opened) → payload_fits f ≡ true → IsOffsetWritable f
+pub operand_is : (formals : List Formal) (starts : List ℕ) (opened : Option ℕ) (o : Operation) (f : FlatOperand) → AreFormals formals → IsNumberedOrNone (option_map data_block_name opened) → payload_fits f ≡ true → IsOffsetWritable f
     → IsPrintableOperand (operand_by formals starts opened o f)
 unfolding operand_by plain_operand
 operand_is formals starts opened o flat.Nothing named block e w = implied_is o
@@ -93,7 +94,7 @@ operand_is formals starts opened o (flat.ByRegister a width register bits) named
 operand_is formals starts opened o (flat.Parameter index width) named block e w = own_is formals index (omega (arith, byte_is index (and_parts (nat_lt index 256) _ e).0)) named
 operand_is formals starts opened o (flat.Numbered kind number) named block e w = timer_is kind number (number_is number (and_parts _ (nat_lt number 65536) e).1)
 operand_is formals starts opened o (flat.NumberedBy kind from byte) named block e w = number_is byte (and_parts _ (nat_lt byte 65536) (and_parts _ _ e).1).1
-operand_is formals starts opened o (flat.Jump kind target) named block e w = label_is (number_at starts target)
+operand_is formals starts opened o (flat.Jump kind target) named block e w = label_is (statement_number_at starts target)
 operand_is formals starts opened o (flat.OfStatus condition) named block e w = tt
 operand_is formals starts opened o (flat.UseDb number) named block e w = tt
 operand_is formals starts opened o (flat.Pass index p) named block e w = tt

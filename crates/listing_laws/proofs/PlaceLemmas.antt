@@ -34,7 +34,7 @@ use Rattle.stl_list.specs.Initial.{byte_at, byte_here, byte_setting, byte_settin
 use Rattle.stl_list.specs.JoinedParameters.{chains_of}
 use Rattle.stl_list.specs.Lines.{first_statement_line, line_of_statement, line_behind_statements, lines_from, stands_before}
 use Rattle.stl_list.specs.Listing.{listed_tree}
-use Rattle.stl_list.specs.Runs.{Run, runs}
+use Rattle.stl_list.specs.Runs.{StatementOps, runs}
 use Rattle.stl_list.specs.Sections.{byte_array, bytes_here, data_name, declared_here, declarations_of_section, is_declared_in, plain_declaration, section_part, section_parts, static_bytes, static_len, static_name, static_start, temporary_name}
 use Rattle.stl_list.specs.Signatures.{Signature, formals_of_block, signatures}
 use Rattle.stl_list.specs.Statements.{ListingContext, body_of, label_at, label_of_end, listed_statement, statement_at, statements_from, listing_context}
@@ -180,7 +180,7 @@ end_reaches : (reached line : ℕ) (label : Option (List ℕ)) → 1 ≤ reached
 end_reaches reached line None h le = record { on = tt; some = h; low = le }
 end_reaches reached line (Some label) h le = single_reaches reached _ h le
 
-at_reaches : (s : ListingContext) (n : ℕ) (r : Run) (reached : ℕ) → 1 ≤ reached → reached ≤ line_of_statement s.lines n → Reaches reached (line_of_statement s.lines n) (map clause.Runs (statement_at s n r))
+at_reaches : (s : ListingContext) (n : ℕ) (r : StatementOps) (reached : ℕ) → 1 ≤ reached → reached ≤ line_of_statement s.lines n → Reaches reached (line_of_statement s.lines n) (map clause.Runs (statement_at s n r))
 unfolding statement_at
 at_reaches s n r reached h le =
     either_way (λ (l : List Statement). Reaches reached (line_of_statement s.lines n) (map clause.Runs l)) (suc n == length s.lines) (label_of_end (line_of_statement s.lines n) (label_at s.targets n)) (listed_statement s n r ∷ [])
@@ -201,7 +201,7 @@ reach_joined reached last xs ys h k = subst (λ (cs : List Clause). Reaches reac
 abbrev DoRise : List ℕ → Type 0
 DoRise lines = (i : ℕ) → suc i < length lines → line_of_statement lines i ≤ line_of_statement lines (suc i)
 
-body_reaches : (s : ListingContext) (n reached : ℕ) (r : Run) (rs : List Run) → DoRise s.lines → n + length (r ∷ rs) ≡ length s.lines → 1 ≤ reached → reached ≤ line_of_statement s.lines n
+body_reaches : (s : ListingContext) (n reached : ℕ) (r : StatementOps) (rs : List StatementOps) → DoRise s.lines → n + length (r ∷ rs) ≡ length s.lines → 1 ≤ reached → reached ≤ line_of_statement s.lines n
     → Reaches reached (line_of_statement s.lines (length s.lines - 1)) (map clause.Runs (statements_from s n (r ∷ rs)))
 body_reaches s n reached r [] rise size h le =
     let last : n ≡ length s.lines - 1 = omega (arith, size) in
@@ -243,7 +243,7 @@ line_later reached (line ∷ lines) = let more = line_later (max reached line) l
 abbrev pub HasLines : CodeBlock → Type 0
 HasLines b = length (runs b.code) ≡ length b.lines
 
-block_body : (ss : List Signature) (reached : ℕ) (b : CodeBlock) (rs : List Run) (lines : List ℕ) → length rs ≡ length lines → 1 ≤ reached
+block_body : (ss : List Signature) (reached : ℕ) (b : CodeBlock) (rs : List StatementOps) (lines : List ℕ) → length rs ≡ length lines → 1 ≤ reached
     → Reaches (max reached (line_of_statement lines 0)) (line_behind_statements reached lines) (map clause.Runs (statements_from (listing_context ss (lines_from reached lines) b) 0 rs))
 block_body ss reached b [] [] e h = record { on = tt; some = omega (arith, h); low = omega arith }
 block_body ss reached b [] (line ∷ lines) e h = absurd (omega (arith, e))

@@ -5,10 +5,10 @@ use Rattle.std.specs.List.{AllByRecursion}
 use Rattle.std.proofs.lemmas.Bool.{and_parts, ltb-true, false≢true}
 use Rattle.std.proofs.lemmas.List.{length-map}
 use Rattle.flat_code.proofs.PartLemmas.{all_of_blocks, chain_parts, good_block, good_head, head_params}
-use Rattle.flat_code.specs.Codes.{are_ops, code_layout, is_nowhere, stop_at}
+use Rattle.flat_code.specs.Codes.{are_ops, code_layout, stop_at}
 use Rattle.flat_code.specs.Forms.{payload_fits}
 use Rattle.flat_code.specs.Image.{IsProgram, after_data, block_number_layout, body_layout, body_rows, bytes_fit, code_block_layout, code_blocks_layout, contents_layout, counts_layout, counts_of, data_block_layout, data_blocks_layout, data_length_layout, data_number_layout, data_row, data_rows, fields_of_data, instance_bytes_layout, instance_field, local_length_layout, names_layout, number_of_instance, parts_of_block, parts_of_records, plain_block, record_of_block, record_of_param, records_layout, records_of, row_of_body_parts, zero_u16}
-use Rattle.flat_code.specs.Layout.{chain_layout, good_many}
+use Rattle.flat_code.specs.Layout.{chain_layout, good_many, is_fine}
 use Rattle.flat_code.specs.Ops.{OpData, is_op}
 use Rattle.flat_code.specs.Programs.{CodeBlock, DataBlock, Program}
 use Rattle.stl_ast.specs.Operands.{IsNumber}
@@ -67,7 +67,7 @@ instance_fits kind n good = ltb-true n 65536 (and_parts (nat_lt n 65536) _ good)
 
 pub ops_fit : (with_code_faults : Bool) (n : ℕ) (ops : List OpData) → (code_layout with_code_faults n).good ops ≡ true → are_ops ops ≡ true
 unfolding code_layout
-ops_fit with_code_faults n ops good = (and_parts (are_ops ops) (is_nowhere (stop_at with_code_faults ops [])) (and_parts _ _ good).0).0
+ops_fit with_code_faults n ops good = (and_parts (are_ops ops) (is_fine (stop_at with_code_faults ops [])) (and_parts _ _ good).0).0
 
 good_code : (before : ℕ × ℕ) (b : CodeBlock) → (code_block_layout false before).good (record_of_block b) ≡ true → IsGoodCode b
 unfolding code_block_layout plain_block

@@ -12,7 +12,7 @@ use Rattle.flat_code.specs.declared.operands.Operand.{Operand}
 use Rattle.flat_code.specs.declared.operands.Operand.TheVariants as operand
 use Rattle.stl_codegen.specs.CompiledBlock.{SourceInstruction, operand_with_target, op_with_target, code_in, offset_from, offset_of_statement, ops_in, placed_ops}
 use Rattle.stl_codegen.specs.EmittedOps.{call_op, op_with_end_mark, use_db_ops, ops_of, pass_ops}
-use Rattle.stl_list.specs.Runs.{Run, marks_with_target, number_at, runs, runs_from, statement_starts, starts_from, target_marks}
+use Rattle.stl_list.specs.Runs.{StatementOps, marks_with_target, statement_number_at, runs, runs_from, statement_starts, starts_from, target_marks}
 use Rattle.listing_laws.specs.Statements.{AreNumbersFound, AreRunsFound, AreStartsFound, AreTargetsFound, IsCountFound, is_jump_to, jumps_to, statement_offset, run_of}
 
 -- ---- the ops of an instruction in two parts
@@ -94,7 +94,7 @@ runs_are f [] = refl
 runs_are f (s ∷ ss) =
     ap (runs_from []) (next_ops_with_targets f s ss)
     ∙ run_next [] (run_of f s.instr).before (run_of f s.instr).op (ops_with_targets f ss) (prepares f s.instr) (does f s.instr)
-    ∙ ap (λ (z : List Run). run_of f s.instr ∷ z) (runs_are f ss)
+    ∙ ap (λ (z : List StatementOps). run_of f s.instr ∷ z) (runs_are f ss)
 
 pub runs_found : AreRunsFound
 unfolding runs placed_ops
@@ -229,7 +229,7 @@ number_is f at (s ∷ ss) (suc n) =
     rw (other, number_is f (at + bytes f s) ss n) (omega arith)
 
 pub numbers_found : AreNumbersFound
-unfolding number_at
+unfolding statement_number_at
 numbers_found ss n =
     ap (λ (z : List ℕ). position_or_len (λ start. start == statement_offset ss n) z) (starts_in ss)
     ∙ ap (λ (k : ℕ). position_or_len (λ start. start == k) (offsets_from (statement_offset ss) 0 ss)) (offset_is ss n)
@@ -268,7 +268,7 @@ mark_set (b ∷ marks) (suc i) (suc n) h = mark_set marks i n (omega (arith, h))
 
 -- whether an op goes to a statement
 abbrev hits : (starts : List ℕ) → (ℕ → ℕ) → (n : ℕ) → Operand → Bool
-hits starts f n (operand.Jump kind target) = number_at starts (f target) == n
+hits starts f n (operand.Jump kind target) = statement_number_at starts (f target) == n
 hits starts f n _ = false
 
 or_false : (b : Bool) → b ≡ (b || false)
@@ -276,11 +276,11 @@ or_false true = refl
 or_false false = refl
 
 marked_length : (starts : List ℕ) (marks : List Bool) (o : Operand) → length (marks_with_target starts marks o) ≡ length marks
-marked_length starts marks (operand.Jump kind target) = length-set marks (number_at starts target) true
+marked_length starts marks (operand.Jump kind target) = length-set marks (statement_number_at starts target) true
 marked_length starts marks _ = refl
 
 mark_one : (starts : List ℕ) (f : ℕ → ℕ) (n : ℕ) (marks : List Bool) (o : Operand) → n < length marks → mark (marks_with_target starts marks (operand_with_target f o)) n ≡ (mark marks n || hits starts f n o)
-mark_one starts f n marks (operand.Jump kind target) h = mark_set marks (number_at starts (f target)) n h
+mark_one starts f n marks (operand.Jump kind target) h = mark_set marks (statement_number_at starts (f target)) n h
 mark_one starts f n marks _ h = or_false (mark marks n)
 
 marks_are : (starts : List ℕ) (f : ℕ → ℕ) (n : ℕ) (marks : List Bool) (ops : List OpData) → n < length marks

@@ -25,8 +25,8 @@ use Rattle.stl_types.specs.Labels.{rule_26}
 use Rattle.stl_codegen.specs.CompiledBlock.{SourceInstruction, StatedBlock, operand_with_target, code_in, compiled_block}
 use Rattle.stl_codegen.specs.GeneratedProgram.{code_block, code_block_of, code_blocks_of, each_block, program_of}
 use Rattle.stl_codegen.specs.Order.{is_code_before}
-use Rattle.stl_list.specs.Mnemonics.{mnemonic_of, word_by}
-use Rattle.stl_list.specs.Runs.{Run, runs, runs_from}
+use Rattle.stl_list.specs.Mnemonics.{mnemonic_of, mnemonic_by}
+use Rattle.stl_list.specs.Runs.{StatementOps, runs, runs_from}
 use Rattle.flat_code.specs.declared.operands.Passed.TheVariants as passed
 use Rattle.flat_code.specs.declared.operands.Passed.{Passed}
 use Rattle.stl_list.specs.Operands.{block_opened_by_ops}
@@ -107,7 +107,7 @@ source_printable p is w h = record { tokens = listed_printable p is w; forms = s
 
 -- ---- the program of a source
 
-abbrev HasOps : Run → Type 0
+abbrev HasOps : StatementOps → Type 0
 HasOps r = AllByRecursion IsOp r.before × IsOp r.op × IsOffsetWritable r.op.operand
 
 ops_are : (ops : List OpData) → are_ops ops ≡ true → AllByRecursion IsOp ops
@@ -124,10 +124,10 @@ block_ops : (b : CodeBlock) → are_ops b.code ≡ true → IsWrittenBlock b →
 unfolding runs
 block_ops b e w = runs_have_ops [] b.code tt (ops_are b.code e) w
 
-abbrev HasRunWord : Run → Type 0
+abbrev HasRunWord : StatementOps → Type 0
 HasRunWord r = is_empty_statement (mnemonic_of r.op) ≡ false
 
-word_aimed : (f : ℕ → ℕ) (code : ℕ) (o : FlatOperand) → word_by code (operand_with_target f o) ≡ word_by code (operand_with_target (λ n. n) o)
+word_aimed : (f : ℕ → ℕ) (code : ℕ) (o : FlatOperand) → mnemonic_by code (operand_with_target f o) ≡ mnemonic_by code (operand_with_target (λ n. n) o)
 word_aimed f code (flat.Jump kind target) = refl
 word_aimed f code _ = refl
 
@@ -179,7 +179,7 @@ shows before code (flat.ByRegister a w register bits) h k on = k
 shows before code (flat.Called kind number instance) h k on = on
 shows before code _ h k on = tt
 
-runs_of_source : (rs : List Run) → AllByRecursion HasOps rs → AllByRecursion HasRunWord rs → AllByRecursion OpensRight rs → AllByRecursion IsRunNamed rs → AllByRecursion IsSourceRun rs
+runs_of_source : (rs : List StatementOps) → AllByRecursion HasOps rs → AllByRecursion HasRunWord rs → AllByRecursion OpensRight rs → AllByRecursion IsRunNamed rs → AllByRecursion IsSourceRun rs
 runs_of_source [] ops words opens named = tt
 runs_of_source (r ∷ rs) (op, ops) (word, words) (open_, opens) (one, more) = (
   record {
@@ -199,7 +199,7 @@ all_source [] words heads writes ends opens named lines = tt
 all_source (b ∷ bs) (word, words) (head, heads) (written, writes) (end, ends) (open_, opens) (one, named) (count, lines) = (
   record {
     statements = runs_of_source (runs (code_in b.statements)) (block_ops (compiled_block b) head.code written)
-        (subst (λ (rs : List Run). AllByRecursion HasRunWord rs) (sym (runs_found b.statements)) (runs_have_words (statement_offset b.statements) b.statements word)) open_ one;
+        (subst (λ (rs : List StatementOps). AllByRecursion HasRunWord rs) (sym (runs_found b.statements)) (runs_have_words (statement_offset b.statements) b.statements word)) open_ one;
     count = count;
     end = end;
   },

@@ -17,7 +17,7 @@ use Rattle.stl_list.specs.JoinedParameters.{called_id}
 use Rattle.stl_list.specs.Labels.{label_of_number}
 use Rattle.stl_list.specs.Lines.{line_of_statement}
 use Rattle.stl_list.specs.Operands.{block_opened_by_ops}
-use Rattle.stl_list.specs.Runs.{Run, runs, runs_from}
+use Rattle.stl_list.specs.Runs.{StatementOps, runs, runs_from}
 use Rattle.stl_list.specs.Signatures.{Signature, called_formals}
 use Rattle.stl_list.specs.Statements.{ListingContext, body_of, label_at, label_of_end, listed_statement, statement_at, statements_from, listing_context}
 use Rattle.print_laws.specs.Standing.{IsNonTitleName, IsPrintableActual, IsPrintableLabel, IsPrintableStatement}
@@ -28,7 +28,7 @@ use Rattle.listing_laws.proofs.RangeLemmas.{IsListedOp}
 -- ---- runs
 
 -- the ops of a statement
-abbrev IsListedRun : Run → Type 0
+abbrev IsListedRun : StatementOps → Type 0
 IsListedRun r = AllByRecursion IsListedOp r.before × IsListedOp r.op
 
 runs_listed : (before ops : List OpData) → AllByRecursion IsListedOp before → AllByRecursion IsListedOp ops → AllByRecursion IsListedRun (runs_from before ops)
@@ -66,20 +66,20 @@ end_printable : (line : ℕ) (label : Option (List ℕ)) → IsPrintableLabel la
 end_printable line None h = tt
 end_printable line (Some label) h = ((h, tt, tt), tt)
 
-statement_printable : (s : ListingContext) (n : ℕ) (r : Run) → AreSignatures s.signatures → AreFormals s.formals → IsListedRun r → IsPrintableStatement (listed_statement s n r)
+statement_printable : (s : ListingContext) (n : ℕ) (r : StatementOps) → AreSignatures s.signatures → AreFormals s.formals → IsListedRun r → IsPrintableStatement (listed_statement s n r)
 statement_printable s n r known named (before, op) = (
   label_printable s.targets n,
   operand_is s.formals s.starts (block_opened_by_ops r.before) (operation_of r.op.code) r.op.operand named (opened_is r.before before) op.0 op.1,
   actuals_are s.signatures (line_of_statement s.lines n) s.formals r.before r.op.operand known named before,
 )
 
-at_printable : (s : ListingContext) (n : ℕ) (r : Run) → AreSignatures s.signatures → AreFormals s.formals → IsListedRun r → AllByRecursion IsPrintableStatement (statement_at s n r)
+at_printable : (s : ListingContext) (n : ℕ) (r : StatementOps) → AreSignatures s.signatures → AreFormals s.formals → IsListedRun r → AllByRecursion IsPrintableStatement (statement_at s n r)
 unfolding statement_at
 at_printable s n r known named h =
     either_way (λ l. AllByRecursion IsPrintableStatement l) (suc n == length s.lines) (label_of_end (line_of_statement s.lines n) (label_at s.targets n)) (listed_statement s n r ∷ [])
     (end_printable (line_of_statement s.lines n) (label_at s.targets n) (label_printable s.targets n)) (statement_printable s n r known named h, tt)
 
-from_printable : (s : ListingContext) (n : ℕ) (rs : List Run) → AreSignatures s.signatures → AreFormals s.formals → AllByRecursion IsListedRun rs → AllByRecursion IsPrintableStatement (statements_from s n rs)
+from_printable : (s : ListingContext) (n : ℕ) (rs : List StatementOps) → AreSignatures s.signatures → AreFormals s.formals → AllByRecursion IsListedRun rs → AllByRecursion IsPrintableStatement (statements_from s n rs)
 from_printable s n [] known named h = tt
 from_printable s n (r ∷ rs) known named (one, more) =
     all_append IsPrintableStatement (statement_at s n r) (statements_from s (suc n) rs) (at_printable s n r known named one) (from_printable s (suc n) rs known named more)

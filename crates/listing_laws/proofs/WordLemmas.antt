@@ -34,44 +34,44 @@ use Rattle.stl_codegen.specs.GeneratedProgram.{return_statement, stated_from, st
 use Rattle.stl_codegen.specs.Instruction.{call_instr, end_instr, filler_instruction, instr_by, instruction, jump_instr, resolved_instr, target_of, operand_instr}
 use Rattle.stl_codegen.specs.Operands.{numbered_operand, block_opened_by_operand, flat_operand_of, register_operand}
 use Rattle.stl_codegen.specs.Operations.{add_operation, call_operation_of, end_operation_of, jump_operation_of, load_operation, load_pointer_operation, operation_for, or_operation, store_pointer_operation, transfer_operation}
-use Rattle.stl_list.specs.Mnemonics.{jump_word, word_by, word_of}
+use Rattle.stl_list.specs.Mnemonics.{mnemonic_of_jump, mnemonic_by, mnemonic_of_code}
 use Rattle.listing_laws.specs.Labels.{AreCallWordsFound, AreEndWordsFound, AreJumpWordsFound, AreWordsFound, HasWord, HaveWords}
 use Rattle.listing_laws.proofs.RunLemmas.{same_target}
 
 -- ---- where the operand has a say
 
-or_word : (v : ResolvedOperand) → word_of (op_code_of (or_operation v)) ≡ code.O
-unfolding word_of
+or_word : (v : ResolvedOperand) → mnemonic_of_code (op_code_of (or_operation v)) ≡ code.O
+unfolding mnemonic_of_code
 or_word resolved.Nothing = refl
 or_word _ = refl
 
-load_register : (which : Register) → word_of (op_code_of (load_operation (resolved.Register which))) ≡ code.L
-unfolding word_of
+load_register : (which : Register) → mnemonic_of_code (op_code_of (load_operation (resolved.Register which))) ≡ code.L
+unfolding mnemonic_of_code
 load_register register.Stw = refl
 load_register _ = refl
 
-load_word : (v : ResolvedOperand) → word_of (op_code_of (load_operation v)) ≡ code.L
-unfolding word_of
+load_word : (v : ResolvedOperand) → mnemonic_of_code (op_code_of (load_operation v)) ≡ code.L
+unfolding mnemonic_of_code
 load_word (resolved.Register which) = load_register which
 load_word _ = refl
 
-transfer_word : (v : ResolvedOperand) → word_of (op_code_of (transfer_operation v)) ≡ code.T
-unfolding word_of
+transfer_word : (v : ResolvedOperand) → mnemonic_of_code (op_code_of (transfer_operation v)) ≡ code.T
+unfolding mnemonic_of_code
 transfer_word (resolved.Register which) = refl
 transfer_word _ = refl
 
-load_pointer_word : (v : ResolvedOperand) → word_of (op_code_of (load_pointer_operation v)) ≡ code.Lar1
-unfolding word_of
+load_pointer_word : (v : ResolvedOperand) → mnemonic_of_code (op_code_of (load_pointer_operation v)) ≡ code.Lar1
+unfolding mnemonic_of_code
 load_pointer_word (resolved.Register which) = refl
 load_pointer_word _ = refl
 
-store_pointer_word : (v : ResolvedOperand) → word_of (op_code_of (store_pointer_operation v)) ≡ code.Tar1
-unfolding word_of
+store_pointer_word : (v : ResolvedOperand) → mnemonic_of_code (op_code_of (store_pointer_operation v)) ≡ code.Tar1
+unfolding mnemonic_of_code
 store_pointer_word (resolved.Register which) = refl
 store_pointer_word _ = refl
 
-add_word : (o : Operand) → word_of (op_code_of (add_operation o)) ≡ code.Add
-unfolding word_of
+add_word : (o : Operand) → mnemonic_of_code (op_code_of (add_operation o)) ≡ code.Add
+unfolding mnemonic_of_code
 add_word (operand.Constant (literal.Long value)) = refl
 add_word (operand.Constant _) = refl
 add_word _ = refl
@@ -79,7 +79,7 @@ add_word _ = refl
 -- ---- each word
 
 pub words_found : AreWordsFound
-unfolding operation_for word_of
+unfolding operation_for mnemonic_of_code
 words_found code.Nop o v g = refl
 words_found code.Bld o v g = refl
 words_found code.A o v g = refl
@@ -213,45 +213,45 @@ is_found : {A : Type 0} (x y : A) → Some x ≡ Some y → x ≡ y
 is_found x y h = cc
 
 pub jump_words_found : AreJumpWordsFound
-unfolding jump_word
-jump_words_found code.Ju how h = ap (λ (k : JumpOperation). jump_word (jump_number k)) (sym (is_found _ how h))
-jump_words_found code.Jl how h = ap (λ (k : JumpOperation). jump_word (jump_number k)) (sym (is_found _ how h))
-jump_words_found code.Jc how h = ap (λ (k : JumpOperation). jump_word (jump_number k)) (sym (is_found _ how h))
-jump_words_found code.Jcn how h = ap (λ (k : JumpOperation). jump_word (jump_number k)) (sym (is_found _ how h))
-jump_words_found code.Jcb how h = ap (λ (k : JumpOperation). jump_word (jump_number k)) (sym (is_found _ how h))
-jump_words_found code.Jnb how h = ap (λ (k : JumpOperation). jump_word (jump_number k)) (sym (is_found _ how h))
-jump_words_found code.Jbi how h = ap (λ (k : JumpOperation). jump_word (jump_number k)) (sym (is_found _ how h))
-jump_words_found code.Jnbi how h = ap (λ (k : JumpOperation). jump_word (jump_number k)) (sym (is_found _ how h))
-jump_words_found code.Jo how h = ap (λ (k : JumpOperation). jump_word (jump_number k)) (sym (is_found _ how h))
-jump_words_found code.Jos how h = ap (λ (k : JumpOperation). jump_word (jump_number k)) (sym (is_found _ how h))
-jump_words_found code.Jz how h = ap (λ (k : JumpOperation). jump_word (jump_number k)) (sym (is_found _ how h))
-jump_words_found code.Jn how h = ap (λ (k : JumpOperation). jump_word (jump_number k)) (sym (is_found _ how h))
-jump_words_found code.Jp how h = ap (λ (k : JumpOperation). jump_word (jump_number k)) (sym (is_found _ how h))
-jump_words_found code.Jm how h = ap (λ (k : JumpOperation). jump_word (jump_number k)) (sym (is_found _ how h))
-jump_words_found code.Jpz how h = ap (λ (k : JumpOperation). jump_word (jump_number k)) (sym (is_found _ how h))
-jump_words_found code.Jmz how h = ap (λ (k : JumpOperation). jump_word (jump_number k)) (sym (is_found _ how h))
-jump_words_found code.Juo how h = ap (λ (k : JumpOperation). jump_word (jump_number k)) (sym (is_found _ how h))
-jump_words_found code.Loop how h = ap (λ (k : JumpOperation). jump_word (jump_number k)) (sym (is_found _ how h))
+unfolding mnemonic_of_jump
+jump_words_found code.Ju how h = ap (λ (k : JumpOperation). mnemonic_of_jump (jump_number k)) (sym (is_found _ how h))
+jump_words_found code.Jl how h = ap (λ (k : JumpOperation). mnemonic_of_jump (jump_number k)) (sym (is_found _ how h))
+jump_words_found code.Jc how h = ap (λ (k : JumpOperation). mnemonic_of_jump (jump_number k)) (sym (is_found _ how h))
+jump_words_found code.Jcn how h = ap (λ (k : JumpOperation). mnemonic_of_jump (jump_number k)) (sym (is_found _ how h))
+jump_words_found code.Jcb how h = ap (λ (k : JumpOperation). mnemonic_of_jump (jump_number k)) (sym (is_found _ how h))
+jump_words_found code.Jnb how h = ap (λ (k : JumpOperation). mnemonic_of_jump (jump_number k)) (sym (is_found _ how h))
+jump_words_found code.Jbi how h = ap (λ (k : JumpOperation). mnemonic_of_jump (jump_number k)) (sym (is_found _ how h))
+jump_words_found code.Jnbi how h = ap (λ (k : JumpOperation). mnemonic_of_jump (jump_number k)) (sym (is_found _ how h))
+jump_words_found code.Jo how h = ap (λ (k : JumpOperation). mnemonic_of_jump (jump_number k)) (sym (is_found _ how h))
+jump_words_found code.Jos how h = ap (λ (k : JumpOperation). mnemonic_of_jump (jump_number k)) (sym (is_found _ how h))
+jump_words_found code.Jz how h = ap (λ (k : JumpOperation). mnemonic_of_jump (jump_number k)) (sym (is_found _ how h))
+jump_words_found code.Jn how h = ap (λ (k : JumpOperation). mnemonic_of_jump (jump_number k)) (sym (is_found _ how h))
+jump_words_found code.Jp how h = ap (λ (k : JumpOperation). mnemonic_of_jump (jump_number k)) (sym (is_found _ how h))
+jump_words_found code.Jm how h = ap (λ (k : JumpOperation). mnemonic_of_jump (jump_number k)) (sym (is_found _ how h))
+jump_words_found code.Jpz how h = ap (λ (k : JumpOperation). mnemonic_of_jump (jump_number k)) (sym (is_found _ how h))
+jump_words_found code.Jmz how h = ap (λ (k : JumpOperation). mnemonic_of_jump (jump_number k)) (sym (is_found _ how h))
+jump_words_found code.Juo how h = ap (λ (k : JumpOperation). mnemonic_of_jump (jump_number k)) (sym (is_found _ how h))
+jump_words_found code.Loop how h = ap (λ (k : JumpOperation). mnemonic_of_jump (jump_number k)) (sym (is_found _ how h))
 jump_words_found _ how h = absurd cc
 
 pub call_words_found : AreCallWordsFound
-unfolding word_of
-call_words_found code.Call how h = ap (λ (k : CallOperation). word_of (op_code_of (operation.Call k))) (sym (is_found _ how h))
-call_words_found code.Uc how h = ap (λ (k : CallOperation). word_of (op_code_of (operation.Call k))) (sym (is_found _ how h))
-call_words_found code.Cc how h = ap (λ (k : CallOperation). word_of (op_code_of (operation.Call k))) (sym (is_found _ how h))
+unfolding mnemonic_of_code
+call_words_found code.Call how h = ap (λ (k : CallOperation). mnemonic_of_code (op_code_of (operation.Call k))) (sym (is_found _ how h))
+call_words_found code.Uc how h = ap (λ (k : CallOperation). mnemonic_of_code (op_code_of (operation.Call k))) (sym (is_found _ how h))
+call_words_found code.Cc how h = ap (λ (k : CallOperation). mnemonic_of_code (op_code_of (operation.Call k))) (sym (is_found _ how h))
 call_words_found _ how h = absurd cc
 
 pub end_words_found : AreEndWordsFound
-unfolding word_of
-end_words_found code.Be how h = ap (λ (k : EndOperation). word_of (op_code_of (operation.End k))) (sym (is_found _ how h))
-end_words_found code.Bec how h = ap (λ (k : EndOperation). word_of (op_code_of (operation.End k))) (sym (is_found _ how h))
-end_words_found code.Beu how h = ap (λ (k : EndOperation). word_of (op_code_of (operation.End k))) (sym (is_found _ how h))
+unfolding mnemonic_of_code
+end_words_found code.Be how h = ap (λ (k : EndOperation). mnemonic_of_code (op_code_of (operation.End k))) (sym (is_found _ how h))
+end_words_found code.Bec how h = ap (λ (k : EndOperation). mnemonic_of_code (op_code_of (operation.End k))) (sym (is_found _ how h))
+end_words_found code.Beu how h = ap (λ (k : EndOperation). mnemonic_of_code (op_code_of (operation.End k))) (sym (is_found _ how h))
 end_words_found _ how h = absurd cc
 
 -- ---- the instructions of a source have words
 
-jump_has : (how : JumpOperation) → is_empty_statement (jump_word (jump_number how)) ≡ false
-unfolding jump_word
+jump_has : (how : JumpOperation) → is_empty_statement (mnemonic_of_jump (jump_number how)) ≡ false
+unfolding mnemonic_of_jump
 jump_has jump.Ju = refl
 jump_has jump.Jl = refl
 jump_has jump.Jc = refl
@@ -271,21 +271,21 @@ jump_has jump.Jmz = refl
 jump_has jump.Juo = refl
 jump_has jump.Loop = refl
 
-call_has : (how : CallOperation) → is_empty_statement (word_of (op_code_of (operation.Call how))) ≡ false
-unfolding word_of
+call_has : (how : CallOperation) → is_empty_statement (mnemonic_of_code (op_code_of (operation.Call how))) ≡ false
+unfolding mnemonic_of_code
 call_has calls.Call = refl
 call_has calls.Uc = refl
 call_has calls.Cc = refl
 
-end_has : (how : EndOperation) → is_empty_statement (word_of (op_code_of (operation.End how))) ≡ false
-unfolding word_of
+end_has : (how : EndOperation) → is_empty_statement (mnemonic_of_code (op_code_of (operation.End how))) ≡ false
+unfolding mnemonic_of_code
 end_has ends.Be = refl
 end_has ends.Bec = refl
 end_has ends.Beu = refl
 
 -- no operand of an instruction that goes on is a jump's
 abbrev pub IsPlain : FlatOperand → Type 0
-IsPlain o = (op_code : ℕ) → word_by op_code o ≡ word_of op_code
+IsPlain o = (op_code : ℕ) → mnemonic_by op_code o ≡ mnemonic_of_code op_code
 
 register_plain : (which : Register) → IsPlain (register_operand which)
 register_plain register.Dblg n = refl
@@ -317,11 +317,11 @@ operand_plain o (resolved.OpenBlock di number) n = refl
 operand_plain o _ n = refl
 
 filler_has : HasWord filler_instruction
-unfolding word_of
+unfolding mnemonic_of_code
 filler_has = refl
 
-does_has : (u : Option ℕ) (w : Operation) (o : FlatOperand) → IsPlain o → is_empty_statement (word_of (op_code_of w)) ≡ false → HasWord (Does u w o)
-does_has u w o plain h = ap (λ (z : FlatOperand). is_empty_statement (word_by (op_code_of w) z)) (same_target o) ∙ ap is_empty_statement (plain (op_code_of w)) ∙ h
+does_has : (u : Option ℕ) (w : Operation) (o : FlatOperand) → IsPlain o → is_empty_statement (mnemonic_of_code (op_code_of w)) ≡ false → HasWord (Does u w o)
+does_has u w o plain h = ap (λ (z : FlatOperand). is_empty_statement (mnemonic_by (op_code_of w) z)) (same_target o) ∙ ap is_empty_statement (plain (op_code_of w)) ∙ h
 
 ended_has : (s : Statement) (v : ResolvedOperand) (found : Option EndOperation) → is_empty_statement s.code ≡ false → jump_operation_of s.code ≡ None → call_operation_of s.code ≡ None → end_operation_of s.code ≡ found
     → HasWord (end_instr s v found)

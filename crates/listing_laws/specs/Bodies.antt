@@ -23,7 +23,7 @@ use Rattle.stl_types.specs.declared.parameters.Formal.{Formal}
 use Rattle.stl_lexer.specs.Forms.{is_word}
 use Rattle.stl_list.specs.Mnemonics.{mnemonic_of}
 use Rattle.stl_list.specs.Operands.{block_opened_by_ops}
-use Rattle.stl_list.specs.Runs.{Run, runs, statement_starts, target_marks}
+use Rattle.stl_list.specs.Runs.{StatementOps, runs, statement_starts, target_marks}
 use Rattle.stl_list.specs.Signatures.{Signature}
 use Rattle.stl_list.specs.Statements.{body_of}
 use Rattle.print_laws.specs.Reading.{IsPrintedStatement}
@@ -78,7 +78,7 @@ IsLastOperandPrinted before code (flat.Called kind number instance) =
 IsLastOperandPrinted before code _ = Unit {0}
 
 -- the ops of a statement are such as a statement of a source has
-pub record IsSourceRun (r : Run) : Type 0 where
+pub record IsSourceRun (r : StatementOps) : Type 0 where
   -- each op before the last one is one that the tables have
   pub ops : AllByRecursion IsOp r.before
   -- the last op is one that the tables have

@@ -26,7 +26,8 @@ use Rattle.stl_list.specs.Actuals.{actuals_before}
 use Rattle.stl_list.specs.Lines.{line_of_statement}
 use Rattle.stl_list.specs.Signatures.{called_formals}
 use Rattle.stl_list.specs.Statements.{ListingContext, listed_statement}
-use Rattle.stl_list.specs.Operands.{name_of_data_block, operand_of_run}
+use Rattle.stl_parser.specs.Operands.{data_block_name}
+use Rattle.stl_list.specs.Operands.{operand_of_run}
 use Rattle.listing_laws.specs.Passings.{IsListedCall}
 use Rattle.listing_laws.specs.Statements.{run_of}
 
@@ -41,7 +42,7 @@ AreCallsListed =
     (instance : Option ℕ) (ps : List Passing) → is_callable id.kind ≡ true
     → IsInstanceNumbered instance
     → operand_of_run formals starts (run_of f (Calls how id instance ps))
-    ≡ operand.Called (block.Number id) (option_map name_of_data_block instance)
+    ≡ operand.Called (block.Number id) (option_map data_block_name instance)
 
 -- a listed call has the instruction word of the source's statement, and its actual parameters are
 -- made of the ops before the call

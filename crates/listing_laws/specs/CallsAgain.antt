@@ -20,7 +20,7 @@ use Rattle.stl_types.specs.ResolvedStatement.{resolved_operand}
 use Rattle.stl_types.specs.declared.parameters.Formal.{Formal}
 use Rattle.stl_types.specs.declared.views.ResolvedOperand.TheVariants as resolved
 use Rattle.stl_codegen.specs.Instruction.{source_block_at, in_parameter_order, instruction, passings_to}
-use Rattle.stl_list.specs.Operands.{name_of_data_block}
+use Rattle.stl_parser.specs.Operands.{data_block_name}
 use Rattle.stl_list.specs.Signatures.{Signature, called_formals, formals_of_block}
 use Rattle.stl_list.specs.Statements.{listed_statement}
 use Rattle.sem_kept.specs.AcceptedSource.{IsAccepted, program_in}
@@ -42,7 +42,7 @@ pub record IsFoundAgain
   pub found : Callee
   -- the operand that the listing has for the call finds this block
   pub is : callee_of listed
-      (operand.Called (block.Number id) (option_map name_of_data_block instance)) ≡ Some found
+      (operand.Called (block.Number id) (option_map data_block_name instance)) ≡ Some found
   -- the block found in the listing has the kind and number of the one that the source calls
   pub same : found.id ≡ callee.id
   -- the block found in the listing has as many parameters as the one that the source calls

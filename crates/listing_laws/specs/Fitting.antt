@@ -12,7 +12,8 @@ use Rattle.stl_types.specs.Resolution.{resolution_of}
 use Rattle.stl_types.specs.declared.parameters.Formal.{Formal}
 use Rattle.stl_types.specs.declared.views.Resolution.TheVariants.{Resolved}
 use Rattle.stl_types.specs.declared.views.ResolvedOperand.TheVariants as resolved
-use Rattle.stl_list.specs.Operands.{name_of_data_block, own_parameter as own_named}
+use Rattle.stl_parser.specs.Operands.{data_block_name}
+use Rattle.stl_list.specs.Operands.{own_parameter as own_named}
 use Rattle.stl_list.specs.Parameters.{section_of}
 use Rattle.listing_laws.specs.Chains.{is_listed_type}
 use Rattle.listing_laws.specs.Passings.{FitsListed}
@@ -34,7 +35,7 @@ IsBacked a c own f (passed.Parameter index width) =
     × (g.kind ≡ f.kind)
     × (resolution_of c (own_named own index) ≡ Resolved (resolved.Parameter index g.section g.kind))
 IsBacked a c own f (passed.InBlock number area width byte bit) =
-    (nat_eq number 0 ≡ false) × (data_number c (name_of_data_block number) ≡ Some number)
+    (nat_eq number 0 ≡ false) × (data_number c (data_block_name number) ≡ Some number)
 IsBacked a c own f _ = Unit {0}
 
 -- what has no fault in the code fits in the listing

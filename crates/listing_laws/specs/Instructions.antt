@@ -25,7 +25,7 @@ use Rattle.stl_types.specs.declared.views.ResolvedOperand.TheVariants as resolve
 use Rattle.stl_codegen.specs.Instruction.{instruction, target_in, target_of}
 use Rattle.stl_codegen.specs.Operations.{call_operation_of, jump_operation_of}
 use Rattle.stl_list.specs.Labels.{label_of_number}
-use Rattle.stl_list.specs.Runs.{number_at}
+use Rattle.stl_list.specs.Runs.{statement_number_at}
 use Rattle.stl_list.specs.Statements.{ListingContext, listed_statement}
 use Rattle.listing_laws.specs.Operands.{IsConstantCoded, IsOpenedAgain, IsParameterAgain}
 use Rattle.listing_laws.specs.Statements.{run_of}
@@ -90,7 +90,7 @@ AreJumpsKept =
     (c listed : Context) (context : ListingContext) (f : ℕ → ℕ) (body again : List Statement)
     (n k : ℕ) (s : Statement)
     → (jump_operation_of s.code ≡ None → ⊥)
-    → number_at context.starts (f (target_of body s.operand)) ≡ target_of body s.operand
+    → statement_number_at context.starts (f (target_of body s.operand)) ≡ target_of body s.operand
     → target_in (label_of_number (target_of body s.operand)) again ≡ target_of body s.operand
     → IsInstructionKept listed again n s.code (instruction c body n s)
     (listed_statement context k (run_of f (instruction c body n s)))

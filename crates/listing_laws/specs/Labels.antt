@@ -19,7 +19,7 @@ use Rattle.stl_codegen.specs.GeneratedProgram.{statements_of}
 use Rattle.stl_codegen.specs.Instruction.{target_in}
 use Rattle.stl_codegen.specs.Operations.{call_operation_of, end_operation_of, jump_operation_of, operation_for}
 use Rattle.stl_list.specs.Labels.{label_of_number}
-use Rattle.stl_list.specs.Mnemonics.{jump_word, mnemonic_of, word_of}
+use Rattle.stl_list.specs.Mnemonics.{mnemonic_of_jump, mnemonic_of, mnemonic_of_code}
 use Rattle.stl_list.specs.Signatures.{Signature}
 use Rattle.stl_list.specs.Statements.{body_of}
 use Rattle.listing_laws.specs.Statements.{jumps_to, run_of}
@@ -41,25 +41,25 @@ pub record IsStraightLine (m : Mnemonic) : Type 0 where
 abbrev pub AreWordsFound : Type 0
 AreWordsFound =
     (m : Mnemonic) (o : Operand) (v : ResolvedOperand) → IsStraightLine m
-    → word_of (op_code_of (operation_for m o v)) ≡ m
+    → mnemonic_of_code (op_code_of (operation_for m o v)) ≡ m
 
 -- the word of each jump is found by the number of its jump operation
 abbrev pub AreJumpWordsFound : Type 0
 AreJumpWordsFound =
     (m : Mnemonic) (how : JumpOperation) → jump_operation_of m ≡ Some how
-    → jump_word (jump_number how) ≡ m
+    → mnemonic_of_jump (jump_number how) ≡ m
 
 -- the word of each call is found by its op code
 abbrev pub AreCallWordsFound : Type 0
 AreCallWordsFound =
     (m : Mnemonic) (how : CallOperation) → call_operation_of m ≡ Some how
-    → word_of (op_code_of (operation.Call how)) ≡ m
+    → mnemonic_of_code (op_code_of (operation.Call how)) ≡ m
 
 -- the word of each block end is found by its op code
 abbrev pub AreEndWordsFound : Type 0
 AreEndWordsFound =
     (m : Mnemonic) (how : EndOperation) → end_operation_of m ≡ Some how
-    → word_of (op_code_of (operation.End how)) ≡ m
+    → mnemonic_of_code (op_code_of (operation.End how)) ≡ m
 
 -- a listing has a word for an instruction
 abbrev pub HasWord : Instr → Type 0

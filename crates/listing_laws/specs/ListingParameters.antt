@@ -8,7 +8,7 @@ use Rattle.flat_code.specs.declared.programs.Param.{Param}
 use Rattle.stl_ast.specs.declared.declarations.Simple.{Simple}
 use Rattle.block_layout.specs.Offsets.{width_of}
 use Rattle.stl_types.specs.declared.parameters.Formal.{Formal}
-use Rattle.stl_list.specs.JoinedParameters.{Chains, chains_of, first_of, kind_at, links, total_parameter_count}
+use Rattle.stl_list.specs.JoinedParameters.{PassingChains, chains_of, first_of, kind_at, links, total_parameter_count}
 use Rattle.stl_list.specs.Parameters.{section_of}
 use Rattle.stl_list.specs.Signatures.{formals_of_block, signatures}
 use Rattle.listing_laws.specs.Chains.{AreTypesAsDeclared, HasStep}
@@ -22,7 +22,7 @@ params_of_block (b ∷ bs) id = if is_same_block b.id id then b.params else para
 -- a parameter of a block as a listing has it: the one of its index, of the type that chains give to
 -- it
 pub record IsParameterOf
-    (c : Chains) (blocks : List CodeBlock) (id : BlockId) (index : ℕ) (f : Formal)
+    (c : PassingChains) (blocks : List CodeBlock) (id : BlockId) (index : ℕ) (f : Formal)
     : Type 0 where
   -- the parameter as the program has it
   pub param : Param
@@ -39,7 +39,7 @@ pub record IsParameterOf
 -- that chains of passings give to it
 abbrev pub AreParametersListed : Type 0
 AreParametersListed =
-    (c : Chains) (blocks : List CodeBlock) (id : BlockId) (index : ℕ) (f : Formal)
+    (c : PassingChains) (blocks : List CodeBlock) (id : BlockId) (index : ℕ) (f : Formal)
     → slice_get (formals_of_block (signatures c blocks) id) index ≡ Some f
     → IsParameterOf c blocks id index f
 

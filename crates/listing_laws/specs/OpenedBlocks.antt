@@ -10,7 +10,7 @@ use Rattle.block_layout.specs.declared.blocks.BlockLayout.{BlockLayout}
 use Rattle.stl_ast.specs.declared.blocks.Tree.{Tree}
 use Rattle.stl_codegen.specs.GeneratedProgram.{program_of}
 use Rattle.stl_list.specs.Operands.{block_opened_by_ops}
-use Rattle.stl_list.specs.Runs.{Run, runs}
+use Rattle.stl_list.specs.Runs.{StatementOps, runs}
 use Rattle.stl_symbols.specs.Symbol.{Symbol}
 use Rattle.listing_laws.specs.Bodies.{IsOpenedIn}
 
@@ -33,7 +33,7 @@ PreparesInOpened _ = Unit {0}
 
 -- a statement, by its ops: where it opens a data block, or passes a place in one, this place lies
 -- in area DB
-pub record OpensRight (r : Run) : Type 0 where
+pub record OpensRight (r : StatementOps) : Type 0 where
   -- a fixed place that the statement acts on lies in area DB, where the statement opens a data
   -- block
   pub acts : ActsInOpened (block_opened_by_ops r.before) r.op.operand

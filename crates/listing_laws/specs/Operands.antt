@@ -25,7 +25,8 @@ use Rattle.stl_types.specs.declared.views.ResolvedOperand.{ResolvedOperand}
 use Rattle.stl_types.specs.declared.views.ResolvedOperand.TheVariants as resolved
 use Rattle.stl_codegen.specs.Operands.{block_opened_by_operand, opened_by_place, flat_operand_of}
 use Rattle.stl_codegen.specs.Operations.{operation_for}
-use Rattle.stl_list.specs.Operands.{name_of_data_block, name_at, operand_of_run as listed_operand}
+use Rattle.stl_parser.specs.Operands.{data_block_name}
+use Rattle.stl_list.specs.Operands.{name_at, operand_of_run as listed_operand}
 use Rattle.listing_laws.specs.Labels.{IsStraightLine}
 use Rattle.listing_laws.specs.Statements.{run_of}
 
@@ -35,7 +36,7 @@ use Rattle.listing_laws.specs.Statements.{run_of}
 -- number
 abbrev pub IsOpenedAgain : Context → Option ℕ → Type 0
 IsOpenedAgain listed None = Unit {0}
-IsOpenedAgain listed (Some number) = data_number listed (name_of_data_block number) ≡ Some number
+IsOpenedAgain listed (Some number) = data_number listed (data_block_name number) ≡ Some number
 
 -- the parameter of an index stands in the tree of a listing by its name, with its width, and is an
 -- input if it was one

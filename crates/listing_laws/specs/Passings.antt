@@ -25,7 +25,8 @@ use Rattle.stl_types.specs.declared.views.ResolvedOperand.TheVariants as resolve
 use Rattle.stl_codegen.specs.EmittedOps.{pass_ops}
 use Rattle.stl_codegen.specs.Instruction.{source_block_at, in_parameter_order, passings_to}
 use Rattle.stl_list.specs.Actuals.{actuals_before}
-use Rattle.stl_list.specs.Operands.{name_of_data_block, own_parameter}
+use Rattle.stl_parser.specs.Operands.{data_block_name}
+use Rattle.stl_list.specs.Operands.{own_parameter}
 use Rattle.listing_laws.specs.Chains.{is_listed_type}
 
 -- ---- what fits
@@ -39,7 +40,7 @@ FitsListed c own f (passed.Literal value) =
 FitsListed c own f (passed.Direct a width byte bit) = width ≡ width_of f.kind
 FitsListed c own f (passed.InBlock number a width byte bit) =
     (width ≡ width_of f.kind) × (a ≡ area.Db) × (nat_eq number 0 ≡ false)
-    × (data_number c (name_of_data_block number) ≡ Some number)
+    × (data_number c (data_block_name number) ≡ Some number)
 FitsListed c own f (passed.Parameter index width) =
     (g : Formal) × (width ≡ width_of g.kind) × (g.kind ≡ f.kind)
     × (takes_section f.section g.section ≡ true)

@@ -18,7 +18,7 @@ use Rattle.block_layout.specs.declared.blocks.BlockLayout.{BlockLayout}
 use Rattle.stl_types.specs.Labels.{rule_26}
 use Rattle.stl_codegen.specs.GeneratedProgram.{program_of}
 use Rattle.stl_list.specs.Listing.{listed_source, listed_tree}
-use Rattle.stl_list.specs.Runs.{Run, runs}
+use Rattle.stl_list.specs.Runs.{StatementOps, runs}
 use Rattle.listing_laws.specs.Bodies.{IsCallBy, IsEndFree, IsPlace, IsSourceRun}
 use Rattle.listing_laws.specs.Ranges.{IsWrittenProgram}
 
@@ -61,7 +61,7 @@ ActsOnNamed before code (flat.Called kind number instance) = IsCallBy before cod
 ActsOnNamed before code _ = Unit {0}
 
 -- what a statement acts on, calls and passes is named as in a source
-pub record IsRunNamed (r : Run) : Type 0 where
+pub record IsRunNamed (r : StatementOps) : Type 0 where
   -- each place that the statement passes is named as in a source
   pub prepares : AllByRecursion (λ op. PreparesOnNamed op.operand) r.before
   -- a place that the statement acts on is named as in a source, and a call is one of a source

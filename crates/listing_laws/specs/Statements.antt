@@ -7,11 +7,11 @@ use Rattle.flat_code.specs.declared.operands.Operand.{Operand}
 use Rattle.flat_code.specs.declared.operands.Operand.TheVariants as operand
 use Rattle.stl_codegen.specs.CompiledBlock.{SourceInstruction, operand_with_target, code_in, offset_of_statement, ops_in}
 use Rattle.stl_codegen.specs.EmittedOps.{call_op, end_op, op_with_end_mark, jump_op, use_db_ops, pass_ops}
-use Rattle.stl_list.specs.Runs.{Run, number_at, runs, statement_starts, target_marks}
+use Rattle.stl_list.specs.Runs.{StatementOps, statement_number_at, runs, statement_starts, target_marks}
 
 -- the ops of an instruction as a listing takes them: those that prepare, and the last one. A
 -- function of positions makes byte offsets of its targets
-abbrev pub run_of : (ℕ → ℕ) → Instr → Run
+abbrev pub run_of : (ℕ → ℕ) → Instr → StatementOps
 run_of f (Does use_db w o) =
     record { before = use_db_ops use_db; op = op_with_end_mark w (operand_with_target f o) }
 run_of f (Jumps how target) = record { before = []; op = jump_op how (f target) }
@@ -48,7 +48,7 @@ IsCountFound =
 abbrev pub AreNumbersFound : Type 0
 AreNumbersFound =
     (statements : List SourceInstruction) (n : ℕ)
-    → number_at (statement_starts (code_in statements)) (statement_offset statements n)
+    → statement_number_at (statement_starts (code_in statements)) (statement_offset statements n)
     ≡ min n (length statements)
 
 -- whether an operand is that of a jump to the statement of a number

@@ -22,7 +22,7 @@ use Rattle.flat_code.specs.declared.operands.Operand.TheVariants as operand
 use Rattle.flat_code.specs.declared.operands.Passed.{Passed}
 use Rattle.flat_code.specs.declared.operands.Passed.TheVariants as passed
 use Rattle.flat_code.specs.declared.programs.Param.{Param}
-use Rattle.flat_code.specs.Blocks.{Environment, CalleeSeen, callee_among, parameter_meant, literal_fits, misfits_parameter, is_index, pass_index, is_passed, are_all_passed, is_short_instance, length_of_data}
+use Rattle.flat_code.specs.Blocks.{Environment, CalleeSignature, callee_among, parameter_meant, literal_fits, misfits_parameter, is_index, pass_index, is_passed, are_all_passed, is_short_instance, length_of_data}
 use Rattle.flat_code.specs.Forms.{payload_fits, passed_coding as flat_actual, width_of_number}
 use Rattle.flat_code.specs.Image.{record_of_block, record_of_param, param_of_record}
 use Rattle.flat_code.specs.Loading.{lens_of, environment_of_block}
@@ -170,7 +170,7 @@ literal_of code index value actual right is =
 -- ---- the passings of a statement
 
 op_passing :
-    (l : ImageLaws) (p : Program) (b : CodeBlock) (ps : List Param) (kind number instance : ℕ) (called : CalleeSeen) (last : OpData)
+    (l : ImageLaws) (p : Program) (b : CodeBlock) (ps : List Param) (kind number instance : ℕ) (called : CalleeSignature) (last : OpData)
     (q : PlacedOp) (index : ℕ) (actual : Passed) → AreParams ps called.2 → callee_among (block_signatures p) kind number ≡ Some called
     → last.operand ≡ operand.Called kind number instance → IsVerifiedOp p b q → last_op q ≡ last
     → q.op.operand ≡ operand.Pass index actual
@@ -183,7 +183,7 @@ op_passing l p b ps kind number instance called last q index actual params there
     (one.0, one.1, actual_fits p b one.0 fits.parameter actual one.2 prepared.2 fits.fits (λ value e. literal_of q.op.code index value actual right e))
 
 pub passings_fit :
-    (l : ImageLaws) (p : Program) (b : CodeBlock) (ps : List Param) (kind number instance : ℕ) (called : CalleeSeen) (last : OpData)
+    (l : ImageLaws) (p : Program) (b : CodeBlock) (ps : List Param) (kind number instance : ℕ) (called : CalleeSignature) (last : OpData)
     (ops : List OpData) → AreParams ps called.2 → callee_among (block_signatures p) kind number ≡ Some called
     → last.operand ≡ operand.Called kind number instance → AllBefore p b last ops
     → PassingsFit b.id.kind b.params ps (passings_of ops)

@@ -34,7 +34,7 @@ use Rattle.flat_code.specs.declared.table.OperandForms.TheVariants as forms
 use Rattle.flat_code.specs.declared.operations.TheConstants.{OPERATIONS}
 use Rattle.flat_code.specs.declared.operations.Operation.{Operation}
 use Rattle.flat_code.specs.declared.operations.Operation.TheVariants as operation
-use Rattle.flat_code.specs.Blocks.{CalleeSeen, callee_among, system_params, are_all_passed, is_bad_instance, is_short_instance, length_of_data, leads_to_target, is_ju_operand, is_in_db, prepares_statement, writes_operand}
+use Rattle.flat_code.specs.Blocks.{CalleeSignature, callee_among, system_params, are_all_passed, is_bad_instance, is_short_instance, length_of_data, leads_to_target, is_ju_operand, is_in_db, prepares_statement, writes_operand}
 use Rattle.flat_code.specs.Codes.{size_of_op}
 use Rattle.flat_code.specs.Instr.{Instr, Does, Jumps, JumpsByList, Calls, Returns}
 use Rattle.flat_code.specs.Kinds.{jump_of_number}
@@ -467,7 +467,7 @@ behind_call l p a w at how is = record {
   statement_start = next_same l p a w at (operation.Call how) is refl (λ held. refl);
 }
 
-no_instance : (lens : List (ℕ × ℕ)) (called : CalleeSeen) (instance : ℕ) → (called.0 ≡ 3 → ⊥) → is_bad_instance lens called instance ≡ false → instance_named instance ≡ None
+no_instance : (lens : List (ℕ × ℕ)) (called : CalleeSignature) (instance : ℕ) → (called.0 ≡ 3 → ⊥) → is_bad_instance lens called instance ≡ false → instance_named instance ≡ None
 no_instance lens called instance other h =
     let e : eqb called.0 3 ≡ false = ne_eqb called.0 3 other in
     by (eqb instance 0) (rw e at h)
@@ -477,7 +477,7 @@ no_instance lens called instance other h =
     by false e = absurd cc
 
 has_instance :
-    (p : Program) (m : Areas) (b : CodeBlock) (called : CalleeSeen) (instance : ℕ) → called ≡ (3, b.instance_len, map record_of_param b.params)
+    (p : Program) (m : Areas) (b : CodeBlock) (called : CalleeSignature) (instance : ℕ) → called ≡ (3, b.instance_len, map record_of_param b.params)
     → IsMemoryOf (code_of p) m → is_bad_instance (lens_of p.data_blocks) called instance ≡ false
     → HasInstance kinds.Fb (block_head_of b) m (instance_named instance)
 has_instance p m b called instance is memory h = by (eqb instance 0) (rw is at h)
@@ -499,8 +499,8 @@ call_function l p a w at how number instance operation_is is =
     let fit = fit_of l p a w at 2 number instance is in
     let one = l.called p 2 number fit.called (inl refl) fit.there in
     let b = one.block in
-    let other : fit.called.0 ≡ 3 → ⊥ = λ e. let two : fit.called.0 ≡ 2 = ap (λ (z : CalleeSeen). z.0) one.same in omega (arith, e, two) in
-    let rs : fit.called.2 ≡ map record_of_param b.params = ap (λ (z : CalleeSeen). z.2) one.same in
+    let other : fit.called.0 ≡ 3 → ⊥ = λ e. let two : fit.called.0 ≡ 2 = ap (λ (z : CalleeSignature). z.0) one.same in omega (arith, e, two) in
+    let rs : fit.called.2 ≡ map record_of_param b.params = ap (λ (z : CalleeSignature). z.2) one.same in
     let params : AreParams b.params fit.called.2 = subst (λ (z : List ParameterRecord). AreParams b.params z) (sym rs) (of_blocks b.params) in
     let all : are_all_passed 0 (map record_of_param b.params) at.here.run.before ≡ true =
     ap (λ (z : List ParameterRecord). are_all_passed 0 z at.here.run.before) (sym rs) ∙ call_all l p a w at 2 number instance is other in
@@ -517,7 +517,7 @@ call_function_block l p a w at how number instance operation_is is =
     let fit = fit_of l p a w at 3 number instance is in
     let one = l.called p 3 number fit.called (inr refl) fit.there in
     let b = one.block in
-    let rs : fit.called.2 ≡ map record_of_param b.params = ap (λ (z : CalleeSeen). z.2) one.same in
+    let rs : fit.called.2 ≡ map record_of_param b.params = ap (λ (z : CalleeSignature). z.2) one.same in
     let params : AreParams b.params fit.called.2 = subst (λ (z : List ParameterRecord). AreParams b.params z) (sym rs) (of_blocks b.params) in
     rw (head_there p (record { kind = kinds.Fb; number = number }) b one.there)
     (function_block_lasts l p a w at.here.run.next number at.here.statement_start.b b (instance_named instance) (passings_of at.here.run.before)
@@ -525,16 +525,16 @@ call_function_block l p a w at how number instance operation_is is =
     (has_instance p w.memory b fit.called instance one.same at.fits.memory fit.instance_fits))
 
 -- the parameters of a system function
-record IsFunction (number : ℕ) (called : CalleeSeen) : Type 0 where
+record IsFunction (number : ℕ) (called : CalleeSignature) : Type 0 where
   records : List ParameterRecord
   is : system_params number ≡ Some records
   same : called ≡ (5, 0, records)
 
-function_found : (o : Option (List ParameterRecord)) (called : CalleeSeen) → option_map (λ (rs : List ParameterRecord). (5, 0, rs)) o ≡ Some called → (rs : List ParameterRecord) × (o ≡ Some rs) × (called ≡ (5, 0, rs))
+function_found : (o : Option (List ParameterRecord)) (called : CalleeSignature) → option_map (λ (rs : List ParameterRecord). (5, 0, rs)) o ≡ Some called → (rs : List ParameterRecord) × (o ≡ Some rs) × (called ≡ (5, 0, rs))
 function_found (Some rs) called e = (rs, refl, sym (same_Some (5, 0, rs) called e))
 function_found None called e = absurd cc
 
-is_function : (p : Program) (number : ℕ) (called : CalleeSeen) → callee_among (block_signatures p) 5 number ≡ Some called → IsFunction number called
+is_function : (p : Program) (number : ℕ) (called : CalleeSignature) → callee_among (block_signatures p) 5 number ≡ Some called → IsFunction number called
 unfolding callee_among
 is_function p number called e = let r = function_found (system_params number) called e in record { records = r.0; is = r.1; same = r.2 }
 
@@ -548,8 +548,8 @@ call_system_function :
 call_system_function l p a w at how number instance operation_is is =
     let fit = fit_of l p a w at 5 number instance is in
     let one = is_function p number fit.called fit.there in
-    let rs : fit.called.2 ≡ one.records = ap (λ (z : CalleeSeen). z.2) one.same in
-    let other : fit.called.0 ≡ 3 → ⊥ = λ e. let five : fit.called.0 ≡ 5 = ap (λ (z : CalleeSeen). z.0) one.same in omega (arith, e, five) in
+    let rs : fit.called.2 ≡ one.records = ap (λ (z : CalleeSignature). z.2) one.same in
+    let other : fit.called.0 ≡ 3 → ⊥ = λ e. let five : fit.called.0 ≡ 5 = ap (λ (z : CalleeSignature). z.0) one.same in omega (arith, e, five) in
     let params : AreParams (map param_of_record one.records) fit.called.2 =
     subst (λ (z : List ParameterRecord). AreParams (map param_of_record one.records) z) (sym rs) (of_functions one.records) in
     let all : are_all_passed 0 one.records at.here.run.before ≡ true =

@@ -11,7 +11,7 @@ use Rattle.plc_base.specs.declared.blocks.BlockKind.TheVariants as kinds
 use Rattle.plc_mem.specs.Areas.{Areas}
 use Rattle.frames.specs.declared.Activation.{Activation}
 use Rattle.frames.specs.declared.frame.Frame.{Frame}
-use Rattle.flat_code.specs.Blocks.{CalleeSeen, callee_among, system_params}
+use Rattle.flat_code.specs.Blocks.{CalleeSignature, callee_among, system_params}
 use Rattle.flat_code.specs.Image.{param_of_record, kind_of_number}
 use Rattle.flat_code.specs.Instr.{Does, Passing}
 use Rattle.flat_code.specs.Kinds.{jump_of_number}
@@ -91,7 +91,7 @@ head_there :
 head_there p number found kind b e h = rw (sym e) (rw h refl)
 
 fc_there :
-    (p : Program) (kind number : ℕ) (called : CalleeSeen) → CalledAreThere → kind ≡ 2
+    (p : Program) (kind number : ℕ) (called : CalleeSignature) → CalledAreThere → kind ≡ 2
     → callee_among (block_signatures p) kind number ≡ Some called → IsNumberCallable p number kinds.Fc
 fc_there p kind number called law e h =
     let is : IsCalledBlock p kind number called = law p kind number called (inl e) h
@@ -99,7 +99,7 @@ fc_there p kind number called law e h =
     in head_there p number (kind_of_number kind) kinds.Fc is.block same is.there
 
 fb_there :
-    (p : Program) (kind number : ℕ) (called : CalleeSeen) → CalledAreThere → kind ≡ 3
+    (p : Program) (kind number : ℕ) (called : CalleeSignature) → CalledAreThere → kind ≡ 3
     → callee_among (block_signatures p) kind number ≡ Some called → IsNumberCallable p number kinds.Fb
 fb_there p kind number called law e h =
     let is : IsCalledBlock p kind number called = law p kind number called (inr e) h
@@ -107,7 +107,7 @@ fb_there p kind number called law e h =
     in head_there p number (kind_of_number kind) kinds.Fb is.block same is.there
 
 sfc_there :
-    (p : Program) (kind number : ℕ) (called : CalleeSeen) → kind ≡ 5
+    (p : Program) (kind number : ℕ) (called : CalleeSignature) → kind ≡ 5
     → callee_among (block_signatures p) kind number ≡ Some called → IsNumberCallable p number kinds.Sfc
 unfolding callee_among
 sfc_there p kind number called e h =
@@ -128,7 +128,7 @@ pub callable_kind : (kind : ℕ) → is_callable_number kind ≡ true → IsCall
 callable_kind kind h = grind (arith, nat_tests, h)
 
 called_there :
-    (p : Program) (kind number : ℕ) (called : CalleeSeen) (k : BlockKind) → IsCallable kind → CalledAreThere
+    (p : Program) (kind number : ℕ) (called : CalleeSignature) (k : BlockKind) → IsCallable kind → CalledAreThere
     → callee_among (block_signatures p) kind number ≡ Some called → kind_of_code kind ≡ Some k → IsNumberCallable p number k
 called_there p kind number called k (inl e) law h is =
     rw (sym (same_Some kinds.Fc k (sym (ap kind_of_code e) ∙ is))) (fc_there p kind number called law e h)

@@ -3,7 +3,7 @@ use Rattle.std.specs.Prelude.{◌≡◌, ℕ, List, [], Option, Some, None}
 use Rattle.std.specs.List.{AllByRecursion}
 use Rattle.flat_code.specs.Blocks.{Environment, block_faults, bracket_fault, jump_fault, zone_fault}
 use Rattle.flat_code.specs.Ops.{OpData}
-use Rattle.flat_code.specs.PlacedOps.{PlacedOp, StatementSpot, open_behind, code_places, statement_spots, zones_left}
+use Rattle.flat_code.specs.PlacedOps.{PlacedOp, StatementStart, open_behind, code_places, starts_of_statements, zones_left}
 use Rattle.flat_code.specs.declared.operands.Operand.{Operand}
 use Rattle.flat_code.specs.declared.operands.Operand.TheVariants as operand
 use Rattle.stl_ast.specs.declared.blocks.Tree.{Tree}
@@ -15,12 +15,12 @@ use Rattle.sem_kept.specs.AcceptedSource.{IsAccepted}
 use Rattle.sem_kept.specs.Operands.{HaveNoOperandFaults}
 
 -- a jump, and nothing else, is checked by the statements of its block
-abbrev pub jump_fault_of : List StatementSpot → PlacedOp → Operand → Option ℕ
+abbrev pub jump_fault_of : List StatementStart → PlacedOp → Operand → Option ℕ
 jump_fault_of statements p (operand.Jump kind target) = jump_fault statements p kind target
 jump_fault_of statements p _ = None
 
 -- an op whose jump, bracket and zone have no fault
-pub record LandsRight (statements : List StatementSpot) (p : PlacedOp) : Type 0 where
+pub record LandsRight (statements : List StatementStart) (p : PlacedOp) : Type 0 where
   -- its jump, if it is one, leads to a statement as it may
   pub jump : jump_fault_of statements p p.op.operand ≡ None
   -- it neither closes a bracket that isn't open nor opens one too many
@@ -32,7 +32,7 @@ pub record LandsRight (statements : List StatementSpot) (p : PlacedOp) : Type 0 
 -- no zone is open
 pub record AllLandRight (ops : List OpData) : Type 0 where
   -- no op has a fault by its jump, bracket or zone
-  pub each : AllByRecursion (LandsRight (statement_spots ops)) (code_places ops)
+  pub each : AllByRecursion (LandsRight (starts_of_statements ops)) (code_places ops)
   -- no bracket is open behind the last op
   pub closed : open_behind 0 [] ops ≡ []
   -- no zone is open behind the last op
@@ -51,5 +51,5 @@ abbrev pub NoOperandFaultIsNoFault : Type 0
 NoOperandFaultIsNoFault =
     (a : Environment) (lens : List (ℕ × ℕ)) (start : ℕ) (ops : List OpData)
     → a.data_lens ≡ Some lens
-    → HaveNoOperandFaults a lens (statement_spots ops) (code_places ops) → AllLandRight ops
+    → HaveNoOperandFaults a lens (starts_of_statements ops) (code_places ops) → AllLandRight ops
     → block_faults a start ops ≡ []

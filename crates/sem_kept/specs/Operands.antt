@@ -1,13 +1,13 @@
 -- When the ops of a block have no fault by their operands, their end marks and their calls.
 use Rattle.std.specs.Prelude.{◌≡◌, ℕ, true, false, ◌&&◌, List, [], ◌∷◌, map, Option, Some, None}
 use Rattle.std.specs.List.{AllByRecursion}
-use Rattle.flat_code.specs.Blocks.{Environment, CalleeSeen, callee_among, call_fault, is_above, is_bad_actual, is_bad_call, is_bad_place, is_in_db, is_in_parameter, lacks_own_parameter, lacks_width, mark_fault, misfits_callee, operand_fault, parameter_meant, prepares_statement, writes_operand}
+use Rattle.flat_code.specs.Blocks.{Environment, CalleeSignature, callee_among, call_fault, is_above, is_bad_actual, is_bad_call, is_bad_place, is_in_db, is_in_parameter, lacks_own_parameter, lacks_width, mark_fault, misfits_callee, operand_fault, parameter_meant, prepares_statement, writes_operand}
 use Rattle.flat_code.specs.Instr.{Instr, Passing, Does, Calls}
 use Rattle.flat_code.specs.OpCodes.{op_code_of}
 use Rattle.flat_code.specs.Ops.{OpData}
 use Rattle.flat_code.specs.Image.{record_of_block}
 use Rattle.flat_code.specs.Loading.{environment_of_block, lens_of}
-use Rattle.flat_code.specs.PlacedOps.{PlacedOp, StatementSpot, code_places, statement_spots}
+use Rattle.flat_code.specs.PlacedOps.{PlacedOp, StatementStart, code_places, starts_of_statements}
 use Rattle.flat_code.specs.Programs.{CodeBlock, Program}
 use Rattle.flat_code.specs.declared.operands.Operand.{Operand}
 use Rattle.flat_code.specs.declared.operands.Operand.TheVariants as operand
@@ -46,7 +46,8 @@ IsOpenedFor o (Some number) = is_in_db o ≡ true
 
 -- what a CALL passes to the block that is seen: each parameter by an index above the last one
 -- before it, with an actual parameter that isn't bad and fits
-abbrev pub ArePassed : Environment → Option CalleeSeen → (before : Option ℕ) → List Passing → Type 0
+abbrev pub ArePassed : Environment → Option CalleeSignature → (before : Option ℕ) → List Passing
+    → Type 0
 ArePassed a s before [] = Unit {0}
 ArePassed a s before (p ∷ ps) =
     (is_above p.index before ≡ true) × (is_bad_actual a p.actual ≡ false)
@@ -74,7 +75,7 @@ InstrFits a lens _ = Unit {0}
 
 -- an op has no fault by its operand, but a jump's, by its call or by its end mark
 pub record HasNoOperandFault
-    (a : Environment) (lens : List (ℕ × ℕ)) (ss : List StatementSpot) (p : PlacedOp)
+    (a : Environment) (lens : List (ℕ × ℕ)) (ss : List StatementStart) (p : PlacedOp)
     : Type 0 where
   -- its operand has no fault, where it is no jump's
   pub operand : IsStill p.op.operand → operand_fault a ss p p.op.operand ≡ None
@@ -85,7 +86,7 @@ pub record HasNoOperandFault
 
 -- each of these ops has no fault by its operand, but a jump's, by its call or by its end mark
 abbrev pub HaveNoOperandFaults :
-    Environment → List (ℕ × ℕ) → List StatementSpot → List PlacedOp → Type 0
+    Environment → List (ℕ × ℕ) → List StatementStart → List PlacedOp → Type 0
 HaveNoOperandFaults a lens ss ps = AllByRecursion (HasNoOperandFault a lens ss) ps
 
 -- ---- a program
@@ -97,7 +98,7 @@ BlockHasNoOperandFault p b =
     HaveNoOperandFaults
     (environment_of_block (Some (lens_of p.data_blocks)) (map record_of_block p.code_blocks)
     (record_of_block b))
-    (lens_of p.data_blocks) (statement_spots b.code) (code_places b.code)
+    (lens_of p.data_blocks) (starts_of_statements b.code) (code_places b.code)
 
 -- the ops of each block of an accepted source, whose elements are bytes, have no fault by their
 -- operands, calls and end marks

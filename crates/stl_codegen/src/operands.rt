@@ -16,7 +16,7 @@ ghost use Rattle.stl_codegen.specs.Operands.{
 use block_layout::{bits_of, width_of};
 use flat_code::{
     COUNTER_KIND, DB_REGISTER_NUMBER, DI_REGISTER_NUMBER, Operand as FlatOperand, TIMER_KIND,
-    condition_of,
+    condition_number,
 };
 use plc_base::{Area, Place, Width};
 use stl_ast::{Numbered, Operand};
@@ -188,7 +188,7 @@ pub(crate) fn operand_of(operand: &Operand, view: ResolvedOperand) -> Option<Fla
             value: pointer_bits(area, byte, bit),
         }),
         ResolvedOperand::OfStatus { flag } => Some(FlatOperand::OfStatus {
-            condition: condition_of(flag),
+            condition: condition_number(flag),
         }),
         ResolvedOperand::Register { which } => Some(register_operand(which)),
         ResolvedOperand::OpenBlock { di, number } => Some(FlatOperand::OpenBlock {

@@ -11,7 +11,7 @@ use Rattle.std.proofs.lemmas.List.Sorted.{searched}
 use Rattle.std.proofs.lemmas.Map.Keys.{below_from_sorted}
 use Rattle.flat_code.specs.Codes.{code_bytes, size_of_op}
 use Rattle.flat_code.specs.Ops.{OpData, op_bytes}
-use Rattle.stl_list.specs.Runs.{number_at, runs_from, start_here, statement_starts, starts_from}
+use Rattle.stl_list.specs.Runs.{statement_number_at, runs_from, start_here, statement_starts, starts_from}
 
 -- ---- they rise
 
@@ -91,14 +91,14 @@ not_falling xs h i j le lt = by_test (ltb i j) refl
         let same : i ≡ j = grind (arith, nat_tests) in
         rw same (omega arith)
 
-pub found_at : (starts : List ℕ) (x i : ℕ) → IsStrictlySortedBy nat_cmp starts → IsBinarySearchResult (λ y. nat_cmp y x) starts (Ok i) → i ≡ number_at starts x
-unfolding number_at
+pub found_at : (starts : List ℕ) (x i : ℕ) → IsStrictlySortedBy nat_cmp starts → IsBinarySearchResult (λ y. nat_cmp y x) starts (Ok i) → i ≡ statement_number_at starts x
+unfolding statement_number_at
 found_at starts x i rise h =
     let s = searched starts x (Ok i) h (not_falling starts rise) in
     sym (position_of_first x starts i s.0 s.1 (λ k lt. rw (sym s.1) (below_from_sorted starts k i 0 rise lt s.0)))
 
-pub found_nowhere : (starts : List ℕ) (x i : ℕ) → IsStrictlySortedBy nat_cmp starts → IsBinarySearchResult (λ y. nat_cmp y x) starts (Err i) → length starts ≡ number_at starts x
-unfolding number_at
+pub found_nowhere : (starts : List ℕ) (x i : ℕ) → IsStrictlySortedBy nat_cmp starts → IsBinarySearchResult (λ y. nat_cmp y x) starts (Err i) → length starts ≡ statement_number_at starts x
+unfolding statement_number_at
 found_nowhere starts x i rise h =
     let s = searched starts x (Err i) h (not_falling starts rise) in
     sym (absent x starts i s.1 s.2)

@@ -11,9 +11,9 @@ use Rattle.stl_ast.specs.declared.declarations.ElementType.TheVariants as elemen
 use Rattle.stl_ast.specs.declared.declarations.TypeTree.{TypeTree}
 use Rattle.stl_ast.specs.declared.names.BlockName.{BlockName}
 use Rattle.stl_ast.specs.declared.names.BlockName.TheVariants as block
+use Rattle.stl_parser.specs.Operands.{data_block_name}
 use Rattle.stl_list.specs.Sections.{bytes_here, data_name}
 use Rattle.stl_list.specs.Initial.{settings_of, values_of}
-use Rattle.stl_list.specs.Operands.{name_of_data_block}
 use Rattle.stl_list.specs.Signatures.{Signature}
 
 -- a data block on a line: a structure with its components, or an instance with its settings
@@ -23,7 +23,7 @@ data_block_tree line number shape components instance_of settings = record {
   line = line;
   end_line = line;
   kind = kinds.Db;
-  name = name_of_data_block number;
+  name = data_block_name number;
   result = None;
   parts = [];
   shape = shape;

@@ -22,7 +22,7 @@ use Rattle.stl_types.specs.declared.parameters.Formal.{Formal}
 use Rattle.stl_list.specs.declared.links.Link.{Link}
 use Rattle.stl_list.specs.declared.links.Link.TheVariants.{Joins, Has}
 use Rattle.stl_list.specs.Parameters.{kind_of_width}
-use Rattle.stl_list.specs.Runs.{Run, runs}
+use Rattle.stl_list.specs.Runs.{StatementOps, runs}
 
 -- ---- blocks that are called
 
@@ -101,7 +101,7 @@ run_links blocks first before (flat.Called kind number instance) =
 run_links blocks first before _ = []
 
 -- the links of statements
-abbrev pub links_of_runs : List CodeBlock → (first : ℕ) → List Run → List Link
+abbrev pub links_of_runs : List CodeBlock → (first : ℕ) → List StatementOps → List Link
 links_of_runs blocks first rs =
     flat_map (λ r. run_links blocks first r.before r.op.operand) rs
 
@@ -178,7 +178,7 @@ marks_of is_meant labels links =
 -- ---- types
 
 -- the labels of all parameters, and which labels are INT or TIME
-pub record Chains : Type 0 where
+pub record PassingChains : Type 0 where
   -- of each parameter, by its number, the label that all have that a chain joins to it
   pub labels : List ℕ
   -- of each label whether a chain joins it to an INT of a system function
@@ -187,7 +187,7 @@ pub record Chains : Type 0 where
   pub times : List Bool
 
 -- the chains of parameters with these labels, by links that say which are INT or TIME
-abbrev pub chains_by : (labels : List ℕ) → List Link → Chains
+abbrev pub chains_by : (labels : List ℕ) → List Link → PassingChains
 chains_by labels links = record {
   labels = labels;
   ints = marks_of is_int_kind labels links;
@@ -195,7 +195,7 @@ chains_by labels links = record {
 }
 
 -- the chains of a program
-unfoldable pub chains_of : List CodeBlock → Chains
+unfoldable pub chains_of : List CodeBlock → PassingChains
 chains_of blocks =
     chains_by (chain_labels (total_parameter_count blocks) (links blocks)) (links blocks)
 
@@ -211,7 +211,7 @@ kind_by false true width = simple.Time
 kind_by false false width = kind_of_width width
 
 -- the type of the parameter of a number
-unfoldable pub kind_at : Chains → (parameter : ℕ) → Width → Simple
+unfoldable pub kind_at : PassingChains → (parameter : ℕ) → Width → Simple
 kind_at c parameter width =
     kind_by (mark_at c.ints (slice_get c.labels parameter))
     (mark_at c.times (slice_get c.labels parameter)) width

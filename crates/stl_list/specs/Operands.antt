@@ -1,7 +1,6 @@
 -- The operand of a statement by that of its op.
 use Rattle.std.specs.Prelude.{ℕ, ◌==◌, Bool, true, false, List, [], ◌∷◌, codes, Option, Some, None, if◌then◌else◌, slice_get}
 use Rattle.std.specs.Option.{option_map}
-use Rattle.plc_base.specs.declared.blocks.BlockKind.TheVariants as kinds
 use Rattle.plc_base.specs.declared.places.Area.{Area}
 use Rattle.plc_base.specs.declared.places.Area.TheVariants as area
 use Rattle.plc_base.specs.declared.places.Width.{Width}
@@ -23,11 +22,12 @@ use Rattle.stl_ast.specs.declared.operands.Operand.{Operand}
 use Rattle.stl_ast.specs.declared.operands.Operand.TheVariants as operand
 use Rattle.stl_ast.specs.declared.operands.PathHead.TheVariants as head
 use Rattle.stl_types.specs.declared.parameters.Formal.{Formal}
+use Rattle.stl_parser.specs.Operands.{data_block_name}
 use Rattle.stl_list.specs.Constants.{instruction_constant}
 use Rattle.stl_list.specs.JoinedParameters.{called_id}
 use Rattle.stl_list.specs.Labels.{label_of_number}
 use Rattle.stl_list.specs.Parameters.{parameter_name}
-use Rattle.stl_list.specs.Runs.{Run, number_at}
+use Rattle.stl_list.specs.Runs.{StatementOps, statement_number_at}
 
 -- the letters of an area; those of peripherals say which way they are used
 abbrev pub letters_for_area : (writes : Bool) → Area → Letters
@@ -54,10 +54,6 @@ operation_writes_operand (operation.Pointer pointers.Tar1) = true
 operation_writes_operand (operation.Pointer pointers.Tar2) = true
 operation_writes_operand _ = false
 
--- a data block by its number
-abbrev pub name_of_data_block : ℕ → BlockName
-name_of_data_block number = block.Number (record { kind = kinds.Db; number = number })
-
 -- the data block that USEDB names, if an op is one
 abbrev pub block_of_use_db : FlatOperand → Option ℕ
 block_of_use_db (flat.UseDb number) = Some number
@@ -69,7 +65,8 @@ abbrev pub block_opened_by_ops : List OpData → Option ℕ
 block_opened_by_ops [] = None
 block_opened_by_ops (op ∷ ops) = block_of_use_db op.operand
 
--- the name of the parameter of an index
+-- the name that a block's parameter of an index has among `formals`; `p` and the index where there
+-- is none
 abbrev pub name_at : List Formal → ℕ → List ℕ
 name_at formals index = name_or index (slice_get formals index)
   where
@@ -106,14 +103,14 @@ data_block_register register =
 
 -- the instance of a call by its number; 0 is none
 abbrev pub instance_name : ℕ → Option BlockName
-instance_name instance = if instance == 0 then None else Some (name_of_data_block instance)
+instance_name instance = if instance == 0 then None else Some (data_block_name instance)
 
 -- the operand of a fixed place, in the data block that the statement opens first, if it opens one;
 -- `writes`: whether the instruction writes it
 abbrev pub direct_operand : (opened : Option ℕ) → (writes : Bool) → Area → Width → (byte bit : ℕ)
     → Operand
 direct_operand opened writes a width byte bit =
-    operand.Direct (option_map name_of_data_block opened) (letters_for_area writes a) width byte bit
+    operand.Direct (option_map data_block_name opened) (letters_for_area writes a) width byte bit
 
 -- a condition of the status word; USEDB and PASS, which only prepare, have no operand
 abbrev pub condition_operand : FlatOperand → Operand
@@ -134,7 +131,7 @@ plain_operand opened o (flat.NumberedBy kind from byte) =
 plain_operand opened o (flat.Called kind number instance) =
     operand.Called (block.Number (called_id kind number)) (instance_name instance)
 plain_operand opened o (flat.OpenBlock register number) =
-    operand.OpenBlock (register == di_register_number) (name_of_data_block number)
+    operand.OpenBlock (register == di_register_number) (data_block_name number)
 plain_operand opened o (flat.OpenBy register from byte) =
     operand.NumberBy (data_block_register register) (read_letters from) byte
 plain_operand opened o other = condition_operand other
@@ -147,10 +144,10 @@ operand_by formals starts opened o flat.Nothing = implied_operand o
 operand_by formals starts opened o (flat.Literal value) = instruction_constant o value
 operand_by formals starts opened o (flat.Parameter index width) = own_parameter formals index
 operand_by formals starts opened o (flat.Jump kind target) =
-    operand.Label (label_of_number (number_at starts target))
+    operand.Label (label_of_number (statement_number_at starts target))
 operand_by formals starts opened o other = plain_operand opened o other
 
 -- the operand of a statement
-abbrev pub operand_of_run : List Formal → (starts : List ℕ) → Run → Operand
+abbrev pub operand_of_run : List Formal → (starts : List ℕ) → StatementOps → Operand
 operand_of_run formals starts r =
     operand_by formals starts (block_opened_by_ops r.before) (operation_of r.op.code) r.op.operand

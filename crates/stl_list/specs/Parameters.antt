@@ -3,14 +3,14 @@ use Rattle.std.specs.Prelude.{ℕ, ◌==◌, Bool, List, ◌++◌, codes, decima
 use Rattle.std.specs.Str.{bytes_eq}
 use Rattle.plc_base.specs.declared.places.Width.{Width}
 use Rattle.plc_base.specs.declared.places.Width.TheVariants as width
-use Rattle.flat_code.specs.declared.image_fields.TheConstants.{SECTION_IN, SECTION_OUT}
+use Rattle.flat_code.specs.Records.{section_in, section_out}
 use Rattle.stl_ast.specs.declared.blocks.PartKind.{PartKind}
 use Rattle.stl_ast.specs.declared.blocks.PartKind.TheVariants as part
 use Rattle.stl_ast.specs.declared.declarations.Simple.{Simple}
 use Rattle.stl_ast.specs.declared.declarations.Simple.TheVariants as simple
 use Rattle.stl_types.specs.declared.parameters.Formal.{Formal}
 
--- the name of the parameter of an index
+-- `p` and the index: the name of a parameter that isn't the return value
 abbrev pub parameter_name : ℕ → List ℕ
 parameter_name index = codes "p" ++ decimal index
 
@@ -32,8 +32,8 @@ kind_of_width width.Dword = simple.Dword
 -- the section by its number in an image: 1 IN, 2 OUT, 3 IN_OUT
 abbrev pub section_of : ℕ → PartKind
 section_of section =
-    if section == SECTION_IN then part.Input
-    else if section == SECTION_OUT then part.Output
+    if section == section_in then part.Input
+    else if section == section_out then part.Output
     else part.InOut
 
 -- the name of a parameter of an index, or of the return value; in a function an OUT behind an

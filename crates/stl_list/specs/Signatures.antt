@@ -3,11 +3,11 @@ use Rattle.std.specs.Prelude.{ℕ, suc, ◌+◌, ◌==◌, Bool, false, ◌&&◌
 use Rattle.plc_base.specs.Kinds.{is_function, is_same_block, is_system_function}
 use Rattle.plc_base.specs.declared.blocks.BlockId.{BlockId}
 use Rattle.flat_code.specs.Programs.{CodeBlock}
-use Rattle.flat_code.specs.declared.image_fields.TheConstants.{SECTION_OUT, SECTION_IN_OUT}
+use Rattle.flat_code.specs.Records.{section_out, section_in_out}
 use Rattle.flat_code.specs.declared.programs.Param.{Param}
 use Rattle.stl_types.specs.Parameters.{formal}
 use Rattle.stl_types.specs.declared.parameters.Formal.{Formal}
-use Rattle.stl_list.specs.JoinedParameters.{Chains, kind_at, system_parameters}
+use Rattle.stl_list.specs.JoinedParameters.{PassingChains, kind_at, system_parameters}
 use Rattle.stl_list.specs.Parameters.{name_of, section_of}
 
 -- a block by kind and number, the bytes of its instances, its parameters with their places, and the
@@ -24,18 +24,19 @@ pub record Signature : Type 0 where
 
 -- whether an IN_OUT of a function stands here or before. `returns`: the block is a function
 abbrev pub is_behind : (returns behind : Bool) → Param → Bool
-is_behind returns behind p = behind || returns && p.section == SECTION_IN_OUT
+is_behind returns behind p = behind || returns && p.section == section_in_out
 
 -- a parameter of an index with its number among all; `behind`: an IN_OUT of a function stands
 -- before it
-abbrev pub formal_of_param : Chains → (behind : Bool) → (index parameter : ℕ) → Param → Formal
+abbrev pub formal_of_param : PassingChains → (behind : Bool) → (index parameter : ℕ) → Param
+    → Formal
 formal_of_param c behind index parameter p =
-    formal (name_of (behind && p.section == SECTION_OUT) index) (section_of p.section)
+    formal (name_of (behind && p.section == section_out) index) (section_of p.section)
     (kind_at c parameter p.width)
 
 -- parameters from an index on. `returns`: the block may have a return value; `behind`: an IN_OUT
 -- stands before them; `first` is the number of the first of them
-abbrev pub formals_from : Chains → (returns behind : Bool) → (index first : ℕ) → List Param
+abbrev pub formals_from : PassingChains → (returns behind : Bool) → (index first : ℕ) → List Param
     → List Formal
 formals_from c returns behind index first [] = []
 formals_from c returns behind index first (p ∷ ps) =
@@ -43,7 +44,7 @@ formals_from c returns behind index first (p ∷ ps) =
     ∷ formals_from c returns (is_behind returns behind p) (suc index) (suc first) ps
 
 -- the signature of a code block whose first parameter has this number among those of all blocks
-abbrev pub signature : Chains → (first : ℕ) → CodeBlock → Signature
+abbrev pub signature : PassingChains → (first : ℕ) → CodeBlock → Signature
 signature c first b = record {
   id = b.id;
   instance_len = b.instance_len;
@@ -52,13 +53,13 @@ signature c first b = record {
 }
 
 -- the signatures of code blocks, of which the first has its parameters from the number `first` on
-abbrev pub signatures_from : Chains → (first : ℕ) → List CodeBlock → List Signature
+abbrev pub signatures_from : PassingChains → (first : ℕ) → List CodeBlock → List Signature
 signatures_from c first [] = []
 signatures_from c first (b ∷ bs) =
     signature c first b ∷ signatures_from c (first + length b.params) bs
 
 -- the signatures of the code blocks of a program
-unfoldable pub signatures : Chains → List CodeBlock → List Signature
+unfoldable pub signatures : PassingChains → List CodeBlock → List Signature
 signatures c blocks = signatures_from c 0 blocks
 
 -- the parameters of a code block; none where there is no such block

@@ -11,7 +11,7 @@ use Rattle.stl_list.specs.Labels.{label_of_number}
 use Rattle.stl_list.specs.Lines.{line_of_statement}
 use Rattle.stl_list.specs.Mnemonics.{mnemonic_of}
 use Rattle.stl_list.specs.Operands.{operand_of_run}
-use Rattle.stl_list.specs.Runs.{Run, runs, statement_starts, target_marks}
+use Rattle.stl_list.specs.Runs.{StatementOps, runs, statement_starts, target_marks}
 use Rattle.stl_list.specs.Signatures.{Signature, formals_of_block}
 
 -- what the statements of a block refer to: the blocks of the program, the block's own parameters,
@@ -44,7 +44,7 @@ label_at targets n =
     if unwrap_or (slice_get targets n) false then Some (label_of_number n) else None
 
 -- the statement with this number in its block, made from its ops
-abbrev pub listed_statement : ListingContext → (n : ℕ) → Run → Statement
+abbrev pub listed_statement : ListingContext → (n : ℕ) → StatementOps → Statement
 listed_statement s n r = record {
   line = line_of_statement s.lines n;
   code = mnemonic_of r.op;
@@ -71,14 +71,14 @@ label_of_end line (Some label) = label_alone line label ∷ []
 
 -- what the statement of a number adds to the body: itself, or only a label where it is the last,
 -- the END clause; there are as many statements as lines
-unfoldable pub statement_at : ListingContext → (n : ℕ) → Run → List Statement
+unfoldable pub statement_at : ListingContext → (n : ℕ) → StatementOps → List Statement
 statement_at s n r =
     if suc n == length s.lines
     then label_of_end (line_of_statement s.lines n) (label_at s.targets n)
     else listed_statement s n r ∷ []
 
 -- what statements add to the body, of which the first has the number n
-abbrev pub statements_from : ListingContext → (n : ℕ) → List Run → List Statement
+abbrev pub statements_from : ListingContext → (n : ℕ) → List StatementOps → List Statement
 statements_from s n [] = []
 statements_from s n (r ∷ rs) = statement_at s n r ++ statements_from s (suc n) rs
 

@@ -17,7 +17,7 @@ ghost use Rattle.stl_list.specs.JoinedParameters.{
 };
 
 use crate::links::{Link, links};
-use crate::parameters::plain_kind;
+use crate::parameters::kind_of_width;
 use flat_code::CodeBlock;
 use plc_base::{NoMemory, Width};
 use std::alloc::Global;
@@ -25,7 +25,7 @@ use std::marker::Model;
 use stl_ast::Simple;
 
 /// How many parameters blocks have.
-fn parameter_count(blocks: &[CodeBlock]) -> usize
+fn total_parameter_count(blocks: &[CodeBlock]) -> usize
     requires { length blocks.now < 65536 }
     ensures { result ≡ total_parameter_count blocks.now }
 {
@@ -51,7 +51,7 @@ fn relabel(labels: &mut [usize], from: usize, to: usize)
     }
 }
 
-fn label_at(labels: &[usize], parameter: usize) -> Option<usize>
+fn parameter_label(labels: &[usize], parameter: usize) -> Option<usize>
     ensures { result ≡ slice_get labels.now parameter }
 {
     labels.get(parameter).copied()
@@ -62,10 +62,10 @@ fn label_at(labels: &[usize], parameter: usize) -> Option<usize>
 fn join(labels: &mut [usize], own: usize, other: usize)
     ensures { labels.new ≡ labels_after_link labels.old (Link.Joins own other) }
 {
-    let Some(from) = label_at(labels, own) else {
+    let Some(from) = parameter_label(labels, own) else {
         return;
     };
-    let Some(to) = label_at(labels, other) else {
+    let Some(to) = parameter_label(labels, other) else {
         return;
     };
     if from != to {
@@ -95,7 +95,7 @@ fn first_labels(alloc: Global, count: usize) -> Result<Vec<usize>, NoMemory>
 
 /// Labels of so many parameters: those that a chain of passings joins have the same.
 #[tactic(auto, unfolding(crate::specs::JoinedParameters::chain_labels))]
-fn labels_of(alloc: Global, count: usize, links: &[Link]) -> Result<Vec<usize>, NoMemory>
+fn chain_labels(alloc: Global, count: usize, links: &[Link]) -> Result<Vec<usize>, NoMemory>
     ensures { IfOk result (λ v. v.items ≡ chain_labels count links.now) }
 {
     let mut labels = first_labels(alloc, count)?;
@@ -121,7 +121,7 @@ fn is_time(kind: Simple) -> bool
 fn mark_label(marks: &mut [bool], labels: &[usize], own: usize)
     ensures { marks.new ≡ set_label marks.old (slice_get labels.now own) }
 {
-    if let Some(label) = label_at(labels, own) {
+    if let Some(label) = parameter_label(labels, own) {
         if label < marks.len() {
             marks[label] = true;
         }
@@ -182,16 +182,16 @@ fn time_marks(alloc: Global, labels: &[usize], links: &[Link]) -> Result<Vec<boo
 
 /// The labels of all parameters, and which labels are INT or TIME.
 #[derive(Drop)]
-pub(crate) struct Chains {
+pub(crate) struct PassingChains {
     labels: Vec<usize>,
     ints: Vec<bool>,
     times: Vec<bool>,
 }
 
-impl Model for Chains {
-    ghost use Rattle.stl_list.specs.JoinedParameters.{Chains as ChainsData};
+impl Model for PassingChains {
+    ghost use Rattle.stl_list.specs.JoinedParameters.{PassingChains as PassingChainsData};
 
-    ghost Value = { ChainsData };
+    ghost Value = { PassingChainsData };
 
     ghost view = { λ c. record {
       labels = c.labels.items;
@@ -216,31 +216,31 @@ fn mark_at(marks: &[bool], label: Option<usize>) -> bool
 }
 
 /// The chains of these links.
-fn chains_by(alloc: Global, count: usize, links: &[Link]) -> Result<Chains, NoMemory>
+fn chains_by(alloc: Global, count: usize, links: &[Link]) -> Result<PassingChains, NoMemory>
     ensures { IfOk result (λ c. c ≡ chains_by (chain_labels count links.now) links.now) }
 {
-    let labels = labels_of(alloc, count, links)?;
+    let labels = chain_labels(alloc, count, links)?;
     let ints = int_marks(alloc, labels.as_slice(), links)?;
     let times = time_marks(alloc, labels.as_slice(), links)?;
-    Ok(Chains {
+    Ok(PassingChains {
         labels,
         ints,
         times,
     })
 }
 
-impl Chains {
+impl PassingChains {
     ghost use Rattle.std.specs.Prelude.{◌≡◌, ◌<◌, length, IfOk};
     ghost use Rattle.stl_list.specs.JoinedParameters.{chains_of, kind_at};
 
     /// The chains of a program.
     #[tactic(auto, unfolding(crate::specs::JoinedParameters::chains_of))]
-    pub(crate) fn of(alloc: Global, blocks: &[CodeBlock]) -> Result<Chains, NoMemory>
+    pub(crate) fn of(alloc: Global, blocks: &[CodeBlock]) -> Result<PassingChains, NoMemory>
         requires { length blocks.now < 65536 }
         ensures { IfOk result (λ c. c ≡ chains_of blocks.now) }
     {
         let links = links(alloc, blocks)?;
-        chains_by(alloc, parameter_count(blocks), links.as_slice())
+        chains_by(alloc, total_parameter_count(blocks), links.as_slice())
     }
 
     /// The type of the parameter of a number.
@@ -248,13 +248,13 @@ impl Chains {
     pub(crate) fn kind_at(&self, parameter: usize, width: Width) -> Simple
         ensures { result ≡ kind_at self.now parameter width }
     {
-        let label = label_at(self.labels.as_slice(), parameter);
+        let label = parameter_label(self.labels.as_slice(), parameter);
         if mark_at(self.ints.as_slice(), label) {
             Simple::Int
         } else if mark_at(self.times.as_slice(), label) {
             Simple::Time
         } else {
-            plain_kind(width)
+            kind_of_width(width)
         }
     }
 }

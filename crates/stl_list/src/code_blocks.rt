@@ -9,7 +9,7 @@ ghost use Rattle.stl_list.specs.Statements.{body_of as body_on};
 ghost use Rattle.image_file.specs.Writing.{BlockFitsFields};
 ghost use Rattle.stl_list.specs.CodeBlocks.{line_reached, listed_block, listed_blocks, result_of};
 
-use crate::lines::{first_line, line_behind, lines_from};
+use crate::lines::{first_statement_line, line_behind_statements, lines_from};
 use crate::parameters::is_return;
 use crate::sections::sections;
 use crate::signatures::{Signature, formals_of};
@@ -44,7 +44,7 @@ fn body_behind(
 }
 
 /// A code block with these sections and this body, behind what reaches to a line.
-fn block_with(
+fn block_with_parts(
     alloc: Global,
     signatures: &[Signature],
     reached: u32,
@@ -59,8 +59,8 @@ fn block_with(
     ensures { result ≡ listed_block signatures.now reached block.now }
 {
     Block {
-        line: reached.max(first_line(block)),
-        end_line: line_behind(reached, block.lines.as_slice()),
+        line: reached.max(first_statement_line(block)),
+        end_line: line_behind_statements(reached, block.lines.as_slice()),
         kind: block.id.kind,
         name: BlockName::Number { id: block.id },
         result: result_of(formals_of(signatures, block.id)),
@@ -83,10 +83,10 @@ fn listed_block(
     requires { BlockFitsFields block.now }
     ensures { IfOk result (λ b. b ≡ listed_block signatures.now reached block.now) }
 {
-    let line = reached.max(first_line(block));
+    let line = reached.max(first_statement_line(block));
     let parts = sections(alloc, line, formals_of(signatures, block.id), block)?;
     let body = body_behind(alloc, signatures, reached, block)?;
-    Ok(block_with(alloc, signatures, reached, block, parts, body))
+    Ok(block_with_parts(alloc, signatures, reached, block, parts, body))
 }
 
 /// Adds code blocks one behind the other, from line 1 on, and gives the line that they reach.
@@ -104,7 +104,7 @@ pub(crate) fn add_code_blocks(
     let mut reached = 1;
     for block in blocks {
         listed.push(listed_block(alloc, signatures, reached, block)?)?;
-        reached = line_behind(reached, block.lines.as_slice());
+        reached = line_behind_statements(reached, block.lines.as_slice());
     }
     Ok(reached)
 }

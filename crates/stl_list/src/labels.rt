@@ -36,7 +36,7 @@ fn label(alloc: Global, letter: u8, n: usize) -> Result<Name, NoMemory>
 
 /// The label of the statement of a number.
 #[tactic(auto, unfolding(crate::specs::Labels::label_of_number))]
-pub(crate) fn label_of(alloc: Global, n: usize) -> Result<Name, NoMemory>
+pub(crate) fn label_of_number(alloc: Global, n: usize) -> Result<Name, NoMemory>
     ensures { IfOk result (λ name. name ≡ label_of_number n) }
 {
     if n < NUMBERS {

@@ -24,7 +24,7 @@ pub(crate) fn lines_from(alloc: Global, reached: u32, lines: &[u32]) -> Result<V
 }
 
 /// The line that is reached behind statements on these lines.
-pub(crate) fn line_behind(reached: u32, lines: &[u32]) -> u32
+pub(crate) fn line_behind_statements(reached: u32, lines: &[u32]) -> u32
     ensures { result ≡ line_behind_statements reached lines.now }
 {
     let mut line = reached;
@@ -35,32 +35,32 @@ pub(crate) fn line_behind(reached: u32, lines: &[u32]) -> u32
 }
 
 /// The line at a place; 0 past the end.
-pub(crate) fn line_at(lines: &[u32], n: usize) -> u32
+pub(crate) fn line_of_statement(lines: &[u32], n: usize) -> u32
     ensures { result ≡ line_of_statement lines.now n }
 {
     lines.get(n).copied().unwrap_or(0)
 }
 
 /// The line of the first statement of a block.
-pub(crate) fn first_line(block: &CodeBlock) -> u32
+pub(crate) fn first_statement_line(block: &CodeBlock) -> u32
     ensures { result ≡ first_statement_line block.now }
 {
-    line_at(block.lines.as_slice(), 0)
+    line_of_statement(block.lines.as_slice(), 0)
 }
 
 /// The line of the last statement of a block.
-pub(crate) fn last_line(block: &CodeBlock) -> u32
+pub(crate) fn last_statement_line(block: &CodeBlock) -> u32
     ensures { result ≡ last_statement_line block.now }
 {
-    line_at(block.lines.as_slice(), block.lines.len().saturating_sub(1))
+    line_of_statement(block.lines.as_slice(), block.lines.len().saturating_sub(1))
 }
 
 fn order_of(a: &CodeBlock, b: &CodeBlock) -> Ordering
     ensures { is_lt result ≡ stands_before a.now b.now }
 {
-    first_line(a)
-        .cmp(&first_line(b))
-        .then(last_line(a).cmp(&last_line(b)))
+    first_statement_line(a)
+        .cmp(&first_statement_line(b))
+        .then(last_statement_line(a).cmp(&last_statement_line(b)))
 }
 
 /// Code blocks in the order in which a listing has them: by their first lines, then by their last,

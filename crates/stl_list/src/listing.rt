@@ -13,10 +13,10 @@ ghost use Rattle.stl_list.specs.Lines.{last_statement_line as last_line_of};
 ghost use Rattle.stl_list.specs.Signatures.{signatures as signatures_in};
 ghost use Rattle.stl_list.specs.Symbols.{listed_names as text_of_names};
 
-use crate::chains::Chains;
+use crate::chains::PassingChains;
 use crate::code_blocks::add_code_blocks;
 use crate::data_blocks::add_data_blocks;
-use crate::lines::{in_lines, last_line};
+use crate::lines::{in_lines, last_statement_line};
 use crate::signatures::{Signature, signatures};
 use crate::symbols::listed_names;
 use flat_code::{CodeBlock, DataBlock, Program};
@@ -56,7 +56,7 @@ fn signatures_of(alloc: Global, blocks: &[CodeBlock]) -> Result<Vec<Signature>, 
     requires { length blocks.now < 65536 }
     ensures { IfOk result (λ v. v.items ≡ signatures_in (chains_of blocks.now) blocks.now) }
 {
-    let chains = Chains::of(alloc, blocks)?;
+    let chains = PassingChains::of(alloc, blocks)?;
     signatures(alloc, &chains, blocks)
 }
 
@@ -133,9 +133,7 @@ pub fn list(alloc: Global, l: &Loaded) -> Result<Listing, NoMemory>
 fn ends_past(blocks: &[CodeBlock], line: usize) -> bool
     ensures { result ≡ list_any (λ b. nat_lt line (last_line_of b)) blocks.now }
 {
-    blocks
-        .iter()
-        .any(|block: &CodeBlock| last_line(block) as usize > line)
+    blocks.iter().any(|block: &CodeBlock| last_statement_line(block) as usize > line)
 }
 
 /// A listing of which neither text has more bytes than `most`.

@@ -1,5 +1,5 @@
 ghost use Rattle.std.specs.Prelude.{◌≡◌, ◌<◌};
-ghost use Rattle.stl_list.specs.Mnemonics.{jump_word, mnemonic_of, word_of};
+ghost use Rattle.stl_list.specs.Mnemonics.{mnemonic_of_jump, mnemonic_of, mnemonic_of_code};
 
 use flat_code::{Op, Operand};
 use stl_ast::Mnemonic;
@@ -167,19 +167,19 @@ pub static JUMP_MNEMONICS: [Mnemonic; 18] = [
 ];
 
 /// The instruction word of an op code.
-#[tactic(auto, unfolding(crate::specs::Mnemonics::word_of))]
-fn word_of(code: u8) -> Mnemonic
+#[tactic(auto, unfolding(crate::specs::Mnemonics::mnemonic_of_code))]
+fn mnemonic_of_code(code: u8) -> Mnemonic
     requires { code < 128 }
-    ensures { result ≡ word_of code }
+    ensures { result ≡ mnemonic_of_code code }
 {
     MNEMONICS[code as usize]
 }
 
 /// The word of a jump by its kind.
-#[tactic(auto, unfolding(crate::specs::Mnemonics::jump_word))]
-fn jump_word(kind: u8) -> Mnemonic
+#[tactic(auto, unfolding(crate::specs::Mnemonics::mnemonic_of_jump))]
+fn mnemonic_of_jump(kind: u8) -> Mnemonic
     requires { kind < 18 }
-    ensures { result ≡ jump_word kind }
+    ensures { result ≡ mnemonic_of_jump kind }
 {
     JUMP_MNEMONICS[kind as usize]
 }
@@ -190,7 +190,7 @@ pub(crate) fn mnemonic_of(op: &Op) -> Mnemonic
     ensures { result ≡ mnemonic_of op.now }
 {
     match op.operand {
-        Operand::Jump { kind, .. } => jump_word(kind),
-        _ => word_of(op.code),
+        Operand::Jump { kind, .. } => mnemonic_of_jump(kind),
+        _ => mnemonic_of_code(op.code),
     }
 }

@@ -4,10 +4,10 @@ ghost use Rattle.flat_code.specs.Operations.{operation_of};
 ghost use Rattle.std.specs.List.Sorted.{IsStrictlySortedBy};
 ghost use Rattle.std.specs.Ordering.{nat_cmp};
 ghost use Rattle.stl_list.specs.Labels.{label_of_number};
-ghost use Rattle.stl_list.specs.Runs.{number_at};
+ghost use Rattle.stl_list.specs.Runs.{statement_number_at};
+ghost use Rattle.stl_parser.specs.Operands.{data_block_name};
 ghost use Rattle.stl_list.specs.Operands.{
   condition_operand,
-  name_of_data_block,
   direct_operand,
   implied_operand,
   instance_name,
@@ -25,10 +25,10 @@ ghost use Rattle.stl_list.specs.Operands.{
 };
 
 use crate::constants::instruction_constant;
-use crate::labels::label_of;
+use crate::labels::label_of_number;
 use crate::links::called_id;
 use crate::parameters::parameter_name;
-use crate::runs::number_at;
+use crate::runs::statement_number_at;
 use flat_code::{
     DB_REGISTER_NUMBER, DI_REGISTER_NUMBER, Op, Operand as FlatOperand, Operation,
     PointerOperation, TIMER_KIND, flag_of,
@@ -86,7 +86,7 @@ fn writes(operation: Operation) -> bool
 
 /// A data block by its number.
 pub(crate) fn data_block_name(number: u16) -> BlockName
-    ensures { result ≡ name_of_data_block number }
+    ensures { result ≡ data_block_name number }
 {
     BlockName::Number {
         id: BlockId {
@@ -178,7 +178,7 @@ fn numbered_by(kind: u8) -> Numbered
 }
 
 /// The register of a data block, 1 DB or 2 DI.
-fn register_of(register: u8) -> Numbered
+fn data_block_register(register: u8) -> Numbered
     ensures { result ≡ data_block_register register }
 {
     if register == DB_REGISTER_NUMBER {
@@ -199,7 +199,7 @@ fn instance_name(instance: u16) -> Option<BlockName>
 }
 
 fn block_name(opened: Option<u16>) -> Option<BlockName>
-    ensures { result ≡ option_map name_of_data_block opened }
+    ensures { result ≡ option_map data_block_name opened }
 {
     match opened {
         None => None,
@@ -230,10 +230,11 @@ pub(crate) fn direct_operand(
 /// The label of the statement at an offset.
 fn target(alloc: Global, starts: &[u32], offset: u32) -> Result<Operand, NoMemory>
     requires { IsStrictlySortedBy nat_cmp starts.now }
-    ensures { IfOk result (λ o. o ≡ Operand.Label (label_of_number (number_at starts.now offset))) }
+    ensures { IfOk result
+        (λ o. o ≡ Operand.Label (label_of_number (statement_number_at starts.now offset))) }
 {
     Ok(Operand::Label {
-        name: label_of(alloc, number_at(starts, offset))?,
+        name: label_of_number(alloc, statement_number_at(starts, offset))?,
     })
 }
 
@@ -309,7 +310,7 @@ fn plain_operand(opened: Option<u16>, op: &Op) -> Operand
             from,
             byte,
         } => Operand::NumberBy {
-            what: register_of(register),
+            what: data_block_register(register),
             from: read_letters(from),
             byte,
         },

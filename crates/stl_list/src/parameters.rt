@@ -47,7 +47,7 @@ pub(crate) fn is_return(formal: &Formal) -> bool
 }
 
 /// The type that a width has by itself.
-pub(crate) fn plain_kind(width: Width) -> Simple
+pub(crate) fn kind_of_width(width: Width) -> Simple
     ensures { result ≡ kind_of_width width }
 {
     match width {

@@ -3,7 +3,7 @@ ghost use Rattle.std.specs.Prelude.{◌≡◌, ◌<◌, ◌++◌, length, IfOk};
 ghost use Rattle.std.specs.List.Sorted.{IsStrictlySortedBy};
 ghost use Rattle.std.specs.Ordering.{nat_cmp};
 ghost use Rattle.flat_code.specs.Codes.{code_bytes};
-ghost use Rattle.stl_list.specs.Runs.{marks_with_target, number_at, start_here, statement_starts, target_marks};
+ghost use Rattle.stl_list.specs.Runs.{marks_with_target, statement_number_at, start_here, statement_starts, target_marks};
 
 use flat_code::{Op, Operand};
 use plc_base::NoMemory;
@@ -44,10 +44,10 @@ pub(crate) fn starts(alloc: Global, ops: &[Op]) -> Result<Vec<u32>, NoMemory>
 }
 
 /// The number of the statement that begins at an offset; where none does, how many there are.
-#[tactic(auto, unfolding(crate::specs::Runs::number_at))]
-pub(crate) fn number_at(starts: &[u32], offset: u32) -> usize
+#[tactic(auto, unfolding(crate::specs::Runs::statement_number_at))]
+pub(crate) fn statement_number_at(starts: &[u32], offset: u32) -> usize
     requires { IsStrictlySortedBy nat_cmp starts.now }
-    ensures { result ≡ number_at starts.now offset }
+    ensures { result ≡ statement_number_at starts.now offset }
 {
     match starts.binary_search(&offset) {
         Ok(number) => number,
@@ -61,7 +61,7 @@ fn mark(marks: &mut [bool], starts: &[u32], op: &Op)
     ensures { marks.new ≡ marks_with_target starts.now marks.old op.now.operand }
 {
     if let Operand::Jump { target, .. } = op.operand {
-        let number = number_at(starts, target);
+        let number = statement_number_at(starts, target);
         if number < marks.len() {
             marks[number] = true;
         }

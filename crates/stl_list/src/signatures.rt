@@ -3,7 +3,7 @@ ghost use Rattle.std.specs.Prelude.{◌≡◌, ◌<◌, ◌≤◌, ◌^◌, fals
 ghost use Rattle.plc_base.specs.Kinds.{is_function};
 ghost use Rattle.stl_list.specs.Signatures.{formal_of_param, formals_from, formals_of_block, is_behind, signature, signatures};
 
-use crate::chains::Chains;
+use crate::chains::PassingChains;
 use crate::links::is_same;
 use crate::parameters::{name_of, section_of};
 use flat_code::{CodeBlock, Param, SECTION_IN_OUT, SECTION_OUT};
@@ -37,9 +37,9 @@ impl Model for Signature {
 
 /// A parameter of an index, whose number among all is `parameter`; `behind`: an IN_OUT of a
 /// function stands before it.
-fn formal_of(
+fn formal_of_param(
     alloc: Global,
-    chains: &Chains,
+    chains: &PassingChains,
     behind: bool,
     index: usize,
     parameter: usize,
@@ -59,7 +59,7 @@ fn formal_of(
 /// return value.
 fn formals(
     alloc: Global,
-    chains: &Chains,
+    chains: &PassingChains,
     returns: bool,
     first: usize,
     params: &[Param],
@@ -73,7 +73,7 @@ fn formals(
     let mut behind = false;
     for index in 0..params.len() {
         let param = &params[index];
-        formals.push(formal_of(alloc, chains, behind, index, first + index, param)?)?;
+        formals.push(formal_of_param(alloc, chains, behind, index, first + index, param)?)?;
         behind = behind || returns && param.section == SECTION_IN_OUT;
     }
     Ok(formals)
@@ -86,9 +86,9 @@ fn is_function(kind: BlockKind) -> bool
 }
 
 /// A code block whose first parameter has this number.
-fn signature_of(
+fn signature(
     alloc: Global,
-    chains: &Chains,
+    chains: &PassingChains,
     first: usize,
     block: &CodeBlock,
 ) -> Result<Signature, NoMemory>
@@ -109,7 +109,7 @@ fn signature_of(
 #[tactic(auto, unfolding(crate::specs::Signatures::signatures))]
 pub(crate) fn signatures(
     alloc: Global,
-    chains: &Chains,
+    chains: &PassingChains,
     blocks: &[CodeBlock],
 ) -> Result<Vec<Signature>, NoMemory>
     requires { length blocks.now < 65536 }
@@ -118,7 +118,7 @@ pub(crate) fn signatures(
     let mut signatures = Vec::new(alloc);
     let mut first = 0;
     for block in blocks {
-        signatures.push(signature_of(alloc, chains, first, block)?)?;
+        signatures.push(signature(alloc, chains, first, block)?)?;
         first += block.params.len();
     }
     Ok(signatures)

@@ -4,8 +4,8 @@ ghost use Rattle.image_file.specs.Writing.{BlockFitsFields};
 ghost use Rattle.stl_list.specs.Statements.{body_of, label_alone, label_of_end};
 
 use crate::actuals::actuals_by;
-use crate::labels::label_of;
-use crate::lines::line_at;
+use crate::labels::label_of_number;
+use crate::lines::line_of_statement;
 use crate::mnemonics::mnemonic_of;
 use crate::operands::{opened_by, operand_by};
 use crate::runs::{is_last, starts, targets};
@@ -83,10 +83,10 @@ impl<'a> ListingContext<'a> {
     ghost use Rattle.stl_list.specs.Statements.{label_at, listed_statement, statement_at, statements_from};
     ghost use Rattle.stl_list.specs.Runs.{runs, runs_from};
 
-    fn line_at(&self, n: usize) -> u32
+    fn line_of_statement(&self, n: usize) -> u32
         ensures { result ≡ line_of_statement self.now.lines n }
     {
-        line_at(self.lines, n)
+        line_of_statement(self.lines, n)
     }
 
     /// The label of a statement, where a jump leads to it.
@@ -94,7 +94,7 @@ impl<'a> ListingContext<'a> {
         ensures { IfOk result (λ label. label ≡ label_at self.now.targets n) }
     {
         if self.targets.get(n).copied().unwrap_or(false) {
-            Ok(Some(label_of(alloc, n)?))
+            Ok(Some(label_of_number(alloc, n)?))
         } else {
             Ok(None)
         }
@@ -111,7 +111,7 @@ impl<'a> ListingContext<'a> {
         ensures { IfOk result (λ s. s
             ≡ listed_statement self.now n (record { before = before.now; op = op.now })) }
     {
-        let line = self.line_at(n);
+        let line = self.line_of_statement(n);
         let label = self.label_at(alloc, n)?;
         let actuals = actuals_by(alloc, self.signatures, line, self.formals, before, op)?;
         Ok(Statement {
@@ -139,7 +139,7 @@ impl<'a> ListingContext<'a> {
     {
         if n + 1 == self.lines.len() {
             let label = self.label_at(alloc, n)?;
-            add_label(alloc, statements, self.line_at(n), label)
+            add_label(alloc, statements, self.line_of_statement(n), label)
         } else {
             statements.push(self.statement(alloc, n, before, op)?)?;
             Ok(())

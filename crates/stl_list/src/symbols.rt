@@ -9,7 +9,7 @@ ghost use Rattle.stl_list.specs.Symbols.{
 };
 
 use crate::operands::read_letters;
-use crate::parameters::plain_kind;
+use crate::parameters::kind_of_width;
 use csv::{Error, QuoteStyle, WriterBuilder};
 use flat_code::NameEntry;
 use plc_base::NoMemory;
@@ -60,7 +60,7 @@ fn name_text(alloc: Global, entry: &NameEntry) -> Result<Vec<u8>, NoMemory>
     ensures { IfOk result (λ v. v.items ≡ text_of_name entry.now) }
 {
     let address = address_text(alloc, entry)?;
-    let kind = type_word(plain_kind(entry.width));
+    let kind = type_word(kind_of_width(entry.width));
     match quoted_line(alloc, entry.name.as_slice(), address.as_slice(), kind) {
         Ok(line) => Ok(line),
         Err(_) => Err(AllocError),

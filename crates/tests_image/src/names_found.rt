@@ -1,7 +1,7 @@
 //! What names find, and the names of jumps and conditions.
 
 use crate::compare::same;
-use flat_code::{JUMPS, NameEntry, Names, condition_of, flag_of, jump_of};
+use flat_code::{JUMPS, NameEntry, Names, condition_number, flag_of, jump_of_number};
 use plc_base::{Area, Place, Width};
 use std::alloc::{AllocError, Global};
 use std::process::Abort;
@@ -96,7 +96,7 @@ fn numbers_of_jumps(rt: HostRuntime) -> Result<(), Fail> {
     ];
     same(&rt, "jumps", JUMPS.len(), jumps.len());
     for kind in 0..18u8 {
-        let jump = jump_of(kind);
+        let jump = jump_of_number(kind);
         let spelled = format!(in rt.alloc(); "{jump:?}")?;
         let found = (spelled.as_str(), jump.kind());
         same(&rt, kind, found, (jumps[kind as usize], kind));
@@ -113,7 +113,7 @@ fn numbers_of_conditions(rt: HostRuntime) -> Result<(), Fail> {
     for condition in 1..11u8 {
         let flag = flag_of(condition);
         let spelled = format!(in rt.alloc(); "{flag:?}")?;
-        let found = (spelled.as_str(), condition_of(flag));
+        let found = (spelled.as_str(), condition_number(flag));
         let name = flags[condition as usize - 1];
         same(&rt, condition, found, (name, condition));
     }

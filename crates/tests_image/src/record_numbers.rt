@@ -2,7 +2,7 @@
 
 use crate::compare::same;
 use flat_code::{
-    Stamp, area_number, area_of_number, kind_of_code, kind_of_number, width_of_number,
+    Stamp, area_of_number, kind_of_code, kind_of_number, number_of_area, width_of_number,
 };
 use plc_base::{Area, BlockKind, Place, Profile, Width};
 use std::process::Abort;
@@ -75,7 +75,7 @@ fn has_number(rt: &impl Abort, area: Area, block: u16, want: u8) {
         byte: 4,
         bit: 7,
     };
-    same(rt, (area, block), area_number(&place), want);
+    same(rt, (area, block), number_of_area(&place), want);
 }
 
 #[test]

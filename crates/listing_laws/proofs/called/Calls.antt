@@ -21,7 +21,8 @@ use Rattle.stl_types.specs.declared.views.ResolvedOperand.TheVariants as resolve
 use Rattle.stl_codegen.specs.EmittedOps.{instance_number_or_zero}
 use Rattle.stl_codegen.specs.Instruction.{instr_by, instruction, passings_to, resolved_instr, operand_instr}
 use Rattle.stl_codegen.specs.Operations.{call_operation_of, jump_operation_of}
-use Rattle.stl_list.specs.Operands.{name_of_data_block, instance_name, operand_by, plain_operand}
+use Rattle.stl_parser.specs.Operands.{data_block_name}
+use Rattle.stl_list.specs.Operands.{instance_name, operand_by, plain_operand}
 use Rattle.listing_laws.specs.Calls.{AreCallsKept, AreCallsListed, AreCallsWhole, AreFunctionsKnown, AreInstancesRight, AreStatementsListed, IsInstanceNumbered}
 use Rattle.stl_codegen.specs.EmittedOps.{pass_ops}
 use Rattle.stl_list.specs.Actuals.{actuals_before, actuals_by}
@@ -33,10 +34,10 @@ use Rattle.listing_laws.proofs.called.Passings.{passings_kept}
 
 -- ---- operands
 
-pub instance_is : (instance : Option ℕ) → IsInstanceNumbered instance → instance_name (instance_number_or_zero instance) ≡ option_map name_of_data_block instance
+pub instance_is : (instance : Option ℕ) → IsInstanceNumbered instance → instance_name (instance_number_or_zero instance) ≡ option_map data_block_name instance
 instance_is None h = refl
 instance_is (Some zero) h = absurd (h refl)
-instance_is (Some (suc n)) h = ap (λ (t : Bool). if t then None else Some (name_of_data_block (suc n))) (ne_eqb (suc n) 0 (λ e. absurd (omega (arith, e))))
+instance_is (Some (suc n)) h = ap (λ (t : Bool). if t then None else Some (data_block_name (suc n))) (ne_eqb (suc n) 0 (λ e. absurd (omega (arith, e))))
 
 pub calls_listed : AreCallsListed
 unfolding operand_by plain_operand

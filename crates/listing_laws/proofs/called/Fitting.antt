@@ -7,7 +7,7 @@ use Rattle.plc_base.specs.declared.places.Area.{Area}
 use Rattle.plc_base.specs.declared.places.Area.TheVariants as area
 use Rattle.plc_base.specs.declared.places.Width.{Width}
 use Rattle.plc_base.specs.declared.places.Width.TheVariants as width
-use Rattle.flat_code.specs.declared.image_fields.TheConstants.{SECTION_IN}
+use Rattle.flat_code.specs.Records.{section_in}
 use Rattle.flat_code.specs.Blocks.{Environment, is_bad_actual, is_in_parameter, lacks_own_parameter, literal_fits, parameter_meant}
 use Rattle.flat_code.specs.declared.image_fields.ParameterRecord.{ParameterRecord}
 use Rattle.flat_code.specs.declared.operands.Passed.TheVariants as passed
@@ -45,7 +45,7 @@ input_is n = by (n == 1) (n == 2)
     by false true = refl
     by false false = refl
 
-section_is : (f : Formal) (r : ParameterRecord) → IsListedAs f r → is_input_section f.section ≡ (r.section == SECTION_IN)
+section_is : (f : Formal) (r : ParameterRecord) → IsListedAs f r → is_input_section f.section ≡ (r.section == section_in)
 section_is f r h = ap is_input_section h.section ∙ input_is r.section
 
 section_taken : (s own : Bool) → (not s && own) ≡ false → (s || not own) ≡ true
@@ -64,8 +64,8 @@ in_block_is a number area.L w byte bit e = absurd cc
 
 pub fitting_listed : AreFittingListed
 fitting_listed a c own f r (passed.Literal value) h few right fits backed =
-    let parts = or_parts (not (r.section == SECTION_IN)) (not (literal_fits r.width value)) fits in (
-      section_is f r h ∙ not_not (r.section == SECTION_IN) parts.0,
+    let parts = or_parts (not (r.section == section_in)) (not (literal_fits r.width value)) fits in (
+      section_is f r h ∙ not_not (r.section == section_in) parts.0,
       h.kind,
       ap (λ (n : ℕ). literal_fits n value) (sym h.width) ∙ not_not (literal_fits r.width value) parts.1,
       ltb-true value 4294967296 few,
@@ -74,13 +74,13 @@ fitting_listed a c own f r (passed.Direct g w byte bit) h few right fits backed 
 fitting_listed a c own f r (passed.InBlock number g w byte bit) h few right fits backed =
     (width_is f r w h fits, in_block_is a number g w byte bit right, backed.0, backed.1)
 fitting_listed a c own f r (passed.Parameter index w) h few right fits backed =
-    let parts = or_parts (not (r.width == width_number w)) (not (r.section == SECTION_IN) && is_in_parameter (parameter_meant a index)) fits in (
+    let parts = or_parts (not (r.width == width_number w)) (not (r.section == section_in) && is_in_parameter (parameter_meant a index)) fits in (
       backed.0,
       width_is backed.0 backed.1 w backed.3 (ap (λ o. lacks_own_parameter o w) (sym backed.2) ∙ right),
       backed.4,
       section_taken (is_input_section f.section) (is_input_section backed.0.section)
           (ap (λ (t : Bool). not t && is_input_section backed.0.section) (section_is f r h)
-          ∙ ap (λ (t : Bool). not (r.section == SECTION_IN) && t) (section_is backed.0 backed.1 backed.3)
-          ∙ ap (λ o. not (r.section == SECTION_IN) && is_in_parameter o) (sym backed.2) ∙ parts.1),
+          ∙ ap (λ (t : Bool). not (r.section == section_in) && t) (section_is backed.0 backed.1 backed.3)
+          ∙ ap (λ o. not (r.section == section_in) && is_in_parameter o) (sym backed.2) ∙ parts.1),
       backed.5,
     )

@@ -24,7 +24,7 @@ use Rattle.stl_codegen.specs.EmittedOps.{use_db_ops, pass_ops}
 use Rattle.stl_list.specs.declared.links.Link.{Link}
 use Rattle.stl_list.specs.declared.links.Link.TheVariants.{Joins, Has}
 use Rattle.stl_list.specs.JoinedParameters.{block_links, call_links, called_id, first_of, joined_link, joined_links, links, links_from, links_of_runs, total_parameter_count, passed_own, run_links, system_link, system_links, system_parameters, typed_link}
-use Rattle.stl_list.specs.Runs.{Run}
+use Rattle.stl_list.specs.Runs.{StatementOps}
 use Rattle.listing_laws.specs.Chains.{IsLinkBelow, IsKeptBy}
 use Rattle.listing_laws.specs.HandedTypes.{AreLinksHandedOn, AreTypesListed, BlocksHandTypesOn, HandsTypesOn, IsCallable, IsHandedOn, called_kinds, declared_type_in, kinds_in}
 use Rattle.listing_laws.specs.Statements.{statement_offset, run_of}
@@ -224,7 +224,7 @@ module _ (types : BlockId → List Simple) where
         → AllByRecursion (λ (s : SourceInstruction). HandsTypesOn types all (types b.id) s.instr) b.statements
         → AllByRecursion IsLinkKept (block_links all first (code_in b.statements))
     block_fine first b at h =
-        subst (λ (rs : List Run). AllByRecursion IsLinkKept (links_of_runs all first rs)) (sym (runs_found b.statements))
+        subst (λ (rs : List StatementOps). AllByRecursion IsLinkKept (links_of_runs all first rs)) (sym (runs_found b.statements))
         (runs_fine (types b.id) first (statement_offset b.statements) at b.statements h)
 
     blocks_fine : (front : List Simple) (first : ℕ) (bs : List StatedBlock) → length front ≡ first

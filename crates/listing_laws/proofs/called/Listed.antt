@@ -10,20 +10,20 @@ use Rattle.flat_code.specs.Programs.{CodeBlock}
 use Rattle.flat_code.specs.declared.programs.Param.{Param}
 use Rattle.block_layout.specs.Offsets.{width_of}
 use Rattle.stl_types.specs.declared.parameters.Formal.{Formal}
-use Rattle.stl_list.specs.JoinedParameters.{Chains, chains_of, first_of, kind_at, kind_by, mark_at, total_parameter_count}
+use Rattle.stl_list.specs.JoinedParameters.{PassingChains, chains_of, first_of, kind_at, kind_by, mark_at, total_parameter_count}
 use Rattle.stl_list.specs.Parameters.{section_of}
 use Rattle.stl_list.specs.Signatures.{formals_from, formals_of_block, is_behind, signatures, signatures_from}
 use Rattle.listing_laws.specs.Chains.{is_listed_type}
 use Rattle.listing_laws.specs.ListingParameters.{AreEndsAlike, AreListedAs, AreParametersListed, params_of_block}
 
 -- a parameter among those of a block, whose first has a number
-record IsAt (c : Chains) (first : ℕ) (ps : List Param) (i : ℕ) (f : Formal) : Type 0 where
+record IsAt (c : PassingChains) (first : ℕ) (ps : List Param) (i : ℕ) (f : Formal) : Type 0 where
   param : Param
   there : slice_get ps i ≡ Some param
   section : f.section ≡ section_of param.section
   kind : f.kind ≡ kind_at c (first + i) param.width
 
-formal_at : (c : Chains) (back behind : Bool) (index first : ℕ) (ps : List Param) (i : ℕ) (f : Formal)
+formal_at : (c : PassingChains) (back behind : Bool) (index first : ℕ) (ps : List Param) (i : ℕ) (f : Formal)
     → slice_get (formals_from c back behind index first ps) i ≡ Some f → IsAt c first ps i f
 formal_at c back behind index first [] i f e = absurd cc
 formal_at c back behind index first (p ∷ ps) zero f e =
@@ -44,14 +44,14 @@ formal_at c back behind index first (p ∷ ps) (suc i) f e =
     }
 
 -- the same among the parameters of blocks
-record IsOf (c : Chains) (first : ℕ) (bs : List CodeBlock) (id : BlockId) (i : ℕ) (f : Formal) : Type 0 where
+record IsOf (c : PassingChains) (first : ℕ) (bs : List CodeBlock) (id : BlockId) (i : ℕ) (f : Formal) : Type 0 where
   param : Param
   there : slice_get (params_of_block bs id) i ≡ Some param
   section : f.section ≡ section_of param.section
   kind : f.kind ≡ kind_at c (first + (first_of bs id + i)) param.width
   few : first_of bs id + i < total_parameter_count bs
 
-block_at : (c : Chains) (first : ℕ) (bs : List CodeBlock) (id : BlockId) (i : ℕ) (f : Formal)
+block_at : (c : PassingChains) (first : ℕ) (bs : List CodeBlock) (id : BlockId) (i : ℕ) (f : Formal)
     → slice_get (formals_of_block (signatures_from c first bs) id) i ≡ Some f → IsOf c first bs id i f
 block_at c first [] id i f e = absurd cc
 block_at c first (b ∷ bs) id i f e = by (is_same_block b.id id) refl e (λ h. block_at c (first + length b.params) bs id i f h)
@@ -106,7 +106,7 @@ listed_by false false width.Byte = refl
 listed_by false false width.Word = refl
 listed_by false false width.Dword = refl
 
-pub kind_listed : (c : Chains) (n : ℕ) (w : Width) → is_listed_type (kind_at c n w) ≡ true
+pub kind_listed : (c : PassingChains) (n : ℕ) (w : Width) → is_listed_type (kind_at c n w) ≡ true
 unfolding kind_at
 kind_listed c n w = listed_by (mark_at c.ints (slice_get c.labels n)) (mark_at c.times (slice_get c.labels n)) w
 

@@ -9,12 +9,12 @@ use Rattle.std.proofs.lemmas.Fmt.{decimal_injective}
 use Rattle.std.proofs.lemmas.Option.{same_Some, slice_get_within}
 use Rattle.std.proofs.lemmas.Slice.Eq.{bytes_eq-Decides}
 use Rattle.plc_base.specs.Folding.{upper_case_name}
-use Rattle.flat_code.specs.declared.image_fields.TheConstants.{SECTION_OUT}
+use Rattle.flat_code.specs.Records.{section_out}
 use Rattle.flat_code.specs.declared.programs.Param.{Param}
 use Rattle.stl_ast.specs.declared.declarations.Simple.TheVariants as simple
 use Rattle.stl_types.specs.Parameters.{dtime_formal, mode_formal, ob_nr_formal, return_value_formal, sign_formal, system_formals}
 use Rattle.stl_types.specs.declared.parameters.Formal.{Formal}
-use Rattle.stl_list.specs.JoinedParameters.{Chains}
+use Rattle.stl_list.specs.JoinedParameters.{PassingChains}
 use Rattle.stl_list.specs.Parameters.{name_of, parameter_name, return_name}
 use Rattle.stl_list.specs.Signatures.{formals_from, is_behind}
 use Rattle.print_laws.proofs.lexing.Numerals.{numeral}
@@ -63,11 +63,11 @@ return_other n = refl
 abbrev NameAt : (length index : ℕ) → List ℕ → Type 0
 NameAt size index name = (name ≡ parameter_name index) ⊎ ((name ≡ return_name) × (suc index ≡ size))
 
-name_is : (c : Chains) (back behind : Bool) (index first : ℕ) (ps : List Param) → ReturnsLast back behind ps
+name_is : (c : PassingChains) (back behind : Bool) (index first : ℕ) (ps : List Param) → ReturnsLast back behind ps
     → (i : ℕ) (f : Formal) → slice_get (formals_from c back behind index first ps) i ≡ Some f → NameAt (index + length ps) (index + i) f.name
 name_is c back behind index first [] h i f e = absurd cc
 name_is c back behind index first (p ∷ ps) h zero f e =
-    subst (λ (g : Formal). NameAt (index + length (p ∷ ps)) (index + 0) g.name) (same_Some _ f e) (by (behind && p.section == SECTION_OUT) h.0)
+    subst (λ (g : Formal). NameAt (index + length (p ∷ ps)) (index + 0) g.name) (same_Some _ f e) (by (behind && p.section == section_out) h.0)
   where
     at : index ≡ index + 0
     at = omega arith
@@ -90,7 +90,7 @@ name_is c back behind index first (p ∷ ps) h (suc i) f e =
     size : suc index + length ps ≡ index + length (p ∷ ps)
     size = omega arith
 
-formals_long : (c : Chains) (back behind : Bool) (index first : ℕ) (ps : List Param) → length (formals_from c back behind index first ps) ≡ length ps
+formals_long : (c : PassingChains) (back behind : Bool) (index first : ℕ) (ps : List Param) → length (formals_from c back behind index first ps) ≡ length ps
 formals_long c back behind index first [] = refl
 formals_long c back behind index first (p ∷ ps) = ap suc (formals_long c back (is_behind back behind p) (suc index) (suc first) ps)
 

@@ -41,7 +41,8 @@ use Rattle.stl_codegen.specs.Instruction.{source_block_at, in_parameter_order, r
 use Rattle.stl_codegen.specs.PassedParameters.{passed_actual, passed_resolution, passings_from, actual_of_formal, with_index}
 use Rattle.stl_list.specs.Actuals.{actual_of_passed, actual_for, actuals_before, is_written, passed_operand}
 use Rattle.stl_list.specs.Constants.{typed_constant}
-use Rattle.stl_list.specs.Operands.{name_of_data_block, direct_operand, letters_for_area, own_parameter}
+use Rattle.stl_parser.specs.Operands.{data_block_name}
+use Rattle.stl_list.specs.Operands.{direct_operand, letters_for_area, own_parameter}
 use Rattle.listing_laws.specs.Chains.{is_listed_type}
 use Rattle.listing_laws.specs.Passings.{AreActualsRight, AreAllPassed, AreCallsComplete, AreNamedApart, ArePassingsKept, AreRising, FitsListed, IsPassable, in_upper_case}
 
@@ -123,13 +124,13 @@ direct_sees c writes area.L w byte bit = refl
 direct_sees c true area.P w byte bit = refl
 direct_sees c false area.P w byte bit = refl
 
-in_block_seen : (c : Context) (writes : Bool) (number : ℕ) (w : Width) (byte bit : ℕ) → data_number c (name_of_data_block number) ≡ Some number
+in_block_seen : (c : Context) (writes : Bool) (number : ℕ) (w : Width) (byte bit : ℕ) → data_number c (data_block_name number) ≡ Some number
     → resolution_of c (direct_operand (Some number) writes area.Db w byte bit)
     ≡ Resolved (resolved.Direct (record { area = area.Db; number = number; byte = byte; bit = bit }) w side.Both None)
 unfolding resolution_of
 in_block_seen c writes number w byte bit e = ap (λ (o : Option ℕ). address_in_block o letters.Db w byte bit) e
 
-in_block_sees : (c : Context) (writes : Bool) (number : ℕ) (w : Width) (byte bit : ℕ) → nat_eq number 0 ≡ false → data_number c (name_of_data_block number) ≡ Some number
+in_block_sees : (c : Context) (writes : Bool) (number : ℕ) (w : Width) (byte bit : ℕ) → nat_eq number 0 ≡ false → data_number c (data_block_name number) ≡ Some number
     → passed_resolution (direct_operand (Some number) writes area.Db w byte bit) (resolution_of c (direct_operand (Some number) writes area.Db w byte bit))
     ≡ Some (passed.InBlock number area.Db w byte bit)
 in_block_sees c writes number w byte bit some e =
@@ -176,7 +177,7 @@ unfolding fits_operand fits_resolved_operand resolution_of
 direct_fits c f a w byte bit e =
     both (is_same_width w (width_of f.kind)) (takes_side f.section (side_of (letters_for_area (is_written f.section) a))) (same_width w (width_of f.kind) e) (side_taken f.section a)
 
-in_block_fits : (c : Context) (f : Formal) (number : ℕ) (w : Width) (byte bit : ℕ) → w ≡ width_of f.kind → data_number c (name_of_data_block number) ≡ Some number
+in_block_fits : (c : Context) (f : Formal) (number : ℕ) (w : Width) (byte bit : ℕ) → w ≡ width_of f.kind → data_number c (data_block_name number) ≡ Some number
     → fits_operand c f (direct_operand (Some number) (is_written f.section) area.Db w byte bit) ≡ true
 unfolding fits_operand fits_resolved_operand
 in_block_fits c f number w byte bit e there =

@@ -15,7 +15,7 @@ use Rattle.stl_codegen.specs.EmittedOps.{pass_ops}
 use Rattle.stl_list.specs.declared.links.Link.{Link}
 use Rattle.stl_list.specs.declared.links.Link.TheVariants.{Joins, Has}
 use Rattle.stl_list.specs.JoinedParameters.{block_links, call_links, first_of, joined_link, joined_links, links, links_from, links_of_runs, total_parameter_count, passed_own, run_links, system_link, system_links, system_parameters, typed_link}
-use Rattle.stl_list.specs.Runs.{Run}
+use Rattle.stl_list.specs.Runs.{StatementOps}
 use Rattle.listing_laws.specs.Chains.{HasStep, LinksHaveType}
 use Rattle.listing_laws.specs.Statements.{statement_offset, run_of}
 use Rattle.listing_laws.specs.Steps.{AreFirstFound, AreSeedsFound, AreStepsFound, PassesParameterOn}
@@ -95,7 +95,7 @@ module _ (all : List CodeBlock) (l : Link) where
       → ((f : ℕ → ℕ) → IsIn l (run_links all first (run_of f s.instr).before (run_of f s.instr).op.operand))
       → IsIn l (block_links all first (code_in statements))
   block_in first statements before s after e h =
-      subst (λ (rs : List Run). IsIn l (links_of_runs all first rs)) (sym (runs_found statements))
+      subst (λ (rs : List StatementOps). IsIn l (links_of_runs all first rs)) (sym (runs_found statements))
       (subst (λ (ss : List SourceInstruction). IsIn l (links_of_runs all first (map (λ (s : SourceInstruction). run_of (statement_offset statements) s.instr) ss))) (sym e)
       (runs_in first (statement_offset statements) before s after (h (statement_offset statements))))
 

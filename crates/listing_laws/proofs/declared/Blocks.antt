@@ -9,12 +9,11 @@ use Rattle.plc_base.specs.Kinds.{is_code, is_data_block, is_data_type, is_functi
 use Rattle.plc_base.specs.declared.blocks.BlockId.{BlockId}
 use Rattle.plc_base.specs.declared.blocks.BlockKind.{BlockKind}
 use Rattle.plc_base.specs.declared.blocks.BlockKind.TheVariants as kinds
-use Rattle.flat_code.specs.declared.image_fields.TheConstants.{SECTION_IN, SECTION_IN_OUT, SECTION_OUT}
 use Rattle.flat_code.specs.Blocks.{Environment, block_faults}
 use Rattle.flat_code.specs.Image.{record_of_block}
 use Rattle.flat_code.specs.Loading.{AreVerified, environment_of_block, lens_of}
 use Rattle.flat_code.specs.Programs.{CodeBlock, DataBlock}
-use Rattle.flat_code.specs.Records.{BlockRecord}
+use Rattle.flat_code.specs.Records.{BlockRecord, section_in, section_in_out, section_out}
 use Rattle.flat_code.specs.declared.programs.Param.{Param}
 use Rattle.stl_ast.specs.Literals.{AreBytes}
 use Rattle.stl_ast.specs.WellFormed.{IsShapeOf, MayReturn}
@@ -41,7 +40,7 @@ use Rattle.stl_codegen.specs.Instruction.{return_last}
 use Rattle.stl_codegen.specs.Order.{is_code_before, is_id_before}
 use Rattle.stl_list.specs.CodeBlocks.{listed_block}
 use Rattle.stl_list.specs.DataBlocks.{listed_data}
-use Rattle.stl_list.specs.JoinedParameters.{Chains, chains_of, links, total_parameter_count}
+use Rattle.stl_list.specs.JoinedParameters.{PassingChains, chains_of, links, total_parameter_count}
 use Rattle.stl_list.specs.Lines.{lines_from}
 use Rattle.stl_list.specs.Signatures.{Signature, formals_from, formals_of_block, signature, signatures, signatures_from}
 use Rattle.sem_kept.specs.AcceptedSource.{IsAccepted, program_in}
@@ -130,7 +129,7 @@ groups_from returns params ins outs [] (Some k) is e input output in_out few =
         last = [];
         are = e ∙ ap (λ z. (ins ++ z) ++ r ∷ []) (append-nil outs) ∙ append_assoc ins outs (r ∷ []) ∙ ap (λ z. ins ++ z) (sym (append-nil (outs ++ r ∷ [])));
         input = input;
-        output = all_append (λ p. p.section ≡ SECTION_OUT) outs (r ∷ []) output (refl, tt);
+        output = all_append (λ p. p.section ≡ section_out) outs (r ∷ []) output (refl, tt);
         in_out = tt;
         ends = Ends refl;
         short = omega (arith, size, a, b, c, d, few);
@@ -357,13 +356,13 @@ sourced symbols t k b l id h e code = record {
         own_fb = ap is_function_block kind ∙ fb
 
         ins : List Param
-        ins = section_params false l.components SECTION_IN parts.ins
+        ins = section_params false l.components section_in parts.ins
 
         outs : List Param
-        outs = section_params false l.components SECTION_OUT parts.outs
+        outs = section_params false l.components section_out parts.outs
 
         both : List Param
-        both = section_params false l.components SECTION_IN_OUT parts.both
+        both = section_params false l.components section_in_out parts.both
 
         are : params_of b l ≡ (ins ++ (outs ++ both)) ++ returned_params b.result
         are =
@@ -440,12 +439,12 @@ same_self i = and_from (is_same_kind i.kind i.kind) (nat_eq i.number i.number) (
     by kinds.Sfc = refl
 
 -- the formal parameters of a block are those of its own signature, and have its widths
-pub record IsKnown (c : Chains) (ss : List Signature) (b : CodeBlock) : Type 0 where
+pub record IsKnown (c : PassingChains) (ss : List Signature) (b : CodeBlock) : Type 0 where
   pub first : ℕ
   pub are : formals_of_block ss b.id ≡ formals_from c (is_function b.id.kind) false 0 first b.params
   pub wide : AreWide b.params (formals_from c (is_function b.id.kind) false 0 first b.params)
 
-known_behind : (c : Chains) (s : Signature) (ss : List Signature) (bs : List CodeBlock) → AllByRecursion (λ b. is_same_block s.id b.id ≡ false) bs → AllByRecursion (IsKnown c ss) bs
+known_behind : (c : PassingChains) (s : Signature) (ss : List Signature) (bs : List CodeBlock) → AllByRecursion (λ b. is_same_block s.id b.id ≡ false) bs → AllByRecursion (IsKnown c ss) bs
     → AllByRecursion (IsKnown c (s ∷ ss)) bs
 known_behind c s ss [] apart h = tt
 known_behind c s ss (b ∷ bs) (other, others) (one, more) = (
@@ -461,7 +460,7 @@ pub all_not_same : (b : CodeBlock) (bs : List CodeBlock) → AllByRecursion (Bef
 all_not_same b [] h = tt
 all_not_same b (x ∷ xs) (one, more) = (not_same b.id x.id one, all_not_same b xs more)
 
-pub all_known : (c : Chains) (first : ℕ) (bs : List CodeBlock) → AreAfter bs → AllByRecursion (λ s. AreWide s.params s.formals) (signatures_from c first bs)
+pub all_known : (c : PassingChains) (first : ℕ) (bs : List CodeBlock) → AreAfter bs → AllByRecursion (λ s. AreWide s.params s.formals) (signatures_from c first bs)
     → AllByRecursion (IsKnown c (signatures_from c first bs)) bs
 all_known c first [] after wide = tt
 all_known c first (b ∷ bs) (later, after) (one, more) =
@@ -472,7 +471,7 @@ all_known c first (b ∷ bs) (later, after) (one, more) =
 
 -- ---- a block is declared again
 
-declared_again : (c : Chains) (ss : List Signature) (a : Environment) (b : CodeBlock) → a.local_len ≡ b.local_len → block_faults a 0 b.code ≡ [] → IsSourced b → IsKnown c ss b → IsDeclaredAgain ss b
+declared_again : (c : PassingChains) (ss : List Signature) (a : Environment) (b : CodeBlock) → a.local_len ≡ b.local_len → block_faults a 0 b.code ≡ [] → IsSourced b → IsKnown c ss b → IsDeclaredAgain ss b
 declared_again c ss a b local_ clean s known = by s.shape
   where
     far : (reached : ℕ) → farthest_operand_end (listed_block ss reached b).body ≤ b.local_len
@@ -498,7 +497,7 @@ declared_again c ss a b local_ clean s known = by s.shape
       instance_len = λ y blocks reached is. absurd cc;
     }
 
-all_again : (c : Chains) (ss : List Signature) (lens : List (ℕ × ℕ)) (all : List BlockRecord) (bs : List CodeBlock) → AreVerified lens all (map record_of_block bs)
+all_again : (c : PassingChains) (ss : List Signature) (lens : List (ℕ × ℕ)) (all : List BlockRecord) (bs : List CodeBlock) → AreVerified lens all (map record_of_block bs)
     → AllByRecursion IsSourced bs → AllByRecursion (IsKnown c ss) bs → AllByRecursion (IsDeclaredAgain ss) bs
 all_again c ss lens all [] clean h k = tt
 all_again c ss lens all (b ∷ bs) (clean, cleans) (one, more) (known, knowns) =
@@ -566,14 +565,14 @@ fronts_apart front back b rise = by front (rise_after (front ++ b ∷ back) rise
 
 -- ---- the rules of declarations
 
-pub formals_grouped : (c : Chains) (ss : List Signature) (b : CodeBlock) → IsSourced b → IsKnown c ss b → AreGrouped (formals_of_block ss b.id)
+pub formals_grouped : (c : PassingChains) (ss : List Signature) (b : CodeBlock) → IsSourced b → IsKnown c ss b → AreGrouped (formals_of_block ss b.id)
 formals_grouped c ss b s known = subst AreGrouped (sym known.are) (by s.shape)
   where
     by : HasShape b → AreGrouped (formals_from c (is_function b.id.kind) false 0 known.first b.params)
     by (OfInstance fb i) = (all_listed c (is_function b.id.kind) known.first b.params (instance_groups b (is_function b.id.kind) i s.few) known.wide).groups
     by (Ordinary fb o) = (all_listed c (is_function b.id.kind) known.first b.params o.groups known.wide).groups
 
-codes_right : (c : Chains) (ss : List Signature) (y : Types) (line : ℕ) (bs : List CodeBlock) → AllByRecursion IsSourced bs → AllByRecursion (IsKnown c ss) bs
+codes_right : (c : PassingChains) (ss : List Signature) (y : Types) (line : ℕ) (bs : List CodeBlock) → AllByRecursion IsSourced bs → AllByRecursion (IsKnown c ss) bs
     → AllByRecursion (λ b. AreDeclarationsRight y (listed_block ss line b)) bs
 codes_right c ss y line [] h k = tt
 codes_right c ss y line (b ∷ bs) (one, more) (known, knowns) = (code_right y ss line b (formals_grouped c ss b one known), codes_right c ss y line bs more knowns)

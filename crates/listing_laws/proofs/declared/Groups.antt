@@ -2,12 +2,12 @@
 use Rattle.std.proofs.Common.{◌≡◌, ℕ, suc, ◌+◌, ◌<◌, ◌^◌, Bool, true, false, List, [], ◌∷◌, ◌++◌, length, refl, sym, ap, subst, ◌∙◌, arith}
 use Rattle.std.specs.Prelude.{◌==◌, ◌&&◌, ◌||◌}
 use Rattle.std.specs.List.{AllByRecursion}
-use Rattle.flat_code.specs.declared.image_fields.TheConstants.{SECTION_IN_OUT, SECTION_OUT}
+use Rattle.flat_code.specs.Records.{section_in_out, section_out}
 use Rattle.flat_code.specs.declared.programs.Param.{Param}
 use Rattle.stl_ast.specs.declared.blocks.PartKind.{PartKind}
 use Rattle.stl_ast.specs.declared.blocks.PartKind.TheVariants as part
 use Rattle.stl_types.specs.declared.parameters.Formal.{Formal}
-use Rattle.stl_list.specs.JoinedParameters.{Chains}
+use Rattle.stl_list.specs.JoinedParameters.{PassingChains}
 use Rattle.stl_list.specs.Parameters.{name_of, section_of}
 use Rattle.stl_list.specs.Signatures.{formal_of_param, formals_from, is_behind}
 use Rattle.listing_laws.specs.ListedDeclarations.{AreWide}
@@ -21,7 +21,7 @@ AreOf section ps = AllByRecursion (λ p. p.section ≡ section) ps
 -- a return value behind an IN_OUT, or none
 pub data HasEnd (returns : Bool) (both last : List Param) : Type 0 where
   Ends : last ≡ [] → HasEnd returns both last
-  Returns : (r p : Param) (ps : List Param) → returns ≡ true → both ≡ p ∷ ps → last ≡ r ∷ [] → r.section ≡ SECTION_OUT → HasEnd returns both last
+  Returns : (r p : Param) (ps : List Param) → returns ≡ true → both ≡ p ∷ ps → last ≡ r ∷ [] → r.section ≡ section_out → HasEnd returns both last
 
 -- the parameters of a block in the order of an image. `returns`: it is a function
 pub record HasGroups (returns : Bool) (params : List Param) : Type 0 where
@@ -42,7 +42,7 @@ behind_after : (returns behind : Bool) → List Param → Bool
 behind_after returns behind [] = behind
 behind_after returns behind (p ∷ ps) = behind_after returns (is_behind returns behind p) ps
 
-formals_append : (c : Chains) (returns behind : Bool) (index first : ℕ) (ps rest : List Param)
+formals_append : (c : PassingChains) (returns behind : Bool) (index first : ℕ) (ps rest : List Param)
     → formals_from c returns behind index first (ps ++ rest)
     ≡ formals_from c returns behind index first ps ++ formals_from c returns (behind_after returns behind ps) (index + length ps) (first + length ps) rest
 unfolding behind_after
@@ -58,7 +58,7 @@ formals_append c returns behind index first (p ∷ ps) rest =
     ap (λ z. formal_of_param c behind index first p ∷ z) (more ∙ (λ i. formals_from c returns (is_behind returns behind p) (suc index) (suc first) ps ++ formals_from c returns after (a i) (b i) rest))
 
 -- no IN_OUT among these
-still : (returns : Bool) (section : ℕ) (ps : List Param) → (section == SECTION_IN_OUT) ≡ false → AreOf section ps → behind_after returns false ps ≡ false
+still : (returns : Bool) (section : ℕ) (ps : List Param) → (section == section_in_out) ≡ false → AreOf section ps → behind_after returns false ps ≡ false
 unfolding behind_after
 still returns section [] apart h = refl
 still returns section (p ∷ ps) apart (is, more) =
@@ -85,31 +85,31 @@ behind_both behind p ps (is, more) =
     by true = refl
     by false = refl
 
-numbered_from : (c : Chains) (returns behind : Bool) (index first section : ℕ) (ps : List Param) → (section == SECTION_OUT) ≡ false → AreOf section ps
+numbered_from : (c : PassingChains) (returns behind : Bool) (index first section : ℕ) (ps : List Param) → (section == section_out) ≡ false → AreOf section ps
     → AreNumbered index (formals_from c returns behind index first ps)
 numbered_from c returns behind index first section [] apart h = tt
 numbered_from c returns behind index first section (p ∷ ps) apart (is, more) =
-    let none : (behind && p.section == SECTION_OUT) ≡ false = ap (λ n. behind && n == SECTION_OUT) is ∙ ap (λ t. behind && t) apart ∙ by behind in
+    let none : (behind && p.section == section_out) ≡ false = ap (λ n. behind && n == section_out) is ∙ ap (λ t. behind && t) apart ∙ by behind in
     (ap (λ t. name_of t index) none, numbered_from c returns (is_behind returns behind p) (suc index) (suc first) section ps apart more)
   where
     by : (t : Bool) → (t && false) ≡ false
     by true = refl
     by false = refl
 
-numbered_outs : (c : Chains) (returns : Bool) (index first : ℕ) (ps : List Param) → AreOf 2 ps → AreNumbered index (formals_from c returns false index first ps)
+numbered_outs : (c : PassingChains) (returns : Bool) (index first : ℕ) (ps : List Param) → AreOf 2 ps → AreNumbered index (formals_from c returns false index first ps)
 unfolding behind_after
 numbered_outs c returns index first [] h = tt
 numbered_outs c returns index first (p ∷ ps) (is, more) =
     let none : is_behind returns false p ≡ false = still returns 2 (p ∷ []) refl (is, tt) in
     (refl, subst (λ t. AreNumbered (suc index) (formals_from c returns t (suc index) (suc first) ps)) (sym none) (numbered_outs c returns (suc index) (suc first) ps more))
 
-sections_from : (c : Chains) (returns behind : Bool) (index first section : ℕ) (kind : PartKind) (ps : List Param) → section_of section ≡ kind → AreOf section ps
+sections_from : (c : PassingChains) (returns behind : Bool) (index first section : ℕ) (kind : PartKind) (ps : List Param) → section_of section ≡ kind → AreOf section ps
     → AllByRecursion (λ f. f.section ≡ kind) (formals_from c returns behind index first ps)
 sections_from c returns behind index first section kind [] e h = tt
 sections_from c returns behind index first section kind (p ∷ ps) e (is, more) =
     (ap section_of is ∙ e, sections_from c returns (is_behind returns behind p) (suc index) (suc first) section kind ps e more)
 
-pub formals_length : (c : Chains) (returns behind : Bool) (index first : ℕ) (ps : List Param) → length (formals_from c returns behind index first ps) ≡ length ps
+pub formals_length : (c : PassingChains) (returns behind : Bool) (index first : ℕ) (ps : List Param) → length (formals_from c returns behind index first ps) ≡ length ps
 formals_length c returns behind index first [] = refl
 formals_length c returns behind index first (p ∷ ps) = ap suc (formals_length c returns (is_behind returns behind p) (suc index) (suc first) ps)
 
@@ -131,19 +131,19 @@ pub record AreListed (returns : Bool) (params : List Param) (p : HasGroups retur
   pub wide_both : AreWide p.both groups.both
   pub wide_last : AreWide p.last groups.last
 
-last_is : (c : Chains) (returns : Bool) (index first : ℕ) (both last : List Param) → HasEnd returns both last → AreOf 3 both
+last_is : (c : PassingChains) (returns : Bool) (index first : ℕ) (both last : List Param) → HasEnd returns both last → AreOf 3 both
     → IsLast (formals_from c returns (behind_after returns false both) index first last)
 last_is c returns index first both last (Ends e) h = NoLast (ap (λ z. formals_from c returns (behind_after returns false both) index first z) e)
 last_is c returns index first both last (Returns r p ps is some alone section) h =
     subst (λ z. IsLast (formals_from c returns (behind_after returns false both) index first z)) (sym alone)
-    (LastReturned _ (ap (λ t. name_of t index) (ap (λ t. t && r.section == SECTION_OUT) there ∙ ap (λ n. n == SECTION_OUT) section)) refl)
+    (LastReturned _ (ap (λ t. name_of t index) (ap (λ t. t && r.section == section_out) there ∙ ap (λ n. n == section_out) section)) refl)
   where
     there : behind_after returns false both ≡ true
     there =
         ap (λ t. behind_after t false both) is ∙ ap (behind_after true false) some
         ∙ behind_both false p ps (subst (AreOf 3) some h)
 
-pub all_listed : (c : Chains) (returns : Bool) (first : ℕ) (params : List Param) (g : HasGroups returns params) → AreWide params (formals_from c returns false 0 first params)
+pub all_listed : (c : PassingChains) (returns : Bool) (first : ℕ) (params : List Param) (g : HasGroups returns params) → AreWide params (formals_from c returns false 0 first params)
     → AreListed returns params g (formals_from c returns false 0 first params)
 all_listed c returns first params g wide = record {
   groups = record {

@@ -10,7 +10,7 @@ use Rattle.plc_base.specs.Kinds.{is_code, is_function, is_function_block}
 use Rattle.plc_base.specs.declared.blocks.BlockKind.{BlockKind}
 use Rattle.plc_base.specs.declared.blocks.BlockKind.TheVariants as kinds
 use Rattle.plc_base.specs.Folding.{upper_case_name}
-use Rattle.flat_code.specs.declared.image_fields.TheConstants.{SECTION_IN, SECTION_IN_OUT, SECTION_OUT}
+use Rattle.flat_code.specs.Records.{section_in, section_in_out, section_out}
 use Rattle.flat_code.specs.Programs.{CodeBlock}
 use Rattle.flat_code.specs.declared.programs.Param.{Param}
 use Rattle.stl_ast.specs.Blocks.{is_parameter}
@@ -212,7 +212,7 @@ pub record IsInstance (b : CodeBlock) : Type 0 where
   pub cells : List Cell
   pub by_sections : HasSections cells
   pub apart : CellNamesDiffer (by_sections.ins ++ (by_sections.outs ++ by_sections.both))
-  pub params : b.params ≡ section_params true cells SECTION_IN by_sections.ins ++ (section_params true cells SECTION_OUT by_sections.outs ++ section_params true cells SECTION_IN_OUT by_sections.both)
+  pub params : b.params ≡ section_params true cells section_in by_sections.ins ++ (section_params true cells section_out by_sections.outs ++ section_params true cells section_in_out by_sections.both)
   pub length : b.instance_len ≡ structure_bits cells / 8
   pub short : b.instance_len ≤ 16384
 
@@ -223,9 +223,9 @@ made_of all section (c ∷ cs) = (refl, made_of all section cs)
 pub instance_groups : (b : CodeBlock) (returns : Bool) → IsInstance b → length b.params ≤ 60 → HasGroups returns b.params
 instance_groups b returns i few =
     let h = i.by_sections in
-    let ins = section_params true i.cells SECTION_IN h.ins in
-    let outs = section_params true i.cells SECTION_OUT h.outs in
-    let both = section_params true i.cells SECTION_IN_OUT h.both in
+    let ins = section_params true i.cells section_in h.ins in
+    let outs = section_params true i.cells section_out h.outs in
+    let both = section_params true i.cells section_in_out h.both in
     let size = ap length i.params ∙ length-append ins (outs ++ both) in
     let more = length-append outs both in
     record {
@@ -401,17 +401,17 @@ instance_kept y ss reached b returns i few fb a = record {
     ds = plain_cells part.Input g.ins ++ (plain_cells part.Output g.outs ++ plain_cells part.InOut g.both)
 
     ps : List Param
-    ps = section_params true i.cells SECTION_IN h.ins ++ (section_params true i.cells SECTION_OUT h.outs ++ section_params true i.cells SECTION_IN_OUT h.both)
+    ps = section_params true i.cells section_in h.ins ++ (section_params true i.cells section_out h.outs ++ section_params true i.cells section_in_out h.both)
 
     whole : i.cells ≡ cs ++ h.rest
     whole = h.are ∙ sym (append_assoc h.ins (h.outs ++ h.both) h.rest ∙ ap (λ z. h.ins ++ z) (append_assoc h.outs h.both h.rest))
 
     same : AreSame (look_in i.cells) cs ps ds
     same =
-        same_append (look_in i.cells) h.ins (section_params true i.cells SECTION_IN h.ins) (plain_cells part.Input g.ins) (h.outs ++ h.both) (section_params true i.cells SECTION_OUT h.outs ++ section_params true i.cells SECTION_IN_OUT h.both)
+        same_append (look_in i.cells) h.ins (section_params true i.cells section_in h.ins) (plain_cells part.Input g.ins) (h.outs ++ h.both) (section_params true i.cells section_out h.outs ++ section_params true i.cells section_in_out h.both)
         (plain_cells part.Output g.outs ++ plain_cells part.InOut g.both)
         (same_section i.cells part.Input h.ins g.ins refl h.input a.wide_ins)
-        (same_append (look_in i.cells) h.outs (section_params true i.cells SECTION_OUT h.outs) (plain_cells part.Output g.outs) h.both (section_params true i.cells SECTION_IN_OUT h.both) (plain_cells part.InOut g.both)
+        (same_append (look_in i.cells) h.outs (section_params true i.cells section_out h.outs) (plain_cells part.Output g.outs) h.both (section_params true i.cells section_in_out h.both) (plain_cells part.InOut g.both)
         (same_section i.cells part.Output h.outs g.outs refl h.output a.wide_outs) (same_section i.cells part.InOut h.both g.both refl h.in_out a.wide_both))
 
     same_whole : AreSame (look_in (cs ++ h.rest)) cs ps ds

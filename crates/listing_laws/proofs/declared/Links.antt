@@ -14,13 +14,13 @@ use Rattle.plc_base.specs.declared.blocks.BlockKind.{BlockKind}
 use Rattle.plc_base.specs.declared.blocks.BlockKind.TheVariants as kinds
 use Rattle.plc_base.specs.declared.places.Width.{Width}
 use Rattle.plc_base.specs.declared.places.Width.TheVariants as width
-use Rattle.flat_code.specs.Blocks.{Environment, CalleeSeen, BlockSignature, at_offset, block_faults, block_with, call_fault, call_fault_among, callee_among, faults_over, is_bad_actual, is_bad_call, is_stray_pass, lacks_own_parameter, misfits_call, misfits_callee, misfits_index, op_faults, operand_fault, parameter_meant, seven_if, signature_of, callee_of_system, system_params}
+use Rattle.flat_code.specs.Blocks.{Environment, CalleeSignature, BlockSignature, at_offset, block_faults, block_with, call_fault, call_fault_among, callee_among, faults_over, is_bad_actual, is_bad_call, is_stray_pass, lacks_own_parameter, misfits_call, misfits_callee, misfits_index, op_faults, operand_fault, parameter_meant, seven_if, signature_of, callee_of_system, system_params}
 use Rattle.flat_code.specs.Codes.{size_of_op}
 use Rattle.flat_code.specs.Image.{record_of_block, record_of_param}
 use Rattle.flat_code.specs.Loading.{AreVerified, Verifies, environment_of_block, lens_of}
 use Rattle.flat_code.specs.OpCodes.{op_code_of}
 use Rattle.flat_code.specs.Ops.{OpData}
-use Rattle.flat_code.specs.PlacedOps.{PlacedOp, StatementSpot, before_next, ending_op, last_op, brackets_after, ops_placed, statement_spots, zones_behind_op}
+use Rattle.flat_code.specs.PlacedOps.{PlacedOp, StatementStart, before_next, ending_op, last_op, brackets_after, ops_placed, starts_of_statements, zones_behind_op}
 use Rattle.flat_code.specs.Programs.{CodeBlock, Program}
 use Rattle.flat_code.specs.declared.image_fields.OpenBracket.{OpenBracket}
 use Rattle.flat_code.specs.declared.image_fields.ParameterRecord.{ParameterRecord}
@@ -34,7 +34,7 @@ use Rattle.stl_types.specs.Parameters.{system_formals}
 use Rattle.stl_types.specs.declared.parameters.Formal.{Formal}
 use Rattle.block_layout.specs.Offsets.{width_of}
 use Rattle.stl_list.specs.JoinedParameters.{block_links, call_links, called_id, called_kind, first_of, joined_link, joined_links, links, links_from, links_of_runs, passed_parameter, run_links, system_link, system_links, system_parameters, typed_link}
-use Rattle.stl_list.specs.Runs.{Run, runs, runs_from}
+use Rattle.stl_list.specs.Runs.{StatementOps, runs, runs_from}
 use Rattle.block_layout.proofs.CommonLemmas.{none_left, none_right, or_first, or_second}
 use Rattle.sem_kept.proofs.accepted.OperandsFormals.{Matched, system_matched}
 use Rattle.listing_laws.proofs.declared.Chains.{IsGoodLink, widths}
@@ -49,7 +49,7 @@ IsPassedRight a last _ = Unit {0}
 
 -- a block that is called is there
 abbrev IsCalledRight : Environment → FlatOperand → Type 0
-IsCalledRight a (flat.Called kind number instance) = (s : CalleeSeen) × (callee_among a.blocks kind number ≡ Some s)
+IsCalledRight a (flat.Called kind number instance) = (s : CalleeSignature) × (callee_among a.blocks kind number ≡ Some s)
 IsCalledRight a _ = Unit {0}
 
 abbrev AreRight : Environment → List OpData → Type 0
@@ -72,7 +72,7 @@ second_false : (a b : Bool) → a ≡ true → (a && b) ≡ false → b ≡ fals
 second_false true b e h = h
 second_false false b e h = absurd cc
 
-passed_right : (a : Environment) (ss : List StatementSpot) (lens : List (ℕ × ℕ)) (p : PlacedOp) (o : FlatOperand) → a.data_lens ≡ Some lens → operand_fault a ss p o ≡ None
+passed_right : (a : Environment) (ss : List StatementStart) (lens : List (ℕ × ℕ)) (p : PlacedOp) (o : FlatOperand) → a.data_lens ≡ Some lens → operand_fault a ss p o ≡ None
     → call_fault_among a lens p o ≡ None → IsPassedRight a (last_op p).operand o
 passed_right a ss lens p (flat.Pass index (passed.Parameter own w)) e h k =
     let bad = no_seven (is_stray_pass p index || is_bad_actual a (passed.Parameter own w)) h in
@@ -89,12 +89,12 @@ passed_right a ss lens p _ e h k = tt
 called_right : (a : Environment) (lens : List (ℕ × ℕ)) (p : PlacedOp) (o : FlatOperand) → call_fault_among a lens p o ≡ None → IsCalledRight a o
 called_right a lens p (flat.Called kind number instance) k = by (callee_among a.blocks kind number) refl (no_seven _ k)
   where
-    by : (s : Option CalleeSeen) → callee_among a.blocks kind number ≡ s → is_bad_call lens s instance p.before ≡ false → (s : CalleeSeen) × (callee_among a.blocks kind number ≡ Some s)
+    by : (s : Option CalleeSignature) → callee_among a.blocks kind number ≡ s → is_bad_call lens s instance p.before ≡ false → (s : CalleeSignature) × (callee_among a.blocks kind number ≡ Some s)
     by None e h = absurd cc
     by (Some s) e h = (s, e)
 called_right a lens p _ k = tt
 
-ops_right : (a : Environment) (lens : List (ℕ × ℕ)) (ss : List StatementSpot) (at : ℕ) (brackets : List OpenBracket) (zones : List ℕ) (before ops : List OpData) → a.data_lens ≡ Some lens
+ops_right : (a : Environment) (lens : List (ℕ × ℕ)) (ss : List StatementStart) (at : ℕ) (brackets : List OpenBracket) (zones : List ℕ) (before ops : List OpData) → a.data_lens ≡ Some lens
     → faults_over a ss 0 (ops_placed at brackets zones before ops) ≡ [] → AreRight a ops
 unfolding op_faults
 ops_right a lens ss at brackets zones before [] known e = tt
@@ -113,7 +113,7 @@ ops_right a lens ss at brackets zones before (op ∷ ops) known e =
 -- ---- statements
 
 -- the ops of a statement
-abbrev IsRightRun : Environment → Run → Type 0
+abbrev IsRightRun : Environment → StatementOps → Type 0
 IsRightRun a r = AllByRecursion (λ op. IsPassedRight a r.op.operand op.operand) r.before × IsCalledRight a r.op.operand
 
 -- the op that ends a statement, of which these are left
@@ -218,7 +218,7 @@ signature_in : CodeBlock → BlockSignature
 signature_in b = signature_of (record_of_block b)
 
 -- the kind of a block that is found
-found_kind : (kind number : ℕ) (bs : List CodeBlock) (s : CalleeSeen) → AllByRecursion (λ b. is_code b.id.kind ≡ true) bs → block_with kind number (map signature_of (map record_of_block bs)) ≡ Some s
+found_kind : (kind number : ℕ) (bs : List CodeBlock) (s : CalleeSignature) → AllByRecursion (λ b. is_code b.id.kind ≡ true) bs → block_with kind number (map signature_of (map record_of_block bs)) ≡ Some s
     → (k : BlockKind) × (is_code k ≡ true) × (kind ≡ kind_number k)
 found_kind kind number [] s codes e = absurd cc
 found_kind kind number (b ∷ bs) s (code, codes) e = by (kind_number b.id.kind == kind && b.id.number == number) refl e (λ f. found_kind kind number bs s codes f)
@@ -231,7 +231,7 @@ found_kind kind number (b ∷ bs) s (code, codes) e = by (kind_number b.id.kind 
     by false t f more = more f
 
 -- a parameter of the block that is found, among those of all blocks
-found_there : (k : BlockKind) (number : ℕ) (bs : List CodeBlock) (s : CalleeSeen) (index : ℕ) (r : ParameterRecord) (w : Width) → is_code k ≡ true → AllByRecursion (λ b. is_code b.id.kind ≡ true) bs
+found_there : (k : BlockKind) (number : ℕ) (bs : List CodeBlock) (s : CalleeSignature) (index : ℕ) (r : ParameterRecord) (w : Width) → is_code k ≡ true → AllByRecursion (λ b. is_code b.id.kind ≡ true) bs
     → block_with (kind_number k) number (map signature_of (map record_of_block bs)) ≡ Some s → slice_get s.2 index ≡ Some r → r.width ≡ width_number w
     → slice_get (widths bs) (first_of bs (record { kind = k; number = number }) + index) ≡ Some w
 found_there k number [] s index r w is codes e there wide = absurd cc
@@ -414,7 +414,7 @@ run_good : (a : Environment) (blocks : List CodeBlock) (first : ℕ) (b : CodeBl
 run_good a blocks first b before (flat.Called kind number instance) among called h = call_good a blocks first b kind number instance before among called h
 run_good a blocks first b before _ among called h = tt
 
-runs_good : (a : Environment) (blocks : List CodeBlock) (first : ℕ) (b : CodeBlock) (rs : List Run) → IsAmong a blocks first b → AllByRecursion (IsRightRun a) rs
+runs_good : (a : Environment) (blocks : List CodeBlock) (first : ℕ) (b : CodeBlock) (rs : List StatementOps) → IsAmong a blocks first b → AllByRecursion (IsRightRun a) rs
     → AllByRecursion (IsGoodLink (widths blocks)) (links_of_runs blocks first rs)
 runs_good a blocks first b [] among h = tt
 runs_good a blocks first b (r ∷ rs) among (one, more) =
@@ -426,7 +426,7 @@ block_good : (a : Environment) (lens : List (ℕ × ℕ)) (blocks : List CodeBlo
 unfolding block_faults runs
 block_good a lens blocks first b known among e =
     runs_good a blocks first b (runs b.code) among
-    (runs_right a [] b.code (none b.code) (ops_right a lens (statement_spots b.code) 0 [] [] [] b.code known (none_left _ _ (none_left _ _ e))))
+    (runs_right a [] b.code (none b.code) (ops_right a lens (starts_of_statements b.code) 0 [] [] [] b.code known (none_left _ _ (none_left _ _ e))))
   where
     none : (ops : List OpData) → FitsNext a [] ops
     none [] = tt

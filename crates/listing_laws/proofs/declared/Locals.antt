@@ -13,7 +13,7 @@ use Rattle.flat_code.specs.Blocks.{Environment, at_offset, block_faults, faults_
 use Rattle.flat_code.specs.Operations.{operation_of}
 use Rattle.flat_code.specs.Ops.{OpData}
 use Rattle.flat_code.specs.Codes.{size_of_op}
-use Rattle.flat_code.specs.PlacedOps.{PlacedOp, StatementSpot, before_next, brackets_after, ops_placed, statement_spots, zones_behind_op}
+use Rattle.flat_code.specs.PlacedOps.{PlacedOp, StatementStart, before_next, brackets_after, ops_placed, starts_of_statements, zones_behind_op}
 use Rattle.flat_code.specs.declared.image_fields.OpenBracket.{OpenBracket}
 use Rattle.flat_code.specs.Programs.{CodeBlock}
 use Rattle.flat_code.specs.declared.operands.Operand.TheVariants as flat
@@ -35,7 +35,7 @@ use Rattle.stl_list.specs.Constants.{instruction_constant, pointer_constant}
 use Rattle.stl_list.specs.JoinedParameters.{called_id}
 use Rattle.stl_list.specs.Lines.{line_of_statement}
 use Rattle.stl_list.specs.Operands.{implied_operand, letters_for_area, block_opened_by_ops, operand_by, plain_operand, timer_or_counter, operation_writes_operand}
-use Rattle.stl_list.specs.Runs.{Run, runs, runs_from}
+use Rattle.stl_list.specs.Runs.{StatementOps, runs, runs_from}
 use Rattle.stl_list.specs.Signatures.{Signature, called_formals}
 use Rattle.stl_list.specs.Statements.{ListingContext, body_of, label_at, label_of_end, listed_statement, statement_at, statements_from, listing_context}
 use Rattle.block_layout.proofs.CommonLemmas.{none_left, none_right, or_second}
@@ -90,14 +90,14 @@ actual_near around (passed.InBlock number area.M w byte bit) e = tt
 actual_near around (passed.InBlock number area.Di w byte bit) e = tt
 actual_near around (passed.InBlock number area.P w byte bit) e = tt
 
-operand_near : (around : Environment) (ss : List StatementSpot) (p : PlacedOp) (o : FlatOperand) → operand_fault around ss p o ≡ None → NearOperand around.local_len o
+operand_near : (around : Environment) (ss : List StatementStart) (p : PlacedOp) (o : FlatOperand) → operand_fault around ss p o ≡ None → NearOperand around.local_len o
 operand_near around ss p (flat.Direct a w byte bit) e =
     place_near around a w byte bit (or_second (lacks_width p.op w) (is_bad_place around a w byte bit) (no_seven (lacks_width p.op w || is_bad_place around a w byte bit) e))
 operand_near around ss p (flat.Pass index actual) e =
     actual_near around actual (or_second (is_stray_pass p index) (is_bad_actual around actual) (no_seven (is_stray_pass p index || is_bad_actual around actual) e))
 operand_near around ss p _ e = tt
 
-ops_near : (around : Environment) (ss : List StatementSpot) (at : ℕ) (brackets : List OpenBracket) (zones : List ℕ) (before ops : List OpData)
+ops_near : (around : Environment) (ss : List StatementStart) (at : ℕ) (brackets : List OpenBracket) (zones : List ℕ) (before ops : List OpData)
     → faults_over around ss 0 (ops_placed at brackets zones before ops) ≡ [] → AllByRecursion (NearOp around.local_len) ops
 unfolding op_faults
 ops_near around ss at brackets zones before [] e = tt
@@ -112,7 +112,7 @@ ops_near around ss at brackets zones before (op ∷ ops) e =
 
 pub code_near : (around : Environment) (ops : List OpData) → block_faults around 0 ops ≡ [] → AllByRecursion (NearOp around.local_len) ops
 unfolding block_faults
-code_near around ops e = ops_near around (statement_spots ops) 0 [] [] [] ops (none_left _ _ (none_left _ _ e))
+code_near around ops e = ops_near around (starts_of_statements ops) 0 [] [] [] ops (none_left _ _ (none_left _ _ e))
 
 -- ---- operands of the listing
 
@@ -203,10 +203,10 @@ farthest_append most (x ∷ xs) ys h k =
     let more = farthest_append most xs ys (omega (arith, h)) k in
     omega (arith, h, more)
 
-NearRun : (most : ℕ) → Run → Type 0
+NearRun : (most : ℕ) → StatementOps → Type 0
 NearRun most r = AllByRecursion (NearOp most) r.before × NearOp most r.op
 
-statement_near : (most : ℕ) (s : ListingContext) (n : ℕ) (r : Run) → NearRun most r → farthest_operand_end (listed_statement s n r ∷ []) ≤ most
+statement_near : (most : ℕ) (s : ListingContext) (n : ℕ) (r : StatementOps) → NearRun most r → farthest_operand_end (listed_statement s n r ∷ []) ≤ most
 unfolding NearRun
 statement_near most s n r (before, op) =
     let a = operand_end most s.formals s.starts (block_opened_by_ops r.before) (operation_of r.op.code) r.op.operand op in
@@ -217,13 +217,13 @@ end_near : (most line : ℕ) (label : Option (List ℕ)) → farthest_operand_en
 end_near most line None = omega arith
 end_near most line (Some label) = omega arith
 
-at_near : (most : ℕ) (s : ListingContext) (n : ℕ) (r : Run) → NearRun most r → farthest_operand_end (statement_at s n r) ≤ most
+at_near : (most : ℕ) (s : ListingContext) (n : ℕ) (r : StatementOps) → NearRun most r → farthest_operand_end (statement_at s n r) ≤ most
 unfolding statement_at
 at_near most s n r h =
     either_way (λ l. farthest_operand_end l ≤ most) (suc n == length s.lines) (label_of_end (line_of_statement s.lines n) (label_at s.targets n)) (listed_statement s n r ∷ [])
     (end_near most (line_of_statement s.lines n) (label_at s.targets n)) (statement_near most s n r h)
 
-from_near : (most : ℕ) (s : ListingContext) (n : ℕ) (rs : List Run) → AllByRecursion (NearRun most) rs → farthest_operand_end (statements_from s n rs) ≤ most
+from_near : (most : ℕ) (s : ListingContext) (n : ℕ) (rs : List StatementOps) → AllByRecursion (NearRun most) rs → farthest_operand_end (statements_from s n rs) ≤ most
 from_near most s n [] h = omega arith
 from_near most s n (r ∷ rs) (one, more) =
     farthest_append most (statement_at s n r) (statements_from s (suc n) rs) (at_near most s n r one) (from_near most s (suc n) rs more)

@@ -10,7 +10,7 @@ use Rattle.plc_base.proofs.ListLemmas.{all_append}
 use Rattle.plc_base.specs.declared.blocks.BlockKind.{BlockKind}
 use Rattle.plc_base.specs.declared.places.Width.{Width}
 use Rattle.plc_base.specs.declared.places.Width.TheVariants as width
-use Rattle.flat_code.specs.declared.image_fields.TheConstants.{SECTION_IN, SECTION_IN_OUT, SECTION_OUT}
+use Rattle.flat_code.specs.Records.{section_in, section_in_out, section_out}
 use Rattle.flat_code.specs.declared.programs.Param.{Param}
 use Rattle.stl_ast.specs.Blocks.{is_parameter, part_rank}
 use Rattle.stl_ast.specs.Outline.{IsOutline}
@@ -294,7 +294,7 @@ made_others in_instance all [] h = refl
 made_others in_instance all (c ∷ cs) (one, more) = rw one (made_others in_instance all cs more)
 
 pub made_sections : (in_instance : Bool) (all cells : List Cell) (h : HasSections cells)
-    → flat_map (λ c. param_here in_instance all c) cells ≡ section_params in_instance all SECTION_IN h.ins ++ (section_params in_instance all SECTION_OUT h.outs ++ section_params in_instance all SECTION_IN_OUT h.both)
+    → flat_map (λ c. param_here in_instance all c) cells ≡ section_params in_instance all section_in h.ins ++ (section_params in_instance all section_out h.outs ++ section_params in_instance all section_in_out h.both)
 made_sections in_instance all cells h =
     let f = λ (c : Cell). param_here in_instance all c in
     ap (flat_map f) h.are
@@ -302,7 +302,7 @@ made_sections in_instance all cells h =
     ∙ ap (λ z. flat_map f h.ins ++ z) (flat_map-append f h.outs (h.both ++ h.rest) ∙ ap (λ z. flat_map f h.outs ++ z) (flat_map-append f h.both h.rest))
     ∙ (λ i. made_from in_instance all part.Input true h.ins refl h.input i ++ (made_from in_instance all part.Output true h.outs refl h.output i
     ++ (made_from in_instance all part.InOut true h.both refl h.in_out i ++ made_others in_instance all h.rest h.others i)))
-    ∙ ap (λ z. section_params in_instance all SECTION_IN h.ins ++ (section_params in_instance all SECTION_OUT h.outs ++ z)) (append-nil (section_params in_instance all SECTION_IN_OUT h.both))
+    ∙ ap (λ z. section_params in_instance all section_in h.ins ++ (section_params in_instance all section_out h.outs ++ z)) (append-nil (section_params in_instance all section_in_out h.both))
 
 -- ---- their names are apart
 

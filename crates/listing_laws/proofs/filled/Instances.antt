@@ -38,7 +38,7 @@ use Rattle.stl_codegen.specs.GeneratedProgram.{data_block_of, function_block_num
 use Rattle.stl_list.specs.CodeBlocks.{in_lines, listed_block, listed_blocks}
 use Rattle.stl_list.specs.DataBlocks.{function_block, known_settings, listed_data}
 use Rattle.stl_list.specs.Initial.{byte_settings, parameter_settings, settings_of}
-use Rattle.stl_list.specs.JoinedParameters.{Chains}
+use Rattle.stl_list.specs.JoinedParameters.{PassingChains}
 use Rattle.stl_list.specs.Lines.{line_behind_statements}
 use Rattle.stl_list.specs.Sections.{static_len, static_name, static_start}
 use Rattle.stl_list.specs.Signatures.{Signature, formals_from, formals_of_block, is_behind, signature, signatures_from}
@@ -85,7 +85,7 @@ signed_behind s ss (b ∷ bs) (other, others) (one, more) = (
   signed_behind s ss bs others more,
 )
 
-pub all_signed : (c : Chains) (first : ℕ) (bs : List CodeBlock) → AreAfter bs → AllByRecursion (HasSignature (signatures_from c first bs)) bs
+pub all_signed : (c : PassingChains) (first : ℕ) (bs : List CodeBlock) → AreAfter bs → AllByRecursion (HasSignature (signatures_from c first bs)) bs
 all_signed c first [] after = tt
 all_signed c first (b ∷ bs) (later, after) =
     let s = signature c first b in
@@ -101,7 +101,7 @@ all_signed c first (b ∷ bs) (later, after) =
     )
 
 -- the types of parameters are those that a listing has
-pub formals_listed : (c : Chains) (returns behind : Bool) (index first : ℕ) (ps : List Param) → AllByRecursion (λ f. is_listed_type f.kind ≡ true) (formals_from c returns behind index first ps)
+pub formals_listed : (c : PassingChains) (returns behind : Bool) (index first : ℕ) (ps : List Param) → AllByRecursion (λ f. is_listed_type f.kind ≡ true) (formals_from c returns behind index first ps)
 formals_listed c returns behind index first [] = tt
 formals_listed c returns behind index first (p ∷ ps) = (kind_listed c first p.width, formals_listed c returns (is_behind returns behind p) (suc index) (suc first) ps)
 

@@ -20,7 +20,7 @@ use Rattle.stl_codegen.specs.Order.{sorted_list}
 use Rattle.stl_codegen.proofs.ProgramLemmas.{all_before}
 use Rattle.stl_list.specs.CodeBlocks.{in_lines, line_reached}
 use Rattle.stl_list.specs.DataBlocks.{function_block, listed_data, listed_data_blocks}
-use Rattle.stl_list.specs.JoinedParameters.{Chains, chains_of}
+use Rattle.stl_list.specs.JoinedParameters.{PassingChains, chains_of}
 use Rattle.stl_list.specs.Lines.{stands_before}
 use Rattle.stl_list.specs.Listing.{listed_tree}
 use Rattle.stl_list.specs.Signatures.{Signature, signatures}
@@ -67,12 +67,12 @@ unfolding in_lines
 in_lines_places bs = all_before (HasPlace (sorted_list stands_before bs)) stands_before bs (all_places (sorted_list stands_before bs))
 
 -- what is known of a code block in a listing
-record IsReady (c : Chains) (ss : List Signature) (bs : List CodeBlock) (b : CodeBlock) : Type 0 where
+record IsReady (c : PassingChains) (ss : List Signature) (bs : List CodeBlock) (b : CodeBlock) : Type 0 where
   known : IsKnown c ss b
   signature : HasSignature ss b
   place : HasPlace (in_lines bs) b
 
-all_ready : (c : Chains) (ss : List Signature) (bs xs : List CodeBlock) → AllByRecursion (IsKnown c ss) xs → AllByRecursion (HasSignature ss) xs → AllByRecursion (HasPlace (in_lines bs)) xs
+all_ready : (c : PassingChains) (ss : List Signature) (bs xs : List CodeBlock) → AllByRecursion (IsKnown c ss) xs → AllByRecursion (HasSignature ss) xs → AllByRecursion (HasPlace (in_lines bs)) xs
     → AllByRecursion (IsReady c ss bs) xs
 all_ready c ss bs [] h k m = tt
 all_ready c ss bs (x ∷ xs) (a, h) (b, k) (d, m) = (record { known = a; signature = b; place = d }, all_ready c ss bs xs h k m)

@@ -14,7 +14,7 @@ use Rattle.flat_code.specs.Forms.{passed_coding, actual_fits, direct_coding, pay
 use Rattle.flat_code.specs.Image.{IsProgram, record_of_block}
 use Rattle.flat_code.specs.Loading.{AreVerified, Verifies, environment_of_block, lens_of}
 use Rattle.flat_code.specs.Ops.{OpData, is_op}
-use Rattle.flat_code.specs.PlacedOps.{PlacedOp, StatementSpot, before_next, brackets_after, ops_placed, statement_spots, zones_behind_op}
+use Rattle.flat_code.specs.PlacedOps.{PlacedOp, StatementStart, before_next, brackets_after, ops_placed, starts_of_statements, zones_behind_op}
 use Rattle.flat_code.specs.Programs.{CodeBlock, Program}
 use Rattle.flat_code.specs.Records.{BlockRecord}
 use Rattle.flat_code.specs.declared.image_fields.OpenBracket.{OpenBracket}
@@ -23,7 +23,7 @@ use Rattle.flat_code.specs.declared.operands.Operand.{Operand as FlatOperand}
 use Rattle.flat_code.specs.declared.operands.Passed.TheVariants as passed
 use Rattle.flat_code.specs.declared.operands.Passed.{Passed}
 use Rattle.stl_ast.specs.Operands.{IsBitOf}
-use Rattle.stl_list.specs.Runs.{Run, runs, runs_from}
+use Rattle.stl_list.specs.Runs.{StatementOps, runs, runs_from}
 use Rattle.block_layout.proofs.CommonLemmas.{none_left, none_right, or_first, or_second}
 use Rattle.listing_laws.proofs.FormLemmas.{IsHead, program_heads}
 use Rattle.listing_laws.proofs.NameLemmas.{either_way}
@@ -78,7 +78,7 @@ passed_bit around (passed.InBlock number area.Di w byte bit) h e = absurd cc
 passed_bit around (passed.InBlock number area.L w byte bit) h e = absurd cc
 passed_bit around (passed.InBlock number area.P w byte bit) h e = absurd cc
 
-operand_bit : (around : Environment) (ss : List StatementSpot) (p : PlacedOp) (o : FlatOperand) → payload_fits o ≡ true → operand_fault around ss p o ≡ None → OperandBit o
+operand_bit : (around : Environment) (ss : List StatementStart) (p : PlacedOp) (o : FlatOperand) → payload_fits o ≡ true → operand_fault around ss p o ≡ None → OperandBit o
 unfolding passed_coding
 operand_bit around ss p (flat.Direct a w byte bit) h e =
     place_bit w bit (direct_bit a w byte bit h)
@@ -92,7 +92,7 @@ payload_is : (op : OpData) → is_op op.code op.operand ≡ true → payload_fit
 unfolding is_op
 payload_is op e = (and_parts _ (payload_fits op.operand) e).1
 
-ops_bits : (around : Environment) (ss : List StatementSpot) (at : ℕ) (brackets : List OpenBracket) (zones : List ℕ) (before ops : List OpData) → are_ops ops ≡ true
+ops_bits : (around : Environment) (ss : List StatementStart) (at : ℕ) (brackets : List OpenBracket) (zones : List ℕ) (before ops : List OpData) → are_ops ops ≡ true
     → faults_over around ss 0 (ops_placed at brackets zones before ops) ≡ [] → AllByRecursion OpBit ops
 unfolding op_faults
 ops_bits around ss at brackets zones before [] is e = tt
@@ -108,11 +108,11 @@ ops_bits around ss at brackets zones before (op ∷ ops) is e =
 
 code_bits : (around : Environment) (ops : List OpData) → are_ops ops ≡ true → block_faults around 0 ops ≡ [] → AllByRecursion OpBit ops
 unfolding block_faults
-code_bits around ops is e = ops_bits around (statement_spots ops) 0 [] [] [] ops is (none_left _ _ (none_left _ _ e))
+code_bits around ops is e = ops_bits around (starts_of_statements ops) 0 [] [] [] ops is (none_left _ _ (none_left _ _ e))
 
 -- ---- statements
 
-abbrev pub RunBit : Run → Type 0
+abbrev pub RunBit : StatementOps → Type 0
 RunBit r = AllByRecursion (λ op. OperandBit op.operand) r.before × OperandBit r.op.operand
 
 runs_bits : (before ops : List OpData) → AllByRecursion OpBit before → AllByRecursion OpBit ops → AllByRecursion RunBit (runs_from before ops)

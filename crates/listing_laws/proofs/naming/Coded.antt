@@ -83,7 +83,7 @@ use Rattle.stl_codegen.specs.Operands.{is_in_named_block, flat_operand_of}
 use Rattle.stl_codegen.specs.Operations.{call_operation_of, end_operation_of, jump_operation_of}
 use Rattle.stl_codegen.specs.Order.{is_code_before}
 use Rattle.stl_codegen.specs.PassedParameters.{passed_actual, passed_place, passed_resolution, passed_by_operand, passings_from, actual_of_formal, with_index}
-use Rattle.stl_list.specs.Runs.{Run, runs}
+use Rattle.stl_list.specs.Runs.{StatementOps, runs}
 use Rattle.sem_kept.proofs.accepted.OperandsCalls.{none_passed}
 use Rattle.sem_kept.proofs.accepted.Shared.{call_form, calls_called, no_call_constant, rule_there}
 use Rattle.listing_laws.proofs.BlockLemmas.{all_sorted}
@@ -443,7 +443,7 @@ ActsOnNoBit before code (flat.Called kind number instance) = IsCallBy before cod
 ActsOnNoBit before code _ = Unit {0}
 
 -- the ops of a statement
-pub record RunIsNoBit (r : Run) : Type 0 where
+pub record RunIsNoBit (r : StatementOps) : Type 0 where
   pub prepares : AllByRecursion (λ op. PreparesNoBit op.operand) r.before
   pub acts : ActsOnNoBit r.before r.op.code r.op.operand
 
@@ -472,7 +472,7 @@ runs_named f (s ∷ ss) (one, more) = (run_named f s.instr one, runs_named f ss 
 compiled_named : (bs : List StatedBlock) → AllByRecursion BlockIsNamed bs → AllByRecursion (λ b. AllByRecursion RunIsNoBit (runs b.code)) (map compiled_block bs)
 compiled_named [] h = tt
 compiled_named (b ∷ bs) (one, more) =
-    (subst (λ (rs : List Run). AllByRecursion RunIsNoBit rs) (sym (runs_found b.statements)) (runs_named (statement_offset b.statements) b.statements one), compiled_named bs more)
+    (subst (λ (rs : List StatementOps). AllByRecursion RunIsNoBit rs) (sym (runs_found b.statements)) (runs_named (statement_offset b.statements) b.statements one), compiled_named bs more)
 
 pub program_named : (t : Tree) (symbols : List Symbol) (layouts : List BlockLayout) → AreNoBits symbols → AllByRecursion IsBlock t.blocks → AllByRecursion BlockIsNoBit t.blocks
     → AllByRecursion (λ b. AllByRecursion RunIsNoBit (runs b.code)) (map compiled_block (code_blocks_of t symbols layouts))

@@ -8,7 +8,7 @@ use Rattle.flat_code.specs.declared.operands.Operand.TheVariants as flat
 use Rattle.flat_code.specs.declared.operands.Operand.{Operand as FlatOperand}
 use Rattle.flat_code.specs.declared.operands.Passed.TheVariants as passed
 use Rattle.flat_code.specs.declared.operands.Passed.{Passed}
-use Rattle.stl_list.specs.Runs.{Run, runs}
+use Rattle.stl_list.specs.Runs.{StatementOps, runs}
 use Rattle.sem_kept.specs.AcceptedSource.{program_in}
 use Rattle.sem_kept.proofs.accepted.Accepted.{right_tree}
 use Rattle.sem_kept.proofs.accepted.Verified.{accepted_verifies}
@@ -37,7 +37,7 @@ acts_on before code (flat.Direct a w byte bit) h k = (h, k)
 acts_on before code (flat.Called kind number instance) h k = h
 acts_on before code _ h k = tt
 
-all_named : (rs : List Run) → AllByRecursion RunIsNoBit rs → AllByRecursion RunBit rs → AllByRecursion IsRunNamed rs
+all_named : (rs : List StatementOps) → AllByRecursion RunIsNoBit rs → AllByRecursion RunBit rs → AllByRecursion IsRunNamed rs
 all_named [] h k = tt
 all_named (r ∷ rs) (one, more) (bit, bits) =
     (record { prepares = all_prepare r.before one.prepares bit.0; acts = acts_on r.before r.op.code r.op.operand one.acts bit.1 }, all_named rs more bits)

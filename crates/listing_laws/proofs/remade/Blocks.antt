@@ -7,7 +7,7 @@ use Rattle.plc_base.proofs.ListLemmas.{all_back}
 use Rattle.plc_base.specs.Folding.{upper_case_name}
 use Rattle.plc_base.specs.Kinds.{is_function}
 use Rattle.plc_base.specs.declared.blocks.BlockId.{BlockId}
-use Rattle.flat_code.specs.declared.image_fields.TheConstants.{SECTION_IN_OUT, SECTION_OUT}
+use Rattle.flat_code.specs.Records.{section_in_out, section_out}
 use Rattle.flat_code.specs.Programs.{CodeBlock}
 use Rattle.flat_code.specs.declared.programs.Param.{Param}
 use Rattle.stl_ast.specs.Literals.{AreBytes}
@@ -26,7 +26,7 @@ use Rattle.stl_codegen.specs.CompiledBlock.{compiled_block}
 use Rattle.stl_codegen.specs.GeneratedProgram.{code_block}
 use Rattle.stl_codegen.specs.Instruction.{in_parameter_order}
 use Rattle.stl_list.specs.CodeBlocks.{in_lines, listed_block}
-use Rattle.stl_list.specs.JoinedParameters.{Chains, chains_of}
+use Rattle.stl_list.specs.JoinedParameters.{PassingChains, chains_of}
 use Rattle.stl_list.specs.Lines.{stands_before}
 use Rattle.stl_list.specs.Parameters.{name_of, parameter_name, return_name, section_of}
 use Rattle.stl_list.specs.Signatures.{Signature, formals_from, formals_of_block, is_behind}
@@ -47,28 +47,28 @@ use Rattle.listing_laws.proofs.remade.Cells.{order_again}
 -- ---- names and sections of formals
 
 -- what has the name of a return value is an OUT
-returned_output : (c : Chains) (returns behind : Bool) (index first : ℕ) (ps : List Param)
+returned_output : (c : PassingChains) (returns behind : Bool) (index first : ℕ) (ps : List Param)
     → AllByRecursion (λ f. f.name ≡ return_name → f.section ≡ part.Output) (formals_from c returns behind index first ps)
 returned_output c returns behind index first [] = tt
-returned_output c returns behind index first (p ∷ ps) = (by behind (p.section == SECTION_OUT) refl, returned_output c returns (is_behind returns behind p) (suc index) (suc first) ps)
+returned_output c returns behind index first (p ∷ ps) = (by behind (p.section == section_out) refl, returned_output c returns (is_behind returns behind p) (suc index) (suc first) ps)
   where
     other : parameter_name index ≡ return_name → ⊥
     other e = let no : false ≡ true = ap (λ n. bytes_eq (upper_case_name n) (upper_case_name return_name)) e in absurd cc
 
-    by : (t s : Bool) → (p.section == SECTION_OUT) ≡ s → name_of (t && s) index ≡ return_name → section_of p.section ≡ part.Output
+    by : (t s : Bool) → (p.section == section_out) ≡ s → name_of (t && s) index ≡ return_name → section_of p.section ≡ part.Output
     by true true is e = ap section_of (eqb-true p.section 2 is)
     by true false is e = absurd (other e)
     by false s is e = absurd (other e)
 
 -- the return value is the last of the parameters, if there is one
-none_behind : (returns : Bool) (section : ℕ) (p : Param) → p.section ≡ section → (section == SECTION_IN_OUT) ≡ false → is_behind returns false p ≡ false
+none_behind : (returns : Bool) (section : ℕ) (p : Param) → p.section ≡ section → (section == section_in_out) ≡ false → is_behind returns false p ≡ false
 none_behind returns section p is apart = ap (λ n. returns && n == 3) is ∙ ap (λ t. returns && t) apart ∙ by returns
   where
     by : (t : Bool) → (t && false) ≡ false
     by true = refl
     by false = refl
 
-lasts_before : (returns : Bool) (section : ℕ) (ps rest : List Param) → (section == SECTION_IN_OUT) ≡ false → AreOf section ps → ReturnsLast returns false rest → ReturnsLast returns false (ps ++ rest)
+lasts_before : (returns : Bool) (section : ℕ) (ps rest : List Param) → (section == section_in_out) ≡ false → AreOf section ps → ReturnsLast returns false rest → ReturnsLast returns false (ps ++ rest)
 lasts_before returns section [] rest apart h more = more
 lasts_before returns section (p ∷ ps) rest apart (is, others) more = (
   λ e. absurd cc,
@@ -84,10 +84,10 @@ lasts_behind : (returns behind : Bool) (both last : List Param) → AreOf 3 both
 lasts_behind returns behind [] last h few = lasts_alone returns behind last few
 lasts_behind returns behind (p ∷ ps) last (is, more) few = (λ e. absurd (never behind e), lasts_behind returns (is_behind returns behind p) ps last more few)
   where
-    apart : (p.section == SECTION_OUT) ≡ false
+    apart : (p.section == section_out) ≡ false
     apart = ap (λ n. n == 2) is
 
-    never : (t : Bool) → (t && p.section == SECTION_OUT) ≡ true → ⊥
+    never : (t : Bool) → (t && p.section == section_out) ≡ true → ⊥
     never true e = absurd cc
     never false e = absurd cc
 
@@ -184,7 +184,7 @@ listed_code source file symbols t accepted bytes file_bytes others clean again p
     cb : CodeBlock
     cb = compiled_block (code_block (context_at symbols t place) b l id)
 
-    c : Chains
+    c : PassingChains
     c = chains_of (program_in symbols t).code_blocks
 
     ss : List Signature

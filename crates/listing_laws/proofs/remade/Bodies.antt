@@ -38,8 +38,8 @@ use Rattle.stl_codegen.specs.Operations.{call_operation_of, jump_operation_of}
 use Rattle.stl_list.specs.Actuals.{actuals_before}
 use Rattle.stl_list.specs.Labels.{label_of_number}
 use Rattle.stl_list.specs.Lines.{line_of_statement}
-use Rattle.stl_list.specs.Operands.{name_of_data_block}
-use Rattle.stl_list.specs.Runs.{number_at}
+use Rattle.stl_parser.specs.Operands.{data_block_name}
+use Rattle.stl_list.specs.Runs.{statement_number_at}
 use Rattle.stl_list.specs.Signatures.{Signature, called_formals, formals_of_block}
 use Rattle.stl_list.specs.Statements.{ListingContext, listed_statement}
 use Rattle.sem_kept.specs.AcceptedSource.{IsAccepted, program_in}
@@ -109,7 +109,7 @@ smaller n count h = omega (arith, h)
 
 instance_numbered : (listed : Context) (instance : Option ℕ) → IsOpenedAgain listed instance → IsInstanceNumbered instance
 instance_numbered listed None h e = absurd cc
-instance_numbered listed (Some n) h e = no_zero listed (subst (λ m. data_number listed (name_of_data_block m) ≡ Some m) (same n e) h)
+instance_numbered listed (Some n) h e = no_zero listed (subst (λ m. data_number listed (data_block_name m) ≡ Some m) (same n e) h)
   where
     same : (m : ℕ) → Some m ≡ Some 0 → m ≡ 0
     same m e = cc
@@ -192,7 +192,7 @@ module _ (source file : List ℕ) (symbols : List Symbol) (t : Tree) (accepted :
             split_holds (λ (z : SourceInstruction). LeadsWithin (length (statements_of c b)) z.instr) (statements_of c b) here.before
             (record { instr = instruction c b.body here.number s; line = s.line }) here.after (jumps_within c b) here.is target leaps
 
-        at : number_at sur.starts (f target) ≡ target
+        at : statement_number_at sur.starts (f target) ≡ target
         at = numbers_found sb.statements target ∙ smaller target (length sb.statements) within
 
         long : length (lines_in sb.statements) ≡ length sb.statements
@@ -256,7 +256,7 @@ module _ (source file : List ℕ) (symbols : List Symbol) (t : Tree) (accepted :
         made_words : (listing.code ≡ s.code) × (listing.actuals ≡ actuals_before (line_of_statement sur.lines k) sur.formals (called_formals sur.signatures h.id) (pass_ops ps))
         made_words = statements_listed sur k f s.code how h.id h.instance ps callable is
 
-        operand_is : listing.operand ≡ operand.Called (block.Number h.id) (option_map name_of_data_block h.instance)
+        operand_is : listing.operand ≡ operand.Called (block.Number h.id) (option_map data_block_name h.instance)
         operand_is = calls_listed sur.formals sur.starts f how h.id h.instance ps callable (instance_numbered listed h.instance instance_there)
 
         listing_sees : resolution_of listed listing.operand ≡ Resolved (resolved.Called h.id h.instance)

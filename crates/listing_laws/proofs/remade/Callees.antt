@@ -34,7 +34,7 @@ use Rattle.stl_codegen.specs.CompiledBlock.{compiled_block}
 use Rattle.stl_codegen.specs.GeneratedProgram.{code_block, params_of, section_number}
 use Rattle.stl_codegen.specs.Instruction.{source_block_at, in_parameter_order}
 use Rattle.stl_list.specs.CodeBlocks.{in_lines}
-use Rattle.stl_list.specs.JoinedParameters.{Chains, chains_of, system_parameters}
+use Rattle.stl_list.specs.JoinedParameters.{PassingChains, chains_of, system_parameters}
 use Rattle.stl_list.specs.Parameters.{section_of}
 use Rattle.stl_list.specs.Signatures.{Signature, called_formals, formals_of_block}
 use Rattle.sem_kept.specs.AcceptedSource.{IsAccepted, program_in}
@@ -288,7 +288,7 @@ module _ (source file : List ℕ) (symbols : List Symbol) (t : Tree) (accepted :
       → HasFormals (formals_of_block ss id) (map record_of_param (params_of b l))
   block_formals k place b l id h = record { formals = at }
     where
-      chains : Chains
+      chains : PassingChains
       chains = chains_of (program_in symbols t).code_blocks
 
       at : (index : ℕ) (r : ParameterRecord) → slice_get (map record_of_param (params_of b l)) index ≡ Some r → (f : Formal) × (slice_get (formals_of_block ss id) index ≡ Some f) × IsListedAs f r

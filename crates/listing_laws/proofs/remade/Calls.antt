@@ -13,8 +13,8 @@ use Rattle.plc_base.specs.declared.blocks.BlockId.{BlockId}
 use Rattle.plc_base.specs.declared.blocks.BlockKind.{BlockKind}
 use Rattle.plc_base.specs.declared.blocks.BlockKind.TheVariants as kinds
 use Rattle.plc_base.specs.declared.places.Width.{Width}
-use Rattle.flat_code.specs.declared.image_fields.TheConstants.{SECTION_IN}
-use Rattle.flat_code.specs.Blocks.{Environment, CalleeSeen as FlatCallee, are_all_passed, is_bad_actual, is_bad_call, is_in_parameter, lacks_own_parameter, misfits_index, misfits_parameter, parameter_meant, signature_of}
+use Rattle.flat_code.specs.Records.{section_in}
+use Rattle.flat_code.specs.Blocks.{Environment, CalleeSignature as FlatCallee, are_all_passed, is_bad_actual, is_bad_call, is_in_parameter, lacks_own_parameter, misfits_index, misfits_parameter, parameter_meant, signature_of}
 use Rattle.flat_code.specs.Forms.{actual_fits}
 use Rattle.flat_code.specs.Image.{record_of_block, record_of_param}
 use Rattle.flat_code.specs.Instr.{Calls, Instr, Passing}
@@ -56,7 +56,8 @@ use Rattle.stl_codegen.specs.GeneratedProgram.{code_block, code_blocks_of, data_
 use Rattle.stl_codegen.specs.Instruction.{source_block_at, in_parameter_order, instr_by, instruction, passings_to, resolved_instr, return_last, operand_instr}
 use Rattle.stl_codegen.specs.Operations.{call_operation_of}
 use Rattle.stl_list.specs.JoinedParameters.{system_parameters}
-use Rattle.stl_list.specs.Operands.{name_of_data_block, name_at, own_parameter as own_named}
+use Rattle.stl_parser.specs.Operands.{data_block_name}
+use Rattle.stl_list.specs.Operands.{name_at, own_parameter as own_named}
 use Rattle.stl_list.specs.Signatures.{Signature, called_formals, formals_of_block}
 use Rattle.sem_kept.specs.AcceptedSource.{IsAccepted, program_in}
 use Rattle.sem_kept.specs.CodedBlocks.{StatementHasBytes}
@@ -458,11 +459,11 @@ module _ (source file : List ℕ) (symbols : List Symbol) (t : Tree) (accepted :
             some_number false z = refl
             some_number true z =
                 let zero_is : number ≡ 0 = eqb-true number 0 z in
-                absurd (no_zero listed (subst (λ n. data_number listed (name_of_data_block n) ≡ Some n) zero_is store))
+                absurd (no_zero listed (subst (λ n. data_number listed (data_block_name n) ≡ Some n) zero_is store))
         backed (passed.Parameter number w) is right k store =
             let record_there = no_own (parameter_meant here number) w right in
             let mine = own_there number record_there.0 record_there.1 in
-            let parts = or_parts (not (q.0.width == width_number w)) (not (q.0.section == SECTION_IN) && is_in_parameter (parameter_meant here number)) k in
+            let parts = or_parts (not (q.0.width == width_number w)) (not (q.0.section == section_in) && is_in_parameter (parameter_meant here number)) k in
             let wide : width_of mine.formal.kind ≡ width_of asks.0.kind
             = same_kinds_wide asks.0 mine.formal q.0 record_there.0 w asks.2 mine.as_listed parts.0 (ap (λ o. lacks_own_parameter o w) (sym record_there.1) ∙ right) in
             let on = passes_on lower p.index number w higher (e ∙ ap (λ (x : Passed). lower ++ record { index = p.index; actual = x } ∷ higher) is) in
@@ -473,7 +474,7 @@ module _ (source file : List ℕ) (symbols : List Symbol) (t : Tree) (accepted :
     pub call_again : IsFoundAgain c listed own called s cid instance callee
     call_again = record {
       found = again_called.callee;
-      is = callee_numbered listed cid (option_map name_of_data_block instance) again_called.callee again_called.found;
+      is = callee_numbered listed cid (option_map data_block_name instance) again_called.callee again_called.found;
       same = again_called.same ∙ sym same_callee;
       size = sym (order_long (source_block_at listed.blocks again_called.callee.place) again_called.callee.formals) ∙ ap length again_called.order ∙ length-map called in_upper_case
           ∙ sym again_called.kinds

@@ -34,7 +34,7 @@ use Rattle.stl_codegen.specs.CompiledBlock.{compiled_block}
 use Rattle.stl_codegen.specs.GeneratedProgram.{code_block, params_of, section_number}
 use Rattle.stl_codegen.specs.Instruction.{in_parameter_order}
 use Rattle.stl_list.specs.CodeBlocks.{listed_block}
-use Rattle.stl_list.specs.JoinedParameters.{Chains, chains_of}
+use Rattle.stl_list.specs.JoinedParameters.{PassingChains, chains_of}
 use Rattle.stl_list.specs.Operands.{name_at}
 use Rattle.stl_list.specs.Parameters.{section_of}
 use Rattle.stl_list.specs.Signatures.{formals_from, formals_of_block, is_behind}
@@ -82,7 +82,7 @@ pub record IsFormalAt (fs : List Formal) (index : ℕ) (p : Param) : Type 0 wher
   pub section : formal.section ≡ section_of p.section
   pub width : width_of formal.kind ≡ p.width
 
-pub formal_at : (c : Chains) (returns behind : Bool) (number first : ℕ) (ps : List Param) → AreWide ps (formals_from c returns behind number first ps)
+pub formal_at : (c : PassingChains) (returns behind : Bool) (number first : ℕ) (ps : List Param) → AreWide ps (formals_from c returns behind number first ps)
     → (index : ℕ) (p : Param) → slice_get ps index ≡ Some p → IsFormalAt (formals_from c returns behind number first ps) index p
 formal_at c returns behind number first [] wide index p e = absurd cc
 formal_at c returns behind number first (q ∷ ps) wide zero p e = by (same_Some q p e)

@@ -5,7 +5,7 @@ use Rattle.std.specs.List.{AllByRecursion, list_any}
 use Rattle.std.specs.Option.{IfSome}
 use Rattle.std.proofs.lemmas.Bool.{and_parts, ltb-true}
 use Rattle.plc_base.proofs.ListLemmas.{all_append}
-use Rattle.flat_code.specs.Blocks.{Environment, CalleeSeen, are_all_passed, is_above, is_bad_actual, is_passed, misfits_callee}
+use Rattle.flat_code.specs.Blocks.{Environment, CalleeSignature, are_all_passed, is_above, is_bad_actual, is_passed, misfits_callee}
 use Rattle.flat_code.specs.Forms.{passed_coding as actual_coding, actual_fits, payload_fits}
 use Rattle.flat_code.specs.Instr.{Passing}
 use Rattle.flat_code.specs.OpCodes.{op_code_of}
@@ -110,11 +110,11 @@ passings_fit how id instance ps h =
 
 -- ---- what has no fault
 
-pub record IsFitting (a : Environment) (s : Option CalleeSeen) (p : Passing) : Type 0 where
+pub record IsFitting (a : Environment) (s : Option CalleeSignature) (p : Passing) : Type 0 where
   pub right : is_bad_actual a p.actual ≡ false
   pub fits : misfits_callee a s p.index p.actual ≡ false
 
-pub passed_all : (a : Environment) (s : Option CalleeSeen) (before : Option ℕ) (ps : List Passing) → ArePassed a s before ps → AllByRecursion (IsFitting a s) ps
+pub passed_all : (a : Environment) (s : Option CalleeSignature) (before : Option ℕ) (ps : List Passing) → ArePassed a s before ps → AllByRecursion (IsFitting a s) ps
 passed_all a s before [] h = tt
 passed_all a s before (p ∷ ps) h = (record { right = h.1; fits = h.2 }, passed_all a s (Some p.index) ps h.3)
 
@@ -126,7 +126,7 @@ above_from : (before : Option ℕ) (from index : ℕ) → IsBehind before from �
 above_from None from index h e = omega (arith, h)
 above_from (Some n) from index h e = let less = ltb-true n index e in omega (arith, h, less)
 
-pub passings_rise : (a : Environment) (s : Option CalleeSeen) (before : Option ℕ) (from : ℕ) (ps : List Passing) → IsBehind before from → ArePassed a s before ps → AreRising from ps
+pub passings_rise : (a : Environment) (s : Option CalleeSignature) (before : Option ℕ) (from : ℕ) (ps : List Passing) → IsBehind before from → ArePassed a s before ps → AreRising from ps
 passings_rise a s before from [] h k = tt
 passings_rise a s before from (p ∷ ps) h k = (above_from before from p.index h k.0, passings_rise a s (Some p.index) (suc p.index) ps refl k.3)
 

@@ -15,7 +15,7 @@ use Rattle.stl_types.specs.declared.parameters.Formal.{Formal}
 use Rattle.stl_codegen.specs.CompiledBlock.{StatedBlock, compiled_block}
 use Rattle.stl_codegen.specs.GeneratedProgram.{code_blocks_of}
 use Rattle.stl_codegen.specs.Order.{is_code_before}
-use Rattle.stl_list.specs.JoinedParameters.{Chains, chains_of, first_of, kind_at, links, total_parameter_count, system_parameters}
+use Rattle.stl_list.specs.JoinedParameters.{PassingChains, chains_of, first_of, kind_at, links, total_parameter_count, system_parameters}
 use Rattle.stl_list.specs.Signatures.{formals_from, formals_of_block, signatures, signatures_from}
 use Rattle.sem_kept.specs.AcceptedSource.{IsAccepted, program_in}
 use Rattle.sem_kept.proofs.accepted.Accepted.{right_tree}
@@ -34,7 +34,7 @@ use Rattle.listing_laws.proofs.declared.Blocks.{codes_wide, fronts_apart}
 
 -- ---- widths
 
-wide_in : (c : Chains) (first : ℕ) (bs : List CodeBlock) → AllByRecursion (λ s. AreWide s.params s.formals) (signatures_from c first bs) → (id : BlockId)
+wide_in : (c : PassingChains) (first : ℕ) (bs : List CodeBlock) → AllByRecursion (λ s. AreWide s.params s.formals) (signatures_from c first bs) → (id : BlockId)
     → AreWide (params_of_block bs id) (formals_of_block (signatures_from c first bs) id)
 wide_in c first [] h id = tt
 wide_in c first (b ∷ bs) h id = by (is_same_block b.id id) h.0 (wide_in c (first + length b.params) bs h.1 id)
@@ -59,7 +59,7 @@ module _ (source file : List ℕ) (symbols : List Symbol) (t : Tree) (accepted :
   abbrev blocks : List CodeBlock
   blocks = (program_in symbols t).code_blocks
 
-  abbrev chains : Chains
+  abbrev chains : PassingChains
   chains = chains_of blocks
 
   kept : AreTypesAsDeclared blocks (declared_type_in (declared_kinds t symbols) blocks)

@@ -43,7 +43,7 @@ use Rattle.stl_codegen.specs.GeneratedProgram.{generated_data_block, function_bl
 use Rattle.stl_codegen.specs.Operations.{call_operation_of}
 use Rattle.stl_list.specs.CodeBlocks.{in_lines, line_reached}
 use Rattle.stl_list.specs.DataBlocks.{function_block, listed_data}
-use Rattle.stl_list.specs.Operands.{name_of_data_block}
+use Rattle.stl_parser.specs.Operands.{data_block_name}
 use Rattle.stl_list.specs.Signatures.{Signature}
 use Rattle.sem_kept.specs.AcceptedSource.{program_in}
 use Rattle.sem_kept.specs.SettledStatements.{context_at}
@@ -333,8 +333,8 @@ listed_ids symbols t others = ids_same others (listed_again symbols t) ∙ sourc
 
 instance_placed : (symbols : List Symbol) (t : Tree) → IsSoundTree symbols t → (others : List Symbol) (again : ℕ) (id : BlockId) (n : ℕ) (found : Callee)
     → is_function_block id.kind ≡ true → IsSourceInstance symbols t id n → IsCalleeAt (context_at others (listed_again symbols t) again) id found
-    → data_number (context_at others (listed_again symbols t) again) (name_of_data_block n) ≡ Some n
-    → IsInstanceAt (context_at others (listed_again symbols t) again) found.place (Some (name_of_data_block n))
+    → data_number (context_at others (listed_again symbols t) again) (data_block_name n) ≡ Some n
+    → IsInstanceAt (context_at others (listed_again symbols t) again) found.place (Some (data_block_name n))
 instance_placed symbols t tree others again id n found fb inst placed numbered = (m, whole.layout, placed.place, placed.is, place_is, whole.there, shape_is)
   where
     p : Program
@@ -355,7 +355,7 @@ instance_placed symbols t tree others again id n found fb inst placed numbered =
         ∙ blocks_found t symbols others m (data_id_of_number n) tree.by_layout.by_22 (rule_44_of symbols t tree)
         (id_at p inst.place inst.stored inst.there ∙ ap (λ (k : ℕ). Some (data_id_of_number k)) inst.number)
 
-    data_is : data_place c (name_of_data_block n) ≡ Some m
+    data_is : data_place c (data_block_name n) ≡ Some m
     data_is = there
 
     whole : IsWholeAt (layouts_of listed others) m
@@ -363,7 +363,7 @@ instance_placed symbols t tree others again id n found fb inst placed numbered =
         whole_there (layouts_of listed others) m n
         (ap (λ (o : Option ℕ). option_and_then (λ (b : BlockLayout). number_of_block b.id) (option_and_then (whole_at (layouts_of listed others)) o)) (sym data_is) ∙ numbered)
 
-    place_is : whole_data_place c (name_of_data_block n) ≡ Some m
+    place_is : whole_data_place c (data_block_name n) ≡ Some m
     place_is = ap (option_and_then (if_whole (layouts_of listed others))) data_is ∙ whole.is
 
     names : List Signature
@@ -394,8 +394,8 @@ pub instance_there : (symbols : List Symbol) (t : Tree) → IsSoundTree symbols 
     → (how : CallOperation) (id : BlockId) (instance : Option ℕ) (callee found : Callee)
     → call_operation_of s.code ≡ Some how → names_called_block s.operand ≡ true → resolved_operand (context_at symbols t k) s ≡ Some (resolved.Called id instance)
     → callee_of (context_at symbols t k) s.operand ≡ Some callee → callee.id ≡ id
-    → callee_of (context_at others (listed_again symbols t) again) (operand.Called (block.Number id) (option_map name_of_data_block instance)) ≡ Some found
-    → IsInstanceAt (context_at others (listed_again symbols t) again) found.place (option_map name_of_data_block instance)
+    → callee_of (context_at others (listed_again symbols t) again) (operand.Called (block.Number id) (option_map data_block_name instance)) ≡ Some found
+    → IsInstanceAt (context_at others (listed_again symbols t) again) found.place (option_map data_block_name instance)
 instance_there symbols t tree k s sound others again own has how id None callee found h is_call e f same g = tt
 instance_there symbols t tree k s sound others again own has how id (Some n) callee found h is_call e f same g =
     let c = context_at symbols t k in
@@ -406,5 +406,5 @@ instance_there symbols t tree k s sound others again own has how id (Some n) cal
     let names = names_instance c s.operand id n callee sees f in
     instance_placed symbols t tree others again id n found fb
     (source_instance symbols t tree k s sound id n callee fb same names (sound.calls callee f).instance)
-    (callee_placed listed id found fb (callee_is listed id (Some (name_of_data_block n)) found g))
+    (callee_placed listed id found fb (callee_is listed id (Some (data_block_name n)) found g))
     (has.data_blocks names.instance_name n names.number)

@@ -35,7 +35,7 @@ use Rattle.stl_codegen.specs.Operations.{call_operation_of, jump_operation_of}
 use Rattle.stl_list.specs.CodeBlocks.{listed_block}
 use Rattle.stl_list.specs.Labels.{label_of_number}
 use Rattle.stl_list.specs.Lines.{line_of_statement}
-use Rattle.stl_list.specs.Runs.{Run}
+use Rattle.stl_list.specs.Runs.{StatementOps}
 use Rattle.stl_list.specs.Signatures.{Signature}
 use Rattle.stl_list.specs.Statements.{ListingContext, body_of, label_at, label_of_end, listed_statement, statement_at, statements_from, listing_context}
 use Rattle.sem_kept.specs.AcceptedSource.{IsAccepted, program_in}
@@ -222,14 +222,14 @@ placed_from signatures b y c body k (s ∷ ss) last counted h sound lines into =
 
 -- ---- the body is these statements
 
-end_none : (sur : ListingContext) (n k : ℕ) (r : Run) → length sur.lines ≡ suc n → k ≡ n → label_at sur.targets n ≡ None → statement_at sur k r ++ [] ≡ []
+end_none : (sur : ListingContext) (n k : ℕ) (r : StatementOps) → length sur.lines ≡ suc n → k ≡ n → label_at sur.targets n ≡ None → statement_at sur k r ++ [] ≡ []
 unfolding statement_at
 end_none sur n k r size e free =
     ap (λ (b : Bool). (if b then label_of_end (line_of_statement sur.lines k) (label_at sur.targets k) else listed_statement sur k r ∷ []) ++ []) (eq-eqb (suc k) (length sur.lines) (ap suc e ∙ sym size))
     ∙ append-nil (label_of_end (line_of_statement sur.lines k) (label_at sur.targets k))
     ∙ ap (label_of_end (line_of_statement sur.lines k)) (ap (label_at sur.targets) e ∙ free)
 
-next_one : (sur : ListingContext) (k : ℕ) (r : Run) (rest : List Statement) → suc k < length sur.lines → statement_at sur k r ++ rest ≡ listed_statement sur k r ∷ rest
+next_one : (sur : ListingContext) (k : ℕ) (r : StatementOps) (rest : List Statement) → suc k < length sur.lines → statement_at sur k r ++ rest ≡ listed_statement sur k r ∷ rest
 unfolding statement_at
 next_one sur k r rest more =
     ap (λ (b : Bool). (if b then label_of_end (line_of_statement sur.lines k) (label_at sur.targets k) else listed_statement sur k r ∷ []) ++ rest) (ne_eqb (suc k) (length sur.lines) (λ e. omega (arith, e, more)))
@@ -280,7 +280,7 @@ body_by : (signatures : List Signature) (stated : StatedBlock) (y : Types) (c : 
 unfolding body_of
 body_by signatures stated y c b e settled sound free few = record {
   is =
-      ap (λ (rs : List Run). statements_from sur 0 rs) (runs_found stated.statements)
+      ap (λ (rs : List StatementOps). statements_from sur 0 rs) (runs_found stated.statements)
       ∙ ap (λ (xs : List SourceInstruction). statements_from sur 0 (run_all f xs)) e
       ∙ numbered_all sur f c b.body (count_of_statements b.body) 0 b.body (return_statement b) (lines_length stated.statements ∙ size) (omega arith)
       (unmarked_label sur.targets (count_of_statements b.body) (targets_found stated.statements (count_of_statements b.body) (omega (arith, size)) ∙ free (count_of_statements b.body) (sym size)));

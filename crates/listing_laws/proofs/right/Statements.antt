@@ -56,8 +56,9 @@ use Rattle.stl_codegen.specs.PassedParameters.{passed_resolution}
 use Rattle.stl_list.specs.Actuals.{actual_of_passed, actuals_before, actuals_by, passed_operand}
 use Rattle.stl_list.specs.Constants.{instruction_constant}
 use Rattle.stl_list.specs.Labels.{label_of_number}
-use Rattle.stl_list.specs.Operands.{name_of_data_block, implied_operand, operand_by, plain_operand}
-use Rattle.stl_list.specs.Runs.{number_at}
+use Rattle.stl_parser.specs.Operands.{data_block_name}
+use Rattle.stl_list.specs.Operands.{implied_operand, operand_by, plain_operand}
+use Rattle.stl_list.specs.Runs.{statement_number_at}
 use Rattle.stl_list.specs.Signatures.{called_formals}
 use Rattle.stl_list.specs.Statements.{ListingContext, listed_statement}
 use Rattle.sem_kept.specs.SettledStatements.{HasCalled, HasInstruction, HasOperand, IsResolvedStatement}
@@ -213,7 +214,7 @@ jump_right y c listed sur f body k s how types h word =
     n = target_of body s.operand
 
     name : List ℕ
-    name = label_of_number (number_at sur.starts (f (target_of body s.operand)))
+    name = label_of_number (statement_number_at sur.starts (f (target_of body s.operand)))
 
     is : instruction c body k s ≡ jump_instr how k n
     is = jump_instruction c body k s how h
@@ -335,23 +336,23 @@ names_instance c _ id instance is e = absurd cc
 
 -- and it stands in the listing
 abbrev IsInstanceThere : Context → Option ℕ → Type 0
-IsInstanceThere listed instance = (n : ℕ) → instance ≡ Some n → data_number listed (name_of_data_block n) ≡ Some n
+IsInstanceThere listed instance = (n : ℕ) → instance ≡ Some n → data_number listed (data_block_name n) ≡ Some n
 
-zero_none : (listed : Context) → data_number listed (name_of_data_block 0) ≡ Some 0 → ⊥
+zero_none : (listed : Context) → data_number listed (data_block_name 0) ≡ Some 0 → ⊥
 zero_none listed e = no e
   where
     no : None ≡ Some zero → ⊥
     no e = absurd cc
 
 called_seen_again : (listed : Context) (id : BlockId) (instance : Option ℕ) → whole_called_block listed (Some id) ≡ Some id → IsInstanceThere listed instance
-    → resolution_of listed (operand.Called (block.Number id) (option_map name_of_data_block instance)) ≡ Resolved (resolved.Called id instance)
+    → resolution_of listed (operand.Called (block.Number id) (option_map data_block_name instance)) ≡ Resolved (resolved.Called id instance)
 unfolding resolution_of
 called_seen_again listed id None h k = ap (λ (x : Option BlockId). resolution_of_call x None None) h
 called_seen_again listed id (Some number) h k =
-    ap (λ (x : Option BlockId). resolution_of_call x (Some (name_of_data_block number)) (data_number listed (name_of_data_block number))) h
-    ∙ ap (resolution_of_call (Some id) (Some (name_of_data_block number))) (k number refl)
+    ap (λ (x : Option BlockId). resolution_of_call x (Some (data_block_name number)) (data_number listed (data_block_name number))) h
+    ∙ ap (resolution_of_call (Some id) (Some (data_block_name number))) (k number refl)
 
-lacks_again : (id : BlockId) (instance : Option ℕ) → has_no_instance (operand.Called (block.Number id) (option_map name_of_data_block instance)) ≡ is_none instance
+lacks_again : (id : BlockId) (instance : Option ℕ) → has_no_instance (operand.Called (block.Number id) (option_map data_block_name instance)) ≡ is_none instance
 lacks_again id None = refl
 lacks_again id (Some n) = refl
 
@@ -380,13 +381,13 @@ IsInstanceKept c listed s =
     (how : CallOperation) (id : BlockId) (instance : Option ℕ) (callee found : Callee)
     → call_operation_of s.code ≡ Some how → names_called_block s.operand ≡ true → resolved_operand c s ≡ Some (resolved.Called id instance)
     → callee_of c s.operand ≡ Some callee → callee.id ≡ id
-    → callee_of listed (operand.Called (block.Number id) (option_map name_of_data_block instance)) ≡ Some found
-    → IsInstanceAt listed found.place (option_map name_of_data_block instance)
+    → callee_of listed (operand.Called (block.Number id) (option_map data_block_name instance)) ≡ Some found
+    → IsInstanceAt listed found.place (option_map data_block_name instance)
 
 called_right : (y : Types) (c listed : Context) (sur : ListingContext) (f : ℕ → ℕ) (k : ℕ) (s : Statement) (how : CallOperation) (id : BlockId) (instance : Option ℕ) (callee : Callee)
     → AreTypesOf y listed → HasAgain c listed sur.formals → call_operation_of s.code ≡ Some how → resolved_operand c s ≡ Some (resolved.Called id instance) → names_called_block s.operand ≡ true
     → IsSoundCall c callee s → (q : IsFoundAgain c listed sur.formals (called_formals sur.signatures id) s id instance callee)
-    → IsInstanceAt listed q.found.place (option_map name_of_data_block instance)
+    → IsInstanceAt listed q.found.place (option_map data_block_name instance)
     → IsShownAgain y listed sur f k (Calls how id instance (passings_to c s (Some callee)))
 called_right y c listed sur f k s how id instance callee types has h e is_call sound q instances = record {
   known = known_by (resolution_of listed again.operand) (resolved.Called id instance) sees_again;
@@ -434,13 +435,13 @@ called_right y c listed sur f k s how id instance callee types has h e is_call s
     word : again.code ≡ s.code
     word = listing.0
 
-    shown : again.operand ≡ operand.Called (block.Number id) (option_map name_of_data_block instance)
+    shown : again.operand ≡ operand.Called (block.Number id) (option_map data_block_name instance)
     shown = calls_listed sur.formals sur.starts f how id instance ps callable (λ at. zero_none listed (instance_there 0 at))
 
     there : IsThere listed id
-    there = callee_there listed id q.found (callee_is listed id (option_map name_of_data_block instance) q.found q.is)
+    there = callee_there listed id q.found (callee_is listed id (option_map data_block_name instance) q.found q.is)
 
-    sees_called : resolution_of listed (operand.Called (block.Number id) (option_map name_of_data_block instance)) ≡ Resolved (resolved.Called id instance)
+    sees_called : resolution_of listed (operand.Called (block.Number id) (option_map data_block_name instance)) ≡ Resolved (resolved.Called id instance)
     sees_called = called_seen_again listed id instance there.whole instance_there
 
     sees_again : resolution_of listed again.operand ≡ Resolved (resolved.Called id instance)
@@ -465,7 +466,7 @@ called_right y c listed sur f k s how id instance callee types has h e is_call s
       fits = breaks.by_37;
       instance =
           ap (has_wrong_instance listed q.found) shown
-          ∙ instances_right listed q.found (block.Number id) (option_map name_of_data_block instance) instances;
+          ∙ instances_right listed q.found (block.Number id) (option_map data_block_name instance) instances;
       bare =
           calls_whole callee q.found s again word q.same
           (ap has_no_instance shown ∙ lacks_again id instance ∙ sym names.none) q.size sound.bare;

@@ -9,7 +9,7 @@ use Rattle.stl_codegen.specs.CompiledBlock.{SourceInstruction, compiled_block, l
 use Rattle.stl_codegen.specs.GeneratedProgram.{stated_from}
 use Rattle.stl_codegen.specs.Instruction.{instruction}
 use Rattle.stl_list.specs.Lines.{line_of_statement}
-use Rattle.stl_list.specs.Runs.{Run}
+use Rattle.stl_list.specs.Runs.{StatementOps}
 use Rattle.stl_list.specs.Statements.{ListingContext, body_of, label_at, label_of_end, listed_statement, statement_at, statements_from, listing_context}
 use Rattle.listing_laws.specs.ListedBodies.{AreBodiesKept, AreKeptFrom}
 use Rattle.listing_laws.specs.Statements.{statement_offset, run_of}
@@ -20,14 +20,14 @@ end_stated : (c : Context) (body : List Statement) (n line : ℕ) (label : Optio
 end_stated c body n line None = refl
 end_stated c body n line (Some label) = refl
 
-last_stated : (c : Context) (body : List Statement) (sur : ListingContext) (n k : ℕ) (r : Run) → length sur.lines ≡ suc k → stated_from c body n (statement_at sur k r ++ []) ≡ []
+last_stated : (c : Context) (body : List Statement) (sur : ListingContext) (n k : ℕ) (r : StatementOps) → length sur.lines ≡ suc k → stated_from c body n (statement_at sur k r ++ []) ≡ []
 unfolding statement_at
 last_stated c body sur n k r size =
     ap (λ (b : Bool). stated_from c body n ((if b then label_of_end (line_of_statement sur.lines k) (label_at sur.targets k) else listed_statement sur k r ∷ []) ++ [])) (eq-eqb (suc k) (length sur.lines) (sym size))
     ∙ ap (stated_from c body n) (append-nil (label_of_end (line_of_statement sur.lines k) (label_at sur.targets k)))
     ∙ end_stated c body n (line_of_statement sur.lines k) (label_at sur.targets k)
 
-next_stated : (c : Context) (body : List Statement) (sur : ListingContext) (k : ℕ) (r : Run) (rest : List Statement) → suc k < length sur.lines → is_empty_statement (listed_statement sur k r).code ≡ false
+next_stated : (c : Context) (body : List Statement) (sur : ListingContext) (k : ℕ) (r : StatementOps) (rest : List Statement) → suc k < length sur.lines → is_empty_statement (listed_statement sur k r).code ≡ false
     → stated_from c body k (statement_at sur k r ++ rest) ≡ record { instr = instruction c body k (listed_statement sur k r); line = line_of_statement sur.lines k } ∷ stated_from c body (suc k) rest
 unfolding statement_at
 next_stated c body sur k r rest more some =
@@ -60,6 +60,6 @@ bodies_kept c signatures b ss last e kept =
     let f = statement_offset b.statements in
     let body : List Statement = body_of signatures (lines_in b.statements) (compiled_block b) in
     let size : length sur.lines ≡ 0 + length ss + 1 = lines_length b.statements ∙ ap length e ∙ length-append ss (last ∷ []) ∙ behind_start (length ss) in
-    ap (λ (rs : List Run). stated_from c body 0 (statements_from sur 0 rs)) (runs_found b.statements)
+    ap (λ (rs : List StatementOps). stated_from c body 0 (statements_from sur 0 rs)) (runs_found b.statements)
     ∙ ap (λ (xs : List SourceInstruction). stated_from c body 0 (statements_from sur 0 (run_all f xs))) e
     ∙ all_stated c body sur f 0 ss last size (λ j. ap (line_of_statement (lines_in b.statements)) (from_start j) ∙ ap (λ (xs : List SourceInstruction). line_of_statement (lines_in xs) j) e) kept

@@ -35,7 +35,8 @@ use Rattle.stl_codegen.specs.Operations.{call_operation_of, jump_operation_of}
 use Rattle.stl_codegen.specs.PassedParameters.{passings_from}
 use Rattle.stl_list.specs.Actuals.{actuals_by}
 use Rattle.stl_list.specs.JoinedParameters.{called_id}
-use Rattle.stl_list.specs.Operands.{name_of_data_block, instance_name, operand_by, plain_operand}
+use Rattle.stl_parser.specs.Operands.{data_block_name}
+use Rattle.stl_list.specs.Operands.{instance_name, operand_by, plain_operand}
 use Rattle.stl_list.specs.Statements.{ListingContext, listed_statement}
 use Rattle.listing_laws.specs.Calling.{AreCalledAgain, AreBareCallsKept}
 use Rattle.listing_laws.specs.Instructions.{HasAgain, IsInstructionKept}
@@ -119,13 +120,13 @@ whole_id c (Some i) id e = ap (λ (y : BlockId). whole_called_block c (Some y)) 
 -- ---- its instance
 
 -- no data block has the number 0
-pub no_zero : (listed : Context) → data_number listed (name_of_data_block 0) ≡ Some 0 → ⊥
+pub no_zero : (listed : Context) → data_number listed (data_block_name 0) ≡ Some 0 → ⊥
 no_zero listed e = no e
   where
     no : None ≡ Some zero → ⊥
     no e = absurd cc
 
-named_instance : (listed : Context) (number : ℕ) → data_number listed (name_of_data_block number) ≡ Some number → instance_name number ≡ Some (name_of_data_block number)
+named_instance : (listed : Context) (number : ℕ) → data_number listed (data_block_name number) ≡ Some number → instance_name number ≡ Some (data_block_name number)
 named_instance listed zero e = absurd (no_zero listed e)
 named_instance listed (suc n) e = rw (ne_eqb (suc n) 0 (λ h. omega (arith, h))) refl
 
@@ -135,8 +136,8 @@ unfolding resolution_of
 called_again listed id None h k = ap (λ (x : Option BlockId). resolution_of_call x None None) h
 called_again listed id (Some number) h k =
     ap (λ (x : Option BlockName). resolution_of_call (whole_called_block listed (Some id)) x (instance_number listed x)) (named_instance listed number k)
-    ∙ ap (λ (x : Option BlockId). resolution_of_call x (Some (name_of_data_block number)) (data_number listed (name_of_data_block number))) h
-    ∙ ap (resolution_of_call (Some id) (Some (name_of_data_block number))) k
+    ∙ ap (λ (x : Option BlockId). resolution_of_call x (Some (data_block_name number)) (data_number listed (data_block_name number))) h
+    ∙ ap (resolution_of_call (Some id) (Some (data_block_name number))) k
 
 -- ---- the statement
 

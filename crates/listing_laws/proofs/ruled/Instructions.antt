@@ -29,9 +29,9 @@ use Rattle.stl_codegen.specs.Instruction.{end_instr, instr_by, instruction, jump
 use Rattle.stl_codegen.specs.Operands.{block_opened_by_operand, flat_operand_of}
 use Rattle.stl_codegen.specs.Operations.{call_operation_of, end_operation_of, jump_operation_of, operation_for}
 use Rattle.stl_list.specs.Labels.{label_of_number}
-use Rattle.stl_list.specs.Mnemonics.{mnemonic_of, word_by}
+use Rattle.stl_list.specs.Mnemonics.{mnemonic_of, mnemonic_by}
 use Rattle.stl_list.specs.Operands.{implied_operand, operand_by}
-use Rattle.stl_list.specs.Runs.{number_at}
+use Rattle.stl_list.specs.Runs.{statement_number_at}
 use Rattle.stl_list.specs.Statements.{ListingContext, listed_statement}
 use Rattle.listing_laws.specs.Instructions.{AreInstructionsKept, AreJumpsKept, HasAgain, IsInstructionKept, IsRightOperand}
 use Rattle.listing_laws.specs.Operands.{IsActedAgain, operand_instruction}
@@ -85,7 +85,7 @@ pub acting_word : (f : ℕ → ℕ) (m : Mnemonic) (o : Operand) (v : ResolvedOp
     → mnemonic_of (run_of f (operand_instruction m o v)).op ≡ m
 acting_word f m o v some jumps calls ends =
     same_word f (operand_instruction m o v)
-    ∙ ap (word_by (op_code_of (operation_for m o v))) (same_target (flat_operand_of o v))
+    ∙ ap (mnemonic_by (op_code_of (operation_for m o v))) (same_target (flat_operand_of o v))
     ∙ operand_plain o v (op_code_of (operation_for m o v))
     ∙ words_found m o v (record { some = some; jumps = jumps; calls = calls; ends = ends })
 
@@ -214,7 +214,7 @@ leap_word f m jump.Jmz n target h = jump_words_found m jump.Jmz h
 leap_word f m jump.Juo n target h = jump_words_found m jump.Juo h
 leap_word f m jump.Loop n target h = jump_words_found m jump.Loop h
 
-pub leap_operand : (sur : ListingContext) (k : ℕ) (f : ℕ → ℕ) (how : JumpOperation) (n target : ℕ) → (listed_statement sur k (run_of f (leap how n target))).operand ≡ operand.Label (label_of_number (number_at sur.starts (f target)))
+pub leap_operand : (sur : ListingContext) (k : ℕ) (f : ℕ → ℕ) (how : JumpOperation) (n target : ℕ) → (listed_statement sur k (run_of f (leap how n target))).operand ≡ operand.Label (label_of_number (statement_number_at sur.starts (f target)))
 unfolding operand_by
 leap_operand sur k f jump.Jl n target = refl
 leap_operand sur k f _ n target = refl
@@ -224,7 +224,7 @@ unfolding instruction
 jump_instruction c body n s how h = ap (instr_by c body n s) h
 
 leaps_again : (listed : Context) (sur : ListingContext) (f : ℕ → ℕ) (again : List Statement) (n k : ℕ) (m : Mnemonic) (how : JumpOperation) (target : ℕ)
-    → jump_operation_of m ≡ Some how → number_at sur.starts (f target) ≡ target → target_in (label_of_number target) again ≡ target
+    → jump_operation_of m ≡ Some how → statement_number_at sur.starts (f target) ≡ target → target_in (label_of_number target) again ≡ target
     → IsInstructionKept listed again n m (leap how n target) (listed_statement sur k (run_of f (leap how n target)))
 leaps_again listed sur f again n k m how target h found reached = record {
   word = word;

@@ -14,7 +14,7 @@ use Rattle.stl_types.specs.Labels.{is_repeated_label, label_of as label_list, la
 use Rattle.stl_codegen.specs.CompiledBlock.{compiled_block}
 use Rattle.stl_list.specs.Labels.{label_of_number}
 use Rattle.stl_list.specs.Lines.{line_of_statement}
-use Rattle.stl_list.specs.Runs.{Run}
+use Rattle.stl_list.specs.Runs.{StatementOps}
 use Rattle.stl_list.specs.Statements.{ListingContext, body_of, label_alone, label_at, label_of_end, listed_statement, statement_at, statements_from, listing_context}
 use Rattle.listing_laws.specs.LabelRules.{AreStatementLabelsOnce}
 use Rattle.listing_laws.specs.Statements.{statement_offset, run_of}
@@ -79,7 +79,7 @@ last_more : (names : List (List ℕ)) (line : ℕ) (label : Option (List ℕ)) (
 last_more names line None rest h = ap (λ (ns : List (List ℕ)). walk ns rest) (sym (append-nil names))
 last_more names line (Some label) rest h = one_more names (label_alone line label) (Some label) rest refl h
 
-statement_more : (sur : ListingContext) (k : ℕ) (r : Run) (names : List (List ℕ)) (rest : List Statement) → is_repeated_label names (label_at sur.targets k) ≡ false
+statement_more : (sur : ListingContext) (k : ℕ) (r : StatementOps) (names : List (List ℕ)) (rest : List Statement) → is_repeated_label names (label_at sur.targets k) ≡ false
     → walk names (statement_at sur k r ++ rest) ≡ walk (names ++ label_list (label_at sur.targets k)) rest
 unfolding statement_at
 statement_more sur k r names rest h = by (suc k == length sur.lines)
@@ -88,7 +88,7 @@ statement_more sur k r names rest h = by (suc k == length sur.lines)
     by true = last_more names (line_of_statement sur.lines k) (label_at sur.targets k) rest h
     by false = one_more names (listed_statement sur k r) (label_at sur.targets k) rest refl h
 
-once_from : (sur : ListingContext) (k : ℕ) (rs : List Run) (names : List (List ℕ)) → k + length rs ≤ 93312 → AreBefore k names → walk names (statements_from sur k rs) ≡ []
+once_from : (sur : ListingContext) (k : ℕ) (rs : List StatementOps) (names : List (List ℕ)) → k + length rs ≤ 93312 → AreBefore k names → walk names (statements_from sur k rs) ≡ []
 once_from sur k [] names few b = refl
 once_from sur k (r ∷ rs) names few b =
     statement_more sur k r names (statements_from sur (suc k) rs) (not_twice sur.targets k names (omega (arith, few)) b)
@@ -102,5 +102,5 @@ pub labels_once : AreStatementLabelsOnce
 unfolding body_of
 labels_once signatures lines b few =
     let size = map_length (λ s. run_of (statement_offset b.statements) s.instr) b.statements in
-    ap (λ (rs : List Run). walk [] (statements_from (listing_context signatures lines (compiled_block b)) 0 rs)) (runs_found b.statements)
+    ap (λ (rs : List StatementOps). walk [] (statements_from (listing_context signatures lines (compiled_block b)) 0 rs)) (runs_found b.statements)
     ∙ once_from (listing_context signatures lines (compiled_block b)) 0 (map (λ s. run_of (statement_offset b.statements) s.instr) b.statements) [] (omega (arith, few, size)) tt

@@ -23,7 +23,7 @@ use Rattle.stl_codegen.specs.Instruction.{call_instr, instr_by, instruction, res
 use Rattle.stl_codegen.specs.Operations.{call_operation_of, end_operation_of, jump_operation_of}
 use Rattle.stl_list.specs.Lines.{line_of_statement}
 use Rattle.stl_list.specs.Mnemonics.{mnemonic_of}
-use Rattle.stl_list.specs.Runs.{Run}
+use Rattle.stl_list.specs.Runs.{StatementOps}
 use Rattle.stl_list.specs.Signatures.{Signature}
 use Rattle.stl_list.specs.Statements.{ListingContext, body_of, label_at, label_of_end, listed_statement, statement_at, statements_from, listing_context}
 use Rattle.listing_laws.specs.Nesting.{AreListedNestingsKept, AreMarksKept, IsReadable, NestingMark, nesting_mark_of, nesting_marks}
@@ -115,20 +115,20 @@ last_marks : (line : ℕ) (label : Option (List ℕ)) → nesting_marks (label_o
 last_marks line None = refl
 last_marks line (Some label) = refl
 
-last_statement : (sur : ListingContext) (k : ℕ) (r : Run) → length sur.lines ≡ suc k → nesting_marks (statement_at sur k r ++ []) ≡ []
+last_statement : (sur : ListingContext) (k : ℕ) (r : StatementOps) → length sur.lines ≡ suc k → nesting_marks (statement_at sur k r ++ []) ≡ []
 unfolding statement_at
 last_statement sur k r size =
     ap (λ (b : Bool). nesting_marks ((if b then label_of_end (line_of_statement sur.lines k) (label_at sur.targets k) else listed_statement sur k r ∷ []) ++ [])) (eq-eqb (suc k) (length sur.lines) (sym size))
     ∙ ap nesting_marks (append-nil (label_of_end (line_of_statement sur.lines k) (label_at sur.targets k)))
     ∙ last_marks (line_of_statement sur.lines k) (label_at sur.targets k)
 
-next_statement : (sur : ListingContext) (k : ℕ) (r : Run) (rest : List Statement) → suc k < length sur.lines
+next_statement : (sur : ListingContext) (k : ℕ) (r : StatementOps) (rest : List Statement) → suc k < length sur.lines
     → nesting_marks (statement_at sur k r ++ rest) ≡ nesting_mark_of (record { line = line_of_statement sur.lines k; code = mnemonic_of r.op; label = None; operand = operand.Nothing; actuals = [] }) ++ nesting_marks rest
 unfolding statement_at
 next_statement sur k r rest more =
     ap (λ (b : Bool). nesting_marks ((if b then label_of_end (line_of_statement sur.lines k) (label_at sur.targets k) else listed_statement sur k r ∷ []) ++ rest)) (ne_eqb (suc k) (length sur.lines) (λ e. omega (arith, e, more)))
 
-abbrev pub run_all : (ℕ → ℕ) → List SourceInstruction → List Run
+abbrev pub run_all : (ℕ → ℕ) → List SourceInstruction → List StatementOps
 run_all f ss = map (λ s. run_of f s.instr) ss
 
 listed_marks : (sur : ListingContext) (f : ℕ → ℕ) (k : ℕ) (ss : List SourceInstruction) (last : SourceInstruction) → length sur.lines ≡ k + length ss + 1 → AreLinesAt sur.lines k (ss ++ last ∷ [])
@@ -162,7 +162,7 @@ body_marks signatures b ss last e =
     let sur = listing_context signatures (lines_in b.statements) (compiled_block b) in
     let f = statement_offset b.statements in
     let size : length sur.lines ≡ 0 + length ss + 1 = lines_length b.statements ∙ ap length e ∙ length-append ss (last ∷ []) ∙ behind_start (length ss) in
-    ap (λ (rs : List Run). nesting_marks (statements_from sur 0 rs)) (runs_found b.statements)
+    ap (λ (rs : List StatementOps). nesting_marks (statements_from sur 0 rs)) (runs_found b.statements)
     ∙ ap (λ (xs : List SourceInstruction). nesting_marks (statements_from sur 0 (run_all f xs))) e
     ∙ listed_marks sur f 0 ss last size (λ j. ap (line_of_statement (lines_in b.statements)) (from_start j) ∙ ap (λ (xs : List SourceInstruction). line_of_statement (lines_in xs) j) e)
 

@@ -43,7 +43,8 @@ use Rattle.stl_codegen.specs.EmittedOps.{use_db_ops}
 use Rattle.stl_codegen.specs.Operands.{is_db, numbered_operand, block_opened_by_operand, opened_by_place, flat_operand_of, register_operand}
 use Rattle.stl_codegen.specs.Operations.{call_operation_of, jump_operation_of, operation_for}
 use Rattle.stl_list.specs.Constants.{instruction_constant}
-use Rattle.stl_list.specs.Operands.{name_of_data_block, direct_operand, implied_operand, letters_for_area, block_opened_by_ops as opened_first, operand_by, own_parameter, plain_operand, read_letters, operation_writes_operand}
+use Rattle.stl_parser.specs.Operands.{data_block_name}
+use Rattle.stl_list.specs.Operands.{direct_operand, implied_operand, letters_for_area, block_opened_by_ops as opened_first, operand_by, own_parameter, plain_operand, read_letters, operation_writes_operand}
 use Rattle.listing_laws.specs.Operands.{AreOperandsKept, IsActedAgain, IsConstantCoded, IsConstantResolved, IsOpenedAgain, IsParameterAgain, StandsAgain}
 use Rattle.listing_laws.proofs.ruled.Constants.{constant_again, pointer_acts}
 use Rattle.listing_laws.proofs.ruled.Rules.{IsOther, is_taken, no_adding, none_broken, taken_view, operand_unchanged}
@@ -282,9 +283,9 @@ number_again c m o formals starts f numbered.Db from byte h = operand_unchanged 
 number_again c m o formals starts f numbered.Di from byte h = operand_unchanged c m o (operand.NumberBy numbered.Di (read_letters from) byte) (resolved.NumberBy numbered.Di from byte) tt h refl (number_seen c numbered.Di from byte)
 
 opened_again : (c : Context) (m : Mnemonic) (o : Operand) (di : Bool) (number : ℕ) → rule_of_resolved_operand (form_of m) (resolved.OpenBlock di number) ≡ None → IsOpenedAgain c (Some number)
-    → IsActedAgain c m o (operand.OpenBlock di (name_of_data_block number)) (resolved.OpenBlock di number)
+    → IsActedAgain c m o (operand.OpenBlock di (data_block_name number)) (resolved.OpenBlock di number)
 unfolding resolution_of
-opened_again c m o di number h k = operand_unchanged c m o (operand.OpenBlock di (name_of_data_block number)) (resolved.OpenBlock di number) tt h refl (ap (resolution_of_opened_block di) k)
+opened_again c m o di number h k = operand_unchanged c m o (operand.OpenBlock di (data_block_name number)) (resolved.OpenBlock di number) tt h refl (ap (resolution_of_opened_block di) k)
 
 memory_seen : (c : Context) (a from : Area) (width : Width) (byte : ℕ) → resolution_of c (operand.ByMemory (read_letters a) width (read_letters from) byte) ≡ Resolved (resolved.ByMemory a width from byte)
 unfolding resolution_of

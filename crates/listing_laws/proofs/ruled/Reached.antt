@@ -28,7 +28,7 @@ use Rattle.stl_list.specs.Constants.{instruction_constant}
 use Rattle.stl_list.specs.Labels.{label_of_number}
 use Rattle.stl_list.specs.Lines.{line_of_statement}
 use Rattle.stl_list.specs.Operands.{implied_operand, operand_by, plain_operand}
-use Rattle.stl_list.specs.Runs.{Run, number_at}
+use Rattle.stl_list.specs.Runs.{StatementOps, statement_number_at}
 use Rattle.stl_list.specs.Statements.{ListingContext, body_of, label_at, label_of_end, listed_statement, statement_at, statements_from, listing_context}
 use Rattle.listing_laws.specs.LabelRules.{AreJumpLabelsKnown, LeadsWithin}
 use Rattle.listing_laws.specs.Statements.{jumps_to, statement_offset, run_of}
@@ -44,7 +44,7 @@ end_labels : (line : ℕ) (label : Option (List ℕ)) (rest : List Statement) �
 end_labels line None rest = refl
 end_labels line (Some label) rest = refl
 
-here_labels : (sur : ListingContext) (k : ℕ) (r : Run) (rest : List Statement) → labels_of (statement_at sur k r ++ rest) ≡ label_list (label_at sur.targets k) ++ labels_of rest
+here_labels : (sur : ListingContext) (k : ℕ) (r : StatementOps) (rest : List Statement) → labels_of (statement_at sur k r ++ rest) ≡ label_list (label_at sur.targets k) ++ labels_of rest
 unfolding statement_at
 here_labels sur k r rest = by (suc k == length sur.lines)
   where
@@ -52,7 +52,7 @@ here_labels sur k r rest = by (suc k == length sur.lines)
     by true = end_labels (line_of_statement sur.lines k) (label_at sur.targets k) rest
     by false = refl
 
-all_labels : (sur : ListingContext) (k : ℕ) (rs : List Run) → labels_of (statements_from sur k rs) ≡ numbered_labels sur.targets k (length rs)
+all_labels : (sur : ListingContext) (k : ℕ) (rs : List StatementOps) → labels_of (statements_from sur k rs) ≡ numbered_labels sur.targets k (length rs)
 all_labels sur k [] = refl
 all_labels sur k (r ∷ rs) = here_labels sur k r (statements_from sur (suc k) rs) ∙ ap (λ (ls : List (List ℕ)). label_list (label_at sur.targets k) ++ ls) (all_labels sur (suc k) rs)
 
@@ -120,7 +120,7 @@ timer_no false number labels = refl
 
 -- an operand that is a jump goes to one of these labels
 abbrev pub JumpsIn : (List (List ℕ)) → (starts : List ℕ) → FlatOperand → Type 0
-JumpsIn labels starts (flat.Jump kind target) = is_some (name_place (label_of_number (number_at starts target)) labels) ≡ true
+JumpsIn labels starts (flat.Jump kind target) = is_some (name_place (label_of_number (statement_number_at starts target)) labels) ≡ true
 JumpsIn labels starts _ = Unit {0}
 
 none_is : {A : Type 0} (o : Option A) → is_some o ≡ true → is_none o ≡ false
@@ -131,13 +131,13 @@ pub no_unknown : (labels : List (List ℕ)) (formals : List Formal) (starts : Li
 unfolding operand_by plain_operand
 no_unknown labels formals starts opened w flat.Nothing h = implied_no w labels
 no_unknown labels formals starts opened w (flat.Literal value) h = constant_no w value labels
-no_unknown labels formals starts opened w (flat.Jump kind target) h = none_is (name_place (label_of_number (number_at starts target)) labels) h
+no_unknown labels formals starts opened w (flat.Jump kind target) h = none_is (name_place (label_of_number (statement_number_at starts target)) labels) h
 no_unknown labels formals starts opened w (flat.Numbered kind number) h = timer_no (kind == timer_kind) number labels
 no_unknown labels formals starts opened w _ h = refl
 
 -- ---- all statements
 
-abbrev All : List (List ℕ) → (starts : List ℕ) → List Run → Type 0
+abbrev All : List (List ℕ) → (starts : List ℕ) → List StatementOps → Type 0
 All labels starts rs = AllByRecursion (λ r. JumpsIn labels starts r.op.operand) rs
 
 abbrev found_in : List (List ℕ) → List Statement → List Refusal
@@ -147,7 +147,7 @@ end_known : (labels : List (List ℕ)) (line : ℕ) (label : Option (List ℕ)) 
 end_known labels line None rest = refl
 end_known labels line (Some label) rest = refl
 
-here_known : (sur : ListingContext) (labels : List (List ℕ)) (k : ℕ) (r : Run) (rest : List Statement) → JumpsIn labels sur.starts r.op.operand → found_in labels (statement_at sur k r ++ rest) ≡ found_in labels rest
+here_known : (sur : ListingContext) (labels : List (List ℕ)) (k : ℕ) (r : StatementOps) (rest : List Statement) → JumpsIn labels sur.starts r.op.operand → found_in labels (statement_at sur k r ++ rest) ≡ found_in labels rest
 unfolding statement_at
 here_known sur labels k r rest h = by (suc k == length sur.lines)
   where
@@ -155,7 +155,7 @@ here_known sur labels k r rest h = by (suc k == length sur.lines)
     by true = end_known labels (line_of_statement sur.lines k) (label_at sur.targets k) rest
     by false = ap (λ (b : Bool). broken_if b (line_of_statement sur.lines k) 26 ++ found_in labels rest) (no_unknown labels sur.formals sur.starts _ _ r.op.operand h)
 
-all_known : (sur : ListingContext) (labels : List (List ℕ)) (k : ℕ) (rs : List Run) → All labels sur.starts rs → found_in labels (statements_from sur k rs) ≡ []
+all_known : (sur : ListingContext) (labels : List (List ℕ)) (k : ℕ) (rs : List StatementOps) → All labels sur.starts rs → found_in labels (statements_from sur k rs) ≡ []
 all_known sur labels k [] h = refl
 all_known sur labels k (r ∷ rs) h = here_known sur labels k r (statements_from sur (suc k) rs) h.0 ∙ all_known sur labels (suc k) rs h.1
 
@@ -165,7 +165,7 @@ itself : (t : ℕ) → (t == t) ≡ true
 itself t = eq-eqb t t refl
 
 abbrev pub IsMet : List (List ℕ) → (starts : List ℕ) → (ℕ → ℕ) → ℕ → Type 0
-IsMet labels starts f t = is_some (name_place (label_of_number (number_at starts (f t))) labels) ≡ true
+IsMet labels starts f t = is_some (name_place (label_of_number (statement_number_at starts (f t))) labels) ≡ true
 
 pub one : (labels : List (List ℕ)) (starts : List ℕ) (f : ℕ → ℕ) (i : Instr) → ((t : ℕ) → jumps_to t i ≡ true → IsMet labels starts f t) → JumpsIn labels starts (run_of f i).op.operand
 one labels starts f (Does u w (flat.Jump kind t)) h = h t (itself t)
@@ -195,7 +195,7 @@ all_of labels starts f whole (s ∷ ss) w into met = (
   all_of labels starts f whole ss w.1 (λ t h. into t (or_right (jumps_to t s.instr) (any_to t ss) h)) met,
 )
 
-map_length : (f : SourceInstruction → Run) (xs : List SourceInstruction) → length (map f xs) ≡ length xs
+map_length : (f : SourceInstruction → StatementOps) (xs : List SourceInstruction) → length (map f xs) ≡ length xs
 map_length f [] = refl
 map_length f (x ∷ xs) = ap suc (map_length f xs)
 
@@ -205,7 +205,7 @@ least_is t n h = omega (arith, h)
 pub labels_known : AreJumpLabelsKnown
 unfolding body_of
 labels_known signatures lines b within =
-    ap (λ (rs : List Run). unknown_labels (labels_of (statements_from sur 0 rs)) (statements_from sur 0 rs)) (runs_found b.statements)
+    ap (λ (rs : List StatementOps). unknown_labels (labels_of (statements_from sur 0 rs)) (statements_from sur 0 rs)) (runs_found b.statements)
     ∙ ap (λ (ls : List (List ℕ)). unknown_labels ls (statements_from sur 0 rs)) (all_labels sur 0 rs)
     ∙ all_known sur labels 0 rs (all_of labels sur.starts f b.statements b.statements within (λ t h. h) met)
   where
@@ -215,7 +215,7 @@ labels_known signatures lines b within =
     f : ℕ → ℕ
     f = statement_offset b.statements
 
-    rs : List Run
+    rs : List StatementOps
     rs = map (λ s. run_of f s.instr) b.statements
 
     labels : List (List ℕ)

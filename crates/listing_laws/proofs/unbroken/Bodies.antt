@@ -12,7 +12,7 @@ use Rattle.block_layout.specs.Rule55.{has_too_many_statements}
 use Rattle.stl_codegen.specs.CompiledBlock.{StatedBlock, compiled_block}
 use Rattle.stl_list.specs.CodeBlocks.{listed_block}
 use Rattle.stl_list.specs.Lines.{line_of_statement, lines_from}
-use Rattle.stl_list.specs.Runs.{Run, runs}
+use Rattle.stl_list.specs.Runs.{StatementOps, runs}
 use Rattle.stl_list.specs.Signatures.{Signature}
 use Rattle.stl_list.specs.Statements.{ListingContext, body_of, label_at, label_of_end, listed_statement, statement_at, statements_from, listing_context}
 use Rattle.listing_laws.specs.Statements.{statement_offset, run_of}
@@ -33,7 +33,7 @@ one_written : (s : Statement) → written_count (s ∷ []) ≤ 1
 one_written s = count_by-le-length (λ (s : Statement). not (is_empty_statement s.code)) (s ∷ [])
 
 -- the last one is the END clause
-few_from : (s : ListingContext) (n : ℕ) (rs : List Run) → n + length rs ≡ length s.lines → written_count (statements_from s n rs) ≤ length rs - 1
+few_from : (s : ListingContext) (n : ℕ) (rs : List StatementOps) → n + length rs ≡ length s.lines → written_count (statements_from s n rs) ≤ length rs - 1
 unfolding statement_at
 few_from s n [] e = omega arith
 few_from s n (r ∷ rs) e = by (suc n == length s.lines) refl (few_from s (suc n) rs (omega (arith, e)))

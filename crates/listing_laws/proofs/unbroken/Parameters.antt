@@ -17,7 +17,7 @@ use Rattle.stl_ast.specs.declared.declarations.Declaration.{Declaration}
 use Rattle.block_layout.specs.Rule52.{parameters_in_section as counted_in, has_too_many_parameters, parameter_count, return_value_count}
 use Rattle.stl_types.specs.declared.parameters.Formal.{Formal}
 use Rattle.stl_list.specs.CodeBlocks.{listed_block, result_of}
-use Rattle.stl_list.specs.JoinedParameters.{Chains}
+use Rattle.stl_list.specs.JoinedParameters.{PassingChains}
 use Rattle.stl_list.specs.Lines.{first_statement_line}
 use Rattle.stl_list.specs.Parameters.{is_return}
 use Rattle.stl_list.specs.Sections.{bytes_here, declared_here, declarations_of_section, plain_declaration, section_part, section_parts, static_bytes, static_name, temporary_name}
@@ -25,11 +25,11 @@ use Rattle.stl_list.specs.Signatures.{Signature, formals_from, formals_of_block,
 
 -- ---- the formal parameters are those of the code block
 
-formals_long : (c : Chains) (returns behind : Bool) (index first : ℕ) (ps : List Param) → length (formals_from c returns behind index first ps) ≡ length ps
+formals_long : (c : PassingChains) (returns behind : Bool) (index first : ℕ) (ps : List Param) → length (formals_from c returns behind index first ps) ≡ length ps
 formals_long c returns behind index first [] = refl
 formals_long c returns behind index first (p ∷ ps) = ap suc (formals_long c returns (is_behind returns behind p) (suc index) (suc first) ps)
 
-pub few_formals : (c : Chains) (first : ℕ) (bs : List CodeBlock) → AllByRecursion (λ b. length b.params ≤ 60) bs → (id : BlockId) → length (formals_of_block (signatures_from c first bs) id) ≤ 60
+pub few_formals : (c : PassingChains) (first : ℕ) (bs : List CodeBlock) → AllByRecursion (λ b. length b.params ≤ 60) bs → (id : BlockId) → length (formals_of_block (signatures_from c first bs) id) ≤ 60
 few_formals c first [] h id = omega arith
 few_formals c first (b ∷ bs) h id = by (is_same_block b.id id) (few_formals c (first + length b.params) bs h.1 id)
   where

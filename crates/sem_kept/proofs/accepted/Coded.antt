@@ -5,7 +5,8 @@ use Rattle.std.specs.List.{AllByRecursion, count_by}
 use Rattle.std.proofs.lemmas.Bool.{and_from, eq-eqb, ltb-false}
 use Rattle.plc_base.specs.declared.blocks.BlockId.{BlockId}
 use Rattle.plc_base.proofs.ListLemmas.{all_append}
-use Rattle.flat_code.specs.Codes.{are_ops, code_bytes, code_layout, is_nowhere, stop_at}
+use Rattle.flat_code.specs.Codes.{are_ops, code_bytes, code_layout, stop_at}
+use Rattle.flat_code.specs.Layout.{is_fine}
 use Rattle.flat_code.specs.declared.operations.EndOperation.TheVariants as end
 use Rattle.stl_ast.specs.Statements.{is_empty_statement}
 use Rattle.stl_ast.specs.declared.blocks.Block.{Block}
@@ -111,10 +112,10 @@ pub coded_is_good : CodedIsGood
 unfolding code_layout
 coded_is_good with_code_faults b coded =
     let n = length (code_bytes b.code) in
-    and_from (are_ops b.code && is_nowhere (stop_at with_code_faults b.code [])) (eqb n n)
-    (and_from (are_ops b.code) (is_nowhere (stop_at with_code_faults b.code [])) coded.ops (stops with_code_faults))
+    and_from (are_ops b.code && is_fine (stop_at with_code_faults b.code [])) (eqb n n)
+    (and_from (are_ops b.code) (is_fine (stop_at with_code_faults b.code [])) coded.ops (stops with_code_faults))
     (eq-eqb n n refl)
   where
-    stops : (with_code_faults : Bool) → is_nowhere (stop_at with_code_faults b.code []) ≡ true
-    stops true = ap is_nowhere coded.right
+    stops : (with_code_faults : Bool) → is_fine (stop_at with_code_faults b.code []) ≡ true
+    stops true = ap is_fine coded.right
     stops false = refl

@@ -9,7 +9,7 @@ use Rattle.flat_code.specs.Codes.{size_of_op}
 use Rattle.flat_code.specs.Instr.{Instr, Jumps, Returns}
 use Rattle.flat_code.specs.Kinds.{jump_number}
 use Rattle.flat_code.specs.Ops.{OpData}
-use Rattle.flat_code.specs.PlacedOps.{PlacedOp, StatementSpot, bracket_codes, codes_of_few_brackets, open_behind, brackets_after, ops_placed, spot_at, statement_spots, zones_behind_op as zones_past, zones_left}
+use Rattle.flat_code.specs.PlacedOps.{PlacedOp, StatementStart, bracket_codes, codes_of_few_brackets, open_behind, brackets_after, ops_placed, statement_start_at, starts_of_statements, zones_behind_op as zones_past, zones_left}
 use Rattle.flat_code.specs.declared.image_fields.OpenBracket.{OpenBracket}
 use Rattle.flat_code.specs.declared.kinds.JumpOperation.{JumpOperation}
 use Rattle.flat_code.specs.declared.kinds.JumpOperation.TheVariants as jump
@@ -45,7 +45,7 @@ use Rattle.sem_kept.proofs.compiled.Reading.{aimed_append, aimed_are, aimed_byte
 use Rattle.sem_kept.proofs.compiled.Runs.{InstrParts, bytes_of, flat as flat_parts, size_aimed, total}
 use Rattle.sem_kept.specs.Jumps.{AllLandRight, LandsRight, jump_fault_of}
 use Rattle.plc_base.proofs.TruthLemmas.{or_met_behind}
-use Rattle.sem_kept.proofs.accepted.JumpsCode.{AreQuiet, IsFound, IsQuiet, codes_after, count_after, found_by, left_after, open_after, placed_all, spot_there}
+use Rattle.sem_kept.proofs.accepted.JumpsCode.{AreQuiet, IsFound, IsQuiet, codes_after, count_after, found_by, left_after, open_after, placed_all, start_there}
 use Rattle.flat_code.proofs.BracketLemmas.{codes_behind, codes_fault, codes_opened, count_behind, count_fault, count_is, fault_is, few_codes, few_is, no_zones, none_left, zone_fault_is}
 use Rattle.sem_kept.proofs.accepted.JumpsRules.{AreNestedAlike, AreRightFrom, HasList, IsRightAt, IsLabelOfJump, behind_more, by_29, by_31, by_47, by_49, few_open, functions, has_list, right_body, same_landings, target_is, target_past, zones_more}
 use Rattle.sem_kept.proofs.accepted.JumpsOperations.{IsLastOf, TakesRight, behind_codes, behind_count, bracket_right, codes_of_source_brackets, front_quiet, leads_to_label, last_of, last_op_of_instr, zone_right}
@@ -87,7 +87,7 @@ same_few xs = by (nat_le (length xs) 7)
     by true = ap not (same_as_itself xs)
     by false = refl
 
-no_difference : (xs : List ℕ) (codes : Option (List ℕ)) (zones : ℕ) (there : StatementSpot)
+no_difference : (xs : List ℕ) (codes : Option (List ℕ)) (zones : ℕ) (there : StatementStart)
     → codes ≡ few_codes xs → there.codes ≡ few_codes xs → there.zones ≡ zones
     → nesting_fault codes zones there ≡ None
 no_difference xs codes zones there here same count =
@@ -335,17 +335,17 @@ place_is c body ret pre rest e =
     ∙ position_is (stated_from c body 0 pre) (stated_from c body (count_of_statements pre) rest ++ ret ∷ [])
 
 -- the statement behind statements, and what is open there
-spot_behind : (f : ℕ → ℕ) (front : List SourceInstruction) (s : SourceInstruction) (rest : List SourceInstruction)
-    → IsFound (spot_at (statement_spots (the_code f (front ++ s ∷ rest))) (ends_at front))
+start_behind : (f : ℕ → ℕ) (front : List SourceInstruction) (s : SourceInstruction) (rest : List SourceInstruction)
+    → IsFound (statement_start_at (starts_of_statements (the_code f (front ++ s ∷ rest))) (ends_at front))
     (few_codes (codes_after (aimed_parts f (parts front)) []))
     (count_after (aimed_parts f (parts front)) 0)
-spot_behind f front s rest =
+start_behind f front s rest =
     found_by _ _ _ _ _ _
-    (ap (λ (z : List InstrParts). spot_at (statement_spots (flat_parts z)) (ends_at front)) cut
-    ∙ ap (spot_at (statement_spots (flat_parts (ps ++ aimed_part f (parts_of_instr s.instr) ∷ aimed_parts f (parts rest)))))
+    (ap (λ (z : List InstrParts). statement_start_at (starts_of_statements (flat_parts z)) (ends_at front)) cut
+    ∙ ap (statement_start_at (starts_of_statements (flat_parts (ps ++ aimed_part f (parts_of_instr s.instr) ∷ aimed_parts f (parts rest)))))
     (sym (aimed_extent f (parts front)) ∙ omega arith))
     refl refl
-    (spot_there 0 [] [] ps (aimed_part f (parts_of_instr s.instr)) (aimed_parts f (parts rest))
+    (start_there 0 [] [] ps (aimed_part f (parts_of_instr s.instr)) (aimed_parts f (parts rest))
     (aimed_are f (parts front) (parts_are front)) (parts_quiet f front) (part_quiet f s.instr)
     (aimed_is f (parts_of_instr s.instr) (is_statement s.instr)))
   where
@@ -357,18 +357,18 @@ spot_behind f front s rest =
     cut = ap (aimed_parts f) (parts_append front (s ∷ rest))
         ∙ aimed_append f (parts front) (parts (s ∷ rest))
 
-spot_of : (c : Context) (body : List Statement) (ret : SourceInstruction) (f : ℕ → ℕ) (pre rest : List Statement)
+start_of : (c : Context) (body : List Statement) (ret : SourceInstruction) (f : ℕ → ℕ) (pre rest : List Statement)
     → body ≡ pre ++ rest → AllByRecursion TakesRight pre
-    → IsFound (spot_at (statement_spots (the_code f (whole c body ret))) (ends_of c body pre))
+    → IsFound (statement_start_at (starts_of_statements (the_code f (whole c body ret))) (ends_of c body pre))
     (few_codes (codes_of_source_brackets (brackets_behind_all [] pre))) (length (zones_behind_all [] pre))
-spot_of c body ret f pre rest e takes =
+start_of c body ret f pre rest e takes =
     let h = has_first (stated_from c body (count_of_statements pre) rest) ret in
     found_by _ _ _ _ _ _
-    (ap (λ (z : List SourceInstruction). spot_at (statement_spots (the_code f z)) (ends_of c body pre))
+    (ap (λ (z : List SourceInstruction). statement_start_at (starts_of_statements (the_code f z)) (ends_of c body pre))
     (whole_cut c body ret pre rest e ∙ ap (λ (z : List SourceInstruction). stated_from c body 0 pre ++ z) h.is))
     (ap few_codes (stated_codes f c body 0 [] pre takes))
     (stated_zones f c body 0 [] pre takes)
-    (spot_behind f (stated_from c body 0 pre) h.first h.rest)
+    (start_behind f (stated_from c body 0 pre) h.first h.rest)
 
 -- ---- the list of a JL
 
@@ -479,18 +479,18 @@ leads_from c body ret name left pre (s ∷ ss) at n e is_at is_n led =
 -- ---- the last op of a statement
 
 -- nothing but a jump has such a fault
-stays_right : (ss : List StatementSpot) (p : PlacedOp) (f : ℕ → ℕ) (o : FlatOperand) → is_target o ≡ false
+stays_right : (ss : List StatementStart) (p : PlacedOp) (f : ℕ → ℕ) (o : FlatOperand) → is_target o ≡ false
     → jump_fault_of ss p (operand_with_target f o) ≡ None
 stays_right ss p f (flat.Jump kind target) e = absurd cc
 stays_right ss p f _ e = refl
 
-jump_right : (ss : List StatementSpot) (p : PlacedOp) (kind target : ℕ) (codes : List ℕ) (count : ℕ)
+jump_right : (ss : List StatementStart) (p : PlacedOp) (kind target : ℕ) (codes : List ℕ) (count : ℕ)
     → is_bad_list p kind target ≡ false → codes_of_few_brackets p.brackets ≡ few_codes codes → length p.zones ≡ count
-    → IsFound (spot_at ss target) (few_codes codes) count → jump_fault ss p kind target ≡ None
+    → IsFound (statement_start_at ss target) (few_codes codes) count → jump_fault ss p kind target ≡ None
 jump_right ss p kind target codes count list here zones there =
-    ap (λ (t : Bool). if t then Some 6 else target_fault (codes_of_few_brackets p.brackets) (length p.zones) (spot_at ss target)) list
+    ap (λ (t : Bool). if t then Some 6 else target_fault (codes_of_few_brackets p.brackets) (length p.zones) (statement_start_at ss target)) list
     ∙ ap (target_fault (codes_of_few_brackets p.brackets) (length p.zones)) there.is
-    ∙ no_difference codes (codes_of_few_brackets p.brackets) (length p.zones) there.spot here there.codes_are
+    ∙ no_difference codes (codes_of_few_brackets p.brackets) (length p.zones) there.start here there.codes_are
     (there.zones_are ∙ sym zones)
 
 -- only a JL has a list
@@ -517,7 +517,7 @@ pub record IsRightBody (body : List Statement) : Type 0 where
 abbrev LandsAlike : Context → (body : List Statement) → (ret : SourceInstruction) → (pre : List Statement) → (name : List ℕ)
     → Type 0
 LandsAlike c body ret pre name =
-    IsFound (spot_at (statement_spots (the_code (place c body ret) (whole c body ret)))
+    IsFound (statement_start_at (starts_of_statements (the_code (place c body ret) (whole c body ret)))
     (place c body ret (target_in name body))) (few_codes (codes_of_source_brackets (brackets_behind_all [] pre)))
     (length (zones_behind_all [] pre))
 
@@ -527,12 +527,12 @@ lands : (c : Context) (body : List Statement) (ret : SourceInstruction) (pre : L
     → s.operand ≡ operand.Label name → LandsAlike c body ret pre name
 lands c body ret pre s post name all e right label =
     found_by _ _ _ _ _ _
-    (ap (spot_at (statement_spots (the_code f (whole c body ret))))
+    (ap (statement_start_at (starts_of_statements (the_code f (whole c body ret))))
     (ap f there.count ∙ place_is c body ret there.before there.rest there.whole))
     (ap few_codes
     (sym (same_functions (brackets_behind_all [] pre) (brackets_behind_all [] there.before) same.functions)))
     (sym same.zones)
-    (spot_of c body ret f there.before there.rest there.whole
+    (start_of c body ret f there.before there.rest there.whole
     (all_front TakesRight there.before there.rest
     (subst (AllByRecursion TakesRight) there.whole all.takes)))
   where
@@ -616,7 +616,7 @@ jump_lands : (c : Context) (body : List Statement) (ret : SourceInstruction) (pr
     (post : List Statement) (at n : ℕ) (bs : List OpenBracket) (zones : List ℕ) (done : List OpData)
     → IsRightBody body → IsHere c body pre s post at n bs zones
     → (how : JumpOperation) → jump_operation_of s.code ≡ Some how
-    → jump_fault (statement_spots (the_code (place c body ret) (whole c body ret)))
+    → jump_fault (starts_of_statements (the_code (place c body ret) (whole c body ret)))
     (placed_end c body ret s post at n bs zones done) (jump_number how)
     (place c body ret (target_of body s.operand))
     ≡ None
@@ -625,7 +625,7 @@ jump_lands c body ret pre s post at n bs zones done all h how is =
     let name = label.0 in
     let target : ℕ = place c body ret (target_in name body) in
     let p = placed_end c body ret s post at n bs zones done in
-    let ss = statement_spots (the_code (place c body ret) (whole c body ret)) in
+    let ss = starts_of_statements (the_code (place c body ret) (whole c body ret)) in
     let number = count_more pre s h.full in
     let same = h.stands.is_n in
     ap (λ (o : Operand). jump_fault ss p (jump_number how) (place c body ret (target_of body o))) label.1
@@ -641,7 +641,7 @@ jump_lands c body ret pre s post at n bs zones done all h how is =
 last_lands : (c : Context) (body : List Statement) (ret : SourceInstruction) (pre : List Statement) (s : Statement)
     (post : List Statement) (at n : ℕ) (bs : List OpenBracket) (zones : List ℕ) (done : List OpData)
     → IsRightBody body → IsHere c body pre s post at n bs zones
-    → LandsRight (statement_spots (the_code (place c body ret) (whole c body ret)))
+    → LandsRight (starts_of_statements (the_code (place c body ret) (whole c body ret)))
     (placed_end c body ret s post at n bs zones done)
 last_lands c body ret pre s post at n bs zones done all h = record {
   jump = by (jump_operation_of s.code) refl last.jumps;
@@ -657,8 +657,8 @@ last_lands c body ret pre s post at n bs zones done all h = record {
     last : IsLastOf body s op
     last = last_of c body n s h.takes
 
-    ss : List StatementSpot
-    ss = statement_spots (the_code (place c body ret) (whole c body ret))
+    ss : List StatementStart
+    ss = starts_of_statements (the_code (place c body ret) (whole c body ret))
 
     p : PlacedOp
     p = placed_end c body ret s post at n bs zones done
@@ -672,7 +672,7 @@ last_lands c body ret pre s post at n bs zones done all h = record {
 
 -- ---- the ops of a body
 
-quiet_lands : (ss : List StatementSpot) (q : PlacedOp) → IsQuiet q.op → LandsRight ss q
+quiet_lands : (ss : List StatementStart) (q : PlacedOp) → IsQuiet q.op → LandsRight ss q
 quiet_lands ss q h = record {
   jump = by q.op.operand h.stays;
   brackets = rw h.opens (rw h.closes refl);
@@ -686,7 +686,7 @@ quiet_lands ss q h = record {
 abbrev AllLand : Context → List Statement → SourceInstruction → (at : ℕ) → List OpenBracket → (zones : List ℕ)
     → List OpData → Type 0
 AllLand c body ret at bs zones ops =
-    AllByRecursion (LandsRight (statement_spots (the_code (place c body ret) (whole c body ret))))
+    AllByRecursion (LandsRight (starts_of_statements (the_code (place c body ret) (whole c body ret))))
     (ops_placed at bs zones [] ops)
 
 -- behind an empty statement it is the same
@@ -749,10 +749,10 @@ next_lands : (c : Context) (body : List Statement) (ret : SourceInstruction) (pr
 next_lands c body ret pre s post at n bs zones all e h takes right more true is =
     more at n bs zones (past_empty c body pre s at n bs zones is h)
 next_lands c body ret pre s post at n bs zones all e h takes right more false is =
-    placed_all (LandsRight (statement_spots (the_code f (whole c body ret)))) at bs zones [] front op
+    placed_all (LandsRight (starts_of_statements (the_code f (whole c body ret)))) at bs zones [] front op
     (code_from c body ret f (suc n) post) (part_quiet f i)
     (aimed_is f (parts_of_instr i) (is_statement i)).front (aimed_is f (parts_of_instr i) (is_statement i)).end
-    (quiet_lands (statement_spots (the_code f (whole c body ret))))
+    (quiet_lands (starts_of_statements (the_code f (whole c body ret))))
     (λ done. last_lands c body ret pre s post at n bs zones done all here)
     (more (from + size_of_op op) (suc n) (brackets_after from op.code bs) (zones_past from op.code zones)
     (past_end c body ret pre s post at n bs zones here))

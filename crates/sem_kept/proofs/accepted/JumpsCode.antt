@@ -5,7 +5,7 @@ use Rattle.std.proofs.lemmas.Bool.{eq-eqb, ne_eqb}
 use Rattle.std.specs.List.{AllByRecursion}
 use Rattle.flat_code.specs.Codes.{size_of_op}
 use Rattle.flat_code.specs.Ops.{OpData}
-use Rattle.flat_code.specs.PlacedOps.{PlacedOp, StatementSpot, before_next, bracket_codes, codes_of_few_brackets, open_behind, brackets_after, is_opening, ops_placed, spot_at, spots_from, zones_behind_op, zones_left}
+use Rattle.flat_code.specs.PlacedOps.{PlacedOp, StatementStart, before_next, bracket_codes, codes_of_few_brackets, open_behind, brackets_after, is_opening, ops_placed, statement_start_at, statement_starts_from, zones_behind_op, zones_left}
 use Rattle.flat_code.specs.declared.image_fields.OpenBracket.{OpenBracket}
 use Rattle.flat_code.specs.OpCodes.{op_code_of}
 use Rattle.flat_code.specs.declared.operations.Operation.TheVariants as operation
@@ -39,54 +39,54 @@ quiet_zones at op zones h = rw h.opens_zone (rw h.ends_zone refl)
 -- ---- the statements
 
 -- what follows an op that stands at an offset
-abbrev spots_past : (at : ℕ) → List OpenBracket → (zones : List ℕ) → OpData → (rest : List OpData)
-    → List StatementSpot
-spots_past at bs zones op rest =
-    spots_from (at + size_of_op op) true (brackets_after at op.code bs) (zones_behind_op at op.code zones) rest
+abbrev starts_past : (at : ℕ) → List OpenBracket → (zones : List ℕ) → OpData → (rest : List OpData)
+    → List StatementStart
+starts_past at bs zones op rest =
+    statement_starts_from (at + size_of_op op) true (brackets_after at op.code bs) (zones_behind_op at op.code zones) rest
 
-spots_inside : (at : ℕ) (bs : List OpenBracket) (zones : List ℕ) (front : List OpData) (op : OpData)
+starts_inside : (at : ℕ) (bs : List OpenBracket) (zones : List ℕ) (front : List OpData) (op : OpData)
     (rest : List OpData)
     → AllByRecursion IsQuiet front → AllByRecursion IsPreparing front → op.last ≡ true
-    → spots_from at false bs zones (front ++ op ∷ rest)
-    ≡ spots_past (at + total front) bs zones op rest
-spots_inside at bs zones [] op rest quiet fs last =
+    → statement_starts_from at false bs zones (front ++ op ∷ rest)
+    ≡ starts_past (at + total front) bs zones op rest
+starts_inside at bs zones [] op rest quiet fs last =
     ap (λ (t : Bool).
-    spots_from (at + size_of_op op) t (brackets_after at op.code bs) (zones_behind_op at op.code zones) rest) last
-    ∙ ap (λ (k : ℕ). spots_past k bs zones op rest) (omega arith)
-spots_inside at bs zones (x ∷ front) op rest quiet fs last =
+    statement_starts_from (at + size_of_op op) t (brackets_after at op.code bs) (zones_behind_op at op.code zones) rest) last
+    ∙ ap (λ (k : ℕ). starts_past k bs zones op rest) (omega arith)
+starts_inside at bs zones (x ∷ front) op rest quiet fs last =
     ap (λ (t : Bool). next t (brackets_after at x.code bs) (zones_behind_op at x.code zones)) fs.0
     ∙ ap (λ (z : List OpenBracket). next false z (zones_behind_op at x.code zones))
     (quiet_opens at x bs quiet.0)
     ∙ ap (next false bs) (quiet_zones at x zones quiet.0)
-    ∙ spots_inside (at + size_of_op x) bs zones front op rest quiet.1 fs.1 last
-    ∙ ap (λ (k : ℕ). spots_past k bs zones op rest) (omega arith)
+    ∙ starts_inside (at + size_of_op x) bs zones front op rest quiet.1 fs.1 last
+    ∙ ap (λ (k : ℕ). starts_past k bs zones op rest) (omega arith)
   where
-    next : Bool → List OpenBracket → (zones : List ℕ) → List StatementSpot
-    next begin bs zones = spots_from (at + size_of_op x) begin bs zones (front ++ op ∷ rest)
+    next : Bool → List OpenBracket → (zones : List ℕ) → List StatementStart
+    next begin bs zones = statement_starts_from (at + size_of_op x) begin bs zones (front ++ op ∷ rest)
 
 -- a statement, and those behind it
-spots_next : (at : ℕ) (bs : List OpenBracket) (zones : List ℕ) (p : InstrParts) (rest : List OpData)
+starts_next : (at : ℕ) (bs : List OpenBracket) (zones : List ℕ) (p : InstrParts) (rest : List OpData)
     → AllByRecursion IsQuiet p.front → IsPartedStatement p
-    → spots_from at true bs zones (p.front ++ p.end ∷ rest)
+    → statement_starts_from at true bs zones (p.front ++ p.end ∷ rest)
     ≡ record { at = at; codes = codes_of_few_brackets bs; zones = length zones }
-    ∷ spots_from (at + bytes_of p) true (brackets_after (at + total p.front) p.end.code bs)
+    ∷ statement_starts_from (at + bytes_of p) true (brackets_after (at + total p.front) p.end.code bs)
     (zones_behind_op (at + total p.front) p.end.code zones) rest
-spots_next at bs zones p rest quiet h =
+starts_next at bs zones p rest quiet h =
     by p.front quiet h.front
-    ∙ ap (λ (k : ℕ). here ∷ spots_from k true (brackets_after (at + total p.front) p.end.code bs)
+    ∙ ap (λ (k : ℕ). here ∷ statement_starts_from k true (brackets_after (at + total p.front) p.end.code bs)
     (zones_behind_op (at + total p.front) p.end.code zones) rest) (omega arith)
   where
-    here : StatementSpot
+    here : StatementStart
     here = record { at = at; codes = codes_of_few_brackets bs; zones = length zones }
 
     by : (front : List OpData) → AllByRecursion IsQuiet front → AllByRecursion IsPreparing front
-        → spots_from at true bs zones (front ++ p.end ∷ rest)
-        ≡ here ∷ spots_past (at + total front) bs zones p.end rest
+        → statement_starts_from at true bs zones (front ++ p.end ∷ rest)
+        ≡ here ∷ starts_past (at + total front) bs zones p.end rest
     by [] q fs =
-        ap (λ (z : List StatementSpot). here ∷ z) (spots_inside at bs zones [] p.end rest q fs h.end)
+        ap (λ (z : List StatementStart). here ∷ z) (starts_inside at bs zones [] p.end rest q fs h.end)
     by (x ∷ front) q fs =
-        ap (λ (z : List StatementSpot). here ∷ z)
-        (spots_inside at bs zones (x ∷ front) p.end rest q fs h.end)
+        ap (λ (z : List StatementStart). here ∷ z)
+        (starts_inside at bs zones (x ∷ front) p.end rest q fs h.end)
 
 -- the codes of the brackets that are open behind statements
 abbrev pub codes_after : List InstrParts → List ℕ → List ℕ
@@ -99,34 +99,34 @@ count_after [] count = count
 count_after (p ∷ ps) count = count_after ps (count_behind p.end.code count)
 
 -- a statement is found, at which these brackets and so many zones are open
-pub record IsFound (found : Option StatementSpot) (codes : Option (List ℕ)) (zones : ℕ) : Type 0 where
-  pub spot : StatementSpot
-  pub is : found ≡ Some spot
-  pub codes_are : spot.codes ≡ codes
-  pub zones_are : spot.zones ≡ zones
+pub record IsFound (found : Option StatementStart) (codes : Option (List ℕ)) (zones : ℕ) : Type 0 where
+  pub start : StatementStart
+  pub is : found ≡ Some start
+  pub codes_are : start.codes ≡ codes
+  pub zones_are : start.zones ≡ zones
 
-pub found_by : (a b : Option StatementSpot) (codes others : Option (List ℕ)) (zones more : ℕ)
+pub found_by : (a b : Option StatementStart) (codes others : Option (List ℕ)) (zones more : ℕ)
     → a ≡ b → codes ≡ others → zones ≡ more → IsFound b codes zones → IsFound a others more
 found_by a b codes others zones more e same count h = record {
-  spot = h.spot;
+  start = h.start;
   is = e ∙ h.is;
   codes_are = h.codes_are ∙ same;
   zones_are = h.zones_are ∙ count;
 }
 
 -- the statement behind others is found by its offset
-pub spot_there : (at : ℕ) (bs : List OpenBracket) (zones : List ℕ) (ps : List InstrParts) (p : InstrParts)
+pub start_there : (at : ℕ) (bs : List OpenBracket) (zones : List ℕ) (ps : List InstrParts) (p : InstrParts)
     (qs : List InstrParts)
     → AreStatements ps → AreQuiet ps → AllByRecursion IsQuiet p.front → IsPartedStatement p
-    → IsFound (spot_at (spots_from at true bs zones (flat (ps ++ p ∷ qs))) (at + extent ps))
+    → IsFound (statement_start_at (statement_starts_from at true bs zones (flat (ps ++ p ∷ qs))) (at + extent ps))
     (few_codes (codes_after ps (bracket_codes bs))) (count_after ps (length zones))
-spot_there at bs zones [] p qs hs quiets quiet h = record {
-  spot = record { at = at; codes = codes_of_few_brackets bs; zones = length zones };
-  is = rw (spots_next at bs zones p (flat qs) quiet h) (rw (eq-eqb at (at + 0) (omega arith)) refl);
+start_there at bs zones [] p qs hs quiets quiet h = record {
+  start = record { at = at; codes = codes_of_few_brackets bs; zones = length zones };
+  is = rw (starts_next at bs zones p (flat qs) quiet h) (rw (eq-eqb at (at + 0) (omega arith)) refl);
   codes_are = few_is bs;
   zones_are = refl;
 }
-spot_there at bs zones (q ∷ ps) p qs hs quiets quiet h =
+start_there at bs zones (q ∷ ps) p qs hs quiets quiet h =
     let long = bytes_long q in
     let other : eqb at (at + (bytes_of q + extent ps)) ≡ false =
     ne_eqb at (at + (bytes_of q + extent ps)) (λ e. omega (arith, e, long)) in
@@ -134,12 +134,12 @@ spot_there at bs zones (q ∷ ps) p qs hs quiets quiet h =
     let next : List OpenBracket = brackets_after (at + total q.front) q.end.code bs in
     let left : List ℕ = zones_behind_op (at + total q.front) q.end.code zones in
     found_by _ _ _ _ _ _
-    (rw (spots_next at bs zones q (flat (ps ++ p ∷ qs)) quiets.0 hs.0)
+    (rw (starts_next at bs zones q (flat (ps ++ p ∷ qs)) quiets.0 hs.0)
     (rw other
-    (ap (spot_at (spots_from (at + bytes_of q) true next left (flat (ps ++ p ∷ qs)))) moved)))
+    (ap (statement_start_at (statement_starts_from (at + bytes_of q) true next left (flat (ps ++ p ∷ qs)))) moved)))
     (ap (λ (z : List ℕ). few_codes (codes_after ps z)) (codes_opened (at + total q.front) q.end.code bs))
     (ap (count_after ps) (count_is (at + total q.front) q.end.code zones))
-    (spot_there (at + bytes_of q) next left ps p qs hs.1 quiets.1 quiet h)
+    (start_there (at + bytes_of q) next left ps p qs hs.1 quiets.1 quiet h)
 
 -- ---- brackets and zones open behind all
 

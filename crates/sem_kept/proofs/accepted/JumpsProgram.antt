@@ -14,7 +14,7 @@ use Rattle.stl_types.specs.Resolution.{resolution_of}
 use Rattle.stl_codegen.specs.CompiledBlock.{code_in}
 use Rattle.stl_codegen.specs.Fitting.{IsStill}
 use Rattle.flat_code.specs.Blocks.{Environment, block_faults, call_fault, faults_over, op_faults, operand_fault}
-use Rattle.flat_code.specs.PlacedOps.{PlacedOp, StatementSpot, code_places, statement_spots}
+use Rattle.flat_code.specs.PlacedOps.{PlacedOp, StatementStart, code_places, starts_of_statements}
 use Rattle.flat_code.specs.declared.operands.Operand.{Operand as FlatOperand}
 use Rattle.flat_code.specs.declared.operands.Operand.TheVariants as flat
 use Rattle.sem_kept.specs.Jumps.{AllLandRight, NoOperandFaultIsNoFault, JumpsLandRight, LandsRight, jump_fault_of}
@@ -59,13 +59,13 @@ jumps_land_right source file symbols t accepted =
 
 -- ---- with what operands, calls and marks leave
 
-all_operands : (a : Environment) (ss : List StatementSpot) (p : PlacedOp) (o : FlatOperand)
+all_operands : (a : Environment) (ss : List StatementStart) (p : PlacedOp) (o : FlatOperand)
     → (IsStill o → operand_fault a ss p o ≡ None) → jump_fault_of ss p o ≡ None
     → operand_fault a ss p o ≡ None
 all_operands a ss p (flat.Jump kind target) still jump = jump
 all_operands a ss p _ still jump = still tt
 
-op_faultless : (a : Environment) (lens : List (ℕ × ℕ)) (ss : List StatementSpot) (start : ℕ) (p : PlacedOp)
+op_faultless : (a : Environment) (lens : List (ℕ × ℕ)) (ss : List StatementStart) (start : ℕ) (p : PlacedOp)
     → a.data_lens ≡ Some lens → HasNoOperandFault a lens ss p → LandsRight ss p → op_faults a ss start p ≡ []
 unfolding op_faults
 op_faultless a lens ss start p e fine lands =
@@ -74,7 +74,7 @@ op_faultless a lens ss start p e fine lands =
     rw (all_operands a ss p p.op.operand fine.operand lands.jump)
     (rw calls (rw fine.mark (rw lands.brackets (rw lands.zones refl))))
 
-all_faultless : (a : Environment) (lens : List (ℕ × ℕ)) (ss : List StatementSpot) (start : ℕ) (ps : List PlacedOp)
+all_faultless : (a : Environment) (lens : List (ℕ × ℕ)) (ss : List StatementStart) (start : ℕ) (ps : List PlacedOp)
     → a.data_lens ≡ Some lens → HaveNoOperandFaults a lens ss ps → AllByRecursion (LandsRight ss) ps
     → faults_over a ss start ps ≡ []
 all_faultless a lens ss start [] e fine lands = refl
@@ -86,5 +86,5 @@ all_faultless a lens ss start (p ∷ ps) e fine lands =
 pub fine_is_faultless : NoOperandFaultIsNoFault
 unfolding block_faults
 fine_is_faultless a lens start ops e fine lands =
-    rw (all_faultless a lens (statement_spots ops) start (code_places ops) e fine lands.each)
+    rw (all_faultless a lens (starts_of_statements ops) start (code_places ops) e fine lands.each)
     (rw lands.closed (rw lands.ended refl))

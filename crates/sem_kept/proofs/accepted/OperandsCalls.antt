@@ -11,7 +11,7 @@ use Rattle.plc_base.specs.Kinds.{kind_number, is_code, is_data_block, is_functio
 use Rattle.plc_base.specs.declared.blocks.BlockId.{BlockId}
 use Rattle.plc_base.specs.declared.blocks.BlockKind.{BlockKind}
 use Rattle.plc_base.specs.declared.blocks.BlockKind.TheVariants as kinds
-use Rattle.flat_code.specs.Blocks.{Environment, CalleeSeen as FlatCallee, BlockSignature, are_all_passed, block_with, callee_among as flat_callee, length_of_data, is_bad_call, is_bad_instance, is_index, is_passed, is_short_instance, pass_index, signature_of, callee_of_system, system_params}
+use Rattle.flat_code.specs.Blocks.{Environment, CalleeSignature as FlatCallee, BlockSignature, are_all_passed, block_with, callee_among as flat_callee, length_of_data, is_bad_call, is_bad_instance, is_index, is_passed, is_short_instance, pass_index, signature_of, callee_of_system, system_params}
 use Rattle.flat_code.specs.Image.{record_of_block, record_of_param}
 use Rattle.flat_code.specs.Instr.{Passing, Calls}
 use Rattle.flat_code.specs.Loading.{lens_of}

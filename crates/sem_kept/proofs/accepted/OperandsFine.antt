@@ -7,7 +7,7 @@ use Rattle.plc_base.proofs.ListLemmas.{all_append}
 use Rattle.flat_code.specs.Blocks.{Environment}
 use Rattle.flat_code.specs.Image.{record_of_block}
 use Rattle.flat_code.specs.Loading.{environment_of_block, lens_of}
-use Rattle.flat_code.specs.PlacedOps.{statement_spots}
+use Rattle.flat_code.specs.PlacedOps.{starts_of_statements}
 use Rattle.flat_code.specs.Programs.{Program}
 use Rattle.stl_ast.specs.Statements.{is_empty_statement}
 use Rattle.stl_ast.specs.declared.blocks.Block.{Block}
@@ -101,7 +101,7 @@ module _ (symbols : List Symbol) (t : Tree) (tree : IsSoundTree symbols t)
   unfolding statements_of
   block_fine =
       code_fine here (lens_of (program_in symbols t).data_blocks)
-      (statement_spots (compiled_block (code_block (context_at symbols t k) b l id)).code)
+      (starts_of_statements (compiled_block (code_block (context_at symbols t k) b l id)).code)
       (statements_of (context_at symbols t k) b)
       (all_append (λ (s : SourceInstruction). InstrFits here (lens_of (program_in symbols t).data_blocks) s.instr)
       (stated_from (context_at symbols t k) b.body 0 b.body) (return_statement b ∷ [])

@@ -7,13 +7,13 @@ use Rattle.std.proofs.lemmas.List.{append-nil, map-append}
 use Rattle.std.proofs.lemmas.Bool.{or_from}
 use Rattle.plc_base.specs.declared.blocks.BlockId.{BlockId}
 use Rattle.plc_base.specs.Kinds.{kind_number}
-use Rattle.flat_code.specs.Blocks.{CalleeSeen, Environment, callee_among, call_fault_among, is_above, is_bad_actual, is_bad_call, is_bad_place, is_in_db, is_stray_pass, lacks_width, mark_fault, misfits_call, misfits_callee, operand_fault, pass_before, pass_index, prepares_statement, seven_if}
+use Rattle.flat_code.specs.Blocks.{CalleeSignature, Environment, callee_among, call_fault_among, is_above, is_bad_actual, is_bad_call, is_bad_place, is_in_db, is_stray_pass, lacks_width, mark_fault, misfits_call, misfits_callee, operand_fault, pass_before, pass_index, prepares_statement, seven_if}
 use Rattle.flat_code.specs.Codes.{first_found, size_of_op}
 use Rattle.flat_code.specs.Instr.{Instr, Passing, Does, Jumps, JumpsByList, Calls, Returns}
 use Rattle.flat_code.specs.Kinds.{jump_number}
 use Rattle.flat_code.specs.OpCodes.{op_code_of}
 use Rattle.flat_code.specs.Ops.{OpData}
-use Rattle.flat_code.specs.PlacedOps.{PlacedOp, StatementSpot, before_next, ending_op, last_op, brackets_after, ops_placed, zones_behind_op}
+use Rattle.flat_code.specs.PlacedOps.{PlacedOp, StatementStart, before_next, ending_op, last_op, brackets_after, ops_placed, zones_behind_op}
 use Rattle.flat_code.specs.declared.image_fields.OpenBracket.{OpenBracket}
 use Rattle.flat_code.specs.declared.operands.Operand.{Operand}
 use Rattle.flat_code.specs.declared.operands.Operand.TheVariants as operand
@@ -47,7 +47,7 @@ aimed_still : (f : ℕ → ℕ) (a : Environment) (op : OpData) (o : Operand) �
 aimed_still f a op (operand.Jump kind target) h = absurd h
 aimed_still f a op _ h = refl
 
-right_operand : (a : Environment) (ss : List StatementSpot) (p : PlacedOp) (o : Operand) → IsOperandRightFor a p.op o
+right_operand : (a : Environment) (ss : List StatementStart) (p : PlacedOp) (o : Operand) → IsOperandRightFor a p.op o
     → operand_fault a ss p o ≡ None
 right_operand a ss p (operand.Direct area w byte bit) h =
     seven_none (lacks_width p.op w || is_bad_place a area w byte bit)
@@ -96,7 +96,7 @@ ends_calls : (op : OpData) (ps : List Passing) (call : OpData) (rest : List OpDa
 ends_calls op [] call rest going closed = rw going (ends_here call rest closed)
 ends_calls op (p ∷ ps) call rest going closed = rw going (ends_calls (pass_op p) ps call rest refl closed)
 
-module _ (a : Environment) (lens : List (ℕ × ℕ)) (ss : List StatementSpot) where
+module _ (a : Environment) (lens : List (ℕ × ℕ)) (ss : List StatementStart) where
   -- ops have no fault where they stand, behind these of their statement
   abbrev HaveNoFaultAt : ℕ → List OpenBracket → List ℕ → (before ops : List OpData) → Type 0
   HaveNoFaultAt at brackets zones before ops = HaveNoOperandFaults a lens ss (ops_placed at brackets zones before ops)
@@ -106,7 +106,7 @@ module _ (a : Environment) (lens : List (ℕ × ℕ)) (ss : List StatementSpot) 
   FineBehind rest = (at : ℕ) (brackets : List OpenBracket) (zones : List ℕ) → HaveNoFaultAt at brackets zones [] rest
 
   -- the block that a call means
-  abbrev callee : BlockId → Option CalleeSeen
+  abbrev callee : BlockId → Option CalleeSignature
   callee block = callee_among a.blocks (kind_number block.kind) block.number
 
   -- an op that ends a statement, and those behind it

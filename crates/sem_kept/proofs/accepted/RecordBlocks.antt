@@ -28,11 +28,11 @@ use Rattle.block_layout.specs.Rule44.{is_number_beyond_limits}
 use Rattle.block_layout.specs.Types.{Types}
 use Rattle.block_layout.specs.declared.blocks.BlockLayout.{BlockLayout}
 use Rattle.flat_code.specs.Checking.{all_good}
-use Rattle.flat_code.specs.Codes.{are_ops, code_bytes, code_fault, code_layout, is_nowhere, if_checked, stop_at}
+use Rattle.flat_code.specs.Codes.{are_ops, code_bytes, code_fault, code_layout, if_checked, stop_at}
 use Rattle.flat_code.specs.Faults.{field_fault, has_number}
 use Rattle.flat_code.specs.Image.{block_number_layout, code_and_lines, code_block_layout as block_layout_of, end_marks, head_layout, instance_bytes_layout, kind_field, line_after, line_field, lines_layout, local_length_layout, parameter_count_layout, parameters_layout, parameter_layout, plain_block, plain_u16, plain_u32, block_rows, head_of_block, head_rows, record_of_block, record_of_param, same_state}
 use Rattle.flat_code.specs.Instr.{Instr, Passing, Does, Jumps, JumpsByList, Calls, Returns}
-use Rattle.flat_code.specs.Layout.{Layout, good_many, is_fine}
+use Rattle.flat_code.specs.Layout.{FieldLayout, good_many, is_fine}
 use Rattle.flat_code.specs.Ops.{OpData}
 use Rattle.flat_code.specs.Programs.{CodeBlock, DataBlock}
 use Rattle.flat_code.specs.declared.image_fields.Field.TheVariants as field
@@ -469,7 +469,7 @@ marks_there x =
 -- ---- a whole record
 
 -- as many values as there are
-pub all_counted_by : {S A : Type 0} (l : S → Layout A) (next : S → A → S) (s : S) (xs : List A) → good_many l next s (length xs) xs ≡ all_good l next s xs
+pub all_counted_by : {S A : Type 0} (l : S → FieldLayout A) (next : S → A → S) (s : S) (xs : List A) → good_many l next s (length xs) xs ≡ all_good l next s xs
 all_counted_by l next s [] = refl
 all_counted_by l next s (x ∷ xs) = ap (λ (t : Bool). (l s).good x && t) (all_counted_by l next (next s x) xs)
 
@@ -480,7 +480,7 @@ nothing_stops false ops h = refl
 code_good : (with_code_faults : Bool) (ops : List OpData) → are_ops ops ≡ true → code_fault ops ≡ None → (code_layout with_code_faults (length (code_bytes ops))).good ops ≡ true
 unfolding code_layout
 code_good with_code_faults ops h ends =
-    and_from _ _ (and_from _ _ h (ap is_nowhere (nothing_stops with_code_faults ops ends))) (eq-eqb (length (code_bytes ops)) (length (code_bytes ops)) refl)
+    and_from _ _ (and_from _ _ h (ap is_fine (nothing_stops with_code_faults ops ends))) (eq-eqb (length (code_bytes ops)) (length (code_bytes ops)) refl)
 
 marks_good : (with_code_faults : Bool) (marks count : ℕ) → marks ≡ count → is_fine (if_checked with_code_faults (field_fault (field.StatementCount marks count))) ≡ true
 unfolding field_fault

@@ -4,7 +4,7 @@ use Rattle.std.specs.List.{AllByRecursion, sum_by}
 use Rattle.std.proofs.lemmas.Bool.{and_from}
 use Rattle.std.proofs.lemmas.List.Sums.{sum_by-cons}
 use Rattle.flat_code.specs.Checking.{all_good}
-use Rattle.flat_code.specs.Layout.{Layout}
+use Rattle.flat_code.specs.Layout.{FieldLayout}
 use Rattle.stl_codegen.specs.Order.{sorted_insertion, sorted_list}
 use Rattle.sem_kept.proofs.accepted.Accepted.{all_sorted}
 
@@ -85,7 +85,7 @@ rise_sorted lt (x ∷ xs) apart =
 
 -- ---- records that are checked by the one before
 
-pub good_behind : {S A B : Type 0} (l : S → Layout B) (next : S → B → S) (of : A → B) (after : A → S)
+pub good_behind : {S A B : Type 0} (l : S → FieldLayout B) (next : S → B → S) (of : A → B) (after : A → S)
     (lt : A → A → Bool) (P : A → Type 0)
     → ((s : S) (x : A) → next s (of x) ≡ after x)
     → ((x y : A) → P x → lt x y ≡ true → P y → (l (after x)).good (of y) ≡ true)
@@ -98,7 +98,7 @@ good_behind {S = S} l next of after lt P state step x (y ∷ ys) is rise h =
     (ap (λ (s : S). all_good l next s (map of ys)) (state (after x) y)
     ∙ good_behind l next of after lt P state step y ys h.0 rise.1 h.1)
 
-pub good_all : {S A B : Type 0} (l : S → Layout B) (next : S → B → S) (of : A → B) (after : A → S)
+pub good_all : {S A B : Type 0} (l : S → FieldLayout B) (next : S → B → S) (of : A → B) (after : A → S)
     (lt : A → A → Bool) (P : A → Type 0) (first : S)
     → ((s : S) (x : A) → next s (of x) ≡ after x)
     → ((x : A) → P x → (l first).good (of x) ≡ true)

@@ -5,7 +5,7 @@ use Rattle.std.specs.List.{AllByRecursion}
 use Rattle.flat_code.specs.Checking.{good_blocks}
 use Rattle.flat_code.specs.Image.{record_of_block}
 use Rattle.flat_code.specs.Loading.{AreVerified, environment_of_block, lens_of}
-use Rattle.flat_code.specs.PlacedOps.{code_places, statement_spots}
+use Rattle.flat_code.specs.PlacedOps.{code_places, starts_of_statements}
 use Rattle.flat_code.specs.Programs.{CodeBlock}
 use Rattle.flat_code.specs.Records.{BlockRecord}
 use Rattle.stl_ast.specs.Literals.{AreBytes}
@@ -37,7 +37,7 @@ BlockLands b = AllLandRight (code_in b.statements)
 
 blocks_clean : (lens : List (ℕ × ℕ)) (all : List BlockRecord) (bs : List StatedBlock)
     → AllByRecursion
-    (λ b. HaveNoOperandFaults (environment_of_block (Some lens) all (record_of_block b)) lens (statement_spots b.code) (code_places b.code))
+    (λ b. HaveNoOperandFaults (environment_of_block (Some lens) all (record_of_block b)) lens (starts_of_statements b.code) (code_places b.code))
     (map compiled_block bs)
     → AllByRecursion BlockLands bs → AreVerified lens all (map record_of_block (map compiled_block bs))
 blocks_clean lens all [] fine lands = tt

@@ -7,15 +7,15 @@ use Rattle.std.proofs.lemmas.Bool.{eqb-true, eqb-false}
 use Rattle.std.proofs.lemmas.List.{length-map}
 use Rattle.plc_base.specs.Kinds.{is_code}
 use Rattle.flat_code.specs.Blocks.{Environment, is_ju_operand, leads_to_target, is_bad_list, jump_fault, call_fault, mark_fault, bracket_fault, zone_fault, at_offset, op_faults, faults_over, block_faults}
-use Rattle.flat_code.specs.Codes.{size_of_op, overlong_statement, first_found, is_nowhere, are_ops, code_bytes, ends_by_be as ends_right, last_place, stop_at, code_layout}
+use Rattle.flat_code.specs.Codes.{size_of_op, overlong_statement, first_found, are_ops, code_bytes, ends_by_be as ends_right, last_place, stop_at, code_layout}
 use Rattle.flat_code.specs.Image.{IsRight, record_of_block, block_rows, plain_block, code_block_layout as whole_block, code_and_lines, after_block, code_blocks_layout, body_rows, records_layout, body_layout}
 use Rattle.flat_code.specs.Instr.{Instr, Passing, Does, Jumps, JumpsByList, Calls, Returns}
 use Rattle.flat_code.specs.Kinds.{jump_number}
-use Rattle.flat_code.specs.Layout.{good_many}
+use Rattle.flat_code.specs.Layout.{good_many, is_fine}
 use Rattle.flat_code.specs.Loading.{AreVerified, lens_of, environment_of_block}
 use Rattle.flat_code.specs.OpCodes.{op_code_of as code_of_operation}
 use Rattle.flat_code.specs.Ops.{OpData}
-use Rattle.flat_code.specs.PlacedOps.{PlacedOp, StatementSpot, ops_placed, brackets_after, before_next, statement_spots, zones_behind_op}
+use Rattle.flat_code.specs.PlacedOps.{PlacedOp, StatementStart, ops_placed, brackets_after, before_next, starts_of_statements, zones_behind_op}
 use Rattle.flat_code.specs.Programs.{Program}
 use Rattle.flat_code.specs.Records.{BlockRecord}
 use Rattle.flat_code.specs.declared.image_fields.OpenBracket.{OpenBracket}
@@ -121,13 +121,13 @@ no_fault at None e = refl
 no_fault at (Some code) e = absurd cc
 
 -- ops at an offset, of which none has a fault
-record IsClean (environment : Environment) (statements : List StatementSpot) (at : ℕ) (ops : List OpData) : Type 0 where
+record IsClean (environment : Environment) (statements : List StatementStart) (at : ℕ) (ops : List OpData) : Type 0 where
   brackets : List OpenBracket
   zones : List ℕ
   before : List OpData
   none : faults_over environment statements 0 (ops_placed at brackets zones before ops) ≡ []
 
-clean_next : (a : Environment) (ss : List StatementSpot) (at : ℕ) (op : OpData) (ops : List OpData)
+clean_next : (a : Environment) (ss : List StatementStart) (at : ℕ) (op : OpData) (ops : List OpData)
     → IsClean a ss at (op ∷ ops) → IsClean a ss (at + size_of_op op) ops
 clean_next a ss at op ops h = record {
   brackets = brackets_after at op.code h.brackets;
@@ -145,7 +145,7 @@ clean_next a ss at op ops h = record {
       (ops_placed (at + size_of_op op) (brackets_after at op.code h.brackets) (zones_behind_op at op.code h.zones) (before_next op h.before) ops)) h.none;
 }
 
-clean_behind : (a : Environment) (ss : List StatementSpot) (at : ℕ) (front ops : List OpData)
+clean_behind : (a : Environment) (ss : List StatementStart) (at : ℕ) (front ops : List OpData)
     → IsClean a ss at (front ++ ops) → IsClean a ss (at + total front) ops
 clean_behind a ss at [] ops h = subst (λ (k : ℕ). IsClean a ss k ops) (omega arith) h
 clean_behind a ss at (op ∷ front) ops h =
@@ -153,7 +153,7 @@ clean_behind a ss at (op ∷ front) ops h =
     (clean_behind a ss (at + size_of_op op) front ops (clean_next a ss at op (front ++ ops) h))
 
 -- the list of a JL
-leads_by : (a : Environment) (ss : List StatementSpot) (p : PlacedOp) (target : ℕ)
+leads_by : (a : Environment) (ss : List StatementStart) (p : PlacedOp) (target : ℕ)
     → jump_fault ss p 1 target ≡ None → leads_to_target 255 target (p.at + size_of_op p.op) p.rest ≡ true
 leads_by a ss p target e = by (leads_to_target 255 target (p.at + size_of_op p.op) p.rest) refl e
   where
@@ -165,7 +165,7 @@ leads_by a ss p target e = by (leads_to_target 255 target (p.at + size_of_op p.o
         let fault : jump_fault ss p 1 target ≡ Some 6 = rw bad refl in
         absurd cc
 
-clean_leads : (a : Environment) (ss : List StatementSpot) (at code target : ℕ) (last : Bool) (ops : List OpData)
+clean_leads : (a : Environment) (ss : List StatementStart) (at code target : ℕ) (last : Bool) (ops : List OpData)
     → IsClean a ss at (record { code = code; last = last; operand = operand.Jump 1 target } ∷ ops)
     → leads_to_target 255 target
     (at + size_of_op (record { code = code; last = last; operand = operand.Jump 1 target })) ops ≡ true
@@ -510,7 +510,7 @@ passed_few f ps rest h =
 
 -- ---- a block
 
-one_compiled : (a : Environment) (ss : List StatementSpot) (whole front : List SourceInstruction) (s : SourceInstruction)
+one_compiled : (a : Environment) (ss : List StatementStart) (whole front : List SourceInstruction) (s : SourceInstruction)
     (behind : List SourceInstruction) (line : ℕ) (i : Instr)
     → whole ≡ front ++ s ∷ (behind ++ return_at line ∷ []) → s.instr ≡ i
     → IsMade (length front) i → AreMade (suc (length front)) behind
@@ -550,7 +550,7 @@ one_compiled a ss whole front s behind line (JumpsByList targets otherwise) e is
         let further = one_further front s in
         omega (arith, long, same, further)
 
-clean_part : (a : Environment) (ss : List StatementSpot) (f : ℕ → ℕ) (at : ℕ) (i : Instr) (rest : List OpData)
+clean_part : (a : Environment) (ss : List StatementStart) (f : ℕ → ℕ) (at : ℕ) (i : Instr) (rest : List OpData)
     → IsClean a ss at (ops_with f i rest) → IsClean a ss (at + bytes_of (parts_of_instr i)) rest
 clean_part a ss f at i rest h =
     let p = aimed_part f (parts_of_instr i) in
@@ -561,7 +561,7 @@ clean_part a ss f at i rest h =
     (clean_next a ss (at + total p.front) p.end rest
     (clean_behind a ss at p.front (p.end ∷ rest) h))
 
-compiled_from : (a : Environment) (ss : List StatementSpot) (whole front behind : List SourceInstruction) (line : ℕ)
+compiled_from : (a : Environment) (ss : List StatementStart) (whole front behind : List SourceInstruction) (line : ℕ)
     → whole ≡ front ++ (behind ++ return_at line ∷ []) → AreMade (length front) behind
     → IsClean a ss (ends_at front) (the_code (position whole) (behind ++ return_at line ∷ []))
     → IsShort (the_code (position whole) (behind ++ return_at line ∷ []))
@@ -587,7 +587,7 @@ compiled_from a ss whole front (s ∷ behind) line e made clean short = (
 -- its code has no fault, and no statement of more than 64 ops
 record IsRightCode (code : List OpData) : Type 0 where
   environment : Environment
-  statements : List StatementSpot
+  statements : List StatementStart
   clean : IsClean environment statements 0 code
   short : IsShort code
 
@@ -607,7 +607,7 @@ block_compilable b made right =
 
 -- ---- a program that verifies
 
-first_none : (a b : Option ℕ) → is_nowhere (first_found a b) ≡ true → a ≡ None
+first_none : (a b : Option ℕ) → is_fine (first_found a b) ≡ true → a ≡ None
 first_none None b e = refl
 first_none (Some at) b e = absurd cc
 
@@ -616,8 +616,8 @@ unfolding code_layout
 code_short count ops e = record {
   at = 0;
   none = first_none (overlong_statement 0 0 ops) (if ends_right ops then None else Some (last_place 0 ops))
-      (and_second (are_ops ops) (is_nowhere (stop_at true ops []))
-      (and_first (are_ops ops && is_nowhere (stop_at true ops [])) (eqb (length (code_bytes ops)) count) e));
+      (and_second (are_ops ops) (is_fine (stop_at true ops []))
+      (and_first (are_ops ops && is_fine (stop_at true ops [])) (eqb (length (code_bytes ops)) count) e));
 }
 
 block_short : (before : ℕ × ℕ) (b : BlockRecord) → (whole_block true before).good b ≡ true → IsShort b.code
@@ -641,7 +641,7 @@ program_short p e =
     blocks_short (0, 0) _ (map record_of_block p.code_blocks)
     (and_first _ _ (and_second _ _ e))
 
-code_clean : (a : Environment) (ops : List OpData) → block_faults a 0 ops ≡ [] → IsClean a (statement_spots ops) 0 ops
+code_clean : (a : Environment) (ops : List OpData) → block_faults a 0 ops ≡ [] → IsClean a (starts_of_statements ops) 0 ops
 unfolding block_faults
 code_clean a ops e = record { brackets = []; zones = []; before = []; none = none_left _ _ (none_left _ _ e) }
 
@@ -653,7 +653,7 @@ right_codes lens all [] clean short = tt
 right_codes lens all (b ∷ bs) clean short = (
   record {
     environment = environment_of_block (Some lens) all (record_of_block (compiled_block b));
-    statements = statement_spots (code_in b.statements);
+    statements = starts_of_statements (code_in b.statements);
     clean = code_clean (environment_of_block (Some lens) all (record_of_block (compiled_block b)))
         (code_in b.statements) clean.0;
     short = short.0;

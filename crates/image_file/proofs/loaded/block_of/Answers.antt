@@ -9,12 +9,12 @@ pub returns-in_err-place : goal.returns-in_err-place
 returns-in_err-place c =
     let blocks = c.args.blocks.now in
     ap (option_map {T = Bor LoadedBlock} {U = CodeBlock} (λ b. b.now)) c.from_residual.ensures
-    ∙ ap (option_and_then (λ (place : ℕ). slice_get blocks place)) (sym c.in_err-place.was ∙ c.place_in.ensures)
+    ∙ ap (option_and_then (λ (place : ℕ). slice_get blocks place)) (sym c.in_err-place.was ∙ c.index_in_table.ensures)
     ∙ found_by c.args.block blocks c.args.table.now c.requires.finds c.requires.slots
 
 pub returns : goal.returns
 returns c =
     let blocks = c.args.blocks.now in
-    c.block_at.ensures
-    ∙ ap (option_and_then (λ (place : ℕ). slice_get blocks place)) (sym c.in_ok-place.was ∙ c.place_in.ensures)
+    c.block_at_place.ensures
+    ∙ ap (option_and_then (λ (place : ℕ). slice_get blocks place)) (sym c.in_ok-place.was ∙ c.index_in_table.ensures)
     ∙ found_by c.args.block blocks c.args.table.now c.requires.finds c.requires.slots

@@ -4,14 +4,14 @@ use Rattle.image_file.proofs.LeastLemmas.{kept_is_least}
 use Rattle.image_file.proofs.LoadLemmas.{image_loads}
 use Rattle.image_file.proofs.loading.load.Goals as goal
 
-pub loaded-requires-clause-program : goal.loaded-requires-clause-program
-loaded-requires-clause-program c = (image_loads c.args.bytes.now c.in-Clean.image (λ i. omega (arith, c.type_inv.bytes i)) (rw c.in-Clean.is at c.in_ok-fault.ensures)).program
+pub program_of_image-requires-clause-program : goal.program_of_image-requires-clause-program
+program_of_image-requires-clause-program c = (image_loads c.args.bytes.now c.in-Clean.image (λ i. omega (arith, c.type_inv.bytes i)) (rw c.in-Clean.is at c.in_ok-fault.ensures)).program
 
-pub loaded-requires-clause-few : goal.loaded-requires-clause-few
-loaded-requires-clause-few c = (image_loads c.args.bytes.now c.in-Clean.image (λ i. omega (arith, c.type_inv.bytes i)) (rw c.in-Clean.is at c.in_ok-fault.ensures)).few
+pub program_of_image-requires-clause-few : goal.program_of_image-requires-clause-few
+program_of_image-requires-clause-few c = (image_loads c.args.bytes.now c.in-Clean.image (λ i. omega (arith, c.type_inv.bytes i)) (rw c.in-Clean.is at c.in_ok-fault.ensures)).few
 
-pub loaded-requires-clause-verifies : goal.loaded-requires-clause-verifies
-loaded-requires-clause-verifies c = (image_loads c.args.bytes.now c.in-Clean.image (λ i. omega (arith, c.type_inv.bytes i)) (rw c.in-Clean.is at c.in_ok-fault.ensures)).verifies
+pub program_of_image-requires-clause-verifies : goal.program_of_image-requires-clause-verifies
+program_of_image-requires-clause-verifies c = (image_loads c.args.bytes.now c.in-Clean.image (λ i. omega (arith, c.type_inv.bytes i)) (rw c.in-Clean.is at c.in_ok-fault.ensures)).verifies
 
 pub returns-in-Faulty-clause-refused : goal.returns-in-Faulty-clause-refused
 returns-in-Faulty-clause-refused c = kept_is_least (faults_of c.args.bytes.now) c.in-Faulty.fault (rw c.in-Faulty.is at c.in_ok-fault.ensures)

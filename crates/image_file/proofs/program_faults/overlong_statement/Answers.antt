@@ -13,9 +13,9 @@ pub loop-op-preserved : goal.loop-op-preserved
 loop-op-preserved c =
     let size_is = ap (λ (k : ℕ). c.loop-op.at + k) c.size-at.ensures.size in
     record {
-      same = overlong_next c.loop-op.count c.count_behind-count.result c.loop-op.at (c.loop-op.at + c.size-at.result) c.loop-op.op-index c.args.ops.now c.op-item.result c.loop-op-test.true c.op-item.is c.if-count-eq64.false c.count_behind-count.ensures size_is ∙ c.loop-op.invariant.same;
+      same = overlong_next c.loop-op.count c.count_behind_op-count.result c.loop-op.at (c.loop-op.at + c.size-at.result) c.loop-op.op-index c.args.ops.now c.op-item.result c.loop-op-test.true c.op-item.is c.if-count-eq64.false c.count_behind_op-count.ensures size_is ∙ c.loop-op.invariant.same;
       left = left_next c.loop-op.at c.loop-op.op-index _ _ c.args.ops.now c.op-item.result c.loop-op-test.true c.op-item.is size_is c.loop-op.invariant.left;
-      few = count_few c.loop-op.count c.count_behind-count.result c.op-item.result.last c.if-count-eq64.false c.loop-op.invariant.few c.count_behind-count.ensures;
+      few = count_few c.loop-op.count c.count_behind_op-count.result c.op-item.result.last c.if-count-eq64.false c.loop-op.invariant.few c.count_behind_op-count.ensures;
     }
 
 pub returns : goal.returns

@@ -8,14 +8,14 @@ pub returns-in_err-mark : goal.returns-in_err-mark
 returns-in_err-mark c =
     let code = c.self.inside in
     c.from_residual.ensures
-    ∙ ap (option_and_then (λ (m : ℕ). slice_get code.lines.now m)) (sym c.in_err-mark.was ∙ c.mark_at.ensures)
+    ∙ ap (option_and_then (λ (m : ℕ). slice_get code.lines.now m)) (sym c.in_err-mark.was ∙ c.mark_at_offset.ensures)
     ∙ line_by_mark code.block.now code.bytes.now code.marks.now code.lines.now c.args.at c.self.invariant
     ∙ ap (λ (b : CodeBlock). line_placed 0 true b.code b.lines c.args.at) c.self.view_is
 
 pub returns : goal.returns
 returns c =
     let code = c.self.inside in
-    c.line_of.ensures
-    ∙ ap (option_and_then (λ (m : ℕ). slice_get code.lines.now m)) (sym c.in_ok-mark.was ∙ c.mark_at.ensures)
+    c.line_of_mark.ensures
+    ∙ ap (option_and_then (λ (m : ℕ). slice_get code.lines.now m)) (sym c.in_ok-mark.was ∙ c.mark_at_offset.ensures)
     ∙ line_by_mark code.block.now code.bytes.now code.marks.now code.lines.now c.args.at c.self.invariant
     ∙ ap (λ (b : CodeBlock). line_placed 0 true b.code b.lines c.args.at) c.self.view_is

@@ -1,7 +1,7 @@
 use Rattle.std.proofs.Common.{◌≡◌, drop}
 use Rattle.std.specs.List.{fold, range_with_len}
 use Rattle.stl_list.specs.JoinedParameters.{labels_after_link}
-use Rattle.stl_list.proofs.chains.labels_of.Given as goal
+use Rattle.stl_list.proofs.chains.chain_labels.Given as goal
 
 abbrev pub invariant-loop-link : goal.invariant-loop-link
 invariant-loop-link l =

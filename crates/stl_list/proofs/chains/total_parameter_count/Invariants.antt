@@ -1,6 +1,6 @@
 use Rattle.std.proofs.Common.{◌≡◌, ◌≤◌, ◌+◌, ◌*◌, drop}
 use Rattle.stl_list.specs.JoinedParameters.{total_parameter_count}
-use Rattle.stl_list.proofs.chains.parameter_count.Given as goal
+use Rattle.stl_list.proofs.chains.total_parameter_count.Given as goal
 
 abbrev pub invariant-loop-block : goal.invariant-loop-block
 invariant-loop-block l =

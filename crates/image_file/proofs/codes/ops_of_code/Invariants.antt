@@ -1,6 +1,6 @@
 use Rattle.std.proofs.Common.{◌-◌, ◌≤◌, length}
 use Rattle.image_file.specs.Walking.{HasReadOps}
-use Rattle.image_file.proofs.codes.ops_in.Given as goal
+use Rattle.image_file.proofs.codes.ops_of_code.Given as goal
 
 abbrev pub invariant-loop-found : goal.invariant-loop-found
 invariant-loop-found l = record {
