@@ -33,7 +33,7 @@ is_ob_number n =
     || nat_eq n 80 || nat_eq n 85 || nat_eq n 100 || nat_eq n 121 || nat_eq n 122
 
 -- the numbers of blocks: 0 to 2047 of functions and function blocks, 1 to 2047 of data blocks and
--- data types
+-- data types; of organization blocks those of the profile, of system functions none
 abbrev pub is_block_number : BlockKind → ℕ → Bool
 is_block_number kind.Ob n = is_ob_number n
 is_block_number kind.Fc n = lies_within 0 2047 n

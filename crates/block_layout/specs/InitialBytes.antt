@@ -135,7 +135,7 @@ abbrev pub big_endian_bytes : (count value : ℕ) → List ℕ
 big_endian_bytes zero value = []
 big_endian_bytes (suc n) value = value / 256 ^ n % 256 ∷ big_endian_bytes n value
 
--- bytes from a place on, as far as there are so many
+-- bytes with others written over them from a place on; what lies past the end is cut off
 abbrev pub with_bytes : List ℕ → (at : ℕ) → List ℕ → List ℕ
 with_bytes bytes at [] = bytes
 with_bytes bytes at (b ∷ bs) = with_bytes (slice_set bytes at b) (at + 1) bs

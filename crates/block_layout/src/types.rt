@@ -74,7 +74,7 @@ impl<'a> Model for Types<'a> {
 }
 
 impl<'a> Types<'a> {
-    /// The block of the source that a name means, where it is of one of the kinds.
+    /// The place of the user-defined data type that a name means.
     pub(crate) fn data_type(&self, name: &BlockName) -> Option<usize>
         ensures { result ≡ data_type_place self.now name.now }
     {

@@ -121,7 +121,7 @@ abbrev pub code_block_of : Context → Block → BlockLayout → Option BlockId 
 code_block_of c b l None = []
 code_block_of c b l (Some id) = if is_code id.kind then code_block c b l id ∷ [] else []
 
--- the function block whose instance a data block is
+-- the number of a block that is a function block; none of another
 abbrev pub function_block_number : Option BlockId → Option ℕ
 function_block_number None = None
 function_block_number (Some id) = if is_function_block id.kind then Some id.number else None

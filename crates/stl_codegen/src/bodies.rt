@@ -54,7 +54,8 @@ pub(crate) fn lines_of(alloc: Global, block: &Block) -> Result<Vec<u32>, AllocEr
 }
 
 /// The statements of a body, with the number of the statement of each label. Contracts see the
-/// statements.
+/// statements. `numbers` has a number for each label; `count` is the number of all statements but
+/// the empty ones.
 #[derive(Drop)]
 pub(crate) struct Body<'a> {
     statements: &'a [Statement],

@@ -210,7 +210,8 @@ fn append_by_view(
     view: ResolvedOperand,
 ) -> Result<Option<()>, AllocError>
     ensures { IfOk result (λ done. AreOpsAppended ops.old.items ops.new.items
-        (ops_of (operand_instr context.now statement.now view (call_operation_of statement.now.code)))
+        (ops_of
+            (operand_instr context.now statement.now view (call_operation_of statement.now.code)))
         done) }
 {
     match call_of(statement.code) {

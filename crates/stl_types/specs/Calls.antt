@@ -137,7 +137,8 @@ abbrev pub is_of_block : (place : Option ℕ) → Shape → Bool
 is_of_block (Some place) (shape.Of block) = nat_eq place block
 is_of_block _ _ = false
 
--- the layout of a data block is that of an instance of the function block at this place
+-- the layout of a data block is that of an instance of the function block at this place; a data
+-- block without a layout counts as one
 abbrev pub is_instance : (place : Option ℕ) → Option BlockLayout → Bool
 is_instance place None = true
 is_instance place (Some b) = is_of_block place b.shape

@@ -1,8 +1,9 @@
 use plc_base::{Area, BlockId, Flag, Place, Width};
 use stl_ast::{Numbered, PartKind, Simple};
 
-/// Which way an address is one of the peripheral area: PI can be read, PQ can be written. Every
-/// other place can be both, and so can a symbol of the peripheral area, which doesn't keep its way.
+/// Whether a place can be read (`Inputs`), written (`Outputs`), or both: an address in PI can be
+/// read, one in PQ can be written. Every other place can be both, and so can a symbol of the
+/// peripheral area, whose place doesn't keep which of the two it was.
 #[derive(Clone, Copy, Debug, PartialEq, Eq)]
 pub enum Side {
     Both,
@@ -11,6 +12,10 @@ pub enum Side {
 }
 
 /// A register that stands as an operand.
+/// - `Stw`: the status word.
+/// - `Dblg`, `Dbno`: length and number of the data block that is open as DB.
+/// - `Dilg`, `Dino`: length and number of the data block that is open as DI.
+/// - `Ar2`: address register 2.
 #[derive(Clone, Copy, Debug, PartialEq, Eq)]
 pub enum Register {
     Stw,
@@ -28,8 +33,15 @@ pub enum Register {
 /// - `Parameter`: a parameter of the function that the statement stands in; `index` is that in a
 ///   call.
 /// - `Composite`: a structure or an array. `Date`: a DATE_AND_TIME.
+/// - `ByMemory`: a place by a pointer in memory, which stands in the area `from` from byte `byte` on.
+/// - `ByRegister`: a place by an address register, `bits` past the one it points to; without `area`
+///   the register has the area.
+/// - `NumberBy`: a timer, a counter or a data block, by `what`, whose number stands in a word of memory,
+///   in the area `from` from byte `byte` on.
 /// - `Constant`: its value stands in the operand. `Pointer`: a pointer constant.
+/// - `OfStatus`: a flag of the status word, as in A OV.
 /// - `OpenBlock`: the data block that OPN opens. `Block`: a symbol of a block.
+/// - `Called`: the block that a call calls, with the number of the instance where it has one.
 #[derive(Clone, Copy, Debug, PartialEq, Eq)]
 pub enum ResolvedOperand {
     Nothing,
