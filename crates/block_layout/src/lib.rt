@@ -40,7 +40,7 @@ mod walks;
 pub use blocks::{BlockLayout, Section, Shape};
 pub use cells::{Cell, Element, Preset};
 pub use constants::{bits_of, fits};
-pub use laws::{law_of_listed, law_of_offsets, law_of_paths, law_of_rebuilt};
+pub use laws::{law_of_listed_parameters, law_of_offsets, law_of_paths, law_of_rebuilt_bytes};
 pub use laying::{Layouts, lay_out, lay_out_sound};
 pub use layouts::Layout;
 pub use members::{Member, NameList};

@@ -114,7 +114,7 @@ fn path_end_at_cell(
     }
 }
 
-fn found_at(
+fn path_end_at_member(
     layout: &Layout,
     block: usize,
     temporary: bool,
@@ -156,7 +156,7 @@ pub(crate) fn outermost(
         None => PathEnd::Unknown,
         Some(layout) => {
             let found = layout.outermost(name);
-            found_at(layout, block, temporary, 0, offset, found)
+            path_end_at_member(layout, block, temporary, 0, offset, found)
         }
     }
 }
@@ -186,7 +186,7 @@ fn named_in(
     match cell.of {
         Element::Structure => {
             let found = layout.inner(component.place, name);
-            found_at(
+            path_end_at_member(
                 layout,
                 component.block,
                 component.temporary,

@@ -16,7 +16,7 @@ ghost use Rattle.stl_codegen.specs.Fitting.{AreOpsAppended};
 ghost use Rattle.stl_codegen.specs.Instruction.{target_in, target_of};
 
 use crate::instructions::{append_jump_to, append_resolved};
-use crate::operations::jump_of;
+use crate::operations::jump_operation_of;
 use flat_code::Op;
 use std::alloc::{AllocError, Global};
 use std::marker::Model;
@@ -173,10 +173,10 @@ impl<'a> Body<'a> {
         if is_empty(statement.code) {
             return Ok(Some(()));
         }
-        match jump_of(statement.code) {
+        match jump_operation_of(statement.code) {
             Some(how) => append_jump_to(ops, how, self.target_of(&statement.operand)),
             None => {
-                let view = context.resolved(alloc, statement)?;
+                let view = context.resolved_operand(alloc, statement)?;
                 append_resolved(alloc, ops, context, statement, view)
             }
         }

@@ -105,7 +105,7 @@ pub(crate) fn append_jump(
 }
 
 /// 0 stands for no instance.
-fn instance_number(instance: Option<u16>) -> u16
+fn number_or_zero(instance: Option<u16>) -> u16
     ensures { result ≡ instance_number_or_zero instance }
 {
     match instance {
@@ -127,7 +127,7 @@ pub(crate) fn append_call(
     let operand = Operand::Called {
         kind: block.kind.number(),
         number: block.number,
-        instance: instance_number(instance),
+        instance: number_or_zero(instance),
     };
     append(ops, Operation::Call(how), true, operand)
 }

@@ -53,7 +53,7 @@ fn param(section: u8, width: Width, bits: u64) -> Option<Param>
     })
 }
 
-fn offset_named(member: Option<Member>) -> u64
+fn offset_of_member(member: Option<Member>) -> u64
     ensures { result ≡ offset_of_member member }
 {
     match member {
@@ -67,7 +67,7 @@ fn param_bits(in_instance: bool, components: &Layout, cell: &Cell) -> u64
     ensures { result ≡ param_bits in_instance components.now cell.now }
 {
     if in_instance {
-        offset_named(components.outermost(cell.name.as_bytes()))
+        offset_of_member(components.outermost(cell.name.as_bytes()))
     } else {
         0
     }

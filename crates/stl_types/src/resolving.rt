@@ -79,7 +79,7 @@ impl<'a> Context<'a> {
     ///
     /// Want of memory.
     #[tactic(auto, unfolding(crate::specs::ResolvedStatement::resolved_operand))]
-    pub fn resolved(
+    pub fn resolved_operand(
         &self,
         alloc: Global,
         statement: &Statement,

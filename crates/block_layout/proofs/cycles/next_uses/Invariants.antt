@@ -1,6 +1,6 @@
 use Rattle.std.proofs.Common.{◌≡◌, drop, map, []}
 use Rattle.block_layout.specs.Cycles.{with_uses_marked}
-use Rattle.block_layout.proofs.cycles.used_next.Given as goal
+use Rattle.block_layout.proofs.cycles.next_uses.Given as goal
 
 abbrev pub invariant-loop-block : goal.invariant-loop-block
 invariant-loop-block l =

@@ -1,7 +1,7 @@
 use Rattle.std.proofs.Common.{◌≡◌, drop, []}
 use Rattle.plc_base.specs.Least.{broken_if, least, lesser}
 use Rattle.stl_types.specs.Zones.{ends_no_zone, with_zones}
-use Rattle.stl_types.proofs.zones.ended_without.Given as goal
+use Rattle.stl_types.proofs.zones.zones_ended_without.Given as goal
 
 abbrev pub invariant-loop-statement : goal.invariant-loop-statement
 invariant-loop-statement l =

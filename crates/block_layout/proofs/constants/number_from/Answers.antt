@@ -1,5 +1,5 @@
 use Rattle.std.proofs.Common.{ℕ, zero, suc, ◌<◌, ◌*◌, ◌^◌, arith, rules}
-use Rattle.block_layout.proofs.constants.number_of.Goals as goal
+use Rattle.block_layout.proofs.constants.number_from.Goals as goal
 
 four_bytes : (n i : ℕ) → n < 256 ^ i → i < 4 → 256 * n < 2 ^ 32
 four_bytes n zero below few = omega arith

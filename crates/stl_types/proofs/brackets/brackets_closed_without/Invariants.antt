@@ -1,7 +1,7 @@
 use Rattle.std.proofs.Common.{◌≡◌, drop, []}
 use Rattle.plc_base.specs.Least.{broken_if, least, lesser}
 use Rattle.stl_types.specs.Brackets.{closes_no_bracket, with_brackets}
-use Rattle.stl_types.proofs.brackets.closed_without.Given as goal
+use Rattle.stl_types.proofs.brackets.brackets_closed_without.Given as goal
 
 abbrev pub invariant-loop-statement : goal.invariant-loop-statement
 invariant-loop-statement l =

@@ -5,7 +5,7 @@ use Rattle.plc_base.proofs.GatheredLemmas.{gathered_done, gathered_next}
 use Rattle.plc_base.proofs.LeastLemmas.{lesser_first}
 use Rattle.stl_types.specs.Brackets.{brackets_behind, closes_no_bracket, with_brackets}
 use Rattle.stl_types.specs.declared.brackets.SourceBracket.{SourceBracket}
-use Rattle.stl_types.proofs.brackets.closed_without.Goals as goal
+use Rattle.stl_types.proofs.brackets.brackets_closed_without.Goals as goal
 
 pub loop-statement-init : goal.loop-statement-init
 loop-statement-init c =

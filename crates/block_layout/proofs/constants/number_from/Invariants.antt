@@ -1,6 +1,6 @@
 use Rattle.std.proofs.Common.{◌≡◌, drop, ◌<◌, ◌^◌}
 use Rattle.block_layout.specs.Fits.{number_from}
-use Rattle.block_layout.proofs.constants.number_of.Given as goal
+use Rattle.block_layout.proofs.constants.number_from.Given as goal
 
 abbrev pub invariant-loop-b : goal.invariant-loop-b
 invariant-loop-b l = record {

@@ -1,6 +1,6 @@
 use Rattle.std.proofs.Common.{◌≡◌, ◌<◌, ◌^◌, drop, max}
 use Rattle.block_layout.specs.Lengths.{farthest_actual_end}
-use Rattle.block_layout.proofs.lengths.actuals_end.Given as goal
+use Rattle.block_layout.proofs.lengths.farthest_actual_end.Given as goal
 
 abbrev pub invariant-loop-actual : goal.invariant-loop-actual
 invariant-loop-actual l = record {

@@ -1,5 +1,5 @@
 use Rattle.block_layout.proofs.SizeLemmas.{end_next, end_done}
-use Rattle.block_layout.proofs.sizes.end_of.Goals as goal
+use Rattle.block_layout.proofs.sizes.components_end.Goals as goal
 
 pub loop-i-preserved : goal.loop-i-preserved
 loop-i-preserved c = record {

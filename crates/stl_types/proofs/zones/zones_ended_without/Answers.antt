@@ -4,7 +4,7 @@ use Rattle.plc_base.specs.Least.{broken_if, least}
 use Rattle.plc_base.proofs.GatheredLemmas.{gathered_done, gathered_next}
 use Rattle.plc_base.proofs.LeastLemmas.{lesser_first}
 use Rattle.stl_types.specs.Zones.{ends_no_zone, with_zones, zones_behind}
-use Rattle.stl_types.proofs.zones.ended_without.Goals as goal
+use Rattle.stl_types.proofs.zones.zones_ended_without.Goals as goal
 
 pub loop-statement-init : goal.loop-statement-init
 loop-statement-init c =
