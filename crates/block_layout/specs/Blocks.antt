@@ -43,15 +43,15 @@ is_block_number kind.Udt n = lies_within 1 2047 n
 is_block_number kind.Sfc n = false
 
 -- the block that the target of a symbol is; none where it is something else
-abbrev pub block_of : Option Target → Option BlockId
-block_of (Some (target.Block id)) = Some id
-block_of _ = None
+abbrev pub block_of_symbol_target : Option Target → Option BlockId
+block_of_symbol_target (Some (target.Block id)) = Some id
+block_of_symbol_target _ = None
 
 -- the block that a name means: its number, or that of the symbol
 abbrev pub named_block : List Symbol → BlockName → Option BlockId
 named_block symbols (Number id) = Some id
 named_block symbols (Quoted name) =
-    block_of (option_map (λ s. s.target) (symbol_named name symbols))
+    block_of_symbol_target (option_map (λ s. s.target) (symbol_named name symbols))
 
 -- a block, where it is of one of these kinds; none where it isn't
 abbrev pub of_kind : (BlockKind → Bool) → Option BlockId → Option BlockId

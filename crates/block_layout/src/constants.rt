@@ -15,7 +15,7 @@ ghost use Rattle.block_layout.specs.Fits.{
   is_time_type,
   is_word_type,
   number_from,
-  or_0,
+  number_or_zero,
   twos_complement_bits,
 };
 
@@ -142,7 +142,7 @@ pub fn bits_of(value: &Literal) -> u32
 
 /// The S5TIME of so many milliseconds, 0 where they are too many.
 fn s5time_word(ms: u32) -> u32
-    ensures { result ≡ or_0 (s5time_of_ms ms) }
+    ensures { result ≡ number_or_zero (s5time_of_ms ms) }
 {
     match s5time_of_ms(ms) {
         Ok(word) => word as u32,

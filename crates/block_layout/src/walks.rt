@@ -27,10 +27,10 @@ ghost use Rattle.block_layout.specs.Paths.{
   path_end_at_member,
   path_end_and_then,
   path_end_by_index,
-  indexed_behind,
+  path_end_behind_index,
   path_end_by_name,
-  named_behind,
-  named_in,
+  path_end_behind_name,
+  path_end_in_component,
   outermost_path_end,
   path_end_by_step,
   path_end_behind,
@@ -168,7 +168,7 @@ pub(crate) fn is_used_up(cell: &Cell, depth: usize) -> bool
 }
 
 /// Where a name behind a component leads, by its declaration.
-fn named_in(
+fn path_end_in_component(
     layouts: &[BlockLayout],
     layout: &Layout,
     component: ComponentAt,
@@ -180,7 +180,7 @@ fn named_in(
     requires cell { slice_get layout.now component.place ≡ Some cell.now }
     requires within { component.place + 1 < 2 ^ 64 }
     requires sound { cell.now.sound ≡ true }
-    ensures value { result ≡ named_in layouts.now component name.now cell.now cell.now.of }
+    ensures value { result ≡ path_end_in_component layouts.now component name.now cell.now cell.now.of }
     ensures near { OffsetIsNear result }
 {
     match cell.of {
@@ -217,7 +217,7 @@ fn path_end_by_name(layouts: &[BlockLayout], component: ComponentAt, name: &[u8]
     if !is_used_up(cell, component.depth) {
         return PathEnd::Unknown;
     }
-    named_in(layouts, layout, component, name, cell)
+    path_end_in_component(layouts, layout, component, name, cell)
 }
 
 pub(crate) fn bounds_at(bounds: &[Bounds], depth: usize) -> Option<Bounds>
@@ -239,10 +239,10 @@ pub(crate) fn bounds_behind(bounds: &[Bounds], depth: usize) -> &[Bounds]
 }
 
 /// An index behind a component of a block.
-fn indexed_in(layout: &Layout, component: ComponentAt, at: i32) -> PathEnd
+fn path_end_behind_index(layout: &Layout, component: ComponentAt, at: i32) -> PathEnd
     requires { component.offset ≤ largest_size }
     ensures value { result
-        ≡ indexed_behind component layout.now at (slice_get layout.now component.place) }
+        ≡ path_end_behind_index component layout.now at (slice_get layout.now component.place) }
     ensures near { OffsetIsNear result }
 {
     let Some(cell) = layout.cell_at(component.place) else {
@@ -285,7 +285,7 @@ fn path_end_by_index(layouts: &[BlockLayout], component: ComponentAt, at: i32) -
 {
     match layout_at(layouts, component.block, component.temporary) {
         None => PathEnd::Unknown,
-        Some(layout) => indexed_in(layout, component, at),
+        Some(layout) => path_end_behind_index(layout, component, at),
     }
 }
 

@@ -58,7 +58,7 @@ use Rattle.stl_types.specs.declared.views.ResolvedOperand.{ResolvedOperand}
 use Rattle.stl_types.specs.declared.views.ResolvedOperand.TheVariants as resolved
 use Rattle.stl_codegen.specs.CompiledBlock.{SourceInstruction, StatedBlock, operand_with_target, op_with_target, compiled_block, offset_of_statement, ops_in, placed_ops}
 use Rattle.stl_codegen.specs.EmittedOps.{call_op, ops_of, pass_ops}
-use Rattle.stl_codegen.specs.GeneratedProgram.{code_block, code_block_of, code_blocks_of, each_block, stated_from, statements_of}
+use Rattle.stl_codegen.specs.GeneratedProgram.{code_block, code_block_of, code_blocks_of, each_block, instructions_from, statements_of}
 use Rattle.stl_codegen.specs.Instruction.{call_instr, end_instr, instr_by, instruction, jump_instr, resolved_instr, target_of, operand_instr}
 use Rattle.stl_codegen.specs.Operations.{call_operation_of, end_operation_of, jump_operation_of}
 use Rattle.stl_codegen.specs.Operands.{flat_operand_of}
@@ -262,15 +262,15 @@ all_ops : (ss : List SourceInstruction) → AllByRecursion IsWrittenStated ss �
 all_ops [] h = tt
 all_ops (s ∷ ss) (one, more) = all_append (λ op. IsOffsetWritable op.operand) (ops_of s.instr) (ops_in ss) (ops_written s.instr one) (all_ops ss more)
 
-stated_written : (c : Context) (body : List Statement) (n : ℕ) (ss : List Statement) → AllByRecursion IsStatement ss → AllByRecursion IsWrittenStated (stated_from c body n ss)
+stated_written : (c : Context) (body : List Statement) (n : ℕ) (ss : List Statement) → AllByRecursion IsStatement ss → AllByRecursion IsWrittenStated (instructions_from c body n ss)
 stated_written c body n [] h = tt
 stated_written c body n (s ∷ ss) (one, more) =
-    either_way (λ l. AllByRecursion IsWrittenStated l) (is_empty_statement s.code) (stated_from c body n ss) (record { instr = instruction c body n s; line = s.line } ∷ stated_from c body (suc n) ss)
+    either_way (λ l. AllByRecursion IsWrittenStated l) (is_empty_statement s.code) (instructions_from c body n ss) (record { instr = instruction c body n s; line = s.line } ∷ instructions_from c body (suc n) ss)
     (stated_written c body n ss more) (instr_written c body n s one.value, stated_written c body (suc n) ss more)
 
 statements_written : (c : Context) (b : Block) → IsBlock b → AllByRecursion IsWrittenStated (statements_of c b)
 unfolding statements_of
-statements_written c b is = all_append IsWrittenStated (stated_from c b.body 0 b.body) _ (stated_written c b.body 0 b.body is.runs.0) (tt, tt)
+statements_written c b is = all_append IsWrittenStated (instructions_from c b.body 0 b.body) _ (stated_written c b.body 0 b.body is.runs.0) (tt, tt)
 
 abbrev IsWrittenStatedBlock : StatedBlock → Type 0
 IsWrittenStatedBlock b = AllByRecursion IsWrittenStated b.statements

@@ -1,19 +1,11 @@
 ghost use Rattle.std.specs.Prelude.{◌≡◌, ◌<◌, ◌≤◌, ◌++◌, [], ◌∷◌, IfOk, length};
 ghost use Rattle.std.specs.List.{flat_map, slice_get};
-ghost use Rattle.block_layout.specs.Fits.{or_0};
+ghost use Rattle.block_layout.specs.Fits.{number_or_zero};
 ghost use Rattle.stl_ast.specs.Statements.{is_empty_statement};
 ghost use Rattle.stl_types.specs.Labels.{label_of};
-ghost use Rattle.stl_codegen.specs.Bodies.{
-  AreTargets,
-  body_lines,
-  count_of_statements,
-  count_of_mnemonic,
-  line_here,
-  number_here,
-  ops_here,
-};
+ghost use Rattle.stl_codegen.specs.Bodies.{AreTargets, body_lines, count_of_statements, line_here, number_here, ops_here};
 ghost use Rattle.stl_codegen.specs.Fitting.{AreOpsAppended};
-ghost use Rattle.stl_codegen.specs.Instruction.{target_in, target_of};
+ghost use Rattle.stl_codegen.specs.Instruction.{target_in, target_of, count_of_mnemonic};
 
 use crate::instructions::{append_jump_to, append_resolved};
 use crate::operations::jump_operation_of;
@@ -106,7 +98,7 @@ fn add_target(
 }
 
 fn number_at(numbers: &[u32], place: usize) -> u32
-    ensures { result ≡ or_0 (slice_get numbers.now place) }
+    ensures { result ≡ number_or_zero (slice_get numbers.now place) }
 {
     if place < numbers.len() {
         numbers[place]

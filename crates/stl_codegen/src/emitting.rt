@@ -4,14 +4,8 @@ ghost use Rattle.flat_code.specs.Ops.{op_of};
 ghost use Rattle.flat_code.specs.declared.operands.Operand.TheVariants as operands;
 ghost use Rattle.flat_code.specs.declared.operands.Passed.TheVariants as passed;
 ghost use Rattle.flat_code.specs.declared.operations.Operation.TheVariants as operations;
-ghost use Rattle.stl_codegen.specs.EmittedOps.{
-  call_op,
-  end_op,
-  instance_number_or_zero,
-  jump_op,
-  use_db_ops,
-  preparing_op,
-};
+ghost use Rattle.block_layout.specs.Fits.{number_or_zero};
+ghost use Rattle.stl_codegen.specs.EmittedOps.{call_op, end_op, jump_op, use_db_ops, preparing_op};
 ghost use Rattle.stl_codegen.specs.Fitting.{AreOpsAppended, IsStill};
 
 use crate::operands::index_byte;
@@ -106,7 +100,7 @@ pub(crate) fn append_jump(
 
 /// 0 stands for no instance.
 fn number_or_zero(instance: Option<u16>) -> u16
-    ensures { result ≡ instance_number_or_zero instance }
+    ensures { result ≡ number_or_zero instance }
 {
     match instance {
         None => 0,

@@ -7,7 +7,7 @@ ghost use Rattle.stl_codegen.specs.Operands.{
   is_in_named_block,
   numbered_operand,
   block_opened_by_operand,
-  opened_by_place,
+  block_opened_by_place,
   flat_operand_of,
   pointer_bits,
   register_operand,
@@ -29,8 +29,8 @@ pub(crate) fn is_in_named_block(place: Place) -> bool
     matches!(place.area, Area::Db) && place.number != 0
 }
 
-fn opened_by_place(place: Place) -> Option<u16>
-    ensures { result ≡ opened_by_place place }
+fn block_opened_by_place(place: Place) -> Option<u16>
+    ensures { result ≡ block_opened_by_place place }
 {
     if is_in_named_block(place) {
         Some(place.number)
@@ -44,7 +44,7 @@ pub(crate) fn block_opened_by_operand(view: ResolvedOperand) -> Option<u16>
     ensures { result ≡ block_opened_by_operand view }
 {
     match view {
-        ResolvedOperand::Direct { place, .. } => opened_by_place(place),
+        ResolvedOperand::Direct { place, .. } => block_opened_by_place(place),
         _ => None,
     }
 }

@@ -14,7 +14,8 @@ ghost use Rattle.std.specs.List.{AllByRecursion, flat_map};
 ghost use Rattle.plc_base.specs.Kinds.{is_function_block};
 ghost use Rattle.block_layout.specs.Offsets.{width_of};
 ghost use Rattle.stl_codegen.specs.Fitting.{AreItemsAppended, ParamFits, ParamsFit};
-ghost use Rattle.stl_codegen.specs.GeneratedProgram.{offset_of_member, param_at_bits, param_bits, param_here, params_of, section_number};
+ghost use Rattle.block_layout.specs.ListedParameters.{offset_of_member};
+ghost use Rattle.stl_codegen.specs.GeneratedProgram.{param_at_bits, param_bits, param_here, params_of, section_number};
 
 use crate::instructions::in_order;
 use arrayvec::ArrayVec;

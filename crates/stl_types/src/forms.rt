@@ -1,5 +1,5 @@
 ghost use Rattle.std.specs.Prelude.{◌≡◌};
-ghost use Rattle.stl_types.specs.Forms.{form_of};
+ghost use Rattle.stl_types.specs.Forms.{operand_rule_of};
 
 use stl_ast::{Mnemonic, Simple};
 
@@ -52,9 +52,9 @@ pub enum OperandRule {
 }
 
 /// The form of an instruction.
-#[tactic(auto, unfolding(crate::specs::Forms::form_of))]
-pub(crate) fn form_of(code: Mnemonic) -> OperandRule
-    ensures { result ≡ form_of code }
+#[tactic(auto, unfolding(crate::specs::Forms::operand_rule_of))]
+pub(crate) fn operand_rule_of(code: Mnemonic) -> OperandRule
+    ensures { result ≡ operand_rule_of code }
 {
     match code {
         Mnemonic::Nop => OperandRule::Counts { most: 1 },

@@ -9,7 +9,7 @@ ghost use Rattle.stl_types.specs.Operands.{
   takes_operand,
   takes_places,
   takes_width,
-  form_writes_operand,
+  rule_writes_operand,
 };
 
 use crate::forms::OperandRule;
@@ -121,7 +121,7 @@ fn has_width(form: OperandRule, width: Option<Width>) -> bool
 
 /// Whether instructions of a form write their operand.
 fn writes(form: OperandRule) -> bool
-    ensures { result ≡ form_writes_operand form }
+    ensures { result ≡ rule_writes_operand form }
 {
     matches!(
         form,

@@ -18,7 +18,7 @@ use Rattle.stl_types.specs.Context.{whole_data_place}
 use Rattle.stl_types.specs.Parameters.{Callee}
 use Rattle.stl_types.specs.declared.parameters.Formal.{Formal}
 use Rattle.stl_types.specs.declared.views.ResolvedOperand.TheVariants as resolved
-use Rattle.stl_codegen.specs.EmittedOps.{instance_number_or_zero}
+use Rattle.block_layout.specs.Fits.{number_or_zero}
 use Rattle.stl_codegen.specs.Instruction.{instr_by, instruction, passings_to, resolved_instr, operand_instr}
 use Rattle.stl_codegen.specs.Operations.{call_operation_of, jump_operation_of}
 use Rattle.stl_list.specs.Operands.{name_of_data_block, instance_name, operand_by, plain_operand}
@@ -33,7 +33,7 @@ use Rattle.listing_laws.proofs.called.Passings.{passings_kept}
 
 -- ---- operands
 
-pub instance_is : (instance : Option ℕ) → IsInstanceNumbered instance → instance_name (instance_number_or_zero instance) ≡ option_map name_of_data_block instance
+pub instance_is : (instance : Option ℕ) → IsInstanceNumbered instance → instance_name (number_or_zero instance) ≡ option_map name_of_data_block instance
 instance_is None h = refl
 instance_is (Some zero) h = absurd (h refl)
 instance_is (Some (suc n)) h = ap (λ (t : Bool). if t then None else Some (name_of_data_block (suc n))) (ne_eqb (suc n) 0 (λ e. absurd (omega (arith, e))))

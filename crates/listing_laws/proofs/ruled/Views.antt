@@ -35,13 +35,13 @@ use Rattle.stl_types.specs.declared.views.Resolution.{Resolution}
 use Rattle.stl_types.specs.declared.views.Resolution.TheVariants.{Resolved}
 use Rattle.stl_types.specs.declared.views.ResolvedOperand.{ResolvedOperand}
 use Rattle.stl_types.specs.declared.views.ResolvedOperand.TheVariants as resolved
-use Rattle.stl_codegen.specs.Operands.{is_db, opened_by_place}
+use Rattle.stl_codegen.specs.Operands.{is_db, block_opened_by_place}
 use Rattle.listing_laws.specs.Instructions.{HasAgain, IsRightOperand}
 use Rattle.listing_laws.specs.Operands.{IsConstantCoded, IsConstantResolved, IsOpenedAgain, IsPointer, StandsAgain}
 
 -- what is known of what is named. Only a path into the block's own variables may name a parameter
 abbrev IsSeen : (own : Bool) → Context → ResolvedOperand → Type 0
-IsSeen own listed (resolved.Direct place width side declared) = IsOpenedAgain listed (opened_by_place place)
+IsSeen own listed (resolved.Direct place width side declared) = IsOpenedAgain listed (block_opened_by_place place)
 IsSeen own listed (resolved.Parameter index section declared) = own ≡ true
 IsSeen own listed (resolved.OpenBlock di number) = IsOpenedAgain listed (Some number)
 IsSeen own listed resolved.Constant = ⊥
@@ -70,7 +70,7 @@ opened_place listed false n h = tt
 
 -- ---- variables
 
-area_seen : (own : Bool) (listed : Context) (a : Area) (n : ℕ) (bits : ℕ) (kind : Simple) → IsOpenedAgain listed (opened_by_place (place_at a n bits))
+area_seen : (own : Bool) (listed : Context) (a : Area) (n : ℕ) (bits : ℕ) (kind : Simple) → IsOpenedAgain listed (block_opened_by_place (place_at a n bits))
     → IfSeen own listed (variable_in_area kind (if nat_le (bits / 8) 65535 then Some (place_at a n bits, width_of kind) else None))
 area_seen own listed a n bits kind h = by (nat_le (bits / 8) 65535)
   where

@@ -35,7 +35,7 @@ use Rattle.stl_types.specs.Actuals.{fits_operand, fits_resolution, fits_type, fi
 use Rattle.stl_types.specs.Calls.{misfits_formal}
 use Rattle.stl_types.specs.Constants.{takes_constant}
 use Rattle.stl_types.specs.Context.{Context}
-use Rattle.stl_types.specs.Forms.{form_of}
+use Rattle.stl_types.specs.Forms.{operand_rule_of}
 use Rattle.stl_types.specs.Resolution.{resolution_of}
 use Rattle.stl_types.specs.declared.parameters.Formal.{Formal}
 use Rattle.stl_types.specs.declared.views.Resolution.TheVariants.{Resolved}
@@ -65,7 +65,7 @@ one_byte (b ∷ c ∷ bs) e h =
 
 word_fits : (value : Literal) → IsLiteral value → HasBytes value → fits_elementary_type value simple.Word ≡ true
     → nat_le (bits_of value) 65535 ≡ true
-unfolding form_of takes_constant admits operation_for
+unfolding operand_rule_of takes_constant admits operation_for
 word_fits value is has h = constant_taken code.Aw value is has h
 
 truth_fits : (value : Literal) → fits_elementary_type value simple.Bool ≡ true → nat_le (bits_of value) 1 ≡ true
