@@ -211,7 +211,7 @@ fn append_by_operand(
 ) -> Result<Option<()>, AllocError>
     ensures { IfOk result (λ done. AreOpsAppended ops.old.items ops.new.items
         (ops_of
-            (operand_instr context.now statement.now view (call_operation_of statement.now.code)))
+        (operand_instr context.now statement.now view (call_operation_of statement.now.code)))
         done) }
 {
     match call_operation_of(statement.code) {

@@ -104,7 +104,10 @@ pub(crate) fn least_closed_without(
 ) -> Result<Option<Refusal>, AllocError>
     ensures { IfOk result (λ found. found ≡ least (rule_29 blocks.now)) }
 {
-    try_least_of(blocks, |b: &Block| brackets_closed_without(alloc, b.body.as_slice()))
+    try_least_of(
+        blocks,
+        |b: &Block| brackets_closed_without(alloc, b.body.as_slice()),
+    )
 }
 
 fn eighth(alloc: Global, body: &[Statement]) -> Result<Option<Refusal>, AllocError>
@@ -155,5 +158,8 @@ pub(crate) fn least_left_open(
 ) -> Result<Option<Refusal>, AllocError>
     ensures { IfOk result (λ found. found ≡ least (rule_30 blocks.now)) }
 {
-    try_least_of(blocks, |b: &Block| brackets_left_open(alloc, b.body.as_slice()))
+    try_least_of(
+        blocks,
+        |b: &Block| brackets_left_open(alloc, b.body.as_slice()),
+    )
 }

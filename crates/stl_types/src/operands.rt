@@ -14,9 +14,9 @@ ghost use Rattle.stl_types.specs.Operands.{
 
 use crate::forms::OperandRule;
 use crate::kinds::{
-    is_bit, is_operand_of_call, is_composite, is_condition, is_counter, is_date, is_direct, is_double_word,
-    is_in_memory, is_label_operand, is_loadable_register, names_nothing, is_opened, is_pointer_constant, is_second_register,
-    is_status_word, is_timer, width_in,
+    is_bit, is_composite, is_condition, is_counter, is_date, is_direct, is_double_word,
+    is_in_memory, is_label_operand, is_loadable_register, is_opened, is_operand_of_call,
+    is_pointer_constant, is_second_register, is_status_word, is_timer, names_nothing, width_in,
 };
 use crate::views::{ResolvedOperand, Side};
 use plc_base::{Area, Width};
@@ -28,9 +28,8 @@ fn takes(form: OperandRule, view: ResolvedOperand) -> bool
     ensures { result ≡ takes_operand form view }
 {
     match form {
-        OperandRule::Bare | OperandRule::Shifts { .. } | OperandRule::Combines { .. } => names_nothing(
-            view,
-        ),
+        OperandRule::Bare | OperandRule::Shifts { .. } | OperandRule::Combines { .. } =>
+            names_nothing(view),
         OperandRule::ReadsBit => {
             is_in_memory(view) || is_timer(view) || is_counter(view) || is_condition(view)
         }
@@ -54,10 +53,17 @@ fn takes(form: OperandRule, view: ResolvedOperand) -> bool
         OperandRule::Transfers => is_in_memory(view) || is_status_word(view),
         OperandRule::LoadsBcd | OperandRule::Enables => is_timer(view) || is_counter(view),
         OperandRule::LoadsAr1 => {
-            names_nothing(view) || is_pointer_constant(view) || is_direct(view) || is_second_register(view)
+            names_nothing(view)
+                || is_pointer_constant(view)
+                || is_direct(view)
+                || is_second_register(view)
         }
-        OperandRule::LoadsAr2 => names_nothing(view) || is_pointer_constant(view) || is_direct(view),
-        OperandRule::StoresAr1 => names_nothing(view) || is_direct(view) || is_second_register(view),
+        OperandRule::LoadsAr2 => names_nothing(view)
+            || is_pointer_constant(view)
+            || is_direct(view),
+        OperandRule::StoresAr1 => names_nothing(view)
+            || is_direct(view)
+            || is_second_register(view),
         OperandRule::StoresAr2 => names_nothing(view) || is_direct(view),
         OperandRule::AddsToAr => names_nothing(view) || is_pointer_constant(view),
         OperandRule::Counts { .. } | OperandRule::Adds => false,

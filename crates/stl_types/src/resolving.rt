@@ -87,7 +87,11 @@ impl<'a> Context<'a> {
         ensures { IfOk result (λ v. v ≡ resolved_operand self.now statement.now) }
     {
         let resolution = self.resolution(alloc, &statement.operand)?;
-        let rule = rule_of_operand(operand_rule_of(statement.code), &statement.operand, resolution);
+        let rule = rule_of_operand(
+            operand_rule_of(statement.code),
+            &statement.operand,
+            resolution,
+        );
         if rule.is_none() {
             Ok(operand_if_resolved(resolution))
         } else {
@@ -105,7 +109,11 @@ fn statement_rule(
     ensures { IfOk result (λ rule. rule ≡ statement_rule context.now statement.now) }
 {
     let resolution = context.resolution(alloc, &statement.operand)?;
-    Ok(rule_of_operand(operand_rule_of(statement.code), &statement.operand, resolution))
+    Ok(rule_of_operand(
+        operand_rule_of(statement.code),
+        &statement.operand,
+        resolution,
+    ))
 }
 
 fn wrong_operand(

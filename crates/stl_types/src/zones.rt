@@ -80,7 +80,10 @@ pub(crate) fn least_ended_without(
 ) -> Result<Option<Refusal>, AllocError>
     ensures { IfOk result (λ found. found ≡ least (rule_47 blocks.now)) }
 {
-    try_least_of(blocks, |b: &Block| zones_ended_without(alloc, b.body.as_slice()))
+    try_least_of(
+        blocks,
+        |b: &Block| zones_ended_without(alloc, b.body.as_slice()),
+    )
 }
 
 fn ninth(alloc: Global, body: &[Statement]) -> Result<Option<Refusal>, AllocError>
