@@ -6,8 +6,8 @@ use Rattle.block_layout.specs.declared.members.Member.{Member}
 use Rattle.block_layout.specs.Members.{component_of_name, members_of}
 use Rattle.block_layout.specs.declared.blocks.BlockLayout.{BlockLayout}
 use Rattle.block_layout.specs.declared.cells.Element.TheVariants.{Structure}
-use Rattle.block_layout.specs.declared.walks.ComponentAt.{ComponentAt}
-use Rattle.block_layout.specs.declared.walks.PathEnd.{PathEnd}
+use Rattle.block_layout.specs.declared.path_ends.ComponentAt.{ComponentAt}
+use Rattle.block_layout.specs.declared.path_ends.PathEnd.{PathEnd}
 use Rattle.block_layout.specs.Paths.{cells_at, path_end_at_member, path_end_in_component}
 use Rattle.block_layout.specs.NameLists.{IsNameList}
 use Rattle.block_layout.specs.declared.members.NameList.{NameList}

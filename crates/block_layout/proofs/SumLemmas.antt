@@ -22,9 +22,9 @@ use Rattle.block_layout.specs.declared.cells.Cell.{Cell}
 use Rattle.block_layout.specs.declared.cells.Element.{Element}
 use Rattle.block_layout.specs.declared.cells.Element.TheVariants.{Plain, Structure, DateAndTime, Udt, Unknown}
 use Rattle.block_layout.specs.declared.members.Member.{Member}
-use Rattle.block_layout.specs.declared.walks.ComponentAt.{ComponentAt}
-use Rattle.block_layout.specs.declared.walks.PathEnd.{PathEnd}
-use Rattle.block_layout.specs.declared.walks.PathEnd.TheVariants as path_end
+use Rattle.block_layout.specs.declared.path_ends.ComponentAt.{ComponentAt}
+use Rattle.block_layout.specs.declared.path_ends.PathEnd.{PathEnd}
+use Rattle.block_layout.specs.declared.path_ends.PathEnd.TheVariants as path_end
 use Rattle.block_layout.specs.Blocks.{known_block}
 use Rattle.block_layout.specs.Members.{component_of_name}
 use Rattle.block_layout.specs.Offsets.{component_place as data_component, place_in_section, place_of_path, place_at, elementary_place, place_at_path_end, variable_place, width_of}

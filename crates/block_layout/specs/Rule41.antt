@@ -15,8 +15,8 @@ use Rattle.block_layout.specs.Fits.{fits_elementary_type}
 use Rattle.block_layout.specs.Paths.{folded_path, path_end_of_setting, elementary_at}
 use Rattle.block_layout.specs.Settings.{on_settings}
 use Rattle.block_layout.specs.declared.blocks.BlockLayout.{BlockLayout}
-use Rattle.block_layout.specs.declared.walks.PathEnd.{PathEnd}
-use Rattle.block_layout.specs.declared.walks.PathEnd.TheVariants as path_end
+use Rattle.block_layout.specs.declared.path_ends.PathEnd.{PathEnd}
+use Rattle.block_layout.specs.declared.path_ends.PathEnd.TheVariants as path_end
 
 -- the refusal by rule 41 of a declaration whose initial values don't fit its type, at its line
 abbrev pub refusals_41 : Outside → List Declaration → Declaration → List Refusal

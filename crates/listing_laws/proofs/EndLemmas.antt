@@ -29,9 +29,9 @@ use Rattle.stl_types.specs.Context.{Context}
 use Rattle.stl_types.specs.Labels.{is_unknown_label, label_of, labels_of, rule_26, unknown_labels}
 use Rattle.stl_types.specs.Lists.{has_label}
 use Rattle.stl_types.specs.ResolvedStatement.{resolved_operand}
-use Rattle.stl_types.specs.declared.views.Register.TheVariants as register
-use Rattle.stl_types.specs.declared.views.ResolvedOperand.TheVariants as resolved
-use Rattle.stl_types.specs.declared.views.ResolvedOperand.{ResolvedOperand}
+use Rattle.stl_types.specs.declared.resolved_operands.Register.TheVariants as register
+use Rattle.stl_types.specs.declared.resolved_operands.ResolvedOperand.TheVariants as resolved
+use Rattle.stl_types.specs.declared.resolved_operands.ResolvedOperand.{ResolvedOperand}
 use Rattle.stl_codegen.specs.CompiledBlock.{SourceInstruction, StatedBlock, compiled_block}
 use Rattle.stl_codegen.specs.GeneratedProgram.{code_block, code_block_of, code_blocks_of, each_block, return_statement, instructions_from, statements_of}
 use Rattle.stl_codegen.specs.Instruction.{call_instr, count_of_statement, end_instr, instr_by, instruction, jump_instr, resolved_instr, target_in, target_of, operand_instr}

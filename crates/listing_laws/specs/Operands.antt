@@ -15,14 +15,14 @@ use Rattle.stl_ast.specs.declared.operands.Operand.TheVariants as operand
 use Rattle.block_layout.specs.Fits.{bits_of, fits_elementary_type}
 use Rattle.block_layout.specs.Offsets.{width_of}
 use Rattle.stl_types.specs.Context.{Context, data_number}
-use Rattle.stl_types.specs.Forms.{operand_rule_of}
+use Rattle.stl_types.specs.OperandRules.{operand_rule_of}
 use Rattle.stl_types.specs.Operands.{is_input, rule_of_operand}
 use Rattle.stl_types.specs.Resolution.{resolution_of}
 use Rattle.stl_types.specs.Variables.{own_variable}
 use Rattle.stl_types.specs.declared.parameters.Formal.{Formal}
-use Rattle.stl_types.specs.declared.views.Resolution.TheVariants.{Resolved}
-use Rattle.stl_types.specs.declared.views.ResolvedOperand.{ResolvedOperand}
-use Rattle.stl_types.specs.declared.views.ResolvedOperand.TheVariants as resolved
+use Rattle.stl_types.specs.declared.resolved_operands.Resolution.TheVariants.{Resolved}
+use Rattle.stl_types.specs.declared.resolved_operands.ResolvedOperand.{ResolvedOperand}
+use Rattle.stl_types.specs.declared.resolved_operands.ResolvedOperand.TheVariants as resolved
 use Rattle.stl_codegen.specs.Operands.{block_opened_by_operand, block_opened_by_place, flat_operand_of}
 use Rattle.stl_codegen.specs.Operations.{operation_for}
 use Rattle.stl_list.specs.Operands.{name_of_data_block, name_at, operand_of_run as listed_operand}

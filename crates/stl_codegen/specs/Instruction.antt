@@ -21,8 +21,8 @@ use Rattle.stl_types.specs.Context.{Context}
 use Rattle.stl_types.specs.Lists.{has_label}
 use Rattle.stl_types.specs.Parameters.{Callee, callee_of}
 use Rattle.stl_types.specs.ResolvedStatement.{resolved_operand}
-use Rattle.stl_types.specs.declared.views.ResolvedOperand.{ResolvedOperand}
-use Rattle.stl_types.specs.declared.views.ResolvedOperand.TheVariants as resolved
+use Rattle.stl_types.specs.declared.resolved_operands.ResolvedOperand.{ResolvedOperand}
+use Rattle.stl_types.specs.declared.resolved_operands.ResolvedOperand.TheVariants as resolved
 use Rattle.stl_codegen.specs.Operands.{block_opened_by_operand, flat_operand_of}
 use Rattle.stl_codegen.specs.PassedParameters.{passings_from}
 use Rattle.stl_codegen.specs.Operations.{jump_operation_of, call_operation_of, end_operation_of, operation_for}

@@ -1,7 +1,7 @@
 ghost use Rattle.std.specs.Prelude.{◌≡◌, IfOk, zero, Some, None, drop, take, ◌++◌};
 ghost use Rattle.std.specs.Option.{option_copied};
 ghost use Rattle.stl_types.specs.Parameters.{callee_of};
-ghost use Rattle.stl_types.specs.declared.views.ResolvedOperand.TheVariants as resolved;
+ghost use Rattle.stl_types.specs.declared.resolved_operands.ResolvedOperand.TheVariants as resolved;
 ghost use Rattle.flat_code.specs.Instr.{Calls, Does};
 ghost use Rattle.stl_codegen.specs.EmittedOps.{ops_of, pass_ops};
 ghost use Rattle.stl_codegen.specs.Fitting.{AreOpsAppended};

@@ -29,8 +29,8 @@ use Rattle.stl_types.specs.Kinds.{is_date}
 use Rattle.stl_types.specs.Parameters.{Callee, callee_of, system_formals}
 use Rattle.stl_types.specs.Resolution.{resolution_of}
 use Rattle.stl_types.specs.declared.parameters.Formal.{Formal}
-use Rattle.stl_types.specs.declared.views.Resolution.{Resolution}
-use Rattle.stl_types.specs.declared.views.Resolution.TheVariants.{Resolved}
+use Rattle.stl_types.specs.declared.resolved_operands.Resolution.{Resolution}
+use Rattle.stl_types.specs.declared.resolved_operands.Resolution.TheVariants.{Resolved}
 
 -- what a statement breaks as a call, by the block that is called; nothing where none is known
 abbrev pub by_callee : (Callee → Statement → List Refusal) → Statement → Option Callee

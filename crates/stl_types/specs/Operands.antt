@@ -13,16 +13,16 @@ use Rattle.stl_ast.specs.declared.statements.Statement.{Statement}
 use Rattle.stl_types.specs.Bodies.{in_contexts}
 use Rattle.stl_types.specs.Constants.{takes_constant}
 use Rattle.stl_types.specs.Context.{Context}
-use Rattle.stl_types.specs.Forms.{operand_rule_of}
+use Rattle.stl_types.specs.OperandRules.{operand_rule_of}
 use Rattle.stl_types.specs.Kinds.{names_nothing, is_direct, is_in_memory, is_timer, is_counter, is_opened, is_condition, is_pointer_constant, is_label_operand, is_status_word, is_second_register, is_loadable_register, is_operand_of_call, is_composite, is_date, width_in, is_bit, is_double_word, is_peripheral, is_peripheral_area}
 use Rattle.stl_types.specs.Resolution.{resolution_of}
-use Rattle.stl_types.specs.declared.forms.OperandRule.{OperandRule}
-use Rattle.stl_types.specs.declared.forms.OperandRule.TheVariants as rules
-use Rattle.stl_types.specs.declared.views.Resolution.{Resolution}
-use Rattle.stl_types.specs.declared.views.Resolution.TheVariants.{Resolved}
-use Rattle.stl_types.specs.declared.views.Side.TheVariants as side
-use Rattle.stl_types.specs.declared.views.ResolvedOperand.{ResolvedOperand}
-use Rattle.stl_types.specs.declared.views.ResolvedOperand.TheVariants as resolved
+use Rattle.stl_types.specs.declared.operand_rules.OperandRule.{OperandRule}
+use Rattle.stl_types.specs.declared.operand_rules.OperandRule.TheVariants as rules
+use Rattle.stl_types.specs.declared.resolved_operands.Resolution.{Resolution}
+use Rattle.stl_types.specs.declared.resolved_operands.Resolution.TheVariants.{Resolved}
+use Rattle.stl_types.specs.declared.resolved_operands.Side.TheVariants as side
+use Rattle.stl_types.specs.declared.resolved_operands.ResolvedOperand.{ResolvedOperand}
+use Rattle.stl_types.specs.declared.resolved_operands.ResolvedOperand.TheVariants as resolved
 
 -- the operands but constants that a form takes, whatever their width
 unfoldable pub takes_operand : OperandRule → ResolvedOperand → Bool

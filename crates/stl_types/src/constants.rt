@@ -7,7 +7,7 @@ ghost use Rattle.stl_types.specs.Constants.{
   takes_constant,
 };
 
-use crate::forms::OperandRule;
+use crate::operand_rules::OperandRule;
 use block_layout::fits;
 use stl_ast::Literal;
 

@@ -22,7 +22,7 @@ ghost use Rattle.stl_types.specs.Kinds.{
   width_in,
 };
 
-use crate::views::{Register, ResolvedOperand};
+use crate::resolved_operands::{Register, ResolvedOperand};
 use block_layout::width_of;
 use plc_base::{BlockKind, Width};
 use stl_ast::Numbered;

@@ -12,13 +12,13 @@ ghost use Rattle.stl_types.specs.Operands.{
   rule_writes_operand,
 };
 
-use crate::forms::OperandRule;
 use crate::kinds::{
     is_bit, is_composite, is_condition, is_counter, is_date, is_direct, is_double_word,
     is_in_memory, is_label_operand, is_loadable_register, is_opened, is_operand_of_call,
     is_pointer_constant, is_second_register, is_status_word, is_timer, names_nothing, width_in,
 };
-use crate::views::{ResolvedOperand, Side};
+use crate::operand_rules::OperandRule;
+use crate::resolved_operands::{ResolvedOperand, Side};
 use plc_base::{Area, Width};
 use stl_ast::PartKind;
 

@@ -17,11 +17,11 @@ ghost use Rattle.stl_types.specs.Resolution.{
   resolved_target,
   whole_called_block,
 };
-ghost use Rattle.stl_types.specs.declared.views.Resolution.TheVariants.{Resolved};
-ghost use Rattle.stl_types.specs.declared.views.ResolvedOperand.TheVariants as resolved;
+ghost use Rattle.stl_types.specs.declared.resolved_operands.Resolution.TheVariants.{Resolved};
+ghost use Rattle.stl_types.specs.declared.resolved_operands.ResolvedOperand.TheVariants as resolved;
 
 use crate::contexts::Context;
-use crate::views::{Register, Resolution, ResolvedOperand, Side};
+use crate::resolved_operands::{Register, Resolution, ResolvedOperand, Side};
 use block_layout::{Path, named_block};
 use plc_base::{Area, BlockId, Place, Width};
 use std::alloc::{AllocError, Global};

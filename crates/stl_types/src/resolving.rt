@@ -15,9 +15,9 @@ ghost use Rattle.stl_types.specs.Resolution.{resolution_of};
 
 use crate::constants::takes_constant;
 use crate::contexts::Context;
-use crate::forms::{OperandRule, operand_rule_of};
+use crate::operand_rules::{OperandRule, operand_rule_of};
 use crate::operands::rule_of;
-use crate::views::{Resolution, ResolvedOperand};
+use crate::resolved_operands::{Resolution, ResolvedOperand};
 use block_layout::Layouts;
 use plc_base::{Refusal, lesser, try_least_of};
 use std::alloc::{AllocError, Global};

@@ -19,7 +19,7 @@ ghost use Rattle.stl_types.specs.Variables.{
 };
 
 use crate::contexts::Context;
-use crate::views::{Resolution, ResolvedOperand, Side};
+use crate::resolved_operands::{Resolution, ResolvedOperand, Side};
 use block_layout::{ComponentAt, Element, Path, PathEnd, elementary_place};
 use plc_base::{Area, Place, Width};
 use stl_ast::{BlockName, Simple};

@@ -17,7 +17,7 @@ use Rattle.stl_types.specs.Calls.{has_formals, has_no_instance, is_instance, is_
 use Rattle.stl_types.specs.Context.{whole_data_place}
 use Rattle.stl_types.specs.Parameters.{Callee}
 use Rattle.stl_types.specs.declared.parameters.Formal.{Formal}
-use Rattle.stl_types.specs.declared.views.ResolvedOperand.TheVariants as resolved
+use Rattle.stl_types.specs.declared.resolved_operands.ResolvedOperand.TheVariants as resolved
 use Rattle.block_layout.specs.Fits.{number_or_zero}
 use Rattle.stl_codegen.specs.Instruction.{instr_by, instruction, passings_to, resolved_instr, operand_instr}
 use Rattle.stl_codegen.specs.Operations.{call_operation_of, jump_operation_of}

@@ -12,8 +12,8 @@ use Rattle.block_layout.specs.Sizes.{alignment, capped_size, largest_size, next_
 use Rattle.block_layout.specs.declared.blocks.BlockLayout.{BlockLayout}
 use Rattle.block_layout.specs.declared.cells.Cell.{Cell}
 use Rattle.block_layout.specs.declared.members.Member.{Member}
-use Rattle.block_layout.specs.declared.walks.ComponentAt.{ComponentAt}
-use Rattle.block_layout.specs.declared.walks.PathEnd.TheVariants as path_end
+use Rattle.block_layout.specs.declared.path_ends.ComponentAt.{ComponentAt}
+use Rattle.block_layout.specs.declared.path_ends.PathEnd.TheVariants as path_end
 use Rattle.sem_kept.proofs.accepted.RecordParams.{never_less}
 
 pub named_here : (at place : ℕ) (name : List ℕ) (c : Cell) (cs : List Cell) → (nat_eq c.level 0 && bytes_eq name c.name) ≡ true

@@ -42,14 +42,14 @@ use Rattle.block_layout.specs.Offsets.{width_of}
 use Rattle.block_layout.specs.declared.blocks.BlockLayout.{BlockLayout}
 use Rattle.stl_types.specs.Calls.{calls_unknown, is_unknown_function}
 use Rattle.stl_types.specs.Context.{Context, data_number}
-use Rattle.stl_types.specs.Forms.{operand_rule_of}
+use Rattle.stl_types.specs.OperandRules.{operand_rule_of}
 use Rattle.stl_types.specs.Parameters.{Callee, callee_by, callee_of, system_formals}
 use Rattle.stl_types.specs.Resolution.{resolution_of, whole_called_block}
 use Rattle.stl_types.specs.ResolvedStatement.{resolved_operand}
 use Rattle.stl_types.specs.Variables.{own_variable}
 use Rattle.stl_types.specs.declared.parameters.Formal.{Formal}
-use Rattle.stl_types.specs.declared.views.Resolution.TheVariants.{Resolved}
-use Rattle.stl_types.specs.declared.views.ResolvedOperand.TheVariants as resolved
+use Rattle.stl_types.specs.declared.resolved_operands.Resolution.TheVariants.{Resolved}
+use Rattle.stl_types.specs.declared.resolved_operands.ResolvedOperand.TheVariants as resolved
 use Rattle.stl_codegen.specs.CompiledBlock.{StatedBlock, compiled_block}
 use Rattle.block_layout.specs.Fits.{number_or_zero}
 use Rattle.stl_codegen.specs.EmittedOps.{ops_of, pass_ops}

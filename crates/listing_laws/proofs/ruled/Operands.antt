@@ -26,18 +26,18 @@ use Rattle.block_layout.specs.Offsets.{width_of}
 use Rattle.stl_types.specs.Addresses.{address_in_block, area_of_pointer, area_for_letters, side_of}
 use Rattle.stl_types.specs.Constants.{takes_constant}
 use Rattle.stl_types.specs.Context.{Context}
-use Rattle.stl_types.specs.Forms.{operand_rule_of}
+use Rattle.stl_types.specs.OperandRules.{operand_rule_of}
 use Rattle.stl_types.specs.Operands.{has_width, is_on_wrong_side, rule_of_operand, rule_of_resolved_operand, rule_of_resolution, takes_operand, rule_writes_operand as form_writes}
 use Rattle.stl_types.specs.Resolution.{resolution_of_opened_block, register_for_word as register_named, resolution_of}
-use Rattle.stl_types.specs.declared.forms.OperandRule.{OperandRule}
-use Rattle.stl_types.specs.declared.forms.OperandRule.TheVariants as operand_rules
+use Rattle.stl_types.specs.declared.operand_rules.OperandRule.{OperandRule}
+use Rattle.stl_types.specs.declared.operand_rules.OperandRule.TheVariants as operand_rules
 use Rattle.stl_types.specs.declared.parameters.Formal.{Formal}
-use Rattle.stl_types.specs.declared.views.Register.{Register}
-use Rattle.stl_types.specs.declared.views.Register.TheVariants as register
-use Rattle.stl_types.specs.declared.views.Resolution.TheVariants.{Resolved}
-use Rattle.stl_types.specs.declared.views.ResolvedOperand.{ResolvedOperand}
-use Rattle.stl_types.specs.declared.views.ResolvedOperand.TheVariants as resolved
-use Rattle.stl_types.specs.declared.views.Side.{Side}
+use Rattle.stl_types.specs.declared.resolved_operands.Register.{Register}
+use Rattle.stl_types.specs.declared.resolved_operands.Register.TheVariants as register
+use Rattle.stl_types.specs.declared.resolved_operands.Resolution.TheVariants.{Resolved}
+use Rattle.stl_types.specs.declared.resolved_operands.ResolvedOperand.{ResolvedOperand}
+use Rattle.stl_types.specs.declared.resolved_operands.ResolvedOperand.TheVariants as resolved
+use Rattle.stl_types.specs.declared.resolved_operands.Side.{Side}
 use Rattle.stl_codegen.specs.CompiledBlock.{operand_with_target}
 use Rattle.stl_codegen.specs.EmittedOps.{use_db_ops}
 use Rattle.stl_codegen.specs.Operands.{is_db, numbered_operand, block_opened_by_operand, block_opened_by_place, flat_operand_of, register_operand}

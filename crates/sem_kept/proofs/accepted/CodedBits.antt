@@ -16,8 +16,8 @@ use Rattle.stl_ast.specs.declared.operands.Operand.TheVariants as operand
 use Rattle.block_layout.specs.Fits.{bits_of, fits_elementary_type, number_from, number_or_zero, twos_complement_bits}
 use Rattle.block_layout.specs.Sizes.{plain_bits}
 use Rattle.stl_types.specs.Constants.{takes_constant}
-use Rattle.stl_types.specs.Forms.{operand_rule_of}
-use Rattle.stl_types.specs.declared.views.ResolvedOperand.TheVariants as resolved
+use Rattle.stl_types.specs.OperandRules.{operand_rule_of}
+use Rattle.stl_types.specs.declared.resolved_operands.ResolvedOperand.TheVariants as resolved
 use Rattle.stl_codegen.specs.Operations.{operation_for}
 use Rattle.sem_kept.specs.CodedBlocks.{HasBytes}
 

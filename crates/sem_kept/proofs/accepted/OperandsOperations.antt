@@ -29,17 +29,17 @@ use Rattle.stl_ast.specs.declared.operands.Operand.TheVariants as operand
 use Rattle.block_layout.specs.Offsets.{width_of}
 use Rattle.stl_types.specs.Actuals.{is_input_section}
 use Rattle.stl_types.specs.Brackets.{bracket_function, is_closing_bracket}
-use Rattle.stl_types.specs.Forms.{operand_rule_of}
+use Rattle.stl_types.specs.OperandRules.{operand_rule_of}
 use Rattle.stl_types.specs.Kinds.{is_bit, is_composite, is_double_word, is_in_memory, width_in}
 use Rattle.stl_types.specs.Operands.{composite_rule, has_width, is_input, is_on_wrong_side, rule_of_resolved_operand, takes_operand, takes_width, rule_writes_operand}
 use Rattle.stl_types.specs.Zones.{ends_zone, opens_zone}
-use Rattle.stl_types.specs.declared.forms.OperandRule.{OperandRule}
-use Rattle.stl_types.specs.declared.forms.OperandRule.TheVariants as operand_rules
-use Rattle.stl_types.specs.declared.views.Register.{Register}
-use Rattle.stl_types.specs.declared.views.Register.TheVariants as register
-use Rattle.stl_types.specs.declared.views.Side.TheVariants as side
-use Rattle.stl_types.specs.declared.views.ResolvedOperand.{ResolvedOperand}
-use Rattle.stl_types.specs.declared.views.ResolvedOperand.TheVariants as resolved
+use Rattle.stl_types.specs.declared.operand_rules.OperandRule.{OperandRule}
+use Rattle.stl_types.specs.declared.operand_rules.OperandRule.TheVariants as operand_rules
+use Rattle.stl_types.specs.declared.resolved_operands.Register.{Register}
+use Rattle.stl_types.specs.declared.resolved_operands.Register.TheVariants as register
+use Rattle.stl_types.specs.declared.resolved_operands.Side.TheVariants as side
+use Rattle.stl_types.specs.declared.resolved_operands.ResolvedOperand.{ResolvedOperand}
+use Rattle.stl_types.specs.declared.resolved_operands.ResolvedOperand.TheVariants as resolved
 use Rattle.stl_codegen.specs.EmittedOps.{op_with_end_mark}
 use Rattle.stl_codegen.specs.Operands.{is_db, numbered_operand, block_opened_by_operand, flat_operand_of, register_operand}
 use Rattle.stl_codegen.specs.Operations.{add_operation, load_pointer_operation, load_operation, or_operation, store_pointer_operation, transfer_operation, operation_for}

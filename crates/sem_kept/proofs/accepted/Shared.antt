@@ -19,16 +19,16 @@ use Rattle.stl_ast.specs.declared.operands.Operand.TheVariants as operand
 use Rattle.stl_ast.specs.declared.statements.Statement.{Statement}
 use Rattle.stl_types.specs.Constants.{takes_constant}
 use Rattle.stl_types.specs.Context.{Context}
-use Rattle.stl_types.specs.Forms.{operand_rule_of}
+use Rattle.stl_types.specs.OperandRules.{operand_rule_of}
 use Rattle.stl_types.specs.Kinds.{is_operand_of_call}
 use Rattle.stl_types.specs.Operands.{rule_of_operand, rule_of_resolved_operand, rule_of_resolution, takes_operand}
 use Rattle.stl_types.specs.Resolution.{resolution_of}
-use Rattle.stl_types.specs.declared.forms.OperandRule.{OperandRule}
-use Rattle.stl_types.specs.declared.forms.OperandRule.TheVariants as operand_rules
-use Rattle.stl_types.specs.declared.views.Resolution.{Resolution}
-use Rattle.stl_types.specs.declared.views.Resolution.TheVariants.{Resolved}
-use Rattle.stl_types.specs.declared.views.ResolvedOperand.{ResolvedOperand}
-use Rattle.stl_types.specs.declared.views.ResolvedOperand.TheVariants as resolved
+use Rattle.stl_types.specs.declared.operand_rules.OperandRule.{OperandRule}
+use Rattle.stl_types.specs.declared.operand_rules.OperandRule.TheVariants as operand_rules
+use Rattle.stl_types.specs.declared.resolved_operands.Resolution.{Resolution}
+use Rattle.stl_types.specs.declared.resolved_operands.Resolution.TheVariants.{Resolved}
+use Rattle.stl_types.specs.declared.resolved_operands.ResolvedOperand.{ResolvedOperand}
+use Rattle.stl_types.specs.declared.resolved_operands.ResolvedOperand.TheVariants as resolved
 use Rattle.stl_codegen.specs.GeneratedProgram.{instructions_from}
 use Rattle.stl_codegen.specs.Instruction.{instruction}
 use Rattle.stl_codegen.specs.Operations.{call_operation_of, jump_operation_of}

@@ -51,14 +51,14 @@ use Rattle.stl_types.specs.Operands.{rule_of_operand, rule_of_resolved_operand, 
 use Rattle.stl_types.specs.Parameters.{callee_of}
 use Rattle.stl_types.specs.ResolvedStatement.{operand_if_resolved}
 use Rattle.stl_types.specs.Resolution.{resolution_of_call, resolution_of_address, resolution_of_opened_block, resolution_of_path, register_for_word, resolution_of}
-use Rattle.stl_types.specs.declared.forms.OperandRule.{OperandRule}
-use Rattle.stl_types.specs.declared.forms.OperandRule.TheVariants as operand_rules
-use Rattle.stl_types.specs.declared.views.Register.{Register}
-use Rattle.stl_types.specs.declared.views.Register.TheVariants as register
-use Rattle.stl_types.specs.declared.views.Resolution.{Resolution}
-use Rattle.stl_types.specs.declared.views.Resolution.TheVariants.{Unjudged, Resolved, Unknown}
-use Rattle.stl_types.specs.declared.views.ResolvedOperand.{ResolvedOperand}
-use Rattle.stl_types.specs.declared.views.ResolvedOperand.TheVariants as resolved
+use Rattle.stl_types.specs.declared.operand_rules.OperandRule.{OperandRule}
+use Rattle.stl_types.specs.declared.operand_rules.OperandRule.TheVariants as operand_rules
+use Rattle.stl_types.specs.declared.resolved_operands.Register.{Register}
+use Rattle.stl_types.specs.declared.resolved_operands.Register.TheVariants as register
+use Rattle.stl_types.specs.declared.resolved_operands.Resolution.{Resolution}
+use Rattle.stl_types.specs.declared.resolved_operands.Resolution.TheVariants.{Unjudged, Resolved, Unknown}
+use Rattle.stl_types.specs.declared.resolved_operands.ResolvedOperand.{ResolvedOperand}
+use Rattle.stl_types.specs.declared.resolved_operands.ResolvedOperand.TheVariants as resolved
 use Rattle.stl_codegen.specs.CompiledBlock.{SourceInstruction, operand_with_target, op_with_target, code_in, lines_in, ops_in, placed_ops}
 use Rattle.stl_codegen.specs.EmittedOps.{call_op, op_with_end_mark, use_db_ops, ops_of, pass_ops, preparing_op}
 use Rattle.stl_codegen.specs.GeneratedProgram.{return_statement, instructions_from, statements_of}

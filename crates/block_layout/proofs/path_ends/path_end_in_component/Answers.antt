@@ -1,5 +1,5 @@
 use Rattle.block_layout.proofs.PathLemmas.{named_structure}
-use Rattle.block_layout.proofs.walks.path_end_in_component.Goals as goal
+use Rattle.block_layout.proofs.path_ends.path_end_in_component.Goals as goal
 
 pub returns-in-Structure-clause-value : goal.returns-in-Structure-clause-value
 returns-in-Structure-clause-value c =

@@ -2,7 +2,7 @@ use Rattle.std.proofs.Common.{◌≡◌, ℕ, ap, sym, ◌∙◌, arith, if◌th
 use Rattle.plc_base.specs.Kinds.{is_data_block}
 use Rattle.block_layout.specs.Rule54.{data_length}
 use Rattle.block_layout.proofs.HeadLemmas.{one_block_more, total_more}
-use Rattle.block_layout.proofs.broken.with_block.Goals as goal
+use Rattle.block_layout.proofs.breaches.with_block.Goals as goal
 
 pub returns : goal.returns
 returns c = λ y blocks some len before.

@@ -1,5 +1,5 @@
 ghost use Rattle.std.specs.Prelude.{◌≡◌};
-ghost use Rattle.stl_types.specs.Forms.{operand_rule_of};
+ghost use Rattle.stl_types.specs.OperandRules.{operand_rule_of};
 
 use stl_ast::{Mnemonic, Simple};
 
@@ -52,7 +52,7 @@ pub enum OperandRule {
 }
 
 /// The form of an instruction.
-#[tactic(auto, unfolding(crate::specs::Forms::operand_rule_of))]
+#[tactic(auto, unfolding(crate::specs::OperandRules::operand_rule_of))]
 pub(crate) fn operand_rule_of(code: Mnemonic) -> OperandRule
     ensures { result ≡ operand_rule_of code }
 {

@@ -1,5 +1,5 @@
 use Rattle.block_layout.proofs.WalkLemmas.{walk_next, step_sound}
-use Rattle.block_layout.proofs.walks.walk_behind.Goals as goal
+use Rattle.block_layout.proofs.path_ends.walk_behind.Goals as goal
 
 pub loop-next-preserved : goal.loop-next-preserved
 loop-next-preserved c = record {

@@ -1,7 +1,7 @@
 use Rattle.std.proofs.Common.{◌≡◌, drop, ◌≤◌}
 use Rattle.block_layout.specs.Paths.{IsSoundAt, path_end_behind}
 use Rattle.block_layout.specs.Sizes.{largest_size}
-use Rattle.block_layout.proofs.walks.walk_behind.Given as goal
+use Rattle.block_layout.proofs.path_ends.walk_behind.Given as goal
 
 abbrev pub invariant-loop-next : goal.invariant-loop-next
 invariant-loop-next l = record {

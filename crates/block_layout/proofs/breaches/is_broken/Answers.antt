@@ -4,7 +4,7 @@ use Rattle.block_layout.specs.Rule44.{has_wrong_number}
 use Rattle.block_layout.specs.Rule54.{data_length, exceeds_total, total_data_length}
 use Rattle.block_layout.specs.Types.{Types}
 use Rattle.block_layout.proofs.HeadLemmas.{all_ten}
-use Rattle.block_layout.proofs.broken.is_broken.Goals as goal
+use Rattle.block_layout.proofs.breaches.is_broken.Goals as goal
 
 pub returns : goal.returns
 returns c = λ blocks some facts before.
