@@ -73,7 +73,8 @@ outermost_path_end l block temporary offset name =
 
 -- where a name behind a component leads: of a structure to its own components, of a data type to
 -- those of the block that declares it
-abbrev pub path_end_in_component : List BlockLayout → ComponentAt → List ℕ → Cell → Element → PathEnd
+abbrev pub path_end_in_component : List BlockLayout → ComponentAt → List ℕ → Cell → Element
+    → PathEnd
 path_end_in_component l component name c Structure =
     path_end_at_member (cells_at l component.block component.temporary) component.block
     component.temporary (component.place + 1) component.offset

@@ -180,7 +180,8 @@ fn path_end_in_component(
     requires cell { slice_get layout.now component.place ≡ Some cell.now }
     requires within { component.place + 1 < 2 ^ 64 }
     requires sound { cell.now.sound ≡ true }
-    ensures value { result ≡ path_end_in_component layouts.now component name.now cell.now cell.now.of }
+    ensures value { result
+        ≡ path_end_in_component layouts.now component name.now cell.now cell.now.of }
     ensures near { OffsetIsNear result }
 {
     match cell.of {

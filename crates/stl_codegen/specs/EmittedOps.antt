@@ -38,8 +38,8 @@ pass_ops (p ∷ ps) = preparing_op operation.Pass (operand.Pass p.index p.actual
 abbrev pub jump_op : JumpOperation → (target : ℕ) → OpData
 jump_op how target = op_with_end_mark operation.Jump (operand.Jump (jump_number how) target)
 
--- CALL, UC or CC, with kind and number of the called block, and the number of the instance; 0 stands
--- for no instance
+-- CALL, UC or CC, with kind and number of the called block, and the number of the instance; 0
+-- stands for no instance
 abbrev pub call_op : CallOperation → BlockId → (instance : Option ℕ) → OpData
 call_op how block instance =
     op_with_end_mark (operation.Call how)

@@ -98,8 +98,8 @@ abbrev pub add_operation : Operand → Operation
 add_operation (operand.Constant (literal.Long value)) = operation.Add add_constant.Dword
 add_operation _ = operation.Add add_constant.Word
 
--- the operation of an instruction that goes on to the next statement, by what its operand names; the
--- empty operation for every other instruction, which isn't coded by this definition
+-- the operation of an instruction that goes on to the next statement, by what its operand names;
+-- the empty operation for every other instruction, which isn't coded by this definition
 unfoldable pub operation_for : Mnemonic → Operand → ResolvedOperand → Operation
 operation_for code.Nop o v = operation.Nop
 operation_for code.Bld o v = operation.Bld

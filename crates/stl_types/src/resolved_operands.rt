@@ -33,11 +33,12 @@ pub enum Register {
 /// - `Parameter`: a parameter of the function that the statement stands in; `index` is that in a
 ///   call.
 /// - `Composite`: a structure or an array. `Date`: a DATE_AND_TIME.
-/// - `ByMemory`: a place by a pointer in memory, which stands in the area `from` from byte `byte` on.
+/// - `ByMemory`: a place by a pointer in memory, which stands in the area `from` from byte `byte`
+///   on.
 /// - `ByRegister`: a place by an address register, `bits` past the one it points to; without `area`
 ///   the register has the area.
-/// - `NumberBy`: a timer, a counter or a data block, by `what`, whose number stands in a word of memory,
-///   in the area `from` from byte `byte` on.
+/// - `NumberBy`: a timer, a counter or a data block, by `what`, whose number stands in a word of
+///   memory, in the area `from` from byte `byte` on.
 /// - `Constant`: its value stands in the operand. `Pointer`: a pointer constant.
 /// - `OfStatus`: a flag of the status word, as in A OV.
 /// - `OpenBlock`: the data block that OPN opens. `Block`: a symbol of a block.
