@@ -11,13 +11,13 @@ use Rattle.block_layout.specs.declared.cells.Cell.{Cell}
 use Rattle.block_layout.specs.declared.declaration_facts.DeclarationFacts.{DeclarationFacts}
 use Rattle.block_layout.specs.Around.{Outside, refusals_in_rest, declarations_before_next}
 use Rattle.block_layout.specs.Cells.{cell_of, cells_of, is_sound, is_temp, with_first_cell_opening}
-use Rattle.block_layout.specs.Rule21.{broken_21}
-use Rattle.block_layout.specs.Rule56.{broken_56}
+use Rattle.block_layout.specs.Rule21.{refusals_21}
+use Rattle.block_layout.specs.Rule56.{refusals_56}
 use Rattle.block_layout.specs.Types.{Types}
 use Rattle.stl_ast.specs.declared.blocks.Part.{Part}
 use Rattle.block_layout.specs.declared.sections.BlockCells.{BlockCells}
 use Rattle.block_layout.specs.declared.declaration_facts.OpenList.{OpenList}
-use Rattle.block_layout.specs.DeclarationFacts.{AreOpen, CheckedOnto, SectionAdded, refusals_by_facts, twice_by, deep_by, cell_with, cells_by, facts_of_declarations}
+use Rattle.block_layout.specs.DeclarationFacts.{AreOpen, AreFactsOnto, SectionAdded, refusals_by_facts, twice_by, deep_by, cell_with, cells_by, facts_of_declarations}
 
 pub refusals_by_facts_next : (broken : DeclarationFacts → Declaration → List Refusal) (vs : List DeclarationFacts) (ds : List Declaration) (i : ℕ) (v : DeclarationFacts) (d : Declaration) (found one next : Option Refusal) (whole : Option Refusal) →
     i < length ds → length vs ≡ length ds → (e : DeclarationFacts) → v ≡ get_or vs i e → d ≡ get_or ds i d → one ≡ least (broken v (get_or ds i d)) → next ≡ lesser found one →
@@ -89,16 +89,16 @@ cells_opened y o section before (d ∷ ds) =
     opened_step y section d (is_sound y o before d) (facts_of_declarations y o (d ∷ before) ds) ds (cells_of y o section (d ∷ before) ds)
     (cells_begun y o section (d ∷ before) ds) (cells_opened y o section (d ∷ before) ds)
 
-pub twice_refusals_same : (y : Types) (o : Outside) (before ds : List Declaration) → refusals_by_facts twice_by (facts_of_declarations y o before ds) ds ≡ refusals_in_rest (broken_21 o) before ds
+pub twice_refusals_same : (y : Types) (o : Outside) (before ds : List Declaration) → refusals_by_facts twice_by (facts_of_declarations y o before ds) ds ≡ refusals_in_rest (refusals_21 o) before ds
 twice_refusals_same y o before [] = refl
-twice_refusals_same y o before (d ∷ ds) = ap (λ (l : List Refusal). broken_21 o before d ++ l) (twice_refusals_same y o (d ∷ before) ds)
+twice_refusals_same y o before (d ∷ ds) = ap (λ (l : List Refusal). refusals_21 o before d ++ l) (twice_refusals_same y o (d ∷ before) ds)
 
-pub deep_refusals_same : (y : Types) (o : Outside) (before ds : List Declaration) → refusals_by_facts deep_by (facts_of_declarations y o before ds) ds ≡ refusals_in_rest (broken_56 y o) before ds
+pub deep_refusals_same : (y : Types) (o : Outside) (before ds : List Declaration) → refusals_by_facts deep_by (facts_of_declarations y o before ds) ds ≡ refusals_in_rest (refusals_56 y o) before ds
 deep_refusals_same y o before [] = refl
-deep_refusals_same y o before (d ∷ ds) = ap (λ (l : List Refusal). broken_56 y o before d ++ l) (deep_refusals_same y o (d ∷ before) ds)
+deep_refusals_same y o before (d ∷ ds) = ap (λ (l : List Refusal). refusals_56 y o before d ++ l) (deep_refusals_same y o (d ∷ before) ds)
 
 pub section_added : (y : Types) (o : Outside) (before : List Declaration) (p : Part) (old new : BlockCells) (open_ : List OpenList) (vs us : List DeclarationFacts) (ds : List Declaration) →
-    ds ≡ p.items → us ≡ vs → CheckedOnto y o before ds vs open_ →
+    ds ≡ p.items → us ≡ vs → AreFactsOnto y o before ds vs open_ →
     new.components.items ≡ old.components.items ++ (if is_temp p.kind then [] else cells_by y p.kind false us p.items) →
     new.temps.items ≡ old.temps.items ++ (if is_temp p.kind then cells_by y p.kind false us p.items else []) →
     new.twice ≡ lesser old.twice (least (refusals_by_facts twice_by us ds)) → new.deep ≡ lesser old.deep (least (refusals_by_facts deep_by us ds)) →

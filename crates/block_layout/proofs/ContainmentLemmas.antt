@@ -7,7 +7,7 @@ use Rattle.stl_ast.specs.declared.declarations.Bounds.{Bounds}
 use Rattle.stl_ast.specs.declared.declarations.Simple.{Simple}
 use Rattle.block_layout.specs.Declarations.{element_count, is_upside_down}
 use Rattle.block_layout.specs.Members.{component_of_name}
-use Rattle.block_layout.specs.Paths.{cells_at, path_end_at_cell, path_end_at_member, holds_where_reached, path_end_and_then, in_sections, path_end_by_index, indexed_behind, is_beyond, is_beyond_in, is_beyond_left, is_checkable, leaves_array, leaves_from, leaves_structure, leaves_local, leaves_sections, path_end_by_name, named_behind, named_in, outermost_path_end, step_is_beyond, path_end_by_step, structure_of, path_end_behind, path_end_in_data_block, path_end_in_block, path_end_of_local, path_end_or_unjudged, whole_at, path_end_in_bounds}
+use Rattle.block_layout.specs.Paths.{cells_at, path_end_at_cell, path_end_at_member, holds_where_reached, path_end_and_then, in_sections, path_end_by_index, path_end_behind_index, is_beyond, is_beyond_in, is_beyond_left, is_checkable, leaves_array, leaves_from, leaves_structure, leaves_local, leaves_sections, path_end_by_name, path_end_behind_name, path_end_in_component, outermost_path_end, step_is_beyond, path_end_by_step, structure_of, path_end_behind, path_end_in_data_block, path_end_in_block, path_end_of_local, path_end_or_unjudged, whole_at, path_end_in_bounds}
 use Rattle.block_layout.specs.Sizes.{array_bits, capped_size, element_bits, element_of, components_end, plain_bits, structure_bits, next_multiple}
 use Rattle.block_layout.specs.declared.blocks.BlockLayout.{BlockLayout}
 use Rattle.block_layout.specs.declared.cells.Cell.{Cell}
@@ -15,9 +15,9 @@ use Rattle.block_layout.specs.declared.cells.Element.{Element}
 use Rattle.block_layout.specs.declared.cells.Element.TheVariants.{Plain, Structure, DateAndTime, Udt, Unknown}
 use Rattle.block_layout.specs.Sizes.{largest_size}
 use Rattle.block_layout.specs.declared.members.Member.{Member}
-use Rattle.block_layout.specs.declared.walks.ComponentAt.{ComponentAt}
-use Rattle.block_layout.specs.declared.walks.PathEnd.{PathEnd}
-use Rattle.block_layout.specs.declared.walks.PathEnd.TheVariants as path_end
+use Rattle.block_layout.specs.declared.path_ends.ComponentAt.{ComponentAt}
+use Rattle.block_layout.specs.declared.path_ends.PathEnd.{PathEnd}
+use Rattle.block_layout.specs.declared.path_ends.PathEnd.TheVariants as path_end
 use Rattle.block_layout.proofs.AlignmentLemmas.{AreRight, Goes, IsSettled, Lies, Meets, element_within, found_lies, index_meets, inner_even, outermost_lies, settled_even, structure_ends}
 use Rattle.block_layout.proofs.CommonLemmas.{or_first, or_second}
 
@@ -57,26 +57,26 @@ unfolding outermost_path_end
 outermost_moves l right block temporary offset name =
     found_moves l right block temporary 0 offset (component_of_name 0 0 0 name (cells_at l block temporary))
 
-named_in_moves : (l : List BlockLayout) → AreRight l → (s : ComponentAt) (name : List ℕ) (c : Cell)
-    (of : Element) → Moves (named_in l s name c of)
-named_in_moves l right s name c Structure =
+in_component_moves : (l : List BlockLayout) → AreRight l → (s : ComponentAt) (name : List ℕ) (c : Cell)
+    (of : Element) → Moves (path_end_in_component l s name c of)
+in_component_moves l right s name c Structure =
     found_moves l right s.block s.temporary (s.place + 1) s.offset
     (component_of_name (c.level + 1) 0 0 name (drop (s.place + 1) (cells_at l s.block s.temporary)))
-named_in_moves l right s name c (Udt block bits) = outermost_moves l right block false s.offset name
-named_in_moves l right s name c (Plain kind) = tt
-named_in_moves l right s name c DateAndTime = tt
-named_in_moves l right s name c Unknown = tt
+in_component_moves l right s name c (Udt block bits) = outermost_moves l right block false s.offset name
+in_component_moves l right s name c (Plain kind) = tt
+in_component_moves l right s name c DateAndTime = tt
+in_component_moves l right s name c Unknown = tt
 
 if_moves : (t : Bool) (w : PathEnd) → Moves w → Moves (if t then w else path_end.Unknown)
 if_moves true w h = h
 if_moves false w h = tt
 
 behind_moves : (l : List BlockLayout) → AreRight l → (s : ComponentAt) (name : List ℕ) (o : Option Cell)
-    → Moves (named_behind l s name o)
+    → Moves (path_end_behind_name l s name o)
 behind_moves l right s name None = tt
 behind_moves l right s name (Some c) =
-    if_moves (nat_eq s.depth (length c.bounds)) (named_in l s name c c.of)
-    (named_in_moves l right s name c c.of)
+    if_moves (nat_eq s.depth (length c.bounds)) (path_end_in_component l s name c c.of)
+    (in_component_moves l right s name c c.of)
 
 within_moves : (s : ComponentAt) (c : Cell) (behind : List Cell) (at : ℤ) (o : Option Bounds)
     → Moves (path_end_in_bounds s c behind at o)
@@ -94,7 +94,7 @@ within_moves s c behind at (Some b) = by (is_beyond b at)
     by false = tt
 
 indexed_moves : (s : ComponentAt) (cells : List Cell) (at : ℤ) (o : Option Cell)
-    → Moves (indexed_behind s cells at o)
+    → Moves (path_end_behind_index s cells at o)
 indexed_moves s cells at None = tt
 indexed_moves s cells at (Some c) =
     within_moves s c (drop (s.place + 1) cells) at (slice_get c.bounds s.depth)
@@ -235,7 +235,7 @@ module _ (l : List BlockLayout) (limit : ℕ) (right : AreRight l) (near : limit
       none h.within)
 
   named_lies : (s : ComponentAt) (name : List ℕ) (h : Lies l limit s) (of : Element) → h.cell.of ≡ of
-      → drop s.depth h.cell.bounds ≡ [] → Goes l limit (named_in l s name h.cell of)
+      → drop s.depth h.cell.bounds ≡ [] → Goes l limit (path_end_in_component l s name h.cell of)
   named_lies s name h Structure is none =
       found_lies l limit right s.block s.temporary (h.cell.level + 1) (s.place + 1) s.offset name
       (even_here s h Structure is none) near
@@ -257,11 +257,11 @@ module _ (l : List BlockLayout) (limit : ℕ) (right : AreRight l) (near : limit
   named_goes : (s : ComponentAt) (name : List ℕ) → Lies l limit s → Goes l limit (path_end_by_name l s name)
   unfolding path_end_by_name
   named_goes s name h =
-      subst (λ (o : Option Cell). Goes l limit (named_behind l s name o)) (sym h.there)
+      subst (λ (o : Option Cell). Goes l limit (path_end_behind_name l s name o)) (sym h.there)
       (by (nat_eq s.depth (length h.cell.bounds)) refl)
     where
       by : (t : Bool) → nat_eq s.depth (length h.cell.bounds) ≡ t
-          → Goes l limit (if t then named_in l s name h.cell h.cell.of else path_end.Unknown)
+          → Goes l limit (if t then path_end_in_component l s name h.cell h.cell.of else path_end.Unknown)
       by true e =
           let same : s.depth ≡ length h.cell.bounds = eqb-true s.depth (length h.cell.bounds) e in
           named_lies s name h h.cell.of refl
@@ -331,7 +331,7 @@ module _ (l : List BlockLayout) (limit : ℕ) (right : AreRight l) (near : limit
       → Goes l limit (path_end_by_index l s at)
   unfolding path_end_by_index
   indexed_goes s at h inside =
-      subst (λ (o : Option Cell). Goes l limit (indexed_behind s (cells_at l s.block s.temporary) at o))
+      subst (λ (o : Option Cell). Goes l limit (path_end_behind_index s (cells_at l s.block s.temporary) at o))
       (sym h.there)
       (within_goes s h at (slice_get h.cell.bounds s.depth) refl
       (subst (λ (o : Option Cell). is_beyond_in s.depth o at ≡ false) h.there inside))

@@ -18,7 +18,7 @@ use Rattle.block_layout.specs.Measures.{capped_depth}
 use Rattle.block_layout.specs.Rule21.{is_twice, names_before}
 use Rattle.block_layout.specs.Rule56.{own_depth, depth_around, depth_of_holders, is_too_deep}
 use Rattle.block_layout.specs.Types.{Types}
-use Rattle.block_layout.specs.DeclarationFacts.{AreOpen, CheckedOnto, breaks_in, open_lists_behind, open_list_of, inner_list, is_deep_in, facts_by_list, facts_of_declaration, facts_of_declarations, with_name}
+use Rattle.block_layout.specs.DeclarationFacts.{AreOpen, AreFactsOnto, breaks_in, open_lists_behind, open_list_of, inner_list, is_deep_in, facts_by_list, facts_of_declaration, facts_of_declarations, with_name}
 
 -- depths beyond 8 may count as 9
 pub deep_in_capped : (a own : ℕ) → is_deep_in (capped_depth a) (capped_depth own) ≡ is_deep_in a own
@@ -171,7 +171,7 @@ facts_next y o ds i d open_ opened vs ws whole v end within is_d there is_opened
 
 pub facts_done : (y : Types) (o : Outside) (before ds : List Declaration) (i : ℕ) (open_ : List OpenList) (vs : List DeclarationFacts) → length ds ≤ i →
     (now : List Declaration) × (AreOpen y o now open_ × (declarations_before_next now (drop i ds) ≡ declarations_before_next before ds) × (vs ++ facts_of_declarations y o now (drop i ds) ≡ facts_of_declarations y o before ds)) →
-    CheckedOnto y o before ds vs open_
+    AreFactsOnto y o before ds vs open_
 facts_done y o before ds i open_ vs over (now, (are, to_end, so_far)) =
     let none : drop i ds ≡ [] = drop_of_length-le ds over in
     record {

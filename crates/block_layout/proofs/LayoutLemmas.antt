@@ -16,7 +16,7 @@ use Rattle.block_layout.specs.Measures.{types_of_source, with_all_bits, with_all
 use Rattle.block_layout.specs.Rule43.{contains_itself, leads_to}
 use Rattle.block_layout.specs.Types.{Types}
 use Rattle.block_layout.specs.declared.blocks.BlockLayout.{BlockLayout}
-use Rattle.block_layout.specs.declared.broken.BlocksBefore.{BlocksBefore}
+use Rattle.block_layout.specs.declared.breaches.BlocksBefore.{BlocksBefore}
 
 -- what is known of the layouts of the first blocks, and of what stands before the next block
 pub record AreLaid (y : Types) (blocks : List Block) (layouts : List BlockLayout) (b : BlocksBefore) : Type 0 where

@@ -11,7 +11,7 @@ use Rattle.block_layout.specs.declared.cells.Element.TheVariants.{Plain}
 use Rattle.block_layout.specs.declared.members.Member.{Member}
 use Rattle.block_layout.specs.Members.{component_of_name}
 use Rattle.block_layout.specs.Sizes.{alignment, array_bits, capped_size, cell_bits, element_alignment, element_bits, element_of, components_end, component_end, plain_bits, end_behind_cell, structure_bits, next_multiple}
-use Rattle.block_layout.specs.ListedParameters.{AreAlike, CellNamesDiffer, IsAlike, IsBytes, IsElementary, LengthStays, OffsetsStay, offset_named, offsets_in}
+use Rattle.block_layout.specs.ListedParameters.{AreAlike, CellNamesDiffer, IsAlike, IsBytes, IsElementary, LengthStays, OffsetsStay, offset_of_member, offsets_in}
 
 -- what the layout takes from an elementary component
 align : Bool → ℕ → ℕ
@@ -47,7 +47,7 @@ later_component at place name c cs kind h other = rw (sym (stepped_is at c cs ki
 
 -- the offsets of some components among those from a place on
 offsets_from : (at place : ℕ) → List Cell → List Cell → List ℕ
-offsets_from at place all cells = map (λ c. offset_named (component_of_name 0 at place c.name all)) cells
+offsets_from at place all cells = map (λ c. offset_of_member (component_of_name 0 at place c.name all)) cells
 
 offsets_behind : (at place : ℕ) (c : Cell) (rest cells : List Cell) (kind : Simple) → IsElementary c kind → AllByRecursion (λ d. bytes_eq d.name c.name ≡ false) cells → offsets_from at place (c ∷ rest) cells ≡ offsets_from (next at c.opens (plain_bits kind)) (place + 1) rest cells
 unfolding offsets_from
@@ -55,7 +55,7 @@ offsets_behind at place c rest [] kind h others = refl
 offsets_behind at place c rest (d ∷ ds) kind h (other, others) =
     let one = later_component at place d.name c rest kind h other in
     let more = offsets_behind at place c rest ds kind h others in
-    λ i. offset_named (one i) ∷ more i
+    λ i. offset_of_member (one i) ∷ more i
 
 offsets_alike : (at place place' : ℕ) (ps vs qs ws : List Cell) → AreAlike ps qs → CellNamesDiffer ps → CellNamesDiffer qs → offsets_from at place (ps ++ vs) ps ≡ offsets_from at place' (qs ++ ws) qs
 unfolding offsets_from
@@ -66,7 +66,7 @@ offsets_alike at place place' (p ∷ ps) vs (q ∷ qs) ws (one, more) (apart, ot
     let here = first_component at place p (ps ++ vs) one.kind one.first in
     let there = first_component at place' q (qs ++ ws) one.other one.second in
     let same : next_multiple at (align p.opens (plain_bits one.kind)) ≡ next_multiple at (align q.opens (plain_bits one.other)) = λ i. next_multiple at (align (one.opens i) (one.bits i)) in
-    let head : offset_named (component_of_name 0 at place p.name (p ∷ ps ++ vs)) ≡ offset_named (component_of_name 0 at place' q.name (q ∷ qs ++ ws)) = ap offset_named here ∙ same ∙ sym (ap offset_named there) in
+    let head : offset_of_member (component_of_name 0 at place p.name (p ∷ ps ++ vs)) ≡ offset_of_member (component_of_name 0 at place' q.name (q ∷ qs ++ ws)) = ap offset_of_member here ∙ same ∙ sym (ap offset_of_member there) in
     let step : next at p.opens (plain_bits one.kind) ≡ next at q.opens (plain_bits one.other) = λ i. next at (one.opens i) (one.bits i) in
     let tail = offsets_behind at place p (ps ++ vs) ps one.kind one.first apart
     ∙ offsets_alike (next at p.opens (plain_bits one.kind)) (place + 1) (place' + 1) ps vs qs ws more others others'

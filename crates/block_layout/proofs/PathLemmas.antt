@@ -6,9 +6,9 @@ use Rattle.block_layout.specs.declared.members.Member.{Member}
 use Rattle.block_layout.specs.Members.{component_of_name, members_of}
 use Rattle.block_layout.specs.declared.blocks.BlockLayout.{BlockLayout}
 use Rattle.block_layout.specs.declared.cells.Element.TheVariants.{Structure}
-use Rattle.block_layout.specs.declared.walks.ComponentAt.{ComponentAt}
-use Rattle.block_layout.specs.declared.walks.PathEnd.{PathEnd}
-use Rattle.block_layout.specs.Paths.{cells_at, path_end_at_member, named_in}
+use Rattle.block_layout.specs.declared.path_ends.ComponentAt.{ComponentAt}
+use Rattle.block_layout.specs.declared.path_ends.PathEnd.{PathEnd}
+use Rattle.block_layout.specs.Paths.{cells_at, path_end_at_member, path_end_in_component}
 use Rattle.block_layout.specs.NameLists.{IsNameList}
 use Rattle.block_layout.specs.declared.members.NameList.{NameList}
 
@@ -23,7 +23,7 @@ got (x ∷ xs) (suc i) c e = got xs i c e
 
 pub named_structure : (l : List BlockLayout) (component : ComponentAt) (name : List ℕ) (c : Cell) (cells : List Cell) (found : Option Member) (r : PathEnd) → cells ≡ cells_at l component.block component.temporary →
     slice_get cells component.place ≡ Some c → ((d : Cell) → found ≡ component_of_name ((get_or cells component.place d).level + 1) 0 0 name (drop (component.place + 1) cells)) →
-    r ≡ path_end_at_member cells component.block component.temporary (component.place + 1) component.offset found → c.of ≡ Structure → r ≡ named_in l component name c c.of
+    r ≡ path_end_at_member cells component.block component.temporary (component.place + 1) component.offset found → c.of ≡ Structure → r ≡ path_end_in_component l component name c c.of
 named_structure l component name c cells found r are there is_found is_r is_structure =
     let found_is : found ≡ component_of_name (c.level + 1) 0 0 name (drop (component.place + 1) cells) =
     is_found c ∙ ap (λ (x : Cell). component_of_name (x.level + 1) 0 0 name (drop (component.place + 1) cells)) (got cells component.place c there) in

@@ -14,8 +14,8 @@ use Rattle.block_layout.specs.declared.sections.BlockCells.{BlockCells}
 use Rattle.block_layout.specs.declared.declaration_facts.OpenList.{OpenList}
 use Rattle.block_layout.specs.Around.{Outside, refusals_in_list, refusals_in_rest, declarations_before_next, of_sections, of_structure, returned_names, section_declarations}
 use Rattle.block_layout.specs.Cells.{cells_of, is_temp, with_first_cell_opening, section_cells, returned_cells, temps_of}
-use Rattle.block_layout.specs.Rule21.{broken_21}
-use Rattle.block_layout.specs.Rule56.{broken_56}
+use Rattle.block_layout.specs.Rule21.{refusals_21}
+use Rattle.block_layout.specs.Rule56.{refusals_56}
 use Rattle.block_layout.specs.Types.{Types}
 use Rattle.block_layout.specs.DeclarationFacts.{IsDeclaredByBlock, AreOpen, IsDeclaredBySections, SectionAdded, refusals_by_facts, cells_by, deep_by, open_list_of, twice_by, facts_of_declarations}
 use Rattle.block_layout.specs.Measures.{capped_depth}
@@ -36,8 +36,8 @@ pub record AreSectionsLeft (y : Types) (b : Block) (ps : List Part) (made : Bloc
   pub components : made.components.items ++ section_cells y (of_sections b) (λ k. not (is_temp k)) now ps
       ≡ returned_cells b.result ++ section_cells y (of_sections b) (λ k. not (is_temp k)) [] b.parts
   pub temps : made.temps.items ++ section_cells y (of_sections b) is_temp now ps ≡ temps_of y b
-  pub twice : lesser made.twice (least (refusals_in_rest (broken_21 (of_sections b)) now (flat_map (λ p. p.items) ps))) ≡ least (refusals_in_list (broken_21 (of_sections b)) (section_declarations b))
-  pub deep : lesser made.deep (least (refusals_in_rest (broken_56 y (of_sections b)) now (flat_map (λ p. p.items) ps))) ≡ least (refusals_in_list (broken_56 y (of_sections b)) (section_declarations b))
+  pub twice : lesser made.twice (least (refusals_in_rest (refusals_21 (of_sections b)) now (flat_map (λ p. p.items) ps))) ≡ least (refusals_in_list (refusals_21 (of_sections b)) (section_declarations b))
+  pub deep : lesser made.deep (least (refusals_in_rest (refusals_56 y (of_sections b)) now (flat_map (λ p. p.items) ps))) ≡ least (refusals_in_list (refusals_56 y (of_sections b)) (section_declarations b))
 
 rest_next : (broken : List Declaration → Declaration → List Refusal) (now items more : List Declaration) (found next whole : Option Refusal) →
     next ≡ lesser found (least (refusals_in_rest broken now items)) → lesser found (least (refusals_in_rest broken now (items ++ more))) ≡ whole →
@@ -62,8 +62,8 @@ sections_left_next y b p ps made new open_ now_open left added =
       temps = ap (λ (l : List Cell). l ++ section_cells y (of_sections b) is_temp (declarations_before_next left.now p.items) ps) one.temps
           ∙ append_assoc made.temps.items (if is_temp p.kind then with_first_cell_opening (cells_of y (of_sections b) p.kind left.now p.items) else []) (section_cells y (of_sections b) is_temp (declarations_before_next left.now p.items) ps)
           ∙ left.temps;
-      twice = rest_next (broken_21 (of_sections b)) left.now p.items (flat_map (λ p. p.items) ps) made.twice new.twice _ one.twice left.twice;
-      deep = rest_next (broken_56 y (of_sections b)) left.now p.items (flat_map (λ p. p.items) ps) made.deep new.deep _ one.deep left.deep;
+      twice = rest_next (refusals_21 (of_sections b)) left.now p.items (flat_map (λ p. p.items) ps) made.twice new.twice _ one.twice left.twice;
+      deep = rest_next (refusals_56 y (of_sections b)) left.now p.items (flat_map (λ p. p.items) ps) made.deep new.deep _ one.deep left.deep;
     }
   where
     turned : (t : Bool) (l : List Cell) → (if t then [] else l) ≡ (if not t then l else [])
@@ -105,8 +105,8 @@ sections_left_first y b made f open_ is_open names depth sound components temps 
   lists = subst (λ (l : List OpenList). AreOpen y (of_sections b) [] l) (sym is_open) (first_open y (of_sections b) f names depth sound);
   components = ap (λ (l : List Cell). l ++ section_cells y (of_sections b) (λ k. not (is_temp k)) [] b.parts) components;
   temps = ap (λ (l : List Cell). l ++ section_cells y (of_sections b) is_temp [] b.parts) temps;
-  twice = ap (λ (o : Option Refusal). lesser o (least (refusals_in_list (broken_21 (of_sections b)) (section_declarations b)))) twice ∙ lesser_first _;
-  deep = ap (λ (o : Option Refusal). lesser o (least (refusals_in_list (broken_56 y (of_sections b)) (section_declarations b)))) deep_ ∙ lesser_first _;
+  twice = ap (λ (o : Option Refusal). lesser o (least (refusals_in_list (refusals_21 (of_sections b)) (section_declarations b)))) twice ∙ lesser_first _;
+  deep = ap (λ (o : Option Refusal). lesser o (least (refusals_in_list (refusals_56 y (of_sections b)) (section_declarations b)))) deep_ ∙ lesser_first _;
 }
 
 pub declared_all : (y : Types) (b : Block) (made new : BlockCells) (vs : List DeclarationFacts) → IsDeclaredBySections y b made → vs ≡ facts_of_declarations y of_structure [] b.components →
@@ -118,13 +118,13 @@ declared_all y b made new vs sections are components temps twice deep_ = record 
       (ap (λ (l : List DeclarationFacts). cells_by y part.Static true l b.components) are ∙ cells_begun y of_structure part.Static [] b.components);
   temps = ap (λ v. v.items) temps ∙ sections.temps;
   twice = twice ∙ ap (λ (o : Option Refusal). lesser o (least (refusals_by_facts twice_by vs b.components))) sections.twice
-      ∙ ap (λ (l : List Refusal). lesser (least (refusals_in_list (broken_21 (of_sections b)) (section_declarations b))) (least l))
+      ∙ ap (λ (l : List Refusal). lesser (least (refusals_in_list (refusals_21 (of_sections b)) (section_declarations b))) (least l))
       (ap (λ (l : List DeclarationFacts). refusals_by_facts twice_by l b.components) are ∙ twice_refusals_same y of_structure [] b.components)
-      ∙ sym (least-append (refusals_in_list (broken_21 (of_sections b)) (section_declarations b)) (refusals_in_list (broken_21 of_structure) b.components));
+      ∙ sym (least-append (refusals_in_list (refusals_21 (of_sections b)) (section_declarations b)) (refusals_in_list (refusals_21 of_structure) b.components));
   deep = deep_ ∙ ap (λ (o : Option Refusal). lesser o (least (refusals_by_facts deep_by vs b.components))) sections.deep
-      ∙ ap (λ (l : List Refusal). lesser (least (refusals_in_list (broken_56 y (of_sections b)) (section_declarations b))) (least l))
+      ∙ ap (λ (l : List Refusal). lesser (least (refusals_in_list (refusals_56 y (of_sections b)) (section_declarations b))) (least l))
       (ap (λ (l : List DeclarationFacts). refusals_by_facts deep_by l b.components) are ∙ deep_refusals_same y of_structure [] b.components)
-      ∙ sym (least-append (refusals_in_list (broken_56 y (of_sections b)) (section_declarations b)) (refusals_in_list (broken_56 y of_structure) b.components));
+      ∙ sym (least-append (refusals_in_list (refusals_56 y (of_sections b)) (section_declarations b)) (refusals_in_list (refusals_56 y of_structure) b.components));
 }
 
 pub sections_left_at : (y : Types) (b : Block) (made : BlockCells) (open_ : List OpenList) (ps qs : List Part) → ps ≡ qs → AreSectionsLeft y b ps made open_ → AreSectionsLeft y b qs made open_

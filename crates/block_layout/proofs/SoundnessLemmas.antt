@@ -11,11 +11,11 @@ use Rattle.stl_ast.specs.declared.declarations.ElementType.{ElementType}
 use Rattle.stl_ast.specs.declared.declarations.Simple.{Simple}
 use Rattle.stl_ast.specs.declared.blocks.PartKind.TheVariants as part
 use Rattle.block_layout.specs.Around.{refusals_in_block, Outside, structures_around, refusals_in_list, refusals_in_rest, of_sections, of_structure, declarations_before_next, section_declarations}
-use Rattle.block_layout.specs.Rule21.{broken_21, is_twice}
-use Rattle.block_layout.specs.Rule23.{broken_23}
-use Rattle.block_layout.specs.Rule41.{broken_41}
-use Rattle.block_layout.specs.Rule42.{broken_42}
-use Rattle.block_layout.specs.Rule56.{broken_56, depth_around, element_depth, is_too_deep, depth_of_holders, own_depth}
+use Rattle.block_layout.specs.Rule21.{refusals_21, is_twice}
+use Rattle.block_layout.specs.Rule23.{refusals_23}
+use Rattle.block_layout.specs.Rule41.{refusals_41}
+use Rattle.block_layout.specs.Rule42.{refusals_42}
+use Rattle.block_layout.specs.Rule56.{refusals_56, depth_around, element_depth, is_too_deep, depth_of_holders, own_depth}
 use Rattle.block_layout.specs.Types.{Types}
 use Rattle.block_layout.specs.declared.blocks.BlockLayout.{BlockLayout}
 use Rattle.block_layout.specs.Cells.{breaks_rule, cell_of, cells_of, components_of, is_temp, layout_element, with_first_cell_opening, returned_cells, section_cells, temps_of, uses_oversized}
@@ -40,24 +40,24 @@ five_false : (a b c d e : Bool) → a ≡ false → b ≡ false → c ≡ false 
 five_false a b c d e f g h i j = rw f (rw g (rw h (rw i j)))
 
 unbroken_of : (y : Types) (o : Outside) (before ds : List Declaration)
-    → refusals_in_rest (broken_21 o) before ds ≡ [] → refusals_in_rest (broken_23 y o) before ds ≡ []
-    → refusals_in_rest (broken_41 o) before ds ≡ [] → refusals_in_rest (broken_42 o) before ds ≡ []
-    → refusals_in_rest (broken_56 y o) before ds ≡ [] → Unbroken y o before ds
+    → refusals_in_rest (refusals_21 o) before ds ≡ [] → refusals_in_rest (refusals_23 y o) before ds ≡ []
+    → refusals_in_rest (refusals_41 o) before ds ≡ [] → refusals_in_rest (refusals_42 o) before ds ≡ []
+    → refusals_in_rest (refusals_56 y o) before ds ≡ [] → Unbroken y o before ds
 unbroken_of y o before [] f g h i j = tt
 unbroken_of y o before (d ∷ ds) f g h i j = (
   five_false (is_twice o before d) (is_unknown_type y d.of.of) (not (init_fits d))
       (has_upside_down d) (is_too_deep y o before d)
-      (not_broken (is_twice o before d) d.line 21 (none_left (broken_21 o before d) (refusals_in_rest (broken_21 o) (d ∷ before) ds) f))
-      (not_broken (is_unknown_type y d.of.of) d.line 23 (none_left (broken_23 y o before d) (refusals_in_rest (broken_23 y o) (d ∷ before) ds) g))
-      (not_broken (not (init_fits d)) d.line 41 (none_left (broken_41 o before d) (refusals_in_rest (broken_41 o) (d ∷ before) ds) h))
-      (not_broken (has_upside_down d) d.line 42 (none_left (broken_42 o before d) (refusals_in_rest (broken_42 o) (d ∷ before) ds) i))
-      (not_broken (is_too_deep y o before d) d.line 56 (none_left (broken_56 y o before d) (refusals_in_rest (broken_56 y o) (d ∷ before) ds) j)),
+      (not_broken (is_twice o before d) d.line 21 (none_left (refusals_21 o before d) (refusals_in_rest (refusals_21 o) (d ∷ before) ds) f))
+      (not_broken (is_unknown_type y d.of.of) d.line 23 (none_left (refusals_23 y o before d) (refusals_in_rest (refusals_23 y o) (d ∷ before) ds) g))
+      (not_broken (not (init_fits d)) d.line 41 (none_left (refusals_41 o before d) (refusals_in_rest (refusals_41 o) (d ∷ before) ds) h))
+      (not_broken (has_upside_down d) d.line 42 (none_left (refusals_42 o before d) (refusals_in_rest (refusals_42 o) (d ∷ before) ds) i))
+      (not_broken (is_too_deep y o before d) d.line 56 (none_left (refusals_56 y o before d) (refusals_in_rest (refusals_56 y o) (d ∷ before) ds) j)),
   unbroken_of y o (d ∷ before) ds
-      (none_right (broken_21 o before d) (refusals_in_rest (broken_21 o) (d ∷ before) ds) f)
-      (none_right (broken_23 y o before d) (refusals_in_rest (broken_23 y o) (d ∷ before) ds) g)
-      (none_right (broken_41 o before d) (refusals_in_rest (broken_41 o) (d ∷ before) ds) h)
-      (none_right (broken_42 o before d) (refusals_in_rest (broken_42 o) (d ∷ before) ds) i)
-      (none_right (broken_56 y o before d) (refusals_in_rest (broken_56 y o) (d ∷ before) ds) j),
+      (none_right (refusals_21 o before d) (refusals_in_rest (refusals_21 o) (d ∷ before) ds) f)
+      (none_right (refusals_23 y o before d) (refusals_in_rest (refusals_23 y o) (d ∷ before) ds) g)
+      (none_right (refusals_41 o before d) (refusals_in_rest (refusals_41 o) (d ∷ before) ds) h)
+      (none_right (refusals_42 o before d) (refusals_in_rest (refusals_42 o) (d ∷ before) ds) i)
+      (none_right (refusals_56 y o before d) (refusals_in_rest (refusals_56 y o) (d ∷ before) ds) j),
 )
 
 pub unbroken_front : (y : Types) (o : Outside) (before xs ys : List Declaration)
@@ -202,11 +202,11 @@ returned_right l (Some kind) = (record { sound = refl; settled = tt }, tt)
 
 -- the declarations of a block break none of their rules
 pub record AreSoundDeclarations (y : Types) (b : Block) : Type 0 where
-  pub by_21 : refusals_in_block broken_21 b ≡ []
-  pub by_23 : refusals_in_block (broken_23 y) b ≡ []
-  pub by_41 : refusals_in_block broken_41 b ≡ []
-  pub by_42 : refusals_in_block broken_42 b ≡ []
-  pub by_56 : refusals_in_block (broken_56 y) b ≡ []
+  pub by_21 : refusals_in_block refusals_21 b ≡ []
+  pub by_23 : refusals_in_block (refusals_23 y) b ≡ []
+  pub by_41 : refusals_in_block refusals_41 b ≡ []
+  pub by_42 : refusals_in_block refusals_42 b ≡ []
+  pub by_56 : refusals_in_block (refusals_56 y) b ≡ []
 
 -- the declarations of a block, in its sections and in its structure
 pub record IsUnbroken (y : Types) (b : Block) : Type 0 where
@@ -216,17 +216,17 @@ pub record IsUnbroken (y : Types) (b : Block) : Type 0 where
 pub block_unbroken : (y : Types) (b : Block) → AreSoundDeclarations y b → IsUnbroken y b
 block_unbroken y b h = record {
   sections = unbroken_of y (of_sections b) [] (section_declarations b)
-      (none_left (refusals_in_list (broken_21 (of_sections b)) (section_declarations b)) (refusals_in_list (broken_21 of_structure) b.components) h.by_21)
-      (none_left (refusals_in_list (broken_23 y (of_sections b)) (section_declarations b)) (refusals_in_list (broken_23 y of_structure) b.components) h.by_23)
-      (none_left (refusals_in_list (broken_41 (of_sections b)) (section_declarations b)) (refusals_in_list (broken_41 of_structure) b.components) h.by_41)
-      (none_left (refusals_in_list (broken_42 (of_sections b)) (section_declarations b)) (refusals_in_list (broken_42 of_structure) b.components) h.by_42)
-      (none_left (refusals_in_list (broken_56 y (of_sections b)) (section_declarations b)) (refusals_in_list (broken_56 y of_structure) b.components) h.by_56);
+      (none_left (refusals_in_list (refusals_21 (of_sections b)) (section_declarations b)) (refusals_in_list (refusals_21 of_structure) b.components) h.by_21)
+      (none_left (refusals_in_list (refusals_23 y (of_sections b)) (section_declarations b)) (refusals_in_list (refusals_23 y of_structure) b.components) h.by_23)
+      (none_left (refusals_in_list (refusals_41 (of_sections b)) (section_declarations b)) (refusals_in_list (refusals_41 of_structure) b.components) h.by_41)
+      (none_left (refusals_in_list (refusals_42 (of_sections b)) (section_declarations b)) (refusals_in_list (refusals_42 of_structure) b.components) h.by_42)
+      (none_left (refusals_in_list (refusals_56 y (of_sections b)) (section_declarations b)) (refusals_in_list (refusals_56 y of_structure) b.components) h.by_56);
   structure = unbroken_of y of_structure [] b.components
-      (none_right (refusals_in_list (broken_21 (of_sections b)) (section_declarations b)) (refusals_in_list (broken_21 of_structure) b.components) h.by_21)
-      (none_right (refusals_in_list (broken_23 y (of_sections b)) (section_declarations b)) (refusals_in_list (broken_23 y of_structure) b.components) h.by_23)
-      (none_right (refusals_in_list (broken_41 (of_sections b)) (section_declarations b)) (refusals_in_list (broken_41 of_structure) b.components) h.by_41)
-      (none_right (refusals_in_list (broken_42 (of_sections b)) (section_declarations b)) (refusals_in_list (broken_42 of_structure) b.components) h.by_42)
-      (none_right (refusals_in_list (broken_56 y (of_sections b)) (section_declarations b)) (refusals_in_list (broken_56 y of_structure) b.components) h.by_56);
+      (none_right (refusals_in_list (refusals_21 (of_sections b)) (section_declarations b)) (refusals_in_list (refusals_21 of_structure) b.components) h.by_21)
+      (none_right (refusals_in_list (refusals_23 y (of_sections b)) (section_declarations b)) (refusals_in_list (refusals_23 y of_structure) b.components) h.by_23)
+      (none_right (refusals_in_list (refusals_41 (of_sections b)) (section_declarations b)) (refusals_in_list (refusals_41 of_structure) b.components) h.by_41)
+      (none_right (refusals_in_list (refusals_42 (of_sections b)) (section_declarations b)) (refusals_in_list (refusals_42 of_structure) b.components) h.by_42)
+      (none_right (refusals_in_list (refusals_56 y (of_sections b)) (section_declarations b)) (refusals_in_list (refusals_56 y of_structure) b.components) h.by_56);
 }
 
 pub components_right : (l : List BlockLayout) (y : Types) (b : Block) → Settles l y → IsUnbroken y b

@@ -22,13 +22,13 @@ use Rattle.block_layout.specs.declared.cells.Cell.{Cell}
 use Rattle.block_layout.specs.declared.cells.Element.{Element}
 use Rattle.block_layout.specs.declared.cells.Element.TheVariants.{Plain, Structure, DateAndTime, Udt, Unknown}
 use Rattle.block_layout.specs.declared.members.Member.{Member}
-use Rattle.block_layout.specs.declared.walks.ComponentAt.{ComponentAt}
-use Rattle.block_layout.specs.declared.walks.PathEnd.{PathEnd}
-use Rattle.block_layout.specs.declared.walks.PathEnd.TheVariants as path_end
+use Rattle.block_layout.specs.declared.path_ends.ComponentAt.{ComponentAt}
+use Rattle.block_layout.specs.declared.path_ends.PathEnd.{PathEnd}
+use Rattle.block_layout.specs.declared.path_ends.PathEnd.TheVariants as path_end
 use Rattle.block_layout.specs.Blocks.{known_block}
 use Rattle.block_layout.specs.Members.{component_of_name}
 use Rattle.block_layout.specs.Offsets.{component_place as data_component, place_in_section, place_of_path, place_at, elementary_place, place_at_path_end, variable_place, width_of}
-use Rattle.block_layout.specs.Paths.{cells_at, elementary_at, path_end_at_cell, path_end_at_member, holds_where_reached, path_end_and_then, if_whole, path_end_by_index, indexed_behind, is_beyond, is_beyond_in, is_beyond_left, is_checkable, leaves_array, leaves_from, leaves_structure, path_end_by_name, named_behind, named_in, outermost_path_end, step_is_beyond, path_end_by_step, structure_of, path_end_behind, path_end_in_data_block, path_end_in_block, path_end_or_unjudged, path_end_in_bounds}
+use Rattle.block_layout.specs.Paths.{cells_at, elementary_at, path_end_at_cell, path_end_at_member, holds_where_reached, path_end_and_then, if_whole, path_end_by_index, path_end_behind_index, is_beyond, is_beyond_in, is_beyond_left, is_checkable, leaves_array, leaves_from, leaves_structure, path_end_by_name, path_end_behind_name, path_end_in_component, outermost_path_end, step_is_beyond, path_end_by_step, structure_of, path_end_behind, path_end_in_data_block, path_end_in_block, path_end_or_unjudged, path_end_in_bounds}
 use Rattle.block_layout.specs.Places.{IsLeastPlace}
 use Rattle.block_layout.specs.Sizes.{alignment, array_bits, capped_size, cell_bits, element_of, largest_size, end_behind_cell, next_multiple}
 use Rattle.block_layout.specs.Sums.{EndsAt, NamesComponent, NamesComponentOf, IndexesElement, IsInside, StepLeadsTo, LeadsFrom, LeadsTo, LeadsToOne, LeadsToPlace, LiesAt, OffsetsAreSums, declaring_block, is_temporary}
@@ -177,7 +177,7 @@ module _ (l : List BlockLayout) where
   leads_outermost block temporary begin name to near e =
       leads_found block temporary 0 0 begin name to near (component_of_name 0 0 0 name (cells_at l block temporary)) refl e
 
-  leads_in : (s : ComponentAt) (name : List ℕ) (c : Cell) (of : Element) (to : ComponentAt) → to.offset < largest_size → named_in l s name c of ≡ path_end.Reaches to →
+  leads_in : (s : ComponentAt) (name : List ℕ) (c : Cell) (of : Element) (to : ComponentAt) → to.offset < largest_size → path_end_in_component l s name c of ≡ path_end.Reaches to →
       NamesComponentOf l s name c of to × (s.offset < largest_size)
   leads_in s name c Structure to near e =
       leads_found s.block s.temporary (s.place + 1) (c.level + 1) s.offset name to near
@@ -192,13 +192,13 @@ module _ (l : List BlockLayout) where
   leads_named s name to near e = by (slice_get (cells_at l s.block s.temporary) s.place) refl e
     where
       whole : (c : Cell) → slice_get (cells_at l s.block s.temporary) s.place ≡ Some c → (t : Bool) → nat_eq s.depth (length c.bounds) ≡ t →
-          (if t then named_in l s name c c.of else path_end.Unknown) ≡ path_end.Reaches to → IsInside l s name to × (s.offset < largest_size)
+          (if t then path_end_in_component l s name c c.of else path_end.Unknown) ≡ path_end.Reaches to → IsInside l s name to × (s.offset < largest_size)
       whole c there true is k =
           let leads = leads_in s name c c.of to near k in
           (record { cell = c; there = there; indexed = eqb-true s.depth (length c.bounds) is; leads = leads.0 }, leads.1)
       whole c there false is k = absurd cc
 
-      by : (o : Option Cell) → slice_get (cells_at l s.block s.temporary) s.place ≡ o → named_behind l s name o ≡ path_end.Reaches to → IsInside l s name to × (s.offset < largest_size)
+      by : (o : Option Cell) → slice_get (cells_at l s.block s.temporary) s.place ≡ o → path_end_behind_name l s name o ≡ path_end.Reaches to → IsInside l s name to × (s.offset < largest_size)
       by None there k = absurd cc
       by (Some c) there k = whole c there (nat_eq s.depth (length c.bounds)) refl k
 
@@ -237,7 +237,7 @@ module _ (l : List BlockLayout) where
           (ap (λ (t : Bool). if t then path_end.Reaches (record s { depth = s.depth + 1 }) else path_end.Reaches (element c b)) (sym inside) ∙ k))
 
       by : (o : Option Cell) → slice_get (cells_at l s.block s.temporary) s.place ≡ o → is_beyond_in s.depth o at ≡ false →
-          indexed_behind s (cells_at l s.block s.temporary) at o ≡ path_end.Reaches to → IndexesElement l s at to × (s.offset < largest_size)
+          path_end_behind_index s (cells_at l s.block s.temporary) at o ≡ path_end.Reaches to → IndexesElement l s at to × (s.offset < largest_size)
       by None there inside k = absurd cc
       by (Some c) there inside k = bounded c there (slice_get c.bounds s.depth) refl inside k
 

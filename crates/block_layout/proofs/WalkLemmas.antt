@@ -12,11 +12,11 @@ use Rattle.block_layout.specs.declared.cells.Cell.{Cell}
 use Rattle.block_layout.specs.declared.cells.Element.{Element}
 use Rattle.block_layout.specs.declared.cells.Element.TheVariants.{Plain, Structure, DateAndTime, Udt, Unknown}
 use Rattle.block_layout.specs.declared.members.Member.{Member}
-use Rattle.block_layout.specs.declared.walks.ComponentAt.{ComponentAt}
-use Rattle.block_layout.specs.declared.walks.PathEnd.{PathEnd}
-use Rattle.block_layout.specs.declared.walks.PathEnd.TheVariants as path_end
+use Rattle.block_layout.specs.declared.path_ends.ComponentAt.{ComponentAt}
+use Rattle.block_layout.specs.declared.path_ends.PathEnd.{PathEnd}
+use Rattle.block_layout.specs.declared.path_ends.PathEnd.TheVariants as path_end
 use Rattle.block_layout.specs.Members.{component_of_name}
-use Rattle.block_layout.specs.Paths.{IsSoundAt, ReachesSound, cells_at, path_end_at_cell, path_end_at_member, path_end_and_then, path_end_by_index, indexed_behind, is_beyond, path_end_by_name, named_behind, named_in, outermost_path_end, path_end_by_step, path_end_behind, path_end_in_bounds}
+use Rattle.block_layout.specs.Paths.{IsSoundAt, ReachesSound, cells_at, path_end_at_cell, path_end_at_member, path_end_and_then, path_end_by_index, path_end_behind_index, is_beyond, path_end_by_name, path_end_behind_name, path_end_in_component, outermost_path_end, path_end_by_step, path_end_behind, path_end_in_bounds}
 
 if_entered : (l : List BlockLayout) (block : ℕ) (temporary : Bool) (place offset : ℕ) (c : Cell) (sound : Bool) → c.sound ≡ sound → slice_get (cells_at l block temporary) place ≡ Some c →
     ReachesSound l (if sound then path_end.Reaches (record { block = block; temporary = temporary; place = place; depth = 0; offset = offset }) else path_end.Unjudged)
@@ -38,7 +38,7 @@ outermost_sound l block temporary offset name = found_sound l block temporary 0 
 pub outermost_reaches : (l : List BlockLayout) (block : ℕ) (temporary : Bool) (offset : ℕ) (name : List ℕ) (w : PathEnd) → w ≡ outermost_path_end l block temporary offset name → ReachesSound l w
 outermost_reaches l block temporary offset name w is = subst (λ (x : PathEnd). ReachesSound l x) (sym is) (outermost_sound l block temporary offset name)
 
-in_sound : (l : List BlockLayout) (component : ComponentAt) (name : List ℕ) (c : Cell) (of : Element) → ReachesSound l (named_in l component name c of)
+in_sound : (l : List BlockLayout) (component : ComponentAt) (name : List ℕ) (c : Cell) (of : Element) → ReachesSound l (path_end_in_component l component name c of)
 in_sound l component name c (Plain kind) = tt
 in_sound l component name c Structure = found_sound l component.block component.temporary (component.place + 1) component.offset _
 in_sound l component name c DateAndTime = tt
@@ -49,15 +49,15 @@ if_sound : (l : List BlockLayout) (t : Bool) (v w : PathEnd) → ReachesSound l 
 if_sound l true v w a b = a
 if_sound l false v w a b = b
 
-behind_sound : (l : List BlockLayout) (component : ComponentAt) (name : List ℕ) (o : Option Cell) → ReachesSound l (named_behind l component name o)
+behind_sound : (l : List BlockLayout) (component : ComponentAt) (name : List ℕ) (o : Option Cell) → ReachesSound l (path_end_behind_name l component name o)
 behind_sound l component name None = tt
-behind_sound l component name (Some c) = if_sound l (nat_eq component.depth (length c.bounds)) (named_in l component name c c.of) path_end.Unknown (in_sound l component name c c.of) tt
+behind_sound l component name (Some c) = if_sound l (nat_eq component.depth (length c.bounds)) (path_end_in_component l component name c c.of) path_end.Unknown (in_sound l component name c c.of) tt
 
 within_sound : (l : List BlockLayout) (component : ComponentAt) (c : Cell) (behind : List Cell) (at : ℤ) (o : Option Bounds) → IsSoundAt l component → ReachesSound l (path_end_in_bounds component c behind at o)
 within_sound l component c behind at None sound = tt
 within_sound l component c behind at (Some b) sound = if_sound l (is_beyond b at) _ _ sound sound
 
-index_sound : (l : List BlockLayout) (component : ComponentAt) (cells : List Cell) (at : ℤ) (o : Option Cell) → IsSoundAt l component → ReachesSound l (indexed_behind component cells at o)
+index_sound : (l : List BlockLayout) (component : ComponentAt) (cells : List Cell) (at : ℤ) (o : Option Cell) → IsSoundAt l component → ReachesSound l (path_end_behind_index component cells at o)
 index_sound l component cells at None sound = tt
 index_sound l component cells at (Some c) sound = within_sound l component c _ at _ sound
 

@@ -21,5 +21,5 @@ rule_by fault.UnfitValue = 41
 rule_by fault.UpsideDown = 42
 
 -- the refusal of a declaration that breaks this one of the rules, at its line
-abbrev pub broken_by : Types → DeclarationFault → Declaration → List Refusal
-broken_by y a d = broken_if (breaks_by y a d) d.line (rule_by a)
+abbrev pub refusals_by : Types → DeclarationFault → Declaration → List Refusal
+refusals_by y a d = broken_if (breaks_by y a d) d.line (rule_by a)

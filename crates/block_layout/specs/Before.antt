@@ -4,7 +4,7 @@ use Rattle.stl_ast.specs.declared.blocks.Block.{Block}
 use Rattle.block_layout.specs.Rule53.{data_blocks}
 use Rattle.block_layout.specs.Rule54.{total_data_length}
 use Rattle.block_layout.specs.Types.{Types}
-use Rattle.block_layout.specs.declared.broken.BlocksBefore.{BlocksBefore}
+use Rattle.block_layout.specs.declared.breaches.BlocksBefore.{BlocksBefore}
 
 -- of the blocks before one, how many there are, how many of them are data blocks, and the bytes of
 -- these together, or the greatest number of 64 bits

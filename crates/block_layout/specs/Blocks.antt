@@ -33,7 +33,7 @@ is_ob_number n =
     || nat_eq n 80 || nat_eq n 85 || nat_eq n 100 || nat_eq n 121 || nat_eq n 122
 
 -- the numbers of blocks: 0 to 2047 of functions and function blocks, 1 to 2047 of data blocks and
--- data types
+-- data types; of organization blocks those of the profile, of system functions none
 abbrev pub is_block_number : BlockKind → ℕ → Bool
 is_block_number kind.Ob n = is_ob_number n
 is_block_number kind.Fc n = lies_within 0 2047 n
@@ -43,15 +43,15 @@ is_block_number kind.Udt n = lies_within 1 2047 n
 is_block_number kind.Sfc n = false
 
 -- the block that the target of a symbol is; none where it is something else
-abbrev pub block_of : Option Target → Option BlockId
-block_of (Some (target.Block id)) = Some id
-block_of _ = None
+abbrev pub block_of_symbol_target : Option Target → Option BlockId
+block_of_symbol_target (Some (target.Block id)) = Some id
+block_of_symbol_target _ = None
 
 -- the block that a name means: its number, or that of the symbol
 abbrev pub named_block : List Symbol → BlockName → Option BlockId
 named_block symbols (Number id) = Some id
 named_block symbols (Quoted name) =
-    block_of (option_map (λ s. s.target) (symbol_named name symbols))
+    block_of_symbol_target (option_map (λ s. s.target) (symbol_named name symbols))
 
 -- a block, where it is of one of these kinds; none where it isn't
 abbrev pub of_kind : (BlockKind → Bool) → Option BlockId → Option BlockId

@@ -10,8 +10,8 @@ use Rattle.block_layout.specs.Around.{Outside, structures_around, declarations_b
 use Rattle.block_layout.specs.Cells.{cells_of, with_first_cell_opening, is_temp, section_cells, returned_cells, components_of, temps_of, breaks_rule, is_sound, layout_element, preset_of, uses_oversized}
 use Rattle.block_layout.specs.Declarations.{is_unknown_type, has_upside_down, init_fits}
 use Rattle.block_layout.specs.Measures.{capped_depth}
-use Rattle.block_layout.specs.Rule21.{broken_21, is_twice, names_before}
-use Rattle.block_layout.specs.Rule56.{broken_56, own_depth, depth_around, is_too_deep}
+use Rattle.block_layout.specs.Rule21.{refusals_21, is_twice, names_before}
+use Rattle.block_layout.specs.Rule56.{refusals_56, own_depth, depth_around, is_too_deep}
 use Rattle.block_layout.specs.Types.{Types}
 use Rattle.plc_base.specs.declared.refusals.Refusal.{Refusal}
 use Rattle.plc_base.specs.Least.{broken_if, least, lesser}
@@ -99,7 +99,7 @@ pub record AreOpen (y : Types) (o : Outside) (before : List Declaration)
 
 -- `vs` are the facts of the declarations `ds`, which follow those in `before`, and the lists
 -- `open_` are open behind them
-pub record CheckedOnto (y : Types) (o : Outside) (before ds : List Declaration)
+pub record AreFactsOnto (y : Types) (o : Outside) (before ds : List Declaration)
     (vs : List DeclarationFacts)
     (open_ : List OpenList) : Type 0 where
   -- the facts of each of the declarations `ds`, in their order
@@ -160,9 +160,9 @@ pub record SectionAdded (y : Types) (o : Outside) (before : List Declaration) (p
       ++ (if is_temp p.kind then with_first_cell_opening (cells_of y o p.kind before p.items)
       else [])
   -- the least refusal by rule 21, of the sections before it and of its own declarations
-  pub twice : new.twice ≡ lesser old.twice (least (refusals_in_rest (broken_21 o) before p.items))
+  pub twice : new.twice ≡ lesser old.twice (least (refusals_in_rest (refusals_21 o) before p.items))
   -- the least refusal by rule 56, of the sections before it and of its own declarations
-  pub deep : new.deep ≡ lesser old.deep (least (refusals_in_rest (broken_56 y o) before p.items))
+  pub deep : new.deep ≡ lesser old.deep (least (refusals_in_rest (refusals_56 y o) before p.items))
 
 -- what the sections of a block come to
 pub record IsDeclaredBySections (y : Types) (b : Block) (made : BlockCells) : Type 0 where
@@ -173,10 +173,10 @@ pub record IsDeclaredBySections (y : Types) (b : Block) (made : BlockCells) : Ty
   pub temps : made.temps.items ≡ temps_of y b
   -- the least refusal by rule 21 of the declarations in the sections
   pub twice : made.twice
-      ≡ least (refusals_in_list (broken_21 (of_sections b)) (section_declarations b))
+      ≡ least (refusals_in_list (refusals_21 (of_sections b)) (section_declarations b))
   -- the least refusal by rule 56 of the declarations in the sections
   pub deep : made.deep
-      ≡ least (refusals_in_list (broken_56 y (of_sections b)) (section_declarations b))
+      ≡ least (refusals_in_list (refusals_56 y (of_sections b)) (section_declarations b))
 
 -- what the declarations of a block come to
 pub record IsDeclaredByBlock (y : Types) (b : Block) (made : BlockCells) : Type 0 where
@@ -185,9 +185,9 @@ pub record IsDeclaredByBlock (y : Types) (b : Block) (made : BlockCells) : Type 
   -- the cells of the temporary variables
   pub temps : made.temps.items ≡ temps_of y b
   -- the least refusal by rule 21 of all declarations of the block
-  pub twice : made.twice ≡ least (refusals_in_block broken_21 b)
+  pub twice : made.twice ≡ least (refusals_in_block refusals_21 b)
   -- the least refusal by rule 56 of all declarations of the block
-  pub deep : made.deep ≡ least (refusals_in_block (broken_56 y) b)
+  pub deep : made.deep ≡ least (refusals_in_block (refusals_56 y) b)
 
 -- the deepest place of a structure, by the facts of its components
 abbrev pub greatest_reach : List DeclarationFacts → ℕ

@@ -99,9 +99,9 @@ number_from n (b ∷ bs) = number_from (256 * n + b) bs
 
 -- a number, or 0 where there is none: an S5TIME above 9,990,000 ms has no word (no token is, by
 -- rule 4)
-abbrev pub or_0 : Option ℕ → ℕ
-or_0 None = 0
-or_0 (Some n) = n
+abbrev pub number_or_zero : Option ℕ → ℕ
+number_or_zero None = 0
+number_or_zero (Some n) = n
 
 -- the bits of a constant that fits: a count is three BCD digits, an S5TIME its word
 unfoldable pub bits_of : Literal → ℕ
@@ -114,6 +114,6 @@ bits_of (literal.Dword value) = value
 bits_of (literal.Long value) = twos_complement_bits 32 value
 bits_of (literal.Count value) = bcd_digits 3 value
 bits_of (literal.Time ms) = twos_complement_bits 32 ms
-bits_of (literal.S5time ms) = or_0 (s5time_of_ms ms)
+bits_of (literal.S5time ms) = number_or_zero (s5time_of_ms ms)
 bits_of (literal.Characters bytes) = number_from 0 bytes
 bits_of (literal.Bytes bytes) = number_from 0 bytes

@@ -12,8 +12,8 @@ use Rattle.block_layout.specs.declared.cells.Cell.{Cell}
 use Rattle.block_layout.specs.declared.cells.Element.{Element}
 use Rattle.block_layout.specs.declared.cells.Element.TheVariants.{Plain, Structure, Udt}
 use Rattle.block_layout.specs.declared.cells.Preset.{Preset}
-use Rattle.block_layout.specs.declared.walks.PathEnd.{PathEnd}
-use Rattle.block_layout.specs.declared.walks.PathEnd.TheVariants as path_end
+use Rattle.block_layout.specs.declared.path_ends.PathEnd.{PathEnd}
+use Rattle.block_layout.specs.declared.path_ends.PathEnd.TheVariants as path_end
 use Rattle.block_layout.specs.Declarations.{element_count}
 use Rattle.block_layout.specs.Fits.{bits_of}
 use Rattle.block_layout.specs.Measures.{measuring_rounds}
@@ -135,7 +135,7 @@ abbrev pub big_endian_bytes : (count value : ℕ) → List ℕ
 big_endian_bytes zero value = []
 big_endian_bytes (suc n) value = value / 256 ^ n % 256 ∷ big_endian_bytes n value
 
--- bytes from a place on, as far as there are so many
+-- bytes with others written over them from a place on; what lies past the end is cut off
 abbrev pub with_bytes : List ℕ → (at : ℕ) → List ℕ → List ℕ
 with_bytes bytes at [] = bytes
 with_bytes bytes at (b ∷ bs) = with_bytes (slice_set bytes at b) (at + 1) bs

@@ -28,6 +28,7 @@ use Rattle.block_layout.specs.Types.{Types}
 abbrev pub named_type : Option TypeTree → Option BlockName
 named_type None = None
 named_type (Some t) = named_element t.of where
+  -- the data type that an element type names
   named_element : ElementType → Option BlockName
   named_element (element.Udt name) = Some name
   named_element _ = None

@@ -15,9 +15,9 @@ use Rattle.block_layout.specs.declared.cells.Element.{Element}
 use Rattle.block_layout.specs.declared.cells.Element.TheVariants.{Plain, Structure, Udt}
 use Rattle.block_layout.specs.Sizes.{largest_size}
 use Rattle.block_layout.specs.declared.members.Member.{Member}
-use Rattle.block_layout.specs.declared.walks.ComponentAt.{ComponentAt}
-use Rattle.block_layout.specs.declared.walks.PathEnd.{PathEnd}
-use Rattle.block_layout.specs.declared.walks.PathEnd.TheVariants as path_end
+use Rattle.block_layout.specs.declared.path_ends.ComponentAt.{ComponentAt}
+use Rattle.block_layout.specs.declared.path_ends.PathEnd.{PathEnd}
+use Rattle.block_layout.specs.declared.path_ends.PathEnd.TheVariants as path_end
 use Rattle.block_layout.specs.Members.{component_of_name}
 use Rattle.block_layout.specs.Sizes.{capped_size, array_bits, element_of}
 
@@ -73,28 +73,29 @@ outermost_path_end l block temporary offset name =
 
 -- where a name behind a component leads: of a structure to its own components, of a data type to
 -- those of the block that declares it
-abbrev pub named_in : List BlockLayout → ComponentAt → List ℕ → Cell → Element → PathEnd
-named_in l component name c Structure =
+abbrev pub path_end_in_component : List BlockLayout → ComponentAt → List ℕ → Cell → Element
+    → PathEnd
+path_end_in_component l component name c Structure =
     path_end_at_member (cells_at l component.block component.temporary) component.block
     component.temporary (component.place + 1) component.offset
     (component_of_name (c.level + 1) 0 0 name
     (drop (component.place + 1) (cells_at l component.block component.temporary)))
-named_in l component name c (Udt block bits) =
+path_end_in_component l component name c (Udt block bits) =
     outermost_path_end l block false component.offset name
-named_in l component name c _ = path_end.Unknown
+path_end_in_component l component name c _ = path_end.Unknown
 
 -- where a name behind a component leads that has all its indices; behind another one it is unknown
-abbrev pub named_behind : List BlockLayout → ComponentAt → List ℕ → Option Cell → PathEnd
-named_behind l component name None = path_end.Unknown
-named_behind l component name (Some c) =
-    if nat_eq component.depth (length c.bounds) then named_in l component name c c.of
+abbrev pub path_end_behind_name : List BlockLayout → ComponentAt → List ℕ → Option Cell → PathEnd
+path_end_behind_name l component name None = path_end.Unknown
+path_end_behind_name l component name (Some c) =
+    if nat_eq component.depth (length c.bounds) then path_end_in_component l component name c c.of
     else path_end.Unknown
 
 -- where a name behind a component leads; where an index is lacking, or it has no components of its
 -- own, the name is unknown
 unfoldable pub path_end_by_name : List BlockLayout → ComponentAt → List ℕ → PathEnd
 path_end_by_name l component name =
-    named_behind l component name
+    path_end_behind_name l component name
     (slice_get (cells_at l component.block component.temporary) component.place)
 
 -- an index is outside these bounds
@@ -117,9 +118,9 @@ path_end_in_bounds component c behind at (Some b) =
 
 -- where an index behind a component that stands among `cells` leads, for the first bounds without
 -- an index yet
-abbrev pub indexed_behind : ComponentAt → (cells : List Cell) → ℤ → Option Cell → PathEnd
-indexed_behind component cells at None = path_end.Unknown
-indexed_behind component cells at (Some c) =
+abbrev pub path_end_behind_index : ComponentAt → (cells : List Cell) → ℤ → Option Cell → PathEnd
+path_end_behind_index component cells at None = path_end.Unknown
+path_end_behind_index component cells at (Some c) =
     path_end_in_bounds component c (drop (component.place + 1) cells) at
     (slice_get c.bounds component.depth)
 
@@ -127,7 +128,7 @@ indexed_behind component cells at (Some c) =
 -- unknown
 unfoldable pub path_end_by_index : List BlockLayout → ComponentAt → ℤ → PathEnd
 path_end_by_index l component at =
-    indexed_behind component (cells_at l component.block component.temporary) at
+    path_end_behind_index component (cells_at l component.block component.temporary) at
     (slice_get (cells_at l component.block component.temporary) component.place)
 
 -- where one step of a path behind a component leads

@@ -27,9 +27,9 @@ is_twice o before d =
     is_some (name_place (upper_case_name d.name) (names_before o.names d.level before))
 
 -- the refusal by rule 21 of a declaration whose name stands before it in its list, at its line
-abbrev pub broken_21 : Outside → List Declaration → Declaration → List Refusal
-broken_21 o before d = broken_if (is_twice o before d) d.line 21
+abbrev pub refusals_21 : Outside → List Declaration → Declaration → List Refusal
+refusals_21 o before d = broken_if (is_twice o before d) d.line 21
 
 -- rule 21: a name declared twice in one list
 unfoldable pub rule_21 : List Block → List Refusal
-rule_21 blocks = refusals_in_blocks broken_21 blocks
+rule_21 blocks = refusals_in_blocks refusals_21 blocks

@@ -35,8 +35,8 @@ abbrev pub has_unknown_head : Types → Block → Bool
 has_unknown_head y b = is_none (id_of y.symbols b) || is_unknown_shape (shape_of y b)
 
 -- the refusal by rule 23 of a declaration whose data type is unknown, at its line
-abbrev pub broken_23 : Types → Outside → List Declaration → Declaration → List Refusal
-broken_23 y o before d = broken_if (is_unknown_type y d.of.of) d.line 23
+abbrev pub refusals_23 : Types → Outside → List Declaration → Declaration → List Refusal
+refusals_23 y o before d = broken_if (is_unknown_type y d.of.of) d.line 23
 
 -- the source has no such data block
 abbrev pub is_unknown_data : Types → BlockName → Bool
@@ -80,5 +80,5 @@ operand_23 y o = broken_if (names_unknown y o.operand) o.line 23
 -- rule 23: an unknown block or user-defined data type
 unfoldable pub rule_23 : Types → List Block → List Refusal
 rule_23 y blocks =
-    on_heads (λ before b. has_unknown_head y b) 23 blocks ++ refusals_in_blocks (broken_23 y) blocks
+    on_heads (λ before b. has_unknown_head y b) 23 blocks ++ refusals_in_blocks (refusals_23 y) blocks
     ++ flat_map (λ b. in_body (operand_23 y) b.body) blocks

@@ -15,12 +15,12 @@ use Rattle.block_layout.specs.Fits.{fits_elementary_type}
 use Rattle.block_layout.specs.Paths.{folded_path, path_end_of_setting, elementary_at}
 use Rattle.block_layout.specs.Settings.{on_settings}
 use Rattle.block_layout.specs.declared.blocks.BlockLayout.{BlockLayout}
-use Rattle.block_layout.specs.declared.walks.PathEnd.{PathEnd}
-use Rattle.block_layout.specs.declared.walks.PathEnd.TheVariants as path_end
+use Rattle.block_layout.specs.declared.path_ends.PathEnd.{PathEnd}
+use Rattle.block_layout.specs.declared.path_ends.PathEnd.TheVariants as path_end
 
 -- the refusal by rule 41 of a declaration whose initial values don't fit its type, at its line
-abbrev pub broken_41 : Outside → List Declaration → Declaration → List Refusal
-broken_41 o before d = broken_if (not (init_fits d)) d.line 41
+abbrev pub refusals_41 : Outside → List Declaration → Declaration → List Refusal
+refusals_41 o before d = broken_if (not (init_fits d)) d.line 41
 
 -- a value fits an elementary data type; what is of another type fits none
 abbrev pub fits_kind : Literal → Option Simple → Bool
@@ -41,4 +41,4 @@ setting_misfits l block s =
 -- rule 41: an initial value that doesn't fit
 unfoldable pub rule_41 : List BlockLayout → List Block → List Refusal
 rule_41 l blocks =
-    refusals_in_blocks broken_41 blocks ++ on_settings (setting_misfits l) 41 0 blocks
+    refusals_in_blocks refusals_41 blocks ++ on_settings (setting_misfits l) 41 0 blocks

@@ -25,8 +25,8 @@ use Rattle.block_layout.specs.Types.{Types}
 use Rattle.block_layout.specs.declared.blocks.BlockLayout.{BlockLayout}
 
 -- the refusal by rule 42 of a declaration with the upper below the lower bound, at its line
-abbrev pub broken_42 : Outside → List Declaration → Declaration → List Refusal
-broken_42 o before d = broken_if (has_upside_down d) d.line 42
+abbrev pub refusals_42 : Outside → List Declaration → Declaration → List Refusal
+refusals_42 o before d = broken_if (has_upside_down d) d.line 42
 
 -- the path of a setting has an index outside its array, also in a block that breaks a rule itself
 abbrev pub setting_is_outside : List BlockLayout → ℕ → Setting → Bool
@@ -63,5 +63,5 @@ bodies_42 y l block blocks = by_place (λ k b. in_body (operand_42 y l k) b.body
 -- rule 42: the upper below the lower bound, or an index outside its array
 unfoldable pub rule_42 : Types → List BlockLayout → List Block → List Refusal
 rule_42 y l blocks =
-    refusals_in_blocks broken_42 blocks ++ on_settings (setting_is_outside l) 42 0 blocks
+    refusals_in_blocks refusals_42 blocks ++ on_settings (setting_is_outside l) 42 0 blocks
     ++ bodies_42 y l 0 blocks

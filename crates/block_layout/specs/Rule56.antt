@@ -43,9 +43,9 @@ is_too_deep y o before d =
     && nat_lt 8 (depth_around y o d.level before + own_depth y d)
 
 -- the refusal by rule 56 of a declaration that opens the ninth structure or array, at its line
-abbrev pub broken_56 : Types → Outside → List Declaration → Declaration → List Refusal
-broken_56 y o before d = broken_if (is_too_deep y o before d) d.line 56
+abbrev pub refusals_56 : Types → Outside → List Declaration → Declaration → List Refusal
+refusals_56 y o before d = broken_if (is_too_deep y o before d) d.line 56
 
 -- rule 56: types nested deeper than 8
 unfoldable pub rule_56 : Types → List Block → List Refusal
-rule_56 y blocks = refusals_in_blocks (broken_56 y) blocks
+rule_56 y blocks = refusals_in_blocks (refusals_56 y) blocks

@@ -12,7 +12,7 @@ use Rattle.block_layout.specs.Declarations.{element_count}
 abbrev pub largest_size : ℕ
 largest_size = 2147483648
 
--- sizes and offsets beyond every limit count as one
+-- a size or an offset above the largest one counts as the largest one
 abbrev pub capped_size : ℕ → ℕ
 capped_size n = min n largest_size
 

@@ -1,7 +1,7 @@
 ghost use Rattle.std.specs.Prelude.{◌≡◌};
 ghost use Rattle.std.specs.List.{flat_map};
 ghost use Rattle.plc_base.specs.Least.{least};
-ghost use Rattle.block_layout.specs.Alone.{breaks_by, broken_by, rule_by};
+ghost use Rattle.block_layout.specs.Alone.{breaks_by, refusals_by, rule_by};
 ghost use Rattle.block_layout.specs.Around.{refusals_in_block, refusals_in_blocks};
 
 use crate::declarations::{has_upside_down, init_fits, is_unknown_type};
@@ -38,8 +38,8 @@ fn rule_by(which: DeclarationFault) -> u16
     }
 }
 
-fn broken_by(types: &Types, which: DeclarationFault, declaration: &Declaration) -> Option<Refusal>
-    ensures { result ≡ least (broken_by types.now which declaration.now) }
+fn refusals_by(types: &Types, which: DeclarationFault, declaration: &Declaration) -> Option<Refusal>
+    ensures { result ≡ least (refusals_by types.now which declaration.now) }
 {
     broken_if(
         breaks_by(types, which, declaration),
@@ -49,16 +49,16 @@ fn broken_by(types: &Types, which: DeclarationFault, declaration: &Declaration) 
 }
 
 fn least_in_list(types: &Types, which: DeclarationFault, list: &[Declaration]) -> Option<Refusal>
-    ensures { result ≡ least (flat_map (broken_by types.now which) list.now) }
+    ensures { result ≡ least (flat_map (refusals_by types.now which) list.now) }
 {
     least_of(list, |declaration: &Declaration| {
-        broken_by(types, which, declaration)
+        refusals_by(types, which, declaration)
     })
 }
 
 fn least_in_parts(types: &Types, which: DeclarationFault, parts: &[Part]) -> Option<Refusal>
     ensures { result
-        ≡ least (flat_map (λ p. flat_map (broken_by types.now which) p.items) parts.now) }
+        ≡ least (flat_map (λ p. flat_map (refusals_by types.now which) p.items) parts.now) }
 {
     least_of(parts, |part: &Part| {
         least_in_list(types, which, part.items.as_slice())
@@ -68,7 +68,7 @@ fn least_in_parts(types: &Types, which: DeclarationFault, parts: &[Part]) -> Opt
 #[tactic(auto, using(crate::proofs::AloneLemmas::least_of_block))]
 fn least_in_block(types: &Types, which: DeclarationFault, block: &Block) -> Option<Refusal>
     ensures { result
-        ≡ least (refusals_in_block (λ o before d. broken_by types.now which d) block.now) }
+        ≡ least (refusals_in_block (λ o before d. refusals_by types.now which d) block.now) }
 {
     lesser(
         least_in_parts(types, which, block.parts.as_slice()),
@@ -83,7 +83,7 @@ pub(crate) fn least_alone(
     blocks: &[Block],
 ) -> Option<Refusal>
     ensures { result
-        ≡ least (refusals_in_blocks (λ o before d. broken_by types.now which d) blocks.now) }
+        ≡ least (refusals_in_blocks (λ o before d. refusals_by types.now which d) blocks.now) }
 {
     least_of(blocks, |block: &Block| least_in_block(types, which, block))
 }

@@ -20,8 +20,8 @@ ghost use Rattle.block_layout.specs.Paths.{
 
 use crate::blocks::BlockLayout;
 use crate::cells::Cell;
+use crate::path_ends::{ComponentAt, PathEnd, bounds_at, layout_at, outermost, step, walk_from};
 use crate::routes::{in_sections, walk_local};
-use crate::walks::{ComponentAt, PathEnd, bounds_at, layout_at, outermost, step, walk_from};
 use stl_ast::{Bounds, PathStep};
 
 /// Whether an index is outside these bounds.

@@ -6,7 +6,7 @@ ghost use Rattle.block_layout.specs.Layouts.{block_layout, is_broken, layouts_by
 ghost use Rattle.block_layout.specs.Lengths.{shape_of};
 
 use crate::blocks::BlockLayout;
-use crate::broken::{BlocksBefore, is_broken, nothing_before, with_block};
+use crate::breaches::{BlocksBefore, is_broken, nothing_before, with_block};
 use crate::cycles::{cycles, flag_at};
 use crate::declarations::number_at;
 use crate::lengths::{all_lengths, local_lens, shape_of};

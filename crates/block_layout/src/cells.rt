@@ -18,9 +18,10 @@ pub struct Preset {
     pub value: u32,
 }
 
-/// A declaration as the layout sees it. `name` is in upper case; `opens` says that it is the first
-/// of its section; an unsound cell breaks a rule of declarations, stands in one that does, or is of
-/// a data type that does, and takes no place.
+/// A declaration as the layout sees it. `name` is in upper case; `level` says in how many
+/// structures it stands; `opens` says that it is the first of its section; an unsound cell breaks a
+/// rule of declarations, stands in one that does, or is of a data type that does, and takes no
+/// place.
 #[derive(Drop)]
 pub struct Cell {
     pub name: Name,

@@ -15,7 +15,7 @@ ghost use Rattle.block_layout.specs.Fits.{
   is_time_type,
   is_word_type,
   number_from,
-  or_0,
+  number_or_zero,
   twos_complement_bits,
 };
 
@@ -88,7 +88,7 @@ pub fn fits(value: &Literal, kind: Simple) -> bool
 }
 
 /// Two's complement of 16 bits.
-fn word_of(value: i32) -> u32
+fn low_word_bits(value: i32) -> u32
     ensures { result ≡ twos_complement_bits 16 value }
 {
     if value >= 0 {
@@ -99,7 +99,7 @@ fn word_of(value: i32) -> u32
 }
 
 /// Two's complement of 32 bits.
-fn dword_of(value: i32) -> u32
+fn dword_bits(value: i32) -> u32
     ensures { result ≡ twos_complement_bits 32 value }
 {
     if value >= 0 {
@@ -110,7 +110,7 @@ fn dword_of(value: i32) -> u32
 }
 
 /// One to four bytes as a number, the first one the highest.
-fn number_of(bytes: &[u8]) -> u32
+fn number_from(bytes: &[u8]) -> u32
     requires { length bytes.now ≤ 4 }
     ensures { result ≡ number_from 0 bytes.now }
 {
@@ -128,21 +128,21 @@ pub fn bits_of(value: &Literal) -> u32
 {
     match value {
         Literal::Truth { value } => *value as u32,
-        Literal::Number { value } => word_of(*value),
+        Literal::Number { value } => low_word_bits(*value),
         Literal::Binary { value } | Literal::Dword { value } => *value,
         Literal::Byte { value } => *value as u32,
         Literal::Word { value } => *value as u32,
-        Literal::Long { value } => dword_of(*value),
+        Literal::Long { value } => dword_bits(*value),
         Literal::Count { value } => unsigned_to_bcd(*value as u32, 3),
-        Literal::Time { ms } => dword_of(*ms),
+        Literal::Time { ms } => dword_bits(*ms),
         Literal::S5time { ms } => s5time_word(*ms),
-        Literal::Characters { bytes } | Literal::Bytes { bytes } => number_of(bytes.as_slice()),
+        Literal::Characters { bytes } | Literal::Bytes { bytes } => number_from(bytes.as_slice()),
     }
 }
 
 /// The S5TIME of so many milliseconds, 0 where they are too many.
 fn s5time_word(ms: u32) -> u32
-    ensures { result ≡ or_0 (s5time_of_ms ms) }
+    ensures { result ≡ number_or_zero (s5time_of_ms ms) }
 {
     match s5time_of_ms(ms) {
         Ok(word) => word as u32,

@@ -12,7 +12,7 @@ use std::alloc::{AllocError, Global};
 use stl_ast::{Block, Declaration, ElementType};
 
 /// The data type that an element type uses.
-fn used_by(types: &Types, of: &ElementType) -> Option<usize>
+fn type_used_by(types: &Types, of: &ElementType) -> Option<usize>
     ensures { if_some result ≡ types_used_by types.now of.now }
 {
     match of {
@@ -32,7 +32,7 @@ fn uses_of(
 {
     let mut uses = Vec::new(alloc);
     for declaration in declarations {
-        if let Some(block) = used_by(types, &declaration.of.of) {
+        if let Some(block) = type_used_by(types, &declaration.of.of) {
             uses.push(block)?;
         }
     }
@@ -92,7 +92,7 @@ fn mark_all(
 }
 
 /// Marks what some blocks use, and gives those that weren't marked.
-fn used_next(
+fn next_uses(
     alloc: Global,
     uses: &[Vec<usize>],
     blocks: &[usize],
@@ -121,7 +121,7 @@ pub(crate) fn leads_back(alloc: Global, uses: &[Vec<usize>], to: usize) -> Resul
     let mut found = Vec::new(alloc);
     found.push(to)?;
     for step in 0..uses.len() {
-        let next = used_next(alloc, uses, found.as_slice(), reached.as_mut_slice())?;
+        let next = next_uses(alloc, uses, found.as_slice(), reached.as_mut_slice())?;
         if next.is_empty() {
             return Ok(flag_at(&reached, to));
         }

@@ -4,7 +4,7 @@ ghost use Rattle.stl_ast.specs.declared.declarations.Declaration.{Declaration};
 ghost use Rattle.plc_base.specs.Folding.{upper_case_name};
 ghost use Rattle.block_layout.specs.Around.{Outside};
 ghost use Rattle.block_layout.specs.declared.declaration_facts.OpenList.{OpenList};
-ghost use Rattle.block_layout.specs.DeclarationFacts.{AreOpen, CheckedOnto, open_lists_behind, facts_by_list};
+ghost use Rattle.block_layout.specs.DeclarationFacts.{AreOpen, AreFactsOnto, open_lists_behind, facts_by_list};
 
 use crate::declarations::{breaks_alone, deep, own_depth, uses_oversized};
 use crate::types::Types;
@@ -110,7 +110,7 @@ pub(crate) fn check_all(
     ensures count { IfOk result (λ v. length v.items ≡ length declarations.now) }
     ensures facts { IfOk result (λ v. (o : Outside) (before : List Declaration)
         → AreOpen types.now o before open_.old.items
-        → CheckedOnto types.now o before declarations.now v.items open_.new.items) }
+        → AreFactsOnto types.now o before declarations.now v.items open_.new.items) }
 {
     let mut all_facts = Vec::with_capacity(alloc, declarations.len())?;
     for declaration in declarations {

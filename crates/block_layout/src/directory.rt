@@ -69,7 +69,7 @@ impl NumberedBlocks {
 }
 
 /// The number of a block, if it is of this kind.
-fn number_of(kind: BlockKind, id: Option<BlockId>) -> Option<u16>
+fn number_of_kind(kind: BlockKind, id: Option<BlockId>) -> Option<u16>
     ensures { result ≡ number_of_kind kind id }
 {
     match id {
@@ -88,7 +88,7 @@ fn numbers_of(
 {
     let mut numbers = NumberedBlocks::new(alloc);
     for id in ids {
-        match number_of(kind, *id) {
+        match number_of_kind(kind, *id) {
             Some(number) => numbers.add(number)?,
             None => numbers.skip()?,
         }
@@ -177,7 +177,7 @@ impl Directory {
     }
 
     /// The place of the block of the source that is meant.
-    pub(crate) fn known(&self, id: BlockId) -> Option<usize>
+    pub(crate) fn known_block(&self, id: BlockId) -> Option<usize>
         ensures { result ≡ known_block id self.now }
     {
         if is_block_number(id.kind, id.number) {

@@ -24,11 +24,11 @@ use crate::cells::{Cell, Element};
 use crate::constants::bits_of;
 use crate::layouts::{behind, numbers_behind};
 use crate::measures::ROUNDS;
+use crate::path_ends::{PathEnd, layout_at};
 use crate::paths::Path;
 use crate::routes::{elementary_at, structure_of, walk_data};
 use crate::sizes::{array_bits, end_behind_cell};
 use crate::starts::{component_starts, element_starts, filled_starts, preset_values};
-use crate::walks::{PathEnd, layout_at};
 use std::alloc::{AllocError, Global};
 use stl_ast::{Block, Setting, Simple};
 

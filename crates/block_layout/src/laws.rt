@@ -34,13 +34,13 @@ pub fn law_of_paths()
 /// Parameters that are declared again with other names and types of the same sizes lie where they
 /// lay, whatever stands behind them, and an array of bytes up to the same end makes the instance as
 /// long as it was.
-pub fn law_of_listed()
+pub fn law_of_listed_parameters()
     ensures offsets { OffsetsStay }
     ensures length { LengthStays }
 {}
 
 /// Bytes are there again where each write writes what they have, and each bit that is set is
 /// reached by one.
-pub fn law_of_rebuilt()
+pub fn law_of_rebuilt_bytes()
     ensures { AreRebuilt }
 {}

@@ -61,7 +61,7 @@ impl Layouts {
     pub fn place(&self, id: BlockId) -> Option<usize>
         ensures { result ≡ known_block id (map (λ b. b.id) self.now) }
     {
-        self.directory.known(id)
+        self.directory.known_block(id)
     }
 
     fn at(&self, place: usize) -> Option<&BlockLayout>

@@ -26,6 +26,10 @@ use std::alloc::{AllocError, Global};
 use std::marker::Model;
 
 /// Cells with their sizes, and with the components of each structure. Contracts see the cells.
+/// - `elements`: the size of one element of each cell, in bits.
+/// - `outer`: the components at level 0. `name_lists`: the components of each sound cell.
+/// - `bits`: the size of a structure of all cells, in bits.
+/// - `parameters`: how many cells from the first one on have all parameters among them.
 #[derive(Drop)]
 pub struct Layout {
     cells: Vec<Cell>,

@@ -59,7 +59,7 @@ pub(crate) fn shape_of(types: &Types, block: &Block) -> Shape
 {
     match structure_block_name(block) {
         None => Shape::Own,
-        Some(name) => match types.structured(name) {
+        Some(name) => match types.structure_block(name) {
             Some(block) => Shape::Of { block },
             None => Shape::Unknown,
         },
@@ -100,7 +100,7 @@ fn greater(a: u64, b: u64) -> u64
     if a < b { b } else { a }
 }
 
-fn actuals_end(actuals: &[Actual]) -> u64
+fn farthest_actual_end(actuals: &[Actual]) -> u64
     ensures value { result ≡ farthest_actual_end actuals.now }
     ensures near { result < 2 ^ 17 }
 {
@@ -119,7 +119,7 @@ fn farthest(body: &[Statement]) -> u64
     let mut end = 0;
     for statement in body {
         let own = local_end(&statement.operand);
-        let actuals = actuals_end(statement.actuals.as_slice());
+        let actuals = farthest_actual_end(statement.actuals.as_slice());
         end = greater(end, greater(own, actuals));
     }
     end

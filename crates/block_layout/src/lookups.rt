@@ -17,10 +17,10 @@ ghost use Rattle.block_layout.specs.Paths.{
 use crate::blocks::BlockLayout;
 use crate::cells::Cell;
 use crate::laying::Layouts;
+use crate::path_ends::{ComponentAt, PathEnd, layout_at};
 use crate::paths::Path;
 use crate::routes::{elementary_at, has_component, if_whole, walk_data, walk_local, whole_at};
 use crate::types::named_block;
-use crate::walks::{ComponentAt, PathEnd, layout_at};
 use plc_base::BlockKind;
 use stl_ast::{BlockName, Simple};
 use stl_symbols::Symbols;

@@ -6,8 +6,8 @@ ghost use Rattle.block_layout.specs.Paths.{if_whole};
 
 use crate::beyond::{leaves_from, leaves_structure};
 use crate::blocks::{BlockLayout, Section};
+use crate::path_ends::{PathEnd, walk_from};
 use crate::routes::{elementary_at, if_whole, structure_of, walk_data};
-use crate::walks::{PathEnd, walk_from};
 use plc_base::{Area, BlockId, Place, Width};
 use stl_ast::{PathStep, Simple};
 

@@ -8,7 +8,7 @@ use std::alloc::{AllocError, Global};
 use std::marker::Model;
 use stl_ast::{Name, PathStep};
 
-/// A path as paths are followed: its names are in upper case. Contracts see its steps.
+/// A path as it is followed: its names are in upper case. Contracts see its steps.
 #[derive(Drop)]
 pub struct Path {
     steps: Vec<PathStep>,

@@ -23,7 +23,9 @@ ghost use Rattle.block_layout.specs.Paths.{
 
 use crate::blocks::{BlockLayout, Shape};
 use crate::cells::{Cell, Element};
-use crate::walks::{ComponentAt, PathEnd, is_used_up, layout_at, outermost, walk_from, walk_on};
+use crate::path_ends::{
+    ComponentAt, PathEnd, is_used_up, layout_at, outermost, walk_from, walk_on,
+};
 use stl_ast::{PathStep, Simple};
 
 /// The block at this place in the source, where it breaks no rule as a whole.

@@ -144,7 +144,7 @@ pub(crate) fn end_behind_cell(at: u64, cell: &Cell, bits: u64, level: u64) -> u6
 
 /// Where the components at this level end.
 #[tactic(auto, using(crate::proofs::SizeLemmas::end_lower, crate::proofs::SizeLemmas::size_small, crate::proofs::SizeLemmas::size_within))]
-fn end_of(cells: &[Cell], elements: &[u64], level: u64) -> u64
+fn components_end(cells: &[Cell], elements: &[u64], level: u64) -> u64
     requires { elements.now ≡ elements_of cells.now }
     ensures value { result ≡ components_end level 0 cells.now }
     ensures near { result ≤ largest_size }
@@ -170,7 +170,7 @@ fn components(cell: &Cell, behind: &[Cell], elements: &[u64]) -> u64
     ensures near { result ≤ largest_size }
 {
     if cell.sound {
-        capped_size(up(end_of(behind, elements, cell.level as u64 + 1), 16))
+        capped_size(up(components_end(behind, elements, cell.level as u64 + 1), 16))
     } else {
         0
     }
@@ -197,5 +197,5 @@ pub(crate) fn structure_bits(cells: &[Cell], elements: &[u64]) -> u64
     ensures value { result ≡ structure_bits cells.now }
     ensures near { result ≤ largest_size }
 {
-    capped_size(up(end_of(cells, elements, 0), 16))
+    capped_size(up(components_end(cells, elements, 0), 16))
 }

@@ -10,8 +10,8 @@ ghost use Rattle.block_layout.specs.InitialBytes.{
 };
 
 use crate::cells::{Cell, Preset};
+use crate::path_ends::bounds_behind;
 use crate::sizes::{alignment, array_bits, capped_size, count, up};
-use crate::walks::bounds_behind;
 use std::alloc::{AllocError, Global};
 use stl_ast::Bounds;
 

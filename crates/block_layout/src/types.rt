@@ -74,13 +74,13 @@ impl<'a> Model for Types<'a> {
 }
 
 impl<'a> Types<'a> {
-    /// The block of the source that a name means, where it is of one of the kinds.
+    /// The place of the user-defined data type that a name means.
     pub(crate) fn data_type(&self, name: &BlockName) -> Option<usize>
         ensures { result ≡ data_type_place self.now name.now }
     {
         let id = named_block(self.symbols, name)?;
         match id.kind {
-            BlockKind::Udt => self.directory.known(id),
+            BlockKind::Udt => self.directory.known_block(id),
             _ => None,
         }
     }
@@ -91,18 +91,18 @@ impl<'a> Types<'a> {
     {
         let id = named_block(self.symbols, name)?;
         match id.kind {
-            BlockKind::Db => self.directory.known(id),
+            BlockKind::Db => self.directory.known_block(id),
             _ => None,
         }
     }
 
     /// The function block or data type of the source that a name means.
-    pub(crate) fn structured(&self, name: &BlockName) -> Option<usize>
+    pub(crate) fn structure_block(&self, name: &BlockName) -> Option<usize>
         ensures { result ≡ found_block self.now.symbols self.now.ids has_structure name.now }
     {
         let id = named_block(self.symbols, name)?;
         match id.kind {
-            BlockKind::Fb | BlockKind::Udt => self.directory.known(id),
+            BlockKind::Fb | BlockKind::Udt => self.directory.known_block(id),
             _ => None,
         }
     }

@@ -41,24 +41,24 @@ use Rattle.block_layout.specs.declared.blocks.BlockLayout.{BlockLayout}
 use Rattle.block_layout.specs.declared.cells.Cell.{Cell}
 use Rattle.block_layout.specs.declared.cells.Element.{Element}
 use Rattle.block_layout.specs.declared.cells.Element.TheVariants as element
-use Rattle.block_layout.specs.declared.walks.ComponentAt.{ComponentAt}
-use Rattle.block_layout.specs.declared.walks.PathEnd.{PathEnd}
-use Rattle.block_layout.specs.declared.walks.PathEnd.TheVariants as path_end
+use Rattle.block_layout.specs.declared.path_ends.ComponentAt.{ComponentAt}
+use Rattle.block_layout.specs.declared.path_ends.PathEnd.{PathEnd}
+use Rattle.block_layout.specs.declared.path_ends.PathEnd.TheVariants as path_end
 use Rattle.stl_types.specs.Addresses.{address_in_block}
 use Rattle.stl_types.specs.Bodies.{first_context}
 use Rattle.stl_types.specs.Context.{Context, data_number, data_place, in_function}
 use Rattle.stl_types.specs.Resolution.{resolution_of_call, resolution_of_address, instance_number, resolution_of_opened_block, resolution_of_path, resolution_of, resolution_of_symbol, resolved_target, whole_called_block}
 use Rattle.stl_types.specs.ResolvedStatement.{resolved_operand, operand_if_resolved}
 use Rattle.stl_types.specs.Variables.{composite_operand, data_at, data_path, data_variable, data_at_path_end, date_or_composite, variable_in_area, is_temporary_variable, own_at, own_elementary, own_variable, own_at_path_end, parameter_resolution, parameter_at, parameter_index}
-use Rattle.stl_types.specs.declared.views.Register.TheVariants as register
-use Rattle.stl_types.specs.declared.views.Resolution.{Resolution}
-use Rattle.stl_types.specs.declared.views.Resolution.TheVariants as resolution
-use Rattle.stl_types.specs.declared.views.Resolution.TheVariants.{Resolved}
-use Rattle.stl_types.specs.declared.views.ResolvedOperand.{ResolvedOperand}
-use Rattle.stl_types.specs.declared.views.ResolvedOperand.TheVariants as resolved
+use Rattle.stl_types.specs.declared.resolved_operands.Register.TheVariants as register
+use Rattle.stl_types.specs.declared.resolved_operands.Resolution.{Resolution}
+use Rattle.stl_types.specs.declared.resolved_operands.Resolution.TheVariants as resolution
+use Rattle.stl_types.specs.declared.resolved_operands.Resolution.TheVariants.{Resolved}
+use Rattle.stl_types.specs.declared.resolved_operands.ResolvedOperand.{ResolvedOperand}
+use Rattle.stl_types.specs.declared.resolved_operands.ResolvedOperand.TheVariants as resolved
 use Rattle.stl_codegen.specs.CompiledBlock.{SourceInstruction, StatedBlock, operand_with_target, op_with_target, compiled_block, offset_of_statement, ops_in, placed_ops}
 use Rattle.stl_codegen.specs.EmittedOps.{call_op, ops_of, pass_ops}
-use Rattle.stl_codegen.specs.GeneratedProgram.{code_block, code_block_of, code_blocks_of, each_block, stated_from, statements_of}
+use Rattle.stl_codegen.specs.GeneratedProgram.{code_block, code_block_of, code_blocks_of, each_block, instructions_from, statements_of}
 use Rattle.stl_codegen.specs.Instruction.{call_instr, end_instr, instr_by, instruction, jump_instr, resolved_instr, target_of, operand_instr}
 use Rattle.stl_codegen.specs.Operations.{call_operation_of, end_operation_of, jump_operation_of}
 use Rattle.stl_codegen.specs.Operands.{flat_operand_of}
@@ -262,15 +262,15 @@ all_ops : (ss : List SourceInstruction) → AllByRecursion IsWrittenStated ss �
 all_ops [] h = tt
 all_ops (s ∷ ss) (one, more) = all_append (λ op. IsOffsetWritable op.operand) (ops_of s.instr) (ops_in ss) (ops_written s.instr one) (all_ops ss more)
 
-stated_written : (c : Context) (body : List Statement) (n : ℕ) (ss : List Statement) → AllByRecursion IsStatement ss → AllByRecursion IsWrittenStated (stated_from c body n ss)
+stated_written : (c : Context) (body : List Statement) (n : ℕ) (ss : List Statement) → AllByRecursion IsStatement ss → AllByRecursion IsWrittenStated (instructions_from c body n ss)
 stated_written c body n [] h = tt
 stated_written c body n (s ∷ ss) (one, more) =
-    either_way (λ l. AllByRecursion IsWrittenStated l) (is_empty_statement s.code) (stated_from c body n ss) (record { instr = instruction c body n s; line = s.line } ∷ stated_from c body (suc n) ss)
+    either_way (λ l. AllByRecursion IsWrittenStated l) (is_empty_statement s.code) (instructions_from c body n ss) (record { instr = instruction c body n s; line = s.line } ∷ instructions_from c body (suc n) ss)
     (stated_written c body n ss more) (instr_written c body n s one.value, stated_written c body (suc n) ss more)
 
 statements_written : (c : Context) (b : Block) → IsBlock b → AllByRecursion IsWrittenStated (statements_of c b)
 unfolding statements_of
-statements_written c b is = all_append IsWrittenStated (stated_from c b.body 0 b.body) _ (stated_written c b.body 0 b.body is.runs.0) (tt, tt)
+statements_written c b is = all_append IsWrittenStated (instructions_from c b.body 0 b.body) _ (stated_written c b.body 0 b.body is.runs.0) (tt, tt)
 
 abbrev IsWrittenStatedBlock : StatedBlock → Type 0
 IsWrittenStatedBlock b = AllByRecursion IsWrittenStated b.statements

@@ -29,11 +29,11 @@ use Rattle.stl_types.specs.Context.{Context}
 use Rattle.stl_types.specs.Labels.{is_unknown_label, label_of, labels_of, rule_26, unknown_labels}
 use Rattle.stl_types.specs.Lists.{has_label}
 use Rattle.stl_types.specs.ResolvedStatement.{resolved_operand}
-use Rattle.stl_types.specs.declared.views.Register.TheVariants as register
-use Rattle.stl_types.specs.declared.views.ResolvedOperand.TheVariants as resolved
-use Rattle.stl_types.specs.declared.views.ResolvedOperand.{ResolvedOperand}
+use Rattle.stl_types.specs.declared.resolved_operands.Register.TheVariants as register
+use Rattle.stl_types.specs.declared.resolved_operands.ResolvedOperand.TheVariants as resolved
+use Rattle.stl_types.specs.declared.resolved_operands.ResolvedOperand.{ResolvedOperand}
 use Rattle.stl_codegen.specs.CompiledBlock.{SourceInstruction, StatedBlock, compiled_block}
-use Rattle.stl_codegen.specs.GeneratedProgram.{code_block, code_block_of, code_blocks_of, each_block, return_statement, stated_from, statements_of}
+use Rattle.stl_codegen.specs.GeneratedProgram.{code_block, code_block_of, code_blocks_of, each_block, return_statement, instructions_from, statements_of}
 use Rattle.stl_codegen.specs.Instruction.{call_instr, count_of_statement, end_instr, instr_by, instruction, jump_instr, resolved_instr, target_in, target_of, operand_instr}
 use Rattle.stl_codegen.specs.Operands.{flat_operand_of}
 use Rattle.stl_codegen.specs.Operations.{call_operation_of, end_operation_of, jump_operation_of}
@@ -148,20 +148,20 @@ labels_known body (s ∷ ss) e =
 abbrev StaysOff : ℕ → SourceInstruction → Type 0
 StaysOff n x = jumps_to n x.instr ≡ false
 
-stated_free : (c : Context) (body : List Statement) (n : ℕ) (ss : List Statement) → count_of ss ≤ count_of body → AreUnlabelled body → AreKnown body ss → AllByRecursion (StaysOff (count_of body)) (stated_from c body n ss)
+stated_free : (c : Context) (body : List Statement) (n : ℕ) (ss : List Statement) → count_of ss ≤ count_of body → AreUnlabelled body → AreKnown body ss → AllByRecursion (StaysOff (count_of body)) (instructions_from c body n ss)
 stated_free c body n [] le bare known = tt
 stated_free c body n (s ∷ ss) le bare (one, more) =
-    cond_both (is_empty_statement s.code) (stated_from c body n ss) (record { instr = instruction c body n s; line = s.line } ∷ stated_from c body (suc n) ss) (λ l. AllByRecursion (StaysOff (count_of body)) l)
+    cond_both (is_empty_statement s.code) (instructions_from c body n ss) (record { instr = instruction c body n s; line = s.line } ∷ instructions_from c body (suc n) ss) (λ l. AllByRecursion (StaysOff (count_of body)) l)
     (λ e. stated_free c body n ss (omega (arith, le)) bare more)
     (λ e. let here : count_of_statement s ≡ 1 = ap (λ (b : Bool). if b then 0 else 1) e in (instr_free c body n s (omega (arith, le, here)) bare one, stated_free c body (suc n) ss (omega (arith, le)) bare more))
 
-stated_count : (c : Context) (body : List Statement) (n : ℕ) (ss : List Statement) → length (stated_from c body n ss) ≡ count_of ss
+stated_count : (c : Context) (body : List Statement) (n : ℕ) (ss : List Statement) → length (instructions_from c body n ss) ≡ count_of ss
 stated_count c body n [] = refl
 stated_count c body n (s ∷ ss) =
     by (is_empty_statement s.code) (stated_count c body n ss) (stated_count c body (suc n) ss)
   where
-    by : (b : Bool) → length (stated_from c body n ss) ≡ count_of ss → length (stated_from c body (suc n) ss) ≡ count_of ss
-        → length (if b then stated_from c body n ss else record { instr = instruction c body n s; line = s.line } ∷ stated_from c body (suc n) ss) ≡ (if b then 0 else 1) + count_of ss
+    by : (b : Bool) → length (instructions_from c body n ss) ≡ count_of ss → length (instructions_from c body (suc n) ss) ≡ count_of ss
+        → length (if b then instructions_from c body n ss else record { instr = instruction c body n s; line = s.line } ∷ instructions_from c body (suc n) ss) ≡ (if b then 0 else 1) + count_of ss
     by true h k = omega (arith, h)
     by false h k = omega (arith, k)
 
@@ -180,7 +180,7 @@ IsRight b = AllByRecursion IsStatement b.body × (unknown_labels (labels_of b.bo
 pub statements_free : (c : Context) (b : Block) → IsRight b → (n : ℕ) → suc n ≡ length (statements_of c b) → list_any (λ s. jumps_to n s.instr) (statements_of c b) ≡ false
 unfolding statements_of
 statements_free c b is n e =
-    let front = stated_from c b.body 0 b.body in
+    let front = instructions_from c b.body 0 b.body in
     let same : count_of b.body ≡ n = omega (arith, e, length-append front (return_statement b ∷ []), stated_count c b.body 0 b.body) in
     ap (λ (k : ℕ). list_any (λ s. jumps_to k s.instr) (front ++ return_statement b ∷ [])) (sym same)
     ∙ none_any (count_of b.body) (front ++ return_statement b ∷ []) (all_append (StaysOff (count_of b.body)) front (return_statement b ∷ []) (stated_free c b.body 0 b.body (omega arith) (are_unlabelled b.body is.0) (labels_known b.body b.body is.1)) (refl, tt))

@@ -15,7 +15,7 @@ use Rattle.block_layout.specs.declared.blocks.BlockLayout.{BlockLayout}
 use Rattle.stl_types.specs.Bodies.{first_context}
 use Rattle.stl_types.specs.Context.{Context}
 use Rattle.stl_codegen.specs.CompiledBlock.{SourceInstruction, StatedBlock, compiled_block, lines_in}
-use Rattle.stl_codegen.specs.GeneratedProgram.{code_block, code_block_of, code_blocks_of, each_block, return_statement, stated_from, statements_of}
+use Rattle.stl_codegen.specs.GeneratedProgram.{code_block, code_block_of, code_blocks_of, each_block, return_statement, instructions_from, statements_of}
 use Rattle.stl_codegen.specs.Instruction.{instruction}
 use Rattle.stl_codegen.specs.Order.{is_code_before, sorted_list}
 use Rattle.stl_list.specs.CodeBlocks.{in_lines}
@@ -65,15 +65,15 @@ split last before (line ∷ front) end rest h =
 
 -- those of the statements that aren't empty
 stated_rise : (c : Context) (body : List Statement) (n : ℕ) (ss : List Statement) (high low end : ℕ)
-    → AreRisingLines high low (map (λ s. s.line) ss ++ end ∷ []) → AreRisingLines high low (map (λ s. s.line) (stated_from c body n ss) ++ end ∷ [])
+    → AreRisingLines high low (map (λ s. s.line) ss ++ end ∷ []) → AreRisingLines high low (map (λ s. s.line) (instructions_from c body n ss) ++ end ∷ [])
 stated_rise c body n [] high low end h = h
 stated_rise c body n (s ∷ ss) high low end h =
     by (is_empty_statement s.code) (stated_rise c body n ss high low end (lower low s.line high (map (λ s. s.line) ss ++ end ∷ []) h.0 h.2))
     (stated_rise c body (suc n) ss high s.line end h.2)
   where
-    by : (b : Bool) → AreRisingLines high low (map (λ s. s.line) (stated_from c body n ss) ++ end ∷ [])
-        → AreRisingLines high s.line (map (λ s. s.line) (stated_from c body (suc n) ss) ++ end ∷ [])
-        → AreRisingLines high low (map (λ s. s.line) (if b then stated_from c body n ss else record { instr = instruction c body n s; line = s.line } ∷ stated_from c body (suc n) ss) ++ end ∷ [])
+    by : (b : Bool) → AreRisingLines high low (map (λ s. s.line) (instructions_from c body n ss) ++ end ∷ [])
+        → AreRisingLines high s.line (map (λ s. s.line) (instructions_from c body (suc n) ss) ++ end ∷ [])
+        → AreRisingLines high low (map (λ s. s.line) (if b then instructions_from c body n ss else record { instr = instruction c body n s; line = s.line } ∷ instructions_from c body (suc n) ss) ++ end ∷ [])
     by true skipped kept = skipped
     by false skipped kept = (h.0, h.1, kept)
 
@@ -91,10 +91,10 @@ map_last (s ∷ ss) r = ap (λ (z : List ℕ). s.line ∷ z) (map_last ss r)
 statements_span : (c : Context) (b : Block) (low : ℕ) → AreRisingLines b.end_line low (statement_lines_of b) → IsSpan low b.end_line (lines_in (statements_of c b))
 unfolding statements_of
 statements_span c b low h =
-    subst (IsSpan low b.end_line) (sym (map_last (stated_from c b.body 0 b.body) (return_statement b))) (record {
+    subst (IsSpan low b.end_line) (sym (map_last (instructions_from c b.body 0 b.body) (return_statement b))) (record {
       rises = stated_rise c b.body 0 b.body b.end_line low b.end_line h;
-      some = omega (arith, length-append (map (λ s. s.line) (stated_from c b.body 0 b.body)) (b.end_line ∷ []));
-      last = last_of (map (λ s. s.line) (stated_from c b.body 0 b.body)) b.end_line;
+      some = omega (arith, length-append (map (λ s. s.line) (instructions_from c b.body 0 b.body)) (b.end_line ∷ []));
+      last = last_of (map (λ s. s.line) (instructions_from c b.body 0 b.body)) b.end_line;
     })
 
 -- a block of the source stands on lines from one on, and lies apart from others

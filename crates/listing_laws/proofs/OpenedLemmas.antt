@@ -30,13 +30,13 @@ use Rattle.stl_types.specs.Parameters.{Callee, callee_of}
 use Rattle.stl_types.specs.Resolution.{resolution_of}
 use Rattle.stl_types.specs.ResolvedStatement.{resolved_operand}
 use Rattle.stl_types.specs.declared.parameters.Formal.{Formal}
-use Rattle.stl_types.specs.declared.views.Resolution.TheVariants.{Resolved}
-use Rattle.stl_types.specs.declared.views.Resolution.{Resolution}
-use Rattle.stl_types.specs.declared.views.ResolvedOperand.TheVariants as resolved
-use Rattle.stl_types.specs.declared.views.ResolvedOperand.{ResolvedOperand}
+use Rattle.stl_types.specs.declared.resolved_operands.Resolution.TheVariants.{Resolved}
+use Rattle.stl_types.specs.declared.resolved_operands.Resolution.{Resolution}
+use Rattle.stl_types.specs.declared.resolved_operands.ResolvedOperand.TheVariants as resolved
+use Rattle.stl_types.specs.declared.resolved_operands.ResolvedOperand.{ResolvedOperand}
 use Rattle.stl_codegen.specs.CompiledBlock.{SourceInstruction, StatedBlock, operand_with_target, compiled_block}
 use Rattle.stl_codegen.specs.EmittedOps.{pass_ops}
-use Rattle.stl_codegen.specs.GeneratedProgram.{code_block, code_block_of, code_blocks_of, each_block, return_statement, stated_from, statements_of}
+use Rattle.stl_codegen.specs.GeneratedProgram.{code_block, code_block_of, code_blocks_of, each_block, return_statement, instructions_from, statements_of}
 use Rattle.stl_codegen.specs.Instruction.{source_block_at, call_instr, end_instr, in_parameter_order, instr_by, instruction, jump_instr, passings_to, resolved_instr, target_of, operand_instr}
 use Rattle.stl_codegen.specs.Operands.{is_db, is_in_named_block, block_opened_by_operand, flat_operand_of}
 use Rattle.stl_codegen.specs.Operations.{call_operation_of, end_operation_of, jump_operation_of}
@@ -140,15 +140,15 @@ instr_opens c body n s = by (jump_operation_of s.code) where
 abbrev AllOpen : List SourceInstruction → Type 0
 AllOpen ss = AllByRecursion (λ s. OpensInstr s.instr) ss
 
-stated_open : (c : Context) (body : List Statement) (n : ℕ) (ss : List Statement) → AllOpen (stated_from c body n ss)
+stated_open : (c : Context) (body : List Statement) (n : ℕ) (ss : List Statement) → AllOpen (instructions_from c body n ss)
 stated_open c body n [] = tt
 stated_open c body n (s ∷ ss) =
-    either_way AllOpen (is_empty_statement s.code) (stated_from c body n ss) (record { instr = instruction c body n s; line = s.line } ∷ stated_from c body (suc n) ss)
+    either_way AllOpen (is_empty_statement s.code) (instructions_from c body n ss) (record { instr = instruction c body n s; line = s.line } ∷ instructions_from c body (suc n) ss)
     (stated_open c body n ss) (instr_opens c body n s, stated_open c body (suc n) ss)
 
 statements_open : (c : Context) (b : Block) → AllOpen (statements_of c b)
 unfolding statements_of
-statements_open c b = all_append (λ s. OpensInstr s.instr) (stated_from c b.body 0 b.body) (return_statement b ∷ []) (stated_open c b.body 0 b.body) (tt, tt)
+statements_open c b = all_append (λ s. OpensInstr s.instr) (instructions_from c b.body 0 b.body) (return_statement b ∷ []) (stated_open c b.body 0 b.body) (tt, tt)
 
 abbrev IsOpen : StatedBlock → Type 0
 IsOpen b = AllOpen b.statements

@@ -14,7 +14,7 @@ use Rattle.plc_base.specs.Texts.{is_blank}
 use Rattle.plc_base.specs.declared.refusals.Refusal.{Refusal}
 use Rattle.flat_code.specs.Programs.{NameEntry}
 use Rattle.stl_codegen.specs.GeneratedProgram.{has_name, name_entry, name_entries_of}
-use Rattle.stl_codegen.specs.Order.{is_name_before, sorted_list}
+use Rattle.stl_codegen.specs.Order.{is_entry_before, sorted_list}
 use Rattle.stl_codegen.proofs.OrderLemmas.{names_ordered}
 use Rattle.stl_list.specs.Symbols.{listed_names}
 use Rattle.stl_symbols.specs.Laws.{SymbolNamesDiffer, EachBytePasses}
@@ -288,16 +288,16 @@ not_same_turned f e h = nat_list_eq_equiv.symm (upper_case_name e.name) (upper_c
 
 names_named : (language : Language) (file : List ℕ) (symbols : List Symbol) → symbols_in language file ≡ Ok symbols → AllByRecursion IsNamed (name_entries_of symbols)
 names_named language file symbols are =
-    all_sorted IsNamed is_name_before (entries_of symbols) (all_named symbols (symbols_right language file symbols are).each (names_lines language file symbols are))
+    all_sorted IsNamed is_entry_before (entries_of symbols) (all_named symbols (symbols_right language file symbols are).each (names_lines language file symbols are))
 
 pub names_read : (language : Language) (file : List ℕ) (symbols : List Symbol) → symbols_in language file ≡ Ok symbols
     → symbols_in English (listed_names (name_entries_of symbols)) ≡ Ok (map symbol_of (name_entries_of symbols))
 names_read language file symbols are =
     let right = symbols_right language file symbols are in
-    let size = length_sorted is_name_before (entries_of symbols) in
+    let size = length_sorted is_entry_before (entries_of symbols) in
     let few = all_few symbols in
     let most = right.few in
-    file_read (name_entries_of symbols) (names_named language file symbols are) (pairs_sorted NotSame not_same_turned is_name_before (entries_of symbols) (all_apart symbols right.apart)) (omega (arith, size, few, most))
+    file_read (name_entries_of symbols) (names_named language file symbols are) (pairs_sorted NotSame not_same_turned is_entry_before (entries_of symbols) (all_apart symbols right.apart)) (omega (arith, size, few, most))
 
 back : (es : List NameEntry) → AllByRecursion IsNamed es → entries_of (map symbol_of es) ≡ es
 back [] h = refl
@@ -309,5 +309,5 @@ back (e ∷ es) h =
 pub names_kept : (language : Language) (file : List ℕ) (symbols : List Symbol) → symbols_in language file ≡ Ok symbols
     → name_entries_of (map symbol_of (name_entries_of symbols)) ≡ name_entries_of symbols
 names_kept language file symbols are =
-    ap (sorted_list is_name_before) (back (name_entries_of symbols) (names_named language file symbols are))
-    ∙ in_order is_name_before (name_entries_of symbols) (order_sorted is_name_before names_ordered.one_way (entries_of symbols))
+    ap (sorted_list is_entry_before) (back (name_entries_of symbols) (names_named language file symbols are))
+    ∙ in_order is_entry_before (name_entries_of symbols) (order_sorted is_entry_before names_ordered.one_way (entries_of symbols))

@@ -25,12 +25,12 @@ use Rattle.stl_ast.specs.declared.statements.Statement.{Statement}
 use Rattle.plc_base.specs.declared.places.Area.{Area}
 use Rattle.stl_types.specs.Context.{Context}
 use Rattle.stl_types.specs.ResolvedStatement.{resolved_operand}
-use Rattle.stl_types.specs.declared.views.Register.{Register}
-use Rattle.stl_types.specs.declared.views.Register.TheVariants as register
-use Rattle.stl_types.specs.declared.views.ResolvedOperand.{ResolvedOperand}
-use Rattle.stl_types.specs.declared.views.ResolvedOperand.TheVariants as resolved
+use Rattle.stl_types.specs.declared.resolved_operands.Register.{Register}
+use Rattle.stl_types.specs.declared.resolved_operands.Register.TheVariants as register
+use Rattle.stl_types.specs.declared.resolved_operands.ResolvedOperand.{ResolvedOperand}
+use Rattle.stl_types.specs.declared.resolved_operands.ResolvedOperand.TheVariants as resolved
 use Rattle.stl_codegen.specs.CompiledBlock.{SourceInstruction}
-use Rattle.stl_codegen.specs.GeneratedProgram.{return_statement, stated_from, statements_of}
+use Rattle.stl_codegen.specs.GeneratedProgram.{return_statement, instructions_from, statements_of}
 use Rattle.stl_codegen.specs.Instruction.{call_instr, end_instr, filler_instruction, instr_by, instruction, jump_instr, resolved_instr, target_of, operand_instr}
 use Rattle.stl_codegen.specs.Operands.{numbered_operand, block_opened_by_operand, flat_operand_of, register_operand}
 use Rattle.stl_codegen.specs.Operations.{add_operation, call_operation_of, end_operation_of, jump_operation_of, load_operation, load_pointer_operation, operation_for, or_operation, store_pointer_operation, transfer_operation}
@@ -374,15 +374,15 @@ instruction_has c body n s some = jumped_has c body n s (jump_operation_of s.cod
 abbrev AllHave : List SourceInstruction → Type 0
 AllHave ss = AllByRecursion (λ s. HasWord s.instr) ss
 
-stated_have : (c : Context) (body : List Statement) (n : ℕ) (ss : List Statement) → AllHave (stated_from c body n ss)
+stated_have : (c : Context) (body : List Statement) (n : ℕ) (ss : List Statement) → AllHave (instructions_from c body n ss)
 stated_have c body n [] = tt
 stated_have c body n (s ∷ ss) = by (is_empty_statement s.code) refl (stated_have c body n ss) (stated_have c body (suc n) ss)
   where
-    by : (b : Bool) → is_empty_statement s.code ≡ b → AllHave (stated_from c body n ss) → AllHave (stated_from c body (suc n) ss)
-        → AllHave (if b then stated_from c body n ss else record { instr = instruction c body n s; line = s.line } ∷ stated_from c body (suc n) ss)
+    by : (b : Bool) → is_empty_statement s.code ≡ b → AllHave (instructions_from c body n ss) → AllHave (instructions_from c body (suc n) ss)
+        → AllHave (if b then instructions_from c body n ss else record { instr = instruction c body n s; line = s.line } ∷ instructions_from c body (suc n) ss)
     by true e more next = more
     by false e more next = (instruction_has c body n s e, next)
 
 pub have_words : HaveWords
 unfolding statements_of
-have_words c b = all_append (λ s. HasWord s.instr) (stated_from c b.body 0 b.body) (return_statement b ∷ []) (stated_have c b.body 0 b.body) (end_has ends.Be, tt)
+have_words c b = all_append (λ s. HasWord s.instr) (instructions_from c b.body 0 b.body) (return_statement b ∷ []) (stated_have c b.body 0 b.body) (end_has ends.Be, tt)

@@ -9,7 +9,7 @@ use Rattle.stl_symbols.specs.Symbol.{Symbol}
 use Rattle.block_layout.specs.Layouts.{layouts_of}
 use Rattle.block_layout.specs.declared.blocks.BlockLayout.{BlockLayout}
 use Rattle.stl_codegen.specs.CompiledBlock.{StatedBlock, compiled_block, lines_in}
-use Rattle.stl_codegen.specs.GeneratedProgram.{code_block, code_blocks_of, stated_from}
+use Rattle.stl_codegen.specs.GeneratedProgram.{code_block, code_blocks_of, instructions_from}
 use Rattle.stl_list.specs.Statements.{ListingContext, body_of, listing_context}
 use Rattle.sem_kept.specs.AcceptedSource.{IsAccepted, program_in}
 use Rattle.listing_laws.specs.ListedSource.{IsMadeOf, IsWholeAgain, again_at, context_at, listed_again}
@@ -44,7 +44,7 @@ IsBodyKept symbols t others again place b l id =
     (body_again symbols t (made_block symbols t place b l id))
     (listing_context_again symbols t (made_block symbols t place b l id))
     (statement_offset (made_block symbols t place b l id).statements) 0
-    (stated_from (context_at symbols t place) b.body 0 b.body)
+    (instructions_from (context_at symbols t place) b.body 0 b.body)
 
 -- in each listed body of a source's program each statement comes to the instruction that it was
 -- made of

@@ -8,7 +8,7 @@ use Rattle.stl_ast.specs.declared.statements.Statement.{Statement}
 use Rattle.stl_types.specs.Context.{Context}
 use Rattle.stl_types.specs.Resolution.{whole_called_block}
 use Rattle.stl_types.specs.ResolvedStatement.{resolved_operand}
-use Rattle.stl_types.specs.declared.views.ResolvedOperand.{ResolvedOperand}
+use Rattle.stl_types.specs.declared.resolved_operands.ResolvedOperand.{ResolvedOperand}
 use Rattle.stl_codegen.specs.Instruction.{instruction}
 use Rattle.stl_codegen.specs.Operations.{call_operation_of}
 use Rattle.stl_list.specs.Statements.{ListingContext, listed_statement}

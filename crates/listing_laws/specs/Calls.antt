@@ -18,7 +18,7 @@ use Rattle.stl_types.specs.Context.{Context, whole_data_place}
 use Rattle.stl_types.specs.Parameters.{Callee, callee_of}
 use Rattle.stl_types.specs.ResolvedStatement.{resolved_operand}
 use Rattle.stl_types.specs.declared.parameters.Formal.{Formal}
-use Rattle.stl_types.specs.declared.views.ResolvedOperand.TheVariants as resolved
+use Rattle.stl_types.specs.declared.resolved_operands.ResolvedOperand.TheVariants as resolved
 use Rattle.stl_codegen.specs.Instruction.{instruction}
 use Rattle.stl_codegen.specs.Operations.{call_operation_of}
 use Rattle.stl_codegen.specs.EmittedOps.{pass_ops}

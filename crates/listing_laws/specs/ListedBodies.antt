@@ -4,7 +4,7 @@ use Rattle.stl_ast.specs.Statements.{is_empty_statement}
 use Rattle.stl_ast.specs.declared.statements.Statement.{Statement}
 use Rattle.stl_types.specs.Context.{Context}
 use Rattle.stl_codegen.specs.CompiledBlock.{SourceInstruction, StatedBlock, compiled_block, lines_in}
-use Rattle.stl_codegen.specs.GeneratedProgram.{stated_from}
+use Rattle.stl_codegen.specs.GeneratedProgram.{instructions_from}
 use Rattle.stl_codegen.specs.Instruction.{instruction}
 use Rattle.stl_list.specs.Signatures.{Signature}
 use Rattle.stl_list.specs.Statements.{ListingContext, body_of, listed_statement, listing_context}
@@ -29,6 +29,6 @@ AreBodiesKept =
     → AreKeptFrom listed (body_of signatures (lines_in b.statements) (compiled_block b))
     (listing_context signatures (lines_in b.statements) (compiled_block b))
     (statement_offset b.statements) 0 ss
-    → stated_from listed (body_of signatures (lines_in b.statements) (compiled_block b)) 0
+    → instructions_from listed (body_of signatures (lines_in b.statements) (compiled_block b)) 0
     (body_of signatures (lines_in b.statements) (compiled_block b))
     ≡ ss

@@ -15,15 +15,15 @@ use Rattle.stl_ast.specs.declared.operands.Operand.TheVariants as operand
 use Rattle.block_layout.specs.Fits.{bits_of, fits_elementary_type}
 use Rattle.block_layout.specs.Offsets.{width_of}
 use Rattle.stl_types.specs.Context.{Context, data_number}
-use Rattle.stl_types.specs.Forms.{form_of}
-use Rattle.stl_types.specs.Operands.{is_input, operand_rule}
+use Rattle.stl_types.specs.OperandRules.{operand_rule_of}
+use Rattle.stl_types.specs.Operands.{is_input, rule_of_operand}
 use Rattle.stl_types.specs.Resolution.{resolution_of}
 use Rattle.stl_types.specs.Variables.{own_variable}
 use Rattle.stl_types.specs.declared.parameters.Formal.{Formal}
-use Rattle.stl_types.specs.declared.views.Resolution.TheVariants.{Resolved}
-use Rattle.stl_types.specs.declared.views.ResolvedOperand.{ResolvedOperand}
-use Rattle.stl_types.specs.declared.views.ResolvedOperand.TheVariants as resolved
-use Rattle.stl_codegen.specs.Operands.{block_opened_by_operand, opened_by_place, flat_operand_of}
+use Rattle.stl_types.specs.declared.resolved_operands.Resolution.TheVariants.{Resolved}
+use Rattle.stl_types.specs.declared.resolved_operands.ResolvedOperand.{ResolvedOperand}
+use Rattle.stl_types.specs.declared.resolved_operands.ResolvedOperand.TheVariants as resolved
+use Rattle.stl_codegen.specs.Operands.{block_opened_by_operand, block_opened_by_place, flat_operand_of}
 use Rattle.stl_codegen.specs.Operations.{operation_for}
 use Rattle.stl_parser.specs.Operands.{data_block_name}
 use Rattle.stl_list.specs.Operands.{name_at, operand_of_run as listed_operand}
@@ -68,7 +68,7 @@ pub record IsPointer (a : Option Area) (byte bit : ℕ) : Type 0 where
 -- in their ranges
 abbrev pub StandsAgain : Context → List Formal → ResolvedOperand → Type 0
 StandsAgain listed formals (resolved.Direct place width side declared) =
-    IsOpenedAgain listed (opened_by_place place)
+    IsOpenedAgain listed (block_opened_by_place place)
 StandsAgain listed formals (resolved.Parameter index section declared) =
     IsParameterAgain listed formals index section declared
 StandsAgain listed formals (resolved.OpenBlock di number) = IsOpenedAgain listed (Some number)
@@ -99,7 +99,7 @@ pub record IsActedAgain (listed : Context) (m : Mnemonic) (o again : Operand) (v
   -- the listing's operand resolves to `found`
   pub resolves : resolution_of listed again ≡ Resolved found
   -- the instruction takes the listing's operand
-  pub right : operand_rule listed (form_of m) again ≡ None
+  pub right : rule_of_operand listed (operand_rule_of m) again ≡ None
   -- the same data block is opened before it, if any
   pub opened : block_opened_by_operand found ≡ block_opened_by_operand v
   -- the operation is the same with both operands
@@ -118,7 +118,7 @@ abbrev pub AreOperandsKept : Type 0
 AreOperandsKept =
     (c listed : Context) (formals : List Formal) (starts : List ℕ) (f : ℕ → ℕ) (m : Mnemonic)
     (o : Operand) (v : ResolvedOperand)
-    → IsStraightLine m → operand_rule c (form_of m) o ≡ None → resolution_of c o ≡ Resolved v
+    → IsStraightLine m → rule_of_operand c (operand_rule_of m) o ≡ None → resolution_of c o ≡ Resolved v
     → IsConstantResolved o v → StandsAgain listed formals v
     → IsActedAgain listed m o
     (listed_operand formals starts (run_of f (operand_instruction m o v))) v

@@ -6,15 +6,15 @@ use Rattle.stl_ast.specs.declared.blocks.Block.{Block}
 use Rattle.stl_ast.specs.declared.blocks.Tree.{Tree}
 use Rattle.stl_symbols.specs.Symbol.{Symbol}
 use Rattle.block_layout.specs.Around.{refusals_in_block}
-use Rattle.block_layout.specs.Rule21.{broken_21}
-use Rattle.block_layout.specs.Rule23.{broken_23}
-use Rattle.block_layout.specs.Rule41.{broken_41}
-use Rattle.block_layout.specs.Rule42.{broken_42}
+use Rattle.block_layout.specs.Rule21.{refusals_21}
+use Rattle.block_layout.specs.Rule23.{refusals_23}
+use Rattle.block_layout.specs.Rule41.{refusals_41}
+use Rattle.block_layout.specs.Rule42.{refusals_42}
 use Rattle.block_layout.specs.Rule43.{contains_itself}
 use Rattle.block_layout.specs.Rule44.{has_wrong_number}
 use Rattle.block_layout.specs.Rule50.{has_too_much_local}
 use Rattle.block_layout.specs.Rule51.{is_too_long}
-use Rattle.block_layout.specs.Rule56.{broken_56}
+use Rattle.block_layout.specs.Rule56.{refusals_56}
 use Rattle.block_layout.specs.Types.{Types}
 use Rattle.stl_list.specs.CodeBlocks.{listed_block}
 use Rattle.stl_list.specs.DataBlocks.{listed_data}
@@ -25,15 +25,15 @@ use Rattle.listing_laws.specs.ListedDeclarations.{signatures_in}
 -- it
 pub record AreDeclarationsRight (y : Types) (b : Block) : Type 0 where
   -- no name is declared twice in a list
-  pub by_21 : refusals_in_block broken_21 b ≡ []
+  pub by_21 : refusals_in_block refusals_21 b ≡ []
   -- no declaration has an unknown data type
-  pub by_23 : refusals_in_block (broken_23 y) b ≡ []
+  pub by_23 : refusals_in_block (refusals_23 y) b ≡ []
   -- initial values fit the types of their declarations
-  pub by_41 : refusals_in_block broken_41 b ≡ []
+  pub by_41 : refusals_in_block refusals_41 b ≡ []
   -- no array has its upper bound below its lower one
-  pub by_42 : refusals_in_block broken_42 b ≡ []
+  pub by_42 : refusals_in_block refusals_42 b ≡ []
   -- no types are nested more than 8 deep
-  pub by_56 : refusals_in_block (broken_56 y) b ≡ []
+  pub by_56 : refusals_in_block (refusals_56 y) b ≡ []
 
 -- a block is no data type that contains itself, has a number that its kind may have, and no more
 -- than 1,024 bytes of local data, whatever blocks and symbols stand beside it

@@ -12,9 +12,9 @@ use Rattle.block_layout.specs.Layouts.{layouts_of}
 use Rattle.block_layout.specs.Measures.{types_of_source}
 use Rattle.block_layout.specs.Rule21.{rule_21}
 use Rattle.block_layout.specs.Rule22.{rule_22}
-use Rattle.block_layout.specs.Rule23.{broken_23, has_unknown_head}
-use Rattle.block_layout.specs.Rule41.{broken_41}
-use Rattle.block_layout.specs.Rule42.{broken_42}
+use Rattle.block_layout.specs.Rule23.{refusals_23, has_unknown_head}
+use Rattle.block_layout.specs.Rule41.{refusals_41}
+use Rattle.block_layout.specs.Rule42.{refusals_42}
 use Rattle.block_layout.specs.Rule43.{rule_43}
 use Rattle.block_layout.specs.Rule44.{rule_44}
 use Rattle.block_layout.specs.Rule50.{rule_50}
@@ -45,11 +45,11 @@ pub record AreBlocksRight (symbols : List Symbol) (blocks : List Block) : Type 0
   pub heads_23 :
       on_heads (λ before b. has_unknown_head (types_of_source symbols blocks) b) 23 blocks ≡ []
   -- no declaration has an unknown data type
-  pub declared_23 : refusals_in_blocks (broken_23 (types_of_source symbols blocks)) blocks ≡ []
+  pub declared_23 : refusals_in_blocks (refusals_23 (types_of_source symbols blocks)) blocks ≡ []
   -- initial values fit the types of their declarations
-  pub declared_41 : refusals_in_blocks broken_41 blocks ≡ []
+  pub declared_41 : refusals_in_blocks refusals_41 blocks ≡ []
   -- no array has its upper bound below its lower one
-  pub declared_42 : refusals_in_blocks broken_42 blocks ≡ []
+  pub declared_42 : refusals_in_blocks refusals_42 blocks ≡ []
   -- no data type contains itself
   pub by_43 : rule_43 (types_of_source symbols blocks) blocks ≡ []
   -- no block has a number beyond the limits of its kind

@@ -20,15 +20,15 @@ use Rattle.block_layout.specs.Paths.{elementary_at}
 use Rattle.block_layout.specs.declared.cells.Cell.{Cell}
 use Rattle.block_layout.specs.declared.cells.Element.{Element}
 use Rattle.block_layout.specs.declared.cells.Element.TheVariants as element
-use Rattle.block_layout.specs.declared.walks.PathEnd.{PathEnd}
-use Rattle.block_layout.specs.declared.walks.PathEnd.TheVariants as path_end
+use Rattle.block_layout.specs.declared.path_ends.PathEnd.{PathEnd}
+use Rattle.block_layout.specs.declared.path_ends.PathEnd.TheVariants as path_end
 use Rattle.stl_types.specs.Addresses.{address_in_block}
 use Rattle.stl_types.specs.Context.{Context, data_number, in_function}
 use Rattle.stl_types.specs.Resolution.{resolution_of_address, resolution_of_path, resolution_of_symbol, resolved_target}
 use Rattle.stl_types.specs.Variables.{composite_operand, data_at, data_path, data_at_path_end, date_or_composite, own_at, own_at_path_end, parameter_at, parameter_resolution, variable_in_area}
-use Rattle.stl_types.specs.declared.views.Resolution.{Resolution}
-use Rattle.stl_types.specs.declared.views.Resolution.TheVariants.{Resolved}
-use Rattle.stl_types.specs.declared.views.ResolvedOperand.TheVariants as resolved
+use Rattle.stl_types.specs.declared.resolved_operands.Resolution.{Resolution}
+use Rattle.stl_types.specs.declared.resolved_operands.Resolution.TheVariants.{Resolved}
+use Rattle.stl_types.specs.declared.resolved_operands.ResolvedOperand.TheVariants as resolved
 
 -- one of these, or nothing that is seen; the data block of a place has such a number
 abbrev pub IsReached : (ℕ → Type 0) → Resolution → Type 0

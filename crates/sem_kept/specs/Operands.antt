@@ -16,7 +16,8 @@ use Rattle.flat_code.specs.declared.operations.CallOperation.TheVariants as call
 use Rattle.stl_ast.specs.Literals.{AreBytes}
 use Rattle.stl_ast.specs.declared.blocks.Tree.{Tree}
 use Rattle.stl_symbols.specs.Symbol.{Symbol}
-use Rattle.stl_codegen.specs.EmittedOps.{op_with_end_mark, instance_number_or_zero, pass_ops}
+use Rattle.block_layout.specs.Fits.{number_or_zero}
+use Rattle.stl_codegen.specs.EmittedOps.{op_with_end_mark, pass_ops}
 use Rattle.stl_codegen.specs.Fitting.{IsStill}
 use Rattle.sem_kept.specs.AcceptedSource.{IsAccepted, program_in}
 use Rattle.plc_base.specs.Kinds.{kind_number}
@@ -68,7 +69,7 @@ InstrFits a lens (Calls how block instance ps) =
     PassesAlone how ps
     × ArePassed a (callee_among a.blocks (kind_number block.kind) block.number) None ps
     × (is_bad_call lens (callee_among a.blocks (kind_number block.kind) block.number)
-    (instance_number_or_zero instance) (pass_ops ps) ≡ false)
+    (number_or_zero instance) (pass_ops ps) ≡ false)
 InstrFits a lens _ = Unit {0}
 
 -- ---- ops at their places

@@ -13,14 +13,14 @@ use Rattle.stl_symbols.specs.declared.targets.Target.TheVariants as target
 use Rattle.plc_base.specs.declared.places.Width.{Width}
 use Rattle.stl_types.specs.Addresses.{address_in_block}
 use Rattle.stl_types.specs.Context.{Context, data_number}
-use Rattle.stl_types.specs.Forms.{form_of}
+use Rattle.stl_types.specs.OperandRules.{operand_rule_of}
 use Rattle.stl_types.specs.Operands.{rule_of_resolved_operand, takes_operand}
 use Rattle.stl_types.specs.Resolution.{resolution_of_opened_block, resolution_of, resolution_of_symbol, resolved_target}
-use Rattle.stl_types.specs.declared.forms.OperandRule.{OperandRule}
-use Rattle.stl_types.specs.declared.forms.OperandRule.TheVariants as operand_rules
-use Rattle.stl_types.specs.declared.views.Resolution.TheVariants.{Resolved}
-use Rattle.stl_types.specs.declared.views.ResolvedOperand.{ResolvedOperand}
-use Rattle.stl_types.specs.declared.views.ResolvedOperand.TheVariants as resolved
+use Rattle.stl_types.specs.declared.operand_rules.OperandRule.{OperandRule}
+use Rattle.stl_types.specs.declared.operand_rules.OperandRule.TheVariants as operand_rules
+use Rattle.stl_types.specs.declared.resolved_operands.Resolution.TheVariants.{Resolved}
+use Rattle.stl_types.specs.declared.resolved_operands.ResolvedOperand.{ResolvedOperand}
+use Rattle.stl_types.specs.declared.resolved_operands.ResolvedOperand.TheVariants as resolved
 use Rattle.statement_laws.specs.Laws.{OperandsAreNamed, has_fixed_name}
 use Rattle.statement_laws.specs.NamedOperands.{NamedItem}
 use Rattle.statement_laws.specs.NamedOperands as named
@@ -147,5 +147,5 @@ named_there c (operand.OfStatus flag) v h r e = there _ refl
 pub operands_are_named : OperandsAreNamed
 operands_are_named c s v h e =
     named_there c s.operand v h
-    (name_left c (form_of s.code) s.operand v ((resolved_parts c s v e).0) ((resolved_parts c s v e).1))
+    (name_left c (operand_rule_of s.code) s.operand v ((resolved_parts c s v e).0) ((resolved_parts c s v e).1))
     ((resolved_parts c s v e).1)

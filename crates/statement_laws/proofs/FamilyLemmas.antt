@@ -18,9 +18,9 @@ use Rattle.stl_ast.specs.declared.mnemonics.Mnemonic.TheVariants as code
 use Rattle.stl_ast.specs.declared.operands.Operand.{Operand}
 use Rattle.stl_ast.specs.declared.statements.Statement.{Statement}
 use Rattle.stl_types.specs.Context.{Context}
-use Rattle.stl_types.specs.Forms.{form_of}
+use Rattle.stl_types.specs.OperandRules.{operand_rule_of}
 use Rattle.stl_types.specs.ResolvedStatement.{resolved_operand}
-use Rattle.stl_types.specs.declared.views.ResolvedOperand.{ResolvedOperand}
+use Rattle.stl_types.specs.declared.resolved_operands.ResolvedOperand.{ResolvedOperand}
 use Rattle.stl_codegen.specs.Instruction.{end_instr, instr_by, instruction, resolved_instr, operand_instr}
 use Rattle.stl_codegen.specs.Operands as codegen
 use Rattle.stl_codegen.specs.Operations.{call_operation_of, end_operation_of, jump_operation_of, operation_for}
@@ -75,7 +75,7 @@ pub record IsAction (m : Mnemonic) (o : Operand) (v : ResolvedOperand) (x : Name
 
 -- what is known of it
 pub record IsTakenOperand (m : Mnemonic) (o : Operand) (v : ResolvedOperand) (x : NamedItem) : Type 0 where
-  pub rule : rule_with_constant (form_of m) (about o) v ≡ None
+  pub rule : rule_with_constant (operand_rule_of m) (about o) v ≡ None
   pub there : view_named (about o) v ≡ Some x
 
 pub acts : (c : Context) (body : List Statement) (n : ℕ) (s : Statement) (v : ResolvedOperand) (x : NamedItem)
@@ -112,7 +112,7 @@ action_of m o v x j c e h = record { no_jump = j; no_call = c; no_end = e; same 
 
 bit_logic : (m : Mnemonic) (o : Operand) (v : ResolvedOperand) (x : NamedItem) → is_bit_logic m ≡ true
     → IsTakenOperand m o v x → IsAction m o v x
-unfolding operation_for effect_of_operation form_of effect.operation_effect
+unfolding operation_for effect_of_operation operand_rule_of effect.operation_effect
 bit_logic code.A o v x is g =
     action_of code.A o v x refl refl refl
     (λ q. action_lemmas.checks_same check.A (as_open x) q
@@ -198,7 +198,7 @@ bit_logic_acts c body n s v x is e names =
 
 load_or_transfer : (m : Mnemonic) (o : Operand) (v : ResolvedOperand) (x : NamedItem) → is_load_or_transfer m ≡ true
     → IsTakenOperand m o v x → IsAction m o v x
-unfolding operation_for effect_of_operation form_of effect.operation_effect pointer.pointer_effect
+unfolding operation_for effect_of_operation operand_rule_of effect.operation_effect pointer.pointer_effect
 load_or_transfer code.L o v x is g =
     action_of code.L o v x refl refl refl
     (λ q. ap (λ op. effect.operation_effect op (flat_of (as_open x)) q) (rules.load_named (about o) v x g.there)
@@ -245,7 +245,7 @@ load_or_transfer_acts c body n s v x is e names =
 
 number_instruction : (m : Mnemonic) (o : Operand) (v : ResolvedOperand) (x : NamedItem) → is_number_instruction m ≡ true
     → IsTakenOperand m o v x → IsAction m o v x
-unfolding operation_for effect_of_operation form_of effect.operation_effect numbers.number_effect numbers.word_logic_effect
+unfolding operation_for effect_of_operation operand_rule_of effect.operation_effect numbers.number_effect numbers.word_logic_effect
 number_instruction code.Tak o v x is g =
     action_of code.Tak o v x refl refl refl
     (λ q. refl)
@@ -366,7 +366,7 @@ number_instruction_acts c body n s v x is e names =
 
 comparison : (m : Mnemonic) (o : Operand) (v : ResolvedOperand) (x : NamedItem) → is_comparison m ≡ true
     → IsTakenOperand m o v x → IsAction m o v x
-unfolding operation_for effect_of_operation form_of effect.operation_effect
+unfolding operation_for effect_of_operation operand_rule_of effect.operation_effect
 comparison code.EqI o v x is g =
     action_of code.EqI o v x refl refl refl
     (λ q. refl)
@@ -411,7 +411,7 @@ comparison_acts c body n s v x is e names =
 
 shift : (m : Mnemonic) (o : Operand) (v : ResolvedOperand) (x : NamedItem) → is_shift m ≡ true
     → IsTakenOperand m o v x → IsAction m o v x
-unfolding operation_for effect_of_operation form_of effect.operation_effect numbers.number_effect numbers.shift_effect
+unfolding operation_for effect_of_operation operand_rule_of effect.operation_effect numbers.number_effect numbers.shift_effect
 shift code.Ssi o v x is g =
     action_of code.Ssi o v x refl refl refl
     (λ q. action_lemmas.shift_same shift_word.Ssi (shifts.accumulator_shifted_signed 16) (as_open x) q
@@ -466,7 +466,7 @@ shift_acts c body n s v x is e names =
 
 timing : (m : Mnemonic) (o : Operand) (v : ResolvedOperand) (x : NamedItem) → is_timing m ≡ true
     → IsTakenOperand m o v x → IsAction m o v x
-unfolding operation_for effect_of_operation form_of
+unfolding operation_for effect_of_operation operand_rule_of
 timing code.Sp o v x is g =
     action_of code.Sp o v x refl refl refl
     (λ q. action_lemmas.start_same timer.Sp (as_open x) q
@@ -507,7 +507,7 @@ timing_acts c body n s v x is e names =
 
 relay : (m : Mnemonic) (o : Operand) (v : ResolvedOperand) (x : NamedItem) → is_relay m ≡ true
     → IsTakenOperand m o v x → IsAction m o v x
-unfolding operation_for effect_of_operation form_of effect.operation_effect
+unfolding operation_for effect_of_operation operand_rule_of effect.operation_effect
 relay code.Mcra o v x is g =
     action_of code.Mcra o v x refl refl refl
     (λ q. refl)
@@ -528,7 +528,7 @@ relay_acts c body n s v x is e names =
 
 data_block : (m : Mnemonic) (o : Operand) (v : ResolvedOperand) (x : NamedItem) → is_data_block_instruction m ≡ true
     → IsTakenOperand m o v x → IsAction m o v x
-unfolding operation_for effect_of_operation form_of effect.operation_effect data_blocks.registers_exchanged
+unfolding operation_for effect_of_operation operand_rule_of effect.operation_effect data_blocks.registers_exchanged
 data_block code.Opn o v x is g =
     action_of code.Opn o v x refl refl refl
     (λ q. action_lemmas.open_same (as_open x) q
@@ -544,7 +544,7 @@ data_block_acts c body n s v x is e names =
 
 idle : (m : Mnemonic) (o : Operand) (v : ResolvedOperand) (x : NamedItem) → is_idle m ≡ true
     → IsTakenOperand m o v x → IsAction m o v x
-unfolding operation_for effect_of_operation form_of effect.operation_effect
+unfolding operation_for effect_of_operation operand_rule_of effect.operation_effect
 idle code.Nop o v x is g =
     action_of code.Nop o v x refl refl refl
     (λ q. refl)

@@ -24,26 +24,26 @@ use Rattle.stl_ast.specs.declared.statements.Statement.{Statement}
 use Rattle.stl_symbols.specs.Symbol.{Symbol}
 use Rattle.stl_symbols.specs.declared.targets.Target.{Target}
 use Rattle.stl_symbols.specs.declared.targets.Target.TheVariants as target
-use Rattle.block_layout.specs.Blocks.{block_of, place_of_block, is_block_number, is_id, known_block, named_block, of_kind}
+use Rattle.block_layout.specs.Blocks.{block_of_symbol_target, place_of_block, is_block_number, is_id, known_block, named_block, of_kind}
 use Rattle.block_layout.specs.Paths.{whole_at}
 use Rattle.block_layout.specs.declared.blocks.BlockLayout.{BlockLayout}
-use Rattle.block_layout.specs.Fits.{bits_of, number_from, or_0, twos_complement_bits}
+use Rattle.block_layout.specs.Fits.{bits_of, number_from, number_or_zero as number_or_0, twos_complement_bits}
 use Rattle.block_layout.specs.Offsets.{width_of}
 use Rattle.stl_types.specs.Addresses.{resolved_address, address_in_block, area_of_pointer, area_for_letters}
 use Rattle.stl_types.specs.Constants.{takes_constant}
 use Rattle.stl_types.specs.Context.{Context, data_number, number_of_block}
-use Rattle.stl_types.specs.Forms.{form_of}
-use Rattle.stl_types.specs.Operands.{operand_rule, rule_of_resolved_operand, rule_of_resolution, statement_rule}
+use Rattle.stl_types.specs.OperandRules.{operand_rule_of}
+use Rattle.stl_types.specs.Operands.{rule_of_operand, rule_of_resolved_operand, rule_of_resolution, statement_rule}
 use Rattle.stl_types.specs.Resolution.{resolution_of_opened_block, resolution_of, resolution_of_symbol, resolved_target}
 use Rattle.stl_types.specs.ResolvedStatement.{resolved_operand, operand_if_resolved}
-use Rattle.stl_types.specs.declared.forms.OperandRule.{OperandRule}
-use Rattle.stl_types.specs.declared.views.Register.{Register}
-use Rattle.stl_types.specs.declared.views.Register.TheVariants as register
-use Rattle.stl_types.specs.declared.views.Resolution.{Resolution}
-use Rattle.stl_types.specs.declared.views.Resolution.TheVariants.{Resolved, Unknown, Unjudged}
-use Rattle.stl_types.specs.declared.views.Side.TheVariants as side
-use Rattle.stl_types.specs.declared.views.ResolvedOperand.{ResolvedOperand}
-use Rattle.stl_types.specs.declared.views.ResolvedOperand.TheVariants as resolved
+use Rattle.stl_types.specs.declared.operand_rules.OperandRule.{OperandRule}
+use Rattle.stl_types.specs.declared.resolved_operands.Register.{Register}
+use Rattle.stl_types.specs.declared.resolved_operands.Register.TheVariants as register
+use Rattle.stl_types.specs.declared.resolved_operands.Resolution.{Resolution}
+use Rattle.stl_types.specs.declared.resolved_operands.Resolution.TheVariants.{Resolved, Unknown, Unjudged}
+use Rattle.stl_types.specs.declared.resolved_operands.Side.TheVariants as side
+use Rattle.stl_types.specs.declared.resolved_operands.ResolvedOperand.{ResolvedOperand}
+use Rattle.stl_types.specs.declared.resolved_operands.ResolvedOperand.TheVariants as resolved
 use Rattle.stl_codegen.specs.Operands as codegen
 use Rattle.statement_laws.specs.NamedOperands.{NamedItem, ItemNumber, OpenBlockFact, OperandPlace}
 use Rattle.statement_laws.specs.NamedOperands as named
@@ -99,7 +99,7 @@ bytes_same : (n : ℕ) (bytes : List ℕ) → number_from n bytes ≡ number_beh
 bytes_same n [] = refl
 bytes_same n (b ∷ bs) = bytes_same (256 * n + b) bs
 
-none_same : (o : Option ℕ) → or_0 o ≡ number_or_zero o
+none_same : (o : Option ℕ) → number_or_0 o ≡ number_or_zero o
 none_same None = refl
 none_same (Some n) = refl
 
@@ -148,7 +148,7 @@ db_opens false n w byte bit = refl
 
 place_opens : (a : Area) (n : ℕ) (w : Width) (byte bit : ℕ)
     → opens_first (place_by a n w byte bit)
-    ≡ codegen.opened_by_place (record { area = a; number = n; byte = byte; bit = bit })
+    ≡ codegen.block_opened_by_place (record { area = a; number = n; byte = byte; bit = bit })
 place_opens area.Db n w byte bit = db_opens (nat_eq n 0) n w byte bit
 place_opens area.I n w byte bit = refl
 place_opens area.Q n w byte bit = refl
@@ -224,7 +224,7 @@ rule_with_constant f (Some value) v = if takes_constant f value then None else S
 rule_with_constant f None v = rule_of_resolved_operand f v
 
 rule_same : (c : Context) (f : OperandRule) (o : Operand) (v : ResolvedOperand)
-    → resolution_of c o ≡ Resolved v → operand_rule c f o ≡ rule_with_constant f (about o) v
+    → resolution_of c o ≡ Resolved v → rule_of_operand c f o ≡ rule_with_constant f (about o) v
 rule_same c f (operand.Constant value) v e = refl
 rule_same c f o v e = ap (rule_of_resolution f) e
 
@@ -239,11 +239,11 @@ resolution_same None Unjudged v e = absurd cc
 resolution_same (Some rule) n v e = absurd cc
 
 pub resolved_parts : (c : Context) (s : Statement) (v : ResolvedOperand) → resolved_operand c s ≡ Some v
-    → (rule_with_constant (form_of s.code) (about s.operand) v ≡ None) × (resolution_of c s.operand ≡ Resolved v)
+    → (rule_with_constant (operand_rule_of s.code) (about s.operand) v ≡ None) × (resolution_of c s.operand ≡ Resolved v)
 unfolding resolved_operand
 resolved_parts c s v e =
     let parts = resolution_same (statement_rule c s) (resolution_of c s.operand) v e in
-    (sym (rule_same c (form_of s.code) s.operand v parts.1) ∙ parts.0, parts.1)
+    (sym (rule_same c (operand_rule_of s.code) s.operand v parts.1) ∙ parts.0, parts.1)
 
 -- ---- operands
 
@@ -365,7 +365,7 @@ meant_number ls (Some id) n e = by (is_data_block id.kind) e
     by false h = absurd cc
 
 target_block : (o : Option Target)
-    → block_of o ≡ option_and_then own.block_of_target o
+    → block_of_symbol_target o ≡ option_and_then own.block_of_target o
 target_block None = refl
 target_block (Some (target.Block id)) = refl
 target_block (Some _) = refl

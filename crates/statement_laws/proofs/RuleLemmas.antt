@@ -13,10 +13,10 @@ use Rattle.stl_ast.specs.declared.operands.Operand.{Operand}
 use Rattle.stl_ast.specs.declared.operands.Operand.TheVariants as operand
 use Rattle.stl_types.specs.Constants.{takes_constant}
 use Rattle.stl_types.specs.Operands.{rule_of_resolved_operand, takes_operand}
-use Rattle.stl_types.specs.declared.forms.OperandRule.TheVariants as operand_rules
-use Rattle.stl_types.specs.declared.views.Register.TheVariants as register
-use Rattle.stl_types.specs.declared.views.ResolvedOperand.{ResolvedOperand}
-use Rattle.stl_types.specs.declared.views.ResolvedOperand.TheVariants as resolved
+use Rattle.stl_types.specs.declared.operand_rules.OperandRule.TheVariants as operand_rules
+use Rattle.stl_types.specs.declared.resolved_operands.Register.TheVariants as register
+use Rattle.stl_types.specs.declared.resolved_operands.ResolvedOperand.{ResolvedOperand}
+use Rattle.stl_types.specs.declared.resolved_operands.ResolvedOperand.TheVariants as resolved
 use Rattle.stl_codegen.specs.Operations as codegen
 use Rattle.statement_laws.specs.NamedOperands.{NamedItem}
 use Rattle.statement_laws.specs.NamedOperands as named

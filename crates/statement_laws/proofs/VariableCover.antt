@@ -31,17 +31,17 @@ use Rattle.block_layout.specs.declared.cells.Cell.{Cell}
 use Rattle.block_layout.specs.declared.cells.Element.{Element}
 use Rattle.block_layout.specs.declared.cells.Element.TheVariants as element
 use Rattle.block_layout.specs.declared.members.Member.{Member}
-use Rattle.block_layout.specs.declared.walks.ComponentAt.{ComponentAt}
-use Rattle.block_layout.specs.declared.walks.PathEnd.{PathEnd}
-use Rattle.block_layout.specs.declared.walks.PathEnd.TheVariants as path_end
+use Rattle.block_layout.specs.declared.path_ends.ComponentAt.{ComponentAt}
+use Rattle.block_layout.specs.declared.path_ends.PathEnd.{PathEnd}
+use Rattle.block_layout.specs.declared.path_ends.PathEnd.TheVariants as path_end
 use Rattle.stl_types.specs.Context.{Context, data_number, data_place, in_function, number_of_block, is_of_function}
-use Rattle.stl_types.specs.Forms.{form_of}
+use Rattle.stl_types.specs.OperandRules.{operand_rule_of}
 use Rattle.stl_types.specs.Resolution.{resolution_of}
 use Rattle.stl_types.specs.Variables.{data_at, data_path, data_variable, data_at_path_end, variable_in_area, own_at, own_variable, own_at_path_end, parameter_at}
 use Rattle.stl_types.specs.Variables as variables
-use Rattle.stl_types.specs.declared.views.Resolution.TheVariants.{Resolved, Unknown}
-use Rattle.stl_types.specs.declared.views.ResolvedOperand.{ResolvedOperand}
-use Rattle.stl_types.specs.declared.views.ResolvedOperand.TheVariants as resolved
+use Rattle.stl_types.specs.declared.resolved_operands.Resolution.TheVariants.{Resolved, Unknown}
+use Rattle.stl_types.specs.declared.resolved_operands.ResolvedOperand.{ResolvedOperand}
+use Rattle.stl_types.specs.declared.resolved_operands.ResolvedOperand.TheVariants as resolved
 use Rattle.statement_laws.specs.Laws.{HasElementaryParameters, VariablesAreNamed, is_elementary_component, is_variable, stays_inside}
 use Rattle.statement_laws.specs.NamedOperands.{NamedItem}
 use Rattle.statement_laws.specs.NamedOperands as named_as
@@ -146,7 +146,7 @@ no_bounds (b ∷ bounds) e = absurd (false≢true (sym (grind (arith, nat_tests)
 -- no step leads on from a parameter
 plain_names_none : (l : List BlockLayout) (component : ComponentAt) (name : List ℕ) (cell : Cell)
     (of : Element) → is_some (plain_kind of) ≡ true
-    → paths.named_in l component name cell of ≡ path_end.Unknown
+    → paths.path_end_in_component l component name cell of ≡ path_end.Unknown
 plain_names_none l component name cell (element.Plain kind) e = refl
 plain_names_none l component name cell _ e = absurd (false≢true e)
 
@@ -156,15 +156,15 @@ step_none : (l : List BlockLayout) (component : ComponentAt) (cell : Cell) (s : 
     → path_end_by_step l component s ≡ path_end.Unknown
 unfolding path_end_by_step path_end_by_name path_end_by_index
 step_none l component cell (step.Named name) d e there =
-    ap (paths.named_behind l component name) there
+    ap (paths.path_end_behind_name l component name) there
     ∙ by (nat_eq component.depth (length cell.bounds))
   where
     by : (b : Bool)
-        → (if b then paths.named_in l component name cell cell.of else path_end.Unknown) ≡ path_end.Unknown
+        → (if b then paths.path_end_in_component l component name cell cell.of else path_end.Unknown) ≡ path_end.Unknown
     by true = plain_names_none l component name cell cell.of ((elementary_parts _ _ e).1)
     by false = refl
 step_none l component cell (step.Index at) d e there =
-    ap (paths.indexed_behind component (cells_at l component.block component.temporary) at) there
+    ap (paths.path_end_behind_index component (cells_at l component.block component.temporary) at) there
     ∙ ap (λ o. paths.path_end_in_bounds component cell
     (drop (component.place + 1) (cells_at l component.block component.temporary)) at o)
     (ap (slice_get cell.bounds) d ∙ no_bounds cell.bounds ((elementary_parts _ _ e).0))
@@ -437,5 +437,5 @@ path_there c _ v plain is inside r e = absurd (false≢true is)
 pub variables_are_named : VariablesAreNamed
 variables_are_named c s v plain is inside e =
     path_there c s.operand v plain is inside
-    (name_left c (form_of s.code) s.operand v ((resolved_parts c s v e).0) ((resolved_parts c s v e).1))
+    (name_left c (operand_rule_of s.code) s.operand v ((resolved_parts c s v e).0) ((resolved_parts c s v e).1))
     ((resolved_parts c s v e).1)

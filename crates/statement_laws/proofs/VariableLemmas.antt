@@ -27,19 +27,19 @@ use Rattle.block_layout.specs.Paths.{cells_at, elementary_at, folded_path, if_wh
 use Rattle.block_layout.specs.declared.blocks.Section.TheVariants as section
 use Rattle.block_layout.specs.declared.cells.Cell.{Cell}
 use Rattle.block_layout.specs.declared.members.Member.{Member}
-use Rattle.block_layout.specs.declared.walks.ComponentAt.{ComponentAt}
-use Rattle.block_layout.specs.declared.walks.PathEnd.{PathEnd}
-use Rattle.block_layout.specs.declared.walks.PathEnd.TheVariants as path_end
+use Rattle.block_layout.specs.declared.path_ends.ComponentAt.{ComponentAt}
+use Rattle.block_layout.specs.declared.path_ends.PathEnd.{PathEnd}
+use Rattle.block_layout.specs.declared.path_ends.PathEnd.TheVariants as path_end
 use Rattle.block_layout.specs.Paths as paths
 use Rattle.stl_types.specs.Addresses.{resolved_address, area_of_pointer, area_for_letters}
 use Rattle.stl_types.specs.Context.{Context, data_number, in_function, is_of_function, whole_place}
 use Rattle.stl_types.specs.Resolution.{resolution_of_call, id_at, register_for_word, resolution_of, whole_called_block}
 use Rattle.stl_types.specs.Variables.{behind_others, data_at, data_path, data_variable, data_at_path_end, variable_in_area, own_at, own_elementary, own_variable, own_at_path_end, parameter_at}
 use Rattle.stl_types.specs.Variables as variables
-use Rattle.stl_types.specs.declared.views.Resolution.TheVariants.{Resolved, Unjudged}
-use Rattle.stl_types.specs.declared.views.Side.TheVariants as side
-use Rattle.stl_types.specs.declared.views.ResolvedOperand.{ResolvedOperand}
-use Rattle.stl_types.specs.declared.views.ResolvedOperand.TheVariants as resolved
+use Rattle.stl_types.specs.declared.resolved_operands.Resolution.TheVariants.{Resolved, Unjudged}
+use Rattle.stl_types.specs.declared.resolved_operands.Side.TheVariants as side
+use Rattle.stl_types.specs.declared.resolved_operands.ResolvedOperand.{ResolvedOperand}
+use Rattle.stl_types.specs.declared.resolved_operands.ResolvedOperand.TheVariants as resolved
 use Rattle.statement_laws.specs.NamedOperands.{NamedItem}
 use Rattle.statement_laws.specs.NamedOperands as named
 use Rattle.statement_laws.specs.Operands.{block_id_of_name, number_of_block_name, cell_width, component_named, components_of_block, named_fixed_place, has_result, place_in_layout, named_by, numbered_item, parameter_named, named_place, pointer_constant_bits, variable_by, variable_named, with_instance}

@@ -16,7 +16,7 @@ use Rattle.stl_codegen.specs.Bodies.{body_lines, body_ops, count_of_statements, 
 use Rattle.stl_codegen.specs.CompiledBlock.{SourceInstruction, StatedBlock, op_with_target, code_in, compiled_block, lines_in, offset_of_statement, ops_in, placed_ops}
 use Rattle.stl_codegen.specs.EmittedOps.{ops_of}
 use Rattle.stl_codegen.specs.Fitting.{CodeFits, HasNoOp}
-use Rattle.stl_codegen.specs.GeneratedProgram.{each_block, return_statement, stated_from, statements_of}
+use Rattle.stl_codegen.specs.GeneratedProgram.{each_block, return_statement, instructions_from, statements_of}
 use Rattle.stl_codegen.specs.Instruction.{instr_by, instruction, target_of}
 use Rattle.stl_codegen.specs.Operations.{jump_operation_of}
 use Rattle.stl_codegen.proofs.OpLemmas.{jump_ops}
@@ -39,11 +39,11 @@ if_ops : (empty : Bool) (more : List SourceInstruction) (one : SourceInstruction
 if_ops true more one next = refl
 if_ops false more one next = refl
 
-stated_ops : (c : Context) (body : List Statement) (n : ℕ) (ss : List Statement) → ops_in (stated_from c body n ss) ≡ flat_map (λ s. ops_here c body s) ss
+stated_ops : (c : Context) (body : List Statement) (n : ℕ) (ss : List Statement) → ops_in (instructions_from c body n ss) ≡ flat_map (λ s. ops_here c body s) ss
 unfolding ops_here
 stated_ops c body n [] = refl
 stated_ops c body n (s ∷ ss) =
-    if_ops (is_empty_statement s.code) (stated_from c body n ss) (record { instr = instruction c body n s; line = s.line }) (stated_from c body (suc n) ss)
+    if_ops (is_empty_statement s.code) (instructions_from c body n ss) (record { instr = instruction c body n s; line = s.line }) (instructions_from c body (suc n) ss)
     ∙ ops_step c body n s (is_empty_statement s.code) _ _ _ (stated_ops c body n ss) (stated_ops c body (suc n) ss)
 
 flat_both : {A B : Type 0} (f : A → List B) (xs ys : List A) → flat_map f (xs ++ ys) ≡ flat_map f xs ++ flat_map f ys
@@ -53,7 +53,7 @@ flat_both {B = B} f (x ∷ xs) ys = ap (λ (l : List B). f x ++ l) (flat_both f 
 pub body_ops_are : (c : Context) (b : Block) → ops_in (statements_of c b) ≡ body_ops c b
 unfolding statements_of ops_of
 body_ops_are c b =
-    flat_both (λ s. ops_of s.instr) (stated_from c b.body 0 b.body) (return_statement b ∷ [])
+    flat_both (λ s. ops_of s.instr) (instructions_from c b.body 0 b.body) (return_statement b ∷ [])
     ∙ ap (λ (l : List OpData). l ++ ops_of (return_statement b).instr) (stated_ops c b.body 0 b.body)
 
 if_lines : (empty : Bool) (more : List SourceInstruction) (one : SourceInstruction) (next : List SourceInstruction) (rest : List ℕ) → lines_in more ≡ rest → lines_in next ≡ rest →
@@ -61,15 +61,15 @@ if_lines : (empty : Bool) (more : List SourceInstruction) (one : SourceInstructi
 if_lines true more one next rest m k = m
 if_lines false more one next rest m k = ap (λ (l : List ℕ). one.line ∷ l) k
 
-stated_lines : (c : Context) (body : List Statement) (n : ℕ) (ss : List Statement) → lines_in (stated_from c body n ss) ≡ flat_map line_here ss
+stated_lines : (c : Context) (body : List Statement) (n : ℕ) (ss : List Statement) → lines_in (instructions_from c body n ss) ≡ flat_map line_here ss
 stated_lines c body n [] = refl
 stated_lines c body n (s ∷ ss) =
-    if_lines (is_empty_statement s.code) (stated_from c body n ss) (record { instr = instruction c body n s; line = s.line }) (stated_from c body (suc n) ss) _ (stated_lines c body n ss) (stated_lines c body (suc n) ss)
+    if_lines (is_empty_statement s.code) (instructions_from c body n ss) (record { instr = instruction c body n s; line = s.line }) (instructions_from c body (suc n) ss) _ (stated_lines c body n ss) (stated_lines c body (suc n) ss)
 
 pub body_lines_are : (c : Context) (b : Block) → lines_in (statements_of c b) ≡ body_lines b
 unfolding statements_of
 body_lines_are c b =
-    map-append (λ s. s.line) (stated_from c b.body 0 b.body) (return_statement b ∷ [])
+    map-append (λ s. s.line) (instructions_from c b.body 0 b.body) (return_statement b ∷ [])
     ∙ ap (λ (l : List ℕ). l ++ b.end_line ∷ []) (stated_lines c b.body 0 b.body)
 
 -- as many lines as statements

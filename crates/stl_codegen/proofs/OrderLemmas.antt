@@ -12,7 +12,7 @@ use Rattle.plc_base.specs.Kinds.{kind_number}
 use Rattle.flat_code.specs.Programs.{CodeBlock, NameEntry}
 use Rattle.flat_code.proofs.NameLemmas.{before_is_less}
 use Rattle.stl_codegen.specs.CompiledBlock.{StatedBlock, compiled_block}
-use Rattle.stl_codegen.specs.Order.{is_block_before, is_code_before, is_data_before, is_name_before, sorted_insertion, sorted_list}
+use Rattle.stl_codegen.specs.Order.{is_block_before, is_code_before, is_data_before, is_entry_before, sorted_insertion, sorted_list}
 
 -- ---- in order, by recursion
 
@@ -191,10 +191,10 @@ blocks_ordered = record {
 pub data_ordered : IsStrictWeakOrder is_data_before
 data_ordered = IsStrictWeakOrder-by_number (λ d. d.number)
 
-same_test : (a b : NameEntry) → is_lt (slice_cmp nat_cmp a.name b.name) ≡ is_name_before a b
+same_test : (a b : NameEntry) → is_lt (slice_cmp nat_cmp a.name b.name) ≡ is_entry_before a b
 same_test a b = before_is_less a.name b.name (slice_cmp nat_cmp a.name b.name) refl
 
-pub names_ordered : IsStrictWeakOrder is_name_before
+pub names_ordered : IsStrictWeakOrder is_entry_before
 names_ordered =
     let o = ranks_by nat_list_cmp_total (λ (e : NameEntry). e.name) in
     record {

@@ -6,14 +6,14 @@ use Rattle.stl_ast.specs.declared.statements.Statement.{Statement}
 use Rattle.stl_symbols.specs.Names.{name_place}
 use Rattle.stl_types.specs.Labels.{label_of, labels_of}
 use Rattle.stl_types.specs.Lists.{has_label}
-use Rattle.block_layout.specs.Fits.{or_0}
+use Rattle.block_layout.specs.Fits.{number_or_zero}
 use Rattle.stl_codegen.specs.Bodies.{AreTargets, count_of_statements, number_here, numbers_of_labels}
 use Rattle.stl_codegen.specs.Instruction.{count_of_statement, target_in}
 
 -- the number at a place; with no place, how many there are
 abbrev pub target_by : (numbers : List ℕ) (count : ℕ) → Option ℕ → ℕ
 target_by numbers count None = count
-target_by numbers count (Some place) = or_0 (slice_get numbers place)
+target_by numbers count (Some place) = number_or_zero (slice_get numbers place)
 
 target_behind : (n count : ℕ) (numbers : List ℕ) (place : Option ℕ) → target_by (n ∷ numbers) count (option_map (λ k. suc k) place) ≡ target_by numbers count place
 target_behind n count numbers None = refl

@@ -6,7 +6,6 @@ use Rattle.flat_code.specs.Ops.{OpData}
 use Rattle.flat_code.specs.declared.operations.EndOperation.TheVariants as ends
 use Rattle.stl_ast.specs.Statements.{is_empty_statement}
 use Rattle.stl_ast.specs.declared.blocks.Block.{Block}
-use Rattle.stl_ast.specs.declared.mnemonics.Mnemonic.{Mnemonic}
 use Rattle.stl_ast.specs.declared.statements.Statement.{Statement}
 use Rattle.stl_types.specs.Context.{Context}
 use Rattle.stl_types.specs.Labels.{labels_of}
@@ -28,10 +27,6 @@ line_here s = if is_empty_statement s.code then [] else s.line ∷ []
 -- the lines of a body: of each statement but the empty ones, and of its END clause
 abbrev pub body_lines : Block → List ℕ
 body_lines b = flat_map line_here b.body ++ b.end_line ∷ []
-
--- 0 for the empty statement, which has no number, and 1 for every other one
-abbrev pub count_of_mnemonic : Mnemonic → ℕ
-count_of_mnemonic code = if is_empty_statement code then 0 else 1
 
 -- how many statements these are, empty ones left out
 abbrev pub count_of_statements : List Statement → ℕ

@@ -14,6 +14,7 @@ use Rattle.flat_code.specs.declared.operations.CallOperation.{CallOperation}
 use Rattle.flat_code.specs.declared.operations.EndOperation.{EndOperation}
 use Rattle.flat_code.specs.declared.operations.Operation.{Operation}
 use Rattle.flat_code.specs.declared.operations.Operation.TheVariants as operation
+use Rattle.block_layout.specs.Fits.{number_or_zero}
 
 -- an op that prepares its statement, without the end mark
 abbrev pub preparing_op : Operation → Operand → OpData
@@ -37,16 +38,12 @@ pass_ops (p ∷ ps) = preparing_op operation.Pass (operand.Pass p.index p.actual
 abbrev pub jump_op : JumpOperation → (target : ℕ) → OpData
 jump_op how target = op_with_end_mark operation.Jump (operand.Jump (jump_number how) target)
 
--- the number of an instance; 0 stands for no instance
-abbrev pub instance_number_or_zero : Option ℕ → ℕ
-instance_number_or_zero None = 0
-instance_number_or_zero (Some number) = number
-
--- CALL, UC or CC, with kind and number of the called block, and the number of the instance or 0
+-- CALL, UC or CC, with kind and number of the called block, and the number of the instance; 0
+-- stands for no instance
 abbrev pub call_op : CallOperation → BlockId → (instance : Option ℕ) → OpData
 call_op how block instance =
     op_with_end_mark (operation.Call how)
-    (operand.Called (kind_number block.kind) block.number (instance_number_or_zero instance))
+    (operand.Called (kind_number block.kind) block.number (number_or_zero instance))
 
 -- BE, BEC or BEU, which have no operand
 abbrev pub end_op : EndOperation → OpData

@@ -24,31 +24,31 @@ use Rattle.stl_symbols.specs.declared.targets.Target.TheVariants as target
 use Rattle.block_layout.specs.InitialBytes.{initial_bytes}
 use Rattle.block_layout.specs.Members.{component_of_name}
 use Rattle.block_layout.specs.Offsets.{width_of}
+use Rattle.block_layout.specs.ListedParameters.{offset_of_member}
 use Rattle.block_layout.specs.declared.blocks.BlockLayout.{BlockLayout}
 use Rattle.block_layout.specs.declared.blocks.Shape.{Shape}
 use Rattle.block_layout.specs.declared.blocks.Shape.TheVariants as shape
 use Rattle.block_layout.specs.declared.cells.Cell.{Cell}
 use Rattle.block_layout.specs.declared.cells.Element.{Element}
 use Rattle.block_layout.specs.declared.cells.Element.TheVariants as element
-use Rattle.block_layout.specs.declared.members.Member.{Member}
 use Rattle.stl_types.specs.Bodies.{first_context}
 use Rattle.stl_types.specs.Context.{Context}
 use Rattle.stl_ast.specs.Blocks.{is_parameter}
 use Rattle.stl_codegen.specs.CompiledBlock.{SourceInstruction, StatedBlock, compiled_block}
 use Rattle.stl_codegen.specs.Instruction.{instruction, in_parameter_order}
-use Rattle.stl_codegen.specs.Order.{is_code_before, is_data_before, is_name_before, sorted_list}
+use Rattle.stl_codegen.specs.Order.{is_code_before, is_data_before, is_entry_before, sorted_list}
 
 -- ---- statements
 
 -- the instructions of statements of a body, from the number `n` on, with their lines; empty
 -- statements have no number
-abbrev pub stated_from : Context → (body : List Statement) → (n : ℕ) → List Statement
+abbrev pub instructions_from : Context → (body : List Statement) → (n : ℕ) → List Statement
     → List SourceInstruction
-stated_from c body n [] = []
-stated_from c body n (s ∷ ss) =
-    if is_empty_statement s.code then stated_from c body n ss
+instructions_from c body n [] = []
+instructions_from c body n (s ∷ ss) =
+    if is_empty_statement s.code then instructions_from c body n ss
     else record { instr = instruction c body n s; line = s.line }
-    ∷ stated_from c body (suc n) ss
+    ∷ instructions_from c body (suc n) ss
 
 -- the statement that returns at the end of a block, with the line of the END clause
 abbrev pub return_statement : Block → SourceInstruction
@@ -56,7 +56,7 @@ return_statement b = record { instr = Returns ends.Be; line = b.end_line }
 
 -- the statements of a code block: those of its body, numbered from 0, and the one that returns
 unfoldable pub statements_of : Context → Block → List SourceInstruction
-statements_of c b = stated_from c b.body 0 b.body ++ return_statement b ∷ []
+statements_of c b = instructions_from c b.body 0 b.body ++ return_statement b ∷ []
 
 -- ---- parameters
 
@@ -70,11 +70,6 @@ section_number _ = section_in_out
 abbrev pub param_at_bits : (section : ℕ) → Width → (bits : ℕ) → Param
 param_at_bits section width bits =
     record { section = section; width = width; byte = bits / 8; bit = bits % 8 }
-
--- the offset of a component in its structure, in bits; 0 where there is no such component
-abbrev pub offset_of_member : Option Member → ℕ
-offset_of_member None = 0
-offset_of_member (Some m) = m.offset
 
 -- a parameter of a function block has its place in the instance, that of the component of its name;
 -- one of a function has none, which is written 0
@@ -121,7 +116,7 @@ abbrev pub code_block_of : Context → Block → BlockLayout → Option BlockId 
 code_block_of c b l None = []
 code_block_of c b l (Some id) = if is_code id.kind then code_block c b l id ∷ [] else []
 
--- the function block whose instance a data block is
+-- the number of a block that is a function block; none of another
 abbrev pub function_block_number : Option BlockId → Option ℕ
 function_block_number None = None
 function_block_number (Some id) = if is_function_block id.kind then Some id.number else None
@@ -174,7 +169,7 @@ name_entry name _ = []
 -- the names of a program, rising by their bytes
 abbrev pub name_entries_of : List Symbol → List NameEntry
 name_entries_of symbols =
-    sorted_list is_name_before (flat_map (λ s. name_entry s.name s.target) symbols)
+    sorted_list is_entry_before (flat_map (λ s. name_entry s.name s.target) symbols)
 
 -- ---- the program
 

@@ -13,6 +13,7 @@ use Rattle.flat_code.specs.declared.operations.Operation.TheVariants as operatio
 use Rattle.stl_ast.specs.Statements.{is_empty_statement}
 use Rattle.stl_ast.specs.declared.blocks.Block.{Block}
 use Rattle.stl_ast.specs.declared.declarations.Simple.{Simple}
+use Rattle.stl_ast.specs.declared.mnemonics.Mnemonic.{Mnemonic}
 use Rattle.stl_ast.specs.declared.operands.Operand.{Operand}
 use Rattle.stl_ast.specs.declared.operands.Operand.TheVariants as operand
 use Rattle.stl_ast.specs.declared.statements.Statement.{Statement}
@@ -20,15 +21,19 @@ use Rattle.stl_types.specs.Context.{Context}
 use Rattle.stl_types.specs.Lists.{has_label}
 use Rattle.stl_types.specs.Parameters.{Callee, callee_of}
 use Rattle.stl_types.specs.ResolvedStatement.{resolved_operand}
-use Rattle.stl_types.specs.declared.views.ResolvedOperand.{ResolvedOperand}
-use Rattle.stl_types.specs.declared.views.ResolvedOperand.TheVariants as resolved
+use Rattle.stl_types.specs.declared.resolved_operands.ResolvedOperand.{ResolvedOperand}
+use Rattle.stl_types.specs.declared.resolved_operands.ResolvedOperand.TheVariants as resolved
 use Rattle.stl_codegen.specs.Operands.{block_opened_by_operand, flat_operand_of}
 use Rattle.stl_codegen.specs.PassedParameters.{passings_from}
 use Rattle.stl_codegen.specs.Operations.{jump_operation_of, call_operation_of, end_operation_of, operation_for}
 
+-- 0 for the mnemonic of the empty statement, which has no number, and 1 for every other one
+abbrev pub count_of_mnemonic : Mnemonic → ℕ
+count_of_mnemonic code = if is_empty_statement code then 0 else 1
+
 -- 0 for an empty statement, which has no number, and 1 for every other one
 abbrev pub count_of_statement : Statement → ℕ
-count_of_statement s = if is_empty_statement s.code then 0 else 1
+count_of_statement s = count_of_mnemonic s.code
 
 -- the number of the first statement that has a label; where none has it, how many there are
 unfoldable pub target_in : List ℕ → List Statement → ℕ

@@ -15,10 +15,10 @@ use Rattle.stl_ast.specs.declared.operands.Operand.{Operand}
 use Rattle.stl_ast.specs.declared.operands.Operand.TheVariants as operand
 use Rattle.block_layout.specs.Fits.{bits_of}
 use Rattle.block_layout.specs.Offsets.{width_of}
-use Rattle.stl_types.specs.declared.views.Register.{Register}
-use Rattle.stl_types.specs.declared.views.Register.TheVariants as register
-use Rattle.stl_types.specs.declared.views.ResolvedOperand.{ResolvedOperand}
-use Rattle.stl_types.specs.declared.views.ResolvedOperand.TheVariants as resolved
+use Rattle.stl_types.specs.declared.resolved_operands.Register.{Register}
+use Rattle.stl_types.specs.declared.resolved_operands.Register.TheVariants as register
+use Rattle.stl_types.specs.declared.resolved_operands.ResolvedOperand.{ResolvedOperand}
+use Rattle.stl_types.specs.declared.resolved_operands.ResolvedOperand.TheVariants as resolved
 
 -- the area of the DB register
 abbrev pub is_db : Area → Bool
@@ -30,12 +30,12 @@ abbrev pub is_in_named_block : Place → Bool
 is_in_named_block place = is_db place.area && not (nat_eq place.number 0)
 
 -- the number of the data block that a place names, as DB10.DBW 2 does; no other place has one
-abbrev pub opened_by_place : Place → Option ℕ
-opened_by_place place = if is_in_named_block place then Some place.number else None
+abbrev pub block_opened_by_place : Place → Option ℕ
+block_opened_by_place place = if is_in_named_block place then Some place.number else None
 
 -- USEDB: the data block that a statement opens first, for a place in a named data block
 abbrev pub block_opened_by_operand : ResolvedOperand → Option ℕ
-block_opened_by_operand (resolved.Direct place width side declared) = opened_by_place place
+block_opened_by_operand (resolved.Direct place width side declared) = block_opened_by_place place
 block_opened_by_operand _ = None
 
 -- a fixed place by area, width, byte and bit; the number of a data block is no part of it

@@ -22,10 +22,10 @@ use Rattle.stl_ast.specs.declared.mnemonics.Mnemonic.{Mnemonic}
 use Rattle.stl_ast.specs.declared.mnemonics.Mnemonic.TheVariants as code
 use Rattle.stl_ast.specs.declared.operands.Operand.{Operand}
 use Rattle.stl_ast.specs.declared.operands.Operand.TheVariants as operand
-use Rattle.stl_types.specs.declared.views.Register.{Register}
-use Rattle.stl_types.specs.declared.views.Register.TheVariants as register
-use Rattle.stl_types.specs.declared.views.ResolvedOperand.{ResolvedOperand}
-use Rattle.stl_types.specs.declared.views.ResolvedOperand.TheVariants as resolved
+use Rattle.stl_types.specs.declared.resolved_operands.Register.{Register}
+use Rattle.stl_types.specs.declared.resolved_operands.Register.TheVariants as register
+use Rattle.stl_types.specs.declared.resolved_operands.ResolvedOperand.{ResolvedOperand}
+use Rattle.stl_types.specs.declared.resolved_operands.ResolvedOperand.TheVariants as resolved
 
 -- the operation of a jump (manual: logic control instructions); no other instruction is one
 abbrev pub jump_operation_of : Mnemonic → Option JumpOperation
@@ -98,8 +98,8 @@ abbrev pub add_operation : Operand → Operation
 add_operation (operand.Constant (literal.Long value)) = operation.Add add_constant.Dword
 add_operation _ = operation.Add add_constant.Word
 
--- the operation of an instruction that goes on to the next statement, by what its operand names. No
--- other comes to code
+-- the operation of an instruction that goes on to the next statement, by what its operand names;
+-- the empty operation for every other instruction, which isn't coded by this definition
 unfoldable pub operation_for : Mnemonic → Operand → ResolvedOperand → Operation
 operation_for code.Nop o v = operation.Nop
 operation_for code.Bld o v = operation.Bld

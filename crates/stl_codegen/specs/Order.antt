@@ -25,8 +25,8 @@ abbrev pub is_data_before : DataBlock → DataBlock → Bool
 is_data_before a b = nat_lt a.number b.number
 
 -- a name stands before another by its bytes, and before those that it begins
-abbrev pub is_name_before : NameEntry → NameEntry → Bool
-is_name_before a b = is_earlier_name a.name b.name
+abbrev pub is_entry_before : NameEntry → NameEntry → Bool
+is_entry_before a b = is_earlier_name a.name b.name
 
 -- a list in order with one more record, behind those that come before it
 abbrev pub sorted_insertion : {A : Type 0} → (A → A → Bool) → A → List A → List A

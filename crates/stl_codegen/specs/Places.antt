@@ -1,16 +1,12 @@
 -- A table of the offsets of statements.
 use Rattle.std.specs.Prelude.{◌≡◌, ◌≤◌, ℕ, Bool, true, false, List, [], ◌∷◌, ◌++◌, Option, Some, None, slice_get}
+use Rattle.flat_code.specs.Codes.{first_found}
 use Rattle.flat_code.specs.Ops.{OpData}
 use Rattle.stl_codegen.specs.CompiledBlock.{offset_of_statement}
 
--- where a statement begins, by the starts of statements and the end of the code
-abbrev pub start_or_end : Option ℕ → Option ℕ → Option ℕ
-start_or_end None end = end
-start_or_end (Some at) end = Some at
-
 -- the offset of the statement of a number: its start, or where it has none the end of the code
 abbrev pub offset_in_table : List ℕ → (end : Option ℕ) → ℕ → Option ℕ
-offset_in_table starts end n = start_or_end (slice_get starts n) end
+offset_in_table starts end n = first_found (slice_get starts n) end
 
 -- the starts with one more, where a statement begins
 abbrev pub extended_starts : List ℕ → (at : ℕ) → (begins : Bool) → List ℕ

@@ -1,22 +1,14 @@
 ghost use Rattle.std.specs.Prelude.{◌≡◌, ◌<◌, ◌≤◌, ◌++◌, [], ◌∷◌, IfOk, length};
 ghost use Rattle.std.specs.List.{flat_map, slice_get};
-ghost use Rattle.block_layout.specs.Fits.{or_0};
+ghost use Rattle.block_layout.specs.Fits.{number_or_zero};
 ghost use Rattle.stl_ast.specs.Statements.{is_empty_statement};
 ghost use Rattle.stl_types.specs.Labels.{label_of};
-ghost use Rattle.stl_codegen.specs.Bodies.{
-  AreTargets,
-  body_lines,
-  count_of_statements,
-  count_of_mnemonic,
-  line_here,
-  number_here,
-  ops_here,
-};
+ghost use Rattle.stl_codegen.specs.Bodies.{AreTargets, body_lines, count_of_statements, line_here, number_here, ops_here};
 ghost use Rattle.stl_codegen.specs.Fitting.{AreOpsAppended};
-ghost use Rattle.stl_codegen.specs.Instruction.{target_in, target_of};
+ghost use Rattle.stl_codegen.specs.Instruction.{target_in, target_of, count_of_mnemonic};
 
 use crate::instructions::{append_jump_to, append_resolved};
-use crate::operations::jump_of;
+use crate::operations::jump_operation_of;
 use flat_code::Op;
 use std::alloc::{AllocError, Global};
 use std::marker::Model;
@@ -54,7 +46,8 @@ pub(crate) fn lines_of(alloc: Global, block: &Block) -> Result<Vec<u32>, AllocEr
 }
 
 /// The statements of a body, with the number of the statement of each label. Contracts see the
-/// statements.
+/// statements. `numbers` has a number for each label; `count` is the number of all statements but
+/// the empty ones.
 #[derive(Drop)]
 pub(crate) struct Body<'a> {
     statements: &'a [Statement],
@@ -105,7 +98,7 @@ fn add_target(
 }
 
 fn number_at(numbers: &[u32], place: usize) -> u32
-    ensures { result ≡ or_0 (slice_get numbers.now place) }
+    ensures { result ≡ number_or_zero (slice_get numbers.now place) }
 {
     if place < numbers.len() {
         numbers[place]
@@ -172,10 +165,10 @@ impl<'a> Body<'a> {
         if is_empty(statement.code) {
             return Ok(Some(()));
         }
-        match jump_of(statement.code) {
+        match jump_operation_of(statement.code) {
             Some(how) => append_jump_to(ops, how, self.target_of(&statement.operand)),
             None => {
-                let view = context.resolved(alloc, statement)?;
+                let view = context.resolved_operand(alloc, statement)?;
                 append_resolved(alloc, ops, context, statement, view)
             }
         }

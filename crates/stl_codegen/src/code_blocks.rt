@@ -11,7 +11,7 @@ ghost use Rattle.stl_codegen.specs.GeneratedProgram.{
   instance_len,
 };
 
-use crate::codes::{Code, code_of};
+use crate::codes::{Code, code_of_block};
 use crate::params::params_of;
 use block_layout::BlockLayout;
 use flat_code::CodeBlock;
@@ -65,7 +65,7 @@ fn code_block(
     let Some(params) = params_of(alloc, block, layout)? else {
         return Ok(None);
     };
-    let Some(Code { ops, lines }) = code_of(alloc, context, block)? else {
+    let Some(Code { ops, lines }) = code_of_block(alloc, context, block)? else {
         return Ok(None);
     };
     Ok(Some(CodeBlock {

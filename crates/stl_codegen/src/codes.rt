@@ -42,7 +42,7 @@ fn ops_of(alloc: Global, context: &Context, block: &Block) -> Result<Option<Vec<
 
 /// The code of a block. `None` where it doesn't fit its fields, or an op isn't one of the table.
 #[tactic(auto, using(crate::proofs::BlockLemmas::body_ops_are, crate::proofs::BlockLemmas::body_lines_are, crate::proofs::BlockLemmas::count_lines, crate::proofs::BlockLemmas::no_op_misfits))]
-pub(crate) fn code_of(
+pub(crate) fn code_of_block(
     alloc: Global,
     context: &Context,
     block: &Block,

@@ -4,14 +4,8 @@ ghost use Rattle.flat_code.specs.Ops.{op_of};
 ghost use Rattle.flat_code.specs.declared.operands.Operand.TheVariants as operands;
 ghost use Rattle.flat_code.specs.declared.operands.Passed.TheVariants as passed;
 ghost use Rattle.flat_code.specs.declared.operations.Operation.TheVariants as operations;
-ghost use Rattle.stl_codegen.specs.EmittedOps.{
-  call_op,
-  end_op,
-  instance_number_or_zero,
-  jump_op,
-  use_db_ops,
-  preparing_op,
-};
+ghost use Rattle.block_layout.specs.Fits.{number_or_zero};
+ghost use Rattle.stl_codegen.specs.EmittedOps.{call_op, end_op, jump_op, use_db_ops, preparing_op};
 ghost use Rattle.stl_codegen.specs.Fitting.{AreOpsAppended, IsStill};
 
 use crate::operands::index_byte;
@@ -105,8 +99,8 @@ pub(crate) fn append_jump(
 }
 
 /// 0 stands for no instance.
-fn instance_number(instance: Option<u16>) -> u16
-    ensures { result ≡ instance_number_or_zero instance }
+fn number_or_zero(instance: Option<u16>) -> u16
+    ensures { result ≡ number_or_zero instance }
 {
     match instance {
         None => 0,
@@ -127,7 +121,7 @@ pub(crate) fn append_call(
     let operand = Operand::Called {
         kind: block.kind.number(),
         number: block.number,
-        instance: instance_number(instance),
+        instance: number_or_zero(instance),
     };
     append(ops, Operation::Call(how), true, operand)
 }

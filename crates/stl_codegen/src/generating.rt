@@ -83,7 +83,7 @@ fn program_in(
     Ok(Program::new(code_blocks, data_blocks, names))
 }
 
-/// The program of a source that breaks no rule: its code blocks with a statement at each line, its
+/// The program of a source that breaks no rule: its code blocks with the line of each statement, its
 /// data blocks with their initial bytes, and the names of its variables in I, Q and M. It has an
 /// image (`IsProgram`): so it is with every source that breaks no rule, by a law of `sem_kept`.
 ///

@@ -1,7 +1,7 @@
 ghost use Rattle.std.specs.Prelude.{◌≡◌, IfOk, zero, Some, None, drop, take, ◌++◌};
 ghost use Rattle.std.specs.Option.{option_copied};
 ghost use Rattle.stl_types.specs.Parameters.{callee_of};
-ghost use Rattle.stl_types.specs.declared.views.ResolvedOperand.TheVariants as resolved;
+ghost use Rattle.stl_types.specs.declared.resolved_operands.ResolvedOperand.TheVariants as resolved;
 ghost use Rattle.flat_code.specs.Instr.{Calls, Does};
 ghost use Rattle.stl_codegen.specs.EmittedOps.{ops_of, pass_ops};
 ghost use Rattle.stl_codegen.specs.Fitting.{AreOpsAppended};
@@ -21,8 +21,8 @@ ghost use Rattle.stl_codegen.specs.Operands.{block_opened_by_operand, flat_opera
 ghost use Rattle.stl_codegen.specs.Operations.{call_operation_of, end_operation_of, operation_for};
 
 use crate::emitting::{append, append_call, append_end, append_jump, append_opening};
-use crate::operands::{opened_by, operand_of};
-use crate::operations::{call_of, end_of, operation_for};
+use crate::operands::{block_opened_by_operand, flat_operand_of};
+use crate::operations::{call_operation_of, end_operation_of, operation_for};
 use crate::passings::append_passings;
 use flat_code::{CallOperation, JumpOperation, Op, Operand, Operation};
 use plc_base::BlockId;
@@ -66,10 +66,10 @@ fn append_operation(
         (operation_for statement.now.code statement.now.operand view)
         (flat_operand_of statement.now.operand view))) done) }
 {
-    let Some(_) = append_opening(ops, opened_by(view))? else {
+    let Some(_) = append_opening(ops, block_opened_by_operand(view))? else {
         return Ok(None);
     };
-    let Some(operand) = operand_of(&statement.operand, view) else {
+    let Some(operand) = flat_operand_of(&statement.operand, view) else {
         return Ok(None);
     };
     let operation = operation_for(statement.code, &statement.operand, view);
@@ -107,7 +107,7 @@ fn return_last<T>(kind: Option<Simple>, params: Vec<T>) -> Vec<T>
 }
 
 /// The block of the source at a place.
-fn block_at<'a>(context: &Context<'a>, place: Option<usize>) -> Option<&'a Block>
+fn source_block_at<'a>(context: &Context<'a>, place: Option<usize>) -> Option<&'a Block>
     ensures { option_copied result ≡ source_block_at context.now.blocks place }
 {
     let blocks = context.tree().blocks.as_slice();
@@ -133,7 +133,7 @@ fn append_arguments(
     match callee {
         None => Ok(Some(())),
         Some(Callee { place, formals, .. }) => {
-            let formals = in_order(block_at(context, place), formals);
+            let formals = in_order(source_block_at(context, place), formals);
             append_passings(
                 alloc,
                 ops,
@@ -196,13 +196,13 @@ fn append_plain(
     ensures { IfOk result (λ done. AreOpsAppended ops.old.items ops.new.items
         (ops_of (end_instr statement.now view (end_operation_of statement.now.code))) done) }
 {
-    match end_of(statement.code) {
+    match end_operation_of(statement.code) {
         None => append_operation(ops, statement, view),
         Some(how) => append_end(ops, how),
     }
 }
 
-fn append_by_view(
+fn append_by_operand(
     alloc: Global,
     ops: &mut Vec<Op>,
     context: &Context,
@@ -210,10 +210,11 @@ fn append_by_view(
     view: ResolvedOperand,
 ) -> Result<Option<()>, AllocError>
     ensures { IfOk result (λ done. AreOpsAppended ops.old.items ops.new.items
-        (ops_of (operand_instr context.now statement.now view (call_operation_of statement.now.code)))
+        (ops_of
+        (operand_instr context.now statement.now view (call_operation_of statement.now.code)))
         done) }
 {
-    match call_of(statement.code) {
+    match call_operation_of(statement.code) {
         None => append_plain(ops, statement, view),
         Some(how) => append_call_by(alloc, ops, context, statement, how, view),
     }
@@ -232,6 +233,6 @@ pub(crate) fn append_resolved(
 {
     match view {
         None => append_filler(ops),
-        Some(view) => append_by_view(alloc, ops, context, statement, view),
+        Some(view) => append_by_operand(alloc, ops, context, statement, view),
     }
 }

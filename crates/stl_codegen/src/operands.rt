@@ -7,7 +7,7 @@ ghost use Rattle.stl_codegen.specs.Operands.{
   is_in_named_block,
   numbered_operand,
   block_opened_by_operand,
-  opened_by_place,
+  block_opened_by_place,
   flat_operand_of,
   pointer_bits,
   register_operand,
@@ -29,8 +29,8 @@ pub(crate) fn is_in_named_block(place: Place) -> bool
     matches!(place.area, Area::Db) && place.number != 0
 }
 
-fn opened_by_place(place: Place) -> Option<u16>
-    ensures { result ≡ opened_by_place place }
+fn block_opened_by_place(place: Place) -> Option<u16>
+    ensures { result ≡ block_opened_by_place place }
 {
     if is_in_named_block(place) {
         Some(place.number)
@@ -40,11 +40,11 @@ fn opened_by_place(place: Place) -> Option<u16>
 }
 
 /// The data block that a statement opens first.
-pub(crate) fn opened_by(view: ResolvedOperand) -> Option<u16>
+pub(crate) fn block_opened_by_operand(view: ResolvedOperand) -> Option<u16>
     ensures { result ≡ block_opened_by_operand view }
 {
     match view {
-        ResolvedOperand::Direct { place, .. } => opened_by_place(place),
+        ResolvedOperand::Direct { place, .. } => block_opened_by_place(place),
         _ => None,
     }
 }
@@ -135,7 +135,7 @@ pub(crate) fn index_byte(index: usize) -> Option<u8>
 /// The operand of an instruction that goes on to the next statement. `None` where it is a parameter
 /// of so high an index that no op has it.
 #[tactic(auto, unfolding(crate::specs::Operands::flat_operand_of))]
-pub(crate) fn operand_of(operand: &Operand, view: ResolvedOperand) -> Option<FlatOperand>
+pub(crate) fn flat_operand_of(operand: &Operand, view: ResolvedOperand) -> Option<FlatOperand>
     ensures value { IfSome result (λ o. o ≡ flat_operand_of operand.now view) }
     ensures still { IfSome result (λ o. IsStill o) }
     ensures none { IfNone result (IsNoOperand (flat_operand_of operand.now view)) }

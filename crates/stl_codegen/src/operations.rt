@@ -21,7 +21,7 @@ use stl_ast::{Literal, Mnemonic, Operand};
 use stl_types::{Register, ResolvedOperand};
 
 /// The jump that an instruction is, if it is one.
-pub(crate) fn jump_of(code: Mnemonic) -> Option<JumpOperation>
+pub(crate) fn jump_operation_of(code: Mnemonic) -> Option<JumpOperation>
     ensures { result ≡ jump_operation_of code }
 {
     match code {
@@ -48,7 +48,7 @@ pub(crate) fn jump_of(code: Mnemonic) -> Option<JumpOperation>
 }
 
 /// The call that an instruction is, if it is one.
-pub(crate) fn call_of(code: Mnemonic) -> Option<CallOperation>
+pub(crate) fn call_operation_of(code: Mnemonic) -> Option<CallOperation>
     ensures { result ≡ call_operation_of code }
 {
     match code {
@@ -60,7 +60,7 @@ pub(crate) fn call_of(code: Mnemonic) -> Option<CallOperation>
 }
 
 /// The end of a block that an instruction is, if it is one.
-pub(crate) fn end_of(code: Mnemonic) -> Option<EndOperation>
+pub(crate) fn end_operation_of(code: Mnemonic) -> Option<EndOperation>
     ensures { result ≡ end_operation_of code }
 {
     match code {

@@ -1,7 +1,7 @@
 //! The records of a program in the order of an image.
 ghost use Rattle.std.specs.Prelude.{◌≡◌, OnOk};
 ghost use Rattle.std.specs.Ordering.{is_lt};
-ghost use Rattle.stl_codegen.specs.Order.{is_block_before, is_data_before, is_name_before, sorted_list};
+ghost use Rattle.stl_codegen.specs.Order.{is_block_before, is_data_before, is_entry_before, sorted_list};
 
 use flat_code::{CodeBlock, DataBlock, NameEntry};
 use plc_base::NoMemory;
@@ -24,7 +24,7 @@ fn order_of_data(a: &DataBlock, b: &DataBlock) -> Ordering
 
 #[tactic(auto, using(flat_code::proofs::NameLemmas::before_is_less))]
 fn order_of_names(a: &NameEntry, b: &NameEntry) -> Ordering
-    ensures { is_lt result ≡ is_name_before a.now b.now }
+    ensures { is_lt result ≡ is_entry_before a.now b.now }
 {
     a.name.as_slice().cmp(b.name.as_slice())
 }
@@ -48,7 +48,7 @@ pub fn sort_data_blocks(blocks: &mut Vec<DataBlock>) -> Result<(), NoMemory>
 
 /// Puts names in the order of their bytes. On an error they stay as they stood.
 pub fn sort_names(entries: &mut Vec<NameEntry>) -> Result<(), NoMemory>
-    ensures { OnOk result (entries.new.items ≡ sorted_list is_name_before entries.old.items) }
+    ensures { OnOk result (entries.new.items ≡ sorted_list is_entry_before entries.old.items) }
 {
     entries.sort_by(|a: &NameEntry, b: &NameEntry| order_of_names(a, b))?;
     Ok(())

@@ -14,7 +14,8 @@ ghost use Rattle.std.specs.List.{AllByRecursion, flat_map};
 ghost use Rattle.plc_base.specs.Kinds.{is_function_block};
 ghost use Rattle.block_layout.specs.Offsets.{width_of};
 ghost use Rattle.stl_codegen.specs.Fitting.{AreItemsAppended, ParamFits, ParamsFit};
-ghost use Rattle.stl_codegen.specs.GeneratedProgram.{offset_of_member, param_at_bits, param_bits, param_here, params_of, section_number};
+ghost use Rattle.block_layout.specs.ListedParameters.{offset_of_member};
+ghost use Rattle.stl_codegen.specs.GeneratedProgram.{param_at_bits, param_bits, param_here, params_of, section_number};
 
 use crate::instructions::in_order;
 use arrayvec::ArrayVec;
@@ -53,7 +54,7 @@ fn param(section: u8, width: Width, bits: u64) -> Option<Param>
     })
 }
 
-fn offset_named(member: Option<Member>) -> u64
+fn offset_of_member(member: Option<Member>) -> u64
     ensures { result ≡ offset_of_member member }
 {
     match member {
@@ -67,7 +68,7 @@ fn param_bits(in_instance: bool, components: &Layout, cell: &Cell) -> u64
     ensures { result ≡ param_bits in_instance components.now cell.now }
 {
     if in_instance {
-        offset_named(components.outermost(cell.name.as_bytes()))
+        offset_of_member(components.outermost(cell.name.as_bytes()))
     } else {
         0
     }

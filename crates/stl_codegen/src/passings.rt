@@ -46,7 +46,7 @@ fn passed_place(place: Place, width: Width) -> Passed
 }
 
 /// Appends what a CALL passes for the parameter of an index, by what the operand names.
-fn append_view(
+fn append_passed_operand(
     ops: &mut Vec<Op>,
     index: usize,
     operand: &Operand,
@@ -85,7 +85,7 @@ fn append_resolution(
         (pass_ops (with_index index (passed_resolution operand.now resolution))) done) }
 {
     match resolution {
-        Resolution::Resolved { view } => append_view(ops, index, operand, view),
+        Resolution::Resolved { view } => append_passed_operand(ops, index, operand, view),
         Resolution::Unknown | Resolution::Unjudged => Ok(Some(())),
     }
 }

@@ -6,12 +6,12 @@ use Rattle.plc_base.specs.declared.places.Area.TheVariants as area
 use Rattle.plc_base.specs.declared.places.Width.{Width}
 use Rattle.stl_ast.specs.declared.operands.Letters.{Letters}
 use Rattle.stl_ast.specs.declared.operands.Letters.TheVariants as letters
-use Rattle.stl_types.specs.declared.views.Resolution.{Resolution}
-use Rattle.stl_types.specs.declared.views.Resolution.TheVariants.{Resolved, Unjudged}
-use Rattle.stl_types.specs.declared.views.Side.{Side}
-use Rattle.stl_types.specs.declared.views.Side.TheVariants as side
-use Rattle.stl_types.specs.declared.views.ResolvedOperand.{ResolvedOperand}
-use Rattle.stl_types.specs.declared.views.ResolvedOperand.TheVariants as resolved
+use Rattle.stl_types.specs.declared.resolved_operands.Resolution.{Resolution}
+use Rattle.stl_types.specs.declared.resolved_operands.Resolution.TheVariants.{Resolved, Unjudged}
+use Rattle.stl_types.specs.declared.resolved_operands.Side.{Side}
+use Rattle.stl_types.specs.declared.resolved_operands.Side.TheVariants as side
+use Rattle.stl_types.specs.declared.resolved_operands.ResolvedOperand.{ResolvedOperand}
+use Rattle.stl_types.specs.declared.resolved_operands.ResolvedOperand.TheVariants as resolved
 
 -- the area that letters name: PI and PQ are one
 abbrev pub area_for_letters : Letters → Area

@@ -29,8 +29,8 @@ use Rattle.stl_types.specs.Kinds.{is_date}
 use Rattle.stl_types.specs.Parameters.{Callee, callee_of, system_formals}
 use Rattle.stl_types.specs.Resolution.{resolution_of}
 use Rattle.stl_types.specs.declared.parameters.Formal.{Formal}
-use Rattle.stl_types.specs.declared.views.Resolution.{Resolution}
-use Rattle.stl_types.specs.declared.views.Resolution.TheVariants.{Resolved}
+use Rattle.stl_types.specs.declared.resolved_operands.Resolution.{Resolution}
+use Rattle.stl_types.specs.declared.resolved_operands.Resolution.TheVariants.{Resolved}
 
 -- what a statement breaks as a call, by the block that is called; nothing where none is known
 abbrev pub by_callee : (Callee → Statement → List Refusal) → Statement → Option Callee
@@ -137,7 +137,8 @@ abbrev pub is_of_block : (place : Option ℕ) → Shape → Bool
 is_of_block (Some place) (shape.Of block) = nat_eq place block
 is_of_block _ _ = false
 
--- the layout of a data block is that of an instance of the function block at this place
+-- the layout of a data block is that of an instance of the function block at this place; a data
+-- block without a layout counts as one
 abbrev pub is_instance : (place : Option ℕ) → Option BlockLayout → Bool
 is_instance place None = true
 is_instance place (Some b) = is_of_block place b.shape

@@ -8,9 +8,9 @@ use Rattle.plc_base.specs.declared.places.Width.{Width}
 use Rattle.plc_base.specs.declared.places.Width.TheVariants as width
 use Rattle.stl_ast.specs.declared.operands.Numbered.TheVariants as numbered
 use Rattle.block_layout.specs.Offsets.{width_of}
-use Rattle.stl_types.specs.declared.views.Register.TheVariants as register
-use Rattle.stl_types.specs.declared.views.ResolvedOperand.{ResolvedOperand}
-use Rattle.stl_types.specs.declared.views.ResolvedOperand.TheVariants as resolved
+use Rattle.stl_types.specs.declared.resolved_operands.Register.TheVariants as register
+use Rattle.stl_types.specs.declared.resolved_operands.ResolvedOperand.{ResolvedOperand}
+use Rattle.stl_types.specs.declared.resolved_operands.ResolvedOperand.TheVariants as resolved
 
 -- whether there is no operand
 abbrev pub names_nothing : ResolvedOperand → Bool

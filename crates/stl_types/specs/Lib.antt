@@ -2,7 +2,7 @@ pub mod Context
 pub mod Addresses
 pub mod Variables
 pub mod Resolution
-pub mod Forms
+pub mod OperandRules
 pub mod Constants
 pub mod Kinds
 pub mod Bodies

@@ -31,8 +31,8 @@ has_label name None = false
 has_label name (Some label) = bytes_eq name label
 
 -- how many jumps a list may still have behind a statement; none where it isn't of the list
-abbrev pub left_behind : (left : ℕ) → Mnemonic → Option ℕ
-left_behind left m =
+abbrev pub jumps_left : (left : ℕ) → Mnemonic → Option ℕ
+jumps_left left m =
     if is_empty_statement m then Some left
     else if is_unconditional_jump m && nat_lt 0 left then Some (left - 1) else None
 
@@ -47,7 +47,7 @@ abbrev pub is_list_to : (left : ℕ) → List ℕ → List Statement → Bool
 is_list_to left name [] = false
 is_list_to left name (s ∷ ss) =
     if has_label name s.label then true
-    else list_goes_on (left_behind left s.code) (λ next. is_list_to next name ss)
+    else list_goes_on (jumps_left left s.code) (λ next. is_list_to next name ss)
 
 -- the label of a JL is that of no statement before, and a jump list leads to it
 abbrev pub has_list : (before : List (List ℕ)) → List ℕ → (behind : List Statement) → Bool

@@ -13,16 +13,16 @@ use Rattle.stl_ast.specs.declared.statements.Statement.{Statement}
 use Rattle.stl_types.specs.Bodies.{in_contexts}
 use Rattle.stl_types.specs.Constants.{takes_constant}
 use Rattle.stl_types.specs.Context.{Context}
-use Rattle.stl_types.specs.Forms.{form_of}
+use Rattle.stl_types.specs.OperandRules.{operand_rule_of}
 use Rattle.stl_types.specs.Kinds.{names_nothing, is_direct, is_in_memory, is_timer, is_counter, is_opened, is_condition, is_pointer_constant, is_label_operand, is_status_word, is_second_register, is_loadable_register, is_operand_of_call, is_composite, is_date, width_in, is_bit, is_double_word, is_peripheral, is_peripheral_area}
 use Rattle.stl_types.specs.Resolution.{resolution_of}
-use Rattle.stl_types.specs.declared.forms.OperandRule.{OperandRule}
-use Rattle.stl_types.specs.declared.forms.OperandRule.TheVariants as rules
-use Rattle.stl_types.specs.declared.views.Resolution.{Resolution}
-use Rattle.stl_types.specs.declared.views.Resolution.TheVariants.{Resolved}
-use Rattle.stl_types.specs.declared.views.Side.TheVariants as side
-use Rattle.stl_types.specs.declared.views.ResolvedOperand.{ResolvedOperand}
-use Rattle.stl_types.specs.declared.views.ResolvedOperand.TheVariants as resolved
+use Rattle.stl_types.specs.declared.operand_rules.OperandRule.{OperandRule}
+use Rattle.stl_types.specs.declared.operand_rules.OperandRule.TheVariants as rules
+use Rattle.stl_types.specs.declared.resolved_operands.Resolution.{Resolution}
+use Rattle.stl_types.specs.declared.resolved_operands.Resolution.TheVariants.{Resolved}
+use Rattle.stl_types.specs.declared.resolved_operands.Side.TheVariants as side
+use Rattle.stl_types.specs.declared.resolved_operands.ResolvedOperand.{ResolvedOperand}
+use Rattle.stl_types.specs.declared.resolved_operands.ResolvedOperand.TheVariants as resolved
 
 -- the operands but constants that a form takes, whatever their width
 unfoldable pub takes_operand : OperandRule → ResolvedOperand → Bool
@@ -91,20 +91,20 @@ has_width f None = true
 has_width f (Some w) = takes_width f (Some w)
 
 -- a form of instructions that write their operand
-abbrev pub form_writes_operand : OperandRule → Bool
-form_writes_operand rules.WritesBit = true
-form_writes_operand rules.Sets = true
-form_writes_operand rules.Resets = true
-form_writes_operand rules.Transfers = true
-form_writes_operand rules.StoresAr1 = true
-form_writes_operand rules.StoresAr2 = true
-form_writes_operand _ = false
+abbrev pub rule_writes_operand : OperandRule → Bool
+rule_writes_operand rules.WritesBit = true
+rule_writes_operand rules.Sets = true
+rule_writes_operand rules.Resets = true
+rule_writes_operand rules.Transfers = true
+rule_writes_operand rules.StoresAr1 = true
+rule_writes_operand rules.StoresAr2 = true
+rule_writes_operand _ = false
 
 -- an operand lies in the peripheral area where the form can't take it: there are inputs to read and
 -- outputs to write, and no pointer leads there by an area of its own
 abbrev pub is_on_wrong_side : OperandRule → ResolvedOperand → Bool
-is_on_wrong_side f (resolved.Direct place width side.Inputs declared) = form_writes_operand f
-is_on_wrong_side f (resolved.Direct place width side.Outputs declared) = not (form_writes_operand f)
+is_on_wrong_side f (resolved.Direct place width side.Inputs declared) = rule_writes_operand f
+is_on_wrong_side f (resolved.Direct place width side.Outputs declared) = not (rule_writes_operand f)
 is_on_wrong_side f (resolved.ByMemory a width from byte) = is_peripheral a
 is_on_wrong_side f (resolved.ByRegister a width register bits) = is_peripheral_area a
 is_on_wrong_side f _ = false
@@ -127,7 +127,7 @@ rule_of_resolved_operand f v =
     else if not (takes_operand f v) then Some 25
     else if not (has_width f (width_in v)) then Some 24
     else if is_on_wrong_side f v then Some 25
-    else if form_writes_operand f && is_input v then Some 39
+    else if rule_writes_operand f && is_input v then Some 39
     else None
 
 -- the rule that an instruction of a form breaks by what its operand comes to; none where the
@@ -137,9 +137,9 @@ rule_of_resolution f (Resolved v) = rule_of_resolved_operand f v
 rule_of_resolution f _ = None
 
 -- the rule that an operand breaks with an instruction of a form
-abbrev pub operand_rule : Context → OperandRule → Operand → Option ℕ
-operand_rule c f (operand.Constant value) = if takes_constant f value then None else Some 25
-operand_rule c f o = rule_of_resolution f (resolution_of c o)
+abbrev pub rule_of_operand : Context → OperandRule → Operand → Option ℕ
+rule_of_operand c f (operand.Constant value) = if takes_constant f value then None else Some 25
+rule_of_operand c f o = rule_of_resolution f (resolution_of c o)
 
 -- the refusal of a line by the rule that is broken, if one is
 abbrev pub at_line : (line : ℕ) → Option ℕ → List Refusal
@@ -148,7 +148,7 @@ at_line line (Some rule) = record { line = line; rule = rule } ∷ []
 
 -- the rule that a statement breaks by its operand
 abbrev pub statement_rule : Context → Statement → Option ℕ
-statement_rule c s = operand_rule c (form_of s.code) s.operand
+statement_rule c s = rule_of_operand c (operand_rule_of s.code) s.operand
 
 -- what the statements of a body break by their operands: rules 24, 25 and 39
 abbrev pub operands_24 : Context → List Statement → List Refusal

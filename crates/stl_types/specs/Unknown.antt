@@ -9,13 +9,13 @@ use Rattle.block_layout.specs.Operands.{OperandAtLine, in_body}
 use Rattle.block_layout.specs.Paths.{folded_path, path_end_in_data_block}
 use Rattle.block_layout.specs.Settings.{on_settings}
 use Rattle.block_layout.specs.declared.blocks.BlockLayout.{BlockLayout}
-use Rattle.block_layout.specs.declared.walks.PathEnd.{PathEnd}
-use Rattle.block_layout.specs.declared.walks.PathEnd.TheVariants as path_end
+use Rattle.block_layout.specs.declared.path_ends.PathEnd.{PathEnd}
+use Rattle.block_layout.specs.declared.path_ends.PathEnd.TheVariants as path_end
 use Rattle.stl_types.specs.Bodies.{in_contexts}
 use Rattle.stl_types.specs.Context.{Context}
 use Rattle.stl_types.specs.Resolution.{resolution_of}
-use Rattle.stl_types.specs.declared.views.Resolution.{Resolution}
-use Rattle.stl_types.specs.declared.views.Resolution.TheVariants.{Unknown}
+use Rattle.stl_types.specs.declared.resolved_operands.Resolution.{Resolution}
+use Rattle.stl_types.specs.declared.resolved_operands.Resolution.TheVariants.{Unknown}
 
 -- a name or a component that isn't there
 abbrev pub is_unknown : Resolution → Bool

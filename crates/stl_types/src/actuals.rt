@@ -11,7 +11,7 @@ ghost use Rattle.stl_types.specs.Actuals.{
 };
 
 use crate::parameters::Formal;
-use crate::views::{ResolvedOperand, Side};
+use crate::resolved_operands::{ResolvedOperand, Side};
 use block_layout::width_of;
 use plc_base::Width;
 use stl_ast::{PartKind, Simple};

@@ -81,7 +81,7 @@ fn is_eighth(brackets: &[SourceBracket], statement: &Statement) -> bool
     opening(statement.code).is_some() && brackets.len() >= 7
 }
 
-fn closed_without(alloc: Global, body: &[Statement]) -> Result<Option<Refusal>, AllocError>
+fn brackets_closed_without(alloc: Global, body: &[Statement]) -> Result<Option<Refusal>, AllocError>
     ensures { IfOk result (λ found. found ≡ least
         (with_brackets
         (λ brackets s. broken_if (closes_no_bracket brackets s) s.line 29) [] body.now)) }
@@ -104,7 +104,10 @@ pub(crate) fn least_closed_without(
 ) -> Result<Option<Refusal>, AllocError>
     ensures { IfOk result (λ found. found ≡ least (rule_29 blocks.now)) }
 {
-    try_least_of(blocks, |b: &Block| closed_without(alloc, b.body.as_slice()))
+    try_least_of(
+        blocks,
+        |b: &Block| brackets_closed_without(alloc, b.body.as_slice()),
+    )
 }
 
 fn eighth(alloc: Global, body: &[Statement]) -> Result<Option<Refusal>, AllocError>
@@ -140,7 +143,7 @@ fn open_at_end(alloc: Global, body: &[Statement]) -> Result<Vec<SourceBracket>, 
     Ok(brackets)
 }
 
-fn left_open(alloc: Global, body: &[Statement]) -> Result<Option<Refusal>, AllocError>
+fn brackets_left_open(alloc: Global, body: &[Statement]) -> Result<Option<Refusal>, AllocError>
     ensures { IfOk result (λ found. found ≡ least (brackets_left_open body.now)) }
 {
     let brackets = open_at_end(alloc, body)?;
@@ -155,5 +158,8 @@ pub(crate) fn least_left_open(
 ) -> Result<Option<Refusal>, AllocError>
     ensures { IfOk result (λ found. found ≡ least (rule_30 blocks.now)) }
 {
-    try_least_of(blocks, |b: &Block| left_open(alloc, b.body.as_slice()))
+    try_least_of(
+        blocks,
+        |b: &Block| brackets_left_open(alloc, b.body.as_slice()),
+    )
 }

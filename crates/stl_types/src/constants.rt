@@ -7,7 +7,7 @@ ghost use Rattle.stl_types.specs.Constants.{
   takes_constant,
 };
 
-use crate::forms::OperandRule;
+use crate::operand_rules::OperandRule;
 use block_layout::fits;
 use stl_ast::Literal;
 
@@ -26,7 +26,7 @@ fn is_count(most: u16, value: &Literal) -> bool
     }
 }
 
-fn is_added(value: &Literal) -> bool
+fn is_addend(value: &Literal) -> bool
     ensures { result ≡ is_addend value.now }
 {
     matches!(value, Literal::Number { .. } | Literal::Long { .. })
@@ -47,7 +47,7 @@ pub(crate) fn takes_constant(form: OperandRule, value: &Literal) -> bool
         OperandRule::Loads => !is_truth(value),
         OperandRule::Counts { most } => is_count(most, value),
         OperandRule::Shifts { most } => is_count(most, value),
-        OperandRule::Adds => is_added(value),
+        OperandRule::Adds => is_addend(value),
         OperandRule::Combines { of } => fits(value, of),
         _ => false,
     }

@@ -38,7 +38,7 @@ impl<'a> Model for Context<'a> {
     } };
 }
 
-fn number_of(id: Option<BlockId>) -> Option<u16>
+fn number_of_block(id: Option<BlockId>) -> Option<u16>
     ensures { result ≡ number_of_block id }
 {
     match id {
@@ -129,7 +129,7 @@ impl<'a> Context<'a> {
     {
         let place = self.data_place(name)?;
         let layout = self.layouts.whole_at(place)?;
-        number_of(layout.id)
+        number_of_block(layout.id)
     }
 
     /// Whether the body is that of a function.

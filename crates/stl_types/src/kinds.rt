@@ -22,12 +22,12 @@ ghost use Rattle.stl_types.specs.Kinds.{
   width_in,
 };
 
-use crate::views::{Register, ResolvedOperand};
+use crate::resolved_operands::{Register, ResolvedOperand};
 use block_layout::width_of;
 use plc_base::{BlockKind, Width};
 use stl_ast::Numbered;
 
-pub(crate) fn is_nothing(view: ResolvedOperand) -> bool
+pub(crate) fn names_nothing(view: ResolvedOperand) -> bool
     ensures { result ≡ names_nothing view }
 {
     matches!(view, ResolvedOperand::Nothing)
@@ -90,13 +90,13 @@ pub(crate) fn is_condition(view: ResolvedOperand) -> bool
     matches!(view, ResolvedOperand::OfStatus { .. })
 }
 
-pub(crate) fn is_pointer(view: ResolvedOperand) -> bool
+pub(crate) fn is_pointer_constant(view: ResolvedOperand) -> bool
     ensures { result ≡ is_pointer_constant view }
 {
     matches!(view, ResolvedOperand::Pointer { .. })
 }
 
-pub(crate) fn is_label(view: ResolvedOperand) -> bool
+pub(crate) fn is_label_operand(view: ResolvedOperand) -> bool
     ensures { result ≡ is_label_operand view }
 {
     matches!(view, ResolvedOperand::Label)
@@ -121,7 +121,7 @@ pub(crate) fn is_second_register(view: ResolvedOperand) -> bool
 }
 
 /// Whether a register can be loaded by L.
-pub(crate) fn is_loaded(view: ResolvedOperand) -> bool
+pub(crate) fn is_loadable_register(view: ResolvedOperand) -> bool
     ensures { result ≡ is_loadable_register view }
 {
     match view {
@@ -131,7 +131,7 @@ pub(crate) fn is_loaded(view: ResolvedOperand) -> bool
 }
 
 /// Whether a block can be called so: only a function block has an instance.
-pub(crate) fn is_called(view: ResolvedOperand) -> bool
+pub(crate) fn is_operand_of_call(view: ResolvedOperand) -> bool
     ensures { result ≡ is_operand_of_call view }
 {
     match view {

@@ -71,7 +71,7 @@ pub(crate) fn least_unknown_label(
     try_least_of(blocks, |b: &Block| unknown_labels(alloc, b.body.as_slice()))
 }
 
-fn is_twice(before: &NameIndex, label: &Option<Name>) -> bool
+fn is_repeated_label(before: &NameIndex, label: &Option<Name>) -> bool
     ensures { result ≡ is_repeated_label before.now label.now }
 {
     match label {
@@ -86,7 +86,7 @@ fn labels_twice(alloc: Global, body: &[Statement]) -> Result<Option<Refusal>, Al
     let mut before = NameIndex::new(alloc);
     let mut found = None;
     for statement in body {
-        let twice = is_twice(&before, &statement.label);
+        let twice = is_repeated_label(&before, &statement.label);
         found = lesser(found, broken_if(twice, statement.line, 27));
         add_label(&mut before, alloc, &statement.label)?;
     }

@@ -9,7 +9,7 @@ ghost use Rattle.stl_types.specs.Lists.{
   is_unconditional_jump,
   is_wrong_list,
   lacks_list,
-  left_behind,
+  jumps_left,
   lists_from,
   rule_32,
 };
@@ -51,8 +51,8 @@ fn has_label(name: &[u8], label: &Option<Name>) -> bool
 }
 
 /// How many jumps a list may still have behind a statement; none where it isn't of the list.
-fn left_behind(left: u32, code: Mnemonic) -> Option<u32>
-    ensures { result ≡ left_behind left code }
+fn jumps_left(left: u32, code: Mnemonic) -> Option<u32>
+    ensures { result ≡ jumps_left left code }
 {
     if is_empty(code) {
         return Some(left);
@@ -72,7 +72,7 @@ fn is_list_to(name: &[u8], body: &[Statement]) -> bool
         if has_label(name, &statement.label) {
             return true;
         }
-        match left_behind(left, statement.code) {
+        match jumps_left(left, statement.code) {
             None => return false,
             Some(next) => left = next,
         }

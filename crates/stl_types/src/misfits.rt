@@ -12,7 +12,7 @@ use crate::calls::is_named;
 use crate::contexts::Context;
 use crate::kinds::is_date;
 use crate::parameters::Formal;
-use crate::views::Resolution;
+use crate::resolved_operands::Resolution;
 use block_layout::fits;
 use plc_base::{Refusal, broken_if, try_least_of};
 use std::alloc::{AllocError, Global};

@@ -9,16 +9,16 @@ ghost use Rattle.stl_types.specs.Operands.{
   takes_operand,
   takes_places,
   takes_width,
-  form_writes_operand,
+  rule_writes_operand,
 };
 
-use crate::forms::OperandRule;
 use crate::kinds::{
-    is_bit, is_called, is_composite, is_condition, is_counter, is_date, is_direct, is_double_word,
-    is_in_memory, is_label, is_loaded, is_nothing, is_opened, is_pointer, is_second_register,
-    is_status_word, is_timer, width_in,
+    is_bit, is_composite, is_condition, is_counter, is_date, is_direct, is_double_word,
+    is_in_memory, is_label_operand, is_loadable_register, is_opened, is_operand_of_call,
+    is_pointer_constant, is_second_register, is_status_word, is_timer, names_nothing, width_in,
 };
-use crate::views::{ResolvedOperand, Side};
+use crate::operand_rules::OperandRule;
+use crate::resolved_operands::{ResolvedOperand, Side};
 use plc_base::{Area, Width};
 use stl_ast::PartKind;
 
@@ -28,14 +28,13 @@ fn takes(form: OperandRule, view: ResolvedOperand) -> bool
     ensures { result ≡ takes_operand form view }
 {
     match form {
-        OperandRule::Bare | OperandRule::Shifts { .. } | OperandRule::Combines { .. } => is_nothing(
-            view,
-        ),
+        OperandRule::Bare | OperandRule::Shifts { .. } | OperandRule::Combines { .. } =>
+            names_nothing(view),
         OperandRule::ReadsBit => {
             is_in_memory(view) || is_timer(view) || is_counter(view) || is_condition(view)
         }
         OperandRule::ReadsBitOrBare => {
-            is_nothing(view)
+            names_nothing(view)
                 || is_in_memory(view)
                 || is_timer(view)
                 || is_counter(view)
@@ -48,23 +47,30 @@ fn takes(form: OperandRule, view: ResolvedOperand) -> bool
             is_in_memory(view)
                 || is_timer(view)
                 || is_counter(view)
-                || is_pointer(view)
-                || is_loaded(view)
+                || is_pointer_constant(view)
+                || is_loadable_register(view)
         }
         OperandRule::Transfers => is_in_memory(view) || is_status_word(view),
         OperandRule::LoadsBcd | OperandRule::Enables => is_timer(view) || is_counter(view),
         OperandRule::LoadsAr1 => {
-            is_nothing(view) || is_pointer(view) || is_direct(view) || is_second_register(view)
+            names_nothing(view)
+                || is_pointer_constant(view)
+                || is_direct(view)
+                || is_second_register(view)
         }
-        OperandRule::LoadsAr2 => is_nothing(view) || is_pointer(view) || is_direct(view),
-        OperandRule::StoresAr1 => is_nothing(view) || is_direct(view) || is_second_register(view),
-        OperandRule::StoresAr2 => is_nothing(view) || is_direct(view),
-        OperandRule::AddsToAr => is_nothing(view) || is_pointer(view),
+        OperandRule::LoadsAr2 => names_nothing(view)
+            || is_pointer_constant(view)
+            || is_direct(view),
+        OperandRule::StoresAr1 => names_nothing(view)
+            || is_direct(view)
+            || is_second_register(view),
+        OperandRule::StoresAr2 => names_nothing(view) || is_direct(view),
+        OperandRule::AddsToAr => names_nothing(view) || is_pointer_constant(view),
         OperandRule::Counts { .. } | OperandRule::Adds => false,
-        OperandRule::Jumps => is_label(view),
+        OperandRule::Jumps => is_label_operand(view),
         OperandRule::StartsTimer => is_timer(view),
         OperandRule::StepsCounter => is_counter(view),
-        OperandRule::Calls => is_called(view),
+        OperandRule::Calls => is_operand_of_call(view),
         OperandRule::Opens => is_opened(view),
     }
 }
@@ -121,7 +127,7 @@ fn has_width(form: OperandRule, width: Option<Width>) -> bool
 
 /// Whether instructions of a form write their operand.
 fn writes(form: OperandRule) -> bool
-    ensures { result ≡ form_writes_operand form }
+    ensures { result ≡ rule_writes_operand form }
 {
     matches!(
         form,

@@ -17,11 +17,11 @@ ghost use Rattle.stl_types.specs.Resolution.{
   resolved_target,
   whole_called_block,
 };
-ghost use Rattle.stl_types.specs.declared.views.Resolution.TheVariants.{Resolved};
-ghost use Rattle.stl_types.specs.declared.views.ResolvedOperand.TheVariants as resolved;
+ghost use Rattle.stl_types.specs.declared.resolved_operands.Resolution.TheVariants.{Resolved};
+ghost use Rattle.stl_types.specs.declared.resolved_operands.ResolvedOperand.TheVariants as resolved;
 
 use crate::contexts::Context;
-use crate::views::{Register, Resolution, ResolvedOperand, Side};
+use crate::resolved_operands::{Register, Resolution, ResolvedOperand, Side};
 use block_layout::{Path, named_block};
 use plc_base::{Area, BlockId, Place, Width};
 use std::alloc::{AllocError, Global};
@@ -114,7 +114,7 @@ fn is_word(upper: &[u8], word: &[u8]) -> bool
 }
 
 /// A register by its word.
-fn register_of(alloc: Global, name: &Name) -> Result<Register, AllocError>
+fn register_for_word(alloc: Global, name: &Name) -> Result<Register, AllocError>
     ensures { IfOk result (λ r. r ≡ register_for_word name.now) }
 {
     let upper = name.as_bytes().to_ascii_uppercase(alloc)?;
@@ -146,7 +146,7 @@ fn resolved_to(view: ResolvedOperand) -> Resolution
 fn resolution_of_register(alloc: Global, name: &Name) -> Result<Resolution, AllocError>
     ensures { IfOk result (λ s. s ≡ Resolved (resolved.Register (register_for_word name.now))) }
 {
-    let which = register_of(alloc, name)?;
+    let which = register_for_word(alloc, name)?;
     Ok(resolved_to(ResolvedOperand::Register { which }))
 }
 
@@ -218,7 +218,7 @@ impl<'a> Context<'a> {
     }
 
     /// A called block, where it breaks no rule itself.
-    fn whole_block(&self, id: Option<BlockId>) -> Option<BlockId>
+    fn whole_called_block(&self, id: Option<BlockId>) -> Option<BlockId>
         ensures { result ≡ whole_called_block self.now id }
     {
         let id = id?;
@@ -330,7 +330,7 @@ impl<'a> Context<'a> {
                 self.data_number(name),
             )),
             Operand::Called { name, instance } => {
-                let id = self.whole_block(named_block(self.symbols(), name));
+                let id = self.whole_called_block(named_block(self.symbols(), name));
                 Ok(self.resolution_of_call(id, instance))
             }
         }

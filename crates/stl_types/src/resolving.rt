@@ -4,7 +4,7 @@ ghost use Rattle.stl_types.specs.Bodies.{first_context, in_contexts};
 ghost use Rattle.stl_types.specs.Context.{Context};
 ghost use Rattle.stl_types.specs.Operands.{
   at_line,
-  operand_rule,
+  rule_of_operand,
   operands_24,
   rule_of_resolution,
   rules_24_25_39,
@@ -15,9 +15,9 @@ ghost use Rattle.stl_types.specs.Resolution.{resolution_of};
 
 use crate::constants::takes_constant;
 use crate::contexts::Context;
-use crate::forms::{OperandRule, form_of};
+use crate::operand_rules::{OperandRule, operand_rule_of};
 use crate::operands::rule_of;
-use crate::views::{Resolution, ResolvedOperand};
+use crate::resolved_operands::{Resolution, ResolvedOperand};
 use block_layout::Layouts;
 use plc_base::{Refusal, lesser, try_least_of};
 use std::alloc::{AllocError, Global};
@@ -35,9 +35,9 @@ fn rule_of_resolution(form: OperandRule, resolution: Resolution) -> Option<u16>
 }
 
 /// The rule that an instruction breaks by its operand, which comes to `found`.
-fn operand_rule(form: OperandRule, operand: &Operand, found: Resolution) -> Option<u16>
+fn rule_of_operand(form: OperandRule, operand: &Operand, found: Resolution) -> Option<u16>
     ensures { (c : Context) → found ≡ resolution_of c operand.now
-        → result ≡ operand_rule c form operand.now }
+        → result ≡ rule_of_operand c form operand.now }
 {
     match operand {
         Operand::Constant { value } => {
@@ -79,7 +79,7 @@ impl<'a> Context<'a> {
     ///
     /// Want of memory.
     #[tactic(auto, unfolding(crate::specs::ResolvedStatement::resolved_operand))]
-    pub fn resolved(
+    pub fn resolved_operand(
         &self,
         alloc: Global,
         statement: &Statement,
@@ -87,7 +87,11 @@ impl<'a> Context<'a> {
         ensures { IfOk result (λ v. v ≡ resolved_operand self.now statement.now) }
     {
         let resolution = self.resolution(alloc, &statement.operand)?;
-        let rule = operand_rule(form_of(statement.code), &statement.operand, resolution);
+        let rule = rule_of_operand(
+            operand_rule_of(statement.code),
+            &statement.operand,
+            resolution,
+        );
         if rule.is_none() {
             Ok(operand_if_resolved(resolution))
         } else {
@@ -105,7 +109,11 @@ fn statement_rule(
     ensures { IfOk result (λ rule. rule ≡ statement_rule context.now statement.now) }
 {
     let resolution = context.resolution(alloc, &statement.operand)?;
-    Ok(operand_rule(form_of(statement.code), &statement.operand, resolution))
+    Ok(rule_of_operand(
+        operand_rule_of(statement.code),
+        &statement.operand,
+        resolution,
+    ))
 }
 
 fn wrong_operand(

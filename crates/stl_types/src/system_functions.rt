@@ -91,7 +91,7 @@ fn of_switch(alloc: Global) -> Result<Vec<Formal>, AllocError>
 }
 
 /// A return value alone.
-fn returned(alloc: Global, kind: Simple) -> Result<Vec<Formal>, AllocError>
+fn return_value_alone(alloc: Global, kind: Simple) -> Result<Vec<Formal>, AllocError>
     ensures { IfOk result (λ v. v.items ≡ return_value_formal kind ∷ []) }
 {
     let mut formals = Vec::with_capacity(alloc, 1)?;
@@ -116,9 +116,9 @@ pub fn system_formals(alloc: Global, number: u16) -> Result<Option<Vec<Formal>>,
         32 => Ok(Some(of_start(alloc)?)),
         33 => Ok(Some(of_cancel(alloc)?)),
         39 | 40 => Ok(Some(of_switch(alloc)?)),
-        41 | 42 => Ok(Some(returned(alloc, Simple::Int)?)),
+        41 | 42 => Ok(Some(return_value_alone(alloc, Simple::Int)?)),
         43 | 46 => Ok(Some(Vec::new(alloc))),
-        64 => Ok(Some(returned(alloc, Simple::Time)?)),
+        64 => Ok(Some(return_value_alone(alloc, Simple::Time)?)),
         _ => Ok(None),
     }
 }

@@ -13,7 +13,7 @@ ghost use Rattle.stl_types.specs.Unknown.{
 };
 
 use crate::contexts::Context;
-use crate::views::Resolution;
+use crate::resolved_operands::Resolution;
 use block_layout::{Layouts, Path, PathEnd};
 use plc_base::{Refusal, broken_if, lesser, try_least_of};
 use std::alloc::{AllocError, Global};

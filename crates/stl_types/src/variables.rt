@@ -19,7 +19,7 @@ ghost use Rattle.stl_types.specs.Variables.{
 };
 
 use crate::contexts::Context;
-use crate::views::{Resolution, ResolvedOperand, Side};
+use crate::resolved_operands::{Resolution, ResolvedOperand, Side};
 use block_layout::{ComponentAt, Element, Path, PathEnd, elementary_place};
 use plc_base::{Area, Place, Width};
 use stl_ast::{BlockName, Simple};
@@ -111,7 +111,7 @@ impl<'a> Context<'a> {
     }
 
     /// Whether the first name of a path, in upper case, is that of a temporary variable.
-    fn is_temporary(&self, name: &[u8]) -> bool
+    fn is_temporary_variable(&self, name: &[u8]) -> bool
         ensures { result ≡ is_temporary_variable self.now name.now }
     {
         !self.layouts().has_component(self.block(), name)
@@ -160,7 +160,7 @@ impl<'a> Context<'a> {
         ensures { result ≡ own_variable self.now name.now path.now }
     {
         let path_end = self.layouts().walk_local(self.block(), name, path);
-        self.own_at_path_end(self.is_temporary(name), path_end)
+        self.own_at_path_end(self.is_temporary_variable(name), path_end)
     }
 
     fn data_at(&self, number: u16, component: ComponentAt) -> Resolution

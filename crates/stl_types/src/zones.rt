@@ -58,7 +58,7 @@ fn is_ninth(zones: &[u32], statement: &Statement) -> bool
     opens_zone(statement.code) && zones.len() >= 8
 }
 
-fn ended_without(alloc: Global, body: &[Statement]) -> Result<Option<Refusal>, AllocError>
+fn zones_ended_without(alloc: Global, body: &[Statement]) -> Result<Option<Refusal>, AllocError>
     ensures { IfOk result (λ found. found ≡ least
         (with_zones (λ zones s. broken_if (ends_no_zone zones s) s.line 47) [] body.now)) }
 {
@@ -80,7 +80,10 @@ pub(crate) fn least_ended_without(
 ) -> Result<Option<Refusal>, AllocError>
     ensures { IfOk result (λ found. found ≡ least (rule_47 blocks.now)) }
 {
-    try_least_of(blocks, |b: &Block| ended_without(alloc, b.body.as_slice()))
+    try_least_of(
+        blocks,
+        |b: &Block| zones_ended_without(alloc, b.body.as_slice()),
+    )
 }
 
 fn ninth(alloc: Global, body: &[Statement]) -> Result<Option<Refusal>, AllocError>

@@ -25,7 +25,7 @@ fn last_in(alloc: Global, context: &Context<'_>) -> Result<LastStatement, Fail> 
     let block = blocks.get(context.block()).ok_or("no such block")?;
     let statement = block.body.as_slice().last().ok_or("no statement")?;
     let seen = context.resolution(alloc, &statement.operand)?;
-    let resolved = context.resolved(alloc, statement)?;
+    let resolved = context.resolved_operand(alloc, statement)?;
     let callee = context.callee(alloc, &statement.operand)?;
     Ok(LastStatement {
         seen,

@@ -34,7 +34,7 @@ fn is_unknown_id(types: &Types, id: Option<BlockId>) -> bool
         None => true,
         Some(id) => match id.kind {
             BlockKind::Sfc => false,
-            _ => types.directory.known(id).is_none(),
+            _ => types.directory.known_block(id).is_none(),
         },
     }
 }

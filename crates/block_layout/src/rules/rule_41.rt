@@ -5,10 +5,10 @@ ghost use Rattle.block_layout.specs.Rule41.{rule_41, fits_kind, misfits_componen
 use crate::alone::{DeclarationFault, least_alone};
 use crate::blocks::BlockLayout;
 use crate::constants::fits;
+use crate::path_ends::PathEnd;
 use crate::routes::elementary_at;
 use crate::settings::{SettingFault, least_of_settings};
 use crate::types::Types;
-use crate::walks::PathEnd;
 use plc_base::{Refusal, lesser};
 use std::alloc::{AllocError, Global};
 use stl_ast::{Block, Literal, Simple};

@@ -17,7 +17,7 @@ pub fn is_parameter(kind: PartKind) -> bool
 }
 
 /// The parameters that a section declares.
-fn declared_in(part: &Part) -> usize
+fn parameters_in_section(part: &Part) -> usize
     ensures { result ≡ parameters_in_section part.now }
 {
     if is_parameter(part.kind) {
@@ -47,7 +47,7 @@ fn parameters_in(parts: &[Part]) -> u64
 {
     let mut count = 0u64;
     for part in parts {
-        count = count.saturating_add(declared_in(part) as u64);
+        count = count.saturating_add(parameters_in_section(part) as u64);
     }
     count
 }

@@ -19,7 +19,7 @@ pub(crate) fn data_len(block: &Block, len: u64) -> u64
     if block.kind.is_data_block() { len } else { 0 }
 }
 
-/// Whether a block is a data block with which all are too long.
+/// Whether a block is a data block with which the data blocks together are too long.
 pub(crate) fn exceeds(block: &Block, before: u64, len: u64) -> bool
     ensures { (sum : ℕ) → before ≡ min sum (2 ^ 64 - 1)
         → result ≡ (is_data_block block.now.kind && nat_lt 2097152 (sum + len)) }

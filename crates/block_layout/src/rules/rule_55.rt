@@ -17,7 +17,7 @@ fn is_empty(code: Mnemonic) -> bool
 }
 
 /// An empty statement doesn't count.
-fn counted(statement: &Statement) -> usize
+fn count_of_statement(statement: &Statement) -> usize
     ensures { result ≡ (if not (is_empty_statement statement.now.code) then 1 else 0) }
 {
     if is_empty(statement.code) { 0 } else { 1 }
@@ -29,7 +29,7 @@ fn statement_count(body: &[Statement]) -> usize
 {
     let mut count = 0;
     for statement in body {
-        count += counted(statement);
+        count += count_of_statement(statement);
     }
     count
 }

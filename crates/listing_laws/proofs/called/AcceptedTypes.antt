@@ -31,19 +31,19 @@ use Rattle.block_layout.specs.Rule44.{is_number_beyond_limits}
 use Rattle.block_layout.specs.declared.blocks.BlockLayout.{BlockLayout}
 use Rattle.block_layout.specs.declared.cells.Cell.{Cell}
 use Rattle.stl_types.specs.Context.{Context, source_block_ids, in_function, is_of_function, whole_place}
-use Rattle.stl_types.specs.Forms.{form_of}
+use Rattle.stl_types.specs.OperandRules.{operand_rule_of}
 use Rattle.stl_types.specs.Kinds.{is_operand_of_call}
-use Rattle.stl_types.specs.Operands.{operand_rule, rule_of_resolved_operand, rule_of_resolution, statement_rule, takes_operand}
+use Rattle.stl_types.specs.Operands.{rule_of_operand, rule_of_resolved_operand, rule_of_resolution, statement_rule, takes_operand}
 use Rattle.stl_types.specs.Parameters.{Callee, callee_at, callee_by, callee_of, formals_of, is_sound_formal, source_callee, system_callee, system_formals}
 use Rattle.stl_types.specs.Resolution.{resolution_of_call, id_at, instance_number, resolution_of, whole_called_block}
 use Rattle.stl_types.specs.ResolvedStatement.{resolved_operand, operand_if_resolved}
-use Rattle.stl_types.specs.declared.forms.OperandRule.{OperandRule}
-use Rattle.stl_types.specs.declared.forms.OperandRule.TheVariants as operand_rules
+use Rattle.stl_types.specs.declared.operand_rules.OperandRule.{OperandRule}
+use Rattle.stl_types.specs.declared.operand_rules.OperandRule.TheVariants as operand_rules
 use Rattle.stl_types.specs.declared.parameters.Formal.{Formal}
-use Rattle.stl_types.specs.declared.views.Resolution.{Resolution}
-use Rattle.stl_types.specs.declared.views.Resolution.TheVariants.{Resolved, Unknown, Unjudged}
-use Rattle.stl_types.specs.declared.views.ResolvedOperand.{ResolvedOperand}
-use Rattle.stl_types.specs.declared.views.ResolvedOperand.TheVariants as resolved
+use Rattle.stl_types.specs.declared.resolved_operands.Resolution.{Resolution}
+use Rattle.stl_types.specs.declared.resolved_operands.Resolution.TheVariants.{Resolved, Unknown, Unjudged}
+use Rattle.stl_types.specs.declared.resolved_operands.ResolvedOperand.{ResolvedOperand}
+use Rattle.stl_types.specs.declared.resolved_operands.ResolvedOperand.TheVariants as resolved
 use Rattle.stl_codegen.specs.CompiledBlock.{StatedBlock, compiled_block}
 use Rattle.stl_codegen.specs.GeneratedProgram.{code_blocks_of, params_of}
 use Rattle.stl_codegen.specs.Instruction.{in_parameter_order}
@@ -89,8 +89,8 @@ pub calls_take : (id : BlockId) (instance : Option ℕ) → takes_operand operan
 unfolding takes_operand
 calls_take id instance e = e
 
-pub form_calls : (m : Mnemonic) → form_of m ≡ operand_rules.Calls → is_call m ≡ true
-unfolding form_of
+pub form_calls : (m : Mnemonic) → operand_rule_of m ≡ operand_rules.Calls → is_call m ≡ true
+unfolding operand_rule_of
 form_calls code.Call e = refl
 form_calls code.Uc e = refl
 form_calls code.Cc e = refl
@@ -151,7 +151,7 @@ resolved_seen c s v e = by (is_none (statement_rule c s)) e
     by false h = absurd cc
 
 pub rule_called : (c : Context) (f : OperandRule) (o : Operand) (id : BlockId) (instance : Option ℕ)
-    → resolution_of c o ≡ Resolved (resolved.Called id instance) → operand_rule c f o ≡ None → rule_of_resolved_operand f (resolved.Called id instance) ≡ None
+    → resolution_of c o ≡ Resolved (resolved.Called id instance) → rule_of_operand c f o ≡ None → rule_of_resolved_operand f (resolved.Called id instance) ≡ None
 unfolding resolution_of
 rule_called c f (operand.Constant value) id instance e h = absurd cc
 rule_called c f _ id instance e h = sym (ap (λ (r : Resolution). rule_of_resolution f r) e) ∙ h
@@ -405,11 +405,11 @@ module _ (symbols : List Symbol) (t : Tree) (tree : IsSoundTree symbols t) where
         at : resolution_of c s.operand ≡ Resolved (resolved.Called id instance)
         at = resolved_seen c s (resolved.Called id instance) e
 
-        taken : takes_operand (form_of s.code) (resolved.Called id instance) ≡ true
-        taken = (taken_by_rule (form_of s.code) (resolved.Called id instance) (rule_called c (form_of s.code) s.operand id instance at h.allowed)).taken
+        taken : takes_operand (operand_rule_of s.code) (resolved.Called id instance) ≡ true
+        taken = (taken_by_rule (operand_rule_of s.code) (resolved.Called id instance) (rule_called c (operand_rule_of s.code) s.operand id instance at h.allowed)).taken
 
-        calls : form_of s.code ≡ operand_rules.Calls
-        calls = taken_calls (form_of s.code) id instance taken
+        calls : operand_rule_of s.code ≡ operand_rules.Calls
+        calls = taken_calls (operand_rule_of s.code) id instance taken
 
         callable : is_callable id.kind ≡ true
         callable = callable_by id instance (calls_take id instance (ap (λ (f : OperandRule). takes_operand f (resolved.Called id instance)) (sym calls) ∙ taken))

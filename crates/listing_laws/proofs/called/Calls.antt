@@ -17,8 +17,8 @@ use Rattle.stl_types.specs.Calls.{has_formals, has_no_instance, is_instance, is_
 use Rattle.stl_types.specs.Context.{whole_data_place}
 use Rattle.stl_types.specs.Parameters.{Callee}
 use Rattle.stl_types.specs.declared.parameters.Formal.{Formal}
-use Rattle.stl_types.specs.declared.views.ResolvedOperand.TheVariants as resolved
-use Rattle.stl_codegen.specs.EmittedOps.{instance_number_or_zero}
+use Rattle.stl_types.specs.declared.resolved_operands.ResolvedOperand.TheVariants as resolved
+use Rattle.block_layout.specs.Fits.{number_or_zero}
 use Rattle.stl_codegen.specs.Instruction.{instr_by, instruction, passings_to, resolved_instr, operand_instr}
 use Rattle.stl_codegen.specs.Operations.{call_operation_of, jump_operation_of}
 use Rattle.stl_parser.specs.Operands.{data_block_name}
@@ -34,7 +34,7 @@ use Rattle.listing_laws.proofs.called.Passings.{passings_kept}
 
 -- ---- operands
 
-pub instance_is : (instance : Option ℕ) → IsInstanceNumbered instance → instance_name (instance_number_or_zero instance) ≡ option_map data_block_name instance
+pub instance_is : (instance : Option ℕ) → IsInstanceNumbered instance → instance_name (number_or_zero instance) ≡ option_map data_block_name instance
 instance_is None h = refl
 instance_is (Some zero) h = absurd (h refl)
 instance_is (Some (suc n)) h = ap (λ (t : Bool). if t then None else Some (data_block_name (suc n))) (ne_eqb (suc n) 0 (λ e. absurd (omega (arith, e))))

@@ -25,24 +25,24 @@ use Rattle.stl_symbols.specs.declared.targets.Target.TheVariants as target
 use Rattle.block_layout.specs.Blocks.{named_block}
 use Rattle.block_layout.specs.Members.{component_of_name}
 use Rattle.block_layout.specs.Offsets.{place_at, elementary_place, width_of}
-use Rattle.block_layout.specs.Paths.{cells_at, elementary_at, path_end_at_cell, folded_path, path_end_at_member, path_end_and_then, in_sections, path_end_by_index, indexed_behind, is_beyond, kind_of, path_end_by_name, named_behind, named_in, outermost_path_end, plain_kind, path_end_by_step, path_end_behind, path_end_in_data_block, path_end_of_local, whole_at, path_end_in_bounds}
+use Rattle.block_layout.specs.Paths.{cells_at, elementary_at, path_end_at_cell, folded_path, path_end_at_member, path_end_and_then, in_sections, path_end_by_index, path_end_behind_index, is_beyond, kind_of, path_end_by_name, path_end_behind_name, path_end_in_component, outermost_path_end, plain_kind, path_end_by_step, path_end_behind, path_end_in_data_block, path_end_of_local, whole_at, path_end_in_bounds}
 use Rattle.block_layout.specs.declared.cells.Cell.{Cell}
 use Rattle.block_layout.specs.declared.cells.Element.{Element}
 use Rattle.block_layout.specs.declared.cells.Element.TheVariants as element
 use Rattle.block_layout.specs.declared.members.Member.{Member}
-use Rattle.block_layout.specs.declared.walks.ComponentAt.{ComponentAt}
-use Rattle.block_layout.specs.declared.walks.PathEnd.{PathEnd}
-use Rattle.block_layout.specs.declared.walks.PathEnd.TheVariants as path_end
+use Rattle.block_layout.specs.declared.path_ends.ComponentAt.{ComponentAt}
+use Rattle.block_layout.specs.declared.path_ends.PathEnd.{PathEnd}
+use Rattle.block_layout.specs.declared.path_ends.PathEnd.TheVariants as path_end
 use Rattle.stl_types.specs.Addresses.{address_in_block}
 use Rattle.stl_types.specs.Context.{Context, data_number, data_place, in_function}
 use Rattle.stl_types.specs.Parameters.{formal, formal_here, formal_of, formals_of}
 use Rattle.stl_types.specs.Resolution.{resolution_of_call, resolution_of_address, instance_number, resolution_of_opened_block, resolution_of_path, resolution_of, resolution_of_symbol, resolved_target, whole_called_block}
 use Rattle.stl_types.specs.Variables.{behind_others, composite_operand, data_at, data_path, data_variable, data_at_path_end, date_or_composite, variable_in_area, own_at, own_variable, own_at_path_end, parameter_resolution, parameter_at, parameter_index}
 use Rattle.stl_types.specs.declared.parameters.Formal.{Formal}
-use Rattle.stl_types.specs.declared.views.Resolution.{Resolution}
-use Rattle.stl_types.specs.declared.views.Resolution.TheVariants.{Resolved}
-use Rattle.stl_types.specs.declared.views.ResolvedOperand.{ResolvedOperand}
-use Rattle.stl_types.specs.declared.views.ResolvedOperand.TheVariants as resolved
+use Rattle.stl_types.specs.declared.resolved_operands.Resolution.{Resolution}
+use Rattle.stl_types.specs.declared.resolved_operands.Resolution.TheVariants.{Resolved}
+use Rattle.stl_types.specs.declared.resolved_operands.ResolvedOperand.{ResolvedOperand}
+use Rattle.stl_types.specs.declared.resolved_operands.ResolvedOperand.TheVariants as resolved
 use Rattle.stl_codegen.specs.Instruction.{in_parameter_order, return_last}
 use Rattle.listing_laws.specs.OwnParameterTypes.{AreOwnSeen, IsParameterCell}
 use Rattle.listing_laws.proofs.NameLemmas.{either_way}
@@ -177,11 +177,11 @@ module _ (c : Context) (own : in_function c ≡ true → AllByRecursion IsParame
     unfolding path_end_by_step path_end_by_name path_end_by_index
     step_here component (step.Named name) h = by (slice_get (cells_at c.layouts component.block component.temporary) component.place) refl
       where
-        by : (o : Option Cell) → slice_get (cells_at c.layouts component.block component.temporary) component.place ≡ o → IsHere (named_behind c.layouts component name o)
+        by : (o : Option Cell) → slice_get (cells_at c.layouts component.block component.temporary) component.place ≡ o → IsHere (path_end_behind_name c.layouts component name o)
         by None e = tt
         by (Some cell) e =
             let plain = plain_at component h cell e in
-            subst (λ (x : Element). IsHere (if nat_eq component.depth (length cell.bounds) then named_in c.layouts component name cell x else path_end.Unknown)) (sym plain.1)
+            subst (λ (x : Element). IsHere (if nat_eq component.depth (length cell.bounds) then path_end_in_component c.layouts component name cell x else path_end.Unknown)) (sym plain.1)
             (either_way IsHere (nat_eq component.depth (length cell.bounds)) path_end.Unknown path_end.Unknown tt tt)
     step_here component (step.Index i) h = by (slice_get (cells_at c.layouts component.block component.temporary) component.place)
       where
@@ -189,7 +189,7 @@ module _ (c : Context) (own : in_function c ≡ true → AllByRecursion IsParame
         at cell behind None = tt
         at cell behind (Some b) = either_way IsHere (is_beyond b i) _ _ h h
 
-        by : (o : Option Cell) → IsHere (indexed_behind component (cells_at c.layouts component.block component.temporary) i o)
+        by : (o : Option Cell) → IsHere (path_end_behind_index component (cells_at c.layouts component.block component.temporary) i o)
         by None = tt
         by (Some cell) = at cell _ (slice_get cell.bounds component.depth)
 

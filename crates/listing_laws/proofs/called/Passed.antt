@@ -30,10 +30,10 @@ use Rattle.stl_types.specs.ResolvedStatement.{resolved_operand}
 use Rattle.stl_codegen.specs.Instruction.{end_instr, instr_by, instruction, jump_instr, passings_to, resolved_instr, target_of, operand_instr}
 use Rattle.stl_codegen.specs.Operations.{call_operation_of, end_operation_of, jump_operation_of}
 use Rattle.stl_types.specs.declared.parameters.Formal.{Formal}
-use Rattle.stl_types.specs.declared.views.Resolution.{Resolution}
-use Rattle.stl_types.specs.declared.views.Resolution.TheVariants.{Resolved, Unknown, Unjudged}
-use Rattle.stl_types.specs.declared.views.ResolvedOperand.{ResolvedOperand}
-use Rattle.stl_types.specs.declared.views.ResolvedOperand.TheVariants as resolved
+use Rattle.stl_types.specs.declared.resolved_operands.Resolution.{Resolution}
+use Rattle.stl_types.specs.declared.resolved_operands.Resolution.TheVariants.{Resolved, Unknown, Unjudged}
+use Rattle.stl_types.specs.declared.resolved_operands.ResolvedOperand.{ResolvedOperand}
+use Rattle.stl_types.specs.declared.resolved_operands.ResolvedOperand.TheVariants as resolved
 use Rattle.stl_codegen.specs.Operands.{is_in_named_block}
 use Rattle.stl_codegen.specs.PassedParameters.{passed_actual, passed_resolution, passed_by_operand, passings_from, actual_of_formal, with_index}
 use Rattle.listing_laws.specs.HandedTypes.{ArePassedOn, AreStatementsHandedOn, HandsTypesOn, CallOwesTypes, IsFoundAmong, IsHandedOn, SeesOwn, formals_by_index}

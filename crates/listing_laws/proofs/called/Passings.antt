@@ -33,9 +33,9 @@ use Rattle.stl_types.specs.Calls.{is_supplied, is_supplied_twice, misfits_formal
 use Rattle.stl_types.specs.Context.{Context, data_number}
 use Rattle.stl_types.specs.Resolution.{resolution_of}
 use Rattle.stl_types.specs.declared.parameters.Formal.{Formal}
-use Rattle.stl_types.specs.declared.views.Resolution.TheVariants.{Resolved}
-use Rattle.stl_types.specs.declared.views.ResolvedOperand.TheVariants as resolved
-use Rattle.stl_types.specs.declared.views.Side.TheVariants as side
+use Rattle.stl_types.specs.declared.resolved_operands.Resolution.TheVariants.{Resolved}
+use Rattle.stl_types.specs.declared.resolved_operands.ResolvedOperand.TheVariants as resolved
+use Rattle.stl_types.specs.declared.resolved_operands.Side.TheVariants as side
 use Rattle.stl_codegen.specs.EmittedOps.{pass_ops}
 use Rattle.stl_codegen.specs.Instruction.{source_block_at, in_parameter_order, return_last}
 use Rattle.stl_codegen.specs.PassedParameters.{passed_actual, passed_resolution, passings_from, actual_of_formal, with_index}

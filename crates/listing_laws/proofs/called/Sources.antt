@@ -15,7 +15,7 @@ use Rattle.block_layout.specs.declared.blocks.BlockLayout.{BlockLayout}
 use Rattle.stl_types.specs.Bodies.{first_context}
 use Rattle.stl_types.specs.Context.{Context}
 use Rattle.stl_codegen.specs.CompiledBlock.{SourceInstruction, StatedBlock, compiled_block}
-use Rattle.stl_codegen.specs.GeneratedProgram.{code_block, code_block_of, code_blocks_of, each_block, statements_of, stated_from}
+use Rattle.stl_codegen.specs.GeneratedProgram.{code_block, code_block_of, code_blocks_of, each_block, statements_of, instructions_from}
 use Rattle.stl_codegen.specs.Instruction.{instruction}
 use Rattle.stl_codegen.specs.Order.{is_code_before}
 use Rattle.listing_laws.specs.HandedTypes.{HandsTypesOn, SeesOwn}
@@ -30,17 +30,17 @@ module _ (types : BlockId → List Simple) (all : List CodeBlock) where
   IsHandedStated own s = HandsTypesOn types all own s.instr
 
   stated_handed : (c : Context) (own : List Simple) (body : List Statement) (n : ℕ) (ss : List Statement) → SeesOwn c own
-      → AllByRecursion (StatementOwesTypes types all c) ss → AllByRecursion (IsHandedStated own) (stated_from c body n ss)
+      → AllByRecursion (StatementOwesTypes types all c) ss → AllByRecursion (IsHandedStated own) (instructions_from c body n ss)
   stated_handed c own body n [] sees h = tt
   stated_handed c own body n (s ∷ ss) sees (one, more) =
-      either_way (λ l. AllByRecursion (IsHandedStated own) l) (is_empty_statement s.code) (stated_from c body n ss) (record { instr = instruction c body n s; line = s.line } ∷ stated_from c body (suc n) ss)
+      either_way (λ l. AllByRecursion (IsHandedStated own) l) (is_empty_statement s.code) (instructions_from c body n ss) (record { instr = instruction c body n s; line = s.line } ∷ instructions_from c body (suc n) ss)
       (stated_handed c own body n ss sees more) (statements_handed_on types all c own body n s sees one, stated_handed c own body (suc n) ss sees more)
 
   statements_handed : (c : Context) (b : Block) (l : BlockLayout) (id : BlockId) → BodyOwesTypes types all c b l id
       → AllByRecursion (IsHandedStated (types id)) (statements_of c b)
   unfolding statements_of
   statements_handed c b l id h =
-      all_append (IsHandedStated (types id)) (stated_from c b.body 0 b.body) _ (stated_handed c (types id) b.body 0 b.body h.sees h.statements) (tt, tt)
+      all_append (IsHandedStated (types id)) (instructions_from c b.body 0 b.body) _ (stated_handed c (types id) b.body 0 b.body h.sees h.statements) (tt, tt)
 
   -- a block of the program with the length of its types, whose instructions hand types on
   abbrev IsHandedBlock : StatedBlock → Type 0

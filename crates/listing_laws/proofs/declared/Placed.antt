@@ -1,5 +1,5 @@
 -- The parameters of a function block lie where they lay, and its instance is as long.
-use Rattle.std.proofs.Common.{◌≡◌, ℕ, suc, ◌+◌, ◌-◌, ◌/◌, ◌%◌, ◌≤◌, ◌<◌, ◌^◌, Bool, true, false, min, List, [], ◌∷◌, ◌++◌, length, map, flat_map, Option, Some, None, refl, sym, ap, subst, ◌∙◌, arith}
+use Rattle.std.proofs.Common.{◌≡◌, ℕ, suc, ◌+◌, ◌-◌, ◌/◌, ◌%◌, ◌≤◌, ◌<◌, ◌^◌, Bool, true, false, min, List, [], ◌∷◌, ◌++◌, length, map, flat_map, refl, sym, ap, subst, ◌∙◌, arith}
 use Rattle.std.specs.Prelude.{if◌then◌else◌, nat_eq}
 use Rattle.std.specs.List.{AllByRecursion}
 use Rattle.std.specs.Str.{bytes_eq}
@@ -10,13 +10,12 @@ use Rattle.stl_ast.specs.Blocks.{is_parameter}
 use Rattle.stl_ast.specs.declared.blocks.PartKind.{PartKind}
 use Rattle.stl_ast.specs.declared.declarations.Simple.{Simple}
 use Rattle.stl_ast.specs.declared.declarations.Simple.TheVariants as simple
-use Rattle.block_layout.specs.ListedParameters.{AreAlike, CellNamesDiffer, IsAlike, IsElementary, offset_named}
+use Rattle.block_layout.specs.ListedParameters.{AreAlike, CellNamesDiffer, IsAlike, IsElementary, offset_of_member}
 use Rattle.block_layout.specs.Members.{component_of_name}
 use Rattle.block_layout.specs.Offsets.{width_of}
 use Rattle.block_layout.specs.Sizes.{alignment, capped_size, cell_bits, element_of, components_end, largest_size, plain_bits, end_behind_cell, next_multiple}
 use Rattle.block_layout.specs.declared.cells.Cell.{Cell}
-use Rattle.block_layout.specs.declared.members.Member.{Member}
-use Rattle.stl_codegen.specs.GeneratedProgram.{offset_of_member as offset_of, param_at_bits, param_here, param_of, section_number}
+use Rattle.stl_codegen.specs.GeneratedProgram.{param_at_bits, param_here, param_of, section_number}
 use Rattle.stl_types.specs.declared.parameters.Formal.{Formal}
 use Rattle.stl_list.specs.Parameters.{parameter_name}
 use Rattle.stl_list.specs.Sections.{even_end, static_start}
@@ -43,7 +42,7 @@ AreSame look (c ∷ cs) (p ∷ ps) (d ∷ ds) = IsSame look c p d × AreSame loo
 AreSame look _ _ _ = ⊥
 
 abbrev pub look_in : List Cell → List ℕ → ℕ
-look_in all name = offset_named (component_of_name 0 0 0 name all)
+look_in all name = offset_of_member (component_of_name 0 0 0 name all)
 
 pub plain_width : (k : Simple) → plain_bits k ≡ bit_count (width_of k)
 plain_width simple.Bool = refl
@@ -56,15 +55,10 @@ plain_width simple.Dword = refl
 plain_width simple.Dint = refl
 plain_width simple.Time = refl
 
-same_offset : (o : Option Member) → offset_of o ≡ offset_named o
-same_offset None = refl
-same_offset (Some m) = refl
-
 same_one : (all : List Cell) (kind : PartKind) (opens : Bool) (c : Cell) (f : Formal) → is_parameter kind ≡ true → IsSectionCell kind opens c → width_of f.kind ≡ cell_width c.of
-    → IsSame (look_in all) c (param_at_bits (section_number kind) (cell_width c.of) (offset_of (component_of_name 0 0 0 c.name all))) (plain_cell opens kind f)
+    → IsSame (look_in all) c (param_at_bits (section_number kind) (cell_width c.of) (offset_of_member (component_of_name 0 0 0 c.name all))) (plain_cell opens kind f)
 same_one all kind opens c f is h wide =
     let own : width_of h.simple ≡ width_of f.kind = sym (ap cell_width h.elementary.of) ∙ sym wide in
-    let offset = same_offset (component_of_name 0 0 0 c.name all) in
     record {
       alike = record {
         kind = h.simple;
@@ -77,8 +71,8 @@ same_one all kind opens c f is h wide =
       section = refl;
       parameter = is;
       width = wide;
-      byte = ap (λ n. n / 8) offset;
-      bit = ap (λ n. n % 8) offset;
+      byte = refl;
+      bit = refl;
     }
 
 same_later : (all : List Cell) (kind : PartKind) (cs : List Cell) (fs : List Formal) → is_parameter kind ≡ true → AreParameters kind false cs
@@ -143,10 +137,10 @@ params_made look all (c ∷ cs) [] [] h e = absurd h
 params_made look all (c ∷ cs) [] (d ∷ ds) h e = absurd h
 params_made look all (c ∷ cs) (p ∷ ps) [] h e = absurd h
 params_made look all (c ∷ cs) (p ∷ ps) (d ∷ ds) (one, more) e =
-    let offset : look c.name ≡ offset_of (component_of_name 0 0 0 d.name all) = ap first_or_0 e ∙ sym (same_offset (component_of_name 0 0 0 d.name all)) in
+    let offset : look c.name ≡ offset_of_member (component_of_name 0 0 0 d.name all) = ap first_or_0 e in
     let here : param_here true all d ≡ p ∷ [] =
     ap (λ (t : Bool). if t then param_of true all d d.of else []) one.parameter ∙ ap (param_of true all d) one.alike.second.of
-    ∙ ap (λ q. q ∷ []) (param_same look c p d (offset_of (component_of_name 0 0 0 d.name all)) one offset) in
+    ∙ ap (λ q. q ∷ []) (param_same look c p d (offset_of_member (component_of_name 0 0 0 d.name all)) one offset) in
     let rest = params_made look all cs ps ds more (ap behind_first e) in
     λ i. here i ++ rest i
 
@@ -240,14 +234,14 @@ end_near at (c ∷ cs) near =
 
 -- the offsets of some cells, as those behind a place find them
 abbrev pub Finds : (look : List ℕ → ℕ) → (at place : ℕ) → (all cs : List Cell) → Type 0
-Finds look at place all cs = AllByRecursion (λ c. look c.name ≡ offset_named (component_of_name 0 at place c.name all)) cs
+Finds look at place all cs = AllByRecursion (λ c. look c.name ≡ offset_of_member (component_of_name 0 at place c.name all)) cs
 
 pub finds_later : (look : List ℕ → ℕ) (at place : ℕ) (c : Cell) (kind : Simple) (rest cs : List Cell) → IsElementary c kind → AllByRecursion (λ d. bytes_eq d.name c.name ≡ false) cs
     → Finds look at place (c ∷ rest) cs → Finds look (next at c.opens (plain_bits kind)) (place + 1) rest cs
 finds_later look at place c kind rest [] is apart h = tt
 finds_later look at place c kind rest (d ∷ ds) is (other, others) (one, more) =
     let passed = passed_by at place d.name c rest (not_both (nat_eq c.level 0) (bytes_eq d.name c.name) (λ e. other)) in
-    (one ∙ ap offset_named (passed ∙ ap (λ n. component_of_name 0 n (place + 1) d.name rest) (stepped_is at c rest kind is)), finds_later look at place c kind rest ds is others more)
+    (one ∙ ap offset_of_member (passed ∙ ap (λ n. component_of_name 0 n (place + 1) d.name rest) (stepped_is at c rest kind is)), finds_later look at place c kind rest ds is others more)
 
 last_end : (p : Param) (at offset bits : ℕ) → p.byte ≡ offset / 8 → p.bit ≡ offset % 8 → bit_count p.width ≡ bits → at ≡ capped_size (offset + bits) → at < largest_size → even_end p ≡ next_multiple at 16 / 8
 unfolding next_multiple
@@ -263,7 +257,7 @@ start_is look at place c [] vs p [] d [] apart (one, more) (found, founds) short
     let is = one.alike.first in
     let end : components_end 0 at (c ∷ []) ≡ next at c.opens (plain_bits one.alike.kind) = end_first at c [] one.alike.kind is in
     let offset : look c.name ≡ next_multiple at (align c.opens (plain_bits one.alike.kind)) =
-    found ∙ ap offset_named (found_here at place c vs is.level) ∙ ap (next_multiple at) (alignment_is c one.alike.kind is) in
+    found ∙ ap offset_of_member (found_here at place c vs is.level) ∙ ap (next_multiple at) (alignment_is c one.alike.kind is) in
     let bits : bit_count p.width ≡ plain_bits one.alike.kind = ap bit_count (sym one.width) ∙ sym (plain_width one.alike.other) ∙ sym one.alike.bits in
     last_end p (components_end 0 at (c ∷ [])) (next_multiple at (align c.opens (plain_bits one.alike.kind))) (plain_bits one.alike.kind)
     (one.byte ∙ ap (λ n. n / 8) offset) (one.bit ∙ ap (λ n. n % 8) offset) bits end short

@@ -17,11 +17,11 @@ use Rattle.stl_symbols.specs.Names.{name_place}
 use Rattle.block_layout.specs.Around.{Outside, refusals_in_list, of_sections, of_structure, declarations_before_next, returned_names, section_declarations}
 use Rattle.block_layout.specs.Cells.{cells_of}
 use Rattle.block_layout.specs.Declarations.{has_upside_down, init_fits, is_unknown_type}
-use Rattle.block_layout.specs.Rule21.{broken_21, is_twice, names_before}
-use Rattle.block_layout.specs.Rule23.{broken_23}
-use Rattle.block_layout.specs.Rule41.{broken_41}
-use Rattle.block_layout.specs.Rule42.{broken_42}
-use Rattle.block_layout.specs.Rule56.{broken_56, is_too_deep}
+use Rattle.block_layout.specs.Rule21.{refusals_21, is_twice, names_before}
+use Rattle.block_layout.specs.Rule23.{refusals_23}
+use Rattle.block_layout.specs.Rule41.{refusals_41}
+use Rattle.block_layout.specs.Rule42.{refusals_42}
+use Rattle.block_layout.specs.Rule56.{refusals_56, is_too_deep}
 use Rattle.block_layout.specs.Types.{Types}
 use Rattle.stl_types.specs.declared.parameters.Formal.{Formal}
 use Rattle.stl_list.specs.DataBlocks.{listed_data}
@@ -106,7 +106,7 @@ bytes_here_right y o before line name n values h = by (n == 0) refl
 
 -- a list whose declarations are right has no refusal of these rules
 pub list_right : (y : Types) (o : Outside) (ds : List Declaration) → AllBefore (IsRight y o) [] ds
-    → (refusals_in_list (broken_21 o) ds ≡ []) × (refusals_in_list (broken_23 y o) ds ≡ []) × (refusals_in_list (broken_41 o) ds ≡ []) × (refusals_in_list (broken_42 o) ds ≡ []) × (refusals_in_list (broken_56 y o) ds ≡ [])
+    → (refusals_in_list (refusals_21 o) ds ≡ []) × (refusals_in_list (refusals_23 y o) ds ≡ []) × (refusals_in_list (refusals_41 o) ds ≡ []) × (refusals_in_list (refusals_42 o) ds ≡ []) × (refusals_in_list (refusals_56 y o) ds ≡ [])
 list_right y o ds h = (
   none_gathered (is_twice o) 21 [] ds (before_weaker (IsRight y o) (λ before d. is_twice o before d ≡ false) (λ before d r. r.twice) [] ds h),
   none_gathered (λ before d. is_unknown_type y d.of.of) 23 [] ds (before_weaker (IsRight y o) (λ before d. is_unknown_type y d.of.of ≡ false) (λ before d r. r.known) [] ds h),

@@ -14,16 +14,16 @@ use Rattle.block_layout.specs.Declarations.{element_count}
 use Rattle.block_layout.specs.Fits.{bits_of}
 use Rattle.block_layout.specs.InitialBytes.{Write, component_starts, cell_writes, component_writes, element_starts, filled_starts, in_steps, preset_values, setting_write, type_writes, write_of, writes_at, writes_from}
 use Rattle.block_layout.specs.Members.{component_of_name}
-use Rattle.block_layout.specs.Paths.{cells_at, elementary_at, path_end_at_cell, path_end_at_member, path_end_and_then, path_end_by_index, indexed_behind, is_beyond, path_end_by_name, named_behind, named_in, outermost_path_end, path_end_by_step, path_end_behind, path_end_in_bounds}
+use Rattle.block_layout.specs.Paths.{cells_at, elementary_at, path_end_at_cell, path_end_at_member, path_end_and_then, path_end_by_index, path_end_behind_index, is_beyond, path_end_by_name, path_end_behind_name, path_end_in_component, outermost_path_end, path_end_by_step, path_end_behind, path_end_in_bounds}
 use Rattle.block_layout.specs.Sizes.{alignment, array_bits, capped_size, cell_bits, element_alignment, element_of, largest_size, plain_bits, end_behind_cell, next_multiple}
 use Rattle.block_layout.specs.declared.blocks.BlockLayout.{BlockLayout}
 use Rattle.block_layout.specs.declared.cells.Cell.{Cell}
 use Rattle.block_layout.specs.declared.cells.Element.{Element}
 use Rattle.block_layout.specs.declared.cells.Element.TheVariants.{DateAndTime, Plain, Structure, Udt, Unknown}
 use Rattle.block_layout.specs.declared.members.Member.{Member}
-use Rattle.block_layout.specs.declared.walks.ComponentAt.{ComponentAt}
-use Rattle.block_layout.specs.declared.walks.PathEnd.{PathEnd}
-use Rattle.block_layout.specs.declared.walks.PathEnd.TheVariants as path_end
+use Rattle.block_layout.specs.declared.path_ends.ComponentAt.{ComponentAt}
+use Rattle.block_layout.specs.declared.path_ends.PathEnd.{PathEnd}
+use Rattle.block_layout.specs.declared.path_ends.PathEnd.TheVariants as path_end
 use Rattle.sem_kept.proofs.accepted.Accepted.{all_mapped}
 use Rattle.block_layout.proofs.OffsetLemmas.{Grows, step_grows}
 
@@ -208,7 +208,7 @@ module _ (low : ℕ) (near : low ≤ largest_size) where
   unfolding path_end_by_name outermost_path_end
   names_behind l component name h = by (slice_get (cells_at l component.block component.temporary) component.place)
     where
-      of_element : (c : Cell) (of : Element) → LeadsBehind low (named_in l component name c of)
+      of_element : (c : Cell) (of : Element) → LeadsBehind low (path_end_in_component l component name c of)
       of_element c Structure =
           found_behind (cells_at l component.block component.temporary) component.block component.temporary (component.place + 1) component.offset
           (component_of_name (c.level + 1) 0 0 name (drop (component.place + 1) (cells_at l component.block component.temporary))) h
@@ -217,11 +217,11 @@ module _ (low : ℕ) (near : low ≤ largest_size) where
       of_element c DateAndTime = tt
       of_element c Unknown = tt
 
-      whole : (c : Cell) (t : Bool) → LeadsBehind low (if t then named_in l component name c c.of else path_end.Unknown)
+      whole : (c : Cell) (t : Bool) → LeadsBehind low (if t then path_end_in_component l component name c c.of else path_end.Unknown)
       whole c true = of_element c c.of
       whole c false = tt
 
-      by : (o : Option Cell) → LeadsBehind low (named_behind l component name o)
+      by : (o : Option Cell) → LeadsBehind low (path_end_behind_name l component name o)
       by None = tt
       by (Some c) = whole c (nat_eq component.depth (length c.bounds))
 
@@ -238,7 +238,7 @@ module _ (low : ℕ) (near : low ≤ largest_size) where
       inside c behind None = tt
       inside c behind (Some b) = reaches (is_beyond b at) _
 
-      by : (o : Option Cell) → LeadsBehind low (indexed_behind component (cells_at l component.block component.temporary) at o)
+      by : (o : Option Cell) → LeadsBehind low (path_end_behind_index component (cells_at l component.block component.temporary) at o)
       by None = tt
       by (Some c) = inside c (drop (component.place + 1) (cells_at l component.block component.temporary)) (slice_get c.bounds component.depth)
 

@@ -7,13 +7,13 @@ use Rattle.stl_ast.specs.declared.blocks.PathStep.TheVariants as step
 use Rattle.stl_ast.specs.declared.declarations.Simple.{Simple}
 use Rattle.block_layout.specs.ListedParameters.{IsElementary}
 use Rattle.block_layout.specs.Members.{component_of_name}
-use Rattle.block_layout.specs.Paths.{cells_at, elementary_at, path_end_at_cell, path_end_at_member, path_end_by_index, indexed_behind, kind_of, path_end_by_name, named_behind, named_in, plain_kind, path_end_by_step, path_end_in_bounds}
+use Rattle.block_layout.specs.Paths.{cells_at, elementary_at, path_end_at_cell, path_end_at_member, path_end_by_index, path_end_behind_index, kind_of, path_end_by_name, path_end_behind_name, path_end_in_component, plain_kind, path_end_by_step, path_end_in_bounds}
 use Rattle.block_layout.specs.Sizes.{alignment, capped_size, largest_size, next_multiple}
 use Rattle.block_layout.specs.declared.blocks.BlockLayout.{BlockLayout}
 use Rattle.block_layout.specs.declared.cells.Cell.{Cell}
 use Rattle.block_layout.specs.declared.members.Member.{Member}
-use Rattle.block_layout.specs.declared.walks.ComponentAt.{ComponentAt}
-use Rattle.block_layout.specs.declared.walks.PathEnd.TheVariants as path_end
+use Rattle.block_layout.specs.declared.path_ends.ComponentAt.{ComponentAt}
+use Rattle.block_layout.specs.declared.path_ends.PathEnd.TheVariants as path_end
 use Rattle.sem_kept.proofs.accepted.RecordParams.{never_less}
 
 pub named_here : (at place : ℕ) (name : List ℕ) (c : Cell) (cs : List Cell) → (nat_eq c.level 0 && bytes_eq name c.name) ≡ true
@@ -46,14 +46,14 @@ module _ (l : List BlockLayout) (component : ComponentAt) (c : Cell) (kind : Sim
   -- no step leads on behind an elementary component
   pub no_step : IsElementary c kind → (s : PathStep) → path_end_by_step l component s ≡ path_end.Unknown
   unfolding path_end_by_step path_end_by_name path_end_by_index
-  no_step h (step.Named name) = ap (named_behind l component name) there ∙ by (nat_eq component.depth (length c.bounds))
+  no_step h (step.Named name) = ap (path_end_behind_name l component name) there ∙ by (nat_eq component.depth (length c.bounds))
     where
-      by : (t : Bool) → (if t then named_in l component name c c.of else path_end.Unknown) ≡ path_end.Unknown
-      by true = ap (named_in l component name c) h.of
+      by : (t : Bool) → (if t then path_end_in_component l component name c c.of else path_end.Unknown) ≡ path_end.Unknown
+      by true = ap (path_end_in_component l component name c) h.of
       by false = refl
   no_step h (step.Index at) =
       let cells = cells_at l component.block component.temporary in
-      ap (indexed_behind component cells at) there ∙ ap (λ bounds. path_end_in_bounds component c (drop (component.place + 1) cells) at (slice_get bounds component.depth)) h.bounds
+      ap (path_end_behind_index component cells at) there ∙ ap (λ bounds. path_end_in_bounds component c (drop (component.place + 1) cells) at (slice_get bounds component.depth)) h.bounds
 
   pub kind_there : IsElementary c kind → component.depth ≡ 0 → elementary_at l component ≡ Some kind
   kind_there h depth =

@@ -13,7 +13,7 @@ use Rattle.stl_ast.specs.declared.declarations.Simple.{Simple}
 use Rattle.stl_ast.specs.declared.literals.Literal.{Literal}
 use Rattle.block_layout.specs.Fits.{bits_of}
 use Rattle.block_layout.specs.InitialBytes.{Write, component_starts, cell_writes, component_writes, element_starts, preset_values, setting_write, type_writes, write_of, writes_at, writes_from}
-use Rattle.block_layout.specs.ListedParameters.{AreAlike, CellNamesDiffer, IsElementary, offset_named}
+use Rattle.block_layout.specs.ListedParameters.{AreAlike, CellNamesDiffer, IsElementary, offset_of_member}
 use Rattle.block_layout.specs.Members.{component_of_name}
 use Rattle.block_layout.specs.Paths.{cells_at, path_end_at_member, path_end_and_then, outermost_path_end, path_end_behind, path_end_in_block}
 use Rattle.block_layout.specs.RebuiltBytes.{OneReaches, Reaches}
@@ -22,9 +22,9 @@ use Rattle.block_layout.specs.declared.blocks.BlockLayout.{BlockLayout}
 use Rattle.block_layout.specs.declared.cells.Cell.{Cell}
 use Rattle.block_layout.specs.declared.cells.Element.TheVariants.{Plain}
 use Rattle.block_layout.specs.declared.members.Member.{Member}
-use Rattle.block_layout.specs.declared.walks.ComponentAt.{ComponentAt}
-use Rattle.block_layout.specs.declared.walks.PathEnd.{PathEnd}
-use Rattle.block_layout.specs.declared.walks.PathEnd.TheVariants as path_end
+use Rattle.block_layout.specs.declared.path_ends.ComponentAt.{ComponentAt}
+use Rattle.block_layout.specs.declared.path_ends.PathEnd.{PathEnd}
+use Rattle.block_layout.specs.declared.path_ends.PathEnd.TheVariants as path_end
 use Rattle.block_layout.proofs.AlignmentLemmas.{here_within}
 use Rattle.sem_kept.proofs.accepted.RecordParams.{end_step, found_here, never_less, passed_by, past_behind}
 use Rattle.listing_laws.proofs.declared.Placed.{AreSame, Finds, align, alignment_is, bits_is, finds_later, next, plain_width, stepped_is}
@@ -93,7 +93,7 @@ placed_from look at place (c ∷ cs) vs [] (d ∷ ds) apart h found = absurd h
 placed_from look at place (c ∷ cs) vs (p ∷ ps) [] apart h found = absurd h
 placed_from look at place (c ∷ cs) vs (p ∷ ps) (d ∷ ds) apart (one, more) found =
     let is = one.alike.first in
-    let offset : look c.name ≡ next_multiple at (alignment c) = found.0 ∙ ap offset_named (found_here at place c (cs ++ vs) is.level) in
+    let offset : look c.name ≡ next_multiple at (alignment c) = found.0 ∙ ap offset_of_member (found_here at place c (cs ++ vs) is.level) in
     let n = next_multiple at (alignment c) in
     let byte : p.byte ≡ n / 8 = one.byte ∙ ap (λ k. k / 8) offset in
     let bit : p.bit ≡ n % 8 = one.bit ∙ ap (λ k. k % 8) offset in

@@ -14,13 +14,13 @@ use Rattle.stl_ast.specs.declared.declarations.Simple.{Simple}
 use Rattle.stl_ast.specs.declared.declarations.Simple.TheVariants as simple
 use Rattle.block_layout.specs.ListedParameters.{CellNamesDiffer, IsElementary}
 use Rattle.block_layout.specs.Members.{component_of_name}
-use Rattle.block_layout.specs.Paths.{cells_at, elementary_at, path_end_at_member, holds_where_reached, path_end_and_then, path_end_by_index, indexed_behind, is_beyond, is_beyond_in, is_checkable, kind_of, leaves_array, leaves_structure, outermost_path_end, setting_structure, path_end_by_step, structure_of, path_end_behind, path_end_in_data_block, path_end_in_block, path_end_or_unjudged, path_end_of_setting}
+use Rattle.block_layout.specs.Paths.{cells_at, elementary_at, path_end_at_member, holds_where_reached, path_end_and_then, path_end_by_index, path_end_behind_index, is_beyond, is_beyond_in, is_checkable, kind_of, leaves_array, leaves_structure, outermost_path_end, setting_structure, path_end_by_step, structure_of, path_end_behind, path_end_in_data_block, path_end_in_block, path_end_or_unjudged, path_end_of_setting}
 use Rattle.block_layout.specs.Sizes.{alignment, capped_size, cell_bits, element_alignment, element_of, components_end, largest_size, next_multiple}
 use Rattle.block_layout.specs.declared.blocks.BlockLayout.{BlockLayout}
 use Rattle.block_layout.specs.declared.cells.Cell.{Cell}
 use Rattle.block_layout.specs.declared.members.Member.{Member}
-use Rattle.block_layout.specs.declared.walks.ComponentAt.{ComponentAt}
-use Rattle.block_layout.specs.declared.walks.PathEnd.TheVariants as path_end
+use Rattle.block_layout.specs.declared.path_ends.ComponentAt.{ComponentAt}
+use Rattle.block_layout.specs.declared.path_ends.PathEnd.TheVariants as path_end
 use Rattle.stl_types.specs.declared.parameters.Formal.{Formal}
 use Rattle.stl_list.specs.Sections.{static_name}
 use Rattle.block_layout.proofs.AlignmentLemmas.{here_within}
@@ -177,7 +177,7 @@ module _ (l : List BlockLayout) (k q : ℕ) (structure : structure_of l k ≡ So
       let out = name_found cells name place offset c are found there refl (omega (arith, few)) in
       let bounded : is_beyond (record { low = pos 0; high = pos (count - 1) }) (pos i) ≡ false = let low = no_less i in let high = not_above count i less in rw low high in
       let next : path_end_by_step l component (step.Index (pos i)) ≡ path_end.Reaches (record { block = q; temporary = false; place = place; depth = 1; offset = offset + 8 * i }) =
-      ap (indexed_behind component own (pos i)) here
+      ap (path_end_behind_index component own (pos i)) here
       ∙ ap (λ (t : Bool). if t then path_end.Reaches (record component { depth = component.depth + 1 })
       else path_end.Reaches (record component { depth = component.depth + 1; offset = capped_size (offset + capped_size (unsigned_abs (pos i -ℤ pos 0) * 8)) })) bounded
       ∙ ap (λ n. path_end.Reaches (record { block = q; temporary = false; place = place; depth = 1; offset = capped_size (offset + capped_size (n * 8)) })) (same_index i)

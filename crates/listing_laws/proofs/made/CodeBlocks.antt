@@ -26,7 +26,7 @@ use Rattle.block_layout.specs.declared.blocks.BlockLayout.{BlockLayout}
 use Rattle.stl_types.specs.Bodies.{first_context}
 use Rattle.stl_types.specs.Context.{Context}
 use Rattle.stl_codegen.specs.CompiledBlock.{SourceInstruction, StatedBlock, compiled_block, lines_in}
-use Rattle.stl_codegen.specs.GeneratedProgram.{code_block, code_block_of, code_blocks_of, each_block, instance_len, params_of, return_statement, stated_from, statements_of}
+use Rattle.stl_codegen.specs.GeneratedProgram.{code_block, code_block_of, code_blocks_of, each_block, instance_len, params_of, return_statement, instructions_from, statements_of}
 use Rattle.stl_codegen.specs.Order.{is_block_before, is_code_before, is_id_before, sorted_list}
 use Rattle.stl_codegen.proofs.ProgramLemmas.{blocks_sorted}
 use Rattle.stl_list.specs.CodeBlocks.{in_lines, line_reached, listed_block, listed_blocks}
@@ -113,10 +113,10 @@ own_kind kinds.Sfc = refl
 ends_on : (c : Context) (b : Block) → line_of_statement (lines_in (statements_of c b)) (length (lines_in (statements_of c b)) - 1) ≡ b.end_line
 unfolding statements_of
 ends_on c b =
-    ap (λ (lines : List ℕ). line_of_statement lines (length lines - 1)) (map_last (stated_from c b.body 0 b.body) (return_statement b))
-    ∙ last_of (map (λ s. s.line) (stated_from c b.body 0 b.body)) b.end_line
+    ap (λ (lines : List ℕ). line_of_statement lines (length lines - 1)) (map_last (instructions_from c b.body 0 b.body) (return_statement b))
+    ∙ last_of (map (λ s. s.line) (instructions_from c b.body 0 b.body)) b.end_line
 
-statements_are : (c : Context) (b : Block) → statements_of c b ≡ stated_from c b.body 0 b.body ++ return_statement b ∷ []
+statements_are : (c : Context) (b : Block) → statements_of c b ≡ instructions_from c b.body 0 b.body ++ return_statement b ∷ []
 unfolding statements_of
 statements_are c b = refl
 
@@ -125,14 +125,14 @@ returning_by line = record { instr = Returns ends.Be; line = line }
 
 statements_again : (c listed : Context) (ss : List Signature) (b : Block) (l : BlockLayout) (id : BlockId) (reached : ℕ) → StandsBehind reached (compiled_block (code_block c b l id))
     → AreKeptFrom listed (body_of ss (lines_in (statements_of c b)) (compiled_block (code_block c b l id))) (listing_context ss (lines_in (statements_of c b)) (compiled_block (code_block c b l id)))
-    (statement_offset (statements_of c b)) 0 (stated_from c b.body 0 b.body)
+    (statement_offset (statements_of c b)) 0 (instructions_from c b.body 0 b.body)
     → statements_of listed (listed_block ss reached (compiled_block (code_block c b l id))) ≡ statements_of c b
 statements_again c listed ss b l id reached stands kept =
     let x = code_block c b l id in
     let again = listed_block ss reached (compiled_block x) in
-    let own : List SourceInstruction = stated_from c b.body 0 b.body in
+    let own : List SourceInstruction = instructions_from c b.body 0 b.body in
     statements_are listed again
-    ∙ ap (λ (lines : List ℕ). stated_from listed (body_of ss lines (compiled_block x)) 0 (body_of ss lines (compiled_block x)) ++ return_statement again ∷ []) stands.lines
+    ∙ ap (λ (lines : List ℕ). instructions_from listed (body_of ss lines (compiled_block x)) 0 (body_of ss lines (compiled_block x)) ++ return_statement again ∷ []) stands.lines
     ∙ ap (λ (z : List SourceInstruction). z ++ return_statement again ∷ []) (bodies_kept listed ss x own (return_statement b) (statements_are c b) kept)
     ∙ ap (λ (line : ℕ). own ++ returning_by line ∷ []) (stands.end ∙ ends_on c b)
     ∙ sym (statements_are c b)
@@ -150,7 +150,7 @@ instance_again ss y blocks reached x b l m declared own kind long = by (is_funct
 block_again : (c listed : Context) (ss : List Signature) (y : Types) (blocks : List Block) (b : Block) (l n : BlockLayout) (id : BlockId) (reached : ℕ) → b.kind ≡ id.kind
     → IsDeclaredAgain ss (compiled_block (code_block c b l id)) → StandsBehind reached (compiled_block (code_block c b l id))
     → AreKeptFrom listed (body_of ss (lines_in (statements_of c b)) (compiled_block (code_block c b l id))) (listing_context ss (lines_in (statements_of c b)) (compiled_block (code_block c b l id)))
-    (statement_offset (statements_of c b)) 0 (stated_from c b.body 0 b.body)
+    (statement_offset (statements_of c b)) 0 (instructions_from c b.body 0 b.body)
     → IsLayoutOf y blocks (listed_block ss reached (compiled_block (code_block c b l id))) n
     → code_block listed (listed_block ss reached (compiled_block (code_block c b l id))) n id ≡ code_block c b l id
 block_again c listed ss y blocks b l n id reached kind declared stands kept laid = λ i. record {

@@ -10,9 +10,9 @@ use Rattle.block_layout.specs.Heads.{on_heads}
 use Rattle.block_layout.specs.Layouts.{layouts_of}
 use Rattle.block_layout.specs.Measures.{types_of_source}
 use Rattle.block_layout.specs.Operands.{in_body}
-use Rattle.block_layout.specs.Rule23.{broken_23, has_unknown_head, operand_23, rule_23}
-use Rattle.block_layout.specs.Rule41.{broken_41, rule_41, setting_misfits}
-use Rattle.block_layout.specs.Rule42.{bodies_42, broken_42, rule_42, setting_is_outside}
+use Rattle.block_layout.specs.Rule23.{refusals_23, has_unknown_head, operand_23, rule_23}
+use Rattle.block_layout.specs.Rule41.{refusals_41, rule_41, setting_misfits}
+use Rattle.block_layout.specs.Rule42.{bodies_42, refusals_42, rule_42, setting_is_outside}
 use Rattle.block_layout.specs.Settings.{on_settings}
 use Rattle.block_layout.specs.Table.{layout_refusals, refusals_of_blocks as layout_refusals_by}
 use Rattle.block_layout.specs.Types.{Types}
@@ -32,16 +32,16 @@ pub by_20 : (c : Context) (blocks : List Block) → on_settings (sets_unknown c.
 unfolding rule_20
 by_20 c blocks settings bodies = both _ _ settings bodies
 
-pub by_23 : (y : Types) (blocks : List Block) → on_heads (λ before b. has_unknown_head y b) 23 blocks ≡ [] → refusals_in_blocks (broken_23 y) blocks ≡ []
+pub by_23 : (y : Types) (blocks : List Block) → on_heads (λ before b. has_unknown_head y b) 23 blocks ≡ [] → refusals_in_blocks (refusals_23 y) blocks ≡ []
     → flat_map (λ b. in_body (operand_23 y) b.body) blocks ≡ [] → rule_23 y blocks ≡ []
 unfolding rule_23
 by_23 y blocks heads declared bodies = both _ _ (both _ _ heads declared) bodies
 
-pub by_41 : (l : List BlockLayout) (blocks : List Block) → refusals_in_blocks broken_41 blocks ≡ [] → on_settings (setting_misfits l) 41 0 blocks ≡ [] → rule_41 l blocks ≡ []
+pub by_41 : (l : List BlockLayout) (blocks : List Block) → refusals_in_blocks refusals_41 blocks ≡ [] → on_settings (setting_misfits l) 41 0 blocks ≡ [] → rule_41 l blocks ≡ []
 unfolding rule_41
 by_41 l blocks declared settings = both _ _ declared settings
 
-pub by_42 : (y : Types) (l : List BlockLayout) (blocks : List Block) → refusals_in_blocks broken_42 blocks ≡ [] → on_settings (setting_is_outside l) 42 0 blocks ≡ [] → bodies_42 y l 0 blocks ≡ []
+pub by_42 : (y : Types) (l : List BlockLayout) (blocks : List Block) → refusals_in_blocks refusals_42 blocks ≡ [] → on_settings (setting_is_outside l) 42 0 blocks ≡ [] → bodies_42 y l 0 blocks ≡ []
     → rule_42 y l blocks ≡ []
 unfolding rule_42
 by_42 y l blocks declared settings bodies = both _ _ (both _ _ declared settings) bodies

@@ -55,29 +55,30 @@ use Rattle.block_layout.specs.declared.blocks.BlockLayout.{BlockLayout}
 use Rattle.block_layout.specs.declared.cells.Cell.{Cell}
 use Rattle.block_layout.specs.declared.cells.Element.{Element}
 use Rattle.block_layout.specs.declared.cells.Element.TheVariants as element
-use Rattle.block_layout.specs.declared.walks.ComponentAt.{ComponentAt}
-use Rattle.block_layout.specs.declared.walks.PathEnd.{PathEnd}
-use Rattle.block_layout.specs.declared.walks.PathEnd.TheVariants as path_end
+use Rattle.block_layout.specs.declared.path_ends.ComponentAt.{ComponentAt}
+use Rattle.block_layout.specs.declared.path_ends.PathEnd.{PathEnd}
+use Rattle.block_layout.specs.declared.path_ends.PathEnd.TheVariants as path_end
 use Rattle.stl_types.specs.Addresses.{address_in_block}
 use Rattle.stl_types.specs.Bodies.{first_context}
 use Rattle.stl_types.specs.Context.{Context, data_number, data_place, in_function}
 use Rattle.stl_types.specs.Kinds.{is_operand_of_call as is_called_view}
-use Rattle.stl_types.specs.Operands.{operand_rule, statement_rule}
+use Rattle.stl_types.specs.Operands.{rule_of_operand, statement_rule}
 use Rattle.stl_types.specs.Parameters.{Callee, callee_of}
 use Rattle.stl_types.specs.Resolution.{resolution_of_call, resolution_of_address, instance_number as number_of_instance, resolution_of_opened_block, resolution_of_path, resolution_of, resolution_of_symbol, resolved_target, whole_called_block}
 use Rattle.stl_types.specs.ResolvedStatement.{resolved_operand, operand_if_resolved}
 use Rattle.stl_types.specs.Variables.{composite_operand, data_at, data_path, data_variable, data_at_path_end, date_or_composite, variable_in_area, is_temporary_variable, own_at, own_elementary, own_variable, own_at_path_end, parameter_resolution, parameter_at, parameter_index}
-use Rattle.stl_types.specs.declared.forms.OperandRule.TheVariants as operand_rules
-use Rattle.stl_types.specs.declared.forms.OperandRule.{OperandRule}
+use Rattle.stl_types.specs.declared.operand_rules.OperandRule.TheVariants as operand_rules
+use Rattle.stl_types.specs.declared.operand_rules.OperandRule.{OperandRule}
 use Rattle.stl_types.specs.declared.parameters.Formal.{Formal}
-use Rattle.stl_types.specs.declared.views.Register.TheVariants as register
-use Rattle.stl_types.specs.declared.views.Resolution.{Resolution}
-use Rattle.stl_types.specs.declared.views.Resolution.TheVariants.{Resolved, Unjudged, Unknown}
-use Rattle.stl_types.specs.declared.views.ResolvedOperand.{ResolvedOperand}
-use Rattle.stl_types.specs.declared.views.ResolvedOperand.TheVariants as resolved
+use Rattle.stl_types.specs.declared.resolved_operands.Register.TheVariants as register
+use Rattle.stl_types.specs.declared.resolved_operands.Resolution.{Resolution}
+use Rattle.stl_types.specs.declared.resolved_operands.Resolution.TheVariants.{Resolved, Unjudged, Unknown}
+use Rattle.stl_types.specs.declared.resolved_operands.ResolvedOperand.{ResolvedOperand}
+use Rattle.stl_types.specs.declared.resolved_operands.ResolvedOperand.TheVariants as resolved
 use Rattle.stl_codegen.specs.CompiledBlock.{SourceInstruction, StatedBlock, operand_with_target, compiled_block}
-use Rattle.stl_codegen.specs.EmittedOps.{instance_number_or_zero, pass_ops}
-use Rattle.stl_codegen.specs.GeneratedProgram.{code_block, code_block_of, code_blocks_of, each_block, return_statement, stated_from, statements_of}
+use Rattle.block_layout.specs.Fits.{number_or_zero}
+use Rattle.stl_codegen.specs.EmittedOps.{pass_ops}
+use Rattle.stl_codegen.specs.GeneratedProgram.{code_block, code_block_of, code_blocks_of, each_block, return_statement, instructions_from, statements_of}
 use Rattle.stl_codegen.specs.Instruction.{source_block_at, call_instr, end_instr, in_parameter_order, instr_by, instruction, jump_instr, passings_to, resolved_instr, target_of, operand_instr}
 use Rattle.stl_codegen.specs.Operands.{is_in_named_block, flat_operand_of}
 use Rattle.stl_codegen.specs.Operations.{call_operation_of, end_operation_of, jump_operation_of}
@@ -267,7 +268,7 @@ fb_number kinds.Db e = absurd (false≢true e)
 fb_number kinds.Sfc e = absurd (false≢true e)
 fb_number kinds.Udt e = absurd (false≢true e)
 
-instance_of : (id : BlockId) (instance : Option ℕ) → is_called_view (resolved.Called id instance) ≡ true → (instance_number_or_zero instance ≡ 0) ⊎ (kind_number id.kind ≡ kind_number kinds.Fb)
+instance_of : (id : BlockId) (instance : Option ℕ) → is_called_view (resolved.Called id instance) ≡ true → (number_or_zero instance ≡ 0) ⊎ (kind_number id.kind ≡ kind_number kinds.Fb)
 instance_of id None e = inl refl
 instance_of id (Some n) e = inr (fb_number id.kind e)
 
@@ -297,7 +298,7 @@ OperandActs (flat.Called kind number instance) = ⊥
 OperandActs _ = Unit {0}
 
 abbrev IsCallTo : (how : CallOperation) (id : BlockId) (instance : Option ℕ) → List Passing → Type 0
-IsCallTo how id instance ps = IsCallBy (pass_ops ps) (op_code_of (operation.Call how)) (kind_number id.kind) (instance_number_or_zero instance)
+IsCallTo how id instance ps = IsCallBy (pass_ops ps) (op_code_of (operation.Call how)) (kind_number id.kind) (number_or_zero instance)
 
 abbrev InstrIsNamed : Instr → Type 0
 InstrIsNamed (Does use_db w o) = OperandActs o
@@ -315,18 +316,18 @@ no_instance : (r : Resolution) (id : BlockId) (instance : Option ℕ) → HasNoI
 no_instance r id instance h e = subst HasNoInstance e h
 
 bare_call : (c : Context) (s : Statement) (how : CallOperation) (id : BlockId) (instance : Option ℕ) (callee : Option Callee) → IsBare how → IsCaller c s how id instance
-    → (instance_number_or_zero instance ≡ 0) × (pass_ops (passings_to c s callee) ≡ [])
+    → (number_or_zero instance ≡ 0) × (pass_ops (passings_to c s callee) ≡ [])
 bare_call c s how id instance callee b h =
     let none = bare_word s.code how b h.word in
     let called = bare_seen c s.operand (h.is.called ∙ call_word s.code how h.word) (h.is.instance none) in (
-      ap instance_number_or_zero (no_instance (resolution_of c s.operand) id instance called h.named),
+      ap number_or_zero (no_instance (resolution_of c s.operand) id instance called h.named),
       ap pass_ops (to_none c s callee (h.is.no_actuals none)),
     )
 
 view_called : (c : Context) (s : Statement) (how : CallOperation) (id : BlockId) (instance : Option ℕ) → IsCaller c s how id instance → is_called_view (resolved.Called id instance) ≡ true
 view_called c s how id instance h =
     calls_called (resolved.Called id instance)
-    (rule_there c operand_rules.Calls s.operand (resolved.Called id instance) no_call_constant (ap (λ (f : OperandRule). operand_rule c f s.operand) (sym (call_form s.code how h.word)) ∙ h.right) h.named)
+    (rule_there c operand_rules.Calls s.operand (resolved.Called id instance) no_call_constant (ap (λ (f : OperandRule). rule_of_operand c f s.operand) (sym (call_form s.code how h.word)) ∙ h.right) h.named)
 
 called_by : (c : Context) (s : Statement) (how : CallOperation) (id : BlockId) (instance : Option ℕ) (callee : Option Callee) → IsCaller c s how id instance
     → IsCallTo how id instance (passings_to c s callee)
@@ -404,17 +405,17 @@ abbrev AllNamed : List SourceInstruction → Type 0
 AllNamed ss = AllByRecursion (λ s. InstrIsNamed s.instr) ss
 
 stated_named : (c : Context) (body : List Statement) (n : ℕ) (ss : List Statement) → AreNoBits c.symbols → AllByRecursion IsStatement ss → AllByRecursion StatementIsNoBit ss
-    → AllNamed (stated_from c body n ss)
+    → AllNamed (instructions_from c body n ss)
 stated_named c body n [] symbols are no_bits = tt
 stated_named c body n (s ∷ ss) symbols (one, more) (no_bit, no_bits) =
-    either_way AllNamed (is_empty_statement s.code) (stated_from c body n ss) (record { instr = instruction c body n s; line = s.line } ∷ stated_from c body (suc n) ss)
+    either_way AllNamed (is_empty_statement s.code) (instructions_from c body n ss) (record { instr = instruction c body n s; line = s.line } ∷ instructions_from c body (suc n) ss)
     (stated_named c body n ss symbols more no_bits)
     (instr_named c body n s (record { is = one; symbols = symbols; no_bit = no_bit }), stated_named c body (suc n) ss symbols more no_bits)
 
 statements_named : (c : Context) (b : Block) → AreNoBits c.symbols → IsBlock b → BlockIsNoBit b → AllNamed (statements_of c b)
 unfolding statements_of
 statements_named c b symbols is no_bits =
-    all_append (λ s. InstrIsNamed s.instr) (stated_from c b.body 0 b.body) (return_statement b ∷ []) (stated_named c b.body 0 b.body symbols is.runs.0 no_bits) (tt, tt)
+    all_append (λ s. InstrIsNamed s.instr) (instructions_from c b.body 0 b.body) (return_statement b ∷ []) (stated_named c b.body 0 b.body symbols is.runs.0 no_bits) (tt, tt)
 
 abbrev BlockIsNamed : StatedBlock → Type 0
 BlockIsNamed b = AllNamed b.statements

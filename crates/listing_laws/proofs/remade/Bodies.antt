@@ -23,16 +23,16 @@ use Rattle.stl_symbols.specs.Symbol.{Symbol}
 use Rattle.block_layout.specs.Measures.{types_of_source}
 use Rattle.block_layout.specs.declared.blocks.BlockLayout.{BlockLayout}
 use Rattle.stl_types.specs.Context.{Context, data_number}
-use Rattle.stl_types.specs.Forms.{form_of}
-use Rattle.stl_types.specs.Operands.{operand_rule, rule_of_resolved_operand, rule_of_resolution, statement_rule}
+use Rattle.stl_types.specs.OperandRules.{operand_rule_of}
+use Rattle.stl_types.specs.Operands.{rule_of_operand, rule_of_resolved_operand, rule_of_resolution, statement_rule}
 use Rattle.stl_types.specs.Parameters.{callee_of}
 use Rattle.stl_types.specs.Resolution.{resolution_of, whole_called_block}
 use Rattle.stl_types.specs.declared.parameters.Formal.{Formal}
-use Rattle.stl_types.specs.declared.views.Resolution.TheVariants.{Resolved}
-use Rattle.stl_types.specs.declared.views.ResolvedOperand.TheVariants as resolved
+use Rattle.stl_types.specs.declared.resolved_operands.Resolution.TheVariants.{Resolved}
+use Rattle.stl_types.specs.declared.resolved_operands.ResolvedOperand.TheVariants as resolved
 use Rattle.stl_codegen.specs.CompiledBlock.{SourceInstruction, StatedBlock, lines_in}
 use Rattle.stl_codegen.specs.EmittedOps.{pass_ops}
-use Rattle.stl_codegen.specs.GeneratedProgram.{stated_from, statements_of}
+use Rattle.stl_codegen.specs.GeneratedProgram.{instructions_from, statements_of}
 use Rattle.stl_codegen.specs.Instruction.{instruction, jump_instr, passings_to, target_in, target_of}
 use Rattle.stl_codegen.specs.Operations.{call_operation_of, jump_operation_of}
 use Rattle.stl_list.specs.Actuals.{actuals_before}
@@ -234,11 +234,11 @@ module _ (source file : List ℕ) (symbols : List Symbol) (t : Tree) (accepted :
         st = sees_called c listed own s.operand (resolved.Called h.id h.instance) stands_again
             (calls source file symbols t accepted bytes file_bytes others clean again place b l id made) is_called sees
 
-        rule : rule_of_resolved_operand (form_of s.code) (resolved.Called h.id h.instance) ≡ None
-        rule = rule_called c (form_of s.code) s.operand (resolved.Called h.id h.instance) is_called (rule_broken c s (resolved.Called h.id h.instance) h.called) sees
+        rule : rule_of_resolved_operand (operand_rule_of s.code) (resolved.Called h.id h.instance) ≡ None
+        rule = rule_called c (operand_rule_of s.code) s.operand (resolved.Called h.id h.instance) is_called (rule_broken c s (resolved.Called h.id h.instance) h.called) sees
 
         plain : is_data_type h.id.kind ≡ false
-        plain = called_plain h.id h.instance (same_kind s.code how (resolved.Called h.id h.instance) is (taken_view (form_of s.code) (resolved.Called h.id h.instance) rule))
+        plain = called_plain h.id h.instance (same_kind s.code how (resolved.Called h.id h.instance) is (taken_view (operand_rule_of s.code) (resolved.Called h.id h.instance) rule))
 
         whole : whole_called_block listed (Some h.id) ≡ Some h.id
         whole =
@@ -267,9 +267,9 @@ module _ (source file : List ℕ) (symbols : List Symbol) (t : Tree) (accepted :
 
         right_again : statement_rule listed listing ≡ None
         right_again =
-            ap (λ (x : Mnemonic). operand_rule listed (form_of x) listing.operand) made_words.0
-            ∙ ap (operand_rule listed (form_of s.code)) operand_is
-            ∙ ap (rule_of_resolution (form_of s.code)) (ap (resolution_of listed) (sym operand_is) ∙ listing_sees) ∙ rule
+            ap (λ (x : Mnemonic). rule_of_operand listed (operand_rule_of x) listing.operand) made_words.0
+            ∙ ap (rule_of_operand listed (operand_rule_of s.code)) operand_is
+            ∙ ap (rule_of_resolution (operand_rule_of s.code)) (ap (resolution_of listed) (sym operand_is) ∙ listing_sees) ∙ rule
 
         kept : IsKeptHere n k (Calls how h.id h.instance ps)
         kept = record {
@@ -293,15 +293,15 @@ module _ (source file : List ℕ) (symbols : List Symbol) (t : Tree) (accepted :
 
   -- ---- all of them
 
-  pub kept_from : (front rest : List Statement) → b.body ≡ front ++ rest → (n : ℕ) → AreKeptFrom listed body sur f n (stated_from c b.body n rest)
+  pub kept_from : (front rest : List Statement) → b.body ≡ front ++ rest → (n : ℕ) → AreKeptFrom listed body sur f n (instructions_from c b.body n rest)
   kept_from front [] e n = tt
   kept_from front (s ∷ rest) e n =
       by (is_empty_statement s.code) refl (kept_from (front ++ s ∷ []) rest (e ∙ sym (append_assoc front (s ∷ []) rest)) n)
       (kept_from (front ++ s ∷ []) rest (e ∙ sym (append_assoc front (s ∷ []) rest)) (suc n))
     where
-      by : (t' : Bool) → is_empty_statement s.code ≡ t' → AreKeptFrom listed body sur f n (stated_from c b.body n rest) → AreKeptFrom listed body sur f (suc n) (stated_from c b.body (suc n) rest)
+      by : (t' : Bool) → is_empty_statement s.code ≡ t' → AreKeptFrom listed body sur f n (instructions_from c b.body n rest) → AreKeptFrom listed body sur f (suc n) (instructions_from c b.body (suc n) rest)
           → AreKeptFrom listed body sur f n
-          (if t' then stated_from c b.body n rest else record { instr = instruction c b.body n s; line = s.line } ∷ stated_from c b.body (suc n) rest)
+          (if t' then instructions_from c b.body n rest else record { instr = instruction c b.body n s; line = s.line } ∷ instructions_from c b.body (suc n) rest)
       by true is same next = same
       by false is same next =
           let kept = statement_kept s front rest e is n n in

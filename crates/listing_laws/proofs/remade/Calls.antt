@@ -42,16 +42,17 @@ use Rattle.block_layout.specs.Offsets.{width_of}
 use Rattle.block_layout.specs.declared.blocks.BlockLayout.{BlockLayout}
 use Rattle.stl_types.specs.Calls.{calls_unknown, is_unknown_function}
 use Rattle.stl_types.specs.Context.{Context, data_number}
-use Rattle.stl_types.specs.Forms.{form_of}
+use Rattle.stl_types.specs.OperandRules.{operand_rule_of}
 use Rattle.stl_types.specs.Parameters.{Callee, callee_by, callee_of, system_formals}
 use Rattle.stl_types.specs.Resolution.{resolution_of, whole_called_block}
 use Rattle.stl_types.specs.ResolvedStatement.{resolved_operand}
 use Rattle.stl_types.specs.Variables.{own_variable}
 use Rattle.stl_types.specs.declared.parameters.Formal.{Formal}
-use Rattle.stl_types.specs.declared.views.Resolution.TheVariants.{Resolved}
-use Rattle.stl_types.specs.declared.views.ResolvedOperand.TheVariants as resolved
+use Rattle.stl_types.specs.declared.resolved_operands.Resolution.TheVariants.{Resolved}
+use Rattle.stl_types.specs.declared.resolved_operands.ResolvedOperand.TheVariants as resolved
 use Rattle.stl_codegen.specs.CompiledBlock.{StatedBlock, compiled_block}
-use Rattle.stl_codegen.specs.EmittedOps.{instance_number_or_zero, ops_of, pass_ops}
+use Rattle.block_layout.specs.Fits.{number_or_zero}
+use Rattle.stl_codegen.specs.EmittedOps.{ops_of, pass_ops}
 use Rattle.stl_codegen.specs.GeneratedProgram.{code_block, code_blocks_of, data_blocks_of, params_of}
 use Rattle.stl_codegen.specs.Instruction.{source_block_at, in_parameter_order, instr_by, instruction, passings_to, resolved_instr, return_last, operand_instr}
 use Rattle.stl_codegen.specs.Operations.{call_operation_of}
@@ -303,7 +304,7 @@ module _ (source file : List ℕ) (symbols : List Symbol) (t : Tree) (accepted :
 
     is_word : is_call s.code ≡ true
     is_word = form_calls s.code
-        (taken_calls (form_of s.code) cid instance (taken_by_rule (form_of s.code) (resolved.Called cid instance) (rule_called c (form_of s.code) s.operand cid instance sees sound_here.allowed)).taken)
+        (taken_calls (operand_rule_of s.code) cid instance (taken_by_rule (operand_rule_of s.code) (resolved.Called cid instance) (rule_called c (operand_rule_of s.code) s.operand cid instance sees sound_here.allowed)).taken)
 
     how : (how : CallOperation) × (call_operation_of s.code ≡ Some how)
     how = call_word s.code is_word
@@ -485,7 +486,7 @@ module _ (source file : List ℕ) (symbols : List Symbol) (t : Tree) (accepted :
       rising = passings_rise here (Some flat) None 0 ps refl passed_here;
       complete = λ e. all_passed called again_called.params ps again_called.count
           (complete_call (again_called.kind == kind_number kinds.Fb) (are_all_passed 0 again_called.params (pass_ops ps)) _
-          (ap (λ o. is_bad_call (lens_of (data_blocks_of t symbols (layouts_of t symbols))) o (instance_number_or_zero instance) (pass_ops ps)) (sym again_called.flat) ∙ fits.2)
+          (ap (λ o. is_bad_call (lens_of (data_blocks_of t symbols (layouts_of t symbols))) o (number_or_zero instance) (pass_ops ps)) (sym again_called.flat) ∙ fits.2)
           (ap (λ n. n == kind_number kinds.Fb) again_called.is_kind
           ∙ other_number cid.kind callable_here (ap (λ (i : BlockId). is_function_block i.kind) (sym same_callee) ∙ second_true (has_actuals s.code) (is_function_block callee.id.kind) e)));
     }

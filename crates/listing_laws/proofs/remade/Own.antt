@@ -11,8 +11,8 @@ use Rattle.stl_types.specs.Context.{Context}
 use Rattle.stl_types.specs.Parameters.{formal, formal_here, formal_of, formals_of}
 use Rattle.stl_types.specs.Variables.{behind_others, own_variable}
 use Rattle.stl_types.specs.declared.parameters.Formal.{Formal}
-use Rattle.stl_types.specs.declared.views.Resolution.TheVariants.{Resolved}
-use Rattle.stl_types.specs.declared.views.ResolvedOperand.TheVariants as resolved
+use Rattle.stl_types.specs.declared.resolved_operands.Resolution.TheVariants.{Resolved}
+use Rattle.stl_types.specs.declared.resolved_operands.ResolvedOperand.TheVariants as resolved
 use Rattle.stl_codegen.specs.Instruction.{in_parameter_order, return_last}
 use Rattle.listing_laws.specs.OwnParameters.{IsFunctionAt}
 use Rattle.listing_laws.specs.Passings.{AreNamedApart, in_upper_case}

@@ -28,8 +28,8 @@ use Rattle.stl_types.specs.Operands.{is_input}
 use Rattle.stl_types.specs.Parameters.{formals_of as formals_in}
 use Rattle.stl_types.specs.Variables.{own_variable}
 use Rattle.stl_types.specs.declared.parameters.Formal.{Formal}
-use Rattle.stl_types.specs.declared.views.Resolution.TheVariants.{Resolved}
-use Rattle.stl_types.specs.declared.views.ResolvedOperand.TheVariants as resolved
+use Rattle.stl_types.specs.declared.resolved_operands.Resolution.TheVariants.{Resolved}
+use Rattle.stl_types.specs.declared.resolved_operands.ResolvedOperand.TheVariants as resolved
 use Rattle.stl_codegen.specs.CompiledBlock.{compiled_block}
 use Rattle.stl_codegen.specs.GeneratedProgram.{code_block, params_of, section_number}
 use Rattle.stl_codegen.specs.Instruction.{in_parameter_order}

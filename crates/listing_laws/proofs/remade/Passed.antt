@@ -24,13 +24,13 @@ use Rattle.stl_ast.specs.declared.statements.Actual.{Actual}
 use Rattle.stl_types.specs.Context.{Context}
 use Rattle.stl_types.specs.Resolution.{resolution_of}
 use Rattle.stl_types.specs.declared.parameters.Formal.{Formal}
-use Rattle.stl_types.specs.declared.views.Resolution.{Resolution}
-use Rattle.stl_types.specs.declared.views.Resolution.TheVariants.{Resolved, Unknown, Unjudged}
-use Rattle.stl_types.specs.declared.views.ResolvedOperand.{ResolvedOperand}
-use Rattle.stl_types.specs.declared.views.ResolvedOperand.TheVariants as resolved
+use Rattle.stl_types.specs.declared.resolved_operands.Resolution.{Resolution}
+use Rattle.stl_types.specs.declared.resolved_operands.Resolution.TheVariants.{Resolved, Unknown, Unjudged}
+use Rattle.stl_types.specs.declared.resolved_operands.ResolvedOperand.{ResolvedOperand}
+use Rattle.stl_types.specs.declared.resolved_operands.ResolvedOperand.TheVariants as resolved
 use Rattle.flat_code.specs.Instr.{Calls}
 use Rattle.stl_codegen.specs.EmittedOps.{call_op, ops_of, pass_ops}
-use Rattle.stl_codegen.specs.Operands.{is_in_named_block, opened_by_place}
+use Rattle.stl_codegen.specs.Operands.{is_in_named_block, block_opened_by_place}
 use Rattle.stl_codegen.specs.PassedParameters.{passed_actual, passed_place, passed_resolution, passed_by_operand, passings_from, actual_of_formal, with_index}
 use Rattle.sem_kept.specs.Operands.{ArePassed}
 use Rattle.sem_kept.proofs.accepted.CodedOps.{IsGoodPart, IsGoodStatement}
@@ -50,7 +50,7 @@ IsStored listed _ = Unit {0}
 abbrev pub AreStored : Context → List Passing → Type 0
 AreStored listed ps = AllByRecursion (λ (p : Passing). IsStored listed p.actual) ps
 
-place_stored : (listed : Context) (place : Place) (w : Width) → IsOpenedAgain listed (opened_by_place place) → IsStored listed (passed_place place w)
+place_stored : (listed : Context) (place : Place) (w : Width) → IsOpenedAgain listed (block_opened_by_place place) → IsStored listed (passed_place place w)
 place_stored listed place w h = by (is_in_named_block place) h
   where
     by : (t : Bool) → IsOpenedAgain listed (if t then Some place.number else None)

@@ -12,7 +12,7 @@ use Rattle.block_layout.specs.Layouts.{layouts_of}
 use Rattle.block_layout.specs.declared.blocks.BlockLayout.{BlockLayout}
 use Rattle.stl_types.specs.Context.{Context}
 use Rattle.stl_codegen.specs.CompiledBlock.{SourceInstruction, StatedBlock}
-use Rattle.stl_codegen.specs.GeneratedProgram.{code_block, code_blocks_of, return_statement, stated_from, statements_of}
+use Rattle.stl_codegen.specs.GeneratedProgram.{code_block, code_blocks_of, return_statement, instructions_from, statements_of}
 use Rattle.stl_codegen.specs.Instruction.{instruction}
 use Rattle.sem_kept.proofs.accepted.Accepted.{IsSoundBlock}
 use Rattle.sem_kept.proofs.accepted.OperandsMembers.{code_block_there}
@@ -59,19 +59,19 @@ pub record IsStated (c : Context) (body : List Statement) (all : List SourceInst
   pub is : all ≡ before ++ record { instr = instruction c body number s; line = s.line } ∷ after
 
 stated_among : (c : Context) (body : List Statement) (n : ℕ) (front : List Statement) (s : Statement) (rest : List Statement) → is_empty_statement s.code ≡ false
-    → IsStated c body (stated_from c body n (front ++ s ∷ rest)) s
+    → IsStated c body (instructions_from c body n (front ++ s ∷ rest)) s
 stated_among c body n [] s rest some = record {
   before = [];
-  after = stated_from c body (suc n) rest;
+  after = instructions_from c body (suc n) rest;
   number = n;
-  is = ap (λ (b : Bool). if b then stated_from c body n rest else record { instr = instruction c body n s; line = s.line } ∷ stated_from c body (suc n) rest) some;
+  is = ap (λ (b : Bool). if b then instructions_from c body n rest else record { instr = instruction c body n s; line = s.line } ∷ instructions_from c body (suc n) rest) some;
 }
 stated_among c body n (x ∷ front) s rest some = by (is_empty_statement x.code) (stated_among c body n front s rest some) (stated_among c body (suc n) front s rest some)
   where
-    by : (b : Bool) → IsStated c body (stated_from c body n (front ++ s ∷ rest)) s → IsStated c body (stated_from c body (suc n) (front ++ s ∷ rest)) s
+    by : (b : Bool) → IsStated c body (instructions_from c body n (front ++ s ∷ rest)) s → IsStated c body (instructions_from c body (suc n) (front ++ s ∷ rest)) s
         → IsStated c body
-        (if b then stated_from c body n (front ++ s ∷ rest)
-        else record { instr = instruction c body n x; line = x.line } ∷ stated_from c body (suc n) (front ++ s ∷ rest)) s
+        (if b then instructions_from c body n (front ++ s ∷ rest)
+        else record { instr = instruction c body n x; line = x.line } ∷ instructions_from c body (suc n) (front ++ s ∷ rest)) s
     by true same next = same
     by false same next = record {
       before = record { instr = instruction c body n x; line = x.line } ∷ next.before;
@@ -84,7 +84,7 @@ pub statement_stated : (c : Context) (b : Block) (front : List Statement) (s : S
     → IsStated c b.body (statements_of c b) s
 unfolding statements_of
 statement_stated c b front s rest e some =
-    let inner = subst (λ z. IsStated c b.body (stated_from c b.body 0 z) s) (sym e) (stated_among c b.body 0 front s rest some) in
+    let inner = subst (λ z. IsStated c b.body (instructions_from c b.body 0 z) s) (sym e) (stated_among c b.body 0 front s rest some) in
     record {
       before = inner.before;
       after = inner.after ++ return_statement b ∷ [];

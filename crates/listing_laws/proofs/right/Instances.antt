@@ -32,13 +32,13 @@ use Rattle.block_layout.specs.declared.blocks.Shape.{Shape}
 use Rattle.block_layout.specs.declared.blocks.Shape.TheVariants as shape
 use Rattle.stl_types.specs.Calls.{has_wrong_instance, is_instance, is_no_instance, is_of_block}
 use Rattle.stl_types.specs.Context.{Context, data_number, data_place, source_block_ids, number_of_block, whole_data_place, whole_place}
-use Rattle.stl_types.specs.Forms.{form_of}
+use Rattle.stl_types.specs.OperandRules.{operand_rule_of}
 use Rattle.stl_types.specs.Parameters.{Callee, callee_at, callee_by, callee_of, source_callee, system_callee}
 use Rattle.stl_types.specs.Resolution.{resolution_of_call, instance_number, resolution_of, whole_called_block}
 use Rattle.stl_types.specs.ResolvedStatement.{resolved_operand}
 use Rattle.stl_types.specs.declared.parameters.Formal.{Formal}
-use Rattle.stl_types.specs.declared.views.Resolution.TheVariants.{Resolved}
-use Rattle.stl_types.specs.declared.views.ResolvedOperand.TheVariants as resolved
+use Rattle.stl_types.specs.declared.resolved_operands.Resolution.TheVariants.{Resolved}
+use Rattle.stl_types.specs.declared.resolved_operands.ResolvedOperand.TheVariants as resolved
 use Rattle.stl_codegen.specs.GeneratedProgram.{generated_data_block, function_block_number, instance_in}
 use Rattle.stl_codegen.specs.Operations.{call_operation_of}
 use Rattle.stl_list.specs.CodeBlocks.{in_lines, line_reached}
@@ -401,8 +401,8 @@ instance_there symbols t tree k s sound others again own has how id (Some n) cal
     let c = context_at symbols t k in
     let listed = context_at others (listed_again symbols t) again in
     let sees = what_seen c s (resolved.Called id (Some n)) e in
-    let rule = rule_called c (form_of s.code) s.operand (resolved.Called id (Some n)) is_call (rule_broken c s (resolved.Called id (Some n)) e) sees in
-    let fb : is_function_block id.kind ≡ true = same_kind s.code how (resolved.Called id (Some n)) h (taken_view (form_of s.code) (resolved.Called id (Some n)) rule) in
+    let rule = rule_called c (operand_rule_of s.code) s.operand (resolved.Called id (Some n)) is_call (rule_broken c s (resolved.Called id (Some n)) e) sees in
+    let fb : is_function_block id.kind ≡ true = same_kind s.code how (resolved.Called id (Some n)) h (taken_view (operand_rule_of s.code) (resolved.Called id (Some n)) rule) in
     let names = names_instance c s.operand id n callee sees f in
     instance_placed symbols t tree others again id n found fb
     (source_instance symbols t tree k s sound id n callee fb same names (sound.calls callee f).instance)

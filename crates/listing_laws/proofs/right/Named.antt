@@ -28,15 +28,15 @@ use Rattle.block_layout.specs.Paths.{folded_path, holds_where_reached, if_whole,
 use Rattle.block_layout.specs.Rule23.{is_unknown_called, is_unknown_data, is_unknown_id, is_unknown_instance, names_unknown}
 use Rattle.block_layout.specs.Rule42.{operand_is_outside}
 use Rattle.block_layout.specs.Types.{Types}
-use Rattle.block_layout.specs.declared.walks.PathEnd.{PathEnd}
-use Rattle.block_layout.specs.declared.walks.PathEnd.TheVariants as path_end
+use Rattle.block_layout.specs.declared.path_ends.PathEnd.{PathEnd}
+use Rattle.block_layout.specs.declared.path_ends.PathEnd.TheVariants as path_end
 use Rattle.stl_types.specs.Addresses.{address_in_block}
 use Rattle.stl_types.specs.Context.{Context, data_number, data_place, source_block_ids, number_of_block, whole_place}
 use Rattle.stl_types.specs.Resolution.{resolution_of_call, id_at, instance_number, resolution_of_opened_block, resolution_of, whole_called_block}
 use Rattle.stl_types.specs.Variables.{data_path}
 use Rattle.stl_types.specs.declared.parameters.Formal.{Formal}
-use Rattle.stl_types.specs.declared.views.Resolution.TheVariants.{Resolved}
-use Rattle.stl_types.specs.declared.views.ResolvedOperand.{ResolvedOperand}
+use Rattle.stl_types.specs.declared.resolved_operands.Resolution.TheVariants.{Resolved}
+use Rattle.stl_types.specs.declared.resolved_operands.ResolvedOperand.{ResolvedOperand}
 use Rattle.stl_list.specs.Actuals.{passed_operand}
 use Rattle.stl_list.specs.Constants.{instruction_constant}
 use Rattle.stl_list.specs.Operands.{implied_operand, operand_by, plain_operand}

@@ -16,7 +16,7 @@ use Rattle.stl_symbols.specs.Names.{name_place}
 use Rattle.stl_types.specs.Brackets.{bracket_function}
 use Rattle.stl_types.specs.Labels.{is_unknown_label, label_of as label_list, labels_of}
 use Rattle.stl_types.specs.Landings.{Landing, SourceNesting, crosses_nesting, crossing_jumps, landing_at, landing_here, landing_of, landings_at_labels, lands_elsewhere, nesting_behind, empty_nesting}
-use Rattle.stl_types.specs.Lists.{list_goes_on, has_label, is_list_jump, is_list_to, is_unconditional_jump, is_wrong_list, lacks_list, left_behind, lists_from}
+use Rattle.stl_types.specs.Lists.{list_goes_on, has_label, is_list_jump, is_list_to, is_unconditional_jump, is_wrong_list, lacks_list, jumps_left, lists_from}
 use Rattle.stl_types.specs.declared.brackets.SourceBracket.{SourceBracket}
 use Rattle.stl_codegen.specs.Bodies.{count_of_statements}
 use Rattle.stl_codegen.specs.Instruction.{count_of_statement, target_in}
@@ -107,15 +107,15 @@ list_kept body targets again left n k name (s ∷ ss) h e few marked leads =
         → is_list_to left (label_of_number n) (again k s ∷ rest) ≡ true
     plainly false p w other word led more = absurd cc
     plainly true p w other word led more =
-        ap (λ (b : Bool). if b then true else list_goes_on (left_behind left (again k s).code) (λ next. is_list_to next (label_of_number n) rest)) other
-        ∙ ap (λ (m : Mnemonic). list_goes_on (left_behind left m) (λ next. is_list_to next (label_of_number n) rest)) word
+        ap (λ (b : Bool). if b then true else list_goes_on (jumps_left left (again k s).code) (λ next. is_list_to next (label_of_number n) rest)) other
+        ∙ ap (λ (m : Mnemonic). list_goes_on (jumps_left left m) (λ next. is_list_to next (label_of_number n) rest)) word
         ∙ ap (λ (b : Bool). list_goes_on (if b then Some left else if is_unconditional_jump s.code && nat_lt 0 left then Some (left - 1) else None) (λ next. is_list_to next (label_of_number n) rest)) w
         ∙ ap (λ (b : Bool). list_goes_on (if b then Some (left - 1) else None) (λ next. is_list_to next (label_of_number n) rest)) p
         ∙ more led
 
     found : n ≡ k → (again k s).label ≡ label_at targets k → is_list_to left (label_of_number n) (again k s ∷ rest) ≡ true
     found same label =
-        ap (λ (b : Bool). if b then true else list_goes_on (left_behind left (again k s).code) (λ next. is_list_to next (label_of_number n) rest))
+        ap (λ (b : Bool). if b then true else list_goes_on (jumps_left left (again k s).code) (λ next. is_list_to next (label_of_number n) rest))
         (ap (has_label (label_of_number n)) (label ∙ ap (label_at targets) (sym same) ∙ here targets n marked) ∙ same_label n)
 
     by : (found : Bool) → has_label name s.label ≡ found → (none : Bool) → is_empty_statement s.code ≡ none

@@ -24,12 +24,12 @@ use Rattle.plc_base.specs.declared.blocks.BlockId.{BlockId}
 use Rattle.stl_types.specs.Context.{Context}
 use Rattle.stl_types.specs.Resolution.{resolution_of}
 use Rattle.stl_types.specs.ResolvedStatement.{resolved_operand, operand_if_resolved}
-use Rattle.stl_types.specs.declared.views.Resolution.TheVariants.{Resolved}
-use Rattle.stl_types.specs.declared.views.ResolvedOperand.{ResolvedOperand}
-use Rattle.stl_types.specs.declared.views.ResolvedOperand.TheVariants as resolved
+use Rattle.stl_types.specs.declared.resolved_operands.Resolution.TheVariants.{Resolved}
+use Rattle.stl_types.specs.declared.resolved_operands.ResolvedOperand.{ResolvedOperand}
+use Rattle.stl_types.specs.declared.resolved_operands.ResolvedOperand.TheVariants as resolved
 use Rattle.stl_codegen.specs.Bodies.{count_of_statements}
 use Rattle.stl_codegen.specs.CompiledBlock.{SourceInstruction, StatedBlock, compiled_block, lines_in}
-use Rattle.stl_codegen.specs.GeneratedProgram.{code_block, return_statement, stated_from, statements_of}
+use Rattle.stl_codegen.specs.GeneratedProgram.{code_block, return_statement, instructions_from, statements_of}
 use Rattle.stl_codegen.specs.Instruction.{instr_by, instruction, jump_instr, resolved_instr, target_in, target_of}
 use Rattle.stl_codegen.specs.Operations.{call_operation_of, jump_operation_of}
 use Rattle.stl_list.specs.CodeBlocks.{listed_block}
@@ -186,8 +186,8 @@ one_more k j = omega arith
 
 placed_from : (signatures : List Signature) (b : StatedBlock) (y : Types) (c : Context) (body : List Statement) (k : ℕ) (ss : List Statement) (last : SourceInstruction)
     → IsCounted body b.statements → AllByRecursion (IsResolvedStatement c body) ss → AllByRecursion (IsSoundStatement y c) ss
-    → AreLinesAt (lines_in b.statements) k (stated_from c body k ss ++ last ∷ [])
-    → ((t : ℕ) → any_to t (stated_from c body k ss) ≡ true → any_to t b.statements ≡ true)
+    → AreLinesAt (lines_in b.statements) k (instructions_from c body k ss ++ last ∷ [])
+    → ((t : ℕ) → any_to t (instructions_from c body k ss) ≡ true → any_to t b.statements ≡ true)
     → ArePlaced body (listing_context signatures (lines_in b.statements) (compiled_block b)).targets
     (listed_as (listing_context signatures (lines_in b.statements) (compiled_block b)) (statement_offset b.statements) c body) k ss
 placed_from signatures b y c body k [] last counted h sound lines into = tt
@@ -204,20 +204,20 @@ placed_from signatures b y c body k (s ∷ ss) last counted h sound lines into =
     here = record { instr = instruction c body k s; line = s.line }
 
     by : (none : Bool) → is_empty_statement s.code ≡ none
-        → AreLinesAt (lines_in b.statements) k ((if none then stated_from c body k ss else here ∷ stated_from c body (suc k) ss) ++ last ∷ [])
-        → ((t : ℕ) → any_to t (if none then stated_from c body k ss else here ∷ stated_from c body (suc k) ss) ≡ true → any_to t b.statements ≡ true)
-        → ((j : ℕ) → AreLinesAt (lines_in b.statements) j (stated_from c body j ss ++ last ∷ []) → ((t : ℕ) → any_to t (stated_from c body j ss) ≡ true → any_to t b.statements ≡ true) → ArePlaced body marks again j ss)
+        → AreLinesAt (lines_in b.statements) k ((if none then instructions_from c body k ss else here ∷ instructions_from c body (suc k) ss) ++ last ∷ [])
+        → ((t : ℕ) → any_to t (if none then instructions_from c body k ss else here ∷ instructions_from c body (suc k) ss) ≡ true → any_to t b.statements ≡ true)
+        → ((j : ℕ) → AreLinesAt (lines_in b.statements) j (instructions_from c body j ss ++ last ∷ []) → ((t : ℕ) → any_to t (instructions_from c body j ss) ≡ true → any_to t b.statements ≡ true) → ArePlaced body marks again j ss)
         → IsPlaced body marks again k s × ArePlaced body marks again (if none then k else suc k) ss
     by true w l m more = (record { some = λ e. absurd (never (sym e ∙ w)); bare = sound.0.well_formed.unlabelled }, more k l m)
     by false w l m more = (
       record {
         some = λ e.
             again_here signatures b y c body k s counted h.0 sound.0 w (ap (line_of_statement (lines_in b.statements)) (none_more k) ∙ l 0)
-            (λ t e. m t (or_left (jumps_to t here.instr) (any_to t (stated_from c body (suc k) ss)) e));
+            (λ t e. m t (or_left (jumps_to t here.instr) (any_to t (instructions_from c body (suc k) ss)) e));
         bare = sound.0.well_formed.unlabelled;
       },
       more (suc k) (λ j. ap (line_of_statement (lines_in b.statements)) (one_more k j) ∙ l (suc j))
-          (λ t e. m t (or_right (jumps_to t here.instr) (any_to t (stated_from c body (suc k) ss)) e)),
+          (λ t e. m t (or_right (jumps_to t here.instr) (any_to t (instructions_from c body (suc k) ss)) e)),
     )
 
 -- ---- the body is these statements
@@ -236,18 +236,18 @@ next_one sur k r rest more =
 
 numbered_all : (sur : ListingContext) (f : ℕ → ℕ) (c : Context) (body : List Statement) (n k : ℕ) (ss : List Statement) (last : SourceInstruction)
     → length sur.lines ≡ suc n → n ≡ k + count_of_statements ss → label_at sur.targets n ≡ None
-    → statements_from sur k (run_all f (stated_from c body k ss ++ last ∷ [])) ≡ numbered_from (listed_as sur f c body) k ss
+    → statements_from sur k (run_all f (instructions_from c body k ss ++ last ∷ [])) ≡ numbered_from (listed_as sur f c body) k ss
 numbered_all sur f c body n k [] last size count free = end_none sur n k (run_of f last.instr) size (omega (arith, count)) free
 numbered_all sur f c body n k (s ∷ ss) last size count free =
     by (is_empty_statement s.code) count (λ j at. numbered_all sur f c body n j ss last size at free)
   where
     by : (none : Bool) → n ≡ k + ((if none then 0 else 1) + count_of_statements ss)
-        → ((j : ℕ) → n ≡ j + count_of_statements ss → statements_from sur j (run_all f (stated_from c body j ss ++ last ∷ [])) ≡ numbered_from (listed_as sur f c body) j ss)
-        → statements_from sur k (run_all f ((if none then stated_from c body k ss else record { instr = instruction c body k s; line = s.line } ∷ stated_from c body (suc k) ss) ++ last ∷ []))
+        → ((j : ℕ) → n ≡ j + count_of_statements ss → statements_from sur j (run_all f (instructions_from c body j ss ++ last ∷ [])) ≡ numbered_from (listed_as sur f c body) j ss)
+        → statements_from sur k (run_all f ((if none then instructions_from c body k ss else record { instr = instruction c body k s; line = s.line } ∷ instructions_from c body (suc k) ss) ++ last ∷ []))
         ≡ (if none then numbered_from (listed_as sur f c body) k ss else listed_as sur f c body k s ∷ numbered_from (listed_as sur f c body) (suc k) ss)
     by true at more = more k (omega (arith, at))
     by false at more =
-        next_one sur k (run_of f (instruction c body k s)) (statements_from sur (suc k) (run_all f (stated_from c body (suc k) ss ++ last ∷ []))) (omega (arith, at, size))
+        next_one sur k (run_of f (instruction c body k s)) (statements_from sur (suc k) (run_all f (instructions_from c body (suc k) ss ++ last ∷ []))) (omega (arith, at, size))
         ∙ ap (λ (rest : List Statement). listed_as sur f c body k s ∷ rest) (more (suc k) (omega (arith, at)))
 
 unmarked_label : (marks : List Bool) (n : ℕ) → unwrap_or (slice_get marks n) false ≡ false → label_at marks n ≡ None
@@ -273,7 +273,7 @@ any_front t (x ∷ xs) last h = by (jumps_to t x.instr) h (any_front t xs last)
     by false h more = more h
 
 body_by : (signatures : List Signature) (stated : StatedBlock) (y : Types) (c : Context) (b : Block)
-    → stated.statements ≡ stated_from c b.body 0 b.body ++ return_statement b ∷ []
+    → stated.statements ≡ instructions_from c b.body 0 b.body ++ return_statement b ∷ []
     → AllByRecursion (IsResolvedStatement c b.body) b.body → AllByRecursion (IsSoundStatement y c) b.body
     → ((n : ℕ) → suc n ≡ length stated.statements → any_to n stated.statements ≡ false) → has_too_many_statements b ≡ false
     → IsBodyOf c b signatures stated (body_of signatures (lines_in stated.statements) (compiled_block stated))
@@ -287,7 +287,7 @@ body_by signatures stated y c b e settled sound free few = record {
   placed =
       placed_from signatures stated y c b.body 0 b.body (return_statement b) (record { size = size; few = omega (arith, size, same, other, low) }) settled sound
       (λ j. ap (line_of_statement (lines_in stated.statements)) (from_start j) ∙ ap (λ (xs : List SourceInstruction). line_of_statement (lines_in xs) j) e)
-      (λ t m. ap (any_to t) e ∙ any_front t (stated_from c b.body 0 b.body) (return_statement b) m);
+      (λ t m. ap (any_to t) e ∙ any_front t (instructions_from c b.body 0 b.body) (return_statement b) m);
 }
   where
     sur : ListingContext
@@ -296,23 +296,23 @@ body_by signatures stated y c b e settled sound free few = record {
     f : ℕ → ℕ
     f = statement_offset stated.statements
 
-    same : length (stated_from c b.body 0 b.body) ≡ count_of_statements b.body
+    same : length (instructions_from c b.body 0 b.body) ≡ count_of_statements b.body
     same = stated_count c b.body 0 b.body
 
-    other : length (stated_from c b.body 0 b.body) ≡ count_by (λ s. not (is_empty_statement s.code)) b.body
+    other : length (instructions_from c b.body 0 b.body) ≡ count_by (λ s. not (is_empty_statement s.code)) b.body
     other = source_count c b.body 0 b.body
 
     low : count_by (λ s. not (is_empty_statement s.code)) b.body ≤ 65534
     low = few_statements b few
 
     size : length stated.statements ≡ suc (count_of_statements b.body)
-    size = let all = ap length e ∙ length-append (stated_from c b.body 0 b.body) (return_statement b ∷ []) in omega (arith, all, same)
+    size = let all = ap length e ∙ length-append (instructions_from c b.body 0 b.body) (return_statement b ∷ []) in omega (arith, all, same)
 
 well_formed : (y : Types) (c : Context) (ss : List Statement) → AllByRecursion (IsSoundStatement y c) ss → AllByRecursion IsStatement ss
 well_formed y c [] h = tt
 well_formed y c (s ∷ ss) h = (h.0.well_formed, well_formed y c ss h.1)
 
-statements_are : (c : Context) (b : Block) → statements_of c b ≡ stated_from c b.body 0 b.body ++ return_statement b ∷ []
+statements_are : (c : Context) (b : Block) → statements_of c b ≡ instructions_from c b.body 0 b.body ++ return_statement b ∷ []
 unfolding statements_of
 statements_are c b = refl
 
@@ -320,7 +320,7 @@ pub few_stated : (c : Context) (b : Block) → has_too_many_statements b ≡ fal
 few_stated c b few =
     let low = few_statements b few in
     let other = source_count c b.body 0 b.body in
-    let all = ap length (statements_are c b) ∙ length-append (stated_from c b.body 0 b.body) (return_statement b ∷ []) in
+    let all = ap length (statements_are c b) ∙ length-append (instructions_from c b.body 0 b.body) (return_statement b ∷ []) in
     omega (arith, low, other, all)
 
 -- the block of the source that a listed one was made of

@@ -35,18 +35,18 @@ use Rattle.block_layout.specs.Rule42.{operand_is_outside}
 use Rattle.block_layout.specs.Types.{Types}
 use Rattle.stl_types.specs.Calls.{calls_unknown, has_no_instance, has_wrong_instance, is_unknown_function, is_resolved_date}
 use Rattle.stl_types.specs.Context.{Context, data_number, whole_place}
-use Rattle.stl_types.specs.Forms.{form_of}
-use Rattle.stl_types.specs.Operands.{operand_rule, rule_of_resolved_operand, rule_of_resolution, statement_rule}
+use Rattle.stl_types.specs.OperandRules.{operand_rule_of}
+use Rattle.stl_types.specs.Operands.{rule_of_operand, rule_of_resolved_operand, rule_of_resolution, statement_rule}
 use Rattle.stl_types.specs.Parameters.{Callee, callee_at, callee_by, callee_of, source_callee, system_callee, system_formals}
 use Rattle.stl_types.specs.Resolution.{resolution_of_call, id_at, instance_number, resolution_of, whole_called_block}
 use Rattle.stl_types.specs.ResolvedStatement.{resolved_operand}
 use Rattle.stl_types.specs.Unknown.{is_unknown}
 use Rattle.stl_types.specs.declared.parameters.Formal.{Formal}
-use Rattle.stl_types.specs.declared.views.Register.TheVariants as register
-use Rattle.stl_types.specs.declared.views.Resolution.{Resolution}
-use Rattle.stl_types.specs.declared.views.Resolution.TheVariants.{Resolved, Unknown, Unjudged}
-use Rattle.stl_types.specs.declared.views.ResolvedOperand.{ResolvedOperand}
-use Rattle.stl_types.specs.declared.views.ResolvedOperand.TheVariants as resolved
+use Rattle.stl_types.specs.declared.resolved_operands.Register.TheVariants as register
+use Rattle.stl_types.specs.declared.resolved_operands.Resolution.{Resolution}
+use Rattle.stl_types.specs.declared.resolved_operands.Resolution.TheVariants.{Resolved, Unknown, Unjudged}
+use Rattle.stl_types.specs.declared.resolved_operands.ResolvedOperand.{ResolvedOperand}
+use Rattle.stl_types.specs.declared.resolved_operands.ResolvedOperand.TheVariants as resolved
 use Rattle.stl_codegen.specs.CompiledBlock.{operand_with_target}
 use Rattle.stl_codegen.specs.EmittedOps.{pass_ops}
 use Rattle.stl_codegen.specs.Instruction.{instruction, jump_instr, passings_to, target_of}
@@ -227,8 +227,8 @@ jump_right y c listed sur f body k s how types h word =
 
     rule : statement_rule listed (listed_statement sur k (run_of f (jump_instr how k n))) ≡ None
     rule =
-        ap (λ (m : Mnemonic). operand_rule listed (form_of m) (listed_statement sur k (run_of f (jump_instr how k n))).operand) code_is
-        ∙ ap (operand_rule listed (form_of s.code)) shown
+        ap (λ (m : Mnemonic). rule_of_operand listed (operand_rule_of m) (listed_statement sur k (run_of f (jump_instr how k n))).operand) code_is
+        ∙ ap (rule_of_operand listed (operand_rule_of s.code)) shown
         ∙ jump_taken listed s.code how name h
 
 -- ---- what goes on, and the ends of blocks
@@ -242,14 +242,14 @@ does_right y c listed sur f k s v types has right some jumps calls ends e =
     let both = stands c listed sur.formals s.operand v has right sees in
     let acted = operands_kept c listed sur.formals sur.starts f s.code s.operand v (record { some = some; jumps = jumps; calls = calls; ends = ends }) (rule_broken c s v e) sees both.1 both.0 in
     right_instr y listed sur f k (operand_instruction s.code s.operand v) acted.found types (acting_none s.operand v) acted.resolves
-    (ap (λ (m : Mnemonic). operand_rule listed (form_of m) (listed_statement sur k (run_of f (operand_instruction s.code s.operand v))).operand) (acting_word f s.code s.operand v some jumps calls ends) ∙ acted.right)
+    (ap (λ (m : Mnemonic). rule_of_operand listed (operand_rule_of m) (listed_statement sur k (run_of f (operand_instruction s.code s.operand v))).operand) (acting_word f s.code s.operand v some jumps calls ends) ∙ acted.right)
 
 end_right : (y : Types) (listed : Context) (sur : ListingContext) (f : ℕ → ℕ) (k : ℕ) (m : Mnemonic) (how : EndOperation)
     → AreTypesOf y listed → end_operation_of m ≡ Some how → (listed_statement sur k (run_of f (Returns how))).code ≡ m → IsShownAgain y listed sur f k (Returns how)
 end_right y listed sur f k m how types ends word =
     right_instr y listed sur f k (Returns how) resolved.Nothing types tt (ap (resolution_of listed) (end_operand sur k f how) ∙ nothing_seen listed)
-    (ap (λ (x : Mnemonic). operand_rule listed (form_of x) (listed_statement sur k (run_of f (Returns how))).operand) word
-    ∙ ap (operand_rule listed (form_of m)) (end_operand sur k f how) ∙ end_taken listed m how ends)
+    (ap (λ (x : Mnemonic). rule_of_operand listed (operand_rule_of x) (listed_statement sur k (run_of f (Returns how))).operand) word
+    ∙ ap (rule_of_operand listed (operand_rule_of m)) (end_operand sur k f how) ∙ end_taken listed m how ends)
 
 other_right : (y : Types) (c listed : Context) (sur : ListingContext) (f : ℕ → ℕ) (body : List Statement) (k : ℕ) (s : Statement) (v : ResolvedOperand)
     → AreTypesOf y listed → HasAgain c listed sur.formals → IsRightOperand c.symbols s.operand
@@ -394,9 +394,9 @@ called_right y c listed sur f k s how id instance callee types has h e is_call s
   there = seen_there y listed again.operand (resolved.Called id instance) types sees_again;
   inside = ap (operand_is_outside y listed.layouts listed.block) shown;
   allowed =
-      ap (λ (m : Mnemonic). operand_rule listed (form_of m) again.operand) word
-      ∙ ap (operand_rule listed (form_of s.code)) shown
-      ∙ ap (rule_of_resolution (form_of s.code)) sees_called
+      ap (λ (m : Mnemonic). rule_of_operand listed (operand_rule_of m) again.operand) word
+      ∙ ap (rule_of_operand listed (operand_rule_of s.code)) shown
+      ∙ ap (rule_of_resolution (operand_rule_of s.code)) sees_called
       ∙ rule;
   one_of_nine = ap (calls_unknown listed) shown ∙ there.known;
   actuals =
@@ -417,11 +417,11 @@ called_right y c listed sur f k s how id instance callee types has h e is_call s
     sees_source : resolution_of c s.operand ≡ Resolved (resolved.Called id instance)
     sees_source = what_seen c s (resolved.Called id instance) e
 
-    rule : rule_of_resolved_operand (form_of s.code) (resolved.Called id instance) ≡ None
-    rule = rule_called c (form_of s.code) s.operand (resolved.Called id instance) is_call (rule_broken c s (resolved.Called id instance) e) sees_source
+    rule : rule_of_resolved_operand (operand_rule_of s.code) (resolved.Called id instance) ≡ None
+    rule = rule_called c (operand_rule_of s.code) s.operand (resolved.Called id instance) is_call (rule_broken c s (resolved.Called id instance) e) sees_source
 
     callable : is_callable id.kind ≡ true
-    callable = callable_by id instance (same_kind s.code how (resolved.Called id instance) h (taken_view (form_of s.code) (resolved.Called id instance) rule))
+    callable = callable_by id instance (same_kind s.code how (resolved.Called id instance) h (taken_view (operand_rule_of s.code) (resolved.Called id instance) rule))
 
     names : NamesInstance c s.operand instance
     names = names_instance c s.operand id instance is_call sees_source

@@ -18,18 +18,18 @@ use Rattle.stl_ast.specs.declared.statements.Actual.{Actual}
 use Rattle.stl_ast.specs.declared.statements.Statement.{Statement}
 use Rattle.block_layout.specs.Blocks.{named_block}
 use Rattle.stl_types.specs.Context.{Context, data_number, whole_place}
-use Rattle.stl_types.specs.Forms.{form_of}
+use Rattle.stl_types.specs.OperandRules.{operand_rule_of}
 use Rattle.stl_types.specs.Kinds.{is_operand_of_call as is_called_view}
-use Rattle.stl_types.specs.Operands.{operand_rule, rule_of_resolved_operand, rule_of_resolution, statement_rule, takes_operand}
+use Rattle.stl_types.specs.Operands.{rule_of_operand, rule_of_resolved_operand, rule_of_resolution, statement_rule, takes_operand}
 use Rattle.stl_types.specs.Parameters.{Callee, callee_of}
 use Rattle.stl_types.specs.Resolution.{resolution_of_call, id_at, instance_number, resolution_of, whole_called_block}
 use Rattle.stl_types.specs.ResolvedStatement.{resolved_operand}
-use Rattle.stl_types.specs.declared.forms.OperandRule.{OperandRule}
+use Rattle.stl_types.specs.declared.operand_rules.OperandRule.{OperandRule}
 use Rattle.stl_types.specs.declared.parameters.Formal.{Formal}
-use Rattle.stl_types.specs.declared.views.Resolution.TheVariants.{Resolved}
-use Rattle.stl_types.specs.declared.views.ResolvedOperand.{ResolvedOperand}
-use Rattle.stl_types.specs.declared.views.ResolvedOperand.TheVariants as resolved
-use Rattle.stl_codegen.specs.EmittedOps.{instance_number_or_zero as instance_of}
+use Rattle.stl_types.specs.declared.resolved_operands.Resolution.TheVariants.{Resolved}
+use Rattle.stl_types.specs.declared.resolved_operands.ResolvedOperand.{ResolvedOperand}
+use Rattle.stl_types.specs.declared.resolved_operands.ResolvedOperand.TheVariants as resolved
+use Rattle.block_layout.specs.Fits.{number_or_zero as instance_of}
 use Rattle.stl_codegen.specs.Instruction.{source_block_at, in_parameter_order, instr_by, instruction, passings_to, resolved_instr, operand_instr}
 use Rattle.stl_codegen.specs.Operations.{call_operation_of, jump_operation_of}
 use Rattle.stl_codegen.specs.PassedParameters.{passings_from}
@@ -73,8 +73,8 @@ calls_to c body n s how id instance h none e =
 
 -- ---- the block that is called
 
-pub same_kind : (m : Mnemonic) (how : CallOperation) (v : ResolvedOperand) → call_operation_of m ≡ Some how → takes_operand (form_of m) v ≡ true → is_called_view v ≡ true
-unfolding takes_operand form_of
+pub same_kind : (m : Mnemonic) (how : CallOperation) (v : ResolvedOperand) → call_operation_of m ≡ Some how → takes_operand (operand_rule_of m) v ≡ true → is_called_view v ≡ true
+unfolding takes_operand operand_rule_of
 same_kind code.Call how v h e = e
 same_kind code.Uc how v h e = e
 same_kind code.Cc how v h e = e
@@ -168,7 +168,7 @@ unfolding resolution_of
 sees_called c listed formals (operand.Called name instance) v has called is e = found_called c listed formals (named_block c.symbols name) instance v has called e
 sees_called c listed formals _ v has called is e = absurd cc
 
-pub rule_called : (c : Context) (f : OperandRule) (o : Operand) (v : ResolvedOperand) → names_called_block o ≡ true → operand_rule c f o ≡ None → resolution_of c o ≡ Resolved v → rule_of_resolved_operand f v ≡ None
+pub rule_called : (c : Context) (f : OperandRule) (o : Operand) (v : ResolvedOperand) → names_called_block o ≡ true → rule_of_operand c f o ≡ None → resolution_of c o ≡ Resolved v → rule_of_resolved_operand f v ≡ None
 rule_called c f (operand.Called name instance) v is h e = sym (ap (rule_of_resolution f) e) ∙ h
 rule_called c f _ v is h e = absurd cc
 
@@ -182,7 +182,7 @@ unfolding actuals_by
 no_actuals sur k f how id instance = refl
 
 calls_again : (listed : Context) (sur : ListingContext) (f : ℕ → ℕ) (again : List Statement) (n k : ℕ) (m : Mnemonic) (how : CallOperation) (id : BlockId) (instance : Option ℕ)
-    → call_operation_of m ≡ Some how → rule_of_resolved_operand (form_of m) (resolved.Called id instance) ≡ None → whole_called_block listed (Some id) ≡ Some id → IsOpenedAgain listed instance
+    → call_operation_of m ≡ Some how → rule_of_resolved_operand (operand_rule_of m) (resolved.Called id instance) ≡ None → whole_called_block listed (Some id) ≡ Some id → IsOpenedAgain listed instance
     → IsInstructionKept listed again n m (Calls how id instance []) (listed_statement sur k (run_of f (Calls how id instance [])))
 calls_again listed sur f again n k m how id instance h rule whole stands = record {
   word = word;
@@ -197,13 +197,13 @@ calls_again listed sur f again n k m how id instance h rule whole stands = recor
     word = call_words_found m how h
 
     is : listing.operand ≡ operand.Called (block.Number id) (instance_name (instance_of instance))
-    is = call_operand sur k f how id instance (same_kind m how (resolved.Called id instance) h (taken_view (form_of m) (resolved.Called id instance) rule))
+    is = call_operand sur k f how id instance (same_kind m how (resolved.Called id instance) h (taken_view (operand_rule_of m) (resolved.Called id instance) rule))
 
     sees : resolution_of listed (operand.Called (block.Number id) (instance_name (instance_of instance))) ≡ Resolved (resolved.Called id instance)
     sees = called_again listed id instance whole stands
 
     right : statement_rule listed listing ≡ None
-    right = ap (λ (x : Mnemonic). operand_rule listed (form_of x) listing.operand) word ∙ ap (operand_rule listed (form_of m)) is ∙ ap (rule_of_resolution (form_of m)) sees ∙ rule
+    right = ap (λ (x : Mnemonic). rule_of_operand listed (operand_rule_of x) listing.operand) word ∙ ap (rule_of_operand listed (operand_rule_of m)) is ∙ ap (rule_of_resolution (operand_rule_of m)) sees ∙ rule
 
 pub calls_kept : AreBareCallsKept
 calls_kept c listed sur f body again n k s v how has called is none h e =
@@ -211,8 +211,8 @@ calls_kept c listed sur f body again n k s v how has called is none h e =
   where
     by : StandsCalled listed v → IsInstructionKept listed again n s.code (instruction c body n s) (listed_statement sur k (run_of f (instruction c body n s)))
     by st =
-        let rule : rule_of_resolved_operand (form_of s.code) (resolved.Called st.id st.instance) ≡ None =
-        ap (rule_of_resolved_operand (form_of s.code)) (sym st.is) ∙ rule_called c (form_of s.code) s.operand v is (rule_broken c s v e) (what_seen c s v e) in
-        let plain = called_plain st.id st.instance (same_kind s.code how (resolved.Called st.id st.instance) h (taken_view (form_of s.code) (resolved.Called st.id st.instance) rule)) in
+        let rule : rule_of_resolved_operand (operand_rule_of s.code) (resolved.Called st.id st.instance) ≡ None =
+        ap (rule_of_resolved_operand (operand_rule_of s.code)) (sym st.is) ∙ rule_called c (operand_rule_of s.code) s.operand v is (rule_broken c s v e) (what_seen c s v e) in
+        let plain = called_plain st.id st.instance (same_kind s.code how (resolved.Called st.id st.instance) h (taken_view (operand_rule_of s.code) (resolved.Called st.id st.instance) rule)) in
         rw (calls_to c body n s how st.id st.instance h none (e ∙ ap (λ (x : ResolvedOperand). Some x) st.is))
         (calls_again listed sur f again n k s.code how st.id st.instance h rule (st.whole plain) st.again)

@@ -20,18 +20,18 @@ use Rattle.block_layout.specs.Fits.{bits_of, fits_elementary_type, twos_compleme
 use Rattle.stl_types.specs.Addresses.{area_of_pointer}
 use Rattle.stl_types.specs.Constants.{is_count, takes_constant}
 use Rattle.stl_types.specs.Context.{Context}
-use Rattle.stl_types.specs.Forms.{form_of}
+use Rattle.stl_types.specs.OperandRules.{operand_rule_of}
 use Rattle.stl_types.specs.Operands.{rule_of_resolved_operand, takes_operand}
 use Rattle.stl_types.specs.Resolution.{resolution_of}
-use Rattle.stl_types.specs.declared.views.Resolution.TheVariants.{Resolved}
-use Rattle.stl_types.specs.declared.views.ResolvedOperand.TheVariants as resolved
+use Rattle.stl_types.specs.declared.resolved_operands.Resolution.TheVariants.{Resolved}
+use Rattle.stl_types.specs.declared.resolved_operands.ResolvedOperand.TheVariants as resolved
 use Rattle.stl_codegen.specs.Operands.{flat_operand_of, pointer_bits}
 use Rattle.stl_codegen.specs.Operations.{operation_for}
 use Rattle.stl_list.specs.Constants.{instruction_constant, pointer_area, pointer_constant, pointer_letters}
 use Rattle.listing_laws.specs.Operands.{IsActedAgain, IsConstantCoded, IsPointer}
 use Rattle.listing_laws.proofs.ruled.Rules.{operand_unchanged}
 
-constant_acted : (c : Context) (m : Mnemonic) (value again : Literal) → takes_constant (form_of m) again ≡ true → bits_of again ≡ bits_of value
+constant_acted : (c : Context) (m : Mnemonic) (value again : Literal) → takes_constant (operand_rule_of m) again ≡ true → bits_of again ≡ bits_of value
     → operation_for m (operand.Constant again) resolved.Constant ≡ operation_for m (operand.Constant value) resolved.Constant
     → IsActedAgain c m (operand.Constant value) (operand.Constant again) resolved.Constant
 unfolding resolution_of flat_operand_of
@@ -76,9 +76,9 @@ bits_unsigned (negsuc n) = ap (λ (k : ℕ). 4294967296 - k) (plus_one n)
 long_again : (v : ℤ) → IsLong v → twos_complement_bits 32 (cast_signed w32 (twos_complement_bits 32 v)) ≡ twos_complement_bits 32 v
 long_again v h = bits_unsigned (cast_signed w32 (twos_complement_bits 32 v)) ∙ of_z-to_z w32 (twos_complement_bits 32 v) (long_low v h)
 
-adds_again : (c : Context) (value : Literal) → IsConstantCoded value → takes_constant (form_of code.Add) value ≡ true
+adds_again : (c : Context) (value : Literal) → IsConstantCoded value → takes_constant (operand_rule_of code.Add) value ≡ true
     → IsActedAgain c code.Add (operand.Constant value) (instruction_constant (operation_for code.Add (operand.Constant value) resolved.Constant) (bits_of value)) resolved.Constant
-unfolding takes_constant form_of operation_for bits_of
+unfolding takes_constant operand_rule_of operation_for bits_of
 adds_again c (literal.Number v) h e = constant_acted c code.Add (literal.Number v) (literal.Number (pos (twos_complement_bits 16 v % 65536))) refl (decimal_low v h.literal) refl
 adds_again c (literal.Long v) h e = constant_acted c code.Add (literal.Long v) (literal.Long (cast_signed w32 (twos_complement_bits 32 v))) refl (long_again v h.literal) refl
 adds_again c _ h e = absurd cc
@@ -87,9 +87,9 @@ word_again : (value : Literal) → IsConstantCoded value → fits_elementary_typ
 word_again value h e = low (bits_of value) 65535 (h.word e) (omega arith)
 
 -- an instruction takes the constant that its listing has
-pub constant_again : (c : Context) (m : Mnemonic) (value : Literal) → IsConstantCoded value → takes_constant (form_of m) value ≡ true
+pub constant_again : (c : Context) (m : Mnemonic) (value : Literal) → IsConstantCoded value → takes_constant (operand_rule_of m) value ≡ true
     → IsActedAgain c m (operand.Constant value) (instruction_constant (operation_for m (operand.Constant value) resolved.Constant) (bits_of value)) resolved.Constant
-unfolding takes_constant form_of operation_for fits_elementary_type bits_of
+unfolding takes_constant operand_rule_of operation_for fits_elementary_type bits_of
 constant_again c code.L value h e = constant_acted c code.L value (literal.Dword (bits_of value)) refl refl refl
 constant_again c code.Nop value h e = let k = counted_again 1 value (omega arith) e in constant_acted c code.Nop value (decimal value) k.0 k.1 refl
 constant_again c code.Bld value h e = let k = counted_again 255 value (omega arith) e in constant_acted c code.Bld value (decimal value) k.0 k.1 refl
@@ -160,7 +160,7 @@ pointer_seen c a byte bit h =
 -- a pointer that L loads is a constant there
 pub pointer_loaded : (c : Context) (o : Operand) (a : Option Area) (byte bit : ℕ)
     → IsActedAgain c code.L o (operand.Constant (literal.Dword (pointer_bits a byte bit))) (resolved.Pointer a byte bit)
-unfolding resolution_of flat_operand_of operation_for form_of takes_constant bits_of
+unfolding resolution_of flat_operand_of operation_for operand_rule_of takes_constant bits_of
 pointer_loaded c o a byte bit = record {
   found = resolved.Constant;
   resolves = refl;
@@ -171,9 +171,9 @@ pointer_loaded c o a byte bit = record {
 }
 
 pub pointer_acts : (c : Context) (m : Mnemonic) (o : Operand) (a : Option Area) (byte bit : ℕ) → IsPointer a byte bit
-    → rule_of_resolved_operand (form_of m) (resolved.Pointer a byte bit) ≡ None → takes_operand (form_of m) (resolved.Pointer a byte bit) ≡ true
+    → rule_of_resolved_operand (operand_rule_of m) (resolved.Pointer a byte bit) ≡ None → takes_operand (operand_rule_of m) (resolved.Pointer a byte bit) ≡ true
     → IsActedAgain c m o (instruction_constant (operation_for m o (resolved.Pointer a byte bit)) (pointer_bits a byte bit)) (resolved.Pointer a byte bit)
-unfolding takes_operand form_of operation_for
+unfolding takes_operand operand_rule_of operation_for
 pointer_acts c code.L o a byte bit h e k = pointer_loaded c o a byte bit
 pointer_acts c code.Lar1 o a byte bit h e k = operand_unchanged c code.Lar1 o (pointer_constant (pointer_bits a byte bit)) (resolved.Pointer a byte bit) tt e refl (pointer_seen c a byte bit h)
 pointer_acts c code.Lar2 o a byte bit h e k = operand_unchanged c code.Lar2 o (pointer_constant (pointer_bits a byte bit)) (resolved.Pointer a byte bit) tt e refl (pointer_seen c a byte bit h)

@@ -17,14 +17,14 @@ use Rattle.stl_ast.specs.declared.operands.Operand.{Operand}
 use Rattle.stl_ast.specs.declared.operands.Operand.TheVariants as operand
 use Rattle.stl_ast.specs.declared.statements.Statement.{Statement}
 use Rattle.stl_types.specs.Context.{Context}
-use Rattle.stl_types.specs.Forms.{form_of}
-use Rattle.stl_types.specs.Operands.{operand_rule, rule_of_resolved_operand, statement_rule, takes_operand, takes_width}
+use Rattle.stl_types.specs.OperandRules.{operand_rule_of}
+use Rattle.stl_types.specs.Operands.{rule_of_operand, rule_of_resolved_operand, statement_rule, takes_operand, takes_width}
 use Rattle.stl_types.specs.Resolution.{resolution_of}
 use Rattle.stl_types.specs.ResolvedStatement.{resolved_operand, operand_if_resolved}
-use Rattle.stl_types.specs.declared.views.Resolution.{Resolution}
-use Rattle.stl_types.specs.declared.views.Resolution.TheVariants.{Resolved, Unjudged, Unknown}
-use Rattle.stl_types.specs.declared.views.ResolvedOperand.{ResolvedOperand}
-use Rattle.stl_types.specs.declared.views.ResolvedOperand.TheVariants as resolved
+use Rattle.stl_types.specs.declared.resolved_operands.Resolution.{Resolution}
+use Rattle.stl_types.specs.declared.resolved_operands.Resolution.TheVariants.{Resolved, Unjudged, Unknown}
+use Rattle.stl_types.specs.declared.resolved_operands.ResolvedOperand.{ResolvedOperand}
+use Rattle.stl_types.specs.declared.resolved_operands.ResolvedOperand.TheVariants as resolved
 use Rattle.stl_codegen.specs.Instruction.{end_instr, instr_by, instruction, jump_instr, resolved_instr, target_in, target_of, operand_instr}
 use Rattle.stl_codegen.specs.Operands.{block_opened_by_operand, flat_operand_of}
 use Rattle.stl_codegen.specs.Operations.{call_operation_of, end_operation_of, jump_operation_of, operation_for}
@@ -109,7 +109,7 @@ does_again c listed sur f again n k s v has right some jumps calls ends e =
 
     by : IsActedAgain listed s.code s.operand listing.operand v → IsInstructionKept listed again n s.code (operand_instruction s.code s.operand v) listing
     by acted =
-        let rule : statement_rule listed listing ≡ None = ap (λ (m : Mnemonic). operand_rule listed (form_of m) listing.operand) word ∙ acted.right in
+        let rule : statement_rule listed listing ≡ None = ap (λ (m : Mnemonic). rule_of_operand listed (operand_rule_of m) listing.operand) word ∙ acted.right in
         record {
           word = word;
           right = rule;
@@ -123,8 +123,8 @@ does_again c listed sur f again n k s v has right some jumps calls ends e =
 
 -- ---- the end of a block
 
-pub end_taken : (listed : Context) (m : Mnemonic) (how : EndOperation) → end_operation_of m ≡ Some how → operand_rule listed (form_of m) operand.Nothing ≡ None
-unfolding form_of takes_operand rule_of_resolved_operand takes_width resolution_of
+pub end_taken : (listed : Context) (m : Mnemonic) (how : EndOperation) → end_operation_of m ≡ Some how → rule_of_operand listed (operand_rule_of m) operand.Nothing ≡ None
+unfolding operand_rule_of takes_operand rule_of_resolved_operand takes_width resolution_of
 end_taken listed code.Be how h = refl
 end_taken listed code.Bec how h = refl
 end_taken listed code.Beu how h = refl
@@ -155,7 +155,7 @@ ends_again listed sur f again n k m how jumps calls ends = record {
     word = end_words_found m how ends
 
     rule : statement_rule listed listing ≡ None
-    rule = ap (λ (x : Mnemonic). operand_rule listed (form_of x) listing.operand) word ∙ ap (operand_rule listed (form_of m)) (end_operand sur k f how) ∙ end_taken listed m how ends
+    rule = ap (λ (x : Mnemonic). rule_of_operand listed (operand_rule_of x) listing.operand) word ∙ ap (rule_of_operand listed (operand_rule_of m)) (end_operand sur k f how) ∙ end_taken listed m how ends
 
 -- ---- either
 
@@ -168,8 +168,8 @@ instructions_kept c listed sur f body again n k s v has right some jumps calls e
 
 -- ---- jumps
 
-pub jump_taken : (listed : Context) (m : Mnemonic) (how : JumpOperation) (name : List ℕ) → jump_operation_of m ≡ Some how → operand_rule listed (form_of m) (operand.Label name) ≡ None
-unfolding form_of takes_operand rule_of_resolved_operand takes_width resolution_of
+pub jump_taken : (listed : Context) (m : Mnemonic) (how : JumpOperation) (name : List ℕ) → jump_operation_of m ≡ Some how → rule_of_operand listed (operand_rule_of m) (operand.Label name) ≡ None
+unfolding operand_rule_of takes_operand rule_of_resolved_operand takes_width resolution_of
 jump_taken listed code.Ju how name h = refl
 jump_taken listed code.Jl how name h = refl
 jump_taken listed code.Jc how name h = refl
@@ -228,7 +228,7 @@ leaps_again : (listed : Context) (sur : ListingContext) (f : ℕ → ℕ) (again
     → IsInstructionKept listed again n m (leap how n target) (listed_statement sur k (run_of f (leap how n target)))
 leaps_again listed sur f again n k m how target h found reached = record {
   word = word;
-  right = ap (λ (x : Mnemonic). operand_rule listed (form_of x) listing.operand) word ∙ ap (operand_rule listed (form_of m)) label ∙ jump_taken listed m how (label_of_number target) h;
+  right = ap (λ (x : Mnemonic). rule_of_operand listed (operand_rule_of x) listing.operand) word ∙ ap (rule_of_operand listed (operand_rule_of m)) label ∙ jump_taken listed m how (label_of_number target) h;
   instr = jump_instruction listed again n listing how (ap jump_operation_of word ∙ h) ∙ ap (λ (o : Operand). jump_instr how n (target_of again o)) label ∙ ap (jump_instr how n) reached;
 }
   where

@@ -12,13 +12,13 @@ use Rattle.stl_ast.specs.declared.mnemonics.Mnemonic.TheVariants as code
 use Rattle.stl_ast.specs.declared.operands.Operand.TheVariants as operand
 use Rattle.stl_ast.specs.declared.statements.Statement.{Statement}
 use Rattle.stl_types.specs.Context.{Context}
-use Rattle.stl_types.specs.Forms.{form_of}
+use Rattle.stl_types.specs.OperandRules.{operand_rule_of}
 use Rattle.stl_types.specs.Kinds.{is_operand_of_call as is_called_view}
 use Rattle.stl_types.specs.ResolvedStatement.{resolved_operand}
-use Rattle.stl_types.specs.declared.views.ResolvedOperand.{ResolvedOperand}
-use Rattle.stl_types.specs.declared.views.ResolvedOperand.TheVariants as resolved
+use Rattle.stl_types.specs.declared.resolved_operands.ResolvedOperand.{ResolvedOperand}
+use Rattle.stl_types.specs.declared.resolved_operands.ResolvedOperand.TheVariants as resolved
 use Rattle.stl_codegen.specs.CompiledBlock.{SourceInstruction, StatedBlock, compiled_block, lines_in}
-use Rattle.stl_codegen.specs.GeneratedProgram.{return_statement, stated_from, statements_of}
+use Rattle.stl_codegen.specs.GeneratedProgram.{return_statement, instructions_from, statements_of}
 use Rattle.stl_codegen.specs.Instruction.{call_instr, instr_by, instruction, resolved_instr, target_of, operand_instr}
 use Rattle.stl_codegen.specs.Operations.{call_operation_of, end_operation_of, jump_operation_of}
 use Rattle.stl_list.specs.Lines.{line_of_statement}
@@ -65,8 +65,8 @@ word_by_view c body n f s v is some jumps e = by_call (call_operation_of s.code)
     by_call : (how : Option CallOperation) → call_operation_of s.code ≡ how → IsWorded f s.code (instruction c body n s)
     by_call None calls = by_end (end_operation_of s.code) calls refl
     by_call (Some how) calls =
-        let rule = rule_called c (form_of s.code) s.operand v (is.called ∙ calls_block s.code how calls) (rule_broken c s v e) (what_seen c s v e) in
-        rw (call_comes c body n s v how calls e) (called_word c f s how v calls (same_kind s.code how v calls (taken_view (form_of s.code) v rule)))
+        let rule = rule_called c (operand_rule_of s.code) s.operand v (is.called ∙ calls_block s.code how calls) (rule_broken c s v e) (what_seen c s v e) in
+        rw (call_comes c body n s v how calls e) (called_word c f s how v calls (same_kind s.code how v calls (taken_view (operand_rule_of s.code) v rule)))
 
 pub word_is : (c : Context) (body : List Statement) (n : ℕ) (f : ℕ → ℕ) (s : Statement) → IsReadable c s → is_empty_statement s.code ≡ false → IsWorded f s.code (instruction c body n s)
 word_is c body n f s is some = by_jump (jump_operation_of s.code) refl
@@ -93,16 +93,16 @@ mark_kept f m line i some e =
     ap (λ (x : Mnemonic). nesting_mark_of (record { line = line; code = x; label = None; operand = operand.Nothing; actuals = [] })) e
     ∙ ap (λ (b : Bool). if b then [] else record { code = m; line = line } ∷ []) some
 
-source_marks : (c : Context) (body : List Statement) (n : ℕ) (f : ℕ → ℕ) (ss : List Statement) → AllByRecursion (IsReadable c) ss → stated_marks f (stated_from c body n ss) ≡ nesting_marks ss
+source_marks : (c : Context) (body : List Statement) (n : ℕ) (f : ℕ → ℕ) (ss : List Statement) → AllByRecursion (IsReadable c) ss → stated_marks f (instructions_from c body n ss) ≡ nesting_marks ss
 source_marks c body n f [] h = refl
 source_marks c body n f (s ∷ ss) h = by (is_empty_statement s.code) refl (source_marks c body n f ss h.1) (source_marks c body (suc n) f ss h.1)
   where
-    by : (b : Bool) → is_empty_statement s.code ≡ b → stated_marks f (stated_from c body n ss) ≡ nesting_marks ss → stated_marks f (stated_from c body (suc n) ss) ≡ nesting_marks ss
-        → stated_marks f (if b then stated_from c body n ss else record { instr = instruction c body n s; line = s.line } ∷ stated_from c body (suc n) ss)
+    by : (b : Bool) → is_empty_statement s.code ≡ b → stated_marks f (instructions_from c body n ss) ≡ nesting_marks ss → stated_marks f (instructions_from c body (suc n) ss) ≡ nesting_marks ss
+        → stated_marks f (if b then instructions_from c body n ss else record { instr = instruction c body n s; line = s.line } ∷ instructions_from c body (suc n) ss)
         ≡ (if b then [] else record { code = s.code; line = s.line } ∷ []) ++ nesting_marks ss
     by true e here next = here
     by false e here next =
-        ap (λ (ms : List NestingMark). ms ++ stated_marks f (stated_from c body (suc n) ss)) (mark_kept f s.code s.line (instruction c body n s) e (word_is c body n f s h.0 e))
+        ap (λ (ms : List NestingMark). ms ++ stated_marks f (instructions_from c body (suc n) ss)) (mark_kept f s.code s.line (instruction c body n s) e (word_is c body n f s h.0 e))
         ∙ ap (λ (ms : List NestingMark). record { code = s.code; line = s.line } ∷ ms) next
 
 -- ---- the listed statements
@@ -169,7 +169,7 @@ body_marks signatures b ss last e =
 pub marks_kept : AreMarksKept
 unfolding statements_of
 marks_kept c b stated signatures h e =
-    body_marks signatures stated (stated_from c b.body 0 b.body) (return_statement b) e
+    body_marks signatures stated (instructions_from c b.body 0 b.body) (return_statement b) e
     ∙ source_marks c b.body 0 (statement_offset stated.statements) b.body h
 
 pub listed_nestings_kept : AreListedNestingsKept

@@ -15,13 +15,13 @@ use Rattle.block_layout.specs.declared.blocks.BlockLayout.{BlockLayout}
 use Rattle.block_layout.specs.declared.cells.Cell.{Cell}
 use Rattle.block_layout.specs.declared.cells.Element.TheVariants as element
 use Rattle.block_layout.specs.declared.members.Member.{Member}
-use Rattle.block_layout.specs.declared.walks.ComponentAt.{ComponentAt}
-use Rattle.block_layout.specs.declared.walks.PathEnd.{PathEnd}
-use Rattle.block_layout.specs.declared.walks.PathEnd.TheVariants as path_end
+use Rattle.block_layout.specs.declared.path_ends.ComponentAt.{ComponentAt}
+use Rattle.block_layout.specs.declared.path_ends.PathEnd.{PathEnd}
+use Rattle.block_layout.specs.declared.path_ends.PathEnd.TheVariants as path_end
 use Rattle.stl_types.specs.Context.{Context, in_function, is_of_function}
 use Rattle.stl_types.specs.Variables.{behind_others, variable_in_area, own_at, own_variable, own_at_path_end, parameter_resolution, parameter_at, parameter_index}
-use Rattle.stl_types.specs.declared.views.Resolution.TheVariants.{Resolved}
-use Rattle.stl_types.specs.declared.views.ResolvedOperand.TheVariants as resolved
+use Rattle.stl_types.specs.declared.resolved_operands.Resolution.TheVariants.{Resolved}
+use Rattle.stl_types.specs.declared.resolved_operands.ResolvedOperand.TheVariants as resolved
 use Rattle.listing_laws.specs.OwnParameters.{AreOwnParametersFound}
 
 -- ---- the component of a name

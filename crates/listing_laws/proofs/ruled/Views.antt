@@ -23,25 +23,25 @@ use Rattle.block_layout.specs.Paths.{cells_at, elementary_at, folded_path, path_
 use Rattle.block_layout.specs.declared.cells.Cell.{Cell}
 use Rattle.block_layout.specs.declared.cells.Element.{Element}
 use Rattle.block_layout.specs.declared.cells.Element.TheVariants as element
-use Rattle.block_layout.specs.declared.walks.ComponentAt.{ComponentAt}
-use Rattle.block_layout.specs.declared.walks.PathEnd.{PathEnd}
-use Rattle.block_layout.specs.declared.walks.PathEnd.TheVariants as path_end
+use Rattle.block_layout.specs.declared.path_ends.ComponentAt.{ComponentAt}
+use Rattle.block_layout.specs.declared.path_ends.PathEnd.{PathEnd}
+use Rattle.block_layout.specs.declared.path_ends.PathEnd.TheVariants as path_end
 use Rattle.stl_types.specs.Addresses.{address_in_block, area_of_pointer, area_for_letters}
 use Rattle.stl_types.specs.Context.{Context, data_number, data_place, in_function}
 use Rattle.stl_types.specs.Resolution.{resolution_of_call, instance_number, resolution_of_opened_block, resolution_of, resolution_of_symbol, resolved_target, whole_called_block}
 use Rattle.stl_types.specs.Variables.{composite_operand, data_at, data_path, data_at_path_end, date_or_composite, variable_in_area, is_temporary_variable, own_at, own_elementary, own_variable, own_at_path_end, parameter_resolution, parameter_at, parameter_index}
 use Rattle.stl_types.specs.declared.parameters.Formal.{Formal}
-use Rattle.stl_types.specs.declared.views.Resolution.{Resolution}
-use Rattle.stl_types.specs.declared.views.Resolution.TheVariants.{Resolved}
-use Rattle.stl_types.specs.declared.views.ResolvedOperand.{ResolvedOperand}
-use Rattle.stl_types.specs.declared.views.ResolvedOperand.TheVariants as resolved
-use Rattle.stl_codegen.specs.Operands.{is_db, opened_by_place}
+use Rattle.stl_types.specs.declared.resolved_operands.Resolution.{Resolution}
+use Rattle.stl_types.specs.declared.resolved_operands.Resolution.TheVariants.{Resolved}
+use Rattle.stl_types.specs.declared.resolved_operands.ResolvedOperand.{ResolvedOperand}
+use Rattle.stl_types.specs.declared.resolved_operands.ResolvedOperand.TheVariants as resolved
+use Rattle.stl_codegen.specs.Operands.{is_db, block_opened_by_place}
 use Rattle.listing_laws.specs.Instructions.{HasAgain, IsRightOperand}
 use Rattle.listing_laws.specs.Operands.{IsConstantCoded, IsConstantResolved, IsOpenedAgain, IsPointer, StandsAgain}
 
 -- what is known of what is named. Only a path into the block's own variables may name a parameter
 abbrev IsSeen : (own : Bool) → Context → ResolvedOperand → Type 0
-IsSeen own listed (resolved.Direct place width side declared) = IsOpenedAgain listed (opened_by_place place)
+IsSeen own listed (resolved.Direct place width side declared) = IsOpenedAgain listed (block_opened_by_place place)
 IsSeen own listed (resolved.Parameter index section declared) = own ≡ true
 IsSeen own listed (resolved.OpenBlock di number) = IsOpenedAgain listed (Some number)
 IsSeen own listed resolved.Constant = ⊥
@@ -70,7 +70,7 @@ opened_place listed false n h = tt
 
 -- ---- variables
 
-area_seen : (own : Bool) (listed : Context) (a : Area) (n : ℕ) (bits : ℕ) (kind : Simple) → IsOpenedAgain listed (opened_by_place (place_at a n bits))
+area_seen : (own : Bool) (listed : Context) (a : Area) (n : ℕ) (bits : ℕ) (kind : Simple) → IsOpenedAgain listed (block_opened_by_place (place_at a n bits))
     → IfSeen own listed (variable_in_area kind (if nat_le (bits / 8) 65535 then Some (place_at a n bits, width_of kind) else None))
 area_seen own listed a n bits kind h = by (nat_le (bits / 8) 65535)
   where

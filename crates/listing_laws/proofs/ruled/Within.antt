@@ -19,12 +19,12 @@ use Rattle.stl_ast.specs.declared.statements.Statement.{Statement}
 use Rattle.stl_types.specs.Context.{Context}
 use Rattle.stl_types.specs.Lists.{has_label}
 use Rattle.stl_types.specs.ResolvedStatement.{resolved_operand}
-use Rattle.stl_types.specs.declared.views.Register.{Register}
-use Rattle.stl_types.specs.declared.views.Register.TheVariants as register
-use Rattle.stl_types.specs.declared.views.ResolvedOperand.{ResolvedOperand}
-use Rattle.stl_types.specs.declared.views.ResolvedOperand.TheVariants as resolved
+use Rattle.stl_types.specs.declared.resolved_operands.Register.{Register}
+use Rattle.stl_types.specs.declared.resolved_operands.Register.TheVariants as register
+use Rattle.stl_types.specs.declared.resolved_operands.ResolvedOperand.{ResolvedOperand}
+use Rattle.stl_types.specs.declared.resolved_operands.ResolvedOperand.TheVariants as resolved
 use Rattle.stl_codegen.specs.Bodies.{count_of_statements}
-use Rattle.stl_codegen.specs.GeneratedProgram.{return_statement, stated_from, statements_of}
+use Rattle.stl_codegen.specs.GeneratedProgram.{return_statement, instructions_from, statements_of}
 use Rattle.stl_codegen.specs.Instruction.{call_instr, count_of_statement, end_instr, instr_by, instruction, jump_instr, resolved_instr, target_in, target_of, operand_instr}
 use Rattle.stl_codegen.specs.Operands.{numbered_operand, flat_operand_of, register_operand}
 use Rattle.stl_codegen.specs.Operations.{call_operation_of, end_operation_of, jump_operation_of}
@@ -47,15 +47,15 @@ aim_low body (operand.Label name) = target_low name body
 aim_low body operand.Nothing = omega arith
 aim_low body _ = omega arith
 
-pub stated_count : (c : Context) (body : List Statement) (n : ℕ) (ss : List Statement) → length (stated_from c body n ss) ≡ count_of_statements ss
+pub stated_count : (c : Context) (body : List Statement) (n : ℕ) (ss : List Statement) → length (instructions_from c body n ss) ≡ count_of_statements ss
 stated_count c body n [] = refl
 stated_count c body n (s ∷ ss) = by (is_empty_statement s.code) (stated_count c body n ss) (stated_count c body (suc n) ss)
   where
     next : (m : ℕ) → m + 1 ≡ 1 + m
     next m = omega arith
 
-    by : (b : Bool) → length (stated_from c body n ss) ≡ count_of_statements ss → length (stated_from c body (suc n) ss) ≡ count_of_statements ss
-        → length (if b then stated_from c body n ss else record { instr = instruction c body n s; line = s.line } ∷ stated_from c body (suc n) ss) ≡ (if b then 0 else 1) + count_of_statements ss
+    by : (b : Bool) → length (instructions_from c body n ss) ≡ count_of_statements ss → length (instructions_from c body (suc n) ss) ≡ count_of_statements ss
+        → length (if b then instructions_from c body n ss else record { instr = instruction c body n s; line = s.line } ∷ instructions_from c body (suc n) ss) ≡ (if b then 0 else 1) + count_of_statements ss
     by true here more = omega (arith, here)
     by false here more = omega (arith, more)
 
@@ -118,12 +118,12 @@ instruction_within : (c : Context) (body : List Statement) (count n : ℕ) (s : 
 unfolding instruction
 instruction_within c body count n s h = instr_within c body count n s (jump_operation_of s.code) h
 
-stated_within : (c : Context) (body : List Statement) (count n : ℕ) (ss : List Statement) → count_of_statements body < count → AllByRecursion (λ s. LeadsWithin count s.instr) (stated_from c body n ss)
+stated_within : (c : Context) (body : List Statement) (count n : ℕ) (ss : List Statement) → count_of_statements body < count → AllByRecursion (λ s. LeadsWithin count s.instr) (instructions_from c body n ss)
 stated_within c body count n [] h = tt
 stated_within c body count n (s ∷ ss) h = by (is_empty_statement s.code) (stated_within c body count n ss h) (stated_within c body count (suc n) ss h)
   where
-    by : (b : Bool) → AllByRecursion (λ x. LeadsWithin count x.instr) (stated_from c body n ss) → AllByRecursion (λ x. LeadsWithin count x.instr) (stated_from c body (suc n) ss)
-        → AllByRecursion (λ x. LeadsWithin count x.instr) (if b then stated_from c body n ss else record { instr = instruction c body n s; line = s.line } ∷ stated_from c body (suc n) ss)
+    by : (b : Bool) → AllByRecursion (λ x. LeadsWithin count x.instr) (instructions_from c body n ss) → AllByRecursion (λ x. LeadsWithin count x.instr) (instructions_from c body (suc n) ss)
+        → AllByRecursion (λ x. LeadsWithin count x.instr) (if b then instructions_from c body n ss else record { instr = instruction c body n s; line = s.line } ∷ instructions_from c body (suc n) ss)
     by true here more = here
     by false here more = (instruction_within c body count n s h, more)
 
@@ -131,7 +131,7 @@ pub jumps_within : AreJumpsWithin
 unfolding statements_of
 jumps_within c b =
     let size = stated_count c b.body 0 b.body in
-    let all = length-append (stated_from c b.body 0 b.body) (return_statement b ∷ []) in
-    let count : ℕ = length (stated_from c b.body 0 b.body ++ return_statement b ∷ []) in
+    let all = length-append (instructions_from c b.body 0 b.body) (return_statement b ∷ []) in
+    let count : ℕ = length (instructions_from c b.body 0 b.body ++ return_statement b ∷ []) in
     let more : count_of_statements b.body < count = omega (arith, size, all) in
-    all_append (λ s. LeadsWithin count s.instr) (stated_from c b.body 0 b.body) (return_statement b ∷ []) (stated_within c b.body count 0 b.body more) (within count (return_statement b).instr (λ n. refl), tt)
+    all_append (λ s. LeadsWithin count s.instr) (instructions_from c b.body 0 b.body) (return_statement b ∷ []) (stated_within c b.body count 0 b.body more) (within count (return_statement b).instr (λ n. refl), tt)

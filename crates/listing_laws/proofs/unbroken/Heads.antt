@@ -10,11 +10,11 @@ use Rattle.stl_symbols.specs.Symbol.{Symbol}
 use Rattle.block_layout.specs.Around.{Outside, refusals_in_block, refusals_in_blocks}
 use Rattle.block_layout.specs.Layouts.{block_layout, layouts_from}
 use Rattle.block_layout.specs.Measures.{types_of_source}
-use Rattle.block_layout.specs.Rule21.{broken_21, rule_21}
+use Rattle.block_layout.specs.Rule21.{refusals_21, rule_21}
 use Rattle.block_layout.specs.Rule22.{is_block_twice, rule_22}
-use Rattle.block_layout.specs.Rule23.{broken_23, has_unknown_head}
-use Rattle.block_layout.specs.Rule41.{broken_41}
-use Rattle.block_layout.specs.Rule42.{broken_42}
+use Rattle.block_layout.specs.Rule23.{refusals_23, has_unknown_head}
+use Rattle.block_layout.specs.Rule41.{refusals_41}
+use Rattle.block_layout.specs.Rule42.{refusals_42}
 use Rattle.block_layout.specs.Rule43.{contains_itself, rule_43}
 use Rattle.block_layout.specs.Rule44.{has_wrong_number, rule_44}
 use Rattle.block_layout.specs.Rule50.{has_too_much_local, rule_50}
@@ -23,7 +23,7 @@ use Rattle.block_layout.specs.Rule52.{has_too_many_parameters, rule_52}
 use Rattle.block_layout.specs.Rule53.{is_one_too_many, rule_53}
 use Rattle.block_layout.specs.Rule54.{exceeds_total, rule_54}
 use Rattle.block_layout.specs.Rule55.{has_too_many_statements, rule_55}
-use Rattle.block_layout.specs.Rule56.{broken_56, rule_56}
+use Rattle.block_layout.specs.Rule56.{refusals_56, rule_56}
 use Rattle.block_layout.specs.Types.{Types}
 use Rattle.block_layout.proofs.HeadLemmas.{AllHeads}
 use Rattle.sem_kept.proofs.accepted.Accepted.{IsSoundHead, all_mapped}
@@ -80,12 +80,12 @@ pub blocks_right : (symbols : List Symbol) (blocks : List Block) → AllHeads (I
     → AreBlocksRight symbols blocks
 unfolding rule_21 rule_22 rule_43 rule_44 rule_50 rule_51 rule_52 rule_53 rule_54 rule_55 rule_56
 blocks_right symbols blocks h d = record {
-  by_21 = none_declared broken_21 blocks (all_mapped (AreDeclarationsRight y) (λ b. refusals_in_block broken_21 b ≡ []) (λ b r. r.by_21) blocks d);
+  by_21 = none_declared refusals_21 blocks (all_mapped (AreDeclarationsRight y) (λ b. refusals_in_block refusals_21 b ≡ []) (λ b r. r.by_21) blocks d);
   by_22 = by_head P (is_block_twice y) 22 blocks (λ before b s. s.by_22) h;
   heads_23 = by_head P (λ before b. has_unknown_head y b) 23 blocks (λ before b s. s.by_23) h;
-  declared_23 = none_declared (broken_23 y) blocks (all_mapped (AreDeclarationsRight y) (λ b. refusals_in_block (broken_23 y) b ≡ []) (λ b r. r.by_23) blocks d);
-  declared_41 = none_declared broken_41 blocks (all_mapped (AreDeclarationsRight y) (λ b. refusals_in_block broken_41 b ≡ []) (λ b r. r.by_41) blocks d);
-  declared_42 = none_declared broken_42 blocks (all_mapped (AreDeclarationsRight y) (λ b. refusals_in_block broken_42 b ≡ []) (λ b r. r.by_42) blocks d);
+  declared_23 = none_declared (refusals_23 y) blocks (all_mapped (AreDeclarationsRight y) (λ b. refusals_in_block (refusals_23 y) b ≡ []) (λ b r. r.by_23) blocks d);
+  declared_41 = none_declared refusals_41 blocks (all_mapped (AreDeclarationsRight y) (λ b. refusals_in_block refusals_41 b ≡ []) (λ b r. r.by_41) blocks d);
+  declared_42 = none_declared refusals_42 blocks (all_mapped (AreDeclarationsRight y) (λ b. refusals_in_block refusals_42 b ≡ []) (λ b r. r.by_42) blocks d);
   by_43 = by_head P (contains_itself y blocks) 43 blocks (λ before b s. s.by_43) h;
   by_44 = by_head P (λ before b. has_wrong_number symbols b) 44 blocks (λ before b s. ap (λ (z : List Symbol). has_wrong_number z b) (sym (source_symbols symbols blocks)) ∙ s.by_44) h;
   by_50 = by_head P (λ before b. has_too_much_local y b) 50 blocks (λ before b s. s.by_50) h;
@@ -94,7 +94,7 @@ blocks_right symbols blocks h d = record {
   by_53 = by_head P is_one_too_many 53 blocks (λ before b s. s.by_53) h;
   by_54 = by_head P (exceeds_total y blocks) 54 blocks (λ before b s. s.by_54) h;
   by_55 = by_head P (λ before b. has_too_many_statements b) 55 blocks (λ before b s. s.by_55) h;
-  by_56 = none_declared (broken_56 y) blocks (all_mapped (AreDeclarationsRight y) (λ b. refusals_in_block (broken_56 y) b ≡ []) (λ b r. r.by_56) blocks d);
+  by_56 = none_declared (refusals_56 y) blocks (all_mapped (AreDeclarationsRight y) (λ b. refusals_in_block (refusals_56 y) b ≡ []) (λ b r. r.by_56) blocks d);
 }
   where
     y : Types

@@ -25,11 +25,11 @@ use Rattle.block_layout.specs.Heads.{on_heads}
 use Rattle.block_layout.specs.Layouts.{block_layout, layouts_from, layouts_of}
 use Rattle.block_layout.specs.Measures.{types_of_source}
 use Rattle.block_layout.specs.Operands.{OperandAtLine, in_body, operands_of}
-use Rattle.block_layout.specs.Rule21.{broken_21, rule_21}
+use Rattle.block_layout.specs.Rule21.{refusals_21, rule_21}
 use Rattle.block_layout.specs.Rule22.{is_block_twice, rule_22}
-use Rattle.block_layout.specs.Rule23.{broken_23, has_unknown_head, names_unknown, operand_23, rule_23}
-use Rattle.block_layout.specs.Rule41.{broken_41, rule_41, setting_misfits}
-use Rattle.block_layout.specs.Rule42.{broken_42, operand_42, operand_is_outside, rule_42, setting_is_outside}
+use Rattle.block_layout.specs.Rule23.{refusals_23, has_unknown_head, names_unknown, operand_23, rule_23}
+use Rattle.block_layout.specs.Rule41.{refusals_41, rule_41, setting_misfits}
+use Rattle.block_layout.specs.Rule42.{refusals_42, operand_42, operand_is_outside, rule_42, setting_is_outside}
 use Rattle.block_layout.specs.Rule43.{contains_itself, rule_43}
 use Rattle.block_layout.specs.Rule44.{has_wrong_number, rule_44}
 use Rattle.block_layout.specs.Rule50.{has_too_much_local, rule_50}
@@ -38,7 +38,7 @@ use Rattle.block_layout.specs.Rule52.{has_too_many_parameters, rule_52}
 use Rattle.block_layout.specs.Rule53.{is_one_too_many, rule_53}
 use Rattle.block_layout.specs.Rule54.{exceeds_total, rule_54}
 use Rattle.block_layout.specs.Rule55.{has_too_many_statements, rule_55}
-use Rattle.block_layout.specs.Rule56.{broken_56, rule_56}
+use Rattle.block_layout.specs.Rule56.{refusals_56, rule_56}
 use Rattle.block_layout.specs.Settings.{in_settings, on_settings}
 use Rattle.block_layout.specs.Table.{layout_refusals, refusals_of_blocks as layout_refusals_by}
 use Rattle.block_layout.specs.Types.{Types}
@@ -591,11 +591,11 @@ heads_sound y blocks before (b ∷ bs) h22 h23 h43 h44 h50 h51 h52 h53 h54 h55 =
 record KeepRules (symbols : List Symbol) (t : Tree) (k : ℕ) (before bs : List Block) : Type 0 where
   well : AllByRecursion IsBlock bs
   heads : AllHeads (IsSoundHead (types_of_source symbols t.blocks) t.blocks) before bs
-  by_21 : AllByRecursion (λ b. refusals_in_block broken_21 b ≡ []) bs
-  by_23 : AllByRecursion (λ b. refusals_in_block (broken_23 (types_of_source symbols t.blocks)) b ≡ []) bs
-  by_41 : AllByRecursion (λ b. refusals_in_block broken_41 b ≡ []) bs
-  by_42 : AllByRecursion (λ b. refusals_in_block broken_42 b ≡ []) bs
-  by_56 : AllByRecursion (λ b. refusals_in_block (broken_56 (types_of_source symbols t.blocks)) b ≡ []) bs
+  by_21 : AllByRecursion (λ b. refusals_in_block refusals_21 b ≡ []) bs
+  by_23 : AllByRecursion (λ b. refusals_in_block (refusals_23 (types_of_source symbols t.blocks)) b ≡ []) bs
+  by_41 : AllByRecursion (λ b. refusals_in_block refusals_41 b ≡ []) bs
+  by_42 : AllByRecursion (λ b. refusals_in_block refusals_42 b ≡ []) bs
+  by_56 : AllByRecursion (λ b. refusals_in_block (refusals_56 (types_of_source symbols t.blocks)) b ≡ []) bs
   sets_20 : AllFrom (λ k b. in_settings (sets_unknown (layouts_of t symbols) k) 20 b.settings ≡ []) k bs
   sets_41 : AllFrom (λ k b. in_settings (setting_misfits (layouts_of t symbols) k) 41 b.settings ≡ []) k bs
   sets_42 : AllFrom (λ k b. in_settings (setting_is_outside (layouts_of t symbols) k) 42 b.settings ≡ []) k bs
@@ -775,12 +775,12 @@ blocks_sound symbols t k before front (b ∷ bs) laid h n e m f o = (
 
 -- the rules of declarations, settings and bodies, taken apart
 record AreParts (symbols : List Symbol) (t : Tree) : Type 0 where
-  declared_23 : flat_map (refusals_in_block (broken_23 (types_of_source symbols t.blocks))) t.blocks ≡ []
+  declared_23 : flat_map (refusals_in_block (refusals_23 (types_of_source symbols t.blocks))) t.blocks ≡ []
   heads_23 : on_heads (λ before b. has_unknown_head (types_of_source symbols t.blocks) b) 23 t.blocks ≡ []
   bodies_23 : flat_map (λ b. in_body (operand_23 (types_of_source symbols t.blocks)) b.body) t.blocks ≡ []
-  declared_41 : flat_map (refusals_in_block broken_41) t.blocks ≡ []
+  declared_41 : flat_map (refusals_in_block refusals_41) t.blocks ≡ []
   set_41 : on_settings (setting_misfits (layouts_of t symbols)) 41 0 t.blocks ≡ []
-  declared_42 : flat_map (refusals_in_block broken_42) t.blocks ≡ []
+  declared_42 : flat_map (refusals_in_block refusals_42) t.blocks ≡ []
   set_42 : on_settings (setting_is_outside (layouts_of t symbols)) 42 0 t.blocks ≡ []
   bodies_42 : by_place (λ k b. in_body (operand_42 (types_of_source symbols t.blocks) (layouts_of t symbols) k) b.body) 0 t.blocks ≡ []
   set_20 : on_settings (sets_unknown (layouts_of t symbols)) 20 0 t.blocks ≡ []
@@ -791,9 +791,9 @@ parts_clean : (symbols : List Symbol) (t : Tree)
     → StatesRight (context_at symbols t 0) t.blocks → AreParts symbols t
 unfolding rule_23 rule_41 rule_42 rule_20
 parts_clean symbols t l s = record {
-  declared_23 = none_right _ (flat_map (refusals_in_block (broken_23 (types_of_source symbols t.blocks))) t.blocks)
+  declared_23 = none_right _ (flat_map (refusals_in_block (refusals_23 (types_of_source symbols t.blocks))) t.blocks)
       (none_left _ (flat_map (λ b. in_body (operand_23 (types_of_source symbols t.blocks)) b.body) t.blocks) l.by_23);
-  heads_23 = none_left _ (flat_map (refusals_in_block (broken_23 (types_of_source symbols t.blocks))) t.blocks)
+  heads_23 = none_left _ (flat_map (refusals_in_block (refusals_23 (types_of_source symbols t.blocks))) t.blocks)
       (none_left _ (flat_map (λ b. in_body (operand_23 (types_of_source symbols t.blocks)) b.body) t.blocks) l.by_23);
   bodies_23 = none_right _ (flat_map (λ b. in_body (operand_23 (types_of_source symbols t.blocks)) b.body) t.blocks) l.by_23;
   declared_41 = none_left _ (on_settings (setting_misfits (layouts_of t symbols)) 41 0 t.blocks) l.by_41;
@@ -840,11 +840,11 @@ unfolding rule_21 rule_56 rules_24_25_39 rule_24_of_actuals rule_26 rule_27 rule
 blocks_clean symbols t well l s = record {
   well = well;
   heads = heads_clean symbols t l p;
-  by_21 = each_none (refusals_in_block broken_21) t.blocks l.by_21;
-  by_23 = each_none (refusals_in_block (broken_23 y)) t.blocks p.declared_23;
-  by_41 = each_none (refusals_in_block broken_41) t.blocks p.declared_41;
-  by_42 = each_none (refusals_in_block broken_42) t.blocks p.declared_42;
-  by_56 = each_none (refusals_in_block (broken_56 y)) t.blocks l.by_56;
+  by_21 = each_none (refusals_in_block refusals_21) t.blocks l.by_21;
+  by_23 = each_none (refusals_in_block (refusals_23 y)) t.blocks p.declared_23;
+  by_41 = each_none (refusals_in_block refusals_41) t.blocks p.declared_41;
+  by_42 = each_none (refusals_in_block refusals_42) t.blocks p.declared_42;
+  by_56 = each_none (refusals_in_block (refusals_56 y)) t.blocks l.by_56;
   sets_20 = places_none (λ k b. in_settings (sets_unknown (layouts_of t symbols) k) 20 b.settings) 0 t.blocks p.set_20;
   sets_41 = places_none (λ k b. in_settings (setting_misfits (layouts_of t symbols) k) 41 b.settings) 0 t.blocks p.set_41;
   sets_42 = places_none (λ k b. in_settings (setting_is_outside (layouts_of t symbols) k) 42 b.settings) 0 t.blocks p.set_42;

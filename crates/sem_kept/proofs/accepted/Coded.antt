@@ -20,7 +20,7 @@ use Rattle.block_layout.specs.declared.blocks.BlockLayout.{BlockLayout}
 use Rattle.stl_types.specs.Context.{Context}
 use Rattle.stl_codegen.specs.CompiledBlock.{StatedBlock, compiled_block}
 use Rattle.stl_codegen.specs.EmittedOps.{ops_of}
-use Rattle.stl_codegen.specs.GeneratedProgram.{code_block, code_blocks_of, return_statement, stated_from, statements_of}
+use Rattle.stl_codegen.specs.GeneratedProgram.{code_block, code_blocks_of, return_statement, instructions_from, statements_of}
 use Rattle.stl_codegen.specs.Instruction.{instruction}
 use Rattle.sem_kept.specs.SettledStatements.{context_at}
 use Rattle.sem_kept.proofs.accepted.Accepted.{IsSoundBlock, IsSoundStatement, IsSoundTree, right_tree, sound_code_blocks}
@@ -36,17 +36,17 @@ use Rattle.sem_kept.specs.CodedBlocks.{AreCoded, CodedIsGood, IsBlockCoded, Stat
 -- ---- the statements of a body
 
 stated_good : (c : Context) (body : List Statement) (n : ℕ) (ss : List Statement) → ContextFits c
-    → AllByRecursion (IsGoodSource c) ss → AreGood (stated_from c body n ss)
+    → AllByRecursion (IsGoodSource c) ss → AreGood (instructions_from c body n ss)
 stated_good c body n [] fit h = tt
 stated_good c body n (s ∷ ss) fit h =
     by (is_empty_statement s.code) refl (stated_good c body n ss fit h.1)
     (stated_good c body (suc n) ss fit h.1)
   where
-    by : (b : Bool) → is_empty_statement s.code ≡ b → AreGood (stated_from c body n ss)
-        → AreGood (stated_from c body (suc n) ss)
-        → AreGood (if b then stated_from c body n ss
+    by : (b : Bool) → is_empty_statement s.code ≡ b → AreGood (instructions_from c body n ss)
+        → AreGood (instructions_from c body (suc n) ss)
+        → AreGood (if b then instructions_from c body n ss
         else record { instr = instruction c body n s; line = s.line }
-        ∷ stated_from c body (suc n) ss)
+        ∷ instructions_from c body (suc n) ss)
     by true e same next = same
     by false e same next = (statement_good c body n s fit h.0 e, next)
 
@@ -79,7 +79,7 @@ source_coded : (symbols : List Symbol) (t : Tree) (k : ℕ) (b : Block) (l : Blo
 unfolding statements_of
 source_coded symbols t k b l id fit tree sound has =
     let c = context_at symbols t k in
-    let inner = stated_from c b.body 0 b.body in
+    let inner = instructions_from c b.body 0 b.body in
     let good = stated_good c b.body 0 b.body (context_fit symbols t k b l fit tree sound)
     (sources_good symbols t k b.body fit tree sound.statements has) in
     let count = stated_count c b.body 0 b.body in

@@ -13,11 +13,11 @@ use Rattle.stl_ast.specs.declared.literals.Literal.{Literal}
 use Rattle.stl_ast.specs.declared.mnemonics.Mnemonic.{Mnemonic}
 use Rattle.stl_ast.specs.declared.mnemonics.Mnemonic.TheVariants as code
 use Rattle.stl_ast.specs.declared.operands.Operand.TheVariants as operand
-use Rattle.block_layout.specs.Fits.{bits_of, fits_elementary_type, number_from, or_0, twos_complement_bits}
+use Rattle.block_layout.specs.Fits.{bits_of, fits_elementary_type, number_from, number_or_zero, twos_complement_bits}
 use Rattle.block_layout.specs.Sizes.{plain_bits}
 use Rattle.stl_types.specs.Constants.{takes_constant}
-use Rattle.stl_types.specs.Forms.{form_of}
-use Rattle.stl_types.specs.declared.views.ResolvedOperand.TheVariants as resolved
+use Rattle.stl_types.specs.OperandRules.{operand_rule_of}
+use Rattle.stl_types.specs.declared.resolved_operands.ResolvedOperand.TheVariants as resolved
 use Rattle.stl_codegen.specs.Operations.{operation_for}
 use Rattle.sem_kept.specs.CodedBlocks.{HasBytes}
 
@@ -32,7 +32,7 @@ digits_small n =
 based_small : (b : TimeBase) (n : ℕ) → s5time_of_units b n ≤ 65535
 based_small b n = grind (arith, digits_small)
 
-time_small : (ms : ℕ) → or_0 (s5time_of_ms ms) ≤ 65535
+time_small : (ms : ℕ) → number_or_zero (s5time_of_ms ms) ≤ 65535
 unfolding s5time_of_ms
 time_small ms = grind (arith, based_small)
 
@@ -68,10 +68,10 @@ value_fits value kind is has e =
 
 -- an instruction takes the constants that its form does
 pub constant_taken : (m : Mnemonic) (value : Literal) → IsLiteral value → HasBytes value
-    → takes_constant (form_of m) value ≡ true
+    → takes_constant (operand_rule_of m) value ≡ true
     → admits (takes_of_operation (operation_for m (operand.Constant value) resolved.Constant))
     (flat.Literal (bits_of value)) ≡ true
-unfolding form_of takes_constant operation_for admits bits_of
+unfolding operand_rule_of takes_constant operation_for admits bits_of
 constant_taken code.L value is has h = refl
 constant_taken code.Aw value is has h = grind (arith, nat_tests, value_fits value simple.Word is has)
 constant_taken code.Ow value is has h = grind (arith, nat_tests, value_fits value simple.Word is has)

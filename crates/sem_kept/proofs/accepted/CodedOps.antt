@@ -34,21 +34,22 @@ use Rattle.plc_base.specs.Folding.{upper_case_name}
 use Rattle.plc_base.specs.Kinds.{is_callable as is_callable_kind, kind_number}
 use Rattle.stl_types.specs.Constants.{takes_constant}
 use Rattle.stl_types.specs.Context.{Context}
-use Rattle.stl_types.specs.Forms.{form_of}
-use Rattle.stl_types.specs.Operands.{operand_rule, rule_of_resolved_operand, rule_of_resolution, statement_rule}
+use Rattle.stl_types.specs.OperandRules.{operand_rule_of}
+use Rattle.stl_types.specs.Operands.{rule_of_operand, rule_of_resolved_operand, rule_of_resolution, statement_rule}
 use Rattle.stl_types.specs.Parameters.{Callee, callee_of}
 use Rattle.stl_types.specs.ResolvedStatement.{resolved_operand}
 use Rattle.stl_types.specs.Resolution.{resolution_of}
-use Rattle.stl_types.specs.declared.forms.OperandRule.{OperandRule}
-use Rattle.stl_types.specs.declared.forms.OperandRule.TheVariants as operand_rules
+use Rattle.stl_types.specs.declared.operand_rules.OperandRule.{OperandRule}
+use Rattle.stl_types.specs.declared.operand_rules.OperandRule.TheVariants as operand_rules
 use Rattle.stl_types.specs.declared.parameters.Formal.{Formal}
-use Rattle.stl_types.specs.declared.views.Resolution.{Resolution}
-use Rattle.stl_types.specs.declared.views.Resolution.TheVariants.{Resolved}
-use Rattle.stl_types.specs.declared.views.ResolvedOperand.{ResolvedOperand}
-use Rattle.stl_types.specs.declared.views.ResolvedOperand.TheVariants as resolved
+use Rattle.stl_types.specs.declared.resolved_operands.Resolution.{Resolution}
+use Rattle.stl_types.specs.declared.resolved_operands.Resolution.TheVariants.{Resolved}
+use Rattle.stl_types.specs.declared.resolved_operands.ResolvedOperand.{ResolvedOperand}
+use Rattle.stl_types.specs.declared.resolved_operands.ResolvedOperand.TheVariants as resolved
 use Rattle.stl_codegen.proofs.OpLemmas.{jumps, jump_ops}
 use Rattle.stl_codegen.specs.CompiledBlock.{operand_with_target}
-use Rattle.stl_codegen.specs.EmittedOps.{call_op, end_op, op_with_end_mark, instance_number_or_zero, jump_op, use_db_ops, ops_of, pass_ops, preparing_op}
+use Rattle.block_layout.specs.Fits.{number_or_zero}
+use Rattle.stl_codegen.specs.EmittedOps.{call_op, end_op, op_with_end_mark, jump_op, use_db_ops, ops_of, pass_ops, preparing_op}
 use Rattle.stl_codegen.specs.Instruction.{source_block_at, call_instr, end_instr, filler_instruction, in_parameter_order, instr_by, instruction, jump_instr, passings_to, resolved_instr, target_of, operand_instr}
 use Rattle.stl_codegen.specs.Operands.{block_opened_by_operand, flat_operand_of}
 use Rattle.stl_codegen.specs.PassedParameters.{passed_actual, passed_resolution, passed_by_operand, passings_from, actual_of_formal, with_index}
@@ -110,18 +111,18 @@ unfolding flat_operand_of
 still_view o v f = grind arith
 
 by_rule : (m : Mnemonic) (o : Operand) (v : ResolvedOperand) → jump_operation_of m ≡ None → call_operation_of m ≡ None
-    → end_operation_of m ≡ None → is_empty_statement m ≡ false → NumbersFit o v → rule_of_resolved_operand (form_of m) v ≡ None
+    → end_operation_of m ≡ None → is_empty_statement m ≡ false → NumbersFit o v → rule_of_resolved_operand (operand_rule_of m) v ≡ None
     → is_instruction (operation_for m o v) (flat_operand_of o v) ≡ true
 unfolding is_instruction
 by_rule m o v j c e n fits rule =
-    let all = taken_by_rule (form_of m) v rule in
+    let all = taken_by_rule (operand_rule_of m) v rule in
     and_from (admits (takes_of_operation (operation_for m o v)) (flat_operand_of o v))
     (payload_fits (flat_operand_of o v))
     (operation_is_taken m o v j c e n (pointer_fits o v fits) all.taken)
-    (payload_right (form_of m) o v all.side fits)
+    (payload_right (operand_rule_of m) o v all.side fits)
 
 by_constant : (m : Mnemonic) (value : Literal) → IsLiteral value → HasBytes value
-    → takes_constant (form_of m) value ≡ true
+    → takes_constant (operand_rule_of m) value ≡ true
     → is_instruction (operation_for m (operand.Constant value) resolved.Constant)
     (flat_operand_of (operand.Constant value) resolved.Constant) ≡ true
 unfolding is_instruction flat_operand_of
@@ -129,7 +130,7 @@ by_constant m value is has h = grind (arith, nat_tests, constant_taken m value i
 
 is_taken : (m : Mnemonic) (o : Operand) (v : ResolvedOperand) → jump_operation_of m ≡ None → call_operation_of m ≡ None
     → end_operation_of m ≡ None → is_empty_statement m ≡ false → IsOperand o → OperandHasBytes o → NumbersFit o v
-    → RuleAllows (form_of m) o v → is_instruction (operation_for m o v) (flat_operand_of o v) ≡ true
+    → RuleAllows (operand_rule_of m) o v → is_instruction (operation_for m o v) (flat_operand_of o v) ≡ true
 is_taken m (operand.Constant value) v j c e n is has fits taken_by_rule =
     subst
     (λ (x : ResolvedOperand).
@@ -138,7 +139,7 @@ is_taken m (operand.Constant value) v j c e n is has fits taken_by_rule =
     (sym taken_by_rule.1) (by_constant m value is has taken_by_rule.0)
 is_taken m o v j c e n is has fits taken_by_rule = by_rule m o v j c e n fits taken_by_rule
 
-allowed_by : (c : Context) (f : OperandRule) (o : Operand) (v : ResolvedOperand) → operand_rule c f o ≡ None
+allowed_by : (c : Context) (f : OperandRule) (o : Operand) (v : ResolvedOperand) → rule_of_operand c f o ≡ None
     → resolution_of c o ≡ Resolved v → RuleAllows f o v
 unfolding resolution_of
 allowed_by c f (operand.Constant value) v h e = grind arith
@@ -174,7 +175,7 @@ opened_good (Some n) w o h good = record {
 
 call_takes : (how : CallOperation) (id : BlockId) (instance : Option ℕ) → is_callable_kind id.kind ≡ true
     → IsWord id.number → IfSome instance IsWord
-    → is_instruction (operation.Call how) (flat.Called (kind_number id.kind) id.number (instance_number_or_zero instance)) ≡ true
+    → is_instruction (operation.Call how) (flat.Called (kind_number id.kind) id.number (number_or_zero instance)) ≡ true
 unfolding is_instruction admits
 call_takes how id instance c h k = grind (arith, nat_tests)
 
@@ -300,7 +301,7 @@ call_view_good c s how (resolved.Called id instance) fit good fits rule =
       parts = passed.parts;
       few = omega (arith, passed.few);
       good = still_good (operation.Call how) true
-          (flat.Called (kind_number id.kind) id.number (instance_number_or_zero instance)) (λ f. refl)
+          (flat.Called (kind_number id.kind) id.number (number_or_zero instance)) (λ f. refl)
           (call_takes how id instance (rule_callable id instance rule) fits.0 fits.1);
       last = refl;
     }
@@ -324,14 +325,14 @@ view_good c s v fit good some no_jump rule e = by (call_operation_of s.code) ref
         (still_good (operation_for s.code s.operand v) true (flat_operand_of s.operand v)
         (still_view s.operand v)
         (is_taken s.code s.operand v no_jump no_call is some good.formed.value good.has.operand fits
-        (allowed_by c (form_of s.code) s.operand v rule e)))
+        (allowed_by c (operand_rule_of s.code) s.operand v rule e)))
 
     by : (how : Option CallOperation) → call_operation_of s.code ≡ how
         → IsGoodStatement (ops_of (operand_instr c s v how))
     by (Some how) is =
         call_view_good c s how v fit good fits
         (rule_there c operand_rules.Calls s.operand v no_call_constant
-        (ap (λ (f : OperandRule). operand_rule c f s.operand) (sym (call_form s.code how is)) ∙ rule) e)
+        (ap (λ (f : OperandRule). rule_of_operand c f s.operand) (sym (call_form s.code how is)) ∙ rule) e)
     by None is = ended (end_operation_of s.code) is refl
 
 record IsResolved (c : Context) (s : Statement) (v : ResolvedOperand) : Type 0 where

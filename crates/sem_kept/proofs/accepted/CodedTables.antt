@@ -13,10 +13,10 @@ use Rattle.stl_ast.specs.Statements.{is_empty_statement}
 use Rattle.stl_ast.specs.declared.mnemonics.Mnemonic.{Mnemonic}
 use Rattle.stl_ast.specs.declared.mnemonics.Mnemonic.TheVariants as code
 use Rattle.stl_ast.specs.declared.operands.Operand.{Operand}
-use Rattle.stl_types.specs.Forms.{form_of}
+use Rattle.stl_types.specs.OperandRules.{operand_rule_of}
 use Rattle.stl_types.specs.Operands.{takes_operand as form_takes}
-use Rattle.stl_types.specs.declared.views.ResolvedOperand.{ResolvedOperand}
-use Rattle.stl_types.specs.declared.views.ResolvedOperand.TheVariants as resolved
+use Rattle.stl_types.specs.declared.resolved_operands.ResolvedOperand.{ResolvedOperand}
+use Rattle.stl_types.specs.declared.resolved_operands.ResolvedOperand.TheVariants as resolved
 use Rattle.stl_codegen.specs.Operands.{flat_operand_of, pointer_bits}
 use Rattle.stl_codegen.specs.Operations.{jump_operation_of, call_operation_of, end_operation_of, operation_for}
 
@@ -41,8 +41,8 @@ PointerFits _ = Unit {0}
 
 -- an instruction that goes on takes what its form does
 pub operation_is_taken : (m : Mnemonic) (o : Operand) (v : ResolvedOperand) → jump_operation_of m ≡ None → call_operation_of m ≡ None
-    → end_operation_of m ≡ None → is_empty_statement m ≡ false → PointerFits v → form_takes (form_of m) v ≡ true
+    → end_operation_of m ≡ None → is_empty_statement m ≡ false → PointerFits v → form_takes (operand_rule_of m) v ≡ true
     → admits (takes_of_operation (operation_for m o v)) (flat_operand_of o v) ≡ true
-unfolding form_of operation_for form_takes admits flat_operand_of
+unfolding operand_rule_of operation_for form_takes admits flat_operand_of
 operation_is_taken code.Empty o v j c e n f h = absurd cc
 operation_is_taken _ o v j c e n f h = grind (arith, pointer_near, nat_tests)

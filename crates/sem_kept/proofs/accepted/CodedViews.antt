@@ -30,17 +30,17 @@ use Rattle.block_layout.specs.Offsets.{elementary_place}
 use Rattle.block_layout.specs.Paths.{cells_at, folded_path, path_end_of_local, whole_at}
 use Rattle.block_layout.specs.declared.blocks.BlockLayout.{BlockLayout}
 use Rattle.block_layout.specs.declared.cells.Cell.{Cell}
-use Rattle.block_layout.specs.declared.walks.ComponentAt.{ComponentAt}
-use Rattle.block_layout.specs.declared.walks.PathEnd.{PathEnd}
+use Rattle.block_layout.specs.declared.path_ends.ComponentAt.{ComponentAt}
+use Rattle.block_layout.specs.declared.path_ends.PathEnd.{PathEnd}
 use Rattle.stl_types.specs.Context.{Context, data_number, in_function}
 use Rattle.stl_types.specs.Operands.{is_on_wrong_side}
 use Rattle.stl_types.specs.Resolution.{resolution_of_address, resolution_of_path, resolution_of, whole_called_block}
 use Rattle.stl_types.specs.Variables.{composite_operand, data_variable, data_at_path_end, variable_in_area, is_temporary_variable, own_elementary, own_at_path_end, parameter_at}
-use Rattle.stl_types.specs.declared.forms.OperandRule.{OperandRule}
-use Rattle.stl_types.specs.declared.views.Resolution.{Resolution}
-use Rattle.stl_types.specs.declared.views.Resolution.TheVariants.{Resolved}
-use Rattle.stl_types.specs.declared.views.ResolvedOperand.{ResolvedOperand}
-use Rattle.stl_types.specs.declared.views.ResolvedOperand.TheVariants as resolved
+use Rattle.stl_types.specs.declared.operand_rules.OperandRule.{OperandRule}
+use Rattle.stl_types.specs.declared.resolved_operands.Resolution.{Resolution}
+use Rattle.stl_types.specs.declared.resolved_operands.Resolution.TheVariants.{Resolved}
+use Rattle.stl_types.specs.declared.resolved_operands.ResolvedOperand.{ResolvedOperand}
+use Rattle.stl_types.specs.declared.resolved_operands.ResolvedOperand.TheVariants as resolved
 use Rattle.stl_codegen.specs.Operands.{constant_bits, flat_operand_of}
 use Rattle.stl_parser.proofs.OptionLemmas.{both}
 use Rattle.sem_kept.specs.CodedBlocks.{OperandHasBytes}

@@ -49,9 +49,9 @@ use Rattle.block_layout.specs.declared.cells.Cell.{Cell}
 use Rattle.block_layout.specs.declared.cells.Element.{Element}
 use Rattle.block_layout.specs.declared.cells.Element.TheVariants.{Plain, Structure, DateAndTime, Udt, Unknown}
 use Rattle.block_layout.specs.declared.cells.Preset.{Preset}
-use Rattle.block_layout.specs.declared.walks.ComponentAt.{ComponentAt}
-use Rattle.block_layout.specs.declared.walks.PathEnd.{PathEnd}
-use Rattle.block_layout.specs.declared.walks.PathEnd.TheVariants as path_end
+use Rattle.block_layout.specs.declared.path_ends.ComponentAt.{ComponentAt}
+use Rattle.block_layout.specs.declared.path_ends.PathEnd.{PathEnd}
+use Rattle.block_layout.specs.declared.path_ends.PathEnd.TheVariants as path_end
 use Rattle.stl_types.specs.Unknown.{leads_nowhere, sets_unknown}
 use Rattle.sem_kept.specs.AcceptedSource.{IsAccepted}
 use Rattle.sem_kept.specs.CodedBlocks.{BlockHasBytes, DeclarationHasBytes, HasBytes, InitHasBytes, PartHasBytes, SettingHasBytes}

@@ -31,13 +31,13 @@ use Rattle.stl_types.specs.Brackets.{brackets_behind, brackets_behind_all, is_cl
 use Rattle.stl_types.specs.Context.{Context}
 use Rattle.stl_types.specs.Labels.{is_unknown_label, labels_of, unknown_labels}
 use Rattle.stl_types.specs.Landings.{crossing_jumps, landings_at_labels, empty_nesting}
-use Rattle.stl_types.specs.Lists.{list_goes_on, has_label, is_list_jump, is_list_to, is_unconditional_jump, left_behind, lists_from}
+use Rattle.stl_types.specs.Lists.{list_goes_on, has_label, is_list_jump, is_list_to, is_unconditional_jump, jumps_left, lists_from}
 use Rattle.stl_types.specs.Zones.{ends_zone, opens_zone, zones_behind, zones_behind_all, zones_left_open}
 use Rattle.stl_types.specs.declared.brackets.SourceBracket.{SourceBracket}
 use Rattle.stl_codegen.specs.Bodies.{count_of_statements}
 use Rattle.stl_codegen.specs.CompiledBlock.{SourceInstruction, operand_with_target, op_with_target, code_in}
 use Rattle.stl_codegen.specs.EmittedOps.{jump_op}
-use Rattle.stl_codegen.specs.GeneratedProgram.{stated_from, statements_of}
+use Rattle.stl_codegen.specs.GeneratedProgram.{instructions_from, statements_of}
 use Rattle.stl_codegen.specs.Instruction.{count_of_statement, instr_by, instruction, target_in, target_of}
 use Rattle.stl_codegen.specs.Operations.{jump_operation_of}
 use Rattle.sem_kept.specs.Back.{is_target}
@@ -160,47 +160,47 @@ count_one (x ∷ xs) s = let more = count_one xs s in omega (arith, more)
 -- its code, with the statement that returns
 abbrev code_from : Context → (body : List Statement) → (ret : SourceInstruction) → (f : ℕ → ℕ) → (n : ℕ)
     → List Statement → List OpData
-code_from c body ret f n ss = the_code f (stated_from c body n ss ++ ret ∷ [])
+code_from c body ret f n ss = the_code f (instructions_from c body n ss ++ ret ∷ [])
 
 -- what a statement comes to that has this number among the statements of its block
 abbrev pub statement_of_number : Context → List Statement → (n : ℕ) → Statement → SourceInstruction
 statement_of_number c body n s = record { instr = instruction c body n s; line = s.line }
 
 stated_append : (c : Context) (body : List Statement) (n : ℕ) (xs ys : List Statement)
-    → stated_from c body n (xs ++ ys) ≡ stated_from c body n xs ++ stated_from c body (n + count_of_statements xs) ys
-stated_append c body n [] ys = ap (λ (k : ℕ). stated_from c body k ys) (omega arith)
+    → instructions_from c body n (xs ++ ys) ≡ instructions_from c body n xs ++ instructions_from c body (n + count_of_statements xs) ys
+stated_append c body n [] ys = ap (λ (k : ℕ). instructions_from c body k ys) (omega arith)
 stated_append c body n (x ∷ xs) ys =
     by (is_empty_statement x.code) (stated_append c body n xs ys) (stated_append c body (suc n) xs ys)
   where
     by : (e : Bool)
-        → stated_from c body n (xs ++ ys) ≡ stated_from c body n xs ++ stated_from c body (n + count_of_statements xs) ys
-        → stated_from c body (suc n) (xs ++ ys)
-        ≡ stated_from c body (suc n) xs ++ stated_from c body (suc n + count_of_statements xs) ys
-        → (if e then stated_from c body n (xs ++ ys) else statement_of_number c body n x ∷ stated_from c body (suc n) (xs ++ ys))
-        ≡ (if e then stated_from c body n xs else statement_of_number c body n x ∷ stated_from c body (suc n) xs)
-        ++ stated_from c body (n + ((if e then 0 else 1) + count_of_statements xs)) ys
+        → instructions_from c body n (xs ++ ys) ≡ instructions_from c body n xs ++ instructions_from c body (n + count_of_statements xs) ys
+        → instructions_from c body (suc n) (xs ++ ys)
+        ≡ instructions_from c body (suc n) xs ++ instructions_from c body (suc n + count_of_statements xs) ys
+        → (if e then instructions_from c body n (xs ++ ys) else statement_of_number c body n x ∷ instructions_from c body (suc n) (xs ++ ys))
+        ≡ (if e then instructions_from c body n xs else statement_of_number c body n x ∷ instructions_from c body (suc n) xs)
+        ++ instructions_from c body (n + ((if e then 0 else 1) + count_of_statements xs)) ys
     by true same next =
-        same ∙ ap (λ (k : ℕ). stated_from c body n xs ++ stated_from c body k ys) (omega arith)
+        same ∙ ap (λ (k : ℕ). instructions_from c body n xs ++ instructions_from c body k ys) (omega arith)
     by false same next =
         ap (λ (z : List SourceInstruction). statement_of_number c body n x ∷ z)
-        (next ∙ ap (λ (k : ℕ). stated_from c body (suc n) xs ++ stated_from c body k ys) (omega arith))
+        (next ∙ ap (λ (k : ℕ). instructions_from c body (suc n) xs ++ instructions_from c body k ys) (omega arith))
 
 stated_count : (c : Context) (body : List Statement) (n : ℕ) (xs : List Statement)
-    → length (stated_from c body n xs) ≡ count_of_statements xs
+    → length (instructions_from c body n xs) ≡ count_of_statements xs
 stated_count c body n [] = refl
 stated_count c body n (x ∷ xs) =
     by (is_empty_statement x.code) (stated_count c body n xs) (stated_count c body (suc n) xs)
   where
-    by : (e : Bool) → length (stated_from c body n xs) ≡ count_of_statements xs
-        → length (stated_from c body (suc n) xs) ≡ count_of_statements xs
-        → length (if e then stated_from c body n xs else statement_of_number c body n x ∷ stated_from c body (suc n) xs)
+    by : (e : Bool) → length (instructions_from c body n xs) ≡ count_of_statements xs
+        → length (instructions_from c body (suc n) xs) ≡ count_of_statements xs
+        → length (if e then instructions_from c body n xs else statement_of_number c body n x ∷ instructions_from c body (suc n) xs)
         ≡ (if e then 0 else 1) + count_of_statements xs
     by true same next = omega (arith, same)
     by false same next = omega (arith, next)
 
 -- where the statements before end
 abbrev ends_of : Context → (body : List Statement) → (pre : List Statement) → ℕ
-ends_of c body pre = ends_at (stated_from c body 0 pre)
+ends_of c body pre = ends_at (instructions_from c body 0 pre)
 
 -- a statement more
 abbrev bytes_by : Context → (body : List Statement) → (n : ℕ) → Statement → (empty : Bool) → ℕ
@@ -210,8 +210,8 @@ ends_one : (c : Context) (body pre : List Statement) (n : ℕ) (s : Statement) �
     → ends_of c body (pre ++ s ∷ []) ≡ ends_of c body pre + bytes_by c body n s (is_empty_statement s.code)
 ends_one c body pre n s e =
     ap ends_at (stated_append c body 0 pre (s ∷ []))
-    ∙ ends_append (stated_from c body 0 pre) (stated_from c body (0 + count_of_statements pre) (s ∷ []))
-    ∙ ap (λ (k : ℕ). ends_of c body pre + ends_at (stated_from c body k (s ∷ []))) (omega (arith, e))
+    ∙ ends_append (instructions_from c body 0 pre) (instructions_from c body (0 + count_of_statements pre) (s ∷ []))
+    ∙ ap (λ (k : ℕ). ends_of c body pre + ends_at (instructions_from c body k (s ∷ []))) (omega (arith, e))
     ∙ ap (λ (k : ℕ). ends_of c body pre + k) (by (is_empty_statement s.code))
   where
     by : (empty : Bool)
@@ -245,7 +245,7 @@ count_more pre s e =
 -- the brackets behind statements
 stated_codes : (f : ℕ → ℕ) (c : Context) (body : List Statement) (n : ℕ) (bs : List SourceBracket)
     (xs : List Statement) → AllByRecursion TakesRight xs
-    → codes_after (aimed_parts f (parts (stated_from c body n xs))) (codes_of_source_brackets bs)
+    → codes_after (aimed_parts f (parts (instructions_from c body n xs))) (codes_of_source_brackets bs)
     ≡ codes_of_source_brackets (brackets_behind_all bs xs)
 stated_codes f c body n bs [] h = refl
 stated_codes f c body n bs (x ∷ xs) h =
@@ -253,24 +253,24 @@ stated_codes f c body n bs (x ∷ xs) h =
     (stated_codes f c body (suc n) (brackets_behind bs x) xs h.1)
   where
     by : (e : Bool) → is_empty_statement x.code ≡ e
-        → codes_after (aimed_parts f (parts (stated_from c body n xs))) (codes_of_source_brackets (brackets_behind bs x))
+        → codes_after (aimed_parts f (parts (instructions_from c body n xs))) (codes_of_source_brackets (brackets_behind bs x))
         ≡ codes_of_source_brackets (brackets_behind_all (brackets_behind bs x) xs)
-        → codes_after (aimed_parts f (parts (stated_from c body (suc n) xs))) (codes_of_source_brackets (brackets_behind bs x))
+        → codes_after (aimed_parts f (parts (instructions_from c body (suc n) xs))) (codes_of_source_brackets (brackets_behind bs x))
         ≡ codes_of_source_brackets (brackets_behind_all (brackets_behind bs x) xs)
         → codes_after (aimed_parts f (parts
-        (if e then stated_from c body n xs else statement_of_number c body n x ∷ stated_from c body (suc n) xs))) (codes_of_source_brackets bs)
+        (if e then instructions_from c body n xs else statement_of_number c body n x ∷ instructions_from c body (suc n) xs))) (codes_of_source_brackets bs)
         ≡ codes_of_source_brackets (brackets_behind_all (brackets_behind bs x) xs)
     by true is same next =
-        ap (λ (z : List SourceBracket). codes_after (aimed_parts f (parts (stated_from c body n xs))) (codes_of_source_brackets z))
+        ap (λ (z : List SourceBracket). codes_after (aimed_parts f (parts (instructions_from c body n xs))) (codes_of_source_brackets z))
         (sym (empty_behind bs x is)) ∙ same
     by false is same next =
-        ap (codes_after (aimed_parts f (parts (stated_from c body (suc n) xs))))
+        ap (codes_after (aimed_parts f (parts (instructions_from c body (suc n) xs))))
         (behind_codes bs body x (last_op_of_instr (instruction c body n x)) (last_of c body n x h.0)) ∙ next
 
 -- and how many zones are
 stated_zones : (f : ℕ → ℕ) (c : Context) (body : List Statement) (n : ℕ) (zones : List ℕ)
     (xs : List Statement) → AllByRecursion TakesRight xs
-    → count_after (aimed_parts f (parts (stated_from c body n xs))) (length zones)
+    → count_after (aimed_parts f (parts (instructions_from c body n xs))) (length zones)
     ≡ length (zones_behind_all zones xs)
 stated_zones f c body n zones [] h = refl
 stated_zones f c body n zones (x ∷ xs) h =
@@ -281,19 +281,19 @@ stated_zones f c body n zones (x ∷ xs) h =
     counted_after ss count = count_after (aimed_parts f (parts ss)) count
 
     by : (e : Bool) → is_empty_statement x.code ≡ e
-        → counted_after (stated_from c body n xs) (length (zones_behind zones x))
+        → counted_after (instructions_from c body n xs) (length (zones_behind zones x))
         ≡ length (zones_behind_all (zones_behind zones x) xs)
-        → counted_after (stated_from c body (suc n) xs) (length (zones_behind zones x))
+        → counted_after (instructions_from c body (suc n) xs) (length (zones_behind zones x))
         ≡ length (zones_behind_all (zones_behind zones x) xs)
         → counted_after
-        (if e then stated_from c body n xs else statement_of_number c body n x ∷ stated_from c body (suc n) xs)
+        (if e then instructions_from c body n xs else statement_of_number c body n x ∷ instructions_from c body (suc n) xs)
         (length zones)
         ≡ length (zones_behind_all (zones_behind zones x) xs)
     by true is same next =
-        ap (λ (z : List ℕ). counted_after (stated_from c body n xs) (length z))
+        ap (λ (z : List ℕ). counted_after (instructions_from c body n xs) (length z))
         (sym (empty_zones zones x is)) ∙ same
     by false is same next =
-        ap (counted_after (stated_from c body (suc n) xs))
+        ap (counted_after (instructions_from c body (suc n) xs))
         (behind_count zones body x (last_op_of_instr (instruction c body n x)) (last_of c body n x h.0))
         ∙ next
 
@@ -311,7 +311,7 @@ has_first (x ∷ xs) y = record { first = x; rest = xs ++ y ∷ []; is = refl }
 
 -- the statements of a body, the last one that returns among them
 abbrev whole : Context → List Statement → SourceInstruction → List SourceInstruction
-whole c body ret = stated_from c body 0 body ++ ret ∷ []
+whole c body ret = instructions_from c body 0 body ++ ret ∷ []
 
 abbrev place : Context → List Statement → SourceInstruction → ℕ → ℕ
 place c body ret n = position (whole c body ret) n
@@ -319,20 +319,20 @@ place c body ret n = position (whole c body ret) n
 whole_cut : (c : Context) (body : List Statement) (ret : SourceInstruction) (pre rest : List Statement)
     → body ≡ pre ++ rest
     → whole c body ret
-    ≡ stated_from c body 0 pre ++ (stated_from c body (count_of_statements pre) rest ++ ret ∷ [])
+    ≡ instructions_from c body 0 pre ++ (instructions_from c body (count_of_statements pre) rest ++ ret ∷ [])
 whole_cut c body ret pre rest e =
-    ap (λ (z : List Statement). stated_from c body 0 z ++ ret ∷ []) e
+    ap (λ (z : List Statement). instructions_from c body 0 z ++ ret ∷ []) e
     ∙ ap (λ (z : List SourceInstruction). z ++ ret ∷ []) (stated_append c body 0 pre rest)
-    ∙ ap (λ (k : ℕ). (stated_from c body 0 pre ++ stated_from c body k rest) ++ ret ∷ []) (omega arith)
-    ∙ append_assoc (stated_from c body 0 pre) (stated_from c body (count_of_statements pre) rest) (ret ∷ [])
+    ∙ ap (λ (k : ℕ). (instructions_from c body 0 pre ++ instructions_from c body k rest) ++ ret ∷ []) (omega arith)
+    ∙ append_assoc (instructions_from c body 0 pre) (instructions_from c body (count_of_statements pre) rest) (ret ∷ [])
 
 place_is : (c : Context) (body : List Statement) (ret : SourceInstruction) (pre rest : List Statement)
     → body ≡ pre ++ rest → place c body ret (count_of_statements pre) ≡ ends_of c body pre
 place_is c body ret pre rest e =
     ap (λ (z : List SourceInstruction). position z (count_of_statements pre)) (whole_cut c body ret pre rest e)
-    ∙ ap (position (stated_from c body 0 pre ++ (stated_from c body (count_of_statements pre) rest ++ ret ∷ [])))
+    ∙ ap (position (instructions_from c body 0 pre ++ (instructions_from c body (count_of_statements pre) rest ++ ret ∷ [])))
     (sym (stated_count c body 0 pre))
-    ∙ position_is (stated_from c body 0 pre) (stated_from c body (count_of_statements pre) rest ++ ret ∷ [])
+    ∙ position_is (instructions_from c body 0 pre) (instructions_from c body (count_of_statements pre) rest ++ ret ∷ [])
 
 -- the statement behind statements, and what is open there
 start_behind : (f : ℕ → ℕ) (front : List SourceInstruction) (s : SourceInstruction) (rest : List SourceInstruction)
@@ -362,13 +362,13 @@ start_of : (c : Context) (body : List Statement) (ret : SourceInstruction) (f : 
     → IsFound (statement_start_at (starts_of_statements (the_code f (whole c body ret))) (ends_of c body pre))
     (few_codes (codes_of_source_brackets (brackets_behind_all [] pre))) (length (zones_behind_all [] pre))
 start_of c body ret f pre rest e takes =
-    let h = has_first (stated_from c body (count_of_statements pre) rest) ret in
+    let h = has_first (instructions_from c body (count_of_statements pre) rest) ret in
     found_by _ _ _ _ _ _
     (ap (λ (z : List SourceInstruction). statement_start_at (starts_of_statements (the_code f z)) (ends_of c body pre))
-    (whole_cut c body ret pre rest e ∙ ap (λ (z : List SourceInstruction). stated_from c body 0 pre ++ z) h.is))
+    (whole_cut c body ret pre rest e ∙ ap (λ (z : List SourceInstruction). instructions_from c body 0 pre ++ z) h.is))
     (ap few_codes (stated_codes f c body 0 [] pre takes))
     (stated_zones f c body 0 [] pre takes)
-    (start_behind f (stated_from c body 0 pre) h.first h.rest)
+    (start_behind f (instructions_from c body 0 pre) h.first h.rest)
 
 -- ---- the list of a JL
 
@@ -422,8 +422,8 @@ listed_on : (c : Context) (body : List Statement) (ret : SourceInstruction) (nam
     → is_list_to left name ss ≡ true
     → leads_to_target left (place c body ret (n + further)) at (code_from c body ret (place c body ret) n ss) ≡ true)
     → leads_to_target left (place c body ret (n + ((if empty then 0 else 1) + further))) at
-    (the_code (place c body ret) ((if empty then stated_from c body n ss
-    else statement_of_number c body n s ∷ stated_from c body (suc n) ss) ++ ret ∷ [])) ≡ true
+    (the_code (place c body ret) ((if empty then instructions_from c body n ss
+    else statement_of_number c body n s ∷ instructions_from c body (suc n) ss) ++ ret ∷ [])) ≡ true
 listed_on c body ret name left pre s ss at n is_at is_n further true is h more =
     ap (λ (k : ℕ). leads_to_target left (place c body ret k) at (code_from c body ret (place c body ret) n ss))
     (omega arith)
@@ -461,7 +461,7 @@ leads_from c body ret name left pre (s ∷ ss) at n e is_at is_n led =
     (e ∙ sym (append_assoc pre (s ∷ []) ss)) is_at is_n led)
   where
     by : (label : Bool)
-        → (if label then true else list_goes_on (left_behind left s.code) (λ next. is_list_to next name ss)) ≡ true
+        → (if label then true else list_goes_on (jumps_left left s.code) (λ next. is_list_to next name ss)) ≡ true
         → ((left at n : ℕ) → at ≡ ends_of c body (pre ++ s ∷ []) → n ≡ count_of_statements (pre ++ s ∷ [])
         → is_list_to left name ss ≡ true
         → leads_to_target left (place c body ret (n + target_in name ss)) at
@@ -744,8 +744,8 @@ next_lands : (c : Context) (body : List Statement) (ret : SourceInstruction) (pr
     → AllLand c body ret at bs zones (code_from c body ret (place c body ret) n post))
     → (empty : Bool) → is_empty_statement s.code ≡ empty
     → AllLand c body ret at bs zones
-    (the_code (place c body ret) ((if empty then stated_from c body n post
-    else statement_of_number c body n s ∷ stated_from c body (suc n) post) ++ ret ∷ []))
+    (the_code (place c body ret) ((if empty then instructions_from c body n post
+    else statement_of_number c body n s ∷ instructions_from c body (suc n) post) ++ ret ∷ []))
 next_lands c body ret pre s post at n bs zones all e h takes right more true is =
     more at n bs zones (past_empty c body pre s at n bs zones is h)
 next_lands c body ret pre s post at n bs zones all e h takes right more false is =
@@ -809,11 +809,11 @@ all_ended (line ∷ lines) e = absurd cc
 -- the parts of a body's statements, and of the one that returns
 whole_parts : (c : Context) (body : List Statement) (line : ℕ) (f : ℕ → ℕ)
     → aimed_parts f (parts (whole c body (return_at line)))
-    ≡ aimed_parts f (parts (stated_from c body 0 body))
+    ≡ aimed_parts f (parts (instructions_from c body 0 body))
     ++ aimed_parts f (parts (return_at line ∷ []))
 whole_parts c body line f =
-    ap (aimed_parts f) (parts_append (stated_from c body 0 body) (return_at line ∷ []))
-    ∙ aimed_append f (parts (stated_from c body 0 body)) (parts (return_at line ∷ []))
+    ap (aimed_parts f) (parts_append (instructions_from c body 0 body) (return_at line ∷ []))
+    ∙ aimed_append f (parts (instructions_from c body 0 body)) (parts (return_at line ∷ []))
 
 all_closed : (c : Context) (body : List Statement) (line : ℕ) (f : ℕ → ℕ) → IsRightBody body
     → open_behind 0 [] (the_code f (whole c body (return_at line))) ≡ []
@@ -822,7 +822,7 @@ all_closed c body line f all =
     (open_after 0 [] (aimed_parts f (parts (whole c body (return_at line))))
     (parts_quiet f (whole c body (return_at line)))
     ∙ ap (λ (z : List InstrParts). codes_after z []) (whole_parts c body line f)
-    ∙ codes_more (aimed_parts f (parts (stated_from c body 0 body)))
+    ∙ codes_more (aimed_parts f (parts (instructions_from c body 0 body)))
     (aimed_parts f (parts (return_at line ∷ []))) []
     ∙ stated_codes f c body 0 [] body all.takes
     ∙ ap codes_of_source_brackets (none_open (brackets_behind_all [] body) all.by_30))
@@ -834,7 +834,7 @@ zones_closed c body line f all =
     (left_after 0 [] (aimed_parts f (parts (whole c body (return_at line))))
     (parts_quiet f (whole c body (return_at line)))
     ∙ ap (λ (z : List InstrParts). count_after z 0) (whole_parts c body line f)
-    ∙ counts_more (aimed_parts f (parts (stated_from c body 0 body)))
+    ∙ counts_more (aimed_parts f (parts (instructions_from c body 0 body)))
     (aimed_parts f (parts (return_at line ∷ []))) 0
     ∙ stated_zones f c body 0 [] body all.takes
     ∙ ap (λ (z : List ℕ). length z) (all_ended (zones_behind_all [] body) all.by_48))

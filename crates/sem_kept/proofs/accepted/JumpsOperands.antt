@@ -10,15 +10,15 @@ use Rattle.stl_ast.specs.declared.statements.Statement.{Statement}
 use Rattle.block_layout.specs.Types.{Types}
 use Rattle.stl_types.specs.Constants.{takes_constant}
 use Rattle.stl_types.specs.Context.{Context, data_number}
-use Rattle.stl_types.specs.Operands.{operand_rule, rule_of_resolved_operand, rule_of_resolution, takes_operand}
+use Rattle.stl_types.specs.Operands.{rule_of_operand, rule_of_resolved_operand, rule_of_resolution, takes_operand}
 use Rattle.stl_types.specs.Resolution.{resolution_of_address, resolution_of_opened_block, resolution_of_path, resolution_of}
 use Rattle.stl_types.specs.Unknown.{is_unknown}
-use Rattle.stl_types.specs.declared.forms.OperandRule.{OperandRule}
-use Rattle.stl_types.specs.declared.forms.OperandRule.TheVariants as operand_rules
-use Rattle.stl_types.specs.declared.views.Resolution.{Resolution}
-use Rattle.stl_types.specs.declared.views.Resolution.TheVariants.{Resolved, Unknown, Unjudged}
-use Rattle.stl_types.specs.declared.views.ResolvedOperand.{ResolvedOperand}
-use Rattle.stl_types.specs.declared.views.ResolvedOperand.TheVariants as resolved
+use Rattle.stl_types.specs.declared.operand_rules.OperandRule.{OperandRule}
+use Rattle.stl_types.specs.declared.operand_rules.OperandRule.TheVariants as operand_rules
+use Rattle.stl_types.specs.declared.resolved_operands.Resolution.{Resolution}
+use Rattle.stl_types.specs.declared.resolved_operands.Resolution.TheVariants.{Resolved, Unknown, Unjudged}
+use Rattle.stl_types.specs.declared.resolved_operands.ResolvedOperand.{ResolvedOperand}
+use Rattle.stl_types.specs.declared.resolved_operands.ResolvedOperand.TheVariants as resolved
 use Rattle.stl_codegen.specs.Operations.{jump_operation_of}
 use Rattle.sem_kept.proofs.ReachedLemmas.{AnyNumber, IsReached, direct_reached, path_reached}
 use Rattle.sem_kept.proofs.accepted.Accepted.{IsSoundStatement}
@@ -69,7 +69,7 @@ none_other f takes Unjudged other h known e = h
 
 label_of_jump : (c : Context) (o : Operand) → names_called_block o ≡ false
     → (names_called_block o ≡ false → Settles (resolution_of c o)) → is_unknown (resolution_of c o) ≡ false
-    → operand_rule c operand_rules.Jumps o ≡ None → (name : List ℕ) × (o ≡ operand.Label name)
+    → rule_of_operand c operand_rules.Jumps o ≡ None → (name : List ℕ) × (o ≡ operand.Label name)
 unfolding resolution_of rule_of_resolved_operand takes_operand takes_constant
 label_of_jump c (operand.Label name) none h known e = (name, refl)
 label_of_jump c operand.Nothing none h known e = absurd cc
@@ -87,7 +87,7 @@ label_of_jump c _ none h known e = absurd cc
 
 nothing_of_bare : (c : Context) (o : Operand) → names_called_block o ≡ false
     → (names_called_block o ≡ false → Settles (resolution_of c o)) → is_unknown (resolution_of c o) ≡ false
-    → operand_rule c operand_rules.Bare o ≡ None → o ≡ operand.Nothing
+    → rule_of_operand c operand_rules.Bare o ≡ None → o ≡ operand.Nothing
 unfolding resolution_of rule_of_resolved_operand takes_operand takes_constant
 nothing_of_bare c operand.Nothing none h known e = refl
 nothing_of_bare c (operand.Label name) none h known e = absurd cc
@@ -116,8 +116,8 @@ pub takes_right : (y : Types) (c : Context) (s : Statement) → IsSoundStatement
 takes_right y c s sound h = record {
   jumps = λ how is.
       label_of_jump c s.operand (sound.well_formed.called ∙ jump_calls s.code how is) h sound.known
-      (ap (λ (f : OperandRule). operand_rule c f s.operand) (sym (jump_form s.code how is)) ∙ sound.allowed);
+      (ap (λ (f : OperandRule). rule_of_operand c f s.operand) (sym (jump_form s.code how is)) ∙ sound.allowed);
   bare = λ is.
       nothing_of_bare c s.operand (sound.well_formed.called ∙ (nesting s.code is).no_call) h sound.known
-      (ap (λ (f : OperandRule). operand_rule c f s.operand) (sym (nesting s.code is).form) ∙ sound.allowed);
+      (ap (λ (f : OperandRule). rule_of_operand c f s.operand) (sym (nesting s.code is).form) ∙ sound.allowed);
 }

@@ -27,16 +27,16 @@ use Rattle.stl_ast.specs.declared.operands.Operand.TheVariants as operand
 use Rattle.stl_ast.specs.declared.statements.Statement.{Statement}
 use Rattle.stl_types.specs.Brackets.{brackets_behind, is_closing_bracket, closes_no_bracket, is_eighth_bracket, brackets_after_opening, bracket_function}
 use Rattle.stl_types.specs.Context.{Context}
-use Rattle.stl_types.specs.Forms.{form_of}
-use Rattle.stl_types.specs.Operands.{operand_rule, rule_of_resolved_operand, takes_operand}
+use Rattle.stl_types.specs.OperandRules.{operand_rule_of}
+use Rattle.stl_types.specs.Operands.{rule_of_operand, rule_of_resolved_operand, takes_operand}
 use Rattle.stl_types.specs.ResolvedStatement.{resolved_operand, operand_if_resolved}
 use Rattle.stl_types.specs.Resolution.{resolution_of}
 use Rattle.stl_types.specs.Zones.{ends_no_zone, ends_zone, is_ninth_zone, opens_zone, zones_behind}
 use Rattle.stl_types.specs.declared.brackets.SourceBracket.{SourceBracket}
-use Rattle.stl_types.specs.declared.forms.OperandRule.{OperandRule}
-use Rattle.stl_types.specs.declared.forms.OperandRule.TheVariants as operand_rules
-use Rattle.stl_types.specs.declared.views.ResolvedOperand.{ResolvedOperand}
-use Rattle.stl_types.specs.declared.views.ResolvedOperand.TheVariants as resolved
+use Rattle.stl_types.specs.declared.operand_rules.OperandRule.{OperandRule}
+use Rattle.stl_types.specs.declared.operand_rules.OperandRule.TheVariants as operand_rules
+use Rattle.stl_types.specs.declared.resolved_operands.ResolvedOperand.{ResolvedOperand}
+use Rattle.stl_types.specs.declared.resolved_operands.ResolvedOperand.TheVariants as resolved
 use Rattle.stl_codegen.specs.EmittedOps.{use_db_ops as opening_op, pass_ops}
 use Rattle.stl_codegen.specs.Instruction.{call_instr, end_instr, instr_by, instruction, jump_instr, resolved_instr, target_of, operand_instr}
 use Rattle.stl_codegen.specs.Operations.{call_operation_of, end_operation_of, jump_operation_of}
@@ -78,14 +78,14 @@ other_code m code none other = by (bracket_function m) (is_closing_bracket m) (o
 
 -- what opens or closes a bracket or a zone takes nothing, and neither jumps nor calls nor ends
 pub record IsNesting (m : Mnemonic) : Type 0 where
-  pub form : form_of m ≡ operand_rules.Bare
+  pub form : operand_rule_of m ≡ operand_rules.Bare
   pub jump : jump_operation_of m ≡ None
   pub call : call_operation_of m ≡ None
   pub end : end_operation_of m ≡ None
   pub no_call : is_call m ≡ false
 
 pub nesting : (m : Mnemonic) → nests m ≡ true → IsNesting m
-unfolding bracket_function is_closing_bracket opens_zone ends_zone form_of
+unfolding bracket_function is_closing_bracket opens_zone ends_zone operand_rule_of
 nesting code.AOpen e = record { form = refl; jump = refl; call = refl; end = refl; no_call = refl }
 nesting code.AnOpen e = record { form = refl; jump = refl; call = refl; end = refl; no_call = refl }
 nesting code.OOpen e = record { form = refl; jump = refl; call = refl; end = refl; no_call = refl }
@@ -150,7 +150,7 @@ last_view c s v None is = last_end s v (end_operation_of s.code) refl
 last_view c s v (Some how) is = last_call c s how v is
 
 abbrev resolved_by : Context → OperandRule → Operand → Option ResolvedOperand
-resolved_by c f o = if is_none (operand_rule c f o) then operand_if_resolved (resolution_of c o) else None
+resolved_by c f o = if is_none (rule_of_operand c f o) then operand_if_resolved (resolution_of c o) else None
 
 bare_resolved : (c : Context) → resolved_by c operand_rules.Bare operand.Nothing ≡ Some resolved.Nothing
 unfolding resolution_of rule_of_resolved_operand takes_operand

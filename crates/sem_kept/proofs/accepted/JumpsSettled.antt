@@ -13,7 +13,7 @@ use Rattle.block_layout.specs.Lengths.{farthest_operand_end, local_len}
 use Rattle.block_layout.specs.Measures.{types_of_source}
 use Rattle.block_layout.specs.declared.blocks.BlockLayout.{BlockLayout}
 use Rattle.stl_types.specs.Resolution.{resolution_of}
-use Rattle.stl_types.specs.declared.views.Resolution.{Resolution}
+use Rattle.stl_types.specs.declared.resolved_operands.Resolution.{Resolution}
 use Rattle.stl_codegen.specs.GeneratedProgram.{params_of}
 use Rattle.sem_kept.specs.AcceptedSource.{IsAccepted}
 use Rattle.sem_kept.specs.SettledStatements.{context_at}

@@ -43,7 +43,7 @@ use Rattle.stl_symbols.specs.Names.{name_place}
 use Rattle.stl_symbols.specs.Symbol.{Symbol}
 use Rattle.block_layout.specs.Blocks.{id_of, is_any, is_block_number, known_block, named_block}
 use Rattle.block_layout.specs.Cells.{components_of}
-use Rattle.block_layout.specs.Fits.{bits_of}
+use Rattle.block_layout.specs.Fits.{bits_of, number_or_zero}
 use Rattle.block_layout.specs.Layouts.{layouts_of}
 use Rattle.block_layout.specs.Lengths.{block_bits, length_of_block, local_end, shape_bits}
 use Rattle.block_layout.specs.Measures.{types_of_source}
@@ -59,20 +59,20 @@ use Rattle.block_layout.specs.declared.cells.Cell.{Cell}
 use Rattle.stl_types.specs.Actuals.{fits_operand, fits_resolution, fits_resolved_operand, formal_named}
 use Rattle.stl_types.specs.Calls.{calls_unknown, has_formals, has_no_instance, has_wrong_instance, is_instance, is_no_instance, is_of_block, is_supplied, is_unknown_function, misfits_formal, names_no_formal, supplied_names}
 use Rattle.stl_types.specs.Context.{Context, data_number, source_block_ids, whole_data_place, whole_place}
-use Rattle.stl_types.specs.Forms.{form_of}
+use Rattle.stl_types.specs.OperandRules.{operand_rule_of}
 use Rattle.stl_types.specs.Kinds.{is_operand_of_call as is_called_view}
-use Rattle.stl_types.specs.Operands.{operand_rule, rule_of_resolved_operand, rule_of_resolution}
+use Rattle.stl_types.specs.Operands.{rule_of_operand, rule_of_resolved_operand, rule_of_resolution}
 use Rattle.stl_types.specs.Parameters.{Callee, callee_at, callee_by, callee_of, formals_of, is_sound_formal, source_callee, system_callee, system_formals}
 use Rattle.stl_types.specs.Resolution.{resolution_of_call, id_at, instance_number as instance_of_name, resolution_of, whole_called_block}
-use Rattle.stl_types.specs.declared.forms.OperandRule.{OperandRule}
-use Rattle.stl_types.specs.declared.forms.OperandRule.TheVariants as operand_rules
+use Rattle.stl_types.specs.declared.operand_rules.OperandRule.{OperandRule}
+use Rattle.stl_types.specs.declared.operand_rules.OperandRule.TheVariants as operand_rules
 use Rattle.stl_types.specs.declared.parameters.Formal.{Formal}
-use Rattle.stl_types.specs.declared.views.Resolution.{Resolution}
-use Rattle.stl_types.specs.declared.views.Resolution.TheVariants.{Resolved}
-use Rattle.stl_types.specs.declared.views.ResolvedOperand.{ResolvedOperand}
-use Rattle.stl_types.specs.declared.views.ResolvedOperand.TheVariants as resolved
+use Rattle.stl_types.specs.declared.resolved_operands.Resolution.{Resolution}
+use Rattle.stl_types.specs.declared.resolved_operands.Resolution.TheVariants.{Resolved}
+use Rattle.stl_types.specs.declared.resolved_operands.ResolvedOperand.{ResolvedOperand}
+use Rattle.stl_types.specs.declared.resolved_operands.ResolvedOperand.TheVariants as resolved
 use Rattle.stl_codegen.specs.CompiledBlock.{compiled_block}
-use Rattle.stl_codegen.specs.EmittedOps.{instance_number_or_zero, pass_ops, preparing_op}
+use Rattle.stl_codegen.specs.EmittedOps.{pass_ops, preparing_op}
 use Rattle.stl_codegen.specs.GeneratedProgram.{code_blocks_of, data_blocks_of, instance_len, params_of}
 use Rattle.stl_codegen.specs.Instruction.{source_block_at, in_parameter_order, passings_to, return_last}
 use Rattle.stl_codegen.specs.PassedParameters.{passed_actual, passed_place, passed_resolution, passed_by_operand, passings_from, actual_of_formal, with_index}
@@ -797,8 +797,8 @@ module _ (symbols : List Symbol) (t : Tree) (tree : IsSoundTree symbols t)
       rule : rule_of_resolved_operand operand_rules.Calls (resolved.Called id instance) ≡ None
       rule =
           ap (λ (f : OperandRule). rule_of_resolved_operand f (resolved.Called id instance)) (sym (call_form s.code how word))
-          ∙ ap (λ (x : Resolution). rule_of_resolution (form_of s.code) x) (sym seen_is)
-          ∙ ap (λ (x : Operand). operand_rule (context_at symbols t k) (form_of s.code) x) (sym o.2)
+          ∙ ap (λ (x : Resolution). rule_of_resolution (operand_rule_of s.code) x) (sym seen_is)
+          ∙ ap (λ (x : Operand). rule_of_operand (context_at symbols t k) (operand_rule_of s.code) x) (sym o.2)
           ∙ sound.allowed
 
       by_view : is_called_view (resolved.Called id instance) ≡ true
@@ -935,11 +935,11 @@ module _ (symbols : List Symbol) (t : Tree) (tree : IsSoundTree symbols t)
           (instance_none (context_at symbols t k) m.inst m.call.with_instance))))
 
   call_bad : (how : CallOperation) (id : BlockId) (instance : Option ℕ) (m : IsMadeCall how id instance)
-      → is_bad_call lens (Some (kind_number id.kind, m.cal.il, m.cal.params)) (instance_number_or_zero instance) (pass_ops (passed_by m.cal.of_source)) ≡ false
+      → is_bad_call lens (Some (kind_number id.kind, m.cal.il, m.cal.params)) (number_or_zero instance) (pass_ops (passed_by m.cal.of_source)) ≡ false
   call_bad how id instance m = by instance m (is_function_block id.kind) refl
     where
       by : (instance : Option ℕ) (m : IsMadeCall how id instance) (fb : Bool) → is_function_block id.kind ≡ fb
-          → is_bad_call lens (Some (kind_number id.kind, m.cal.il, m.cal.params)) (instance_number_or_zero instance)
+          → is_bad_call lens (Some (kind_number id.kind, m.cal.il, m.cal.params)) (number_or_zero instance)
           (pass_ops (passed_by m.cal.of_source)) ≡ false
       by None m false e =
           call_right lens (kind_number id.kind) m.cal.il m.cal.params (pass_ops (passed_by m.cal.of_source))
@@ -955,7 +955,7 @@ module _ (symbols : List Symbol) (t : Tree) (tree : IsSoundTree symbols t)
       (sym (passings_are how id instance m)) (
         alone,
         subst (λ (o : Option FlatCallee). ArePassed a o None ps) (sym flat_is) (passes_right how id instance m),
-        subst (λ (o : Option FlatCallee). is_bad_call lens o (instance_number_or_zero instance) (pass_ops ps) ≡ false)
+        subst (λ (o : Option FlatCallee). is_bad_call lens o (number_or_zero instance) (pass_ops ps) ≡ false)
             (sym flat_is) (call_bad how id instance m),
       )
     where

@@ -19,7 +19,7 @@ use Rattle.block_layout.specs.Lengths.{farthest_operand_end, local_len}
 use Rattle.block_layout.specs.Measures.{types_of_source}
 use Rattle.block_layout.specs.declared.blocks.BlockLayout.{BlockLayout}
 use Rattle.stl_codegen.specs.CompiledBlock.{SourceInstruction, StatedBlock, compiled_block}
-use Rattle.stl_codegen.specs.GeneratedProgram.{code_block, code_blocks_of, return_statement, stated_from, statements_of}
+use Rattle.stl_codegen.specs.GeneratedProgram.{code_block, code_blocks_of, return_statement, instructions_from, statements_of}
 use Rattle.stl_codegen.specs.Instruction.{instruction}
 use Rattle.sem_kept.specs.AcceptedSource.{program_in}
 use Rattle.sem_kept.specs.CodedBlocks.{StatementHasBytes}
@@ -80,20 +80,20 @@ module _ (symbols : List Symbol) (t : Tree) (tree : IsSoundTree symbols t)
       → AllByRecursion (IsSoundStatement (types_of_source symbols t.blocks) (context_at symbols t k)) ss
       → AllByRecursion (EndsBy here.local_len) ss → AllByRecursion StatementHasBytes ss
       → AllByRecursion (λ (s : SourceInstruction). InstrFits here (lens_of (program_in symbols t).data_blocks) s.instr)
-      (stated_from (context_at symbols t k) b.body n ss)
+      (instructions_from (context_at symbols t k) b.body n ss)
   stated_fits n [] sound end has = tt
   stated_fits n (s ∷ ss) sound end has =
       by (is_empty_statement s.code) (stated_fits n ss sound.1 end.1 has.1) (stated_fits (suc n) ss sound.1 end.1 has.1)
     where
       by : (empty : Bool)
           → AllByRecursion (λ (s : SourceInstruction). InstrFits here (lens_of (program_in symbols t).data_blocks) s.instr)
-          (stated_from (context_at symbols t k) b.body n ss)
+          (instructions_from (context_at symbols t k) b.body n ss)
           → AllByRecursion (λ (s : SourceInstruction). InstrFits here (lens_of (program_in symbols t).data_blocks) s.instr)
-          (stated_from (context_at symbols t k) b.body (suc n) ss)
+          (instructions_from (context_at symbols t k) b.body (suc n) ss)
           → AllByRecursion (λ (s : SourceInstruction). InstrFits here (lens_of (program_in symbols t).data_blocks) s.instr)
-          (if empty then stated_from (context_at symbols t k) b.body n ss
+          (if empty then instructions_from (context_at symbols t k) b.body n ss
           else record { instr = instruction (context_at symbols t k) b.body n s; line = s.line }
-          ∷ stated_from (context_at symbols t k) b.body (suc n) ss)
+          ∷ instructions_from (context_at symbols t k) b.body (suc n) ss)
       by true same next = same
       by false same next = (statement_fits n s sound.0 end.0 has.0, next)
 
@@ -104,7 +104,7 @@ module _ (symbols : List Symbol) (t : Tree) (tree : IsSoundTree symbols t)
       (starts_of_statements (compiled_block (code_block (context_at symbols t k) b l id)).code)
       (statements_of (context_at symbols t k) b)
       (all_append (λ (s : SourceInstruction). InstrFits here (lens_of (program_in symbols t).data_blocks) s.instr)
-      (stated_from (context_at symbols t k) b.body 0 b.body) (return_statement b ∷ [])
+      (instructions_from (context_at symbols t k) b.body 0 b.body) (return_statement b ∷ [])
       (stated_fits 0 b.body block.statements ends bytes) (tt, tt))
 
 -- ---- the program

@@ -16,16 +16,16 @@ use Rattle.stl_ast.specs.declared.operands.Operand.{Operand}
 use Rattle.stl_ast.specs.declared.operands.Operand.TheVariants as operand
 use Rattle.stl_ast.specs.declared.statements.Statement.{Statement}
 use Rattle.stl_types.specs.Context.{Context}
-use Rattle.stl_types.specs.Forms.{form_of}
-use Rattle.stl_types.specs.Operands.{operand_rule, rule_of_resolved_operand, rule_of_resolution, statement_rule}
+use Rattle.stl_types.specs.OperandRules.{operand_rule_of}
+use Rattle.stl_types.specs.Operands.{rule_of_operand, rule_of_resolved_operand, rule_of_resolution, statement_rule}
 use Rattle.stl_types.specs.Parameters.{callee_of}
 use Rattle.stl_types.specs.ResolvedStatement.{resolved_operand, operand_if_resolved}
 use Rattle.stl_types.specs.Resolution.{resolution_of}
-use Rattle.stl_types.specs.declared.forms.OperandRule.{OperandRule}
-use Rattle.stl_types.specs.declared.views.Resolution.{Resolution}
-use Rattle.stl_types.specs.declared.views.Resolution.TheVariants.{Resolved}
-use Rattle.stl_types.specs.declared.views.ResolvedOperand.{ResolvedOperand}
-use Rattle.stl_types.specs.declared.views.ResolvedOperand.TheVariants as resolved
+use Rattle.stl_types.specs.declared.operand_rules.OperandRule.{OperandRule}
+use Rattle.stl_types.specs.declared.resolved_operands.Resolution.{Resolution}
+use Rattle.stl_types.specs.declared.resolved_operands.Resolution.TheVariants.{Resolved}
+use Rattle.stl_types.specs.declared.resolved_operands.ResolvedOperand.{ResolvedOperand}
+use Rattle.stl_types.specs.declared.resolved_operands.ResolvedOperand.TheVariants as resolved
 use Rattle.stl_codegen.specs.EmittedOps.{op_with_end_mark}
 use Rattle.stl_codegen.specs.Instruction.{call_instr, end_instr, filler_instruction, instr_by, instruction, jump_instr, passings_to, resolved_instr, target_of}
 use Rattle.stl_codegen.specs.Operands.{flat_operand_of}
@@ -69,12 +69,12 @@ constant_right a m value = tt
 
 -- the operand that a statement does its instruction on
 right_for : (a : Environment) (c : Context) (m : Mnemonic) (o : Operand) (v : ResolvedOperand)
-    → resolution_of c o ≡ Resolved v → operand_rule c (form_of m) o ≡ None → IsRightOperand a v
+    → resolution_of c o ≡ Resolved v → rule_of_operand c (operand_rule_of m) o ≡ None → IsRightOperand a v
     → IsOperandRightFor a (op_with_end_mark (operation_for m o v) (flat_operand_of o v)) (flat_operand_of o v)
 right_for a c m (operand.Constant value) v e h fits =
     subst (λ (w : ResolvedOperand). IsOperandRightFor a (op_with_end_mark (operation_for m (operand.Constant value) w) (flat_operand_of (operand.Constant value) w)) (flat_operand_of (operand.Constant value) w))
     (sees_same resolved.Constant v (sym (constant_seen c value) ∙ e)) (constant_right a m value)
-right_for a c m o v e h fits = operand_fits a m o v (taken_by_rule (form_of m) v (seen_rule c (form_of m) o v e h)) fits
+right_for a c m o v e h fits = operand_fits a m o v (taken_by_rule (operand_rule_of m) v (seen_rule c (operand_rule_of m) o v e h)) fits
 
 does_fits : (a : Environment) (lens : List (ℕ × ℕ)) (c : Context) (s : Statement) (v : ResolvedOperand)
     → resolution_of c s.operand ≡ Resolved v → statement_rule c s ≡ None → IsRightOperand a v

@@ -29,17 +29,17 @@ use Rattle.stl_ast.specs.declared.operands.Operand.TheVariants as operand
 use Rattle.block_layout.specs.Offsets.{width_of}
 use Rattle.stl_types.specs.Actuals.{is_input_section}
 use Rattle.stl_types.specs.Brackets.{bracket_function, is_closing_bracket}
-use Rattle.stl_types.specs.Forms.{form_of}
+use Rattle.stl_types.specs.OperandRules.{operand_rule_of}
 use Rattle.stl_types.specs.Kinds.{is_bit, is_composite, is_double_word, is_in_memory, width_in}
-use Rattle.stl_types.specs.Operands.{composite_rule, has_width, is_input, is_on_wrong_side, rule_of_resolved_operand, takes_operand, takes_width, form_writes_operand}
+use Rattle.stl_types.specs.Operands.{composite_rule, has_width, is_input, is_on_wrong_side, rule_of_resolved_operand, takes_operand, takes_width, rule_writes_operand}
 use Rattle.stl_types.specs.Zones.{ends_zone, opens_zone}
-use Rattle.stl_types.specs.declared.forms.OperandRule.{OperandRule}
-use Rattle.stl_types.specs.declared.forms.OperandRule.TheVariants as operand_rules
-use Rattle.stl_types.specs.declared.views.Register.{Register}
-use Rattle.stl_types.specs.declared.views.Register.TheVariants as register
-use Rattle.stl_types.specs.declared.views.Side.TheVariants as side
-use Rattle.stl_types.specs.declared.views.ResolvedOperand.{ResolvedOperand}
-use Rattle.stl_types.specs.declared.views.ResolvedOperand.TheVariants as resolved
+use Rattle.stl_types.specs.declared.operand_rules.OperandRule.{OperandRule}
+use Rattle.stl_types.specs.declared.operand_rules.OperandRule.TheVariants as operand_rules
+use Rattle.stl_types.specs.declared.resolved_operands.Register.{Register}
+use Rattle.stl_types.specs.declared.resolved_operands.Register.TheVariants as register
+use Rattle.stl_types.specs.declared.resolved_operands.Side.TheVariants as side
+use Rattle.stl_types.specs.declared.resolved_operands.ResolvedOperand.{ResolvedOperand}
+use Rattle.stl_types.specs.declared.resolved_operands.ResolvedOperand.TheVariants as resolved
 use Rattle.stl_codegen.specs.EmittedOps.{op_with_end_mark}
 use Rattle.stl_codegen.specs.Operands.{is_db, numbered_operand, block_opened_by_operand, flat_operand_of, register_operand}
 use Rattle.stl_codegen.specs.Operations.{add_operation, load_pointer_operation, load_operation, or_operation, store_pointer_operation, transfer_operation, operation_for}
@@ -54,7 +54,7 @@ pub record IsTakenBy (f : OperandRule) (v : ResolvedOperand) : Type 0 where
   pub taken : takes_operand f v ≡ true
   pub wide : has_width f (width_in v) ≡ true
   pub side : is_on_wrong_side f v ≡ false
-  pub unwritten : (form_writes_operand f && is_input v) ≡ false
+  pub unwritten : (rule_writes_operand f && is_input v) ≡ false
 
 abbrev rule_by : (composite : ℕ) → (a b c d e : Bool) → Option ℕ
 rule_by composite a b c d e =
@@ -69,7 +69,7 @@ pub taken_by_rule : (f : OperandRule) (v : ResolvedOperand) → rule_of_resolved
 unfolding rule_of_resolved_operand
 taken_by_rule f v e =
     let all = chosen (composite_rule f v) (is_composite v) (takes_operand f v) (has_width f (width_in v))
-    (is_on_wrong_side f v) (form_writes_operand f && is_input v) e in
+    (is_on_wrong_side f v) (rule_writes_operand f && is_input v) e in
     record { single = all.0; taken = all.1; wide = all.2; side = all.3; unwritten = all.4 }
   where
     chosen : (composite : ℕ) (a b c d e : Bool) → rule_by composite a b c d e ≡ None
@@ -237,9 +237,9 @@ dword_only t e _ k = absurd cc
 abbrev operation_takes : Mnemonic → Operand → OperandForms
 operation_takes m o = takes_of (op_code_of (operation_for m o in_memory))
 
-widths : (m : Mnemonic) (o : Operand) (w : Width) → takes_operand (form_of m) in_memory ≡ true
-    → takes_width (form_of m) (Some w) ≡ true → has_width_of (operation_takes m o) w ≡ true
-unfolding takes_operand takes_width form_of takes_of operation_for operation_of_code
+widths : (m : Mnemonic) (o : Operand) (w : Width) → takes_operand (operand_rule_of m) in_memory ≡ true
+    → takes_width (operand_rule_of m) (Some w) ≡ true → has_width_of (operation_takes m o) w ≡ true
+unfolding takes_operand takes_width operand_rule_of takes_of operation_for operation_of_code
 widths code.A o w h k = bit_only (operation_takes code.A o) refl w k
 widths code.An o w h k = bit_only (operation_takes code.An o) refl w k
 widths code.O o w h k = bit_only (operation_takes code.O o) refl w k
@@ -260,18 +260,18 @@ widths code.Tar2 o w h k = dword_only (operation_takes code.Tar2 o) refl w k
 widths _ o w h k = absurd cc
 
 no_lack : (m : Mnemonic) (o : Operand) (v : ResolvedOperand) (w : Width) → is_in_memory v ≡ true
-    → width_in v ≡ Some w → IsTakenBy (form_of m) v
+    → width_in v ≡ Some w → IsTakenBy (operand_rule_of m) v
     → lacks_width (op_with_end_mark (operation_for m o v) (flat_operand_of o v)) w ≡ false
 no_lack m o v w mem is h =
     ap (λ (x : Operation). not (has_width_of (takes_of (op_code_of x)) w)) (memory_word m o v mem)
-    ∙ ap not (widths m o w (memory_form (form_of m) v mem h.taken)
-    (ap (λ (x : Option Width). has_width (form_of m) x) (sym is) ∙ h.wide))
+    ∙ ap not (widths m o w (memory_form (operand_rule_of m) v mem h.taken)
+    (ap (λ (x : Option Width). has_width (operand_rule_of m) x) (sym is) ∙ h.wide))
 
 -- what writes has a form that writes
 unwritten : (m : Mnemonic) (o : Operand) (index : ℕ) (section : PartKind) (declared : Simple) (b : Bool)
-    → (form_writes_operand (form_of m) && b) ≡ false
+    → (rule_writes_operand (operand_rule_of m) && b) ≡ false
     → (writes_code (op_code_of (operation_for m o (resolved.Parameter index section declared))) && b) ≡ false
-unfolding form_of operation_for
+unfolding operand_rule_of operation_for
 unwritten code.T o index section declared b h = h
 unwritten code.Assign o index section declared b h = h
 unwritten code.S o index section declared b h = h
@@ -319,7 +319,7 @@ register_fits a w register.Dilg = tt
 register_fits a w register.Dino = tt
 register_fits a w _ = tt
 
-pub operand_fits : (a : Environment) (m : Mnemonic) (o : Operand) (v : ResolvedOperand) → IsTakenBy (form_of m) v
+pub operand_fits : (a : Environment) (m : Mnemonic) (o : Operand) (v : ResolvedOperand) → IsTakenBy (operand_rule_of m) v
     → IsRightOperand a v
     → IsOperandRightFor a (op_with_end_mark (operation_for m o v) (flat_operand_of o v)) (flat_operand_of o v)
 unfolding flat_operand_of
@@ -329,7 +329,7 @@ operand_fits a m o (resolved.Parameter index section declared) h fits = (
   no_lack m o (resolved.Parameter index section declared) (width_of declared) refl refl h,
   fits.0,
   unwritten m o index section declared (is_input_parameter (parameter_meant a index))
-      (ap (λ (b : Bool). form_writes_operand (form_of m) && b)
+      (ap (λ (b : Bool). rule_writes_operand (operand_rule_of m) && b)
       (fits.1 ∙ sym (input_section index section declared)) ∙ h.unwritten),
 )
 operand_fits a m o (resolved.ByMemory ar w from byte) h fits =

@@ -35,12 +35,12 @@ use Rattle.stl_types.specs.Actuals.{fits_operand, fits_resolution, fits_type, fi
 use Rattle.stl_types.specs.Calls.{misfits_formal}
 use Rattle.stl_types.specs.Constants.{takes_constant}
 use Rattle.stl_types.specs.Context.{Context}
-use Rattle.stl_types.specs.Forms.{form_of}
+use Rattle.stl_types.specs.OperandRules.{operand_rule_of}
 use Rattle.stl_types.specs.Resolution.{resolution_of}
 use Rattle.stl_types.specs.declared.parameters.Formal.{Formal}
-use Rattle.stl_types.specs.declared.views.Resolution.TheVariants.{Resolved}
-use Rattle.stl_types.specs.declared.views.ResolvedOperand.{ResolvedOperand}
-use Rattle.stl_types.specs.declared.views.ResolvedOperand.TheVariants as resolved
+use Rattle.stl_types.specs.declared.resolved_operands.Resolution.TheVariants.{Resolved}
+use Rattle.stl_types.specs.declared.resolved_operands.ResolvedOperand.{ResolvedOperand}
+use Rattle.stl_types.specs.declared.resolved_operands.ResolvedOperand.TheVariants as resolved
 use Rattle.stl_codegen.specs.GeneratedProgram.{section_number}
 use Rattle.stl_codegen.specs.PassedParameters.{passed_actual, passed_place, passed_resolution, passings_from, actual_of_formal, with_index}
 use Rattle.stl_codegen.specs.Operations.{operation_for}
@@ -65,7 +65,7 @@ one_byte (b ∷ c ∷ bs) e h =
 
 word_fits : (value : Literal) → IsLiteral value → HasBytes value → fits_elementary_type value simple.Word ≡ true
     → nat_le (bits_of value) 65535 ≡ true
-unfolding form_of takes_constant admits operation_for
+unfolding operand_rule_of takes_constant admits operation_for
 word_fits value is has h = constant_taken code.Aw value is has h
 
 truth_fits : (value : Literal) → fits_elementary_type value simple.Bool ≡ true → nat_le (bits_of value) 1 ≡ true

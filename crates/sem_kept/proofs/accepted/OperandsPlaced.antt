@@ -24,7 +24,8 @@ use Rattle.flat_code.specs.declared.operations.EndOperation.TheVariants as ends
 use Rattle.flat_code.specs.declared.operations.Operation.{Operation}
 use Rattle.flat_code.specs.declared.operations.Operation.TheVariants as operation
 use Rattle.stl_codegen.specs.CompiledBlock.{SourceInstruction, operand_with_target, op_with_target, ops_in, placed_ops}
-use Rattle.stl_codegen.specs.EmittedOps.{call_op, end_op, op_with_end_mark, instance_number_or_zero, ops_of, pass_ops, preparing_op}
+use Rattle.block_layout.specs.Fits.{number_or_zero}
+use Rattle.stl_codegen.specs.EmittedOps.{call_op, end_op, op_with_end_mark, ops_of, pass_ops, preparing_op}
 use Rattle.sem_kept.specs.Operands.{ArePassed, HaveNoOperandFaults, InstrFits, HasNoOperandFault, IsOperandRightFor}
 
 seven_none : (b : Bool) → b ≡ false → seven_if b ≡ None
@@ -168,7 +169,7 @@ module _ (a : Environment) (lens : List (ℕ × ℕ)) (ss : List StatementStart)
 
   call_fine : (at : ℕ) (brackets : List OpenBracket) (zones : List ℕ) (before : List OpData) (how : CallOperation)
       (block : BlockId) (instance : Option ℕ) (rest : List OpData)
-      → is_bad_call lens (callee block) (instance_number_or_zero instance) before ≡ false
+      → is_bad_call lens (callee block) (number_or_zero instance) before ≡ false
       → FineBehind rest → HaveNoFaultAt at brackets zones before (call_op how block instance ∷ rest)
   call_fine at brackets zones before how block instance rest bad behind =
       last_fine at brackets zones before (call_op how block instance) rest refl
@@ -181,11 +182,11 @@ module _ (a : Environment) (lens : List (ℕ × ℕ)) (ss : List StatementStart)
   calls_fine : (at : ℕ) (brackets : List OpenBracket) (zones : List ℕ) (done : List OpData) (block : BlockId)
       (instance : Option ℕ) (left : List Passing) (rest : List OpData)
       → ArePassed a (callee block) (pass_before None done) left
-      → is_bad_call lens (callee block) (instance_number_or_zero instance) (done ++ pass_ops left) ≡ false
+      → is_bad_call lens (callee block) (number_or_zero instance) (done ++ pass_ops left) ≡ false
       → FineBehind rest → HaveNoFaultAt at brackets zones done (pass_ops left ++ call_op calls.Call block instance ∷ rest)
   calls_fine at brackets zones done block instance [] rest passed bad behind =
       call_fine at brackets zones done calls.Call block instance rest
-      (subst (λ (z : List OpData). is_bad_call lens (callee block) (instance_number_or_zero instance) z ≡ false)
+      (subst (λ (z : List OpData). is_bad_call lens (callee block) (number_or_zero instance) z ≡ false)
       (append-nil done) bad) behind
   calls_fine at brackets zones done block instance (p ∷ ps) rest passed bad behind =
       let op = pass_op p in (
@@ -193,7 +194,7 @@ module _ (a : Environment) (lens : List (ℕ × ℕ)) (ss : List StatementStart)
         calls_fine (at + size_of_op op) (brackets_after at op.code brackets) (zones_behind_op at op.code zones) (done ++ op ∷ [])
             block instance ps rest
             (subst (λ (o : Option ℕ). ArePassed a (callee block) o ps) (sym (pass_last None done op)) passed.3)
-            (subst (λ (z : List OpData). is_bad_call lens (callee block) (instance_number_or_zero instance) z ≡ false)
+            (subst (λ (z : List OpData). is_bad_call lens (callee block) (number_or_zero instance) z ≡ false)
             (sym (append_assoc done (op ∷ []) (pass_ops ps))) bad)
             behind,
       )

@@ -31,7 +31,7 @@ use Rattle.block_layout.specs.Around.{Outside, of_sections, of_structure, declar
 use Rattle.block_layout.specs.Cells.{cell_of, cells_of, components_of, is_temp, layout_element, with_first_cell_opening, returned_cells, section_cells}
 use Rattle.block_layout.specs.Members.{component_of_name}
 use Rattle.block_layout.specs.Offsets.{place_at, elementary_place, width_of}
-use Rattle.block_layout.specs.Paths.{cells_at, elementary_at, path_end_at_cell, path_end_at_member, path_end_and_then, in_sections, path_end_by_index, indexed_behind, is_beyond, kind_of, path_end_by_name, named_behind, named_in, outermost_path_end, plain_kind, path_end_by_step, path_end_behind, path_end_of_local, whole_at, path_end_in_bounds}
+use Rattle.block_layout.specs.Paths.{cells_at, elementary_at, path_end_at_cell, path_end_at_member, path_end_and_then, in_sections, path_end_by_index, path_end_behind_index, is_beyond, kind_of, path_end_by_name, path_end_behind_name, path_end_in_component, outermost_path_end, plain_kind, path_end_by_step, path_end_behind, path_end_of_local, whole_at, path_end_in_bounds}
 use Rattle.block_layout.specs.Sizes.{array_bits, capped_size, element_of, plain_bits}
 use Rattle.block_layout.specs.Types.{Types}
 use Rattle.block_layout.specs.declared.blocks.BlockLayout.{BlockLayout}
@@ -39,13 +39,13 @@ use Rattle.block_layout.specs.declared.cells.Cell.{Cell}
 use Rattle.block_layout.specs.declared.cells.Element.{Element}
 use Rattle.block_layout.specs.declared.cells.Element.TheVariants.{Plain, Structure, DateAndTime, Udt, Unknown}
 use Rattle.block_layout.specs.declared.members.Member.{Member}
-use Rattle.block_layout.specs.declared.walks.ComponentAt.{ComponentAt}
-use Rattle.block_layout.specs.declared.walks.PathEnd.{PathEnd}
-use Rattle.block_layout.specs.declared.walks.PathEnd.TheVariants as path_end
+use Rattle.block_layout.specs.declared.path_ends.ComponentAt.{ComponentAt}
+use Rattle.block_layout.specs.declared.path_ends.PathEnd.{PathEnd}
+use Rattle.block_layout.specs.declared.path_ends.PathEnd.TheVariants as path_end
 use Rattle.stl_types.specs.Variables.{behind_others, variable_in_area}
-use Rattle.stl_types.specs.declared.views.Resolution.TheVariants.{Resolved}
-use Rattle.stl_types.specs.declared.views.Side.TheVariants as side
-use Rattle.stl_types.specs.declared.views.ResolvedOperand.TheVariants as resolved
+use Rattle.stl_types.specs.declared.resolved_operands.Resolution.TheVariants.{Resolved}
+use Rattle.stl_types.specs.declared.resolved_operands.Side.TheVariants as side
+use Rattle.stl_types.specs.declared.resolved_operands.ResolvedOperand.TheVariants as resolved
 use Rattle.stl_codegen.specs.Instruction.{return_last}
 use Rattle.sem_kept.proofs.accepted.Accepted.{there}
 use Rattle.block_layout.proofs.AlignmentLemmas.{Lies, Meets, MeetsKind}
@@ -333,7 +333,7 @@ if_stays k true w h = h
 if_stays k false w h = tt
 
 plain_named : (l : List BlockLayout) (k : ℕ) (s : ComponentAt) (name : List ℕ) (c : Cell) (of : Element)
-    (kind : Simple) → of ≡ Plain kind → Stays k (named_in l s name c of)
+    (kind : Simple) → of ≡ Plain kind → Stays k (path_end_in_component l s name c of)
 plain_named l k s name c (Plain other) kind e = tt
 plain_named l k s name c _ kind e = absurd cc
 
@@ -361,14 +361,14 @@ step_stays l k plain s (step.Named name) e f =
     ∙ ap (λ (n : ℕ). slice_get (cells_at l n false) s.place) e)
   where
     by : (o : Option Cell) → o ≡ slice_get (cells_at l k false) s.place
-        → Stays k (named_behind l s name o)
+        → Stays k (path_end_behind_name l s name o)
     by None is = tt
-    by (Some c) is = if_stays k (nat_eq s.depth (length c.bounds)) (named_in l s name c c.of)
+    by (Some c) is = if_stays k (nat_eq s.depth (length c.bounds)) (path_end_in_component l s name c c.of)
         (let cell = plain s.place c (sym is) in plain_named l k s name c c.of cell.kind cell.plain)
 step_stays l k plain s (step.Index at) e f =
     by (slice_get (cells_at l s.block s.temporary) s.place)
   where
-    by : (o : Option Cell) → Stays k (indexed_behind s (cells_at l s.block s.temporary) at o)
+    by : (o : Option Cell) → Stays k (path_end_behind_index s (cells_at l s.block s.temporary) at o)
     by None = tt
     by (Some c) = within_stays k s c (drop (s.place + 1) (cells_at l s.block s.temporary)) at
         (slice_get c.bounds s.depth) e f

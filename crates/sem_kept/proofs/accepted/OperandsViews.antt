@@ -64,20 +64,20 @@ use Rattle.block_layout.specs.declared.blocks.Shape.TheVariants as shape
 use Rattle.block_layout.specs.declared.cells.Cell.{Cell}
 use Rattle.block_layout.specs.declared.cells.Element.{Element}
 use Rattle.block_layout.specs.declared.cells.Element.TheVariants.{Plain, DateAndTime, Udt}
-use Rattle.block_layout.specs.declared.walks.ComponentAt.{ComponentAt}
-use Rattle.block_layout.specs.declared.walks.PathEnd.{PathEnd}
-use Rattle.block_layout.specs.declared.walks.PathEnd.TheVariants as path_end
+use Rattle.block_layout.specs.declared.path_ends.ComponentAt.{ComponentAt}
+use Rattle.block_layout.specs.declared.path_ends.PathEnd.{PathEnd}
+use Rattle.block_layout.specs.declared.path_ends.PathEnd.TheVariants as path_end
 use Rattle.stl_types.specs.Actuals.{is_input_section}
 use Rattle.stl_types.specs.Addresses.{resolved_address, address_in_block, area_for_letters}
 use Rattle.stl_types.specs.Context.{Context, data_number, data_place, in_function, is_of_function, number_of_block}
 use Rattle.stl_types.specs.Resolution.{resolution_of_opened_block, resolution_of_path, resolution_of, resolution_of_symbol, resolved_target}
 use Rattle.stl_types.specs.Unknown.{is_unknown}
 use Rattle.stl_types.specs.Variables.{composite_operand, data_at, date_or_composite, data_path, data_variable, data_at_path_end, variable_in_area, own_at, own_elementary, own_variable, own_at_path_end, parameter_resolution, parameter_at, parameter_index}
-use Rattle.stl_types.specs.declared.views.Resolution.{Resolution}
-use Rattle.stl_types.specs.declared.views.Resolution.TheVariants.{Resolved}
-use Rattle.stl_types.specs.declared.views.Side.TheVariants as side
-use Rattle.stl_types.specs.declared.views.ResolvedOperand.{ResolvedOperand}
-use Rattle.stl_types.specs.declared.views.ResolvedOperand.TheVariants as resolved
+use Rattle.stl_types.specs.declared.resolved_operands.Resolution.{Resolution}
+use Rattle.stl_types.specs.declared.resolved_operands.Resolution.TheVariants.{Resolved}
+use Rattle.stl_types.specs.declared.resolved_operands.Side.TheVariants as side
+use Rattle.stl_types.specs.declared.resolved_operands.ResolvedOperand.{ResolvedOperand}
+use Rattle.stl_types.specs.declared.resolved_operands.ResolvedOperand.TheVariants as resolved
 use Rattle.stl_codegen.specs.GeneratedProgram.{param_at_bits, param_here, param_of, params_of, section_number}
 use Rattle.stl_codegen.specs.Instruction.{return_last}
 use Rattle.sem_kept.specs.SettledStatements.{context_at}

@@ -41,7 +41,7 @@ use Rattle.flat_code.proofs.CheckLemmas.{zero_word_good}
 use Rattle.stl_types.specs.Context.{Context}
 use Rattle.stl_codegen.specs.CompiledBlock.{SourceInstruction, StatedBlock, op_with_target, compiled_block, lines_in, offset_of_statement, ops_in, placed_ops}
 use Rattle.stl_codegen.specs.EmittedOps.{call_op, ops_of, pass_ops}
-use Rattle.stl_codegen.specs.GeneratedProgram.{code_block, code_block_of, code_blocks_of, generated_data_block, data_block_of, data_blocks_of, each_block, instance_len, return_statement, stated_from, statements_of}
+use Rattle.stl_codegen.specs.GeneratedProgram.{code_block, code_block_of, code_blocks_of, generated_data_block, data_block_of, data_blocks_of, each_block, instance_len, return_statement, instructions_from, statements_of}
 use Rattle.stl_codegen.specs.Instruction.{instruction}
 use Rattle.stl_codegen.specs.Order.{is_code_before, is_data_before, is_id_before}
 use Rattle.sem_kept.specs.Records.{HasFaultlessCode}
@@ -255,24 +255,24 @@ rises_weaker last low before (x ∷ xs) le h = (omega (arith, le, h.0), h.1, h.2
 
 -- those of statements that aren't empty, and then others
 stated_rise : (last before : ℕ) (c : Context) (body : List Statement) (n : ℕ) (ss : List Statement) (tail : List ℕ)
-    → AreRisingLines last before (map (λ s. s.line) ss ++ tail) → AreRisingLines last before (map (λ s. s.line) (stated_from c body n ss) ++ tail)
+    → AreRisingLines last before (map (λ s. s.line) ss ++ tail) → AreRisingLines last before (map (λ s. s.line) (instructions_from c body n ss) ++ tail)
 stated_rise last before c body n [] tail h = h
 stated_rise last before c body n (s ∷ ss) tail h =
     by (is_empty_statement s.code)
     (stated_rise last before c body n ss tail (rises_weaker last before s.line (map (λ s. s.line) ss ++ tail) h.0 h.2))
     (stated_rise last s.line c body (suc n) ss tail h.2)
   where
-    by : (t : Bool) → AreRisingLines last before (map (λ s. s.line) (stated_from c body n ss) ++ tail)
-        → AreRisingLines last s.line (map (λ s. s.line) (stated_from c body (suc n) ss) ++ tail)
-        → AreRisingLines last before (map (λ s. s.line) (if t then stated_from c body n ss
-        else record { instr = instruction c body n s; line = s.line } ∷ stated_from c body (suc n) ss) ++ tail)
+    by : (t : Bool) → AreRisingLines last before (map (λ s. s.line) (instructions_from c body n ss) ++ tail)
+        → AreRisingLines last s.line (map (λ s. s.line) (instructions_from c body (suc n) ss) ++ tail)
+        → AreRisingLines last before (map (λ s. s.line) (if t then instructions_from c body n ss
+        else record { instr = instruction c body n s; line = s.line } ∷ instructions_from c body (suc n) ss) ++ tail)
     by true skipped kept = skipped
     by false skipped kept = (h.0, h.1, kept)
 
 lines_stated : (last : ℕ) (c : Context) (b : Block) → AreRisingLines last 1 (statement_lines_of b) → AreRisingLines last 1 (lines_in (statements_of c b))
 unfolding statements_of
 lines_stated last c b h =
-    subst (AreRisingLines last 1) (sym (map-append (λ (s : SourceInstruction). s.line) (stated_from c b.body 0 b.body) (return_statement b ∷ [])))
+    subst (AreRisingLines last 1) (sym (map-append (λ (s : SourceInstruction). s.line) (instructions_from c b.body 0 b.body) (return_statement b ∷ [])))
     (stated_rise last 1 c b.body 0 b.body (b.end_line ∷ []) h)
 
 line_good : (with_code_faults : Bool) (before line : ℕ) → line < 4294967296 → 1 ≤ line → before ≤ line → (line_field with_code_faults before).good line ≡ true

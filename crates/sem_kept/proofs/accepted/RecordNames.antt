@@ -29,7 +29,7 @@ use Rattle.stl_symbols.specs.declared.targets.Target.{Target}
 use Rattle.stl_symbols.specs.declared.targets.Target.TheVariants as target
 use Rattle.stl_symbols.proofs.FileLemmas.{symbols_right}
 use Rattle.stl_codegen.specs.GeneratedProgram.{has_name, name_entry, name_entries_of}
-use Rattle.stl_codegen.specs.Order.{is_name_before}
+use Rattle.stl_codegen.specs.Order.{is_entry_before}
 use Rattle.sem_kept.proofs.accepted.Accepted.{all_mapped, all_sorted}
 use Rattle.sem_kept.proofs.accepted.RecordOrder.{AreApart, Differ, rise_sorted, good_all}
 
@@ -167,7 +167,7 @@ entries symbols = flat_map (λ s. name_entry s.name s.target) symbols
 
 differ_all : (name : List ℕ) (e : NameEntry) (es : List NameEntry) (other : List ℕ) → e.name ≡ upper_case_name name
     → is_same_name other name ≡ false → AllByRecursion (λ (x : NameEntry). x.name ≡ upper_case_name other) es
-    → AllByRecursion (Differ is_name_before e) es
+    → AllByRecursion (Differ is_entry_before e) es
 differ_all name e [] other h k l = tt
 differ_all name e (x ∷ es) other h k l = (
   apart_names e.name x.name (ap (λ (z : List ℕ). bytes_eq z e.name) l.0 ∙ ap (bytes_eq (upper_case_name other)) h ∙ k),
@@ -176,24 +176,24 @@ differ_all name e (x ∷ es) other h k l = (
 
 differ_rest : (name : List ℕ) (e : NameEntry) (symbols : List Symbol) → e.name ≡ upper_case_name name
     → AllByRecursion (λ (y : Symbol). is_same_name y.name name ≡ false) symbols
-    → AllByRecursion (Differ is_name_before e) (entries symbols)
+    → AllByRecursion (Differ is_entry_before e) (entries symbols)
 unfolding entries
 differ_rest name e [] h k = tt
 differ_rest name e (s ∷ symbols) h k =
-    all_append (Differ is_name_before e) (name_entry s.name s.target) (entries symbols)
+    all_append (Differ is_entry_before e) (name_entry s.name s.target) (entries symbols)
     (differ_all name e (name_entry s.name s.target) s.name h k.0 (named_so s.name s.target))
     (differ_rest name e symbols h k.1)
 
-entries_apart : (symbols : List Symbol) → AreOther symbols → AreApart is_name_before (entries symbols)
+entries_apart : (symbols : List Symbol) → AreOther symbols → AreApart is_entry_before (entries symbols)
 unfolding entries
 entries_apart [] h = tt
 entries_apart (s ∷ symbols) h = by s.target (entries_apart symbols h.1)
   where
-    by : (t : Target) → AreApart is_name_before (entries symbols)
-        → AreApart is_name_before (name_entry s.name t ++ entries symbols)
+    by : (t : Target) → AreApart is_entry_before (entries symbols)
+        → AreApart is_entry_before (name_entry s.name t ++ entries symbols)
     by (target.Variable place w) more = here (has_name place.area)
       where
-        here : (b : Bool) → AreApart is_name_before
+        here : (b : Bool) → AreApart is_entry_before
             ((if b then record { name = upper_case_name s.name; place = place; width = w } ∷ [] else []) ++ entries symbols)
         here true = (differ_rest s.name (record { name = upper_case_name s.name; place = place; width = w }) symbols refl h.0, more)
         here false = more
@@ -245,7 +245,7 @@ first_name (b ∷ bs) some = refl
 pub names_right : (symbols : List Symbol) → HaveNameEntries symbols → good_names [] (name_entries_of symbols) ≡ true
 unfolding entries
 names_right symbols h =
-    good_all name_record after_name name_of_entry (λ e. e.name) is_name_before IsEntry []
+    good_all name_record after_name name_of_entry (λ e. e.name) is_entry_before IsEntry []
     (λ s e. refl) (λ e is. entry_good [] e is (first_name e.name is.some)) (λ a b there rises is. entry_good a.name b is rises)
-    (name_entries_of symbols) (rise_sorted is_name_before (entries symbols) (entries_apart symbols h.1))
-    (all_sorted IsEntry is_name_before (entries symbols) (entries_of symbols h.0))
+    (name_entries_of symbols) (rise_sorted is_entry_before (entries symbols) (entries_apart symbols h.1))
+    (all_sorted IsEntry is_entry_before (entries symbols) (entries_of symbols h.0))

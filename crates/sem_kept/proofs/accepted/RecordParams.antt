@@ -44,8 +44,8 @@ use Rattle.block_layout.specs.Lengths.{length_of_block}
 use Rattle.block_layout.specs.Measures.{types_of_source}
 use Rattle.block_layout.specs.Members.{component_of_name}
 use Rattle.block_layout.specs.Offsets.{width_of}
-use Rattle.block_layout.specs.Rule21.{broken_21, is_twice, declaration_name_here, names_before}
-use Rattle.block_layout.specs.Rule41.{broken_41}
+use Rattle.block_layout.specs.Rule21.{refusals_21, is_twice, declaration_name_here, names_before}
+use Rattle.block_layout.specs.Rule41.{refusals_41}
 use Rattle.block_layout.specs.Rule52.{parameters_in_section, has_too_many_parameters, parameter_count, return_value_count}
 use Rattle.block_layout.specs.Sizes.{alignment, capped_size, cell_bits, element_alignment, element_of, components_end, plain_bits, end_behind_cell, structure_bits, next_multiple}
 use Rattle.block_layout.specs.Types.{Types}
@@ -61,7 +61,8 @@ use Rattle.flat_code.specs.Faults.{field_fault}
 use Rattle.flat_code.specs.Image.{parameter_layout, parameter_bit, parameter_byte, parameter_rows, record_of_param, section_field}
 use Rattle.flat_code.specs.declared.programs.Param.{Param}
 use Rattle.flat_code.proofs.CheckLemmas.{zero_byte_good}
-use Rattle.stl_codegen.specs.GeneratedProgram.{instance_len, offset_of_member, param_here, param_of, params_of, section_number}
+use Rattle.block_layout.specs.ListedParameters.{offset_of_member}
+use Rattle.stl_codegen.specs.GeneratedProgram.{instance_len, param_here, param_of, params_of, section_number}
 use Rattle.stl_codegen.specs.Instruction.{return_last}
 use Rattle.sem_kept.proofs.accepted.Accepted.{IsSoundBlock}
 use Rattle.block_layout.proofs.CommonLemmas.{none_left, none_right, not_broken}
@@ -102,15 +103,15 @@ before_rest P before (d ∷ ds) es h = before_rest P (d ∷ before) ds es h.1
 abbrev pub IsNew : Outside → List Declaration → Declaration → Type 0
 IsNew o before d = (is_twice o before d ≡ false) × (not (init_fits d) ≡ false)
 
-pub declarations_new : (b : Block) → refusals_in_block broken_21 b ≡ [] → refusals_in_block broken_41 b ≡ []
+pub declarations_new : (b : Block) → refusals_in_block refusals_21 b ≡ [] → refusals_in_block refusals_41 b ≡ []
     → AllBefore (IsNew (of_sections b)) [] (section_declarations b)
 declarations_new b h k =
     let o : Outside = of_sections b in
     before_both (λ before d. is_twice o before d ≡ false) (λ before d. not (init_fits d) ≡ false) [] (section_declarations b)
     (before_none (is_twice o) 21 [] (section_declarations b)
-    (none_left (refusals_in_list (broken_21 o) (section_declarations b)) (refusals_in_list (broken_21 of_structure) b.components) h))
+    (none_left (refusals_in_list (refusals_21 o) (section_declarations b)) (refusals_in_list (refusals_21 of_structure) b.components) h))
     (before_none (λ before d. not (init_fits d)) 41 [] (section_declarations b)
-    (none_left (refusals_in_list (broken_41 o) (section_declarations b)) (refusals_in_list (broken_41 of_structure) b.components) k))
+    (none_left (refusals_in_list (refusals_41 o) (section_declarations b)) (refusals_in_list (refusals_41 of_structure) b.components) k))
 
 -- ---- names of cells
 

@@ -19,17 +19,17 @@ use Rattle.stl_ast.specs.declared.operands.Operand.TheVariants as operand
 use Rattle.stl_ast.specs.declared.statements.Statement.{Statement}
 use Rattle.stl_types.specs.Constants.{takes_constant}
 use Rattle.stl_types.specs.Context.{Context}
-use Rattle.stl_types.specs.Forms.{form_of}
+use Rattle.stl_types.specs.OperandRules.{operand_rule_of}
 use Rattle.stl_types.specs.Kinds.{is_operand_of_call}
-use Rattle.stl_types.specs.Operands.{operand_rule, rule_of_resolved_operand, rule_of_resolution, takes_operand}
+use Rattle.stl_types.specs.Operands.{rule_of_operand, rule_of_resolved_operand, rule_of_resolution, takes_operand}
 use Rattle.stl_types.specs.Resolution.{resolution_of}
-use Rattle.stl_types.specs.declared.forms.OperandRule.{OperandRule}
-use Rattle.stl_types.specs.declared.forms.OperandRule.TheVariants as operand_rules
-use Rattle.stl_types.specs.declared.views.Resolution.{Resolution}
-use Rattle.stl_types.specs.declared.views.Resolution.TheVariants.{Resolved}
-use Rattle.stl_types.specs.declared.views.ResolvedOperand.{ResolvedOperand}
-use Rattle.stl_types.specs.declared.views.ResolvedOperand.TheVariants as resolved
-use Rattle.stl_codegen.specs.GeneratedProgram.{stated_from}
+use Rattle.stl_types.specs.declared.operand_rules.OperandRule.{OperandRule}
+use Rattle.stl_types.specs.declared.operand_rules.OperandRule.TheVariants as operand_rules
+use Rattle.stl_types.specs.declared.resolved_operands.Resolution.{Resolution}
+use Rattle.stl_types.specs.declared.resolved_operands.Resolution.TheVariants.{Resolved}
+use Rattle.stl_types.specs.declared.resolved_operands.ResolvedOperand.{ResolvedOperand}
+use Rattle.stl_types.specs.declared.resolved_operands.ResolvedOperand.TheVariants as resolved
+use Rattle.stl_codegen.specs.GeneratedProgram.{instructions_from}
 use Rattle.stl_codegen.specs.Instruction.{instruction}
 use Rattle.stl_codegen.specs.Operations.{call_operation_of, jump_operation_of}
 use Rattle.sem_kept.proofs.accepted.OperandsOperations.{taken_by_rule}
@@ -38,25 +38,25 @@ use Rattle.sem_kept.proofs.accepted.OperandsOperations.{taken_by_rule}
 
 -- as many as aren't empty
 pub stated_count : (c : Context) (body : List Statement) (n : ℕ) (ss : List Statement)
-    → length (stated_from c body n ss) ≡ count_by (λ s. not (is_empty_statement s.code)) ss
+    → length (instructions_from c body n ss) ≡ count_by (λ s. not (is_empty_statement s.code)) ss
 stated_count c body n [] = refl
 stated_count c body n (s ∷ ss) =
     by (is_empty_statement s.code) (stated_count c body n ss) (stated_count c body (suc n) ss)
     ∙ sym (sum_by-cons (λ (s : Statement). cond (not (is_empty_statement s.code)) 1 0) s ss)
   where
     by : (empty : Bool)
-        → length (stated_from c body n ss) ≡ count_by (λ s. not (is_empty_statement s.code)) ss
-        → length (stated_from c body (suc n) ss) ≡ count_by (λ s. not (is_empty_statement s.code)) ss
-        → length (if empty then stated_from c body n ss
-        else record { instr = instruction c body n s; line = s.line } ∷ stated_from c body (suc n) ss)
+        → length (instructions_from c body n ss) ≡ count_by (λ s. not (is_empty_statement s.code)) ss
+        → length (instructions_from c body (suc n) ss) ≡ count_by (λ s. not (is_empty_statement s.code)) ss
+        → length (if empty then instructions_from c body n ss
+        else record { instr = instruction c body n s; line = s.line } ∷ instructions_from c body (suc n) ss)
         ≡ cond (not empty) 1 0 + count_by (λ s. not (is_empty_statement s.code)) ss
     by true same next = omega (arith, same)
     by false same next = omega (arith, next)
 
 -- ---- the forms of instructions
 
-pub jump_form : (m : Mnemonic) (how : JumpOperation) → jump_operation_of m ≡ Some how → form_of m ≡ operand_rules.Jumps
-unfolding form_of
+pub jump_form : (m : Mnemonic) (how : JumpOperation) → jump_operation_of m ≡ Some how → operand_rule_of m ≡ operand_rules.Jumps
+unfolding operand_rule_of
 jump_form code.Ju how h = refl
 jump_form code.Jl how h = refl
 jump_form code.Jc how h = refl
@@ -77,8 +77,8 @@ jump_form code.Juo how h = refl
 jump_form code.Loop how h = refl
 jump_form _ how h = absurd cc
 
-pub call_form : (m : Mnemonic) (how : CallOperation) → call_operation_of m ≡ Some how → form_of m ≡ operand_rules.Calls
-unfolding form_of
+pub call_form : (m : Mnemonic) (how : CallOperation) → call_operation_of m ≡ Some how → operand_rule_of m ≡ operand_rules.Calls
+unfolding operand_rule_of
 call_form code.Call how h = refl
 call_form code.Uc how h = refl
 call_form code.Cc how h = refl
@@ -90,7 +90,7 @@ abbrev allowed_if : Bool → Option ℕ
 allowed_if b = if b then None else Some 25
 
 pub rule_there : (c : Context) (f : OperandRule) (o : Operand) (v : ResolvedOperand)
-    → ((value : Literal) → takes_constant f value ≡ false) → operand_rule c f o ≡ None
+    → ((value : Literal) → takes_constant f value ≡ false) → rule_of_operand c f o ≡ None
     → resolution_of c o ≡ Resolved v → rule_of_resolved_operand f v ≡ None
 rule_there c f (operand.Constant value) v never h e = by (takes_constant f value) (never value) h
   where

@@ -14,7 +14,7 @@ use Rattle.stl_symbols.specs.declared.targets.Target.{Target}
 use Rattle.stl_symbols.specs.declared.targets.Target.TheVariants as target
 use Rattle.stl_symbols.proofs.FileLemmas.{symbols_right}
 use Rattle.stl_codegen.specs.GeneratedProgram.{has_name, name_entry, name_entries_of}
-use Rattle.stl_codegen.specs.Order.{is_name_before}
+use Rattle.stl_codegen.specs.Order.{is_entry_before}
 use Rattle.sem_kept.proofs.accepted.Accepted.{all_mapped}
 use Rattle.sem_kept.proofs.accepted.SizesSums.{sorted_length, sorted_sum, summed_ones}
 
@@ -99,10 +99,10 @@ names_size symbols are =
       arith,
       are.few,
       entries_size symbols are.each,
-      sorted_sum is_name_before name_size entries,
+      sorted_sum is_entry_before name_size entries,
     )
 
 pub names_count : (symbols : List Symbol) → AreShortSymbols symbols → length (name_entries_of symbols) ≤ 65535
 names_count symbols are =
     let entries = flat_map (λ (s : Symbol). name_entry s.name s.target) symbols in
-    omega (arith, are.few, entries_count symbols, sorted_length is_name_before entries)
+    omega (arith, are.few, entries_count symbols, sorted_length is_entry_before entries)

@@ -47,23 +47,23 @@ use Rattle.stl_symbols.specs.declared.targets.Target.TheVariants as target
 use Rattle.stl_types.specs.Addresses.{area_for_letters}
 use Rattle.stl_types.specs.Context.{Context, data_number}
 use Rattle.stl_types.specs.Kinds.{is_operand_of_call}
-use Rattle.stl_types.specs.Operands.{operand_rule, rule_of_resolved_operand, statement_rule, takes_operand}
+use Rattle.stl_types.specs.Operands.{rule_of_operand, rule_of_resolved_operand, statement_rule, takes_operand}
 use Rattle.stl_types.specs.Parameters.{callee_of}
 use Rattle.stl_types.specs.ResolvedStatement.{operand_if_resolved}
 use Rattle.stl_types.specs.Resolution.{resolution_of_call, resolution_of_address, resolution_of_opened_block, resolution_of_path, register_for_word, resolution_of}
-use Rattle.stl_types.specs.declared.forms.OperandRule.{OperandRule}
-use Rattle.stl_types.specs.declared.forms.OperandRule.TheVariants as operand_rules
-use Rattle.stl_types.specs.declared.views.Register.{Register}
-use Rattle.stl_types.specs.declared.views.Register.TheVariants as register
-use Rattle.stl_types.specs.declared.views.Resolution.{Resolution}
-use Rattle.stl_types.specs.declared.views.Resolution.TheVariants.{Unjudged, Resolved, Unknown}
-use Rattle.stl_types.specs.declared.views.ResolvedOperand.{ResolvedOperand}
-use Rattle.stl_types.specs.declared.views.ResolvedOperand.TheVariants as resolved
+use Rattle.stl_types.specs.declared.operand_rules.OperandRule.{OperandRule}
+use Rattle.stl_types.specs.declared.operand_rules.OperandRule.TheVariants as operand_rules
+use Rattle.stl_types.specs.declared.resolved_operands.Register.{Register}
+use Rattle.stl_types.specs.declared.resolved_operands.Register.TheVariants as register
+use Rattle.stl_types.specs.declared.resolved_operands.Resolution.{Resolution}
+use Rattle.stl_types.specs.declared.resolved_operands.Resolution.TheVariants.{Unjudged, Resolved, Unknown}
+use Rattle.stl_types.specs.declared.resolved_operands.ResolvedOperand.{ResolvedOperand}
+use Rattle.stl_types.specs.declared.resolved_operands.ResolvedOperand.TheVariants as resolved
 use Rattle.stl_codegen.specs.CompiledBlock.{SourceInstruction, operand_with_target, op_with_target, code_in, lines_in, ops_in, placed_ops}
 use Rattle.stl_codegen.specs.EmittedOps.{call_op, op_with_end_mark, use_db_ops, ops_of, pass_ops, preparing_op}
-use Rattle.stl_codegen.specs.GeneratedProgram.{return_statement, stated_from, statements_of}
+use Rattle.stl_codegen.specs.GeneratedProgram.{return_statement, instructions_from, statements_of}
 use Rattle.stl_codegen.specs.Instruction.{call_instr, end_instr, filler_instruction, instr_by, instruction, jump_instr, passings_to, resolved_instr, target_of, operand_instr}
-use Rattle.stl_codegen.specs.Operands.{is_db, is_in_named_block, numbered_operand, block_opened_by_operand, opened_by_place, flat_operand_of, register_operand}
+use Rattle.stl_codegen.specs.Operands.{is_db, is_in_named_block, numbered_operand, block_opened_by_operand, block_opened_by_place, flat_operand_of, register_operand}
 use Rattle.stl_codegen.specs.Operations.{call_operation_of, end_operation_of, jump_operation_of, operation_for}
 use Rattle.sem_kept.proofs.accepted.OperandsInstr.{resolved_is}
 use Rattle.sem_kept.proofs.ReachedLemmas.{AnyNumber, HasNumber, IsReached, data_path_reached, direct_reached, own_reached, symbol_reached}
@@ -222,11 +222,11 @@ none_opened : (b : Bool) (n m : ℕ) → n ≡ 0
 none_opened true n m h = rw h refl
 none_opened false n m h = refl
 
-apart_fits : (place : Place) → place.number ≡ 0 → opened_size (opened_by_place place) ≤ 0
+apart_fits : (place : Place) → place.number ≡ 0 → opened_size (block_opened_by_place place) ≤ 0
 apart_fits place h = rw (none_opened (is_db place.area) place.number place.number h) (omega arith)
 
 -- any place
-place_fits : (place : Place) → Unit {0} → opened_size (opened_by_place place) ≤ 4
+place_fits : (place : Place) → Unit {0} → opened_size (block_opened_by_place place) ≤ 4
 place_fits place h = by (is_in_named_block place)
   where
     by : (named : Bool) → opened_size (if named then Some place.number else None) ≤ 4
@@ -234,7 +234,7 @@ place_fits place h = by (is_in_named_block place)
     by false = omega arith
 
 -- what is reached, with so many bytes at most for the op that opens its data block
-reached_fits : (P : ℕ → Type 0) (n : ℕ) (o : Operand) → ((place : Place) → P place.number → opened_size (opened_by_place place) ≤ n)
+reached_fits : (P : ℕ → Type 0) (n : ℕ) (o : Operand) → ((place : Place) → P place.number → opened_size (block_opened_by_place place) ≤ n)
     → (s : Resolution) → IsReached P s → ResolvedOpsFit (7 + n) o s
 unfolding flat_operand_of
 reached_fits P n o few (Resolved (resolved.Direct place w side declared)) h = omega (arith, few place h)
@@ -386,7 +386,7 @@ jump_fits c n s how is jumps target =
     by : (x : Resolution) → resolution_of c s.operand ≡ x → IsWide (operand_ops_size s.operand) x → 7 ≤ operand_ops_size s.operand
     by (Resolved v) e wide =
         jump_wide (operand_ops_size s.operand) v (rule_there c operand_rules.Jumps s.operand v no_jump_constant
-        (ap (λ (f : OperandRule). operand_rule c f s.operand) (sym (jump_form s.code how jumps)) ∙ is.allowed) e)
+        (ap (λ (f : OperandRule). rule_of_operand c f s.operand) (sym (jump_form s.code how jumps)) ∙ is.allowed) e)
         wide
     by _ e wide = wide
 
@@ -416,7 +416,7 @@ operand_instr_fits c s v None calls fine is e wide =
     omega (arith, end_fits c s v (end_operation_of s.code) fine e)
 operand_instr_fits c s v (Some how) calls fine is e wide =
     called_view_fits c s how v (calls_called v (rule_there c operand_rules.Calls s.operand v no_call_constant
-    (ap (λ (f : OperandRule). operand_rule c f s.operand) (sym (call_form s.code how calls)) ∙ is.allowed) e)) wide is.few
+    (ap (λ (f : OperandRule). rule_of_operand c f s.operand) (sym (call_form s.code how calls)) ∙ is.allowed) e)) wide is.few
 
 filler_sized : bytes_in (ops_of filler_instruction) ≡ 6
 unfolding ops_of
@@ -460,7 +460,7 @@ stated_size ss = bytes_in (ops_in ss) + 4 * length ss
 
 pub body_fits : (c : Context) (body : List Statement) (n : ℕ) (ss : List Statement)
     → AllByRecursion IsShortSymbol c.symbols → AllByRecursion (IsTaken c) ss
-    → stated_size (stated_from c body n ss) ≤ sum_by statement_size ss
+    → stated_size (instructions_from c body n ss) ≤ sum_by statement_size ss
 body_fits c body n [] fine h = omega arith
 body_fits c body n (s ∷ ss) fine h =
     omega (
@@ -471,10 +471,10 @@ body_fits c body n (s ∷ ss) fine h =
     )
   where
     by : (empty : Bool) → is_empty_statement s.code ≡ empty
-        → stated_size (stated_from c body n ss) ≤ sum_by statement_size ss
-        → stated_size (stated_from c body (suc n) ss) ≤ sum_by statement_size ss
-        → stated_size (if empty then stated_from c body n ss
-        else record { instr = instruction c body n s; line = s.line } ∷ stated_from c body (suc n) ss)
+        → stated_size (instructions_from c body n ss) ≤ sum_by statement_size ss
+        → stated_size (instructions_from c body (suc n) ss) ≤ sum_by statement_size ss
+        → stated_size (if empty then instructions_from c body n ss
+        else record { instr = instruction c body n s; line = s.line } ∷ instructions_from c body (suc n) ss)
         ≤ statement_size s + sum_by statement_size ss
     by true e same next = omega (arith, same)
     by false e same next =
@@ -484,7 +484,7 @@ body_fits c body n (s ∷ ss) fine h =
           next,
           statement_fits c body n s fine h.0,
           code_sized s.code s.operand (length s.actuals) e,
-          bytes_both (ops_of one.instr) (ops_in (stated_from c body (suc n) ss)),
+          bytes_both (ops_of one.instr) (ops_in (instructions_from c body (suc n) ss)),
         )
 
 -- with the statement that returns
@@ -497,7 +497,7 @@ pub whole_fits : (c : Context) (b : Block) → AllByRecursion IsShortSymbol c.sy
     ≤ body_size b
 unfolding statements_of
 whole_fits c b fine h has =
-    let ss = stated_from c b.body 0 b.body in
+    let ss = instructions_from c b.body 0 b.body in
     let all = ss ++ return_statement b ∷ [] in
     omega (
       arith,
@@ -518,7 +518,7 @@ pub whole_count : (c : Context) (b : Block)
     → length (lines_in (statements_of c b)) ≡ count_by (λ s. not (is_empty_statement s.code)) b.body + 1
 unfolding statements_of
 whole_count c b =
-    let ss = stated_from c b.body 0 b.body in
+    let ss = instructions_from c b.body 0 b.body in
     omega (
       arith,
       length-map (ss ++ return_statement b ∷ []) (λ s. s.line),

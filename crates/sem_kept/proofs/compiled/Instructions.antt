@@ -23,18 +23,18 @@ use Rattle.block_layout.specs.Blocks.{is_id, is_block_number, place_of_block, kn
 use Rattle.block_layout.specs.Paths.{whole_at, whole_block}
 use Rattle.block_layout.specs.declared.blocks.BlockLayout.{BlockLayout}
 use Rattle.stl_types.specs.Context.{Context, source_block_ids, number_of_block, data_place, data_number}
-use Rattle.stl_types.specs.Forms.{form_of}
-use Rattle.stl_types.specs.Operands.{rule_of_resolved_operand, rule_of_resolution, operand_rule, statement_rule}
+use Rattle.stl_types.specs.OperandRules.{operand_rule_of}
+use Rattle.stl_types.specs.Operands.{rule_of_resolved_operand, rule_of_resolution, rule_of_operand, statement_rule}
 use Rattle.stl_types.specs.ResolvedStatement.{operand_if_resolved, resolved_operand}
 use Rattle.stl_types.specs.Resolution.{resolution_of_path, resolution_of_address, resolution_of_opened_block, resolution_of_call, instance_number, whole_called_block as whole_called, resolution_of}
-use Rattle.stl_types.specs.declared.forms.OperandRule.{OperandRule}
-use Rattle.stl_types.specs.declared.forms.OperandRule.TheVariants as operand_rules
-use Rattle.stl_types.specs.declared.views.Register.{Register}
-use Rattle.stl_types.specs.declared.views.Register.TheVariants as register
-use Rattle.stl_types.specs.declared.views.Resolution.{Resolution}
-use Rattle.stl_types.specs.declared.views.Resolution.TheVariants.{Resolved, Unknown, Unjudged}
-use Rattle.stl_types.specs.declared.views.ResolvedOperand.{ResolvedOperand}
-use Rattle.stl_types.specs.declared.views.ResolvedOperand.TheVariants as resolved
+use Rattle.stl_types.specs.declared.operand_rules.OperandRule.{OperandRule}
+use Rattle.stl_types.specs.declared.operand_rules.OperandRule.TheVariants as operand_rules
+use Rattle.stl_types.specs.declared.resolved_operands.Register.{Register}
+use Rattle.stl_types.specs.declared.resolved_operands.Register.TheVariants as register
+use Rattle.stl_types.specs.declared.resolved_operands.Resolution.{Resolution}
+use Rattle.stl_types.specs.declared.resolved_operands.Resolution.TheVariants.{Resolved, Unknown, Unjudged}
+use Rattle.stl_types.specs.declared.resolved_operands.ResolvedOperand.{ResolvedOperand}
+use Rattle.stl_types.specs.declared.resolved_operands.ResolvedOperand.TheVariants as resolved
 use Rattle.stl_codegen.specs.Instruction.{numbers_from, jump_instr, target_of, call_instr, end_instr, operand_instr, resolved_instr, instr_by, instruction}
 use Rattle.stl_codegen.specs.Operands.{numbered_operand, register_operand, flat_operand_of}
 use Rattle.stl_codegen.specs.Operations.{jump_operation_of, call_operation_of, end_operation_of}
@@ -85,7 +85,7 @@ resolved_by_rule (Some rule) x v e = absurd cc
 
 -- an operand that names a called block breaks the rule of what it names
 rule_none : (c : Context) (f : OperandRule) (o : Operand) (id : BlockId) (i : Option ℕ)
-    → operand_rule c f o ≡ None → resolution_of c o ≡ Resolved (resolved.Called id i)
+    → rule_of_operand c f o ≡ None → resolution_of c o ≡ Resolved (resolved.Called id i)
     → rule_of_resolved_operand f (resolved.Called id i) ≡ None
 unfolding resolution_of
 rule_none c f (operand.Constant value) id i e s = absurd cc
@@ -253,9 +253,9 @@ called_made : (c : Context) (n : ℕ) (s : Statement) (how : CallOperation) (v :
 unfolding resolved_operand
 called_made c n s how (resolved.Called id i) is e =
     let t = resolved_by_rule (statement_rule c s) (resolution_of c s.operand) (resolved.Called id i) is in
-    let rule : rule_of_resolved_operand (form_of s.code) (resolved.Called id i) ≡ None =
-    rule_none c (form_of s.code) s.operand id i t.0 t.1 in
-    let calls_form : form_of s.code ≡ operand_rules.Calls = call_form s.code how e in (
+    let rule : rule_of_resolved_operand (operand_rule_of s.code) (resolved.Called id i) ≡ None =
+    rule_none c (operand_rule_of s.code) s.operand id i t.0 t.1 in
+    let calls_form : operand_rule_of s.code ≡ operand_rules.Calls = call_form s.code how e in (
       rule_callable id i (ap (λ (f : OperandRule). rule_of_resolved_operand f (resolved.Called id i)) (sym calls_form) ∙ rule),
       instance_is c s.operand id i t.1,
     )

@@ -21,7 +21,8 @@ use Rattle.flat_code.specs.declared.operands.Operand.TheVariants as operand
 use Rattle.flat_code.specs.declared.operations.Operation.{Operation}
 use Rattle.flat_code.specs.declared.operations.Operation.TheVariants as operation
 use Rattle.machine.specs.Flat.{OpRun, op_run_at, with_op, use_db_of, passings_of, list_of, most_listed, instance_named, instr_of, fetched_of, statement_fetched}
-use Rattle.stl_codegen.specs.EmittedOps.{ops_of, op_with_end_mark, use_db_ops, pass_ops, jump_op, call_op, end_op, instance_number_or_zero}
+use Rattle.block_layout.specs.Fits.{number_or_zero}
+use Rattle.stl_codegen.specs.EmittedOps.{ops_of, op_with_end_mark, use_db_ops, pass_ops, jump_op, call_op, end_op}
 use Rattle.flat_code.specs.declared.operations.EndOperation.TheVariants as ends
 use Rattle.stl_codegen.specs.CompiledBlock.{SourceInstruction, ops_in, offset_from, offset_of_statement, operand_with_target, op_with_target, placed_ops, code_in, lines_in}
 use Rattle.stl_codegen.specs.Instruction.{numbers_from}
@@ -284,7 +285,7 @@ kind_back kinds.Ob h = absurd cc
 kind_back kinds.Db h = absurd cc
 kind_back kinds.Udt h = absurd cc
 
-instance_back : (instance : Option ℕ) → IsInstanceNumber instance → instance_named (instance_number_or_zero instance) ≡ instance
+instance_back : (instance : Option ℕ) → IsInstanceNumber instance → instance_named (number_or_zero instance) ≡ instance
 instance_back None h = refl
 instance_back (Some number) h = rw (ne_eqb number 0 (λ e. omega (arith, e, h))) refl
 

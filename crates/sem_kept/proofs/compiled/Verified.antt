@@ -40,7 +40,7 @@ use Rattle.stl_types.specs.Bodies.{first_context}
 use Rattle.stl_types.specs.Context.{Context}
 use Rattle.stl_codegen.specs.CompiledBlock.{SourceInstruction, StatedBlock, compiled_block, code_in, ops_in, offset_from, offset_of_statement, operand_with_target, op_with_target}
 use Rattle.stl_codegen.specs.EmittedOps.{preparing_op, op_with_end_mark, pass_ops, jump_op, call_op, end_op}
-use Rattle.stl_codegen.specs.GeneratedProgram.{stated_from, statements_of, code_block, code_block_of, each_block, code_blocks_of, program_of}
+use Rattle.stl_codegen.specs.GeneratedProgram.{instructions_from, statements_of, code_block, code_block_of, each_block, code_blocks_of, program_of}
 use Rattle.stl_codegen.specs.Order.{is_code_before}
 use Rattle.stl_codegen.specs.Instruction.{numbers_from, instruction}
 use Rattle.sem_kept.specs.Back.{is_target, is_ju, IsJu, IsList, IsGeneratedInstruction, AreCompiled}
@@ -63,16 +63,16 @@ record IsMadeBlock (b : StatedBlock) : Type 0 where
   made : AreMade 0 inner
 
 stated_made : (c : Context) (all : List Statement) (n : ℕ) (ss : List Statement)
-    → AreMade n (stated_from c all n ss)
+    → AreMade n (instructions_from c all n ss)
 stated_made c all n [] = tt
 stated_made c all n (s ∷ ss) =
     by (is_empty_statement s.code) (stated_made c all n ss) (stated_made c all (suc n) ss)
   where
-    by : (empty : Bool) → AreMade n (stated_from c all n ss)
-        → AreMade (suc n) (stated_from c all (suc n) ss)
-        → AreMade n (if empty then stated_from c all n ss
+    by : (empty : Bool) → AreMade n (instructions_from c all n ss)
+        → AreMade (suc n) (instructions_from c all (suc n) ss)
+        → AreMade n (if empty then instructions_from c all n ss
         else record { instr = instruction c all n s; line = s.line }
-        ∷ stated_from c all (suc n) ss)
+        ∷ instructions_from c all (suc n) ss)
     by true same next = same
     by false same next = (instruction_made c all n s, next)
 
@@ -80,7 +80,7 @@ made_block : (c : Context) (b : Block) (l : BlockLayout) (id : BlockId)
     → IsMadeBlock (code_block c b l id)
 unfolding statements_of
 made_block c b l id = record {
-  inner = stated_from c b.body 0 b.body;
+  inner = instructions_from c b.body 0 b.body;
   line = b.end_line;
   whole = refl;
   made = stated_made c b.body 0 b.body;

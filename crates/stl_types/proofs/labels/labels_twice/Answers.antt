@@ -11,7 +11,7 @@ loop-statement-init c = lesser_first _ ∙ ap (λ (l : List (List ℕ)). least (
 
 pub loop-statement-preserved : goal.loop-statement-preserved
 loop-statement-preserved c =
-    let one = c.broken_if.ensures ∙ ap (λ (v : Bool). least (broken_if v c.statement-item.result.line 27)) c.is_twice-twice.ensures in
+    let one = c.broken_if.ensures ∙ ap (λ (v : Bool). least (broken_if v c.statement-item.result.line 27)) c.is_repeated_label-twice.ensures in
     gathered_next (λ s. false) (λ before (s : Statement). broken_if (is_repeated_label before s.label) s.line 27) (λ before (s : Statement). before ++ label_of s.label)
     c.loop-statement.before c.add_label.new.labels c.args.body.now c.loop-statement.statement-index c.statement-item.result _ _ _ _ c.loop-statement-test.true c.statement-item.is refl
     one c.lesser-found.ensures c.in_ok-add_label.ensures c.loop-statement.invariant

@@ -1,7 +1,0 @@
-use Rattle.block_layout.proofs.PathLemmas.{named_structure}
-use Rattle.block_layout.proofs.walks.named_in.Goals as goal
-
-pub returns-in-Structure-clause-value : goal.returns-in-Structure-clause-value
-returns-in-Structure-clause-value c =
-    named_structure c.args.layouts.now c.args.component c.args.name.now c.args.cell.now c.args.layout.now c.inner-found.result c.found_at.result
-    c.requires.layout c.requires.cell c.inner-found.ensures.value c.found_at.ensures.value c.in-Structure.is
