@@ -65,7 +65,10 @@ impl Cpu {
             .serve(number, inputs, to, &mut self.memory, &mut self.sched);
         let regs = self.activations.regs().unwrap_or(position.regs);
         if let Some(cause) = stop {
-            self.halt_at(statement_start_at(program, position.block, position.at), cause);
+            self.halt_at(
+                statement_start_at(program, position.block, position.at),
+                cause,
+            );
         }
         regs
     }

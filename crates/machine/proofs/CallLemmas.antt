@@ -35,14 +35,14 @@ use Rattle.machine.proofs.Keeping.{IfDone, KeepsLocalMemory, open_after}
 use Rattle.machine.proofs.Moving.{some_there, stands_of, fits_of, frames_are, frame_open, frame_follows, activation_follows}
 use Rattle.machine.proofs.ReturnLemmas.{params_in_kept}
 use Rattle.machine.proofs.Sizes.{same_sizes}
-use Rattle.machine.proofs.Standing.{StatementStart, statement_start_there, nothing_open, entry_start, opens_there, statement_there}
+use Rattle.machine.proofs.Standing.{IsStatementStart, statement_start_there, nothing_open, entry_start, opens_there, statement_there}
 
 -- ---- the innermost frame goes on
 
 -- at a position, with other registers
 pub going_fits :
     (l : ImageLaws) (p : Program) (m : Areas) (a : Activation) (next : ℕ) (r : Regs) → FitsProgram p m a
-    → StatementStart p a.running.frame.block next (frame_open a.running.frame) → FitsProgram p m (activation_continued_at next r a)
+    → IsStatementStart p a.running.frame.block next (frame_open a.running.frame) → FitsProgram p m (activation_continued_at next r a)
 going_fits l p m a next r h statement_start =
     let was = stands_of (code_of p) (open_codes p) m a h.fits in
     activation_follows l p m m a (record a.running { regs = r; frame = record a.running.frame { at = next } }) (same_sizes m) h
@@ -106,7 +106,7 @@ head_there p block b found = rw found refl
 pub record Caller (p : Program) (m : Areas) (a : Activation) (next : ℕ) : Type 0 where
   pub fits : FitsProgram p m a
   pub verifies : Verifies p
-  pub statement_start : StatementStart p a.running.frame.block next (frame_open a.running.frame)
+  pub statement_start : IsStatementStart p a.running.frame.block next (frame_open a.running.frame)
 
 -- the caller's frame behind the call
 abbrev pub caller : Activation → ℕ → Frame

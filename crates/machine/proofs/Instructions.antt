@@ -77,7 +77,7 @@ use Rattle.machine.proofs.ReturnLemmas.{returned_lasts}
 use Rattle.machine.proofs.Systems.{function_called_lasts}
 use Rattle.machine.proofs.Sizes.{same_sizes}
 use Rattle.machine.proofs.OpenBehind.{is_other, nest_opens, opening_operation, two_or_four, behind_op, open_behind_op, opening_code, ending_code}
-use Rattle.machine.proofs.Standing.{StatementStart, Statement, AllBefore, ends_here, none_before, statement_start_there, statement_there, next_start, target_start, next_op, op_here}
+use Rattle.machine.proofs.Standing.{IsStatementStart, Statement, AllBefore, ends_here, none_before, statement_start_there, statement_there, next_start, target_start, next_op, op_here}
 
 -- an activation that fits a program that verifies, and the statement at which it stands
 pub record At (p : Program) (a : Activation) (w : GlobalStore) : Type 0 where
@@ -109,10 +109,10 @@ code_goes_on code h is = let e : true ≡ false = rw is at h in cc
 next_same :
     (l : ImageLaws) (p : Program) (a : Activation) (w : GlobalStore) (at : At p a w) (v : Operation)
     → operation_of at.here.run.last.code ≡ v → is_be v ≡ false → KeepsOpen v
-    → StatementStart p a.running.frame.block at.here.run.next (frame_open a.running.frame)
+    → IsStatementStart p a.running.frame.block at.here.run.next (frame_open a.running.frame)
 next_same l p a w at v is goes quiet =
     let f = a.running.frame in
-    subst (λ (held : OpenAt). StatementStart p f.block at.here.run.next held)
+    subst (λ (held : OpenAt). IsStatementStart p f.block at.here.run.next held)
     (ap (λ (z : Operation). open_after_operation z (frame_open f)) is ∙ quiet (frame_open f))
     (next_start l p f.block f.at (frame_open f) at.here (code_goes_on at.here.run.last.code (ap is_be is ∙ goes)))
 
@@ -136,7 +136,7 @@ went_fits l p a w at v q is goes kept =
       db = kept.db was.frame.db was.frame.di;
       di = kept.di was.frame.db was.frame.di;
       held = open_after_operation v (frame_open f);
-      statement_start = subst (λ (z : Operation). StatementStart p f.block at.here.run.next (open_after_operation z (frame_open f))) is
+      statement_start = subst (λ (z : Operation). IsStatementStart p f.block at.here.run.next (open_after_operation z (frame_open f))) is
           (next_start l p f.block f.at (frame_open f) at.here (code_goes_on at.here.run.last.code (ap is_be is ∙ goes)));
       same = kept.held;
     }) kept.starts kept.len
@@ -205,11 +205,11 @@ jl_kind kind is = let e = jl_at 0 JUMPS kind jumps_known is in omega (arith, e)
 -- each target of a list is a statement with this open before it
 abbrev AreStatementStarts : Program → BlockId → OpenAt → List ℕ → Type 0
 AreStatementStarts p block held [] = Unit {0}
-AreStatementStarts p block held (at ∷ rest) = StatementStart p block at held × AreStatementStarts p block held rest
+AreStatementStarts p block held (at ∷ rest) = IsStatementStart p block at held × AreStatementStarts p block held rest
 
 picked_start :
     (p : Program) (block : BlockId) (held : OpenAt) (list : List ℕ) (i otherwise : ℕ) → AreStatementStarts p block held list
-    → StatementStart p block otherwise held → StatementStart p block (unwrap_or (slice_get list i) otherwise) held
+    → IsStatementStart p block otherwise held → IsStatementStart p block (unwrap_or (slice_get list i) otherwise) held
 picked_start p block held [] i otherwise all other = other
 picked_start p block held (at ∷ rest) zero otherwise all other = all.0
 picked_start p block held (at ∷ rest) (suc i) otherwise all other = picked_start p block held rest i otherwise all.1 other
@@ -247,10 +247,10 @@ ju_is _ h = absurd cc
 abbrev AtRest : Program → BlockId → CodeBlock → OpenAt → (at : ℕ) → List OpData → Type 0
 AtRest p block b held at [] = Unit {0}
 AtRest p block b held at (op ∷ ops) =
-    (s : StatementStart p block at held) × (s.b ≡ b) × (s.q.op ≡ op) × (s.q.rest ≡ ops)
+    (s : IsStatementStart p block at held) × (s.b ≡ b) × (s.q.op ≡ op) × (s.q.rest ≡ ops)
 
 op_listed :
-    (p : Program) (block : BlockId) (b : CodeBlock) (at : ℕ) (held : OpenAt) (s : StatementStart p block at held) (op : OpData)
+    (p : Program) (block : BlockId) (b : CodeBlock) (at : ℕ) (held : OpenAt) (s : IsStatementStart p block at held) (op : OpData)
     → s.b ≡ b → s.q.op ≡ op → op_placed 0 b.code at ≡ Some (op, at + size_of_op op)
 op_listed p block b at held s op is same =
     ap (λ (z : CodeBlock). op_placed 0 z.code at) (sym is)
@@ -261,7 +261,7 @@ op_listed p block b at held s op is same =
 
 -- behind a jump the next statement stands
 behind_jump :
-    (l : ImageLaws) (p : Program) (block : BlockId) (b : CodeBlock) (at : ℕ) (held : OpenAt) (s : StatementStart p block at held)
+    (l : ImageLaws) (p : Program) (block : BlockId) (b : CodeBlock) (at : ℕ) (held : OpenAt) (s : IsStatementStart p block at held)
     (kind target : ℕ) (op : OpData) (rest : List OpData) → s.b ≡ b → s.q.op ≡ op → s.q.rest ≡ rest
     → op.operand ≡ operand.Jump kind target → AtRest p block b held (at + size_of_op op) rest
 behind_jump l p block b at held s kind target op [] is same split jumps = tt
@@ -320,7 +320,7 @@ jump_list_lasts l p a w at target is operand_is =
     let s = at.here in
     let last_is : s.run_end.last.op.operand ≡ operand.Jump 1 target = ap (λ (z : OpData). z.operand) s.run_end.same ∙ operand_is in
     let next_is : s.run.next ≡ s.run_end.last.at + size_of_op s.run_end.last.op = s.run_end.next in
-    let here : StatementStart p f.block s.run.next held = next_same l p a w at operation.Jump is refl (λ held. refl) in
+    let here : IsStatementStart p f.block s.run.next held = next_same l p a w at operation.Jump is refl (λ held. refl) in
     let list = list_start l p f.block s.statement_start.b held target most_listed s.run.next s.run_end.last.rest
     (ap (λ (k : ℕ). leads_to_target 255 target k s.run_end.last.rest) next_is ∙ l.lists p s.statement_start.b s.run_end.last target s.run_end.op last_is)
     (behind_last s.run_end.last.rest refl) in
@@ -336,7 +336,7 @@ jump_list_lasts l p a w at target is operand_is =
     behind_last [] split = tt
     behind_last (n ∷ ops) split = (next_is_op n ops split, refl, refl, refl)
       where
-        next_is_op : (n : OpData) (ops : List OpData) → at.here.run_end.last.rest ≡ n ∷ ops → StatementStart p a.running.frame.block at.here.run.next (frame_open a.running.frame)
+        next_is_op : (n : OpData) (ops : List OpData) → at.here.run_end.last.rest ≡ n ∷ ops → IsStatementStart p a.running.frame.block at.here.run.next (frame_open a.running.frame)
         next_is_op n ops split = record {
           b = at.here.statement_start.b;
           q = behind_op at.here.run_end.last n ops;

@@ -16,7 +16,7 @@ use Rattle.machine.specs.Lasting.{FitsProgram}
 use Rattle.machine.specs.OpenBrackets.{open_codes}
 use Rattle.machine.proofs.FrameBytes.{locals_kept, locals_moved}
 use Rattle.machine.proofs.Sizes.{memory_stays}
-use Rattle.machine.proofs.Standing.{StatementStart, statement_there, opens_there}
+use Rattle.machine.proofs.Standing.{IsStatementStart, statement_there, opens_there}
 use Rattle.machine.proofs.Staying.{frames_still}
 
 -- ---- an activation in which a frame stands
@@ -72,7 +72,7 @@ pub record Follows (p : Program) (n : Areas) (f g : Frame) : Type 0 where
   pub db : IsOpen g.db n
   pub di : IsOpen g.di n
   pub held : OpenAt
-  pub statement_start : StatementStart p g.block g.at held
+  pub statement_start : IsStatementStart p g.block g.at held
   pub same : frame_open g ≡ held
 
 same_block :

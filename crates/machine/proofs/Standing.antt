@@ -173,7 +173,7 @@ run_is l p b (suc most) q r h e =
 -- ---- a statement begins
 
 -- a statement of a block begins at an offset, and this is open before it
-pub record StatementStart (p : Program) (block : BlockId) (at : ℕ) (held : OpenAt) : Type 0 where
+pub record IsStatementStart (p : Program) (block : BlockId) (at : ℕ) (held : OpenAt) : Type 0 where
   pub b : CodeBlock
   pub q : PlacedOp
   pub found : block_by_id block p.code_blocks ≡ Some b
@@ -188,7 +188,7 @@ none_before (op ∷ before) e = absurd cc
 
 -- a statement of a block at an offset: where it begins, its source line and its run of ops
 pub record Statement (p : Program) (block : BlockId) (at : ℕ) (held : OpenAt) : Type 0 where
-  pub statement_start : StatementStart p block at held
+  pub statement_start : IsStatementStart p block at held
   pub line : ℕ
   pub run : OpRun
   pub fetched : (code_of p).fetch block at ≡ Some (fetched_of statement_start.b.code line run)
@@ -205,7 +205,7 @@ unfolding statement_fetched
 fetched_there b at line r has run = rw (has, run) refl
 
 pub statement_there :
-    (l : ImageLaws) (p : Program) (block : BlockId) (at : ℕ) (held : OpenAt) → StatementStart p block at held
+    (l : ImageLaws) (p : Program) (block : BlockId) (at : ℕ) (held : OpenAt) → IsStatementStart p block at held
     → Statement p block at held
 statement_there l p block at held s =
     let few : most_ops + length s.q.before ≡ 64 = ap (λ (z : List OpData). 64 + length z) (none_before s.q.before s.begun) in
@@ -222,7 +222,7 @@ statement_there l p block at held s =
     }
 
 pub opens_there :
-    (p : Program) (block : BlockId) (at : ℕ) (held : OpenAt) → StatementStart p block at held
+    (p : Program) (block : BlockId) (at : ℕ) (held : OpenAt) → IsStatementStart p block at held
     → open_codes p block at ≡ Some held
 opens_there p block at held s =
     let place : placed_at at (code_places s.b.code) ≡ Some s.q = ap (λ (k : ℕ). placed_at k (code_places s.b.code)) (sym s.offset) ∙ s.op.place in
@@ -238,11 +238,11 @@ place_offset (p ∷ qs) at q found = by (eqb p.at at) refl found (λ e. place_of
 
 pub statement_start_there :
     (p : Program) (block : BlockId) (at : ℕ) (held : OpenAt) → Verifies p → open_codes p block at ≡ Some held
-    → StatementStart p block at held
+    → IsStatementStart p block at held
 statement_start_there p block at held verifies h = by_block (block_by_id block p.code_blocks) refl h
   where
     begun : (b : CodeBlock) (q : PlacedOp) (t : Bool) → block_by_id block p.code_blocks ≡ Some b → placed_at at (code_places b.code) ≡ Some q → begins_its_statement q ≡ t
-        → cond t (Some (open_at q)) None ≡ Some held → StatementStart p block at held
+        → cond t (Some (open_at q)) None ≡ Some held → IsStatementStart p block at held
     begun b q true found place is e =
         let offset = place_offset (code_places b.code) at q place in
         record {
@@ -261,11 +261,11 @@ statement_start_there p block at held verifies h = by_block (block_by_id block p
         }
     begun b q false found place is e = absurd cc
 
-    by_place : (b : CodeBlock) (o : Option PlacedOp) → block_by_id block p.code_blocks ≡ Some b → placed_at at (code_places b.code) ≡ o → open_before o ≡ Some held → StatementStart p block at held
+    by_place : (b : CodeBlock) (o : Option PlacedOp) → block_by_id block p.code_blocks ≡ Some b → placed_at at (code_places b.code) ≡ o → open_before o ≡ Some held → IsStatementStart p block at held
     by_place b None found place e = absurd cc
     by_place b (Some q) found place e = begun b q (begins_its_statement q) found place refl e
 
-    by_block : (o : Option CodeBlock) → block_by_id block p.code_blocks ≡ o → option_and_then (λ b. open_in b at) o ≡ Some held → StatementStart p block at held
+    by_block : (o : Option CodeBlock) → block_by_id block p.code_blocks ≡ o → option_and_then (λ b. open_in b at) o ≡ Some held → IsStatementStart p block at held
     by_block None found e = absurd cc
     by_block (Some b) found e = by_place b (placed_at at (code_places b.code)) found refl e
 
@@ -273,10 +273,10 @@ statement_start_there p block at held verifies h = by_block (block_by_id block p
 
 pub next_start :
     (l : ImageLaws) (p : Program) (block : BlockId) (at : ℕ) (held : OpenAt) (s : Statement p block at held)
-    → (s.run.last.code ≡ op_code (operation.End ends.Be) → ⊥) → StatementStart p block s.run.next (open_after_operation (operation_of s.run.last.code) held)
+    → (s.run.last.code ≡ op_code (operation.End ends.Be) → ⊥) → IsStatementStart p block s.run.next (open_after_operation (operation_of s.run.last.code) held)
 next_start l p block at held s more = by s.run_end.last.rest refl
   where
-    by : (rest : List OpData) → s.run_end.last.rest ≡ rest → StatementStart p block s.run.next (open_after_operation (operation_of s.run.last.code) held)
+    by : (rest : List OpData) → s.run_end.last.rest ≡ rest → IsStatementStart p block s.run.next (open_after_operation (operation_of s.run.last.code) held)
     by [] is = absurd (more (ap (λ (z : OpData). z.code) (sym s.run_end.same) ∙ (last_ends l p s.statement_start.b s.run_end.last s.run_end.op is).0))
     by (op ∷ rest) is = record {
       b = s.statement_start.b;
@@ -292,7 +292,7 @@ next_start l p block at held s more = by s.run_end.last.rest refl
 
 pub target_start :
     (l : ImageLaws) (p : Program) (block : BlockId) (at : ℕ) (held : OpenAt) (s : Statement p block at held)
-    (kind target : ℕ) → s.run.last.operand ≡ operand.Jump kind target → StatementStart p block target held
+    (kind target : ℕ) → s.run.last.operand ≡ operand.Jump kind target → IsStatementStart p block target held
 target_start l p block at held s kind target is =
     let lands = l.targets p s.statement_start.b s.run_end.last kind target s.run_end.op (ap (λ (z : OpData). z.operand) s.run_end.same ∙ is) in
     record {
@@ -318,7 +318,7 @@ nothing_open = record { codes = []; zones = 0 }
 
 pub entry_start :
     (l : ImageLaws) (p : Program) (block : BlockId) (b : CodeBlock) → Verifies p → block_by_id block p.code_blocks ≡ Some b
-    → StatementStart p block 0 nothing_open
+    → IsStatementStart p block 0 nothing_open
 entry_start l p block b verifies found =
     let begun = (l.blocks p b block verifies found).begins in
     record {
