@@ -29,7 +29,7 @@ invariant_of-self c =
     record {
       count = after.count;
       bitmap =
-          ap (bit_or c.args.self.now.map) c.bit.ensures
+          ap (bit_or c.args.self.now.map) c.bin_bit.ensures
           ∙ ap (λ m. bit_or m (2 ^ n)) c.args.self.now.bitmap
           ∙ bitmap-or n bins (record { waiting = c.push.new.self }) (omega (arith, keeps.count)) (some_pushed c.push.new.self.items bin.waiting.items (c.args.ob, c.args.info) c.push.ensures.items);
       placed = after.placed;

@@ -15,7 +15,7 @@ invariant_of-self c =
     record {
       count = after.count;
       bitmap =
-          ap (λ b. bit_and c.args.self.now.map (4294967295 - b)) c.bit.ensures
+          ap (λ b. bit_and c.args.self.now.map (4294967295 - b)) c.bin_bit.ensures
           ∙ ap (λ m. bit_and m (4294967295 - 2 ^ n)) bitmap
           ∙ bitmap-and n bins (record { waiting = c.remove.new.self }) (omega (arith, keeps.count, c.in-Some.ensures.within))
           (omega (arith, bitmap)) (below_two_powers n 32 c.in-Some.ensures.within) c.in-Some.ensures.some
