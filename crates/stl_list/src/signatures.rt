@@ -86,7 +86,7 @@ fn is_function(kind: BlockKind) -> bool
 }
 
 /// A code block whose first parameter has this number.
-fn signature(
+fn signature_of_block(
     alloc: Global,
     chains: &PassingChains,
     first: usize,
@@ -118,7 +118,7 @@ pub(crate) fn signatures(
     let mut signatures = Vec::new(alloc);
     let mut first = 0;
     for block in blocks {
-        signatures.push(signature(alloc, chains, first, block)?)?;
+        signatures.push(signature_of_block(alloc, chains, first, block)?)?;
         first += block.params.len();
     }
     Ok(signatures)
