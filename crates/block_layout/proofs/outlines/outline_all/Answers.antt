@@ -6,8 +6,8 @@ use Rattle.block_layout.proofs.CycleLemmas.{map_next}
 use Rattle.block_layout.proofs.LengthLemmas.{outline_is}
 use Rattle.plc_base.proofs.LeastLemmas.{least_next, least_done, lesser_first}
 use Rattle.block_layout.specs.Around.{refusals_in_block}
-use Rattle.block_layout.specs.Rule21.{broken_21, rule_21}
-use Rattle.block_layout.specs.Rule56.{broken_56, rule_56}
+use Rattle.block_layout.specs.Rule21.{refusals_21, rule_21}
+use Rattle.block_layout.specs.Rule56.{refusals_56, rule_56}
 use Rattle.block_layout.proofs.outlines.outline_all.Goals as goal
 
 pub loop-block-init : goal.loop-block-init
@@ -22,16 +22,16 @@ loop-block-preserved c = record {
       (outline_is c.args.types.now c.block-item.result _ _ (c.in_ok-new.ensures ∙ c.in_ok-made.ensures.components) (c.in_ok-new-2.ensures ∙ c.in_ok-made.ensures.temps))
       )
       c.loop-block.invariant.list;
-  twice = least_next (refusals_in_block broken_21) c.args.blocks.now c.loop-block.block-index c.block-item.result _ _ _ c.loop-block-test.true c.block-item.is
+  twice = least_next (refusals_in_block refusals_21) c.args.blocks.now c.loop-block.block-index c.block-item.result _ _ _ c.loop-block-test.true c.block-item.is
       c.in_ok-made.ensures.twice c.lesser-twice.ensures c.loop-block.invariant.twice;
-  deep = least_next (refusals_in_block (broken_56 c.args.types.now)) c.args.blocks.now c.loop-block.block-index c.block-item.result _ _ _ c.loop-block-test.true c.block-item.is
+  deep = least_next (refusals_in_block (refusals_56 c.args.types.now)) c.args.blocks.now c.loop-block.block-index c.block-item.result _ _ _ c.loop-block-test.true c.block-item.is
       c.in_ok-made.ensures.deep c.lesser-deep.ensures c.loop-block.invariant.deep;
 }
 
 pub returns-clause-twice : goal.returns-clause-twice
 unfolding rule_21
-returns-clause-twice c = least_done (refusals_in_block broken_21) c.args.blocks.now _ _ c.loop-block-test.false c.loop-block.invariant.twice
+returns-clause-twice c = least_done (refusals_in_block refusals_21) c.args.blocks.now _ _ c.loop-block-test.false c.loop-block.invariant.twice
 
 pub returns-clause-deep : goal.returns-clause-deep
 unfolding rule_56
-returns-clause-deep c = least_done (refusals_in_block (broken_56 c.args.types.now)) c.args.blocks.now _ _ c.loop-block-test.false c.loop-block.invariant.deep
+returns-clause-deep c = least_done (refusals_in_block (refusals_56 c.args.types.now)) c.args.blocks.now _ _ c.loop-block-test.false c.loop-block.invariant.deep
