@@ -6,7 +6,7 @@ use Rattle.std.proofs.lemmas.Bool.Decides.{nat_tests}
 use Rattle.std.proofs.lemmas.List.{append-nil}
 use Rattle.ob_sched.specs.OrganizationBlock.{priority_class, can_wait}
 use Rattle.ob_sched.specs.StartRequest.{StartRequest, request_queued, waiting_count}
-use Rattle.ob_sched.specs.Bin.{requests_by_rank, are_of_class, are_placed_from, waiting_in, empty_bin}
+use Rattle.ob_sched.specs.Bin.{requests_by_rank, are_of_class, are_placed_from, requests_waiting_in, empty_bin}
 use Rattle.ob_sched.specs.declared.bin.Bin.{Bin}
 use Rattle.ob_sched.proofs.QueueLemmas.{AreFromClass, AreBelowClass, AreFromClass-append, AreFromClass-lower, queued-last, queued-append, waiting-append, waiting-above, waiting-below}
 
@@ -84,20 +84,20 @@ ranked-set (suc n) (first ∷ rest) bin lt =
     ∙ ap (λ (back : List StartRequest). high ++ back) (append_assoc bin.waiting.items low first.waiting.items)
 
 pub ranked-split : (n : ℕ) (bins : List Bin) → n < length bins
-    → requests_by_rank bins ≡ requests_by_rank (drop (suc n) bins) ++ (waiting_in bins n ++ requests_by_rank (take n bins))
+    → requests_by_rank bins ≡ requests_by_rank (drop (suc n) bins) ++ (requests_waiting_in bins n ++ requests_by_rank (take n bins))
 ranked-split n [] lt = absurd (omega arith)
 ranked-split zero (first ∷ rest) lt = ap (λ (low : List StartRequest). requests_by_rank rest ++ low) (sym (append-nil first.waiting.items))
 ranked-split (suc n) (first ∷ rest) lt =
     let high = requests_by_rank (drop (suc n) rest) in
     let low = requests_by_rank (take n rest) in
-    let here = waiting_in rest n in
+    let here = requests_waiting_in rest n in
     ap (λ (front : List StartRequest). front ++ first.waiting.items) (ranked-split n rest (omega arith))
     ∙ append_assoc high (here ++ low) first.waiting.items
     ∙ ap (λ (back : List StartRequest). high ++ back) (append_assoc here low first.waiting.items)
 
 -- the requests of an OB wait in the bin of its class
 pub waiting-ranked : (ob class n : ℕ) (bins : List Bin) → are_placed_from class bins ≡ true → n < length bins
-    → priority_class ob ≡ class + n → waiting_count ob (requests_by_rank bins) ≡ waiting_count ob (waiting_in bins n)
+    → priority_class ob ≡ class + n → waiting_count ob (requests_by_rank bins) ≡ waiting_count ob (requests_waiting_in bins n)
 waiting-ranked ob class n [] h lt e = absurd (omega arith)
 waiting-ranked ob class zero (bin ∷ rest) h lt e =
     let parts = and_parts (are_of_class class bin.waiting.items) (are_placed_from (class + 1) rest) h in
@@ -126,7 +126,7 @@ waiting-ranked ob class (suc n) (bin ∷ rest) h lt e =
     none e = omega arith
 
 -- one bin of the place
-pub placed-at : (class n : ℕ) (bins : List Bin) → are_placed_from class bins ≡ true → are_of_class (class + n) (waiting_in bins n) ≡ true
+pub placed-at : (class n : ℕ) (bins : List Bin) → are_placed_from class bins ≡ true → are_of_class (class + n) (requests_waiting_in bins n) ≡ true
 placed-at class n [] h = refl
 placed-at class zero (bin ∷ rest) h =
     let parts = and_parts (are_of_class class bin.waiting.items) (are_placed_from (class + 1) rest) h in
@@ -136,7 +136,7 @@ placed-at class zero (bin ∷ rest) h =
     plain a = omega arith
 placed-at class (suc n) (bin ∷ rest) h =
     let parts = and_parts (are_of_class class bin.waiting.items) (are_placed_from (class + 1) rest) h in
-    subst (λ c. are_of_class c (waiting_in rest n) ≡ true) (plain class n) (placed-at (class + 1) n rest parts.1)
+    subst (λ c. are_of_class c (requests_waiting_in rest n) ≡ true) (plain class n) (placed-at (class + 1) n rest parts.1)
   where
     plain : (a n : ℕ) → a + 1 + n ≡ a + suc n
     plain a n = omega arith
@@ -194,7 +194,7 @@ waiting-found ob n bins bin placed lt e found =
 pub waiting-part : (ob n : ℕ) (bins : List Bin) (bin : Bin) → n < length bins → bin ≡ get_or bins n bin → waiting_count ob bin.waiting.items ≤ waiting_count ob (requests_by_rank bins)
 waiting-part ob n bins bin lt found = subst (λ (b : Bin). waiting_count ob b.waiting.items ≤ waiting_count ob (requests_by_rank bins)) (bin_found n bins bin lt found) (part n bins)
   where
-    part : (n : ℕ) (bins : List Bin) → waiting_count ob (waiting_in bins n) ≤ waiting_count ob (requests_by_rank bins)
+    part : (n : ℕ) (bins : List Bin) → waiting_count ob (requests_waiting_in bins n) ≤ waiting_count ob (requests_by_rank bins)
     part n [] = omega arith
     part zero (first ∷ rest) = omega (arith, waiting-append ob (requests_by_rank rest) first.waiting.items)
     part (suc n) (first ∷ rest) = omega (arith, part n rest, waiting-append ob (requests_by_rank rest) first.waiting.items)

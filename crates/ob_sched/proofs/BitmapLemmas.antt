@@ -8,7 +8,7 @@ use Rattle.std.proofs.lemmas.Nat.Bits.{and_pow, bit_at_lowest, bit_at-suc}
 use Rattle.std.proofs.Math.Nat.{pow-succ'}
 use Rattle.std.proofs.Math.Pow.{pow-lt}
 use Rattle.ob_sched.specs.StartRequest.{StartRequest}
-use Rattle.ob_sched.specs.Bin.{requests_by_rank, waiting_bit, bitmap_of, waiting_in}
+use Rattle.ob_sched.specs.Bin.{requests_by_rank, waiting_bit, bitmap_of, requests_waiting_in}
 use Rattle.ob_sched.specs.declared.bin.Bin.{Bin}
 
 bit_of-le : (xs : List StartRequest) → waiting_bit xs ≤ 1
@@ -32,7 +32,7 @@ twice w p q e = rw e (omega arith)
 
 -- the bitmap with another bin in a place
 pub bitmap_of-set : (n : ℕ) (bins : List Bin) (bin : Bin) → n < length bins
-    → bitmap_of (set bins n bin) + waiting_bit (waiting_in bins n) * 2 ^ n ≡ bitmap_of bins + waiting_bit bin.waiting.items * 2 ^ n
+    → bitmap_of (set bins n bin) + waiting_bit (requests_waiting_in bins n) * 2 ^ n ≡ bitmap_of bins + waiting_bit bin.waiting.items * 2 ^ n
 bitmap_of-set n [] bin lt = absurd (omega arith)
 bitmap_of-set zero (old ∷ rest) bin lt =
     plain (waiting_bit bin.waiting.items) (waiting_bit old.waiting.items) (bitmap_of rest)
@@ -41,14 +41,14 @@ bitmap_of-set zero (old ∷ rest) bin lt =
     plain new old rest = omega arith
 bitmap_of-set (suc n) (first ∷ rest) bin lt =
     plain (waiting_bit first.waiting.items) (bitmap_of (set rest n bin)) (bitmap_of rest)
-    (waiting_bit (waiting_in rest n)) (waiting_bit bin.waiting.items) (2 ^ n) (2 ^ suc n) (pow-succ' 2 n) (bitmap_of-set n rest bin (omega arith))
+    (waiting_bit (requests_waiting_in rest n)) (waiting_bit bin.waiting.items) (2 ^ n) (2 ^ suc n) (pow-succ' 2 n) (bitmap_of-set n rest bin (omega arith))
   where
     plain : (first new old from to p q : ℕ) → q ≡ 2 * p → new + from * p ≡ old + to * p
         → first + 2 * new + from * q ≡ first + 2 * old + to * q
     plain first new old from to p q e h = omega (arith, twice from p q e, twice to p q e, h)
 
 -- each of its bits says whether that bin holds a request
-pub bit_at-bitmap_of : (n : ℕ) (bins : List Bin) → bit_at (bitmap_of bins) n ≡ waiting_bit (waiting_in bins n)
+pub bit_at-bitmap_of : (n : ℕ) (bins : List Bin) → bit_at (bitmap_of bins) n ≡ waiting_bit (requests_waiting_in bins n)
 bit_at-bitmap_of n [] = grind arith
 bit_at-bitmap_of zero (first ∷ rest) =
     bit_at_lowest (bitmap_of (first ∷ rest)) ∙ plain (waiting_bit first.waiting.items) (bitmap_of rest) (bit_of-le first.waiting.items)
@@ -72,14 +72,14 @@ bitmap-or n bins bin lt some =
     let whole = or_add_and map (2 ^ n) in
     let shared = and_pow map n ∙ ap (λ (b : ℕ). b * 2 ^ n) (bit_at-bitmap_of n bins) in
     plain (bit_or map (2 ^ n)) (bit_and map (2 ^ n)) map (bitmap_of (set bins n bin)) (2 ^ n)
-    (waiting_bit (waiting_in bins n) * 2 ^ n) (waiting_bit bin.waiting.items) whole shared changed (bit_of-some bin.waiting.items some)
+    (waiting_bit (requests_waiting_in bins n) * 2 ^ n) (waiting_bit bin.waiting.items) whole shared changed (bit_of-some bin.waiting.items some)
   where
     plain : (joined shared old new p kept to : ℕ) → joined + shared ≡ old + p → shared ≡ kept → new + kept ≡ old + to * p → to ≡ 1 → joined ≡ new
     plain joined shared old new p kept to e f g h = let one : to * p ≡ 1 * p = ap (λ (t : ℕ). t * p) h in omega (arith, one)
 
 -- clearing a bit, where the bin held a request and holds none then
 pub bitmap-and : (n : ℕ) (bins : List Bin) (bin : Bin) → n < length bins → bitmap_of bins < 2 ^ 32 → 2 ^ n < 2 ^ 32
-    → 0 < length (waiting_in bins n) → length bin.waiting.items ≡ 0
+    → 0 < length (requests_waiting_in bins n) → length bin.waiting.items ≡ 0
     → bit_and (bitmap_of bins) (2 ^ 32 - 1 - 2 ^ n) ≡ bitmap_of (set bins n bin)
 bitmap-and n bins bin lt small bit some none =
     let map = bitmap_of bins in
@@ -88,7 +88,7 @@ bitmap-and n bins bin lt small bit some none =
     let shared = and_comm (2 ^ n) map ∙ and_pow map n ∙ ap (λ (b : ℕ). b * 2 ^ n) (bit_at-bitmap_of n bins) in
     and_comm map (2 ^ 32 - 1 - 2 ^ n)
     ∙ plain (bit_and (2 ^ 32 - 1 - 2 ^ n) map) (bit_and (2 ^ n) map) map (bitmap_of (set bins n bin)) (2 ^ n)
-    (waiting_bit (waiting_in bins n) * 2 ^ n) (waiting_bit bin.waiting.items) rest shared changed (bit_of-none bin.waiting.items none)
+    (waiting_bit (requests_waiting_in bins n) * 2 ^ n) (waiting_bit bin.waiting.items) rest shared changed (bit_of-none bin.waiting.items none)
   where
     plain : (left shared old new p kept to : ℕ) → left + shared ≡ old → shared ≡ kept → new + kept ≡ old + to * p → to ≡ 0 → left ≡ new
     plain left shared old new p kept to e f g h = let one : to * p ≡ 0 * p = ap (λ (t : ℕ). t * p) h in omega (arith, one)
@@ -116,7 +116,7 @@ ranked-above (suc n) (first ∷ rest) h =
     below w rest p q e h = omega arith
 
 -- at its highest bit something waits
-pub waiting_at_top : (n : ℕ) (bins : List Bin) → 2 ^ n ≤ bitmap_of bins → bitmap_of bins < 2 * 2 ^ n → 0 < length (waiting_in bins n)
+pub waiting_at_top : (n : ℕ) (bins : List Bin) → 2 ^ n ≤ bitmap_of bins → bitmap_of bins < 2 * 2 ^ n → 0 < length (requests_waiting_in bins n)
 waiting_at_top n [] low high = absurd (omega (arith, pow_pos n))
 waiting_at_top zero (first ∷ rest) low high =
     some-bit_of first.waiting.items (one (waiting_bit first.waiting.items) (bitmap_of rest) low high)
@@ -137,11 +137,11 @@ waiting_at_top (suc n) (first ∷ rest) low high =
     most w rest p q e h = omega arith
 
 -- a bin that holds a request before and after leaves the bitmap as it is
-pub bitmap-same : (n : ℕ) (bins : List Bin) (bin : Bin) → n < length bins → 0 < length (waiting_in bins n) → 0 < length bin.waiting.items
+pub bitmap-same : (n : ℕ) (bins : List Bin) (bin : Bin) → n < length bins → 0 < length (requests_waiting_in bins n) → 0 < length bin.waiting.items
     → bitmap_of bins ≡ bitmap_of (set bins n bin)
 bitmap-same n bins bin lt before after =
-    plain (bitmap_of bins) (bitmap_of (set bins n bin)) (2 ^ n) (waiting_bit (waiting_in bins n)) (waiting_bit bin.waiting.items)
-    (bitmap_of-set n bins bin lt) (bit_of-some (waiting_in bins n) before) (bit_of-some bin.waiting.items after)
+    plain (bitmap_of bins) (bitmap_of (set bins n bin)) (2 ^ n) (waiting_bit (requests_waiting_in bins n)) (waiting_bit bin.waiting.items)
+    (bitmap_of-set n bins bin lt) (bit_of-some (requests_waiting_in bins n) before) (bit_of-some bin.waiting.items after)
   where
     plain : (old new p from to : ℕ) → new + from * p ≡ old + to * p → from ≡ 1 → to ≡ 1 → old ≡ new
     plain old new p from to h e f =

@@ -8,7 +8,7 @@ use Rattle.std.proofs.lemmas.Bool.Decides.{nat_tests}
 use Rattle.arrayvec.specs.ArrayVec.{ArrayVec}
 use Rattle.ob_sched.specs.OrganizationBlock.{priority_class, can_wait, queue_length}
 use Rattle.ob_sched.specs.StartRequest.{StartRequest, request_queued, waiting_count, is_queue_full}
-use Rattle.ob_sched.specs.Bin.{requests_by_rank, bitmap_of, are_of_class, are_placed_from, waiting_in, empty_bin, IsHighest}
+use Rattle.ob_sched.specs.Bin.{requests_by_rank, bitmap_of, are_of_class, are_placed_from, requests_waiting_in, empty_bin, IsHighest}
 use Rattle.ob_sched.specs.declared.bin.Bin.{Bin}
 use Rattle.ob_sched.proofs.QueueLemmas.{one_if, waiting-queued, waiting-drop}
 use Rattle.ob_sched.proofs.BinLemmas.{with_request, queued-ranked, ranked-set, ranked-split, placed-at, placed-set, of_class-push, of_class-drop, bin_found, waiting-found, waiting-part}
@@ -63,7 +63,7 @@ of_class-at : (n : ℕ) (bins : List Bin) (bin : Bin) → n < length bins → ar
     → are_of_class n bin.waiting.items ≡ true
 of_class-at n bins bin lt placed found =
     subst (λ (b : Bin). are_of_class n b.waiting.items ≡ true) (bin_found n bins bin lt found)
-    (subst (λ c. are_of_class c (waiting_in bins n) ≡ true) (plain n) (placed-at 0 n bins placed))
+    (subst (λ c. are_of_class c (requests_waiting_in bins n) ≡ true) (plain n) (placed-at 0 n bins placed))
   where
     plain : (n : ℕ) → 0 + n ≡ n
     plain n = omega arith
@@ -106,8 +106,8 @@ ranked-take n bins bin v keeps high found e =
     ranked-set n bins (record { waiting = v }) within
     ∙ ap (λ (xs : List StartRequest). xs ++ (v.items ++ low)) high.none_above
     ∙ ap (λ (xs : List StartRequest). xs ++ low) (e ∙ ap (drop 1) (sym found_items)) in
-    let before = ranked-split n bins within ∙ ap (λ (xs : List StartRequest). xs ++ (waiting_in bins n ++ low)) high.none_above in
-    after ∙ drop-append (waiting_in bins n) low high.some ∙ ap (drop 1) (sym before)
+    let before = ranked-split n bins within ∙ ap (λ (xs : List StartRequest). xs ++ (requests_waiting_in bins n ++ low)) high.none_above in
+    after ∙ drop-append (requests_waiting_in bins n) low high.some ∙ ap (drop 1) (sym before)
 
 pub keeps-take : (n : ℕ) (bins : List Bin) (bin : Bin) (v : ArrayVec StartRequest) → KeepsBins bins → IsHighest bins n
     → bin ≡ get_or bins n bin → v.items ≡ drop 1 bin.waiting.items
@@ -135,8 +135,8 @@ pub ranked-first : (n : ℕ) (bins : List Bin) (bin : Bin) → KeepsBins bins �
 ranked-first n bins bin keeps high found =
     let within : n < length bins = omega (arith, keeps.count, high.within) in
     let low = requests_by_rank (take n bins) in
-    let before = ranked-split n bins within ∙ ap (λ (xs : List StartRequest). xs ++ (waiting_in bins n ++ low)) high.none_above in
-    ap (λ (xs : List StartRequest). slice_get xs 0) before ∙ front (waiting_in bins n) low high.some
+    let before = ranked-split n bins within ∙ ap (λ (xs : List StartRequest). xs ++ (requests_waiting_in bins n ++ low)) high.none_above in
+    ap (λ (xs : List StartRequest). slice_get xs 0) before ∙ front (requests_waiting_in bins n) low high.some
     ∙ ap (λ (b : Bin). slice_get b.waiting.items 0) (bin_found n bins bin within found)
   where
     front : (xs ys : List StartRequest) → 0 < length xs → slice_get (xs ++ ys) 0 ≡ slice_get xs 0

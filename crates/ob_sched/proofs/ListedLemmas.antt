@@ -8,7 +8,7 @@ use Rattle.std.proofs.lemmas.List.Elements.{filter-append}
 use Rattle.std.proofs.lemmas.List.{append-nil}
 use Rattle.ob_sched.specs.OrganizationBlock.{priority_class, can_wait}
 use Rattle.ob_sched.specs.StartRequest.{StartRequest}
-use Rattle.ob_sched.specs.Bin.{requests_by_rank, bitmap_of, are_of_class, are_placed_from, waiting_in, IsListedByClass, IsBitmapOf}
+use Rattle.ob_sched.specs.Bin.{requests_by_rank, bitmap_of, are_of_class, are_placed_from, requests_waiting_in, IsListedByClass, IsBitmapOf}
 use Rattle.ob_sched.specs.declared.bin.Bin.{Bin}
 use Rattle.ob_sched.proofs.BinLemmas.{ranked-AreFromClass, of_class-AreBelowClass}
 use Rattle.ob_sched.proofs.BitmapLemmas.{bit_at-bitmap_of, bit_of-some, some-bit_of}
@@ -42,7 +42,7 @@ all-of_class n (x ∷ xs) h =
     ∙ ap (λ (ys : List StartRequest). x ∷ ys) (all-of_class n xs parts.1)
 
 waiting_of_class : (class k n : ℕ) (bins : List Bin) → are_placed_from class bins ≡ true → k < length bins → n ≡ class + k
-    → waiting_in bins k ≡ of_class n (requests_by_rank bins)
+    → requests_waiting_in bins k ≡ of_class n (requests_by_rank bins)
 waiting_of_class class k n [] h lt e = absurd (omega arith)
 waiting_of_class class zero n (bin ∷ rest) h lt e =
     let parts = and_parts (are_of_class class bin.waiting.items) (are_placed_from (class + 1) rest) h in
@@ -73,6 +73,6 @@ listed_by_class bins placed count n lt = waiting_of_class 0 n n bins placed (ome
 
 pub is_bitmap : (map : ℕ) (bins : List Bin) → map ≡ bitmap_of bins → IsBitmapOf map bins
 is_bitmap map bins e n lt = (
-  λ h. some-bit_of (waiting_in bins n) (sym (bit_at-bitmap_of n bins) ∙ ap (λ (m : ℕ). bit_at m n) (sym e) ∙ h),
-  λ h. ap (λ (m : ℕ). bit_at m n) e ∙ bit_at-bitmap_of n bins ∙ bit_of-some (waiting_in bins n) h,
+  λ h. some-bit_of (requests_waiting_in bins n) (sym (bit_at-bitmap_of n bins) ∙ ap (λ (m : ℕ). bit_at m n) (sym e) ∙ h),
+  λ h. ap (λ (m : ℕ). bit_at m n) e ∙ bit_at-bitmap_of n bins ∙ bit_of-some (requests_waiting_in bins n) h,
 )

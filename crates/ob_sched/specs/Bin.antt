@@ -39,24 +39,24 @@ abbrev pub empty_bin : Bin
 empty_bin = record { waiting = record { items = [] } }
 
 -- the requests that wait in bin n; none where there is no bin n
-abbrev pub waiting_in : List Bin → ℕ → List StartRequest
-waiting_in bins n = (slice_index_or bins n empty_bin).waiting.items
+abbrev pub requests_waiting_in : List Bin → ℕ → List StartRequest
+requests_waiting_in bins n = (slice_index_or bins n empty_bin).waiting.items
 
 -- bin n, from 0 to 31, lists in the order of arrival the pending requests whose priority class in
 -- RUN is n
 abbrev pub IsListedByClass : List Bin → List StartRequest → Type 0
 IsListedByClass bins pending =
-    (n : ℕ) → n < 32 → waiting_in bins n ≡ filter (λ request. priority_class request.0 == n) pending
+    (n : ℕ) → n < 32 → requests_waiting_in bins n ≡ filter (λ request. priority_class request.0 == n) pending
 
 -- bit n of the bitmap, from 0 to 31, is 1 exactly where a request waits in bin n
 abbrev pub IsBitmapOf : ℕ → List Bin → Type 0
-IsBitmapOf map bins = (n : ℕ) → n < 32 → (bit_at map n ≡ 1) ↔ (0 < length (waiting_in bins n))
+IsBitmapOf map bins = (n : ℕ) → n < 32 → (bit_at map n ≡ 1) ↔ (0 < length (requests_waiting_in bins n))
 
 -- bin n is the highest bin in which a request waits
 pub record IsHighest (bins : List Bin) (n : ℕ) : Type 0 where
   -- n is the number of one of the 32 bins
   pub within : n < 32
   -- a request waits in bin n
-  pub some : 0 < length (waiting_in bins n)
+  pub some : 0 < length (requests_waiting_in bins n)
   -- no request waits in a bin above n
   pub none_above : requests_by_rank (drop (suc n) bins) ≡ []

@@ -1,5 +1,5 @@
 ghost use Rattle.std.specs.Prelude.{◌≡◌, ◌≤◌, ◌<◌, ◌^◌, [], ◌∷◌, ◌++◌, Some, None, drop, length, IsTrue, MatchOption, slice_get, slice_set, IfOk, IfSome, false};
-ghost use Rattle.ob_sched.specs.Bin.{requests_by_rank, empty_bin, waiting_in, IsHighest};
+ghost use Rattle.ob_sched.specs.Bin.{requests_by_rank, empty_bin, requests_waiting_in, IsHighest};
 ghost use Rattle.ob_sched.specs.OrganizationBlock.{can_wait, priority_class};
 ghost use Rattle.ob_sched.specs.StartRequest.{waiting_count, is_queue_full, request_queued, best_of};
 ghost use Rattle.ob_sched.specs.Views.{pending_of};

@@ -3,7 +3,8 @@ use Rattle.std.specs.Prelude.{ℕ, None, false}
 use Rattle.plc_io.specs.Counts.{for_every_name}
 use Rattle.plc_io.specs.Moments.{FilesAt, SinkAt}
 
--- files with one count of failed reads and one of failed writes for all names
+-- what files show that don't tell their contents, with one count of failed reads and one of failed
+-- writes for all names
 abbrev pub untold_files : (failed_reads failed_writes : ℕ) → FilesAt
 untold_files failed_reads failed_writes = record {
   contents = record { told = false; at = λ name. None };
@@ -11,6 +12,6 @@ untold_files failed_reads failed_writes = record {
   failed_writes = for_every_name failed_writes;
 }
 
--- a sink with its count of faults
+-- what a sink shows that doesn't tell its bytes, with this count of faults
 abbrev pub untold_sink : ℕ → SinkAt
 untold_sink faults = record { taken = None; faults = faults }

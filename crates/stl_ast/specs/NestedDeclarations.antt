@@ -33,7 +33,7 @@ nested_declarations (d ∷ ds) =
     more d (inner_components d.level (nested_declarations ds))
     (outer_components d.level (nested_declarations ds))
 
--- the declarations in the order of the text
+-- the declarations of a nested view, in the order of the text
 abbrev pub flat_declarations : Components → List Declaration
 flat_declarations none = []
 flat_declarations (more d components behind) =
@@ -51,7 +51,7 @@ AreAtLevel level (more d components behind) =
     (d.level ≡ level) × MayHoldComponents d.of.of components × AreAtLevel (level + 1) components
     × AreAtLevel level behind
 
--- the nested view spells the list
+-- the nested view of a list of declarations, in the order of the text, is that list
 abbrev pub IsSpelledByNested : Type 0
 IsSpelledByNested = (ds : List Declaration) → flat_declarations (nested_declarations ds) ≡ ds
 

@@ -70,7 +70,8 @@ abbrev pub MayHoldPointer : Letters → Type 0
 MayHoldPointer area =
     (area ≡ letters.M) ⊎ (area ≡ letters.L) ⊎ (area ≡ letters.Db) ⊎ (area ≡ letters.Di)
 
--- the function block of an instance, which a data block has
+-- a called block with its instance, where it has one: the block is a function block then, and the
+-- instance a data block
 abbrev pub IsInstance : BlockName → Option BlockName → Type 0
 IsInstance name None = Unit {0}
 IsInstance name (Some instance) = IsNameOf (λ k. k ≡ kind.Fb) name × IsDataBlockName instance

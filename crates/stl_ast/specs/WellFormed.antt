@@ -90,7 +90,8 @@ IsTypeShape (Some t) None components =
     (t.arrays ≡ []) × (t.of ≡ element.Structure) × AreComponents components
 IsTypeShape _ _ components = ⊥
 
--- what a block is of, by its kind
+-- the type, the function block of an instance, and the components that a block of a kind may have:
+-- none of these but for data blocks and data types
 abbrev pub IsShapeOf : BlockKind → Option TypeTree → Option BlockName → List Declaration → Type 0
 IsShapeOf kinds.Db shape instance components = IsDataShape shape instance components
 IsShapeOf kinds.Udt shape instance components = IsTypeShape shape instance components

@@ -49,7 +49,7 @@ is_enclosed opening close one_line (b ∷ s) =
 abbrev pub is_quoted : List ℕ → Bool
 is_quoted s = is_enclosed double_quote double_quote true s && nat_lt 2 (length s)
 
--- a letter, a digit or `_` stands here
+-- a text begins with a letter, a digit or `_`
 unfoldable pub continues_word : List ℕ → Bool
 continues_word [] = false
 continues_word (b ∷ s) = is_word_byte b

@@ -14,7 +14,8 @@ after_gap Blanks (b ∷ s) =
     if is_separator b then after_gap Blanks s
     else (if opens_comment (b ∷ s) then after_gap Comment s else b ∷ s)
 
--- the first byte belongs to the gap, and behind it this part goes on
+-- what is found is the part of a gap that goes on behind the first byte of a text, where a part is
+-- open at the front; None where no gap stands at the front
 abbrev pub ContinuesGap : GapPart → List ℕ → Option GapPart → Type 0
 ContinuesGap part text found =
     MatchOption found (after_gap part text ≡ text)

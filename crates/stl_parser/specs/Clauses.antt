@@ -138,7 +138,7 @@ keyword_clause source p line keyword.Network rest = Some (clause.Network, rest, 
 keyword_clause source p line keyword.Structure rest = Some (clause.Structure, rest, false)
 keyword_clause source p line keyword.EndStructure rest = structure_end source p rest
 
--- `: n.n` behind VERSION, and what follows
+-- the tokens behind `: n.n`, which stands behind VERSION
 unfoldable pub version_at : List ℕ → List Token → Option (List Token)
 version_at source (colon ∷ major ∷ dot ∷ minor ∷ rest) =
     if is_mark source colon mark.Colon && has_kind major kind.Number && is_mark source dot mark.Dot
@@ -146,13 +146,13 @@ version_at source (colon ∷ major ∷ dot ∷ minor ∷ rest) =
     then Some rest else None
 version_at source _ = None
 
--- `: word`, and what follows
+-- the tokens behind `: word`
 unfoldable pub colon_and_word_at : List ℕ → List Token → Option (List Token)
 colon_and_word_at source (colon ∷ w ∷ rest) =
     if is_mark source colon mark.Colon && has_kind w kind.Word then Some rest else None
 colon_and_word_at source _ = None
 
--- what stands behind a word of the head, and what follows
+-- the tokens behind what goes with a word of the head
 unfoldable pub head_word_at : List ℕ → HeadWord → List Token → Option (List Token)
 head_word_at source head_word.Version rest = version_at source rest
 head_word_at source head_word.Named rest = colon_and_word_at source rest

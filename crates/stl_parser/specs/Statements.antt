@@ -168,7 +168,7 @@ behind_word source operand_syntax.Open code tokens = open_of source code tokens
 behind_word source operand_syntax.BlockCall code tokens = block_call_of source code tokens
 behind_word source operand_syntax.Call code tokens = call_of source code tokens
 
--- a `(` at the front, and what follows
+-- the tokens behind a `(` at the front
 unfoldable pub after_paren : List ℕ → List Token → Option (List Token)
 after_paren source [] = None
 after_paren source (t ∷ rest) = if is_mark source t mark.OpenParen then Some rest else None

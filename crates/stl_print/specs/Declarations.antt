@@ -55,8 +55,8 @@ inits_pieces [] = []
 inits_pieces (i ∷ is) =
     mark_piece gap.Blank mark_of.Assign ∷ (init_pieces gap.Blank i ++ further_inits is)
 
--- what stands behind the type: behind a structure its components, which are declarations of their
--- own
+-- what is written behind the type of a declaration: its initial values and the `;`; behind a
+-- structure nothing, since its components are declarations of their own
 unfoldable pub behind_type : ElementType → List Init → List Piece
 behind_type element.Structure is = []
 behind_type _ is = inits_pieces is ++ mark_piece gap.Nothing mark_of.Semicolon ∷ []

@@ -19,14 +19,14 @@ use Rattle.stl_symbols.specs.declared.fields.Ending.TheVariants as ending
 use Rattle.stl_symbols.specs.declared.fields.Behind.{Behind}
 use Rattle.stl_symbols.specs.declared.fields.Behind.TheVariants as behind
 
--- the state of the machine for that of a field
+-- the state of the reader of CSV for that of a field
 abbrev pub state_of : FieldState → State
 state_of field_state.Start = state.StartField
 state_of field_state.Plain = state.InField
 state_of field_state.Quoted = state.InQuoted
 state_of field_state.AfterQuote = state.AfterQuote
 
--- the state and the action of the machine at a step
+-- the state and the action of the reader of CSV at a step on a byte
 abbrev pub machine_step : Step → ℕ → State × Action
 machine_step (step.Skips next) byte = (state_of next, action.Skip)
 machine_step (step.Joins next) byte = (state_of next, action.Copy)

@@ -2,8 +2,8 @@
 use Rattle.std.specs.Prelude.{ℕ}
 
 -- EN_AIRT: interrupts aren't delayed
-abbrev pub not_delayed : ℕ
-not_delayed = 0x8080
+abbrev pub interrupts_not_delayed : ℕ
+interrupts_not_delayed = 0x8080
 
 -- DIS_IRT and EN_IRT: an OB_NR that means no interrupt; SRT_DINT and CAN_DINT: another OB_NR than
 -- that of a time-delay interrupt
@@ -19,5 +19,5 @@ abbrev pub wrong_dtime : ℕ
 wrong_dtime = 0x8091
 
 -- CAN_DINT: no delay is started
-abbrev pub not_started : ℕ
-not_started = 0x80A0
+abbrev pub no_delay_started : ℕ
+no_delay_started = 0x80A0

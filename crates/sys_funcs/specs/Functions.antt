@@ -20,7 +20,7 @@ dis_airt s a = let n : ℕ = min (a.delay + 1) 32767 in int_result s (with_delay
 -- returned, and nothing changes but BR
 unfoldable pub en_airt : Scheduler → Activation → SystemFunctionResult
 en_airt s a =
-    if a.delay == 0 then int_result s a codes.not_delayed
+    if a.delay == 0 then int_result s a codes.interrupts_not_delayed
     else int_result s (with_delay (a.delay - 1) a) (a.delay - 1)
 
 -- what SFC 39 DIS_IRT and SFC 40 EN_IRT leave: an error code is returned; without one (None) the
@@ -63,7 +63,7 @@ unfoldable pub can_dint : Scheduler → Activation → (ob_nr : ℕ) → SystemF
 can_dint s a ob_nr =
     if not (is_delay ob_nr) then int_result s a codes.wrong_ob_nr
     else if is_some (delay_of s.countdowns ob_nr) then int_result (delay_cancelled ob_nr s) a 0
-    else int_result s a codes.not_started
+    else int_result s a codes.no_delay_started
 
 -- SFC 64 TIME_TCK: the clock in milliseconds is returned; since it is a TIME and no error code, BR
 -- is 1

@@ -3,7 +3,7 @@ ghost use Rattle.ob_sched.specs.Views.{scheduler_of};
 ghost use Rattle.sys_funcs.specs.Results.{LeavesSystemFunctionResult};
 ghost use Rattle.sys_funcs.specs.Functions.{IsDelayOb, srt_dint as starts, can_dint as cancels};
 
-use crate::error_codes::{NOT_STARTED, WRONG_DTIME, WRONG_OB_NR};
+use crate::error_codes::{NO_DELAY_STARTED, WRONG_DTIME, WRONG_OB_NR};
 use crate::returns::returned_value;
 use frames::Activation;
 use ob_sched::Sched;
@@ -50,6 +50,6 @@ pub fn can_dint(s: &mut Sched, a: &mut Activation, ob_nr: u32) -> u32
     if s.cancel_delay(ob) {
         returned_value(a, 0)
     } else {
-        returned_value(a, NOT_STARTED)
+        returned_value(a, NO_DELAY_STARTED)
     }
 }

@@ -1,7 +1,7 @@
 //! The error codes that system functions return: each of them once.
 
 /// EN_AIRT: interrupts aren't delayed.
-pub(crate) const NOT_DELAYED: u32 = 0x8080;
+pub(crate) const INTERRUPTS_NOT_DELAYED: u32 = 0x8080;
 
 /// DIS_IRT and EN_IRT: an OB_NR that means no interrupt; SRT_DINT and CAN_DINT: another OB_NR than
 /// that of a time-delay interrupt.
@@ -14,4 +14,4 @@ pub(crate) const WRONG_MODE: u32 = 0x8091;
 pub(crate) const WRONG_DTIME: u32 = 0x8091;
 
 /// CAN_DINT: no delay is started.
-pub(crate) const NOT_STARTED: u32 = 0x80A0;
+pub(crate) const NO_DELAY_STARTED: u32 = 0x80A0;

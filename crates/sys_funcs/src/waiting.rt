@@ -3,7 +3,7 @@ ghost use Rattle.ob_sched.specs.Views.{scheduler_of};
 ghost use Rattle.sys_funcs.specs.Results.{LeavesSystemFunctionResult};
 ghost use Rattle.sys_funcs.specs.Functions.{dis_airt as disables, en_airt as enables};
 
-use crate::error_codes::NOT_DELAYED;
+use crate::error_codes::INTERRUPTS_NOT_DELAYED;
 use crate::returns::returned_value;
 use frames::Activation;
 use ob_sched::Sched;
@@ -33,7 +33,7 @@ pub fn en_airt(s: &mut Sched, a: &mut Activation) -> u32
 {
     let _ = s;
     if a.delay == 0 {
-        return returned_value(a, NOT_DELAYED);
+        return returned_value(a, INTERRUPTS_NOT_DELAYED);
     }
     a.delay -= 1;
     let delay = a.delay;

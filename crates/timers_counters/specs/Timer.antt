@@ -72,8 +72,8 @@ timer_after_ms timer =
 
 -- a timer that starts to run for so many milliseconds with an output bit, in the time base of the
 -- S5TIME; with 0 milliseconds it ends at once
-abbrev pub running_for : TimerKind → ℕ → ℕ → Bool → Timer → Timer
-running_for kind value ms output timer =
+abbrev pub timer_running_for : TimerKind → ℕ → ℕ → Bool → Timer → Timer
+timer_running_for kind value ms output timer =
     let started : Timer = record timer {
       kind = kind;
       base = base_of_s5time value;
@@ -86,7 +86,7 @@ running_for kind value ms output timer =
 -- a timer started with an S5TIME and an output bit; None where a BCD digit of the S5TIME is above 9
 abbrev pub run_timer : TimerKind → ℕ → Bool → Timer → Option Timer
 run_timer kind value output timer =
-    option_map (λ ms. running_for kind value ms output timer) (ms_of_s5time value)
+    option_map (λ ms. timer_running_for kind value ms output timer) (ms_of_s5time value)
 
 -- a timer stopped with an output bit; the time left stays
 abbrev pub stop_timer : Bool → Timer → Timer
