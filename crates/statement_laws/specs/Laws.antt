@@ -372,7 +372,8 @@ CallsAct =
 
 -- ---- numbers of statements
 
--- the code of a block by its statements
+-- the code of a block has the block's statements but the empty ones, each at the number that counts
+-- those before it, and behind them one that returns
 pub record HasNumberedStatements (c : Context) (b : Block) : Type 0 where
   -- each statement that isn't empty has the number that counts those before it
   pub each :
