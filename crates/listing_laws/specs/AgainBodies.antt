@@ -69,5 +69,6 @@ AreCodeBlocksKept =
     → IsAccepted source file symbols t → AreBytes source → AreBytes file → (others : List Symbol)
     → AreBodiesKeptIn symbols t others
     → map compiled_block
-    (code_blocks_of (listed_tree_again symbols t) others (layouts_of (listed_tree_again symbols t) others))
+    (code_blocks_of (listed_tree_again symbols t) others
+    (layouts_of (listed_tree_again symbols t) others))
     ≡ (program_in symbols t).code_blocks

@@ -79,7 +79,8 @@ pub record AreSettingsRight (symbols : List Symbol) (t : Tree) (others : List Sy
   pub by_41 : on_settings (setting_misfits (layouts_of (listed_tree_again symbols t) others)) 41 0
       (listed_tree_again symbols t).blocks ≡ []
   -- no index of a setting is outside its array
-  pub by_42 : on_settings (setting_is_outside (layouts_of (listed_tree_again symbols t) others)) 42 0
+  pub by_42 :
+      on_settings (setting_is_outside (layouts_of (listed_tree_again symbols t) others)) 42 0
       (listed_tree_again symbols t).blocks ≡ []
 
 -- the settings of the listing of an accepted source's program break no rule, where no block of the
@@ -97,5 +98,6 @@ AreDataBlocksAgain =
     (source file : List ℕ) (symbols : List Symbol) (t : Tree)
     → IsAccepted source file symbols t → AreBytes source → AreBytes file → (others : List Symbol)
     → IsWholeAgain symbols t others
-    → data_blocks_of (listed_tree_again symbols t) others (layouts_of (listed_tree_again symbols t) others)
+    → data_blocks_of (listed_tree_again symbols t) others
+    (layouts_of (listed_tree_again symbols t) others)
     ≡ (program_in symbols t).data_blocks

@@ -214,7 +214,8 @@ item_named_by c (operand.NumberBy what from byte) =
     Some (numbered_item what (named.InWord (area_by_letters from) byte))
 item_named_by c (operand.ByRegister a width register bits) =
     Some (named.Place (named.ByRegister (option_map area_by_letters a) width register bits))
-item_named_by c (operand.Pointer a byte bit) = Some (named.Pointer (pointer_constant_bits a byte bit))
+item_named_by c (operand.Pointer a byte bit) =
+    Some (named.Pointer (pointer_constant_bits a byte bit))
 item_named_by c (operand.Constant value) = Some (named.Constant value)
 item_named_by c (operand.Label name) = Some named.Label
 item_named_by c (operand.OfStatus flag) = Some (named.Condition flag)
@@ -225,7 +226,8 @@ item_named_by c (operand.Named (head.Symbol name) steps) =
     option_and_then target_named (symbol_target c name)
 item_named_by c (operand.Named (head.Local name) steps) =
     variable_named c (upper_case_name name) (folded_path steps)
-item_named_by c (operand.Named (head.InBlock name) steps) = component_named c name (folded_path steps)
+item_named_by c (operand.Named (head.InBlock name) steps) =
+    component_named c name (folded_path steps)
 item_named_by c (operand.Called name None) =
     option_map (λ id. named.Called id None) (block_id_of_name c name)
 item_named_by c (operand.Called name (Some db)) =

@@ -71,7 +71,11 @@ module _ {O E : Type 0} where
   -- that are new in it
   abbrev pub pass_after_put : PassView O E → List E → PassView O E
   pass_after_put p list =
-      record p { out = false; seen = list; made = numbers_with_more_made p.made (drop (length p.seen) list) }
+      record p {
+        out = false;
+        seen = list;
+        made = numbers_with_more_made p.made (drop (length p.seen) list);
+      }
 
   -- a pass that took over the numbers of another
   abbrev pub joined_pass : PassView O E → PassView O E → PassView O E

@@ -16,7 +16,11 @@ module _ {O E : Type 0} where
 
   -- the view whose list has grown to this one, with what is new under its own number
   abbrev pub view_with_list : View O E → List E → View O E
-  view_with_list v log = record v { seen = log; made = numbers_with_more_made v.made (drop (length v.seen) log) }
+  view_with_list v log =
+      record v {
+        seen = log;
+        made = numbers_with_more_made v.made (drop (length v.seen) log);
+      }
 
   -- the view of a seat that has given its turn back
   abbrev pub without_turn : View O E → View O E
