@@ -12,7 +12,7 @@ use Rattle.stl_codegen.specs.CompiledBlock.{StatedBlock, compiled_block, lines_i
 use Rattle.stl_codegen.specs.GeneratedProgram.{code_block, code_blocks_of, instructions_from}
 use Rattle.stl_list.specs.Statements.{ListingContext, body_of, listing_context}
 use Rattle.sem_kept.specs.AcceptedSource.{IsAccepted, program_in}
-use Rattle.listing_laws.specs.ListedSource.{IsMadeOf, IsWholeAgain, again_at, context_at, listed_again}
+use Rattle.listing_laws.specs.ListedSource.{IsMadeOf, IsWholeAgain, again_at, listed_tree_again, source_context_at}
 use Rattle.listing_laws.specs.ListedDeclarations.{signatures_in}
 use Rattle.listing_laws.specs.ListedBodies.{AreKeptFrom}
 use Rattle.listing_laws.specs.Statements.{statement_offset}
@@ -20,7 +20,7 @@ use Rattle.listing_laws.specs.Statements.{statement_offset}
 -- the code block of a block of the source at a place
 abbrev pub made_block : (symbols : List Symbol) → Tree → (place : ℕ) → Block → BlockLayout → BlockId
     → StatedBlock
-made_block symbols t place b l id = code_block (context_at symbols t place) b l id
+made_block symbols t place b l id = code_block (source_context_at symbols t place) b l id
 
 -- the body that the listing of a source's program has for a code block, `x`, where this stands on
 -- its own lines
@@ -44,7 +44,7 @@ IsBodyKept symbols t others again place b l id =
     (body_again symbols t (made_block symbols t place b l id))
     (listing_context_again symbols t (made_block symbols t place b l id))
     (statement_offset (made_block symbols t place b l id).statements) 0
-    (instructions_from (context_at symbols t place) b.body 0 b.body)
+    (instructions_from (source_context_at symbols t place) b.body 0 b.body)
 
 -- in each listed body of a source's program each statement comes to the instruction that it was
 -- made of
@@ -69,5 +69,6 @@ AreCodeBlocksKept =
     → IsAccepted source file symbols t → AreBytes source → AreBytes file → (others : List Symbol)
     → AreBodiesKeptIn symbols t others
     → map compiled_block
-    (code_blocks_of (listed_again symbols t) others (layouts_of (listed_again symbols t) others))
+    (code_blocks_of (listed_tree_again symbols t) others
+    (layouts_of (listed_tree_again symbols t) others))
     ≡ (program_in symbols t).code_blocks

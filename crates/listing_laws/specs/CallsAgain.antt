@@ -24,7 +24,7 @@ use Rattle.stl_parser.specs.Operands.{data_block_name}
 use Rattle.stl_list.specs.Signatures.{Signature, called_formals, formals_of_block}
 use Rattle.stl_list.specs.Statements.{listed_statement}
 use Rattle.sem_kept.specs.AcceptedSource.{IsAccepted, program_in}
-use Rattle.listing_laws.specs.ListedSource.{IsMadeOf, IsWholeAgain, again_at, context_at}
+use Rattle.listing_laws.specs.ListedSource.{IsMadeOf, IsWholeAgain, again_at, source_context_at}
 use Rattle.listing_laws.specs.AgainBodies.{listing_context_again, body_again, made_block}
 use Rattle.listing_laws.specs.ListedDeclarations.{signatures_in}
 use Rattle.listing_laws.specs.Instructions.{IsInstructionKept, IsRightOperand}
@@ -80,7 +80,7 @@ AreCallsAgain =
     → IsWholeAgain symbols t others → (again place : ℕ) (b : Block) (l : BlockLayout) (id : BlockId)
     → IsMadeOf symbols t again place b l id
     → AllByRecursion
-    (IsCalledAgain (context_at symbols t place) (again_at symbols t others again)
+    (IsCalledAgain (source_context_at symbols t place) (again_at symbols t others again)
     (signatures_in (program_in symbols t))
     (formals_of_block (signatures_in (program_in symbols t)) id))
     b.body
@@ -115,8 +115,8 @@ AreStatementsAgain =
     is_empty_statement s.code ≡ false → (n k : ℕ)
     → IsInstructionKept (again_at symbols t others again)
     (body_again symbols t (made_block symbols t place b l id)) n s.code
-    (instruction (context_at symbols t place) b.body n s)
+    (instruction (source_context_at symbols t place) b.body n s)
     (listed_statement (listing_context_again symbols t (made_block symbols t place b l id)) k
     (run_of (statement_offset (made_block symbols t place b l id).statements)
-    (instruction (context_at symbols t place) b.body n s))))
+    (instruction (source_context_at symbols t place) b.body n s))))
     b.body

@@ -4,7 +4,7 @@ use Rattle.stl_ast.specs.declared.blocks.Tree.{Tree}
 use Rattle.stl_ast.specs.declared.names.BlockName.{BlockName}
 use Rattle.stl_symbols.specs.Symbol.{Symbol}
 use Rattle.stl_types.specs.Context.{Context, data_number}
-use Rattle.listing_laws.specs.ListedSource.{IsWholeAgain, again_at, context_at}
+use Rattle.listing_laws.specs.ListedSource.{IsWholeAgain, again_at, source_context_at}
 use Rattle.listing_laws.specs.Calling.{AreCalledAgain}
 use Rattle.listing_laws.specs.Operands.{IsOpenedAgain}
 
@@ -20,7 +20,7 @@ abbrev pub AreDataFound : Type 0
 AreDataFound =
     (symbols : List Symbol) (t : Tree) (others : List Symbol) (place again : ℕ)
     → IsWholeAgain symbols t others
-    → AreDataAgain (context_at symbols t place) (again_at symbols t others again)
+    → AreDataAgain (source_context_at symbols t place) (again_at symbols t others again)
 
 -- the blocks that a body of a source may call stand in the listing of the source's program, where
 -- no block of the listing breaks a rule as a whole
@@ -28,4 +28,4 @@ abbrev pub AreCalledFound : Type 0
 AreCalledFound =
     (symbols : List Symbol) (t : Tree) (others : List Symbol) (place again : ℕ)
     → IsWholeAgain symbols t others
-    → AreCalledAgain (context_at symbols t place) (again_at symbols t others again)
+    → AreCalledAgain (source_context_at symbols t place) (again_at symbols t others again)

@@ -18,7 +18,7 @@ use Rattle.stl_types.specs.Unknown.{sets_unknown}
 use Rattle.stl_codegen.specs.GeneratedProgram.{data_block_of, data_blocks_of}
 use Rattle.stl_list.specs.DataBlocks.{listed_data}
 use Rattle.sem_kept.specs.AcceptedSource.{IsAccepted, program_in}
-use Rattle.listing_laws.specs.ListedSource.{IsWholeAgain, again_at, listed_again}
+use Rattle.listing_laws.specs.ListedSource.{IsWholeAgain, again_at, listed_tree_again}
 use Rattle.listing_laws.specs.ListedDeclarations.{signatures_in}
 
 -- the block that a data block of a source's program is listed as
@@ -32,13 +32,13 @@ pub record IsInstanceLong
     : Type 0 where
   -- the listed instance has as many bytes as the data block
   pub length : (line : ℕ)
-      → length_of_block (types_of_source others (listed_again symbols t).blocks)
-      (listed_again symbols t).blocks
+      → length_of_block (types_of_source others (listed_tree_again symbols t).blocks)
+      (listed_tree_again symbols t).blocks
       (data_again symbols t line d) ≡ length d.bytes
   -- the listed instance has at most 16,384 bytes
   pub by_51 : (line : ℕ)
-      → is_too_long (types_of_source others (listed_again symbols t).blocks)
-      (listed_again symbols t).blocks
+      → is_too_long (types_of_source others (listed_tree_again symbols t).blocks)
+      (listed_tree_again symbols t).blocks
       (data_again symbols t line d) ≡ false
 
 -- each instance of an accepted source's program is listed as long as it was, and not too long,
@@ -56,8 +56,8 @@ abbrev pub IsInstanceAgain :
     (symbols : List Symbol) → Tree → (others : List Symbol) → DataBlock → Type 0
 IsInstanceAgain symbols t others d =
     (k line : ℕ) (l : BlockLayout)
-    → slice_get (listed_again symbols t).blocks k ≡ Some (data_again symbols t line d)
-    → slice_get (layouts_of (listed_again symbols t) others) k ≡ Some l
+    → slice_get (listed_tree_again symbols t).blocks k ≡ Some (data_again symbols t line d)
+    → slice_get (layouts_of (listed_tree_again symbols t) others) k ≡ Some l
     → data_block_of (again_at symbols t others k) l l.id ≡ d ∷ []
 
 -- the program of the listing has each instance of an accepted source's program again, where no
@@ -73,14 +73,15 @@ AreInstancesAgain =
 -- the settings of a listing break none of the rules of settings
 pub record AreSettingsRight (symbols : List Symbol) (t : Tree) (others : List Symbol) : Type 0 where
   -- no setting has an unknown name or component
-  pub by_20 : on_settings (sets_unknown (layouts_of (listed_again symbols t) others)) 20 0
-      (listed_again symbols t).blocks ≡ []
+  pub by_20 : on_settings (sets_unknown (layouts_of (listed_tree_again symbols t) others)) 20 0
+      (listed_tree_again symbols t).blocks ≡ []
   -- each setting fits its component
-  pub by_41 : on_settings (setting_misfits (layouts_of (listed_again symbols t) others)) 41 0
-      (listed_again symbols t).blocks ≡ []
+  pub by_41 : on_settings (setting_misfits (layouts_of (listed_tree_again symbols t) others)) 41 0
+      (listed_tree_again symbols t).blocks ≡ []
   -- no index of a setting is outside its array
-  pub by_42 : on_settings (setting_is_outside (layouts_of (listed_again symbols t) others)) 42 0
-      (listed_again symbols t).blocks ≡ []
+  pub by_42 :
+      on_settings (setting_is_outside (layouts_of (listed_tree_again symbols t) others)) 42 0
+      (listed_tree_again symbols t).blocks ≡ []
 
 -- the settings of the listing of an accepted source's program break no rule, where no block of the
 -- listing breaks a rule as a whole
@@ -97,5 +98,6 @@ AreDataBlocksAgain =
     (source file : List ℕ) (symbols : List Symbol) (t : Tree)
     → IsAccepted source file symbols t → AreBytes source → AreBytes file → (others : List Symbol)
     → IsWholeAgain symbols t others
-    → data_blocks_of (listed_again symbols t) others (layouts_of (listed_again symbols t) others)
+    → data_blocks_of (listed_tree_again symbols t) others
+    (layouts_of (listed_tree_again symbols t) others)
     ≡ (program_in symbols t).data_blocks

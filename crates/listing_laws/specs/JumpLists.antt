@@ -8,7 +8,7 @@ use Rattle.stl_symbols.specs.Symbol.{Symbol}
 use Rattle.block_layout.specs.declared.blocks.BlockLayout.{BlockLayout}
 use Rattle.stl_types.specs.Lists.{lists_from}
 use Rattle.sem_kept.specs.AcceptedSource.{IsAccepted}
-use Rattle.listing_laws.specs.ListedSource.{IsMadeOf, listed_again}
+use Rattle.listing_laws.specs.ListedSource.{IsMadeOf, listed_tree_again}
 
 -- each JL in a listed body of an accepted source has its list
 abbrev pub AreListsKept : Type 0
@@ -17,5 +17,5 @@ AreListsKept =
     → IsAccepted source file symbols t → AreBytes source → AreBytes file
     → (again place : ℕ) (b : Block) (l : BlockLayout) (id : BlockId)
     → IsMadeOf symbols t again place b l id
-    → (x : Block) → slice_get (listed_again symbols t).blocks again ≡ Some x
+    → (x : Block) → slice_get (listed_tree_again symbols t).blocks again ≡ Some x
     → lists_from [] x.body ≡ []

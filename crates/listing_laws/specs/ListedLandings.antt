@@ -9,7 +9,7 @@ use Rattle.block_layout.specs.declared.blocks.BlockLayout.{BlockLayout}
 use Rattle.stl_types.specs.Labels.{labels_of}
 use Rattle.stl_types.specs.Landings.{crossing_jumps, landings_at_labels, empty_nesting}
 use Rattle.sem_kept.specs.AcceptedSource.{IsAccepted}
-use Rattle.listing_laws.specs.ListedSource.{IsMadeOf, listed_again}
+use Rattle.listing_laws.specs.ListedSource.{IsMadeOf, listed_tree_again}
 
 -- at each jump in a listed body of an accepted source and at its label equal brackets are open, and
 -- as many zones
@@ -19,5 +19,5 @@ AreLandingsKept =
     → IsAccepted source file symbols t → AreBytes source → AreBytes file
     → (again place : ℕ) (b : Block) (l : BlockLayout) (id : BlockId)
     → IsMadeOf symbols t again place b l id
-    → (x : Block) → slice_get (listed_again symbols t).blocks again ≡ Some x
+    → (x : Block) → slice_get (listed_tree_again symbols t).blocks again ≡ Some x
     → crossing_jumps (labels_of x.body) (landings_at_labels empty_nesting x.body) x.body ≡ []

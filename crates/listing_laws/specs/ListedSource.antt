@@ -21,25 +21,25 @@ use Rattle.listing_laws.specs.ListedDeclarations.{signatures_in}
 use Rattle.listing_laws.specs.Lines.{StandsBehind}
 
 -- the tree of the listing of a source's program
-abbrev pub listed_again : (symbols : List Symbol) → Tree → Tree
-listed_again symbols t = listed_tree (program_in symbols t)
+abbrev pub listed_tree_again : (symbols : List Symbol) → Tree → Tree
+listed_tree_again symbols t = listed_tree (program_in symbols t)
 
 -- what the body of a block of a source is checked by, by the place of the block
-abbrev pub context_at : (symbols : List Symbol) → Tree → (place : ℕ) → Context
-context_at symbols t place =
+abbrev pub source_context_at : (symbols : List Symbol) → Tree → (place : ℕ) → Context
+source_context_at symbols t place =
     record (first_context symbols (layouts_of t symbols) t.blocks) { block = place }
 
 -- what the body of a block of the listing is checked by, by the place of the block; `others` are
 -- the symbols that stand beside the listing
 abbrev pub again_at :
     (symbols : List Symbol) → Tree → (others : List Symbol) → (place : ℕ) → Context
-again_at symbols t others place = context_at others (listed_again symbols t) place
+again_at symbols t others place = source_context_at others (listed_tree_again symbols t) place
 
 -- no block of the listing of a source's program breaks a rule as a whole; `others` are the symbols
 -- that stand beside the listing
 abbrev pub IsWholeAgain : (symbols : List Symbol) → Tree → (others : List Symbol) → Type 0
 IsWholeAgain symbols t others =
-    AllByRecursion (λ l. l.broken ≡ false) (layouts_of (listed_again symbols t) others)
+    AllByRecursion (λ l. l.broken ≡ false) (layouts_of (listed_tree_again symbols t) others)
 
 -- no block of the listing of an accepted source's program breaks a rule as a whole, whatever
 -- symbols stand beside it
@@ -69,16 +69,16 @@ pub record IsMadeOf (symbols : List Symbol) (t : Tree) (again place : ℕ) (b : 
   pub source : IsCodeAt symbols t place b l id
   -- the code block that was made of it has this place in the order of a listing
   pub ordered : slice_get (in_lines (program_in symbols t).code_blocks) again
-      ≡ Some (compiled_block (code_block (context_at symbols t place) b l id))
+      ≡ Some (compiled_block (code_block (source_context_at symbols t place) b l id))
   -- the line that the listing has reached in front of the block
   pub reached : ℕ
   -- the block at the place in the listing is the listed code block
-  pub listed : slice_get (listed_again symbols t).blocks again
+  pub listed : slice_get (listed_tree_again symbols t).blocks again
       ≡ Some (listed_block (signatures_in (program_in symbols t)) reached
-      (compiled_block (code_block (context_at symbols t place) b l id)))
+      (compiled_block (code_block (source_context_at symbols t place) b l id)))
   -- the code block stands on its own lines behind the line that is reached
   pub stands : StandsBehind reached
-      (compiled_block (code_block (context_at symbols t place) b l id))
+      (compiled_block (code_block (source_context_at symbols t place) b l id))
 
 -- each code block of the listing of an accepted source's program was made of one of the source
 abbrev pub AreMadeOfSource : Type 0

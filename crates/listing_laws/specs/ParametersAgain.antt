@@ -17,7 +17,7 @@ use Rattle.stl_types.specs.declared.resolved_operands.Resolution.TheVariants.{Re
 use Rattle.stl_types.specs.declared.resolved_operands.ResolvedOperand.TheVariants as resolved
 use Rattle.stl_list.specs.Signatures.{formals_of_block}
 use Rattle.sem_kept.specs.AcceptedSource.{IsAccepted, program_in}
-use Rattle.listing_laws.specs.ListedSource.{IsMadeOf, IsWholeAgain, again_at, context_at}
+use Rattle.listing_laws.specs.ListedSource.{IsMadeOf, IsWholeAgain, again_at, source_context_at}
 use Rattle.listing_laws.specs.ListedDeclarations.{signatures_in}
 use Rattle.listing_laws.specs.Operands.{IsParameterAgain}
 
@@ -36,5 +36,5 @@ AreParametersAgain =
     → IsAccepted source file symbols t → AreBytes source → AreBytes file → (others : List Symbol)
     → IsWholeAgain symbols t others → (again place : ℕ) (b : Block) (l : BlockLayout) (id : BlockId)
     → IsMadeOf symbols t again place b l id
-    → AreOwnAgain (context_at symbols t place) (again_at symbols t others again)
+    → AreOwnAgain (source_context_at symbols t place) (again_at symbols t others again)
     (formals_of_block (signatures_in (program_in symbols t)) id)

@@ -22,7 +22,7 @@ use Rattle.stl_types.specs.Operands.{rules_24_25_39}
 use Rattle.stl_types.specs.Unknown.{operand_20}
 use Rattle.stl_types.specs.Zones.{rule_47, rule_48, rule_49}
 use Rattle.sem_kept.specs.AcceptedSource.{IsAccepted}
-use Rattle.listing_laws.specs.ListedSource.{IsWholeAgain, listed_again}
+use Rattle.listing_laws.specs.ListedSource.{IsWholeAgain, listed_tree_again}
 
 -- no body of the blocks breaks a rule of a source (docs/REFUSALS.md): those of the layout on
 -- operands, 23 and 42, and those of statements; the field `by_20` states that rule 20 isn't broken,
@@ -80,7 +80,7 @@ AreListedBodiesRight =
     (source file : List ℕ) (symbols : List Symbol) (t : Tree)
     → IsAccepted source file symbols t → AreBytes source → AreBytes file → (others : List Symbol)
     → IsWholeAgain symbols t others
-    → AreBodiesRight (types_of_source others (listed_again symbols t).blocks)
-    (first_context others (layouts_of (listed_again symbols t) others)
-    (listed_again symbols t).blocks)
-    (listed_again symbols t).blocks
+    → AreBodiesRight (types_of_source others (listed_tree_again symbols t).blocks)
+    (first_context others (layouts_of (listed_tree_again symbols t) others)
+    (listed_tree_again symbols t).blocks)
+    (listed_tree_again symbols t).blocks

@@ -30,7 +30,7 @@ use Rattle.block_layout.specs.declared.blocks.Shape.TheVariants as shape
 use Rattle.stl_list.specs.CodeBlocks.{in_lines, line_reached}
 use Rattle.stl_list.specs.DataBlocks.{function_block, listed_data}
 use Rattle.sem_kept.specs.AcceptedSource.{IsAccepted, program_in}
-use Rattle.listing_laws.specs.ListedSource.{listed_again}
+use Rattle.listing_laws.specs.ListedSource.{listed_tree_again}
 use Rattle.listing_laws.specs.ListedDeclarations.{signatures_in}
 use Rattle.listing_laws.specs.Ids.{data_id_of_number}
 
@@ -75,7 +75,7 @@ abbrev pub AreBlocksRightAgain : Type 0
 AreBlocksRightAgain =
     (source file : List ℕ) (symbols : List Symbol) (t : Tree)
     → IsAccepted source file symbols t → AreBytes source → AreBytes file → (others : List Symbol)
-    → AreBlocksRight others (listed_again symbols t).blocks
+    → AreBlocksRight others (listed_tree_again symbols t).blocks
 
 -- a data block of a program is an instance of the function block that a listing has at a place, and
 -- as long as the structure of that one
@@ -124,6 +124,6 @@ AreDataLaid =
     (source file : List ℕ) (symbols : List Symbol) (t : Tree)
     → IsAccepted source file symbols t → AreBytes source → AreBytes file → (others : List Symbol)
     → (k : ℕ) (d : DataBlock) → slice_get (program_in symbols t).data_blocks k ≡ Some d
-    → IsDataAt (program_in symbols t) (listed_again symbols t).blocks
-    (layouts_of (listed_again symbols t) others)
+    → IsDataAt (program_in symbols t) (listed_tree_again symbols t).blocks
+    (layouts_of (listed_tree_again symbols t) others)
     (length (program_in symbols t).code_blocks + k) d

@@ -113,7 +113,7 @@ IsArea letters.Pi width.Bit = ⊥
 IsArea letters.Pq width.Bit = ⊥
 IsArea area w = Unit {0}
 
--- the letters are those of an address, or there are none, where the register has the area
+-- the letters are those of an address, or there are none
 abbrev pub IsAreaOf : Option Letters → Width → Type 0
 IsAreaOf None w = Unit {0}
 IsAreaOf (Some area) w = IsArea area w
@@ -161,7 +161,8 @@ abbrev pub IsJumpOperand : Operand → Type 0
 IsJumpOperand (operand.Label name) = (is_word name ≡ true) × (length name ≤ 4)
 IsJumpOperand _ = ⊥
 
--- the operand of OPN: a data block by its number, or by one in memory
+-- the operand of OPN: a data block by its number, or a timer, counter or data block by a number in
+-- memory
 abbrev pub IsOpenOperand : Operand → Type 0
 IsOpenOperand (operand.OpenBlock di name) = IsDataBlock name
 IsOpenOperand (operand.NumberBy what from byte) = IsPrintedOperand (operand.NumberBy what from byte)
@@ -405,7 +406,8 @@ pub record HasPrintedForms (t : Tree) : Type 0 where
   -- each clause is printed on the line that the tree has for it
   pub lines : AreOnLines 0 (flat_map block_clauses t.blocks)
 
--- tokens that show the pieces of such a tree are read as it
+-- tokens that show the pieces of a tree of the forms of a listing, whose clauses stand on their
+-- lines, are read as that tree
 abbrev pub ArePrintedTreesRead : Type 0
 ArePrintedTreesRead =
     (source : List ℕ) (t : Tree) → HasPrintedForms t

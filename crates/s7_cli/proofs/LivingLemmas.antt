@@ -15,7 +15,7 @@ use Rattle.station.specs.declared.shared.StationFault.{StationFault}
 use Rattle.station.specs.declared.shared.StationFault.TheVariants.{NoMemory, Full}
 use Rattle.station.specs.declared.shared.TheConstants.{FULL}
 use Rattle.s7_cli.specs.Living.{IsFullNever, IsLive, opening_on, total_length}
-use Rattle.s7_cli.specs.Working.{EndsInStop, HasWorked, KnowsFault, RunsBefore, WorkedBy, entries_of_worker, step_entry_by}
+use Rattle.s7_cli.specs.Working.{EndsInStop, HasWorked, HaveWorkedTogether, KnowsFault, RunsBefore, entries_of_worker, step_entry_by}
 use Rattle.s7_cli.proofs.NumberLemmas.{AreNumbered, all_of_each, begun_few, begun_many, begun_numbered, few_made, is_numbered, missing_none, stand_in, times_numbered}
 use Rattle.s7_cli.proofs.StepperLemmas.{ends_on, none_came, runs_on}
 
@@ -28,7 +28,7 @@ module _ (s : LockView Opening) (steps : ℕ) (stimuli : List Entry) (scripts : 
   as_many : n ≡ suc (suc (length scripts))
   as_many = omega (arith, two_more)
 
-  abbrev h : WorkedBy s (fresh_pass s 1) (fresh_passes s 1 (suc (length scripts))) steps lists r whole
+  abbrev h : HaveWorkedTogether s (fresh_pass s 1) (fresh_passes s 1 (suc (length scripts))) steps lists r whole
   h = subst (λ l. HasWorked s l steps stimuli scripts r whole) (fresh ∙ ap (fresh_passes s 0) as_many) worked
 
   abbrev all_made : List (Made Entry)

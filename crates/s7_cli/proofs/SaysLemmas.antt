@@ -45,7 +45,7 @@ use Rattle.s7_cli.specs.Reading.{HoldBytesInTurn}
 use Rattle.s7_cli.specs.Says.{GoSays, CheckSays, RefusedProgram, RefusedText, RunSays, SourceSays, ChecksAs, TranslateSays, GenSays, UpgradeSays, refused_source_answer, go_answer, check_answer, run_answer, run_loaded_answer, gen_answer, upgrade_answer, CommandSays, WritesOutputFile}
 use Rattle.s7_cli.specs.StatusTable.{HasOneText}
 use Rattle.s7_cli.specs.Texts.{AreFilesWithinLimits, file_contents_of, symbols_file}
-use Rattle.s7_cli.specs.Translating.{IsEnglish, IsSourceImage, KeepsText, NotInEnglish, NotTranslated, SaysWithSymbols, language_of}
+use Rattle.s7_cli.specs.Translating.{HasNoTranslation, IsEnglish, IsSourceImage, KeepsText, NotInEnglish, SaysWithSymbols, language_of}
 use Rattle.s7_cli.proofs.BoundLemmas.{bound-outcome, bound-is-answer, recheck-one, recheck-is-answer}
 use Rattle.s7_cli.proofs.ListLemmas.{list-one, list-is-answer}
 use Rattle.s7_cli.proofs.LoadLemmas.{loads-one}
@@ -416,11 +416,11 @@ symbols-refused V source symbols compiling.NoMemory r fails has =
 
 pub translation-refused : (V W : Type 0) (source source' symbols : List ℕ) (list : List Symbol) (failure : Failure) (r : Result V Failure)
     → r ≡ Err failure → source' ≡ source → HasSymbolsIn German symbols (Ok list)
-    → SaysRefusal {V = W} (NotTranslated English source') (Err failure) → SaysRefusal (NotInEnglish source symbols) r
+    → SaysRefusal {V = W} (HasNoTranslation English source') (Err failure) → SaysRefusal (NotInEnglish source symbols) r
 translation-refused V W source source' symbols list failure r fails is has refused =
-    refused-more W V (NotTranslated English source') (NotInEnglish source symbols) failure r fails
+    refused-more W V (HasNoTranslation English source') (NotInEnglish source symbols) failure r fails
     (λ (a : CallAnswer) no. german-so (symbols_in German symbols) list source (λ text b. ⊥) a has
-    (subst (λ (s : List ℕ). NotTranslated English s a) is no))
+    (subst (λ (s : List ℕ). HasNoTranslation English s a) is no))
     refused
 
 pub english-refused : (V W : Type 0) (source symbols : List ℕ) (failure : Failure) (r : Result V Failure) → r ≡ Err failure

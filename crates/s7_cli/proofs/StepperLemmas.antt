@@ -6,7 +6,7 @@ use Rattle.plc_base.specs.declared.Mode.{Mode}
 use Rattle.var_access.specs.declared.Entry.{Entry}
 use Rattle.controller.specs.State.{is_stop}
 use Rattle.tracked_lock.specs.Passes.{PassView, LockView}
-use Rattle.tracked_lock.specs.Views.{AreEntriesByMaker, made_more}
+use Rattle.tracked_lock.specs.Views.{AreEntriesByMaker, numbers_with_more_made}
 use Rattle.tracked_lock.specs.declared.views.Made.{Made}
 use Rattle.station.specs.Openings.{mode_at, the_opening}
 use Rattle.station.specs.Turns.{HasMade, HasMadeNone}
@@ -173,7 +173,7 @@ module _ (s : LockView Opening) (who count : ℕ) (p q : PassView Opening Entry)
     left = ap is_stop after ∙ ap (λ (l : LockView Opening). is_stop (mode_at (the_opening l.origin) before (step_entry_by p.number))) h.lock ∙ ap (λ k. is_stop (mode_at o before (step_entry_by k))) h.number_is
 
     made_now : q.made ≡ record { number = who; entries = replicate (count + 1) (step_entry_by who) } ∷ []
-    made_now = turn.made ∙ ap (λ (m : List (Made Entry)). made_more m (step_entry_by who ∷ [])) h.made ∙ ap (λ (es : List Entry). record { number = who; entries = es } ∷ []) (one_more count (step_entry_by who))
+    made_now = turn.made ∙ ap (λ (m : List (Made Entry)). numbers_with_more_made m (step_entry_by who ∷ [])) h.made ∙ ap (λ (es : List Entry). record { number = who; entries = es } ∷ []) (one_more count (step_entry_by who))
 
     runs_till : RunsBefore 0 o who before
     runs_till =

@@ -10,7 +10,7 @@ use Rattle.stl_symbols.specs.declared.languages.Language.{Language}
 use Rattle.stl_symbols.specs.declared.languages.Language.TheVariants.{English, German}
 use Rattle.s7_cli.specs.declared.failures.File.TheVariants.{Source, Translation, Symbols}
 use Rattle.s7_cli.specs.Answer.{CallAnswer, too_long_answer}
-use Rattle.s7_cli.specs.Translating.{IfFits, SaysInEnglish, IsEnglish, NotTranslated, SaysWithSymbols, SaysByTranslation, SaysTranslated, TranslatesSource, language_of}
+use Rattle.s7_cli.specs.Translating.{IfFits, SaysInEnglish, IsEnglish, HasNoTranslation, SaysWithSymbols, SaysByTranslation, SaysTranslated, TranslatesSource, language_of}
 use Rattle.s7_cli.proofs.CommandAnswers.{IsCommandAnswer}
 
 -- what is said of a text
@@ -129,7 +129,7 @@ too-long false said a is gives = gives
 -- ---- a source that isn't translated
 
 pub long-translation : (language : Language) (source text : List ℕ) → IsTranslation language source text → 1048576 < length text
-    → NotTranslated language source (too_long_answer Translation)
+    → HasNoTranslation language source (too_long_answer Translation)
 long-translation language source text is long =
     (Ok text, is, too-long (nat_le (length text) 1048576) ⊥ (too_long_answer Translation) (grind (arith, nat_tests)) refl)
 

@@ -5,7 +5,7 @@ use mathlib.Core.List.{IsPrefix}
 use Rattle.var_access.specs.declared.Entry.{Entry}
 use Rattle.var_access.specs.declared.Var.{Var}
 use Rattle.tracked_lock.specs.Passes.{PassView, LockView}
-use Rattle.tracked_lock.specs.Views.{AreEntriesByMaker, made_more}
+use Rattle.tracked_lock.specs.Views.{AreEntriesByMaker, numbers_with_more_made}
 use Rattle.tracked_lock.specs.declared.views.Made.{Made}
 use Rattle.tracked_lock.proofs.Prefixes.{prefix_self, prefix_trans}
 use Rattle.station.specs.Openings.{reply_at, the_opening}
@@ -73,7 +73,7 @@ shown_none s p vars list fresh is = record {
 made_on : (s : LockView Opening) (e : Entry) (count : ℕ) (p q : P) (before : List Entry) (list : List Shown) → HasShown s e count p list → HasMade p q before e
     → q.made ≡ record { number = e.who; entries = replicate (count + 1) e } ∷ []
 made_on s e count p q before list so_far made =
-    made.made ∙ ap (λ (ms : List (Made Entry)). made_more ms (e ∷ [])) so_far.made
+    made.made ∙ ap (λ (ms : List (Made Entry)). numbers_with_more_made ms (e ∷ [])) so_far.made
     ∙ ap (λ (es : List Entry). record { number = e.who; entries = es } ∷ []) (one_more count e)
 
 -- one more was

@@ -103,8 +103,8 @@ LeavesFiles c d (Err failure) = SameFiles d.before.contents d.after.contents
 -- the call was cut short: nothing was taken, or a front of the text of an answer that these files,
 -- and these counts of failed reads, allow, and the files are as that answer leaves them: no `OK`
 -- before the image stands whole
-abbrev pub CutShort : Option Command → Disk → SinkMoments → Type 0
-CutShort c d s =
+abbrev pub TookFrontAtMost : Option Command → Disk → SinkMoments → Type 0
+TookFrontAtMost c d s =
     (s.after.taken ≡ s.before.taken)
     ⊎ ((answer : CallAnswer) × IsAnswerOfCall c d answer × CountsReads d answer.outcome
     × LeavesFiles c d answer.outcome × TookPrefix s.before s.after answer.text)
@@ -131,7 +131,7 @@ pub record SaysWholeText
 -- have risen
 pub record IsCallCutShort (c : Option Command) (d : Disk) (s : SinkMoments) : Type 0 where
   -- the sink took nothing, or a front of an answer's text
-  pub cut : CutShort c d s
+  pub cut : TookFrontAtMost c d s
   -- no count of failed reads fell
   pub reads : NoCountFell d.before.failed_reads d.after.failed_reads
   -- no file changed but output files

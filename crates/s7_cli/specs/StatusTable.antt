@@ -7,7 +7,7 @@ use Rattle.s7_cli.specs.declared.failures.Failure.{Failure}
 use Rattle.s7_cli.specs.Answer.{CallAnswer, exit_status}
 use Rattle.s7_cli.specs.BoundSays.{StacksSuffice}
 use Rattle.s7_cli.specs.Command.{Command, Live, Watch, Bound, input_files_of}
-use Rattle.s7_cli.specs.Ends.{SinkMoments, InputRose, OutputRose, CutShort, ChangesOutputs, WritesOutputs}
+use Rattle.s7_cli.specs.Ends.{SinkMoments, InputRose, OutputRose, TookFrontAtMost, ChangesOutputs, WritesOutputs}
 use Rattle.s7_cli.specs.Lines.{IsFailureLine}
 use Rattle.s7_cli.specs.Listings.{IsNotCompiled}
 use Rattle.s7_cli.specs.Reading.{Disk, AllowsAnswer, FailsOnTheWay}
@@ -81,7 +81,7 @@ pub record StatusTable (c : Option Command) (d : Disk) (s : SinkMoments) (code :
   -- faults
   pub write_fault : code ≡ 6 → CountRose s.before.faults s.after.faults ⊎ OutputRose c d
   -- 6 and 7: the sink took nothing, or a front of a text that another status allows
-  pub cut_short : IsCutOff code → CutShort c d s
+  pub cut_short : IsCutOff code → TookFrontAtMost c d s
   -- a count of failed reads that is greater behind the call than before it gives 5, 6 or 7
   pub more_failed_reads : (name : List ℕ) → d.before.failed_reads name < d.after.failed_reads name
       → (code ≡ 5) ⊎ IsCutOff code

@@ -70,8 +70,8 @@ IsEnglish true source text =
     IsTranslation English source text × (length text ≤ limit_of Translation)
 
 -- the answer where a source has no translation into a language, or one that is too long
-abbrev pub NotTranslated : Language → (source : List ℕ) → CallAnswer → Type 0
-NotTranslated language source answer = SaysTranslated language source (λ text a. ⊥) answer
+abbrev pub HasNoTranslation : Language → (source : List ℕ) → CallAnswer → Type 0
+HasNoTranslation language source answer = SaysTranslated language source (λ text a. ⊥) answer
 
 -- the answer where a German source has no English text that is as long as it may be, or its
 -- symbols are refused

@@ -146,7 +146,7 @@ pub record HasStepped
 -- the first entries of their `lists`; `r` is the pass that joined all of theirs, and `whole` says
 -- that no worker was refused: then the lists were made whole, and there are fewer steps only where
 -- the last one leaves STOP
-pub record WorkedBy
+pub record HaveWorkedTogether
     (s : LockView Opening) (p : PassView Opening Entry) (ps : List (PassView Opening Entry))
     (steps : ℕ) (lists : List (List Entry)) (r : PassView Opening Entry) (whole : Bool)
     : Type 0 where
@@ -176,4 +176,4 @@ abbrev pub HasWorked :
     → (scripts : List (List Entry)) → PassView Opening Entry → Bool → Type 0
 HasWorked s [] steps stimuli scripts r whole = ⊥
 HasWorked s (p ∷ ps) steps stimuli scripts r whole =
-    WorkedBy s p ps steps (stimuli ∷ scripts) r whole
+    HaveWorkedTogether s p ps steps (stimuli ∷ scripts) r whole

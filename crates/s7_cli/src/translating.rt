@@ -8,13 +8,13 @@ ghost use Rattle.s7_cli.specs.Inner.{SaysRefusal};
 ghost use Rattle.s7_cli.specs.Says.{RefusedProgram};
 ghost use Rattle.s7_cli.specs.Texts.{AreFilesWithinLimits, symbols_text_of};
 ghost use Rattle.s7_cli.specs.Translating.{
+  HasNoTranslation,
   HasProgramOf,
   IsEnglish,
   IsProgramOf,
   IsSourceImage,
   KeepsText,
   NotInEnglish,
-  NotTranslated,
 };
 
 use crate::compiling::{
@@ -54,7 +54,7 @@ pub(crate) fn translated_source(
     requires { length source.now ≤ source_limit }
     ensures ok { IfOk result (λ text. IsTranslation language source.now text.items) }
     ensures fits { IfOk result (λ text. length text.items ≤ 1048576) }
-    ensures refused { SaysRefusal (NotTranslated language source.now) result }
+    ensures refused { SaysRefusal (HasNoTranslation language source.now) result }
 {
     match whole_translation(alloc, language, source) {
         Ok(text) if text.len() <= limit_of(File::Translation) => Ok(text),

@@ -60,7 +60,7 @@ use Rattle.statement_laws.specs.Effects.{effect_of_statement}
 use Rattle.statement_laws.specs.Laws.{Acts, HasElementaryParameters, IsNamedActual, has_fixed_name, is_bit_logic, is_comparison, is_data_block_instruction, is_elementary_component, is_block_end, is_idle, is_load_or_transfer, is_number_instruction, is_plain_jump, is_relay, is_shift, is_timing, is_variable, stays_inside}
 use Rattle.statement_laws.specs.NamedOperands.{NamedItem}
 use Rattle.statement_laws.specs.NamedOperands as named
-use Rattle.statement_laws.specs.Operands.{named_by, with_instance}
+use Rattle.statement_laws.specs.Operands.{item_named_by, with_instance}
 use Rattle.statement_laws.proofs.CallLemmas.{calls_act}
 use Rattle.statement_laws.proofs.CoverLemmas.{has_no_name, named_there, operands_are_named}
 use Rattle.statement_laws.proofs.FamilyLemmas as families
@@ -124,7 +124,7 @@ record NamesBlock (c : Context) (name : BlockName) (db : Option BlockName) (v : 
   id : BlockId
   instance : Option ℕ
   resolves : v ≡ resolved.Called id instance
-  names : named_by c (operand.Called name db) ≡ Some (named.Called id instance)
+  names : item_named_by c (operand.Called name db) ≡ Some (named.Called id instance)
 
 placed_same : (id other : BlockId) (place : Option ℕ) → id_at id place ≡ Some other → Some id ≡ Some other
 placed_same id other None e = absurd cc
@@ -141,7 +141,7 @@ whole_same c (Some other) id e = by (is_system_function other.kind) e
 block_named : (c : Context) (name : BlockName) (db : Option BlockName) (v : ResolvedOperand)
     → resolution_of_call (whole_called_block c (named_block c.symbols name)) db (instance_number c db) ≡ Resolved v
     → NamesBlock c name db v
-unfolding named_by
+unfolding item_named_by
 block_named c name None v e = bare (whole_called_block c (named_block c.symbols name)) refl e
   where
     bare : (o : Option BlockId) → whole_called_block c (named_block c.symbols name) ≡ o
@@ -187,7 +187,7 @@ operand_named c s v plain inside word r = by s.operand refl word
     by : (o : Operand) → s.operand ≡ o → HasKnownWord o → IsNamed c s.operand
     by (operand.Called name db) e h =
         let called = call_named c name db v (sym (ap (resolution_of c) e) ∙ resolves) in
-        (named.Called called.id called.instance, ap (named_by c) e ∙ called.names)
+        (named.Called called.id called.instance, ap (item_named_by c) e ∙ called.names)
     by (operand.Named (head.Local name) steps) e h =
         variables_are_named c s v plain (ap is_variable e) inside r
     by (operand.Named (head.InBlock name) steps) e h =
@@ -197,8 +197,8 @@ operand_named c s v plain inside word r = by s.operand refl word
     by _ e h = operands_are_named c s v (ap has_fixed_name e) r
 
 label_named : (c : Context) (body : List Statement) (s : Statement) → HasLabel body s → IsNamed c s.operand
-unfolding named_by
-label_named c body s h = (named.Label, ap (named_by c) h.is)
+unfolding item_named_by
+label_named c body s h = (named.Label, ap (item_named_by c) h.is)
 
 -- ---- actual parameters
 
@@ -386,7 +386,7 @@ jump_list_is code.Jl e = refl
 jump_list_is _ e = absurd (false≢true e)
 
 family_acts : (c : Context) (body : List Statement) (n : ℕ) (s : Statement) (v : ResolvedOperand) (x : NamedItem)
-    → resolved_operand c s ≡ Some v → named_by c s.operand ≡ Some x → is_no_branch s.code ≡ true
+    → resolved_operand c s ≡ Some v → item_named_by c s.operand ≡ Some x → is_no_branch s.code ≡ true
     → Acts (instruction c body n s) (effect_of_statement s.code x)
 family_acts c body n s v x e names is =
     in_either _ (is_idle s.code) is

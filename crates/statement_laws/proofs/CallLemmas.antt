@@ -64,11 +64,11 @@ use Rattle.machine.specs.SystemCalls as system
 use Rattle.machine.specs.declared.places.Access.{Access}
 use Rattle.machine.specs.declared.places.Location.{Location}
 use Rattle.statement_laws.specs.Calls as own
-use Rattle.statement_laws.specs.Jumps.{with_rlo_1, standing_at}
+use Rattle.statement_laws.specs.Jumps.{with_rlo_1, activation_standing_at}
 use Rattle.statement_laws.specs.Laws.{CallsAct, IsNamedActual}
 use Rattle.statement_laws.specs.NamedOperands.{NamedItem}
 use Rattle.statement_laws.specs.NamedOperands as named
-use Rattle.statement_laws.specs.Operands.{block_id_of_name, number_of_block_name, named_fixed_place, has_result, named_by, place_by, with_instance}
+use Rattle.statement_laws.specs.Operands.{block_id_of_name, number_of_block_name, named_fixed_place, has_result, item_named_by, place_by, with_instance}
 use Rattle.statement_laws.specs.Reading as reading
 use Rattle.statement_laws.proofs.PlaceLemmas.{absent_same, fixed_same, of_area, then_same}
 use Rattle.statement_laws.proofs.ResolutionLemmas.{about, bits_same, block_same, resolved_parts, view_named}
@@ -251,7 +251,7 @@ found_same c name (a ∷ actuals) h =
 one_same : (c : Context) (params : List Param) (index : ℕ) (o : Option Actual) (rest : List Passing)
     (before : List Binding) (p : ExecState) → IsKnownActual c o
     → bindings.bound_params params (passed_actual c index o ++ rest) before p.local p.memory
-    ≡ own.binds_parameter (own.named_in_call c o) (slice_get params index) index before p
+    ≡ own.binds_parameter (own.item_named_in_call c o) (slice_get params index) index before p
     (λ more. bindings.bound_params params rest more p.local p.memory)
 one_same c params index None rest before p known = refl
 one_same c params index (Some a) rest before p known =
@@ -282,7 +282,7 @@ all_same c actuals params index (f ∷ fs) before p h =
     (passed_actual c index o ++ passings_from c actuals (suc index) fs) before p.local p.memory) found.0
     ∙ one_same c params index (own.actual_named f.name actuals) (passings_from c actuals (suc index) fs)
     before p found.1
-    ∙ binds_same (own.named_in_call c (own.actual_named f.name actuals)) (slice_get params index) index before p
+    ∙ binds_same (own.item_named_in_call c (own.actual_named f.name actuals)) (slice_get params index) index before p
     (λ more. bindings.bound_params params (passings_from c actuals (suc index) fs) more p.local p.memory)
     (λ more. own.bindings_from params c actuals (suc index) (map (λ f. f.name) fs) more p)
     (λ more. all_same c actuals params (suc index) fs more p h)
@@ -415,9 +415,9 @@ names_by c id false false true callee e =
 names_by c id false false false callee e = absurd cc
 
 block_is : (c : Context) (name : BlockName) (db : Option BlockName) (id : BlockId) (instance : Option ℕ)
-    → named_by c (operand.Called name db) ≡ Some (named.Called id instance)
+    → item_named_by c (operand.Called name db) ≡ Some (named.Called id instance)
     → named_block c.symbols name ≡ Some id
-unfolding named_by
+unfolding item_named_by
 block_is c name None id instance e = block_same c name ∙ by (block_id_of_name c name) e
   where
     by : (o : Option BlockId) → option_map (λ id. named.Called id None) o ≡ Some (named.Called id instance)
@@ -435,7 +435,7 @@ block_is c name (Some db) id instance e =
 
 names_same : (c : Context) (name : BlockName) (db : Option BlockName) (id : BlockId)
     (instance : Option ℕ) (callee : Callee)
-    → named_by c (operand.Called name db) ≡ Some (named.Called id instance)
+    → item_named_by c (operand.Called name db) ≡ Some (named.Called id instance)
     → callee_of c (operand.Called name db) ≡ Some callee
     → called_names c callee ≡ own.parameter_names c id
 unfolding callee_of
@@ -558,7 +558,7 @@ calls_act c body n s v name db id instance callee is o e names known actuals pro
     ∙ ap (operand_instr c s v) same.is ∙ ap (call_instr c s how) viewed
     ∙ ap (λ z. Calls how id instance (passings_to c s z)) (ap (callee_of c) o ∙ known))
     ∙ ap₂ (λ (made : Bool) (called : StatementStep). if made then called
-    else Went (standing_at next (with_rlo_1 (own.registers_at_call a.running.regs)) a) w)
+    else Went (activation_standing_at next (with_rlo_1 (own.registers_at_call a.running.regs)) a) w)
     (same.made a.running.regs.status.rlo)
     (called_same program id instance (passings_to c s (Some callee))
     (own.bindings_of c s.actuals (own.parameter_names c id)) next a w

@@ -24,7 +24,7 @@ use Rattle.stl_types.specs.declared.resolved_operands.ResolvedOperand.TheVariant
 use Rattle.statement_laws.specs.Laws.{OperandsAreNamed, has_fixed_name}
 use Rattle.statement_laws.specs.NamedOperands.{NamedItem}
 use Rattle.statement_laws.specs.NamedOperands as named
-use Rattle.statement_laws.specs.Operands.{number_of_block_name, named_by, place_by, register_named, target_named}
+use Rattle.statement_laws.specs.Operands.{number_of_block_name, item_named_by, place_by, register_named, target_named}
 use Rattle.statement_laws.specs.Operands as own
 use Rattle.statement_laws.proofs.RuleLemmas.{some_is_not_none}
 use Rattle.statement_laws.proofs.ResolutionLemmas.{about, number_known, resolved_parts, resolved_same, rule_with_constant}
@@ -120,8 +120,8 @@ opened_there c di name v (Some number) d e = (
 
 pub named_there : (c : Context) (o : Operand) (v : ResolvedOperand)
     → has_fixed_name o ≡ true → has_no_name v ≡ false → resolution_of c o ≡ Resolved v
-    → IsSomeItem (named_by c o)
-unfolding resolution_of named_by
+    → IsSomeItem (item_named_by c o)
+unfolding resolution_of item_named_by
 named_there c operand.Nothing v h r e = there _ refl
 named_there c (operand.Direct None a w byte bit) v h r e = there _ refl
 named_there c (operand.Direct (Some name) a w byte bit) v h r e =

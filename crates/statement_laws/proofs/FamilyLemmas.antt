@@ -35,7 +35,7 @@ use Rattle.statement_laws.specs.Effects as own
 use Rattle.statement_laws.specs.Laws.{Acts, BitLogicActs, ComparisonsAct, DataBlocksAct, IdleActs, LoadsAct, NumbersAct, RelayActs, ShiftsAct, TimingActs, is_bit_logic, is_comparison, is_data_block_instruction, is_idle, is_load_or_transfer, is_number_instruction, is_relay, is_shift, is_timing}
 use Rattle.statement_laws.specs.NamedOperands.{NamedItem}
 use Rattle.statement_laws.specs.NamedOperands as named
-use Rattle.statement_laws.specs.Operands.{named_fixed_place, named_by}
+use Rattle.statement_laws.specs.Operands.{named_fixed_place, item_named_by}
 use Rattle.statement_laws.proofs.ActionLemmas as action_lemmas
 use Rattle.statement_laws.proofs.FlatLemmas.{flat_of}
 use Rattle.statement_laws.proofs.FlatLemmas as flat_lemmas
@@ -79,7 +79,7 @@ pub record IsTakenOperand (m : Mnemonic) (o : Operand) (v : ResolvedOperand) (x 
   pub there : view_named (about o) v ≡ Some x
 
 pub acts : (c : Context) (body : List Statement) (n : ℕ) (s : Statement) (v : ResolvedOperand) (x : NamedItem)
-    → resolved_operand c s ≡ Some v → named_by c s.operand ≡ Some x
+    → resolved_operand c s ≡ Some v → item_named_by c s.operand ≡ Some x
     → (IsTakenOperand s.code s.operand v x → IsAction s.code s.operand v x)
     → Acts (instruction c body n s) (effect_of_statement s.code x)
 unfolding instruction

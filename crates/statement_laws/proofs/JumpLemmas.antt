@@ -99,7 +99,7 @@ plain_jumps_act c body n s name is o program next a w =
     ∙ same.goes n (target_of body s.operand)
     ∙ ap (Jumps how) (target_same body s.operand name o))
     ∙ ap₂ (λ (taken : Bool) (r : Regs).
-    Went (own.standing_at (if taken then target else next) r a) w)
+    Went (own.activation_standing_at (if taken then target else next) r a) w)
     (same.taken a.running.regs) (same.after a.running.regs)
   where
     target : ℕ
@@ -140,7 +140,7 @@ jump_lists_act c body n s name is o program next a w =
     ap (λ i. instruction_step program i next a w)
     (ap (λ m. instr_by c body n s (jump_operation_of m)) is
     ∙ ap (jump_instr jump.Jl n) (target_same body s.operand name o))
-    ∙ ap (λ at. Went (own.standing_at at a.running.regs a) w)
+    ∙ ap (λ at. Went (own.activation_standing_at at a.running.regs a) w)
     (numbers_same (suc n) (target - suc n) (a.running.regs.a1 % 2 ^ 8) target)
   where
     target : ℕ
@@ -170,7 +170,7 @@ ends_act c body n s v is e program next a w =
     (ap (instr_by c body n s) same.no_jump ∙ ap (resolved_instr c s) e
     ∙ ap (operand_instr c s v) same.no_call ∙ ap (end_instr s v) same.is)
     ∙ ap (λ (b : Bool). if b then return_made (program.head a.running.frame.block) a w
-    else Went (own.standing_at next (own.with_rlo_1 a.running.regs) a) w)
+    else Went (own.activation_standing_at next (own.with_rlo_1 a.running.regs) a) w)
     (same.ended a.running.regs.status.rlo)
   where
     how : EndOperation

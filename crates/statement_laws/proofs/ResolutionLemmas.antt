@@ -47,7 +47,7 @@ use Rattle.stl_types.specs.declared.resolved_operands.ResolvedOperand.TheVariant
 use Rattle.stl_codegen.specs.Operands as codegen
 use Rattle.statement_laws.specs.NamedOperands.{NamedItem, ItemNumber, OpenBlockFact, OperandPlace}
 use Rattle.statement_laws.specs.NamedOperands as named
-use Rattle.statement_laws.specs.Operands.{number_of_block_name, named_fixed_place, named_by, numbered_item, named_place, place_by, place_in_db, pointer_constant_bits, register_named, symbol_target, target_named}
+use Rattle.statement_laws.specs.Operands.{number_of_block_name, named_fixed_place, item_named_by, numbered_item, named_place, place_by, place_in_db, pointer_constant_bits, register_named, symbol_target, target_named}
 use Rattle.statement_laws.specs.Operands as own
 use Rattle.statement_laws.specs.Reading.{bits_of_literal, number_behind, twos_complement, number_or_zero}
 use Rattle.statement_laws.proofs.FlatLemmas.{flat_of}

@@ -45,7 +45,7 @@ use Rattle.stl_types.specs.declared.resolved_operands.ResolvedOperand.TheVariant
 use Rattle.statement_laws.specs.Laws.{HasElementaryParameters, VariablesAreNamed, is_elementary_component, is_variable, stays_inside}
 use Rattle.statement_laws.specs.NamedOperands.{NamedItem}
 use Rattle.statement_laws.specs.NamedOperands as named_as
-use Rattle.statement_laws.specs.Operands.{block_id_of_name, cell_width, component_named, components_of_block, has_result, named_by, parameter_named, named_place, place_in_layout, variable_by, variable_named}
+use Rattle.statement_laws.specs.Operands.{block_id_of_name, cell_width, component_named, components_of_block, has_result, item_named_by, parameter_named, named_place, place_in_layout, variable_by, variable_named}
 use Rattle.statement_laws.specs.Operands as own
 use Rattle.statement_laws.proofs.CoverLemmas.{IsSomeItem, has_no_name, name_left}
 use Rattle.statement_laws.proofs.ResolutionLemmas.{block_same, number_known, resolved_parts, resolved_same}
@@ -425,8 +425,8 @@ component_there c name steps v r e inside =
 
 pub path_there : (c : Context) (o : Operand) (v : ResolvedOperand)
     → HasElementaryParameters c → is_variable o ≡ true → stays_inside c o ≡ true
-    → has_no_name v ≡ false → resolution_of c o ≡ Resolved v → IsSomeItem (named_by c o)
-unfolding resolution_of named_by
+    → has_no_name v ≡ false → resolution_of c o ≡ Resolved v → IsSomeItem (item_named_by c o)
+unfolding resolution_of item_named_by
 path_there c (operand.Named (head.Local name) steps) v plain is inside r e =
     variable_there c (upper_case_name name) (folded_path steps) v r plain e inside
 path_there c (operand.Named (head.InBlock name) steps) v plain is inside r e =

@@ -42,7 +42,7 @@ use Rattle.stl_types.specs.declared.resolved_operands.ResolvedOperand.{ResolvedO
 use Rattle.stl_types.specs.declared.resolved_operands.ResolvedOperand.TheVariants as resolved
 use Rattle.statement_laws.specs.NamedOperands.{NamedItem}
 use Rattle.statement_laws.specs.NamedOperands as named
-use Rattle.statement_laws.specs.Operands.{block_id_of_name, number_of_block_name, cell_width, component_named, components_of_block, named_fixed_place, has_result, place_in_layout, named_by, numbered_item, parameter_named, named_place, pointer_constant_bits, variable_by, variable_named, with_instance}
+use Rattle.statement_laws.specs.Operands.{block_id_of_name, number_of_block_name, cell_width, component_named, components_of_block, named_fixed_place, has_result, place_in_layout, item_named_by, numbered_item, parameter_named, named_place, pointer_constant_bits, variable_by, variable_named, with_instance}
 use Rattle.statement_laws.specs.Operands as own
 use Rattle.statement_laws.proofs.ResolutionLemmas.{about, block_same, carry, direct_named, in_block_same, left_same, letters_same, number_in_same, number_known, opened_named, pointer_same, register_same, resolved_same, symbol_same, view_named}
 
@@ -410,8 +410,8 @@ instance_call c (Some id) db (Some number) v x d e n =
 -- ---- operands
 
 pub view_same : (c : Context) (o : Operand) (v : ResolvedOperand) (x : NamedItem)
-    → resolution_of c o ≡ Resolved v → named_by c o ≡ Some x → view_named (about o) v ≡ Some x
-unfolding resolution_of named_by
+    → resolution_of c o ≡ Resolved v → item_named_by c o ≡ Some x → view_named (about o) v ≡ Some x
+unfolding resolution_of item_named_by
 view_same c operand.Nothing v x e n = carry None resolved.Nothing v named.Nothing x refl e n
 view_same c (operand.Direct None a w byte bit) v x e n =
     carry None (resolved_address 0 a w byte bit) v (named_fixed_place (own.area_by_letters a) w byte bit) x

@@ -28,13 +28,13 @@ use Rattle.statement_laws.specs.Jumps.{ends_block, jumps_by_list, jumps_to_targe
 use Rattle.statement_laws.specs.Laws.{Acts, IsNamedActual, is_bit_logic, is_comparison, is_data_block_instruction, is_block_end, is_idle, is_in_family, is_load_or_transfer, is_number_instruction, is_plain_jump, is_relay, is_shift, is_timing}
 use Rattle.statement_laws.specs.NamedOperands.{NamedItem}
 use Rattle.statement_laws.specs.NamedOperands as named
-use Rattle.statement_laws.specs.Operands.{named_by}
+use Rattle.statement_laws.specs.Operands.{item_named_by}
 
 -- ---- what is named
 
 -- an operand names something
 abbrev pub IsNamed : Context → Operand → Type 0
-IsNamed c o = (x : NamedItem) × (named_by c o ≡ Some x)
+IsNamed c o = (x : NamedItem) × (item_named_by c o ≡ Some x)
 
 -- a call names the block that it calls, whose parameters are known
 pub record NamesCalled (c : Context) (s : Statement) : Type 0 where
@@ -49,7 +49,7 @@ pub record NamesCalled (c : Context) (s : Statement) : Type 0 where
   -- the number of the data block that is the instance, where the call names one
   pub instance : Option ℕ
   -- the operand names the called block, with its instance
-  pub names : named_by c (operand.Called name db) ≡ Some (named.Called id instance)
+  pub names : item_named_by c (operand.Called name db) ≡ Some (named.Called id instance)
   -- the called block with its parameters
   pub callee : Callee
   -- the block with its parameters is found by the operand
@@ -97,7 +97,7 @@ pub record ActsOnItsOperand
   -- what its operand names
   pub item : NamedItem
   -- the operand names `item`
-  pub names : named_by c s.operand ≡ Some item
+  pub names : item_named_by c s.operand ≡ Some item
   -- the instruction does with `item` what the mnemonic says
   pub acts : Acts (instruction c body n s) (effect_of_statement s.code item)
 

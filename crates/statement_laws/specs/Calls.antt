@@ -37,10 +37,10 @@ use Rattle.machine.specs.declared.places.Access.{Access}
 use Rattle.machine.specs.declared.places.Access.TheVariants.{Reading, Writing}
 use Rattle.machine.specs.declared.places.Location.{Location}
 use Rattle.statement_laws.specs.Effects.{is_data_block_loaded}
-use Rattle.statement_laws.specs.Jumps.{with_rlo_1, standing_at}
+use Rattle.statement_laws.specs.Jumps.{with_rlo_1, activation_standing_at}
 use Rattle.statement_laws.specs.NamedOperands.{NamedItem}
 use Rattle.statement_laws.specs.NamedOperands as named
-use Rattle.statement_laws.specs.Operands.{has_result, named_by}
+use Rattle.statement_laws.specs.Operands.{has_result, item_named_by}
 use Rattle.statement_laws.specs.Reading.{location_of_parts, bits_of_literal, fixed_place, missing_place_error, number_at_location}
 
 -- ---- parameters by their names
@@ -119,9 +119,9 @@ if_passable (named.Parameter index w) = Some (named.Parameter index w)
 if_passable _ = None
 
 -- the place or value that is passed, if it may be
-abbrev pub named_in_call : Context → Option Actual → Option NamedItem
-named_in_call c None = None
-named_in_call c (Some a) = option_and_then if_passable (named_by c a.value)
+abbrev pub item_named_in_call : Context → Option Actual → Option NamedItem
+item_named_in_call c None = None
+item_named_in_call c (Some a) = option_and_then if_passable (item_named_by c a.value)
 
 -- ---- what it stands for
 
@@ -182,7 +182,7 @@ abbrev pub bindings_from :
     → Result (List Binding) ℕ
 bindings_from params c actuals index [] bindings p = Ok bindings
 bindings_from params c actuals index (name ∷ names) bindings p =
-    binds_parameter (named_in_call c (actual_named name actuals)) (slice_get params index)
+    binds_parameter (item_named_in_call c (actual_named name actuals)) (slice_get params index)
     index bindings p (λ more. bindings_from params c actuals (suc index) names more p)
 
 -- what all parameters of a call stand for; one for which nothing is passed is unsupplied
@@ -235,4 +235,4 @@ calls_block m id instance bind program next a w =
     then (if is_system_function id.kind
     then enters_system (system_function id.number) id.number bind next a w
     else enters_block (program.head id) id instance bind next a w)
-    else Went (standing_at next (with_rlo_1 (registers_at_call a.running.regs)) a) w
+    else Went (activation_standing_at next (with_rlo_1 (registers_at_call a.running.regs)) a) w

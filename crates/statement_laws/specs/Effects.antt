@@ -267,13 +267,13 @@ abbrev pub exchanges_addresses : ExecState → Result ExecState ℕ
 exchanges_addresses p = on_regs (λ r. record r { ar1 = r.ar2; ar2 = r.ar1 }) p
 
 -- a signed integer of 16 bits, widened to 24 bits
-abbrev pub widened_to_24 : (word : ℕ) → ℕ
-widened_to_24 word = if nat_lt word (2 ^ 15) then word else word + (2 ^ 24 - 2 ^ 16)
+abbrev pub word_widened_to_24 : (word : ℕ) → ℕ
+word_widened_to_24 word = if nat_lt word (2 ^ 15) then word else word + (2 ^ 24 - 2 ^ 16)
 
 -- what +AR1 and +AR2 add: the pointer constant, or the integer in the low word of accumulator 1
 abbrev pub added_bits : NamedItem → ExecState → ℕ
 added_bits (named.Pointer value) p = value
-added_bits x p = widened_to_24 (low_word_of_accu_1 p)
+added_bits x p = word_widened_to_24 (low_word_of_accu_1 p)
 
 -- an address register after +AR1 or +AR2: the count is added in bits 0 to 23
 abbrev pub address_after : (address count : ℕ) → ℕ

@@ -93,8 +93,8 @@ after_jump code.Loop r = one_less r
 after_jump _ r = r
 
 -- the running block stands at a position, with these registers
-abbrev pub standing_at : ℕ → Regs → Activation → Activation
-standing_at at r a =
+abbrev pub activation_standing_at : ℕ → Regs → Activation → Activation
+activation_standing_at at r a =
     record a {
       running = record a.running { regs = r; frame = record a.running.frame { at = at } };
     }
@@ -102,7 +102,7 @@ standing_at at r a =
 -- a jump to a position, or on to the next statement
 abbrev pub jumps_to_target : Mnemonic → (target next : ℕ) → Activation → GlobalStore → StatementStep
 jumps_to_target m target next a w =
-    Went (standing_at (if takes_jump m a.running.regs then target else next)
+    Went (activation_standing_at (if takes_jump m a.running.regs then target else next)
     (after_jump m a.running.regs) a) w
 
 -- where JL goes on that is the statement of a number: at the jump behind it that the lowest byte of
@@ -115,7 +115,7 @@ list_target n target r =
 -- statement of number `target`; it changes no register
 abbrev pub jumps_by_list : (n target : ℕ) → Activation → GlobalStore → StatementStep
 jumps_by_list n target a w =
-    Went (standing_at (list_target n target a.running.regs) a.running.regs a) w
+    Went (activation_standing_at (list_target n target a.running.regs) a.running.regs a) w
 
 -- ---- ends of a block
 
@@ -130,4 +130,4 @@ abbrev pub ends_block : Mnemonic → Code → (next : ℕ) → Activation → Gl
 ends_block m program next a w =
     if is_return_taken m a.running.regs.status.rlo
     then return_made (program.head a.running.frame.block) a w
-    else Went (standing_at next (with_rlo_1 a.running.regs) a) w
+    else Went (activation_standing_at next (with_rlo_1 a.running.regs) a) w

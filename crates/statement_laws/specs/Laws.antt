@@ -34,7 +34,7 @@ use Rattle.machine.specs.Statement.{GlobalStore, instruction_step, continue_with
 use Rattle.statement_laws.specs.Calls.{bindings_of, calls_block, parameter_names}
 use Rattle.statement_laws.specs.NamedOperands.{NamedItem}
 use Rattle.statement_laws.specs.NamedOperands as named
-use Rattle.statement_laws.specs.Operands.{components_of_block, named_by, register_named}
+use Rattle.statement_laws.specs.Operands.{components_of_block, item_named_by, register_named}
 use Rattle.statement_laws.specs.Effects.{effect_of_statement}
 use Rattle.statement_laws.specs.Jumps.{numbered_statement_count, ends_block, jumps_to_target, jumps_by_list, number_of_label}
 
@@ -52,7 +52,7 @@ abbrev pub StatementsAct : (Mnemonic → Bool) → Type 0
 StatementsAct family =
     (c : Context) (body : List Statement) (n : ℕ) (s : Statement) (v : ResolvedOperand)
     (x : NamedItem)
-    → family s.code ≡ true → resolved_operand c s ≡ Some v → named_by c s.operand ≡ Some x
+    → family s.code ≡ true → resolved_operand c s ≡ Some v → item_named_by c s.operand ≡ Some x
     → Acts (instruction c body n s) (effect_of_statement s.code x)
 
 -- A AN O ON X XN, the brackets, = S R FP FN, SET CLR NOT SAVE
@@ -305,7 +305,7 @@ has_fixed_name _ = true
 abbrev pub OperandsAreNamed : Type 0
 OperandsAreNamed =
     (c : Context) (s : Statement) (v : ResolvedOperand) → has_fixed_name s.operand ≡ true
-    → resolved_operand c s ≡ Some v → (x : NamedItem) × (named_by c s.operand ≡ Some x)
+    → resolved_operand c s ≡ Some v → (x : NamedItem) × (item_named_by c s.operand ≡ Some x)
 
 -- a component of elementary type, and no array
 abbrev pub is_elementary_component : Cell → Bool
@@ -338,7 +338,7 @@ abbrev pub VariablesAreNamed : Type 0
 VariablesAreNamed =
     (c : Context) (s : Statement) (v : ResolvedOperand) → HasElementaryParameters c
     → is_variable s.operand ≡ true → stays_inside c s.operand ≡ true → resolved_operand c s ≡ Some v
-    → (x : NamedItem) × (named_by c s.operand ≡ Some x)
+    → (x : NamedItem) × (item_named_by c s.operand ≡ Some x)
 
 -- ---- calls
 
@@ -351,7 +351,7 @@ pub record IsNamedActual (c : Context) (a : Actual) : Type 0 where
   -- what the value of the actual parameter names
   pub item : NamedItem
   -- the value of the actual parameter names `item`
-  pub names : named_by c a.value ≡ Some item
+  pub names : item_named_by c a.value ≡ Some item
 
 -- each call of a block whose parameters are known does what its mnemonic says, where what is
 -- passed is named
@@ -362,7 +362,7 @@ CallsAct =
     (callee : Callee)
     → is_call s.code ≡ true → s.operand ≡ operand.Called name db
     → resolved_operand c s ≡ Some v
-    → named_by c (operand.Called name db) ≡ Some (named.Called id instance)
+    → item_named_by c (operand.Called name db) ≡ Some (named.Called id instance)
     → callee_of c (operand.Called name db) ≡ Some callee
     → AllByRecursion (IsNamedActual c) s.actuals
     → (program : Code) (next : ℕ) (a : Activation) (w : GlobalStore)
@@ -372,7 +372,8 @@ CallsAct =
 
 -- ---- numbers of statements
 
--- the code of a block by its statements
+-- the code of a block has the block's statements but the empty ones, each at the number that counts
+-- those before it, and behind them one that returns
 pub record HasNumberedStatements (c : Context) (b : Block) : Type 0 where
   -- each statement that isn't empty has the number that counts those before it
   pub each :

@@ -199,34 +199,36 @@ pointer_constant_bits (Some a) byte bit = pointer_area_bits a + 8 * byte + bit
 -- ---- operands
 
 -- what an operand names in a block; none where a name isn't there
-unfoldable pub named_by : Context → Operand → Option NamedItem
-named_by c operand.Nothing = Some named.Nothing
-named_by c (operand.Direct None a width byte bit) =
+unfoldable pub item_named_by : Context → Operand → Option NamedItem
+item_named_by c operand.Nothing = Some named.Nothing
+item_named_by c (operand.Direct None a width byte bit) =
     Some (named_fixed_place (area_by_letters a) width byte bit)
-named_by c (operand.Direct (Some name) a width byte bit) =
+item_named_by c (operand.Direct (Some name) a width byte bit) =
     option_map
     (λ number. place_by (area_by_letters a) number width byte bit) (number_of_block_name c name)
-named_by c (operand.Timer number) = Some (named.Timer (named.Written number))
-named_by c (operand.Counter number) = Some (named.Counter (named.Written number))
-named_by c (operand.ByMemory a width from byte) =
+item_named_by c (operand.Timer number) = Some (named.Timer (named.Written number))
+item_named_by c (operand.Counter number) = Some (named.Counter (named.Written number))
+item_named_by c (operand.ByMemory a width from byte) =
     Some (named.Place (named.ByMemory (area_by_letters a) width (area_by_letters from) byte))
-named_by c (operand.NumberBy what from byte) =
+item_named_by c (operand.NumberBy what from byte) =
     Some (numbered_item what (named.InWord (area_by_letters from) byte))
-named_by c (operand.ByRegister a width register bits) =
+item_named_by c (operand.ByRegister a width register bits) =
     Some (named.Place (named.ByRegister (option_map area_by_letters a) width register bits))
-named_by c (operand.Pointer a byte bit) = Some (named.Pointer (pointer_constant_bits a byte bit))
-named_by c (operand.Constant value) = Some (named.Constant value)
-named_by c (operand.Label name) = Some named.Label
-named_by c (operand.OfStatus flag) = Some (named.Condition flag)
-named_by c (operand.Other name) = register_named name
-named_by c (operand.OpenBlock di name) =
+item_named_by c (operand.Pointer a byte bit) =
+    Some (named.Pointer (pointer_constant_bits a byte bit))
+item_named_by c (operand.Constant value) = Some (named.Constant value)
+item_named_by c (operand.Label name) = Some named.Label
+item_named_by c (operand.OfStatus flag) = Some (named.Condition flag)
+item_named_by c (operand.Other name) = register_named name
+item_named_by c (operand.OpenBlock di name) =
     option_map (λ number. named.DataBlock di (named.Written number)) (number_of_block_name c name)
-named_by c (operand.Named (head.Symbol name) steps) =
+item_named_by c (operand.Named (head.Symbol name) steps) =
     option_and_then target_named (symbol_target c name)
-named_by c (operand.Named (head.Local name) steps) =
+item_named_by c (operand.Named (head.Local name) steps) =
     variable_named c (upper_case_name name) (folded_path steps)
-named_by c (operand.Named (head.InBlock name) steps) = component_named c name (folded_path steps)
-named_by c (operand.Called name None) =
+item_named_by c (operand.Named (head.InBlock name) steps) =
+    component_named c name (folded_path steps)
+item_named_by c (operand.Called name None) =
     option_map (λ id. named.Called id None) (block_id_of_name c name)
-named_by c (operand.Called name (Some db)) =
+item_named_by c (operand.Called name (Some db)) =
     with_instance (block_id_of_name c name) (number_of_block_name c db)

@@ -6,7 +6,7 @@ use Rattle.var_access.specs.declared.What.{What}
 use Rattle.var_access.specs.declared.What.TheVariants.{Input, Arrive, Tick}
 use Rattle.controller.specs.Recording.{Recording}
 use Rattle.tracked_lock.specs.Passes.{PassView}
-use Rattle.tracked_lock.specs.Views.{made_more}
+use Rattle.tracked_lock.specs.Views.{numbers_with_more_made}
 use Rattle.station.specs.declared.shared.Opening.{Opening}
 use Rattle.station.specs.declared.shared.StationFault.{StationFault}
 use Rattle.station.specs.declared.shared.StationFault.TheVariants.{NoMemory, Full}
@@ -48,7 +48,7 @@ pub record HasMade
   pub begins : IsPrefix old.seen before
   -- the entry is the only new one under the own number of the pass; the entries under its other
   -- numbers are as before
-  pub made : new.made ≡ made_more old.made (e ∷ [])
+  pub made : new.made ≡ numbers_with_more_made old.made (e ∷ [])
   -- the entries of the opening and those since then are at most 4,194,304 together
   pub room : length (the_opening old.lock.origin).first + length new.seen ≤ FULL
 

@@ -9,7 +9,7 @@ use prog.Atomic.{either}
 use Rattle.atomic_table.specs.Table.{State, Me, Act, keeps, takes as taking, gives, Valid, carried_after, homes_after, rest, stepped, opening, Allows, Splits, Joins, Final, Seen}
 use Rattle.atomic_table.proofs.Lists.{at_set, at_snoc, set_here, set_else, exchanged}
 use Rattle.tracked_lock.specs.declared.views.View.{View}
-use Rattle.tracked_lock.specs.Views.{sum_of_values, HoldsForEach, AreEntriesByMaker, times, one_if_number_of_pass, own_number, IsAdded, made_more, longer, turn_count, without_last, only_last, joined_view, spent_view, fresh_to}
+use Rattle.tracked_lock.specs.Views.{sum_of_values, HoldsForEach, AreEntriesByMaker, times, one_if_number_of_pass, own_number, IsAdded, numbers_with_more_made, longer, turn_count, without_last, only_last, joined_view, spent_view, fresh_to}
 use Rattle.tracked_lock.specs.declared.views.Made.{Made}
 use Rattle.tracked_lock.specs.Rule.{FitsLog, KeepsLockRule, starting_view}
 use Rattle.tracked_lock.specs.Plays.{Takes, Reads, Counts, Releases, with_turn, view_after_look, view_with_list, without_turn}
@@ -158,8 +158,8 @@ module _ {T O E : Type 0} (origin_of : T → O) (story_of : T → List E) (maker
       let range = stands_range passes k (omega (arith, times_all k, g.numbers k)) in
       let w : View O E = view_with_list m.0 zs in
       let on : turn_count m.0 ≡ 1 = ap flag turn in
-      let made : AreEntriesByMaker maker_of zs w.made = subst (λ a. AreEntriesByMaker maker_of zs (made_more m.0.made a)) (sym rest)
-      (subst (λ l. AreEntriesByMaker maker_of l (made_more m.0.made added)) now (made_grown maker_of g.log added m.0.made more.2 (omega (arith, times_all k, g.numbers k, stands_one passes k)) mine.made)) in (
+      let made : AreEntriesByMaker maker_of zs w.made = subst (λ a. AreEntriesByMaker maker_of zs (numbers_with_more_made m.0.made a)) (sym rest)
+      (subst (λ l. AreEntriesByMaker maker_of l (numbers_with_more_made m.0.made added)) now (made_grown maker_of g.log added m.0.made more.2 (omega (arith, times_all k, g.numbers k, stands_one passes k)) mine.made)) in (
         w,
         keeps,
         tt,

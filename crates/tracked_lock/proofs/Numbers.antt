@@ -5,7 +5,7 @@ use mathlib.Core.Logic.{dite}
 use mathlib.Core.List.{IsPrefix}
 use native.Mathlib.Decide.{ℕ_discrete, dec_le}
 use Rattle.tracked_lock.specs.declared.views.Made.{Made}
-use Rattle.tracked_lock.specs.Views.{HoldsForEach, entries_by, AreEntriesByMaker, IsKnownOf, times, fresh_to, made_more, own_number, one_if_number_of_pass}
+use Rattle.tracked_lock.specs.Views.{HoldsForEach, entries_by, AreEntriesByMaker, IsKnownOf, times, fresh_to, numbers_with_more_made, own_number, one_if_number_of_pass}
 use Rattle.tracked_lock.proofs.Prefixes.{prefix_whole, prefix_length}
 
 abbrev pub flag : Bool → ℕ
@@ -85,7 +85,7 @@ module _ {E : Type 0} (maker : E → ℕ) where
       )
 
   pub made_grown : (log added : List E) (made : List (Made E)) → HoldsForEach (λ e. maker e ≡ own_number made) added → times (own_number made) made ≤ 1 → AreEntriesByMaker maker log made
-      → AreEntriesByMaker maker (log ++ added) (made_more made added)
+      → AreEntriesByMaker maker (log ++ added) (numbers_with_more_made made added)
   made_grown log added [] own once m = tt
   made_grown log added (x ∷ ms) own once m = (
     filter-append (λ e. eqb (maker e) x.number) log added ∙ (ap (λ r. entries_by maker x.number log ++ r) (by_own x.number added own) ∙ ap (λ r. r ++ added) m.0),
@@ -101,11 +101,11 @@ module _ {E : Type 0} where
   times_le k [] = omega arith
   times_le k (x ∷ a) = dite (ℕ_discrete x.number k) (λ e. omega (arith, times_le k a, hit x.number k e)) (λ n. omega (arith, times_le k a, miss x.number k n))
 
-  pub times_more : (k : ℕ) (a : List (Made E)) (added : List E) → times k (made_more a added) ≡ times k a
+  pub times_more : (k : ℕ) (a : List (Made E)) (added : List E) → times k (numbers_with_more_made a added) ≡ times k a
   times_more k [] added = refl
   times_more k (x ∷ a) added = refl
 
-  pub length_more : (a : List (Made E)) (added : List E) → length (made_more a added) ≡ length a
+  pub length_more : (a : List (Made E)) (added : List E) → length (numbers_with_more_made a added) ≡ length a
   length_more [] added = refl
   length_more (x ∷ a) added = refl
 

@@ -4,7 +4,7 @@ use Rattle.atomic_table.specs.Table.{Me}
 use Rattle.std.proofs.Common.{Option}
 use Rattle.tracked_lock.specs.declared.views.View.{View}
 use Rattle.tracked_lock.specs.declared.views.Made.{Made}
-use Rattle.tracked_lock.specs.Views.{HoldsForEach, AreEntriesByMaker, IsAdded, own_number, made_more, longer}
+use Rattle.tracked_lock.specs.Views.{HoldsForEach, AreEntriesByMaker, IsAdded, own_number, numbers_with_more_made, longer}
 use Rattle.tracked_lock.specs.Plays.{view_with_list, without_turn}
 use Rattle.tracked_lock.specs.Passes.{IsPass, IsOneStep}
 use Rattle.tracked_lock.proofs.Prefixes.{drop_prefix, longer_either}
@@ -19,7 +19,7 @@ added_of maker k xs ys h = ⊎_elim (λ e. ([], e ∙ sym (append-nil xs), tt)) 
 pub added_as : {E : Type 0} (maker : E → ℕ) (k j : ℕ) (xs zs ys : List E) → k ≡ j → xs ≡ zs → IsAdded maker k xs ys → IsAdded maker j zs ys
 added_as maker k j xs zs ys e d h = subst (λ l. IsAdded maker j l ys) d (subst (λ n. IsAdded maker n xs ys) e h)
 
-own_more : {E : Type 0} (made : List (Made E)) (added : List E) → own_number (made_more made added) ≡ own_number made
+own_more : {E : Type 0} (made : List (Made E)) (added : List E) → own_number (numbers_with_more_made made added) ≡ own_number made
 own_more [] added = refl
 own_more (x ∷ ms) added = refl
 
@@ -44,8 +44,8 @@ module _ {T O E : Type 0} (story_of : T → List E) (maker_of : E → ℕ) where
         seen_is = long;
         numbers_is = is.numbers_is ∙ sym (length_more m.0.made (drop (length m.0.seen) (story_of x)));
         one_number = omega (arith, length_more m.0.made (drop (length m.0.seen) (story_of x)), is.one_number);
-        made = subst (λ l. AreEntriesByMaker maker_of l (made_more m.0.made (drop (length m.0.seen) (story_of x)))) (sym more.1)
-            (subst (λ a. AreEntriesByMaker maker_of (m.0.seen ++ added) (made_more m.0.made a)) (sym rest) (made_grown maker_of m.0.seen added m.0.made own (omega (arith, is.once (own_number m.0.made), stands_one m.0.passes (own_number m.0.made))) is.made));
+        made = subst (λ l. AreEntriesByMaker maker_of l (numbers_with_more_made m.0.made (drop (length m.0.seen) (story_of x)))) (sym more.1)
+            (subst (λ a. AreEntriesByMaker maker_of (m.0.seen ++ added) (numbers_with_more_made m.0.made a)) (sym rest) (made_grown maker_of m.0.seen added m.0.made own (omega (arith, is.once (own_number m.0.made), stands_one m.0.passes (own_number m.0.made))) is.made));
         once = λ k. omega (arith, times_more k m.0.made (drop (length m.0.seen) (story_of x)), is.once k);
       }
 

@@ -3,7 +3,7 @@ use Rattle.std.specs.Prelude.{◌≡◌, ◌⊎◌, ℕ, zero, suc, ◌+◌, ◌
 use mathlib.Core.List.{IsPrefix}
 use Rattle.atomic_table.specs.Seated.{TableId}
 use Rattle.tracked_lock.specs.declared.views.Made.{Made}
-use Rattle.tracked_lock.specs.Views.{AreEntriesByMaker, times, one_if_number_of_pass, own_number, made_more, longer, HoldsForEach}
+use Rattle.tracked_lock.specs.Views.{AreEntriesByMaker, times, one_if_number_of_pass, own_number, numbers_with_more_made, longer, HoldsForEach}
 use Rattle.tracked_lock.specs.declared.views.View.{View}
 use Rattle.atomic_table.specs.Table.{Me}
 
@@ -71,7 +71,11 @@ module _ {O E : Type 0} where
   -- that are new in it
   abbrev pub pass_after_put : PassView O E → List E → PassView O E
   pass_after_put p list =
-      record p { out = false; seen = list; made = made_more p.made (drop (length p.seen) list) }
+      record p {
+        out = false;
+        seen = list;
+        made = numbers_with_more_made p.made (drop (length p.seen) list);
+      }
 
   -- a pass that took over the numbers of another
   abbrev pub joined_pass : PassView O E → PassView O E → PassView O E

@@ -3,7 +3,7 @@ use Rattle.std.specs.Prelude.{◌≡◌, ◌≢◌, ℕ, ◌<◌, ◌≤◌, tru
 use mathlib.Core.List.{IsPrefix}
 use Rattle.atomic_table.specs.Table.{Me, rest}
 use Rattle.tracked_lock.specs.declared.views.View.{View}
-use Rattle.tracked_lock.specs.Views.{AreEntriesByMaker, IsAdded, times, one_if_number_of_pass, made_more, longer, own_number}
+use Rattle.tracked_lock.specs.Views.{AreEntriesByMaker, IsAdded, times, one_if_number_of_pass, numbers_with_more_made, longer, own_number}
 
 module _ {O E : Type 0} where
   -- the view with the turn, which knows the whole list
@@ -16,7 +16,11 @@ module _ {O E : Type 0} where
 
   -- the view whose list has grown to this one, with what is new under its own number
   abbrev pub view_with_list : View O E → List E → View O E
-  view_with_list v log = record v { seen = log; made = made_more v.made (drop (length v.seen) log) }
+  view_with_list v log =
+      record v {
+        seen = log;
+        made = numbers_with_more_made v.made (drop (length v.seen) log);
+      }
 
   -- the view of a seat that has given its turn back
   abbrev pub without_turn : View O E → View O E

@@ -37,9 +37,9 @@ module _ {E : Type 0} where
   fresh_to (suc n) = fresh_to n ++ record { number = suc n; entries = [] } ∷ []
 
   -- the numbers of a pass, with further entries under the first, its own
-  abbrev pub made_more : List (Made E) → List E → List (Made E)
-  made_more [] added = []
-  made_more (x ∷ xs) added = record x { entries = x.entries ++ added } ∷ xs
+  abbrev pub numbers_with_more_made : List (Made E) → List E → List (Made E)
+  numbers_with_more_made [] added = []
+  numbers_with_more_made (x ∷ xs) added = record x { entries = x.entries ++ added } ∷ xs
 
   -- the list, or the list with more entries of this maker
   abbrev pub IsAdded : (E → ℕ) → ℕ → List E → List E → Type 0

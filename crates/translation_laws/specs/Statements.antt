@@ -15,8 +15,9 @@ use Rattle.de_mnemonics.specs.Translation.{token_class_in, next_class}
 
 -- ---- the rule
 
--- a word behind the front of an instruction: a component or a parameter stays; an operand word in
--- its place; a name, where a path begins; `opens` says that one may begin here
+-- the role of a word behind the front of an instruction: Stays for a component or a parameter,
+-- Operand for an operand word in its place, Path for a name where a path begins, and else Stays;
+-- `opens` says that a path may begin here
 abbrev pub role_beside : Bool → TokenClass → List ℕ → TokenClass → Role
 role_beside opens before word next =
     if is_component_word before next then role.Stays
@@ -42,7 +43,7 @@ abbrev pub is_word_class : TokenClass → Bool
 is_word_class class.Word = true
 is_word_class _ = false
 
--- tokens behind the word of a jump: the first word is the label
+-- the roles of tokens behind the word of a jump: the first word is the label
 abbrev pub label_roles : List ℕ → List Token → List Role
 label_roles s [] = []
 label_roles s (t ∷ ts) =
@@ -54,15 +55,16 @@ abbrev pub is_opening_class : TokenClass → Bool
 is_opening_class class.OpenParen = true
 is_opening_class _ = false
 
--- tokens behind another instruction word: a path may begin there, or behind a `(` of the
--- instruction
+-- the roles of tokens behind an instruction word that is no jump's: a path may begin there, or
+-- behind a `(` of the instruction
 abbrev pub opening_roles : List ℕ → List Token → List Role
 opening_roles s [] = []
 opening_roles s (t ∷ ts) =
     if is_opening_class (token_class_in s t) then role.Stays ∷ roles_beside s true class.OpenParen ts
     else roles_beside s true class.Word (t ∷ ts)
 
--- tokens behind an instruction word
+-- the roles of the tokens behind an instruction word: those behind a jump's word, or those behind
+-- another
 abbrev pub word_roles : List ℕ → List ℕ → List Token → List Role
 word_roles s word ts = if is_jump_word word then label_roles s ts else opening_roles s ts
 
@@ -70,7 +72,8 @@ word_roles s word ts = if is_jump_word word then label_roles s ts else opening_r
 abbrev pub is_zone_end : List ℕ → Token → Bool
 is_zone_end s t = is_word_class (token_class_in s t) && is_word_in_list zone_words (text_of s t)
 
--- tokens behind a `)` that is an instruction: a path may begin there, or behind the word of `)MCR`
+-- the roles of tokens behind a `)` that is an instruction: a path may begin there, or behind the
+-- word of `)MCR`
 abbrev pub closing_roles : List ℕ → List Token → List Role
 closing_roles s [] = []
 closing_roles s (t ∷ ts) =
@@ -87,14 +90,14 @@ abbrev pub is_closing_class : TokenClass → Bool
 is_closing_class class.CloseParen = true
 is_closing_class _ = false
 
--- tokens behind the first one of an instruction, where this is no word; `c` is the class of the
--- first one. No path begins behind a number
+-- the roles of tokens behind the first one of an instruction, where this is no word; `c` is the
+-- class of the first one. No path begins behind a number
 abbrev pub sign_roles : List ℕ → TokenClass → List Token → List Role
 sign_roles s c ts =
     if is_number_class c then roles_beside s false c ts
     else (if is_closing_class c then closing_roles s ts else roles_beside s true c ts)
 
--- an instruction by its first token: where that is a word, it is the instruction word
+-- the roles of an instruction's tokens: where its first token is a word, it is the instruction word
 abbrev pub instruction_roles : List ℕ → List Token → List Role
 instruction_roles s [] = []
 instruction_roles s (t ∷ ts) =
@@ -106,7 +109,7 @@ abbrev pub is_colon_class : TokenClass → Bool
 is_colon_class class.Colon = true
 is_colon_class _ = false
 
--- a statement: a word before `:` is its label
+-- the roles of a statement's tokens: a word before `:` is its label
 abbrev pub statement_roles : List ℕ → List Token → List Role
 statement_roles s [] = []
 statement_roles s (t ∷ []) = instruction_roles s (t ∷ [])

@@ -26,7 +26,7 @@ use Rattle.sem_kept.specs.AcceptedSource.{program_in}
 use Rattle.sem_kept.specs.SettledStatements.{context_at}
 use Rattle.sem_kept.proofs.accepted.Accepted.{right_tree, sound_code_blocks}
 use Rattle.block_layout.proofs.CommonLemmas.{all_there}
-use Rattle.listing_laws.specs.ListedSource.{listed_again}
+use Rattle.listing_laws.specs.ListedSource.{listed_tree_again}
 use Rattle.listing_laws.specs.ListedDeclarations.{signatures_in}
 use Rattle.listing_laws.specs.Instances.{AreDataBlocksAgain, data_again}
 use Rattle.listing_laws.specs.OwnData.{IsOwnDataAgain}
@@ -151,13 +151,13 @@ data_blocks_again source file symbols t accepted bytes file_bytes others whole =
     p = program_in symbols t
 
     again : Tree
-    again = listed_again symbols t
+    again = listed_tree_again symbols t
 
     ss : List Signature
     ss = signatures_in (program_in symbols t)
 
     ls : List BlockLayout
-    ls = layouts_of (listed_again symbols t) others
+    ls = layouts_of (listed_tree_again symbols t) others
 
     line : ℕ
     line = line_reached 1 (in_lines p.code_blocks)

@@ -31,7 +31,7 @@ use Rattle.sem_kept.proofs.accepted.OperandsMembers.{code_block_there, data_bloc
 use Rattle.block_layout.proofs.AlignmentLemmas.{structure_even}
 use Rattle.sem_kept.proofs.accepted.RecordBlocks.{code_blocks_rise}
 use Rattle.sem_kept.proofs.accepted.Verified.{accepted_verifies}
-use Rattle.listing_laws.specs.ListedSource.{IsWholeAgain, listed_again}
+use Rattle.listing_laws.specs.ListedSource.{IsWholeAgain, listed_tree_again}
 use Rattle.listing_laws.specs.Chains.{is_listed_type}
 use Rattle.listing_laws.specs.ListedDeclarations.{AreWide, signatures_in}
 use Rattle.listing_laws.specs.Ids.{data_id_of_number}
@@ -86,9 +86,9 @@ all_uncompiled P (x ∷ xs) (one, more) = (one, all_uncompiled P xs more)
 -- it comes to itself again, and its settings break no rule
 pub record IsAgain (symbols : List Symbol) (t : Tree) (others : List Symbol) (d : DataBlock) : Type 0 where
   pub again : IsInstanceAgain symbols t others d
-  pub right : (k line : ℕ) (l : BlockLayout) → slice_get (listed_again symbols t).blocks k ≡ Some (data_again symbols t line d)
-      → slice_get (layouts_of (listed_again symbols t) others) k ≡ Some l
-      → AllByRecursion (IsRight (layouts_of (listed_again symbols t) others) k d.bytes) (data_again symbols t line d).settings
+  pub right : (k line : ℕ) (l : BlockLayout) → slice_get (listed_tree_again symbols t).blocks k ≡ Some (data_again symbols t line d)
+      → slice_get (layouts_of (listed_tree_again symbols t) others) k ≡ Some l
+      → AllByRecursion (IsRight (layouts_of (listed_tree_again symbols t) others) k d.bytes) (data_again symbols t line d).settings
 
 whole_size : (whole len : ℕ) → len ≡ whole / 8 → whole % 16 ≡ 0 → whole ≡ 8 * len
 whole_size whole len e f = omega (arith, e, f)
@@ -101,7 +101,7 @@ module _ (source file : List ℕ) (symbols : List Symbol) (t : Tree) (accepted :
   ss = signatures_in (program_in symbols t)
 
   abbrev again : Tree
-  again = listed_again symbols t
+  again = listed_tree_again symbols t
 
   tree : IsSoundTree symbols t
   tree = right_tree source file symbols t accepted

@@ -20,7 +20,7 @@ use Rattle.stl_list.specs.Listing.{listed_tree}
 use Rattle.stl_list.specs.Signatures.{Signature}
 use Rattle.sem_kept.specs.AcceptedSource.{program_in}
 use Rattle.sem_kept.proofs.accepted.Accepted.{all_mapped}
-use Rattle.listing_laws.specs.ListedSource.{listed_again}
+use Rattle.listing_laws.specs.ListedSource.{listed_tree_again}
 use Rattle.listing_laws.specs.ListedDeclarations.{signatures_in}
 use Rattle.listing_laws.specs.Instances.{AreListedSettingsRight, data_again}
 use Rattle.listing_laws.proofs.declared.OwnKept.{HasLayout, layout_there}
@@ -71,20 +71,20 @@ record BreaksNoSettingRule (l : List BlockLayout) (k : ℕ) (s : Setting) : Type
 
 module _ (symbols : List Symbol) (t : Tree) (others : List Symbol) (line : ℕ) where
   abbrev ls : List BlockLayout
-  ls = layouts_of (listed_again symbols t) others
+  ls = layouts_of (listed_tree_again symbols t) others
 
   abbrev IsInstanceFine : DataBlock → Type 0
   IsInstanceFine d = (n : ℕ) → d.instance_of ≡ Some n → IsAgain symbols t others d
 
-  fine_at : (i : ℕ) (b : Block) → slice_get (listed_again symbols t).blocks i ≡ Some b → IsBareOrListed IsInstanceFine (data_again symbols t line) b → AllByRecursion (BreaksNoSettingRule ls i) b.settings
+  fine_at : (i : ℕ) (b : Block) → slice_get (listed_tree_again symbols t).blocks i ≡ Some b → IsBareOrListed IsInstanceFine (data_again symbols t line) b → AllByRecursion (BreaksNoSettingRule ls i) b.settings
   fine_at i b there (Bare none) = subst (AllByRecursion (BreaksNoSettingRule ls i)) (sym none) tt
   fine_at i b there (Data d h same) = subst (λ (x : Block). AllByRecursion (BreaksNoSettingRule ls i) x.settings) (sym same) (by d.instance_of refl)
     where
-      at : slice_get (listed_again symbols t).blocks i ≡ Some (data_again symbols t line d)
+      at : slice_get (listed_tree_again symbols t).blocks i ≡ Some (data_again symbols t line d)
       at = there ∙ ap (λ x. Some x) same
 
       laid : HasLayout ls i
-      laid = layout_there others (listed_again symbols t) i (data_again symbols t line d) at
+      laid = layout_there others (listed_tree_again symbols t) i (data_again symbols t line d) at
 
       by : (o : Option ℕ) → d.instance_of ≡ o → AllByRecursion (BreaksNoSettingRule ls i) (data_again symbols t line d).settings
       by None e = subst (λ o. AllByRecursion (BreaksNoSettingRule ls i) (listed_data (signatures_in (program_in symbols t)) line d.number d.bytes o).settings) (sym e) tt
@@ -104,10 +104,10 @@ settings_are_right source file symbols t accepted bytes file_bytes others whole 
     p = program_in symbols t
 
     again : Tree
-    again = listed_again symbols t
+    again = listed_tree_again symbols t
 
     ls : List BlockLayout
-    ls = layouts_of (listed_again symbols t) others
+    ls = layouts_of (listed_tree_again symbols t) others
 
     line : ℕ
     line = line_reached 1 (in_lines p.code_blocks)

@@ -42,7 +42,7 @@ use Rattle.sem_kept.proofs.accepted.RecordBlocks.{code_blocks_rise}
 use Rattle.sem_kept.proofs.accepted.RecordData.{id_there}
 use Rattle.sem_kept.proofs.accepted.RecordOrder.{Rise, RiseFrom}
 use Rattle.block_layout.proofs.BlockLemmas.{kind_there}
-use Rattle.listing_laws.specs.ListedSource.{IsCodeAt, IsMadeOf, again_at, context_at, listed_again}
+use Rattle.listing_laws.specs.ListedSource.{IsCodeAt, IsMadeOf, again_at, listed_tree_again, source_context_at}
 use Rattle.listing_laws.specs.AgainBodies.{AreCodeBlocksKept, IsBodyKept, made_block}
 use Rattle.listing_laws.specs.ListedDeclarations.{IsDeclaredAgain, signatures_in}
 use Rattle.listing_laws.specs.Ids.{data_id_of_number}
@@ -216,20 +216,20 @@ source_kind symbols t place b l id tree at =
 -- a code block of it
 made_again : (symbols : List Symbol) (t : Tree) (others : List Symbol) (i : ℕ) (d : Block) (n : BlockLayout) (place : ℕ) (b : Block) (l : BlockLayout) (id : BlockId) → IsSoundTree symbols t
     → IsMadeOf symbols t i place b l id → AllByRecursion (IsDeclaredAgain (signatures_in (program_in symbols t))) (in_lines (program_in symbols t).code_blocks) → IsBodyKept symbols t others i place b l id
-    → slice_get (listed_again symbols t).blocks i ≡ Some d → slice_get (layouts_of (listed_again symbols t) others) i ≡ Some n
+    → slice_get (listed_tree_again symbols t).blocks i ≡ Some d → slice_get (layouts_of (listed_tree_again symbols t) others) i ≡ Some n
     → map compiled_block (code_block_of (again_at symbols t others i) d n n.id) ≡ one_of (slice_get (in_lines (program_in symbols t).code_blocks) i)
 made_again symbols t others i d n place b l id tree m all kept there laid =
     let ss = signatures_in (program_in symbols t) in
     let x : CodeBlock = compiled_block (made_block symbols t place b l id) in
     let again : Block = listed_block ss m.reached x in
-    let from = layout_of_block others (listed_again symbols t) i again n m.listed laid in
-    let known : n.id ≡ Some id = layout_id others (listed_again symbols t) again n from ∙ own_id others ss m.reached x in
+    let from = layout_of_block others (listed_tree_again symbols t) i again n m.listed laid in
+    let known : n.id ≡ Some id = layout_id others (listed_tree_again symbols t) again n from ∙ own_id others ss m.reached x in
     let declared = all_there (IsDeclaredAgain ss) (in_lines (program_in symbols t).code_blocks) i x all m.ordered in
     let same : d ≡ again = some_same d again (sym there ∙ m.listed) in
     ap (λ (z : Block). map compiled_block (code_block_of (again_at symbols t others i) z n n.id)) same
     ∙ ap (map compiled_block) (code_here (again_at symbols t others i) again n id known m.source.code)
     ∙ ap (λ (z : StatedBlock). compiled_block z ∷ [])
-    (block_again (context_at symbols t place) (again_at symbols t others i) ss (types_of_source others (listed_again symbols t).blocks) (listed_again symbols t).blocks b l n id m.reached
+    (block_again (source_context_at symbols t place) (again_at symbols t others i) ss (types_of_source others (listed_tree_again symbols t).blocks) (listed_tree_again symbols t).blocks b l n id m.reached
     (source_kind symbols t place b l id tree m.source) declared m.stands kept from)
     ∙ ap one_of (sym m.ordered)
   where
@@ -238,7 +238,7 @@ made_again symbols t others i d n place b l id tree m all kept there laid =
 
 -- the others are data blocks
 none_again : (symbols : List Symbol) (t : Tree) (others : List Symbol) (i : ℕ) (d : Block) (n : BlockLayout) → length (in_lines (program_in symbols t).code_blocks) ≤ i
-    → slice_get (listed_again symbols t).blocks i ≡ Some d → slice_get (layouts_of (listed_again symbols t) others) i ≡ Some n
+    → slice_get (listed_tree_again symbols t).blocks i ≡ Some d → slice_get (layouts_of (listed_tree_again symbols t) others) i ≡ Some n
     → map compiled_block (code_block_of (again_at symbols t others i) d n n.id) ≡ one_of (slice_get (in_lines (program_in symbols t).code_blocks) i)
 none_again symbols t others i d n high there laid =
     let p = program_in symbols t in
@@ -251,7 +251,7 @@ none_again symbols t others i d n high there laid =
     sym (at_back code (listed_data_blocks ss line p.data_blocks) i j (omega (arith, many, high))) ∙ ap (λ (z : List Block). slice_get z i) (sym (tree_blocks p)) ∙ there in
     let from = origin (λ (x : DataBlock). listed_data ss line x.number x.bytes x.instance_of) p.data_blocks j d behind in
     let known : n.id ≡ Some (data_id_of_number from.of.number) =
-    layout_id others (listed_again symbols t) d n (layout_of_block others (listed_again symbols t) i d n there laid)
+    layout_id others (listed_tree_again symbols t) d n (layout_of_block others (listed_tree_again symbols t) i d n there laid)
     ∙ ap (id_of others) (sym from.image) ∙ data_id_of others ss line from.of.number from.of.bytes from.of.instance_of in
     ap (λ (o : Option BlockId). map compiled_block (code_block_of (again_at symbols t others i) d n o)) known
     ∙ ap one_of (sym (get_past (in_lines p.code_blocks) i high))
@@ -293,7 +293,7 @@ code_blocks_kept source file symbols t accepted bytes file_bytes others kept =
     ∙ sorted_back (program_in symbols t).code_blocks (rise_compiled (code_blocks_of t symbols (layouts_of t symbols)) (code_blocks_rise symbols t tree))
   where
     again : Tree
-    again = listed_again symbols t
+    again = listed_tree_again symbols t
 
     ls : List BlockLayout
     ls = layouts_of again others

@@ -16,7 +16,7 @@ use Rattle.stl_codegen.specs.GeneratedProgram.{data_blocks_of, name_entries_of}
 use Rattle.stl_list.specs.Listing.{listed_source, listed_tree}
 use Rattle.sem_kept.specs.AcceptedSource.{IsAccepted, program_in}
 use Rattle.sem_kept.proofs.accepted.Accepted.{LaysOutRight, StatesRight}
-use Rattle.listing_laws.specs.ListedSource.{AreWholeAgain, IsWholeAgain, listed_again}
+use Rattle.listing_laws.specs.ListedSource.{AreWholeAgain, IsWholeAgain, listed_tree_again}
 use Rattle.listing_laws.specs.AgainBodies.{AreBodiesKeptAgain}
 use Rattle.listing_laws.specs.ListingCompiles.{AreListingsCompiled}
 use Rattle.listing_laws.specs.Names.{symbol_of}
@@ -41,17 +41,17 @@ OfListings P =
 -- its data blocks are those of the program
 abbrev pub AreDataBlocksKept : Type 0
 AreDataBlocksKept =
-    OfListings (λ symbols t others. data_blocks_of (listed_again symbols t) others (layouts_of (listed_again symbols t) others) ≡ (program_in symbols t).data_blocks)
+    OfListings (λ symbols t others. data_blocks_of (listed_tree_again symbols t) others (layouts_of (listed_tree_again symbols t) others) ≡ (program_in symbols t).data_blocks)
 
 -- it breaks no rule of layouts, and none of statements
 abbrev pub AreLayoutsRight : Type 0
 AreLayoutsRight =
-    OfListings (λ symbols t others. LaysOutRight (types_of_source others (listed_again symbols t).blocks) (layouts_of (listed_again symbols t) others) (listed_again symbols t).blocks)
+    OfListings (λ symbols t others. LaysOutRight (types_of_source others (listed_tree_again symbols t).blocks) (layouts_of (listed_tree_again symbols t) others) (listed_tree_again symbols t).blocks)
 
 abbrev pub AreStatementsRight : Type 0
 AreStatementsRight =
     OfListings
-    (λ symbols t others. StatesRight (first_context others (layouts_of (listed_again symbols t) others) (listed_again symbols t).blocks) (listed_again symbols t).blocks)
+    (λ symbols t others. StatesRight (first_context others (layouts_of (listed_tree_again symbols t) others) (listed_tree_again symbols t).blocks) (listed_tree_again symbols t).blocks)
 
 -- ---- the law
 
@@ -64,14 +64,14 @@ listings_compiled read whole bodies datas layouts statements source file symbols
     record {
       list = others;
       tokens = text.0;
-      tree = listed_again symbols t;
+      tree = listed_tree_again symbols t;
       named = sym (names_read accepted.language file symbols accepted.named);
       lexed = text.1;
       parsed = text.2;
       right = ap least
-          (ap (λ (z : List Refusal). z ++ statement_refusals (listed_again symbols t) others (layouts_of (listed_again symbols t) others))
-          (no_layout_refusals others (listed_again symbols t) (layouts source file symbols t accepted bytes file_bytes others right))
-          ∙ no_statement_refusals others (listed_again symbols t) (layouts_of (listed_again symbols t) others)
+          (ap (λ (z : List Refusal). z ++ statement_refusals (listed_tree_again symbols t) others (layouts_of (listed_tree_again symbols t) others))
+          (no_layout_refusals others (listed_tree_again symbols t) (layouts source file symbols t accepted bytes file_bytes others right))
+          ∙ no_statement_refusals others (listed_tree_again symbols t) (layouts_of (listed_tree_again symbols t) others)
           (statements source file symbols t accepted bytes file_bytes others right));
       program = λ i. record { code_blocks = code i; data_blocks = stored i; names = named i };
     }

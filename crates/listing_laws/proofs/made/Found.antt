@@ -18,7 +18,7 @@ use Rattle.stl_types.specs.Context.{number_of_block}
 use Rattle.stl_types.specs.Resolution.{id_at}
 use Rattle.block_layout.proofs.CommonLemmas.{all_there, origin}
 use Rattle.block_layout.proofs.BlockLemmas.{known_there}
-use Rattle.listing_laws.specs.ListedSource.{listed_again}
+use Rattle.listing_laws.specs.ListedSource.{listed_tree_again}
 use Rattle.listing_laws.specs.FoundBlocks.{AreCalledFound, AreDataFound}
 use Rattle.listing_laws.specs.Ids.{data_id_of_number}
 use Rattle.listing_laws.proofs.IdLemmas.{blocks_kept}
@@ -72,9 +72,9 @@ whole_found ls id clean e = by (known_block id (laid_ids ls)) refl e
 -- a block of the source that is no data type is there again
 again : (symbols : List Symbol) (t : Tree) (others : List Symbol) (id : BlockId) → is_data_type id.kind ≡ false
     → is_some (known_block id (laid_ids (layouts_of t symbols))) ≡ true
-    → is_some (known_block id (laid_ids (layouts_of (listed_again symbols t) others))) ≡ true
+    → is_some (known_block id (laid_ids (layouts_of (listed_tree_again symbols t) others))) ≡ true
 again symbols t others id plain e =
-    ap (λ (is : List (Option BlockId)). is_some (known_block id is)) (ids_in others (listed_again symbols t))
+    ap (λ (is : List (Option BlockId)). is_some (known_block id is)) (ids_in others (listed_tree_again symbols t))
     ∙ blocks_kept t symbols others id plain
     ∙ ap (λ (is : List (Option BlockId)). is_some (known_block id is)) (sym (ids_in symbols t)) ∙ e
 
@@ -126,7 +126,7 @@ number_again ls number at =
 
 pub data_found : AreDataFound
 data_found symbols t others place at clean name number e =
-    let ls : List BlockLayout = layouts_of (listed_again symbols t) others in
+    let ls : List BlockLayout = layouts_of (listed_tree_again symbols t) others in
     number_again ls number
     (whole_found ls (data_id_of_number number) clean (again symbols t others (data_id_of_number number) refl (number_there (layouts_of t symbols) (named_block symbols name) number e)))
 
@@ -148,7 +148,7 @@ called_found symbols t others place at clean id plain e = by (is_system_function
     ls = layouts_of t symbols
 
     ms : List BlockLayout
-    ms = layouts_of (listed_again symbols t) others
+    ms = layouts_of (listed_tree_again symbols t) others
 
     by : (b : Bool) → (if b then Some id else id_at id (option_and_then (if_whole ls) (known_block id (laid_ids ls)))) ≡ Some id
         → (if b then Some id else id_at id (option_and_then (if_whole ms) (known_block id (laid_ids ms)))) ≡ Some id

@@ -17,7 +17,7 @@ use Rattle.stl_list.specs.Listing.{listed_source}
 use Rattle.stl_list.specs.Symbols.{listed_names}
 use Rattle.sem_kept.specs.Compiles.{CompilesTo}
 use Rattle.sem_kept.proofs.RunLemmas.{accepted}
-use Rattle.listing_laws.specs.ListedSource.{listed_again}
+use Rattle.listing_laws.specs.ListedSource.{listed_tree_again}
 use Rattle.listing_laws.specs.ListingCompiles.{AreListingsCompiled, ListingsCompile}
 use Rattle.listing_laws.specs.Instances.{AreListedSettingsRight}
 use Rattle.listing_laws.specs.RightBodies.{AreListedBodiesRight}
@@ -51,13 +51,13 @@ layouts_right heads settings bodies source file symbols t accepted bytes file_by
     }
   where
     blocks : List Block
-    blocks = (listed_again symbols t).blocks
+    blocks = (listed_tree_again symbols t).blocks
 
     y : Types
     y = types_of_source others blocks
 
     l : List BlockLayout
-    l = layouts_of (listed_again symbols t) others
+    l = layouts_of (listed_tree_again symbols t) others
 
 pub statements_right : AreListedSettingsRight → AreListedBodiesRight → AreStatementsRight
 statements_right settings bodies source file symbols t accepted bytes file_bytes others whole =
@@ -87,10 +87,10 @@ statements_right settings bodies source file symbols t accepted bytes file_bytes
     }
   where
     blocks : List Block
-    blocks = (listed_again symbols t).blocks
+    blocks = (listed_tree_again symbols t).blocks
 
     c : Context
-    c = first_context others (layouts_of (listed_again symbols t) others) blocks
+    c = first_context others (layouts_of (listed_tree_again symbols t) others) blocks
 
 -- ---- sources as files hold them
 

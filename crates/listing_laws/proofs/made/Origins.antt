@@ -19,7 +19,7 @@ use Rattle.stl_list.specs.Signatures.{Signature}
 use Rattle.sem_kept.specs.AcceptedSource.{program_in}
 use Rattle.sem_kept.proofs.accepted.Accepted.{IsSoundBlock, IsSoundTree, right_tree, sound_code_blocks}
 use Rattle.block_layout.proofs.CommonLemmas.{all_there}
-use Rattle.listing_laws.specs.ListedSource.{AreMadeOfSource, IsCodeAt, IsMadeOf, context_at, listed_again}
+use Rattle.listing_laws.specs.ListedSource.{AreMadeOfSource, IsCodeAt, IsMadeOf, listed_tree_again, source_context_at}
 use Rattle.listing_laws.specs.ListedDeclarations.{signatures_in}
 use Rattle.listing_laws.specs.Lines.{StandBehind, StandsBehind}
 use Rattle.listing_laws.specs.Origins.{AreDataListed}
@@ -62,10 +62,10 @@ pub record IsFrom (symbols : List Symbol) (t : Tree) (x : CodeBlock) : Type 0 wh
   pub layout : BlockLayout
   pub id : BlockId
   pub source : IsCodeAt symbols t place block layout id
-  pub is : compiled_block (code_block (context_at symbols t place) block layout id) ≡ x
+  pub is : compiled_block (code_block (source_context_at symbols t place) block layout id) ≡ x
 
 one_from : (symbols : List Symbol) (t : Tree) (k : ℕ) (b : Block) (l : BlockLayout) (id : BlockId) → IsSoundBlock symbols t k b l → l.id ≡ Some id → is_code id.kind ≡ true
-    → IsFrom symbols t (compiled_block (code_block (context_at symbols t k) b l id))
+    → IsFrom symbols t (compiled_block (code_block (source_context_at symbols t k) b l id))
 one_from symbols t k b l id h e code = record {
   place = k;
   block = b;
@@ -128,7 +128,7 @@ listed_in_tree p k b h e =
 
 -- one of them was made of the source
 one_made : (symbols : List Symbol) (t : Tree) (again : ℕ) (x : CodeBlock) (from : IsFrom symbols t x) → slice_get (in_lines (program_in symbols t).code_blocks) again ≡ Some x
-    → IsListedAt (signatures_in (program_in symbols t)) (listed_again symbols t).blocks again x
+    → IsListedAt (signatures_in (program_in symbols t)) (listed_tree_again symbols t).blocks again x
     → IsMadeOf symbols t again from.place from.block from.layout from.id
 one_made symbols t again x from e listed = record {
   source = from.source;

@@ -32,7 +32,7 @@ use Rattle.stl_list.specs.Parameters.{name_of, parameter_name, return_name, sect
 use Rattle.stl_list.specs.Signatures.{Signature, formals_from, formals_of_block, is_behind}
 use Rattle.sem_kept.specs.AcceptedSource.{IsAccepted, program_in}
 use Rattle.block_layout.proofs.CommonLemmas.{all_there}
-use Rattle.listing_laws.specs.ListedSource.{IsMadeOf, IsWholeAgain, context_at, listed_again}
+use Rattle.listing_laws.specs.ListedSource.{IsMadeOf, IsWholeAgain, listed_tree_again, source_context_at}
 use Rattle.listing_laws.specs.ParameterNames.{ReturnsLast}
 use Rattle.listing_laws.specs.ListedDeclarations.{signatures_in}
 use Rattle.listing_laws.specs.Passings.{AreNamedApart, in_upper_case}
@@ -113,12 +113,12 @@ groups_of b s = by s.shape
 -- a block of the listing, with the parameters that the listing says that it has
 pub record IsListedCode (symbols : List Symbol) (t : Tree) (others : List Symbol) (again : ℕ) (b : CodeBlock) : Type 0 where
   pub reached : ℕ
-  pub block : slice_get (listed_again symbols t).blocks again ≡ Some (listed_block (signatures_in (program_in symbols t)) reached b)
+  pub block : slice_get (listed_tree_again symbols t).blocks again ≡ Some (listed_block (signatures_in (program_in symbols t)) reached b)
   pub layout : BlockLayout
-  pub there : slice_get (layouts_of (listed_again symbols t) others) again ≡ Some layout
+  pub there : slice_get (layouts_of (listed_tree_again symbols t) others) again ≡ Some layout
   pub whole : layout.broken ≡ false
   pub components : layout.components
-      ≡ components_of (types_of_source others (listed_again symbols t).blocks) (listed_block (signatures_in (program_in symbols t)) reached b)
+      ≡ components_of (types_of_source others (listed_tree_again symbols t).blocks) (listed_block (signatures_in (program_in symbols t)) reached b)
   pub sourced : IsSourced b
   pub known : IsKnown (chains_of (program_in symbols t).code_blocks) (signatures_in (program_in symbols t)) b
   pub groups : AreGrouped (formals_of_block (signatures_in (program_in symbols t)) b.id)
@@ -161,7 +161,7 @@ output_last fs g h = by g.ends
 -- what is listed at a place is such a block
 pub listed_code : (source file : List ℕ) (symbols : List Symbol) (t : Tree) → IsAccepted source file symbols t → AreBytes source → AreBytes file
     → (others : List Symbol) → IsWholeAgain symbols t others → (again place : ℕ) (b : Block) (l : BlockLayout) (id : BlockId) → IsMadeOf symbols t again place b l id
-    → IsListedCode symbols t others again (compiled_block (code_block (context_at symbols t place) b l id))
+    → IsListedCode symbols t others again (compiled_block (code_block (source_context_at symbols t place) b l id))
 unfolding in_lines
 listed_code source file symbols t accepted bytes file_bytes others clean again place b l id made =
     record {
@@ -169,7 +169,7 @@ listed_code source file symbols t accepted bytes file_bytes others clean again p
       block = made.listed;
       layout = laid;
       there = front.1;
-      whole = all_there (λ (z : BlockLayout). z.broken ≡ false) (layouts_of (listed_again symbols t) others) again laid clean front.1;
+      whole = all_there (λ (z : BlockLayout). z.broken ≡ false) (layouts_of (listed_tree_again symbols t) others) again laid clean front.1;
       components = laid_components y blocks front.0 (listed_block ss made.reached cb);
       sourced = both.0;
       known = both.1;
@@ -182,7 +182,7 @@ listed_code source file symbols t accepted bytes file_bytes others clean again p
     }
   where
     cb : CodeBlock
-    cb = compiled_block (code_block (context_at symbols t place) b l id)
+    cb = compiled_block (code_block (source_context_at symbols t place) b l id)
 
     c : PassingChains
     c = chains_of (program_in symbols t).code_blocks
@@ -191,13 +191,13 @@ listed_code source file symbols t accepted bytes file_bytes others clean again p
     ss = signatures_in (program_in symbols t)
 
     blocks : List Block
-    blocks = (listed_again symbols t).blocks
+    blocks = (listed_tree_again symbols t).blocks
 
     y : Types
     y = types_of_source others blocks
 
-    front : (front : List Block) × (slice_get (layouts_of (listed_again symbols t) others) again ≡ Some (block_layout y blocks front (listed_block ss made.reached cb)))
-    front = laid_again others (listed_again symbols t) again (listed_block ss made.reached cb) made.listed
+    front : (front : List Block) × (slice_get (layouts_of (listed_tree_again symbols t) others) again ≡ Some (block_layout y blocks front (listed_block ss made.reached cb)))
+    front = laid_again others (listed_tree_again symbols t) again (listed_block ss made.reached cb) made.listed
 
     laid : BlockLayout
     laid = block_layout y blocks front.0 (listed_block ss made.reached cb)

@@ -48,7 +48,7 @@ use Rattle.sem_kept.proofs.accepted.Accepted.{IsSoundBlock, IsSoundStatement, Is
 use Rattle.block_layout.proofs.CommonLemmas.{all_there}
 use Rattle.sem_kept.proofs.accepted.Settled.{statements_settle}
 use Rattle.sem_kept.proofs.accepted.SizesOps.{whole_count}
-use Rattle.listing_laws.specs.ListedSource.{IsMadeOf, IsWholeAgain, again_at, context_at}
+use Rattle.listing_laws.specs.ListedSource.{IsMadeOf, IsWholeAgain, again_at, source_context_at}
 use Rattle.listing_laws.specs.AgainBodies.{AreBodiesKeptAgain, listing_context_again, body_again, made_block}
 use Rattle.listing_laws.specs.CallsAgain.{AreStatementsAgain, IsFoundAgain, IsRightStatement}
 use Rattle.listing_laws.specs.Calls.{IsInstanceNumbered}
@@ -123,7 +123,7 @@ same_instance i j m n e = cc
 module _ (source file : List ℕ) (symbols : List Symbol) (t : Tree) (accepted : IsAccepted source file symbols t) (bytes : AreBytes source) (file_bytes : AreBytes file)
     (others : List Symbol) (clean : IsWholeAgain symbols t others) (again place : ℕ) (b : Block) (l : BlockLayout) (id : BlockId) (made : IsMadeOf symbols t again place b l id) where
   abbrev c : Context
-  c = context_at symbols t place
+  c = source_context_at symbols t place
 
   abbrev listed : Context
   listed = again_at symbols t others again
@@ -311,9 +311,9 @@ pub statements_again : AreStatementsAgain
 statements_again source file symbols t accepted bytes file_bytes others clean again place b l id made =
     all_split
     (λ s. is_empty_statement s.code ≡ false → (n k : ℕ)
-    → IsInstructionKept (again_at symbols t others again) (body_again symbols t (made_block symbols t place b l id)) n s.code (instruction (context_at symbols t place) b.body n s)
+    → IsInstructionKept (again_at symbols t others again) (body_again symbols t (made_block symbols t place b l id)) n s.code (instruction (source_context_at symbols t place) b.body n s)
     (listed_statement (listing_context_again symbols t (made_block symbols t place b l id)) k
-    (run_of (statement_offset (made_block symbols t place b l id).statements) (instruction (context_at symbols t place) b.body n s))))
+    (run_of (statement_offset (made_block symbols t place b l id).statements) (instruction (source_context_at symbols t place) b.body n s))))
     b.body
     (λ front s rest e some n k. statement_kept source file symbols t accepted bytes file_bytes others clean again place b l id made s front rest e some n k)
 

@@ -43,7 +43,7 @@ use Rattle.block_layout.proofs.BlockLemmas.{known_there}
 use Rattle.sem_kept.proofs.accepted.OperandsFormals.{IsRecordOf, Matched, system_matched}
 use Rattle.sem_kept.proofs.accepted.OperandsMembers.{called_block}
 use Rattle.listing_laws.specs.AcceptedTypes.{declared_kinds}
-use Rattle.listing_laws.specs.ListedSource.{IsMadeOf, IsWholeAgain, again_at, context_at, listed_again}
+use Rattle.listing_laws.specs.ListedSource.{IsMadeOf, IsWholeAgain, again_at, listed_tree_again, source_context_at}
 use Rattle.listing_laws.specs.Chains.{is_listed_type}
 use Rattle.listing_laws.specs.ListedDeclarations.{signatures_in}
 use Rattle.listing_laws.specs.Fitting.{IsListedAs}
@@ -73,7 +73,7 @@ pub record IsCalleeAgain (symbols : List Symbol) (t : Tree) (others : List Symbo
   pub callee : Callee
   pub found : callee_by (again_at symbols t others again) id id.kind ≡ Some callee
   pub same : callee.id ≡ id
-  pub order : in_parameter_order (source_block_at (listed_again symbols t).blocks callee.place) callee.formals ≡ map in_upper_case (called_formals (signatures_in (program_in symbols t)) id)
+  pub order : in_parameter_order (source_block_at (listed_tree_again symbols t).blocks callee.place) callee.formals ≡ map in_upper_case (called_formals (signatures_in (program_in symbols t)) id)
   pub named : AreNamedApart (called_formals (signatures_in (program_in symbols t)) id)
   pub kind : ℕ
   pub bytes : ℕ
@@ -280,11 +280,11 @@ module _ (source file : List ℕ) (symbols : List Symbol) (t : Tree) (accepted :
       let within = slice_get_within (in_lines (program_in symbols t).code_blocks) k at.0 at.1 in
       let count = lines_count (program_in symbols t).code_blocks in
       let made = made_of_source source file symbols t accepted bytes file_bytes k (omega (arith, within, count)) in
-      let same : made.3 ≡ id = ap (λ (b : CodeBlock). b.id) (same_Some (compiled_block (code_block (context_at symbols t made.0) made.1 made.2 made.3)) at.0 (sym made.4.ordered ∙ at.1)) ∙ at.2 in
+      let same : made.3 ≡ id = ap (λ (b : CodeBlock). b.id) (same_Some (compiled_block (code_block (source_context_at symbols t made.0) made.1 made.2 made.3)) at.0 (sym made.4.ordered ∙ at.1)) ∙ at.2 in
       record { place = made.0; block = made.1; layout = made.2; made = subst (λ (i : BlockId). IsMadeOf symbols t k made.0 made.1 made.2 i) same made.4 }
 
   -- its formals are the parameters of the code
-  pub block_formals : (k place : ℕ) (b : Block) (l : BlockLayout) (id : BlockId) → IsListedCode symbols t others k (compiled_block (code_block (context_at symbols t place) b l id))
+  pub block_formals : (k place : ℕ) (b : Block) (l : BlockLayout) (id : BlockId) → IsListedCode symbols t others k (compiled_block (code_block (source_context_at symbols t place) b l id))
       → HasFormals (formals_of_block ss id) (map record_of_param (params_of b l))
   block_formals k place b l id h = record { formals = at }
     where
@@ -350,8 +350,8 @@ module _ (source file : List ℕ) (symbols : List Symbol) (t : Tree) (accepted :
 
       listed_there : slice_get (map (λ i. Some i) (program_ids (program_in symbols t))) k ≡ Some (Some id)
       listed_there =
-          ap (λ is. slice_get is k) (sym (ids_in others (listed_again symbols t) ∙ ids_listed others (program_in symbols t)))
-          ∙ known_there id (source_block_ids c) k (whole_known (layouts_of (listed_again symbols t) others) (known_block id (source_block_ids c)) k whole.1)
+          ap (λ is. slice_get is k) (sym (ids_in others (listed_tree_again symbols t) ∙ ids_listed others (program_in symbols t)))
+          ∙ known_there id (source_block_ids c) k (whole_known (layouts_of (listed_tree_again symbols t) others) (known_block id (source_block_ids c)) k whole.1)
 
       there : slice_get (program_ids (program_in symbols t)) k ≡ Some id
       there =
@@ -362,7 +362,7 @@ module _ (source file : List ℕ) (symbols : List Symbol) (t : Tree) (accepted :
       at = made_at k id there code
 
       cb : CodeBlock
-      cb = compiled_block (code_block (context_at symbols t at.place) at.block at.layout id)
+      cb = compiled_block (code_block (source_context_at symbols t at.place) at.block at.layout id)
 
       h : IsListedCode symbols t others k cb
       h = listed_code source file symbols t accepted bytes file_bytes others clean k at.place at.block at.layout id at.made

@@ -76,7 +76,7 @@ use Rattle.sem_kept.proofs.accepted.OperandsSymbols.{symbols_fit}
 use Rattle.sem_kept.proofs.accepted.OperandsViews.{EndsBy, Surrounds, ends_by, holds_locals}
 use Rattle.sem_kept.proofs.accepted.Settled.{statements_settle}
 use Rattle.listing_laws.specs.AcceptedTypes.{declared_kinds}
-use Rattle.listing_laws.specs.ListedSource.{IsMadeOf, IsWholeAgain, again_at, context_at}
+use Rattle.listing_laws.specs.ListedSource.{IsMadeOf, IsWholeAgain, again_at, source_context_at}
 use Rattle.listing_laws.specs.Calling.{AreCalledAgain}
 use Rattle.listing_laws.specs.CallsAgain.{AreCallsAgain, IsCalledAgain, IsFoundAgain, IsRightStatement}
 use Rattle.listing_laws.specs.ListedDeclarations.{signatures_in}
@@ -198,7 +198,7 @@ callee_numbered c id instance callee e = e
 module _ (source file : List ℕ) (symbols : List Symbol) (t : Tree) (accepted : IsAccepted source file symbols t) (bytes : AreBytes source) (file_bytes : AreBytes file)
     (others : List Symbol) (clean : IsWholeAgain symbols t others) (again place : ℕ) (b : Block) (l : BlockLayout) (id : BlockId) (made : IsMadeOf symbols t again place b l id) where
   abbrev c : Context
-  c = context_at symbols t place
+  c = source_context_at symbols t place
 
   abbrev listed : Context
   listed = again_at symbols t others again
@@ -497,5 +497,5 @@ module _ (source file : List ℕ) (symbols : List Symbol) (t : Tree) (accepted :
 
 pub calls_again : AreCallsAgain
 calls_again source file symbols t accepted bytes file_bytes others clean again place b l id made =
-    all_split (IsCalledAgain (context_at symbols t place) (again_at symbols t others again) (signatures_in (program_in symbols t)) (formals_of_block (signatures_in (program_in symbols t)) id)) b.body
+    all_split (IsCalledAgain (source_context_at symbols t place) (again_at symbols t others again) (signatures_in (program_in symbols t)) (formals_of_block (signatures_in (program_in symbols t)) id)) b.body
     (each_again source file symbols t accepted bytes file_bytes others clean again place b l id made)

@@ -44,7 +44,7 @@ use Rattle.sem_kept.proofs.accepted.OperandsCells.{cells_are}
 use Rattle.sem_kept.proofs.accepted.OperandsFormals.{IsRecordOf, Matched, source_matched}
 use Rattle.sem_kept.proofs.accepted.OperandsViews.{layout_id}
 use Rattle.block_layout.proofs.BlockLemmas.{kind_there}
-use Rattle.listing_laws.specs.ListedSource.{IsMadeOf, again_at, context_at, listed_again}
+use Rattle.listing_laws.specs.ListedSource.{IsMadeOf, again_at, listed_tree_again, source_context_at}
 use Rattle.listing_laws.specs.ListedDeclarations.{AreWide, signatures_in}
 use Rattle.listing_laws.specs.ParametersAgain.{AreParametersAgain}
 use Rattle.listing_laws.proofs.called.AcceptedTypes.{components_same, own_parameters}
@@ -126,7 +126,7 @@ formal_again symbols t others again b h function index f there =
     own_again (again_at symbols t others again) (listed_block (signatures_in (program_in symbols t)) h.reached b) h.layout
     (record { block = h.block; kind = function; layout = h.there; whole = h.whole })
     (subst (AllByRecursion IsPlainCell) (sym h.components)
-    (all_plain (types_of_source others (listed_again symbols t).blocks) (signatures_in (program_in symbols t)) h.reached b h.groups (function_no_block b.id.kind function)))
+    (all_plain (types_of_source others (listed_tree_again symbols t).blocks) (signatures_in (program_in symbols t)) h.reached b h.groups (function_no_block b.id.kind function)))
     (formals_of_block (signatures_in (program_in symbols t)) b.id) h.order h.named index f there
 
 -- ---- of the source
@@ -152,7 +152,7 @@ parameters_again source file symbols t accepted bytes file_bytes others clean ag
 }
   where
     c : Context
-    c = context_at symbols t place
+    c = source_context_at symbols t place
 
     cb : CodeBlock
     cb = compiled_block (code_block c b l id)

@@ -29,7 +29,7 @@ use Rattle.sem_kept.specs.CodedBlocks.{HasBytes, OperandHasBytes, StatementHasBy
 use Rattle.sem_kept.proofs.accepted.Accepted.{AllLaid, IsSoundBlock, IsSoundStatement, right_tree}
 use Rattle.sem_kept.proofs.accepted.CodedBits.{value_fits}
 use Rattle.sem_kept.proofs.accepted.CodedBytes.{tree_has}
-use Rattle.listing_laws.specs.ListedSource.{context_at}
+use Rattle.listing_laws.specs.ListedSource.{source_context_at}
 use Rattle.listing_laws.specs.Bodies.{IsNoBit}
 use Rattle.listing_laws.specs.CallsAgain.{AreOperandsRight, IsRightStatement}
 use Rattle.listing_laws.specs.Instructions.{IsCodedOperand, IsRightOperand}
@@ -104,7 +104,7 @@ all_right : (symbols : List Symbol) (t : Tree) → AllByRecursion IsSymbol symbo
 all_right symbols t each k [] ls laid has plain = tt
 all_right symbols t each k (b ∷ bs) [] laid has plain = absurd laid
 all_right symbols t each k (b ∷ bs) (l ∷ ls) laid has plain = (
-  statements_right symbols t (context_at symbols t k) each b.body laid.0.statements has.0 plain.0,
+  statements_right symbols t (source_context_at symbols t k) each b.body laid.0.statements has.0 plain.0,
   all_right symbols t each (suc k) bs ls laid.1 has.1 plain.1,
 )
 

@@ -16,7 +16,7 @@ use Rattle.stl_codegen.specs.GeneratedProgram.{code_block, code_blocks_of, retur
 use Rattle.stl_codegen.specs.Instruction.{instruction}
 use Rattle.sem_kept.proofs.accepted.Accepted.{IsSoundBlock}
 use Rattle.sem_kept.proofs.accepted.OperandsMembers.{code_block_there}
-use Rattle.listing_laws.specs.ListedSource.{context_at}
+use Rattle.listing_laws.specs.ListedSource.{source_context_at}
 
 -- what holds of each element, where it stands, holds of all
 split_from : {A : Type 0} (P : A → Type 0) (xs front rest : List A) → ((front : List A) (x : A) (back : List A) → xs ≡ front ++ x ∷ back → P x) → xs ≡ front ++ rest → AllByRecursion P rest
@@ -43,7 +43,7 @@ pub record IsAmong (symbols : List Symbol) (t : Tree) (x : StatedBlock) : Type 0
   pub is : code_blocks_of t symbols (layouts_of t symbols) ≡ front ++ x ∷ back
 
 pub among : (symbols : List Symbol) (t : Tree) (k : ℕ) (b : Block) (l : BlockLayout) (id : BlockId) → IsSoundBlock symbols t k b l → l.id ≡ Some id → is_code id.kind ≡ true
-    → IsAmong symbols t (code_block (context_at symbols t k) b l id)
+    → IsAmong symbols t (code_block (source_context_at symbols t k) b l id)
 among symbols t k b l id sound known code =
     code_block_there symbols t (IsAmong symbols t)
     (all_split (IsAmong symbols t) (code_blocks_of t symbols (layouts_of t symbols)) (λ front x back e. record { front = front; back = back; is = e }))

@@ -38,7 +38,7 @@ use Rattle.stl_list.specs.Statements.{ListingContext, body_of, listing_context}
 use Rattle.sem_kept.specs.AcceptedSource.{IsAccepted, program_in}
 use Rattle.sem_kept.specs.SettledStatements.{IsResolvedStatement}
 use Rattle.sem_kept.proofs.accepted.Accepted.{IsSoundActual, IsSoundBody, IsSoundCall, IsSoundStatement, IsSoundTree, right_tree}
-use Rattle.listing_laws.specs.ListedSource.{IsMadeOf, again_at, context_at}
+use Rattle.listing_laws.specs.ListedSource.{IsMadeOf, again_at, source_context_at}
 use Rattle.listing_laws.specs.ListedDeclarations.{signatures_in}
 use Rattle.listing_laws.specs.Instructions.{HasAgain, IsRightOperand}
 use Rattle.listing_laws.specs.LabelRules.{LeadsWithin}
@@ -269,19 +269,19 @@ body_right signatures stated y y' c listed b is e few settled sound source types
         subst (AreRight y listed) (sym is.is)
         (numbered_right y y' c listed sur (statement_offset stated.statements) b.body 0 b.body types ready.has ready.operands ready.calls instances settled sound)
 
-instances_kept : (symbols : List Symbol) (t : Tree) → IsSoundTree symbols t → (k : ℕ) (ss : List Statement) → AllByRecursion (IsSoundStatement (types_of_source symbols t.blocks) (context_at symbols t k)) ss
-    → (others : List Symbol) (again : ℕ) (own : List Formal) → HasAgain (context_at symbols t k) (again_at symbols t others again) own
-    → AllByRecursion (IsInstanceKept (context_at symbols t k) (again_at symbols t others again)) ss
+instances_kept : (symbols : List Symbol) (t : Tree) → IsSoundTree symbols t → (k : ℕ) (ss : List Statement) → AllByRecursion (IsSoundStatement (types_of_source symbols t.blocks) (source_context_at symbols t k)) ss
+    → (others : List Symbol) (again : ℕ) (own : List Formal) → HasAgain (source_context_at symbols t k) (again_at symbols t others again) own
+    → AllByRecursion (IsInstanceKept (source_context_at symbols t k) (again_at symbols t others again)) ss
 instances_kept symbols t tree k [] sound others again own has = tt
 instances_kept symbols t tree k (s ∷ ss) sound others again own has = (instance_there symbols t tree k s sound.0 others again own has, instances_kept symbols t tree k ss sound.1 others again own has)
 
 -- of an accepted source
 pub made_right : (source file : List ℕ) (symbols : List Symbol) (t : Tree) → IsAccepted source file symbols t → AreBytes source → (again place : ℕ) (b : Block) (l : BlockLayout) (id : BlockId)
     → (made : IsMadeOf symbols t again place b l id) → (y : Types) (others : List Symbol) → AreTypesOf y (again_at symbols t others again)
-    → IsBodyReady (context_at symbols t place) (again_at symbols t others again) (signatures_in (program_in symbols t)) (formals_of_block (signatures_in (program_in symbols t)) id) b.body
+    → IsBodyReady (source_context_at symbols t place) (again_at symbols t others again) (signatures_in (program_in symbols t)) (formals_of_block (signatures_in (program_in symbols t)) id) b.body
     → IsRightBody y (again_at symbols t others again) (body_in_listing symbols t again place b l id made)
 made_right source file symbols t accepted bytes again place b l id made y others types ready =
-    let c = context_at symbols t place in
+    let c = source_context_at symbols t place in
     let listed = again_at symbols t others again in
     let tree = right_tree source file symbols t accepted in
     let stated = code_block c b l id in

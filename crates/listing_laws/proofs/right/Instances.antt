@@ -53,7 +53,7 @@ use Rattle.block_layout.proofs.LayoutLemmas.{measured_symbols}
 use Rattle.block_layout.proofs.CommonLemmas.{origin, or_second}
 use Rattle.sem_kept.proofs.accepted.OperandsMembers.{data_block_there}
 use Rattle.sem_kept.proofs.accepted.OperandsViews.{IsKnownDataBlock, data_there, ids_same, whole_is}
-use Rattle.listing_laws.specs.ListedSource.{listed_again}
+use Rattle.listing_laws.specs.ListedSource.{listed_tree_again}
 use Rattle.listing_laws.specs.Calls.{IsInstanceAt}
 use Rattle.listing_laws.specs.ListedDeclarations.{signatures_in}
 use Rattle.listing_laws.specs.Ids.{data_id_of_number, program_ids}
@@ -328,23 +328,23 @@ source_instance symbols t tree k s sound id n callee fb same names right = recor
 rule_44_of : (symbols : List Symbol) (t : Tree) → IsSoundTree symbols t → rule_44 symbols t.blocks ≡ []
 rule_44_of symbols t tree = ap (λ (s : List Symbol). rule_44 s t.blocks) (sym (measured_symbols symbols t.blocks)) ∙ tree.by_layout.by_44
 
-listed_ids : (symbols : List Symbol) (t : Tree) (others : List Symbol) → map (λ (b : BlockLayout). b.id) (layouts_of (listed_again symbols t) others) ≡ ids_of others (listed_again symbols t).blocks
-listed_ids symbols t others = ids_same others (listed_again symbols t) ∙ source_ids others (listed_again symbols t).blocks
+listed_ids : (symbols : List Symbol) (t : Tree) (others : List Symbol) → map (λ (b : BlockLayout). b.id) (layouts_of (listed_tree_again symbols t) others) ≡ ids_of others (listed_tree_again symbols t).blocks
+listed_ids symbols t others = ids_same others (listed_tree_again symbols t) ∙ source_ids others (listed_tree_again symbols t).blocks
 
 instance_placed : (symbols : List Symbol) (t : Tree) → IsSoundTree symbols t → (others : List Symbol) (again : ℕ) (id : BlockId) (n : ℕ) (found : Callee)
-    → is_function_block id.kind ≡ true → IsSourceInstance symbols t id n → IsCalleeAt (context_at others (listed_again symbols t) again) id found
-    → data_number (context_at others (listed_again symbols t) again) (data_block_name n) ≡ Some n
-    → IsInstanceAt (context_at others (listed_again symbols t) again) found.place (Some (data_block_name n))
+    → is_function_block id.kind ≡ true → IsSourceInstance symbols t id n → IsCalleeAt (context_at others (listed_tree_again symbols t) again) id found
+    → data_number (context_at others (listed_tree_again symbols t) again) (data_block_name n) ≡ Some n
+    → IsInstanceAt (context_at others (listed_tree_again symbols t) again) found.place (Some (data_block_name n))
 instance_placed symbols t tree others again id n found fb inst placed numbered = (m, whole.layout, placed.place, placed.is, place_is, whole.there, shape_is)
   where
     p : Program
     p = program_in symbols t
 
     listed : Tree
-    listed = listed_again symbols t
+    listed = listed_tree_again symbols t
 
     c : Context
-    c = context_at others (listed_again symbols t) again
+    c = context_at others (listed_tree_again symbols t) again
 
     m : ℕ
     m = length p.code_blocks + inst.place
@@ -373,7 +373,7 @@ instance_placed symbols t tree others again id n found fb inst placed numbered =
     line = line_reached 1 (in_lines p.code_blocks)
 
     y : Types
-    y = types_of_source others (listed_again symbols t).blocks
+    y = types_of_source others (listed_tree_again symbols t).blocks
 
     refers : (of : Option ℕ) → of ≡ Some id.number → shape_of y (listed_data names line inst.stored.number inst.stored.bytes of) ≡ shape_at (known_block (function_block id.number) y.ids)
     refers of e = ap (λ (o : Option ℕ). shape_of y (listed_data names line inst.stored.number inst.stored.bytes o)) e
@@ -390,16 +390,16 @@ unfolding callee_of
 callee_is c id instance callee e = e
 
 pub instance_there : (symbols : List Symbol) (t : Tree) → IsSoundTree symbols t → (k : ℕ) (s : Statement) → IsSoundStatement (types_of_source symbols t.blocks) (context_at symbols t k) s
-    → (others : List Symbol) (again : ℕ) (own : List Formal) → HasAgain (context_at symbols t k) (context_at others (listed_again symbols t) again) own
+    → (others : List Symbol) (again : ℕ) (own : List Formal) → HasAgain (context_at symbols t k) (context_at others (listed_tree_again symbols t) again) own
     → (how : CallOperation) (id : BlockId) (instance : Option ℕ) (callee found : Callee)
     → call_operation_of s.code ≡ Some how → names_called_block s.operand ≡ true → resolved_operand (context_at symbols t k) s ≡ Some (resolved.Called id instance)
     → callee_of (context_at symbols t k) s.operand ≡ Some callee → callee.id ≡ id
-    → callee_of (context_at others (listed_again symbols t) again) (operand.Called (block.Number id) (option_map data_block_name instance)) ≡ Some found
-    → IsInstanceAt (context_at others (listed_again symbols t) again) found.place (option_map data_block_name instance)
+    → callee_of (context_at others (listed_tree_again symbols t) again) (operand.Called (block.Number id) (option_map data_block_name instance)) ≡ Some found
+    → IsInstanceAt (context_at others (listed_tree_again symbols t) again) found.place (option_map data_block_name instance)
 instance_there symbols t tree k s sound others again own has how id None callee found h is_call e f same g = tt
 instance_there symbols t tree k s sound others again own has how id (Some n) callee found h is_call e f same g =
     let c = context_at symbols t k in
-    let listed = context_at others (listed_again symbols t) again in
+    let listed = context_at others (listed_tree_again symbols t) again in
     let sees = what_seen c s (resolved.Called id (Some n)) e in
     let rule = rule_called c (operand_rule_of s.code) s.operand (resolved.Called id (Some n)) is_call (rule_broken c s (resolved.Called id (Some n)) e) sees in
     let fb : is_function_block id.kind ≡ true = same_kind s.code how (resolved.Called id (Some n)) h (taken_view (operand_rule_of s.code) (resolved.Called id (Some n)) rule) in

@@ -44,7 +44,7 @@ use Rattle.sem_kept.proofs.accepted.Accepted.{IsSoundBlock, IsSoundStatement, ri
 use Rattle.sem_kept.proofs.accepted.OperandsInstr.{resolved_is}
 use Rattle.sem_kept.proofs.accepted.Settled.{statements_settle}
 use Rattle.sem_kept.proofs.accepted.Shared.{stated_count as source_count}
-use Rattle.listing_laws.specs.ListedSource.{IsMadeOf, context_at}
+use Rattle.listing_laws.specs.ListedSource.{IsMadeOf, source_context_at}
 use Rattle.listing_laws.specs.ListedDeclarations.{signatures_in}
 use Rattle.listing_laws.specs.Nesting.{IsReadable}
 use Rattle.listing_laws.specs.Statements.{jumps_to, statement_offset, run_of}
@@ -329,18 +329,18 @@ pub source_block : (source file : List ℕ) (symbols : List Symbol) (t : Tree) �
 source_block source file symbols t accepted again place b l id made = sound_at symbols t (right_tree source file symbols t accepted) place b l made.source.block made.source.layout
 
 pub source_settled : (source file : List ℕ) (symbols : List Symbol) (t : Tree) → IsAccepted source file symbols t → AreBytes source → (again place : ℕ) (b : Block) (l : BlockLayout) (id : BlockId) → IsMadeOf symbols t again place b l id
-    → AllByRecursion (IsResolvedStatement (context_at symbols t place) b.body) b.body
+    → AllByRecursion (IsResolvedStatement (source_context_at symbols t place) b.body) b.body
 source_settled source file symbols t accepted bytes again place b l id made = statements_settle source file symbols t accepted bytes place b made.source.block
 
 -- the body of the listed block
 abbrev pub body_in_listing : (symbols : List Symbol) (t : Tree) (again place : ℕ) (b : Block) (l : BlockLayout) (id : BlockId) → IsMadeOf symbols t again place b l id → List Statement
-body_in_listing symbols t again place b l id made = (listed_block (signatures_in (program_in symbols t)) made.reached (compiled_block (code_block (context_at symbols t place) b l id))).body
+body_in_listing symbols t again place b l id made = (listed_block (signatures_in (program_in symbols t)) made.reached (compiled_block (code_block (source_context_at symbols t place) b l id))).body
 
 pub body_is : (source file : List ℕ) (symbols : List Symbol) (t : Tree) → IsAccepted source file symbols t → AreBytes source → (again place : ℕ) (b : Block) (l : BlockLayout) (id : BlockId)
     → (made : IsMadeOf symbols t again place b l id)
-    → IsBodyOf (context_at symbols t place) b (signatures_in (program_in symbols t)) (code_block (context_at symbols t place) b l id) (body_in_listing symbols t again place b l id made)
+    → IsBodyOf (source_context_at symbols t place) b (signatures_in (program_in symbols t)) (code_block (source_context_at symbols t place) b l id) (body_in_listing symbols t again place b l id made)
 body_is source file symbols t accepted bytes again place b l id made =
-    let c = context_at symbols t place in
+    let c = source_context_at symbols t place in
     let stated = code_block c b l id in
     let signatures = signatures_in (program_in symbols t) in
     let sound = source_block source file symbols t accepted again place b l id made in

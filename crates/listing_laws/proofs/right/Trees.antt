@@ -40,7 +40,7 @@ use Rattle.sem_kept.proofs.accepted.Accepted.{AllFrom}
 use Rattle.block_layout.proofs.CommonLemmas.{all_there}
 use Rattle.block_layout.proofs.LayoutLemmas.{measured_symbols}
 use Rattle.sem_kept.proofs.accepted.OperandsViews.{ids_same}
-use Rattle.listing_laws.specs.ListedSource.{IsMadeOf, IsWholeAgain, again_at, context_at as source_at, listed_again}
+use Rattle.listing_laws.specs.ListedSource.{IsMadeOf, IsWholeAgain, again_at, listed_tree_again, source_context_at}
 use Rattle.listing_laws.specs.CallsAgain.{IsRightStatement}
 use Rattle.listing_laws.specs.ListedDeclarations.{signatures_in}
 use Rattle.listing_laws.specs.Instructions.{IsRightOperand}
@@ -176,7 +176,7 @@ right_operands symbols (s ∷ ss) h = (h.0.operand, right_operands symbols ss h.
 -- what a body of an accepted source names and calls is there
 body_ready : (source file : List ℕ) (symbols : List Symbol) (t : Tree) → IsAccepted source file symbols t → AreBytes source → AreBytes file → (others : List Symbol) → IsWholeAgain symbols t others
     → (again place : ℕ) (b : Block) (l : BlockLayout) (id : BlockId) → IsMadeOf symbols t again place b l id
-    → IsBodyReady (source_at symbols t place) (again_at symbols t others again) (signatures_in (program_in symbols t)) (formals_of_block (signatures_in (program_in symbols t)) id) b.body
+    → IsBodyReady (source_context_at symbols t place) (again_at symbols t others again) (signatures_in (program_in symbols t)) (formals_of_block (signatures_in (program_in symbols t)) id) b.body
 body_ready source file symbols t accepted bytes file_bytes others whole again place b l id made = record {
   has = record {
     data_blocks = data_found symbols t others place again whole;
@@ -189,27 +189,27 @@ body_ready source file symbols t accepted bytes file_bytes others whole again pl
 
 pub listed_bodies_right : AreListedBodiesRight
 listed_bodies_right source file symbols t accepted bytes file_bytes others whole =
-    tree_right others (listed_again symbols t)
-    (from_each (λ k b. IsRightBody (types_of_source others (listed_again symbols t).blocks) (context_at others (listed_again symbols t) k) b.body) 0 (listed_again symbols t).blocks
-    (λ i x e. subst (λ (n : ℕ). IsRightBody y (context_at others (listed_again symbols t) n) x.body) (from_zero i) (at i x e)))
+    tree_right others (listed_tree_again symbols t)
+    (from_each (λ k b. IsRightBody (types_of_source others (listed_tree_again symbols t).blocks) (context_at others (listed_tree_again symbols t) k) b.body) 0 (listed_tree_again symbols t).blocks
+    (λ i x e. subst (λ (n : ℕ). IsRightBody y (context_at others (listed_tree_again symbols t) n) x.body) (from_zero i) (at i x e)))
   where
     y : Types
-    y = types_of_source others (listed_again symbols t).blocks
+    y = types_of_source others (listed_tree_again symbols t).blocks
 
     from_zero : (i : ℕ) → i ≡ 0 + i
     from_zero i = omega arith
 
-    at : (i : ℕ) (x : Block) → slice_get (listed_again symbols t).blocks i ≡ Some x → IsRightBody y (context_at others (listed_again symbols t) i) x.body
+    at : (i : ℕ) (x : Block) → slice_get (listed_tree_again symbols t).blocks i ≡ Some x → IsRightBody y (context_at others (listed_tree_again symbols t) i) x.body
     at i x e = by (nat_lt i (length (program_in symbols t).code_blocks)) refl
       where
-        by : (code : Bool) → nat_lt i (length (program_in symbols t).code_blocks) ≡ code → IsRightBody y (context_at others (listed_again symbols t) i) x.body
+        by : (code : Bool) → nat_lt i (length (program_in symbols t).code_blocks) ≡ code → IsRightBody y (context_at others (listed_tree_again symbols t) i) x.body
         by true low =
             let found = made_of_source source file symbols t accepted bytes file_bytes i (ltb-true i (length (program_in symbols t).code_blocks) low) in
-            subst (λ (z : Block). IsRightBody y (context_at others (listed_again symbols t) i) z.body) (listed_is symbols t i found.0 found.1 found.2 found.3 found.4 x e)
+            subst (λ (z : Block). IsRightBody y (context_at others (listed_tree_again symbols t) i) z.body) (listed_is symbols t i found.0 found.1 found.2 found.3 found.4 x e)
             (made_right source file symbols t accepted bytes i found.0 found.1 found.2 found.3 found.4 y others
-            (types_are others (listed_again symbols t) i)
+            (types_are others (listed_tree_again symbols t) i)
             (body_ready source file symbols t accepted bytes file_bytes others whole i found.0 found.1 found.2 found.3 found.4))
         by false high =
-            subst (λ (body : List Statement). IsRightBody y (context_at others (listed_again symbols t) i) body)
+            subst (λ (body : List Statement). IsRightBody y (context_at others (listed_tree_again symbols t) i) body)
             (sym (data_bodiless (program_in symbols t) i x (ltb-false i (length (program_in symbols t).code_blocks) high) e))
-            (none_right y (context_at others (listed_again symbols t) i))
+            (none_right y (context_at others (listed_tree_again symbols t) i))

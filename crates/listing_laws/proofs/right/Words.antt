@@ -19,7 +19,7 @@ use Rattle.stl_list.specs.Statements.{listing_context}
 use Rattle.sem_kept.specs.AcceptedSource.{program_in}
 use Rattle.sem_kept.proofs.accepted.Accepted.{IsSoundBody}
 use Rattle.sem_kept.proofs.accepted.JumpsRules.{AreRightFrom, right_body}
-use Rattle.listing_laws.specs.ListedSource.{IsMadeOf, context_at, listed_again}
+use Rattle.listing_laws.specs.ListedSource.{IsMadeOf, listed_tree_again, source_context_at}
 use Rattle.listing_laws.specs.ListedDeclarations.{signatures_in}
 use Rattle.listing_laws.specs.JumpLists.{AreListsKept}
 use Rattle.listing_laws.specs.ListedLandings.{AreLandingsKept}
@@ -40,14 +40,14 @@ right_from body h = right_body body (record {
 
 -- the listed block at its place
 pub listed_is : (symbols : List Symbol) (t : Tree) (again place : ℕ) (b : Block) (l : BlockLayout) (id : BlockId) (made : IsMadeOf symbols t again place b l id) (x : Block)
-    → slice_get (listed_again symbols t).blocks again ≡ Some x
-    → listed_block (signatures_in (program_in symbols t)) made.reached (compiled_block (code_block (context_at symbols t place) b l id)) ≡ x
+    → slice_get (listed_tree_again symbols t).blocks again ≡ Some x
+    → listed_block (signatures_in (program_in symbols t)) made.reached (compiled_block (code_block (source_context_at symbols t place) b l id)) ≡ x
 listed_is symbols t again place b l id made x e =
-    same_Some (listed_block (signatures_in (program_in symbols t)) made.reached (compiled_block (code_block (context_at symbols t place) b l id))) x (sym made.listed ∙ e)
+    same_Some (listed_block (signatures_in (program_in symbols t)) made.reached (compiled_block (code_block (source_context_at symbols t place) b l id))) x (sym made.listed ∙ e)
 
 pub listed_lists : AreListsKept
 listed_lists source file symbols t accepted bytes file_bytes again place b l id made x e =
-    let c = context_at symbols t place in
+    let c = source_context_at symbols t place in
     let stated = code_block c b l id in
     let sur = listing_context (signatures_in (program_in symbols t)) (lines_in stated.statements) (compiled_block stated) in
     let is = body_is source file symbols t accepted bytes again place b l id made in
@@ -61,7 +61,7 @@ crossing_in body = crossing_jumps (labels_of body) (landings_at_labels empty_nes
 
 pub listed_landings : AreLandingsKept
 listed_landings source file symbols t accepted bytes file_bytes again place b l id made x e =
-    let c = context_at symbols t place in
+    let c = source_context_at symbols t place in
     let stated = code_block c b l id in
     let sur = listing_context (signatures_in (program_in symbols t)) (lines_in stated.statements) (compiled_block stated) in
     let is = body_is source file symbols t accepted bytes again place b l id made in

@@ -45,7 +45,7 @@ use Rattle.block_layout.proofs.HeadLemmas.{AllHeads, heads_none}
 use Rattle.sem_kept.proofs.accepted.Accepted.{IsSoundHead, IsSoundTree, all_mapped, right_tree, sound_code_blocks}
 use Rattle.sem_kept.proofs.accepted.Sizes.{accepted_is_small}
 use Rattle.sem_kept.proofs.accepted.SizesSums.{summed_ones}
-use Rattle.listing_laws.specs.ListedSource.{AreWholeAgain, listed_again}
+use Rattle.listing_laws.specs.ListedSource.{AreWholeAgain, listed_tree_again}
 use Rattle.listing_laws.specs.ListedDeclarations.{IsDeclaredAgain, signatures_in}
 use Rattle.listing_laws.specs.Ids.{data_id_of_number, program_ids}
 use Rattle.listing_laws.specs.OwnData.{IsOwnDataAgain}
@@ -311,9 +311,9 @@ data_measured y blocks p line (d ∷ ds) h = (by d.instance_of h.0.size, data_me
 
 -- what stands of it
 record IsRightListing (symbols : List Symbol) (t : Tree) (others : List Symbol) : Type 0 where
-  heads : AllHeads (IsSoundHead (types_of_source others (listed_again symbols t).blocks) (listed_again symbols t).blocks) [] (listed_again symbols t).blocks
-  declared : AllByRecursion (AreDeclarationsRight (types_of_source others (listed_again symbols t).blocks)) (listed_again symbols t).blocks
-  laid : AllByRecursion (IsLaidAgain (types_of_source others (listed_again symbols t).blocks) (listed_again symbols t).blocks (program_in symbols t) (line_reached 1 (in_lines (program_in symbols t).code_blocks)))
+  heads : AllHeads (IsSoundHead (types_of_source others (listed_tree_again symbols t).blocks) (listed_tree_again symbols t).blocks) [] (listed_tree_again symbols t).blocks
+  declared : AllByRecursion (AreDeclarationsRight (types_of_source others (listed_tree_again symbols t).blocks)) (listed_tree_again symbols t).blocks
+  laid : AllByRecursion (IsLaidAgain (types_of_source others (listed_tree_again symbols t).blocks) (listed_tree_again symbols t).blocks (program_in symbols t) (line_reached 1 (in_lines (program_in symbols t).code_blocks)))
       (program_in symbols t).data_blocks
 
 lines_all : (P : CodeBlock → Type 0) (bs : List CodeBlock) → AllByRecursion P bs → AllByRecursion P (in_lines bs)
@@ -380,7 +380,7 @@ right_listing source file symbols t accepted bytes file_bytes others = record {
     ss = signatures_in p
 
     blocks : List Block
-    blocks = (listed_again symbols t).blocks
+    blocks = (listed_tree_again symbols t).blocks
 
     y : Types
     y = types_of_source others blocks
@@ -442,13 +442,13 @@ right_listing source file symbols t accepted bytes file_bytes others = record {
 pub are_whole : AreWholeAgain
 unfolding layouts_of layouts_by
 are_whole source file symbols t accepted bytes file_bytes others =
-    let blocks = (listed_again symbols t).blocks in
+    let blocks = (listed_tree_again symbols t).blocks in
     heads_whole (types_of_source others blocks) blocks [] blocks (right_listing source file symbols t accepted bytes file_bytes others).heads
 
 pub are_right : AreBlocksRightAgain
 are_right source file symbols t accepted bytes file_bytes others =
     let right = right_listing source file symbols t accepted bytes file_bytes others in
-    blocks_right others (listed_again symbols t).blocks right.heads right.declared
+    blocks_right others (listed_tree_again symbols t).blocks right.heads right.declared
 
 -- ---- the layouts of data blocks
 
@@ -495,7 +495,7 @@ data_at y blocks before p ls place d there layout laid = record {
 pub data_laid_again : AreDataLaid
 data_laid_again source file symbols t accepted bytes file_bytes others k d e =
     let p = program_in symbols t in
-    let tree = listed_again symbols t in
+    let tree = listed_tree_again symbols t in
     let y = types_of_source others tree.blocks in
     let place = length p.code_blocks + k in
     let right = right_listing source file symbols t accepted bytes file_bytes others in

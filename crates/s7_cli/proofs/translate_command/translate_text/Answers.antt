@@ -4,7 +4,7 @@ use Rattle.de_mnemonics.specs.Translation.{IsTranslation}
 use Rattle.s7_cli.specs.Answer.{CallAnswer, done_answer}
 use Rattle.s7_cli.specs.Command.{Translate}
 use Rattle.s7_cli.specs.Lines.{ok_line}
-use Rattle.s7_cli.specs.Translating.{NotTranslated}
+use Rattle.s7_cli.specs.Translating.{HasNoTranslation}
 use Rattle.s7_cli.proofs.ComesLemmas.{comes-refused}
 use Rattle.s7_cli.proofs.TranslatingLemmas.{says-translated, translated-weaker}
 use Rattle.s7_cli.proofs.translate_command.translate_text.Goals as goal
@@ -14,7 +14,7 @@ returns-in_err-text g c src start read =
     let fault = err_from_is_err_and c.from_residual.result c.from_residual.ensures.1 in
     let source : List ℕ = c.args.source.now in
     comes-refused (Vec ℕ Global) (Translate c.args.language src c.args.translation.now) start _ _ (source ∷ [])
-    (NotTranslated c.args.language source) _ _ (fault.1 ∙ ap Err fault.2) read
+    (HasNoTranslation c.args.language source) _ _ (fault.1 ∙ ap Err fault.2) read
     (λ (a : CallAnswer) holds.
     translated-weaker c.args.language source (λ text b. ⊥) (λ text b. b ≡ done_answer ok_line) (λ text b none. absurd none) a holds)
     c.in_err-text.ensures.refused
