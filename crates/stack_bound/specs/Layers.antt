@@ -80,7 +80,7 @@ layer_of_height zero p = []
 layer_of_height (suc k) p = layer_above p (layer_of_height k p)
 
 -- no number of a bound is above another one
-abbrev pub IsBoundAtMost : ℕ → Bound → Type 0
+-- neither number of a bound is above the given one
 IsBoundAtMost n b = (b.depth ≤ n) × (b.bytes ≤ n)
 
 -- no number of a bound of a layer is above the given one
