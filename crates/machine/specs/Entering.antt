@@ -68,14 +68,14 @@ pub data Call : Type 0 where
   Enters : (a : Activation) (m : Areas) → Call
 
 -- the called block runs, with what copying its parameters left of it and of memory
-abbrev pub entered_with_parameters : Activation → LocalMemory → Call
-entered_with_parameters a c = Enters (record a { running = with_local a.running c.local }) c.memory
+abbrev pub block_entered_with_parameters : Activation → LocalMemory → Call
+block_entered_with_parameters a c = Enters (record a { running = with_local a.running c.local }) c.memory
 
 -- IN and IN_OUT parameters are copied into the instance; a call that names none copies nothing
 abbrev pub instance_supplied : Option ℕ → List Param → Activation → Areas → Call
 instance_supplied None params a m = Enters a m
 instance_supplied (Some instance) params a m =
-    entered_with_parameters a
+    block_entered_with_parameters a
     (params_copied_in params 0 a.running.frame.bindings instance (local_memory_of a.running m))
 
 -- a stop by depth or local data sets and copies nothing; else the caller stands behind the call
