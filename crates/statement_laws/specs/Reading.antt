@@ -44,7 +44,7 @@ abbrev pub number_behind : ℕ → List ℕ → ℕ
 number_behind n [] = n
 number_behind n (b ∷ bs) = number_behind (256 * n + b) bs
 
--- a number where there is one; an S5TIME that is too long stands in no source
+-- the bits of an S5TIME, and 0 without any: one that is too long stands in no source
 abbrev pub s5time_bits_or_zero : Option ℕ → ℕ
 s5time_bits_or_zero None = 0
 s5time_bits_or_zero (Some n) = n
